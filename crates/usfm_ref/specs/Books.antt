@@ -1,0 +1,42 @@
+-- Codes of books, and the order of books: USFM 3.0's identifiers of books in the order of the canon of 66,
+-- and every other code behind them by its bytes (this project's own rule).
+use Rattle.std.specs.Prelude.{ℕ, ◌==◌, nat_le, Bool, false, ◌&&◌, ◌||◌, List, [], ◌∷◌, codes}
+use Rattle.std.specs.List.{position_or_len}
+use Rattle.std.specs.declared.cmp.Ordering.{Ordering}
+use Rattle.std.specs.Ordering.{nat_cmp, ordering_then}
+use Rattle.std.specs.Cmp.Lexicographic.{slice_cmp, pointwise}
+
+-- one of A to Z or 0 to 9
+abbrev pub is_code_char : ℕ → Bool
+is_code_char c = (nat_le 65 c && nat_le c 90) || (nat_le 48 c && nat_le c 57)
+
+-- three such bytes
+abbrev pub is_book_code : List ℕ → Bool
+is_book_code [] = false
+is_book_code (a ∷ []) = false
+is_book_code (a ∷ b ∷ []) = false
+is_book_code (a ∷ b ∷ c ∷ []) = is_code_char a && is_code_char b && is_code_char c
+is_book_code (a ∷ b ∷ c ∷ d ∷ rest) = false
+
+-- the same bytes
+abbrev pub same_bytes : List ℕ → List ℕ → Bool
+same_bytes = pointwise ◌==◌
+
+-- the codes of the canon, in its order
+abbrev pub canon : List (List ℕ)
+canon =
+    codes "GEN" ∷ codes "EXO" ∷ codes "LEV" ∷ codes "NUM" ∷ codes "DEU" ∷ codes "JOS" ∷ codes "JDG" ∷ codes "RUT" ∷ codes "1SA" ∷ codes "2SA"
+    ∷ codes "1KI" ∷ codes "2KI" ∷ codes "1CH" ∷ codes "2CH" ∷ codes "EZR" ∷ codes "NEH" ∷ codes "EST" ∷ codes "JOB" ∷ codes "PSA" ∷ codes "PRO"
+    ∷ codes "ECC" ∷ codes "SNG" ∷ codes "ISA" ∷ codes "JER" ∷ codes "LAM" ∷ codes "EZK" ∷ codes "DAN" ∷ codes "HOS" ∷ codes "JOL" ∷ codes "AMO"
+    ∷ codes "OBA" ∷ codes "JON" ∷ codes "MIC" ∷ codes "NAM" ∷ codes "HAB" ∷ codes "ZEP" ∷ codes "HAG" ∷ codes "ZEC" ∷ codes "MAL" ∷ codes "MAT"
+    ∷ codes "MRK" ∷ codes "LUK" ∷ codes "JHN" ∷ codes "ACT" ∷ codes "ROM" ∷ codes "1CO" ∷ codes "2CO" ∷ codes "GAL" ∷ codes "EPH" ∷ codes "PHP"
+    ∷ codes "COL" ∷ codes "1TH" ∷ codes "2TH" ∷ codes "1TI" ∷ codes "2TI" ∷ codes "TIT" ∷ codes "PHM" ∷ codes "HEB" ∷ codes "JAS" ∷ codes "1PE"
+    ∷ codes "2PE" ∷ codes "1JN" ∷ codes "2JN" ∷ codes "3JN" ∷ codes "JUD" ∷ codes "REV" ∷ []
+
+-- the place of a code in the canon, and 66 for all others
+unfoldable pub rank_of : List ℕ → ℕ
+rank_of code = position_or_len (λ one. same_bytes one code) canon
+
+-- the order of books: by the canon, and then by bytes
+abbrev pub book_cmp : List ℕ → List ℕ → Ordering
+book_cmp a b = ordering_then (nat_cmp (rank_of a) (rank_of b)) (slice_cmp nat_cmp a b)

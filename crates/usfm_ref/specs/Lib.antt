@@ -1,0 +1,4 @@
+pub mod Books
+pub mod Keys
+pub mod Segments
+pub mod Rising
