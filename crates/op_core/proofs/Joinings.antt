@@ -1,0 +1,95 @@
+-- Sets joined in some order, grouping and repetition hold what one of them holds.
+use Rattle.std.proofs.Common.{◌≡◌, ℕ, zero, suc, ◌<◌, List, [], ◌∷◌, length, get_or, Option, Some, None, Result, Ok, Err, ◌⊎◌, inl, inr, arith, refl, sym, ap, subst, ◌∙◌}
+use Rattle.std.specs.List.{Contains, AllByRecursion}
+use Rattle.std.specs.Option.{option_or}
+use Rattle.op_core.specs.Ids.{Id}
+use Rattle.op_core.specs.Ops.{Operation}
+use Rattle.op_core.specs.Sets.{IsOpSet, get, join, clash}
+use Rattle.op_core.specs.Laws.{Joining, AreSets, IsInOne, SameOperations, joined_or_clash, with_both, union_by}
+use Rattle.op_core.specs.Laws.Joining.{Part, Joined}
+use Rattle.op_core.proofs.Union.{IsOpSet-join, get-join, same_gets, agree_from_no_clash, held_itself}
+use Rattle.op_core.proofs.Clashes.{get_cases, get_id}
+
+-- an operation that is held under an id is in the set
+pub Contains-get : (xs : List Operation) (q : Id) (o : Operation) → get xs q ≡ Some o → Contains xs o
+Contains-get [] q o g = cc g
+Contains-get (x ∷ xs) q o g = get_cases q x xs o g (λ e f. (0, omega arith, f)) (λ g. let r = Contains-get xs q o g in (suc r.0, omega (arith, r.1), r.2))
+
+-- an operation of a set is held under its id
+pub get-Contains : (xs : List Operation) (o : Operation) → IsOpSet xs → Contains xs o → get xs o.id ≡ Some o
+get-Contains xs o s h = subst (λ (p : Operation). get xs p.id ≡ Some p) h.2 (each xs h.0 h.1 (held_itself xs s.rising))
+  where
+    each : (ys : List Operation) (k : ℕ) → k < length ys → AllByRecursion (λ p. get xs p.id ≡ Some p) ys → get xs (get_or ys k o).id ≡ Some (get_or ys k o)
+    each [] k l a = absurd (omega arith)
+    each (y ∷ ys) zero l a = a.0
+    each (y ∷ ys) (suc k) l a = each ys k (omega arith) a.1
+
+-- a union of two ways is that of what the two make, which do not clash
+record Made (l r : Joining) (a : List Operation) : Type 0 where
+  left : List Operation
+  right : List Operation
+  left_is : union_by l ≡ Ok left
+  right_is : union_by r ≡ Ok right
+  agree : clash left right ≡ None
+  union : a ≡ join left right
+
+made : (l r : Joining) (a : List Operation) → union_by (Joined l r) ≡ Ok a → Made l r a
+made l r a h = by (union_by l) refl (union_by r) refl h
+  where
+    two : (x y : List Operation) → union_by l ≡ Ok x → union_by r ≡ Ok y → (c : Option Id) → clash x y ≡ c → joined_or_clash x y c ≡ Ok a → Made l r a
+    two x y ex ey None e h = record { left = x; right = y; left_is = ex; right_is = ey; agree = e; union = cc (sym h) }
+    two x y ex ey (Some id) e h = cc h
+
+    by : (x : Result (List Operation) Id) → union_by l ≡ x → (y : Result (List Operation) Id) → union_by r ≡ y → with_both x y (λ a b. joined_or_clash a b (clash a b)) ≡ Ok a → Made l r a
+    by (Ok x) ex (Ok y) ey h = two x y ex ey (clash x y) refl h
+    by (Ok x) ex (Err id) ey h = cc h
+    by (Err id) ex y ey h = cc h
+
+pub IsOpSet-union_by : (way : Joining) (a : List Operation) → AreSets way → union_by way ≡ Ok a → IsOpSet a
+IsOpSet-union_by (Part set) a s h = let e : set ≡ a = cc h in subst IsOpSet e s
+IsOpSet-union_by (Joined l r) a s h =
+    let m = made l r a h in
+    subst IsOpSet (sym m.union) (IsOpSet-join m.left m.right (IsOpSet-union_by l m.left s.0 m.left_is) (IsOpSet-union_by r m.right s.1 m.right_is))
+
+-- what a union holds is in one of the sets
+pub held_from_one : (way : Joining) (a : List Operation) (q : Id) (o : Operation) → AreSets way → union_by way ≡ Ok a → get a q ≡ Some o → IsInOne way o
+held_from_one (Part set) a q o s h g = let e : a ≡ set = cc (sym h) in Contains-get set q o (ap (λ (xs : List Operation). get xs q) (sym e) ∙ g)
+held_from_one (Joined l r) a q o s h g =
+    let m = made l r a h in
+    let sl = IsOpSet-union_by l m.left s.0 m.left_is in
+    let sr = IsOpSet-union_by r m.right s.1 m.right_is in
+    either (get m.left q) (get m.right q) (held_from_one l m.left q o s.0 m.left_is) (held_from_one r m.right q o s.1 m.right_is)
+    (sym (get-join m.left m.right q sl.rising sr.rising) ∙ ap (λ (xs : List Operation). get xs q) (sym m.union) ∙ g)
+  where
+    either : (x y : Option Operation) → (x ≡ Some o → IsInOne l o) → (y ≡ Some o → IsInOne r o) → option_or x y ≡ Some o → IsInOne l o ⊎ IsInOne r o
+    either None y f g e = inr (g e)
+    either (Some p) y f g e = inl (f e)
+
+-- what is in one of the sets is held by the union
+pub one_is_held : (way : Joining) (a : List Operation) (o : Operation) → AreSets way → union_by way ≡ Ok a → IsInOne way o → get a o.id ≡ Some o
+one_is_held (Part set) a o s h i = let e : set ≡ a = cc h in ap (λ (xs : List Operation). get xs o.id) (sym e) ∙ get-Contains set o s i
+one_is_held (Joined l r) a o s h i =
+    let m = made l r a h in
+    let sl = IsOpSet-union_by l m.left s.0 m.left_is in
+    let sr = IsOpSet-union_by r m.right s.1 m.right_is in
+    ap (λ (xs : List Operation). get xs o.id) m.union ∙ get-join m.left m.right o.id sl.rising sr.rising
+    ∙ either (get m.left o.id) (get m.right o.id) (one_is_held l m.left o s.0 m.left_is) (one_is_held r m.right o s.1 m.right_is) (agree_from_no_clash m.left m.right m.agree o.id) i
+  where
+    later : (x y : Option Operation) → ((p q : Operation) → x ≡ Some p → y ≡ Some q → p ≡ q) → y ≡ Some o → option_or x y ≡ Some o
+    later None y f e = e
+    later (Some p) y f e = ap Some (f p o refl e)
+
+    either : (x y : Option Operation) → (IsInOne l o → x ≡ Some o) → (IsInOne r o → y ≡ Some o) → ((p q : Operation) → x ≡ Some p → y ≡ Some q → p ≡ q) → IsInOne l o ⊎ IsInOne r o → option_or x y ≡ Some o
+    either x y f g agree (inl i) = ap (λ (z : Option Operation). option_or z y) (f i)
+    either x y f g agree (inr i) = later x y agree (g i)
+
+pub same_unions : (one other : Joining) (a b : List Operation) → AreSets one → AreSets other → SameOperations one other → union_by one ≡ Ok a → union_by other ≡ Ok b → a ≡ b
+same_unions one other a b s t same ha hb = same_gets a b (IsOpSet-union_by one a s ha).rising (IsOpSet-union_by other b t hb).rising (λ q. by q (get a q) refl (get b q) refl)
+  where
+    crossed : (w v : Joining) (x y : List Operation) → AreSets w → AreSets v → union_by w ≡ Ok x → union_by v ≡ Ok y → ((o : Operation) → IsInOne w o → IsInOne v o) → (q : Id) (o : Operation) → get x q ≡ Some o → get y q ≡ Some o
+    crossed w v x y s t hx hy f q o g = ap (get y) (sym (get_id x q o g)) ∙ one_is_held v y o t hy (f o (held_from_one w x q o s hx g))
+
+    by : (q : Id) (x : Option Operation) → get a q ≡ x → (y : Option Operation) → get b q ≡ y → get a q ≡ get b q
+    by q (Some o) e y f = e ∙ sym (crossed one other a b s t ha hb same.there q o e)
+    by q None e (Some o) f = crossed other one b a t s hb ha same.back q o f ∙ sym f
+    by q None e None f = e ∙ sym f

@@ -1,0 +1,9 @@
+pub mod Texts
+pub mod Rising
+pub mod Walk
+pub mod Union
+pub mod SideBySide
+pub mod Held
+pub mod Shows
+pub mod Clashes
+pub mod Joinings

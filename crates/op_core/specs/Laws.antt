@@ -1,0 +1,82 @@
+-- Laws of sets of operations.
+use Rattle.std.specs.Prelude.{◌≡◌, ◌≢◌, ℕ, true, List, [], None, Some, Result, Ok, Err, Option, ◌⊎◌}
+use Rattle.std.specs.List.{list_any, Contains}
+use Rattle.std.specs.Option.{option_or}
+use Rattle.usfm_ref.specs.Segments.{Segment}
+use Rattle.op_core.specs.Ids.{Id}
+use Rattle.op_core.specs.Ops.{Operation, in_segment}
+use Rattle.op_core.specs.Sets.{IsOpSet, get, join, clash}
+use Rattle.op_core.specs.Shown.{shown}
+use Rattle.op_core.specs.Export.{export}
+
+-- each grouping of three sets has the same union
+abbrev pub JoinIsAssociative : Type 0
+JoinIsAssociative = (a b c : List Operation) → IsOpSet a → IsOpSet b → IsOpSet c → join (join a b) c ≡ join a (join b c)
+
+-- sets without a clash have the same union either way
+abbrev pub JoinCommutes : Type 0
+JoinCommutes = (a b : List Operation) → IsOpSet a → IsOpSet b → clash a b ≡ None → join a b ≡ join b a
+
+-- two sets clash at one id, whichever comes first
+abbrev pub ClashCommutes : Type 0
+ClashCommutes = (a b : List Operation) → IsOpSet a → IsOpSet b → clash a b ≡ clash b a
+
+abbrev pub JoinWithItself : Type 0
+JoinWithItself = (a : List Operation) → IsOpSet a → (join a a ≡ a) × (clash a a ≡ None)
+
+-- the union is a set that holds at each id what one of the two holds there, and nothing else
+abbrev pub JoinHoldsBoth : Type 0
+JoinHoldsBoth = (a b : List Operation) → IsOpSet a → IsOpSet b → IsOpSet (join a b) × ((id : Id) → get (join a b) id ≡ option_or (get a id) (get b id))
+
+-- sets that hold the same operation at each id are equal
+abbrev pub SameHeldSameSet : Type 0
+SameHeldSameSet = (a b : List Operation) → IsOpSet a → IsOpSet b → ((id : Id) → get a id ≡ get b id) → a ≡ b
+
+-- a segment with an operation shows at least one
+abbrev pub SegmentShowsOne : Type 0
+SegmentShowsOne = (held : List Operation) (g : Segment) → IsOpSet held → list_any (in_segment g) held ≡ true → shown held g ≢ []
+
+-- ---- sets joined in some order, grouping and repetition
+
+-- a way to join sets: one set, or two ways joined
+pub data Joining : Type 0 where
+  Part : (set : List Operation) → Joining
+  Joined : (left right : Joining) → Joining
+
+abbrev pub AreSets : Joining → Type 0
+AreSets (Part set) = IsOpSet set
+AreSets (Joined left right) = AreSets left × AreSets right
+
+-- the operation is in one of the sets that are joined
+abbrev pub IsInOne : Joining → Operation → Type 0
+IsInOne (Part set) o = Contains set o
+IsInOne (Joined left right) o = IsInOne left o ⊎ IsInOne right o
+
+-- the sets of both ways have the same operations together
+pub record SameOperations (one other : Joining) : Type 0 where
+  pub there : (o : Operation) → IsInOne one o → IsInOne other o
+  pub back : (o : Operation) → IsInOne other o → IsInOne one o
+
+-- the union of two sets, refused with their clash
+abbrev pub joined_or_clash : List Operation → List Operation → Option Id → Result (List Operation) Id
+joined_or_clash a b None = Ok (join a b)
+joined_or_clash a b (Some id) = Err id
+
+-- the first refusal of two results, or what is made of both
+abbrev pub with_both : Result (List Operation) Id → Result (List Operation) Id → (List Operation → List Operation → Result (List Operation) Id) → Result (List Operation) Id
+with_both (Ok a) (Ok b) f = f a b
+with_both (Ok a) (Err id) f = Err id
+with_both (Err id) b f = Err id
+
+-- what a way of joining makes
+abbrev pub union_by : Joining → Result (List Operation) Id
+union_by (Part set) = Ok set
+union_by (Joined left right) = with_both (union_by left) (union_by right) (λ a b. joined_or_clash a b (clash a b))
+
+-- Sets whose operations are together the same, joined in whatever order, grouping and repetition, have one
+-- union, and so one export of every book.
+abbrev pub EqualUnionsExportAlike : Type 0
+EqualUnionsExportAlike =
+    (one other : Joining) (a b : List Operation) → AreSets one → AreSets other → SameOperations one other →
+    union_by one ≡ Ok a → union_by other ≡ Ok b →
+    (a ≡ b) × ((book : List ℕ) → export a book ≡ export b book)

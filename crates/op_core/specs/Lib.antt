@@ -1,0 +1,9 @@
+pub mod Names
+pub mod Padded
+pub mod Ids
+pub mod Ops
+pub mod Sets
+pub mod Shown
+pub mod Export
+pub mod Equal
+pub mod Laws

@@ -1,0 +1,88 @@
+-- What a segment shows, and the text that is picked for it. A multi-value register shows each write that no
+-- write of the register replaces (INRIA RR-7506); which of several is picked, and the chapter's own line, are
+-- this project's own rule.
+use Rattle.std.specs.Prelude.{ℕ, nat_le, Bool, true, false, not, ◌&&◌, cond, List, [], ◌∷◌, ◌++◌, Option, Some, None, filter, codes, option_map}
+use Rattle.std.specs.List.{list_any}
+use Rattle.std.specs.Fmt.{decimal}
+use Rattle.usfm_ref.specs.Keys.{is_head}
+use Rattle.usfm_ref.specs.Segments.{Segment}
+use Rattle.op_core.specs.declared.picked.Picked.{Picked}
+use Rattle.op_core.specs.declared.picked.Picked.TheVariants.{Nothing, Held, ChapterLine}
+use Rattle.op_core.specs.Ids.{Id}
+use Rattle.op_core.specs.Ops.{Operation, in_segment, is_verse_in, names}
+
+-- whether an operation of the segment names the id
+abbrev pub is_replaced : List Operation → Segment → Id → Bool
+is_replaced held g id = list_any (λ p. in_segment g p && names p id) held
+
+abbrev pub is_shown : List Operation → Segment → Operation → Bool
+is_shown held g o = in_segment g o && not (is_replaced held g o.id)
+
+-- the operations of the segment whose ids no operation of the segment names
+abbrev pub shown : List Operation → Segment → List Operation
+shown held g = filter (is_shown held g) held
+
+abbrev pub last : List Operation → Option Operation
+last [] = None
+last (o ∷ []) = Some o
+last (o ∷ p ∷ rest) = last (p ∷ rest)
+
+abbrev pub last_id : List Operation → Option Id
+last_id ops = option_map (λ o. o.id) (last ops)
+
+-- the text of an operation, empty if there is none
+abbrev pub text_in : Option Operation → List ℕ
+text_in None = []
+text_in (Some o) = o.text
+
+-- the text of the greatest shown id
+abbrev pub text_of : List Operation → Segment → List ℕ
+text_of held g = text_in (last (shown held g))
+
+abbrev pub is_empty : List ℕ → Bool
+is_empty [] = true
+is_empty (c ∷ rest) = false
+
+-- whether the operation's segment is a verse of the chapter and has a text that is not empty
+abbrev pub is_verse_with_text : List Operation → List ℕ → ℕ → Operation → Bool
+is_verse_with_text held book chapter o =
+    is_verse_in book chapter o && not (is_empty (text_of held o.segment))
+
+-- whether some verse of the chapter has a text that is not empty
+abbrev pub has_verse_text : List Operation → List ℕ → ℕ → Bool
+has_verse_text held book chapter = list_any (is_verse_with_text held book chapter) held
+
+-- whether the segment is a chapter's head without a text while a verse of the chapter has one: without a
+-- line of its own, such a chapter's verses would be read as verses of the chapter before
+abbrev pub wants_chapter_line : List Operation → Segment → Bool
+wants_chapter_line held g =
+    is_head g.key.place && nat_le 1 g.key.chapter && is_empty (text_of held g)
+    && has_verse_text held g.book g.key.chapter
+
+-- what stands for a segment's text: the chapter's own line, the greatest shown operation, or nothing
+pub data Pick : Type 0 where
+  Line : (chapter : ℕ) → Pick
+  Greatest : (o : Operation) → Pick
+  Empty : Pick
+
+abbrev pub greatest : Option Operation → Pick
+greatest None = Empty
+greatest (Some o) = Greatest o
+
+abbrev pub pick : List Operation → Segment → Pick
+pick held g = cond (wants_chapter_line held g) (Line g.key.chapter) (greatest (last (shown held g)))
+
+-- what an answer of `OpSet::pick` says
+abbrev pub picked : Picked → Pick
+picked Nothing = Empty
+picked (Held op) = Greatest op.now
+picked (ChapterLine chapter) = Line chapter
+
+-- the line of a chapter that has none: `\c`, a space, the number, and a line feed
+abbrev pub chapter_line : ℕ → List ℕ
+chapter_line chapter = codes "\\c " ++ decimal chapter ++ 10 ∷ []
+
+abbrev pub picked_text : Pick → List ℕ
+picked_text (Line chapter) = chapter_line chapter
+picked_text (Greatest o) = o.text
+picked_text Empty = []

@@ -1,0 +1,43 @@
+//! Laws of sets of operations, over the definitions alone.
+ghost use Rattle.op_core.specs.Laws as laws;
+
+/// Each grouping of three sets has the same union.
+pub fn join_is_associative()
+    ensures { laws.JoinIsAssociative }
+{}
+
+/// Sets without a clash have the same union either way.
+pub fn join_commutes()
+    ensures { laws.JoinCommutes }
+{}
+
+/// A set joined with itself is the set.
+pub fn join_with_itself()
+    ensures { laws.JoinWithItself }
+{}
+
+/// The union is a set that holds at each id what one of the two holds there.
+pub fn join_holds_both()
+    ensures { laws.JoinHoldsBoth }
+{}
+
+/// Sets that hold the same operation at each id are equal.
+pub fn same_held_same_set()
+    ensures { laws.SameHeldSameSet }
+{}
+
+/// A segment with an operation shows at least one.
+pub fn segment_shows_one()
+    ensures { laws.SegmentShowsOne }
+{}
+
+/// Two sets clash at one id, whichever comes first.
+pub fn clash_commutes()
+    ensures { laws.ClashCommutes }
+{}
+
+/// Sets whose operations are together the same, joined in whatever order, grouping and repetition,
+/// have one union, and so one export of every book.
+pub fn equal_unions_export_alike()
+    ensures { laws.EqualUnionsExportAlike }
+{}

@@ -1,0 +1,23 @@
+//! Operations on the segments of a Scripture project, and sets of them that can be joined.
+#![tactic(auto)]
+
+mod fault;
+pub mod laws;
+mod merge;
+mod name;
+mod op;
+mod op_id;
+mod ops;
+mod picked;
+mod set;
+
+pub use fault::{IdFault, SetFault};
+pub use name::ReplicaName;
+pub use op::Op;
+pub use op_id::{OpId, names_fall};
+pub use ops::Ops;
+pub use picked::Picked;
+pub use set::OpSet;
+
+#[cfg(test)]
+mod tests;

@@ -1,0 +1,153 @@
+ghost use Rattle.std.specs.Prelude.{◌≡◌, IsTrue, string_bytes};
+ghost use Rattle.std.specs.Cmp.{partial_equiv_from_equiv};
+ghost use Rattle.std.specs.Cmp.Lexicographic.{pointwise};
+ghost use Rattle.std.specs.List.{list_all};
+ghost use Rattle.usfm_ref.specs.Keys.{is_verse_of};
+ghost use Rattle.usfm_ref.specs.Segments.{segment};
+ghost use Rattle.op_core.specs.Ids as ids;
+ghost use Rattle.op_core.specs.Ops.{IsOperation, in_segment, is_verse_in, names};
+
+use crate::op_id::OpId;
+use std::marker::Model;
+use usfm_ref::{Book, Key, Place};
+
+/// The text that a replica gave to a segment, a book's key, and the ids of the operations that it
+/// replaces there.
+#[derive(Debug, Drop)]
+pub struct Op {
+    id: OpId,
+    book: Book,
+    key: Key,
+    replaced: Vec<OpId>,
+    text: String,
+}
+
+impl Model for Op {
+    ghost use Rattle.std.specs.Prelude.{string_bytes};
+    ghost use Rattle.usfm_ref.specs.Segments.{segment};
+    ghost use Rattle.op_core.specs.Ops.{Operation, IsOperation};
+
+    ghost Value = { Operation };
+
+    ghost view = { λ a. record { id = a.id; segment = segment a.book a.key; replaced = a.replaced.items; text = string_bytes a.text } };
+
+    ghost invariant = { λ a. IsOperation (record { id = a.id; segment = segment a.book a.key; replaced = a.replaced.items; text = string_bytes a.text }) };
+}
+
+impl Op {
+    /// The operation of these parts. The replaced ids have to rise, each with a smaller number than
+    /// the operation's, which `names_fall` tests.
+    pub fn new(id: OpId, book: Book, key: Key, replaced: Vec<OpId>, text: String) -> Op
+        requires { IsTrue (ids.names_fall id replaced.items) }
+        ensures { result ≡ record { id = id; segment = segment book key; replaced = replaced.items; text = string_bytes text } }
+    {
+        // Each part is looked at, which shows that it is within its ranges.
+        let _ = &id.number;
+        let _ = book.code();
+        let _ = &key.chapter;
+        let _ = text.as_str();
+        look_at_each(&replaced);
+        Op {
+            id,
+            book,
+            key,
+            replaced,
+            text,
+        }
+    }
+
+    /// The operation's id.
+    pub fn id(&self) -> OpId
+        ensures id { result ≡ self.now.id }
+        ensures valid { IsOperation self.now }
+    {
+        self.id
+    }
+
+    /// The book of its segment.
+    pub fn book(&self) -> Book
+        ensures { result ≡ self.now.segment.book }
+    {
+        self.book
+    }
+
+    /// The key of its segment.
+    pub fn key(&self) -> Key
+        ensures { result ≡ self.now.segment.key }
+    {
+        self.key
+    }
+
+    /// The ids that it names as replaced, rising, lent from it.
+    pub fn replaced(&self) -> &[OpId]
+        ensures { result.now ≡ self.now.replaced }
+    {
+        &self.replaced
+    }
+
+    /// Its text, lent from it.
+    pub fn text(&self) -> &str
+        ensures { result.now ≡ self.now.text }
+    {
+        self.text.as_str()
+    }
+
+    // Whether the operation is of the segment.
+    pub(crate) fn in_segment(&self, book: Book, key: Key) -> bool
+        ensures { result ≡ in_segment (segment book key) self.now }
+    {
+        self.book == book && self.key == key
+    }
+
+    // Whether the operation is of a verse of the chapter.
+    pub(crate) fn is_verse_in(&self, book: Book, chapter: u16) -> bool
+        ensures { result ≡ is_verse_in book chapter self.now }
+    {
+        self.book == book && is_verse_of(chapter, self.key)
+    }
+
+    // Whether the operation names the id as replaced.
+    pub(crate) fn names(&self, id: OpId) -> bool
+        ensures { result ≡ names self.now id }
+    {
+        self.replaced.iter().any(|named| id == *named)
+    }
+}
+
+/// Operations are equal where all their parts are.
+impl PartialEq for Op {
+    ghost use Rattle.op_core.specs.Ops.{same_op};
+    ghost use Rattle.op_core.specs.Equal.{same_op_equiv};
+
+    ghost eq = { same_op };
+
+    ghost laws = { partial_equiv_from_equiv same_op_equiv };
+
+    fn eq(&self, other: &Op) -> bool {
+        self.id == other.id
+            && other.in_segment(self.book, self.key)
+            && same_ids(&self.replaced, &other.replaced)
+            && self.text.as_bytes() == other.text.as_bytes()
+    }
+}
+
+fn is_verse_of(chapter: u16, key: Key) -> bool
+    ensures { result ≡ is_verse_of chapter key }
+{
+    key.chapter == chapter && key.place != Place::Head
+}
+
+fn same_ids(left: &[OpId], right: &[OpId]) -> bool
+    ensures { result ≡ pointwise ids.same_id left.now right.now }
+{
+    left == right
+}
+
+// Looks at each id, which shows that it is within its ranges. Nothing of it is left in the program.
+fn look_at_each(replaced: &[OpId])
+    ensures { IsTrue (list_all ids.is_id replaced.now) }
+{
+    for id in replaced {
+        let _ = &id.number;
+    }
+}

@@ -1,0 +1,138 @@
+use super::*;
+use std::alloc::Global;
+use std::test::Fail;
+use usfm_ref::{Book, Key, Place};
+
+fn op_id(number: u64, name: &str) -> Result<OpId, Fail> {
+    let name = ReplicaName::read(name)?;
+    Ok(OpId::new(number, name).ok_or("number")?)
+}
+
+fn head(chapter: u16) -> Result<Key, Fail> {
+    Ok(Key::new(chapter, Place::Head).ok_or("key")?)
+}
+
+fn verse(number: u16) -> Result<Key, Fail> {
+    let letter = None;
+    Ok(Key::new(1, Place::Verse { number, letter }).ok_or("key")?)
+}
+
+fn op(alloc: Global, id: OpId, key: Key, named: &[OpId], text: &str) -> Result<Op, Fail> {
+    if !names_fall(&id, named) {
+        return Err(Fail::from("the named ids do not fall"));
+    }
+    let replaced = Vec::from_slice(alloc, named)?;
+    let text = String::from_str(alloc, text)?;
+    Ok(Op::new(id, Book::read("MAT")?, key, replaced, text))
+}
+
+// 1 ana on MAT 0, and 2 ana on MAT 1:1.
+fn first_set(alloc: Global) -> Result<OpSet, Fail> {
+    let mut set = OpSet::new(alloc);
+    set.insert(op(alloc, op_id(1, "ana")?, head(0)?, &[], "\\id MAT\n")?)?;
+    set.insert(op(alloc, op_id(2, "ana")?, verse(1)?, &[], "\\v 1 In\n")?)?;
+    Ok(set)
+}
+
+// A set that clashes with the first one at 2 ana.
+fn clashing_set(alloc: Global) -> Result<OpSet, Fail> {
+    let mut set = OpSet::new(alloc);
+    set.insert(op(alloc, op_id(1, "cy")?, head(1)?, &[], "\\c 1\n")?)?;
+    set.insert(op(alloc, op_id(1, "dan")?, verse(2)?, &[], "\\v 2 b\n")?)?;
+    set.insert(op(alloc, op_id(2, "ana")?, verse(1)?, &[], "\\v 1 Xx\n")?)?;
+    Ok(set)
+}
+
+#[test]
+fn names_and_ids(rt: HostRuntime) -> Result<(), Fail> {
+    let names = ["-", "a", "a-", "a0"];
+    for later in 1..names.len() {
+        let before = ReplicaName::read(names[later - 1])?;
+        let after = ReplicaName::read(names[later])?;
+        assert!(rt; before < after, "{later}");
+        assert!(rt; after.text() == names[later], "{later}");
+    }
+    for text in ["", "Ana", "a b", "abcdefghijklmnopqrstuvwxyz0123456"] {
+        assert!(rt; ReplicaName::read(text) == Err(IdFault::BadName), "{text}");
+    }
+    let ana = ReplicaName::read("ana")?;
+    for (number, fits) in [
+        (0, false),
+        (1, true),
+        (1_000_000_000_000_000, true),
+        (1_000_000_000_000_001, false),
+    ] {
+        assert_eq!(rt; OpId::new(number, ana).is_some(), fits, "{number}");
+    }
+    assert!(rt; op_id(2, "ana")? < op_id(2, "ben")? && op_id(2, "ben")? < op_id(3, "ana")?);
+    Ok(())
+}
+
+#[test]
+fn sets_are_joined(rt: HostRuntime) -> Result<(), Fail> {
+    let alloc = rt.alloc();
+    let mut set = first_set(alloc)?;
+    let again = op(alloc, op_id(2, "ana")?, verse(1)?, &[], "\\v 1 In\n")?;
+    assert!(rt; !set.insert(again)?);
+    assert_eq!(rt; set.len(), 2);
+    let mat = Book::read("MAT")?;
+    assert!(rt; matches!(&set.pick(mat, head(1)?), Picked::ChapterLine(1)));
+    let mut later = OpSet::new(alloc);
+    let ana2 = op_id(2, "ana")?;
+    let ben3 = op_id(3, "ben")?;
+    assert!(rt; later.insert(op(alloc, ben3, verse(1)?, &[ana2], "\\v 1 At\n")?)?);
+    assert_eq!(rt; set.join(later)?, 1);
+    let shown = set.shown(alloc, mat, verse(1)?)?;
+    assert_eq!(rt; shown.len(), 1);
+    assert!(rt; shown[0].id() == ben3 && shown[0].text() == "\\v 1 At\n");
+    drop(shown);
+    assert!(rt; set.join(clashing_set(alloc)?) == Err(SetFault::Clash(ana2)));
+    assert_eq!(rt; set.len(), 3);
+    assert_eq!(rt; set.iter().count(), 3);
+    assert!(rt; set.get(&ben3).is_some() && set.get(&op_id(1, "cy")?).is_none());
+    Ok(())
+}
+
+#[test]
+fn the_least_clash_is_told(rt: HostRuntime) -> Result<(), Fail> {
+    let alloc = rt.alloc();
+    let ana1 = op_id(1, "ana")?;
+    for turned in [false, true] {
+        let mut other = clashing_set(alloc)?;
+        other.insert(op(alloc, ana1, head(0)?, &[], "\\id MAT x\n")?)?;
+        let mut set = first_set(alloc)?;
+        let answer = if turned {
+            other.join(set)
+        } else {
+            set.join(other)
+        };
+        assert!(rt; answer == Err(SetFault::Clash(ana1)));
+    }
+    Ok(())
+}
+
+#[test]
+fn segments_stand_apart(rt: HostRuntime) -> Result<(), Fail> {
+    let alloc = rt.alloc();
+    let mat = Book::read("MAT")?;
+    let mut set = first_set(alloc)?;
+    let ana2 = op_id(2, "ana")?;
+    set.insert(op(alloc, op_id(3, "ben")?, verse(2)?, &[ana2], "\\v 2 b\n")?)?;
+    assert!(rt; set.shown(alloc, mat, verse(1)?)?.len() == 1);
+    assert!(rt; matches!(&set.pick(mat, head(0)?), Picked::Held(_)));
+    assert!(rt; matches!(&set.pick(mat, head(2)?), Picked::Nothing));
+    // A verse of chapter 0 asks for no line.
+    let mut early = OpSet::new(alloc);
+    assert!(rt; early.is_empty());
+    let zero = Key::new(
+        0,
+        Place::Verse {
+            number: 1,
+            letter: None,
+        },
+    )
+    .ok_or("key")?;
+    early.insert(op(alloc, ana2, zero, &[], "\\v 1 a\n")?)?;
+    assert!(rt; matches!(&early.pick(mat, head(0)?), Picked::Nothing));
+    Ok(())
+}
