@@ -7,7 +7,8 @@ use Rattle.std.specs.List.{list_all, position_or_len, find, filter}
 use Rattle.std.specs.List.Sorted.{IsPartitionedBy}
 use Rattle.std.specs.Cmp.{IsTotalOrder}
 use Rattle.std.proofs.lemmas.Bool.{and_parts, and_from, cond-true, cond-false, true≢false, false≢true}
-use Rattle.usfm_ref.specs.Rising.{rises_by}
+use Rattle.std.specs.FinMap.Entries.{by_order}
+use Rattle.usfm_ref.specs.Rising.{rises_by, with_item, rising}
 
 pub is_less : (o : Ordering) → is_lt o ≡ true → o ≡ Less
 is_less Less h = refl
@@ -124,3 +125,30 @@ module _ {K X : Type 0} (R : K → K → Ordering) (o : IsTotalOrder R) (key : X
       let q = parts x xs h in
       let rest = rises_filter p xs q.1 in
       elim (p x) as (λ b. rises_by R key (cond b (x ∷ filter p xs) (filter p xs)) ≡ true) [ true ↦ and_from _ _ (above_filter p (key x) xs q.0) rest | false ↦ rest ]
+
+-- ---- the items of a list, rising, each once
+
+module _ {K : Type 0} (cmp : K → K → Ordering) (o : IsTotalOrder cmp) where
+  above_with_item : (a k : K) (xs : List K) → is_lt (cmp a k) ≡ true → Above cmp o (λ (x : K). x) a xs → Above cmp o (λ (x : K). x) a (with_item cmp k xs)
+  above_with_item a k [] l h = and_from _ _ l refl
+  above_with_item a k (x ∷ xs) l h =
+      let p = first_above cmp o (λ (x : K). x) a x xs h in
+      elim (cmp k x) as (λ r. Above cmp o (λ (x : K). x) a (by_order r (k ∷ x ∷ xs) (x ∷ xs) (x ∷ with_item cmp k xs))) [
+        | Less ↦ and_from _ _ l h
+        | Equal ↦ h
+        | Greater ↦ and_from _ _ p.0 (above_with_item a k xs l p.1)
+      ]
+
+  pub rises-with_item : (k : K) (xs : List K) → rises_by cmp (λ x. x) xs ≡ true → rises_by cmp (λ x. x) (with_item cmp k xs) ≡ true
+  rises-with_item k [] h = refl
+  rises-with_item k (x ∷ xs) h =
+      let p = parts cmp o (λ (x : K). x) x xs h in
+      elim (cmp k x) as (λ r. cmp k x ≡ r → rises_by cmp (λ x. x) (by_order r (k ∷ x ∷ xs) (x ∷ xs) (x ∷ with_item cmp k xs)) ≡ true) [
+        | Less ↦ λ e. and_from _ _ (and_from _ _ (ap is_lt e) (above_trans cmp o (λ (x : K). x) k x xs e p.0)) h
+        | Equal ↦ λ e. h
+        | Greater ↦ λ e. and_from _ _ (above_with_item x k xs (ap is_lt (o.antisymm x k ∙ ap ordering_reverse e)) p.0) (rises-with_item k xs p.1)
+      ] refl
+
+  pub rises-rising : (xs : List K) → rises_by cmp (λ x. x) (rising cmp xs) ≡ true
+  rises-rising [] = refl
+  rises-rising (x ∷ xs) = rises-with_item x (rising cmp xs) (rises-rising xs)
