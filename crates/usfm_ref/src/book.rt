@@ -1,4 +1,4 @@
-ghost use Rattle.std.specs.Prelude.{◌≡◌, ◌≤◌, length, ◌↔◌, IsTrue, IsOk, IfOk, IfErr};
+ghost use Rattle.std.specs.Prelude.{◌≡◌, ◌≤◌, length, ◌↔◌, IsTrue, IsOk, IfOk, IfErr, IsSome, IfSome};
 ghost use Rattle.usfm_ref.specs.Books.{is_book_code, rank_of, is_code_char, same_bytes};
 ghost use Rattle.std.specs.List.{position_or_len};
 
@@ -54,14 +54,24 @@ impl Book {
         let [a, b, c] = text.as_bytes() else {
             return Err(RefFault::BadBook);
         };
-        let code = [*a, *b, *c];
+        match Book::of_code([*a, *b, *c]) {
+            Some(book) => Ok(book),
+            None => Err(RefFault::BadBook),
+        }
+    }
+
+    // The book of three bytes, where they are a code.
+    pub(crate) fn of_code(code: [u8; 3]) -> Option<Book>
+        ensures accepts { IsSome result ↔ IsTrue (is_book_code code) }
+        ensures book { IfSome result (λ book. book ≡ code) }
+    {
         if is_code_byte(code[0]) && is_code_byte(code[1]) && is_code_byte(code[2]) {
-            Ok(Book {
+            Some(Book {
                 rank: rank(&code),
                 code,
             })
         } else {
-            Err(RefFault::BadBook)
+            None
         }
     }
 

@@ -1,14 +1,19 @@
-//! References to Scripture: books, keys of segments, and their orders.
+//! References to Scripture: books, keys of segments, their orders and texts, and the numbers of
+//! chapters and verses in a USFM text.
 #![tactic(auto)]
 
 mod book;
 mod fault;
 mod key;
 pub mod laws;
+mod number;
+mod reference;
 
 pub use book::Book;
 pub use fault::RefFault;
 pub use key::{Key, Place};
+pub use number::{VerseMark, chapter_after, verse_after};
+pub use reference::{read_ref, write_key, write_ref};
 
 #[cfg(test)]
 mod tests;

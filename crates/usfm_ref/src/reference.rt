@@ -1,0 +1,130 @@
+ghost use Rattle.std.specs.Prelude.{◌≡◌, ◌↔◌, ◌≤◌, ◌++◌, ℕ, List, take, IfOk, IfSome, OnOk, MatchOption, None, Some, Ok, Err, false};
+ghost use Rattle.std.specs.String.{string_bytes};
+ghost use Rattle.usfm_ref.specs.Books.{is_book_code};
+ghost use Rattle.usfm_ref.specs.Keys.{KeyParts};
+ghost use Rattle.usfm_ref.specs.References as references;
+ghost use Rattle.usfm_ref.specs.References.{IsRefTo, key_text, ref_text};
+
+use crate::book::Book;
+use crate::fault::RefFault;
+use crate::key::{Key, Place};
+use crate::number::number_at;
+use std::alloc::{AllocError, Global};
+use std::fmt::Write;
+
+/// Reads a reference: a book's code, one space and a key, as `MAT 0`, `MAT 5`, `MAT 5:3` or
+/// `MAT 5:3a`. The numbers are 0 to 999 without leading zeros, the letter is one of a to z.
+///
+/// # Errors
+/// `BadBook` where the first three bytes are no book's code, and else `BadRef` where the text is
+/// no reference.
+pub fn read_ref(text: &str) -> Result<(Book, Key), RefFault>
+    ensures reads { IfOk result (λ r. IsRefTo text.now r.0 r.1) }
+    ensures only { (book : List ℕ) (key : KeyParts) → IsRefTo text.now book key → result ≡ Ok (book, key) }
+    ensures bad_book { (result ≡ Err RefFault.BadBook) ↔ (is_book_code (take 3 text.now) ≡ false) }
+    ensures value { result ≡ references.ref_in text.now }
+{
+    let Some((code, behind)) = text.as_bytes().split_first_chunk::<3>() else {
+        return Err(RefFault::BadBook);
+    };
+    let Some(book) = Book::of_code(*code) else {
+        return Err(RefFault::BadBook);
+    };
+    match key_behind(behind) {
+        Some(key) => Ok((book, key)),
+        None => Err(RefFault::BadRef),
+    }
+}
+
+/// Writes a reference: the book's code, one space and the key, as `MAT 5:3a`. `read_ref` reads it
+/// again.
+///
+/// # Errors
+/// `AllocError` where there is no memory for the text.
+pub fn write_ref(alloc: Global, book: Book, key: Key) -> Result<String, AllocError>
+    ensures { IfOk result (λ text. string_bytes text ≡ ref_text book key) }
+{
+    let mut text = String::new(alloc);
+    for byte in book.code() {
+        text.push(char::from(byte))?;
+    }
+    text.push(' ')?;
+    push_key(&mut text, key)?;
+    Ok(text)
+}
+
+/// Writes a key: its chapter in decimal, and for a verse a colon, the verse in decimal and its
+/// letter, as `0`, `5`, `5:3` or `5:3a`.
+///
+/// # Errors
+/// `AllocError` where there is no memory for the text.
+pub fn write_key(alloc: Global, key: Key) -> Result<String, AllocError>
+    ensures { IfOk result (λ text. string_bytes text ≡ key_text key) }
+{
+    let mut text = String::new(alloc);
+    push_key(&mut text, key)?;
+    Ok(text)
+}
+
+fn push_key(text: &mut String, key: Key) -> Result<(), AllocError>
+    ensures { OnOk result (string_bytes text.new ≡ string_bytes text.old ++ key_text key) }
+{
+    write!(text, "{}", key.chapter)?;
+    if let Place::Verse { number, letter } = key.place {
+        write!(text, ":{number}")?;
+        if let Some(letter) = letter {
+            text.push(char::from(letter))?;
+        }
+    }
+    Ok(())
+}
+
+// A number of one to three digits without leading zeros, and what stands behind it.
+#[tactic(auto, unfolding(crate::specs::References::plain_at))]
+fn plain_at(bytes: &[u8]) -> Option<(u16, &[u8])>
+    ensures value { MatchOption result (references.plain_at bytes.now ≡ None) (λ n. references.plain_at bytes.now ≡ Some (n.0, n.1.now)) }
+    ensures within { IfSome result (λ n. n.0 ≤ 999) }
+{
+    match bytes {
+        [b'0', b'0'..=b'9', ..] => None,
+        _ => number_at(bytes),
+    }
+}
+
+// The place of a key behind its chapter.
+#[tactic(auto, unfolding(crate::specs::References::place_in))]
+fn place_in(bytes: &[u8]) -> Option<Place>
+    ensures { result ≡ references.place_in bytes.now }
+{
+    let verse = match bytes {
+        [] => return Some(Place::Head),
+        [b':', verse @ ..] => verse,
+        _ => return None,
+    };
+    let (number, letter) = match plain_at(verse)? {
+        (number, []) => (number, None),
+        (number, [letter @ b'a'..=b'z']) => (number, Some(*letter)),
+        _ => return None,
+    };
+    Some(Place::Verse { number, letter })
+}
+
+#[tactic(auto, unfolding(crate::specs::References::key_in))]
+fn key_in(bytes: &[u8]) -> Option<Key>
+    ensures { result ≡ references.key_in bytes.now }
+{
+    let (chapter, behind) = plain_at(bytes)?;
+    let place = place_in(behind)?;
+    Some(Key { chapter, place })
+}
+
+// The key behind one space.
+#[tactic(auto, unfolding(crate::specs::References::key_behind))]
+fn key_behind(bytes: &[u8]) -> Option<Key>
+    ensures { result ≡ references.key_behind bytes.now }
+{
+    match bytes {
+        [b' ', key @ ..] => key_in(key),
+        _ => None,
+    }
+}
