@@ -1,0 +1,7 @@
+pub mod Readers
+pub mod RisingIds
+pub mod Spelled
+pub mod Loops
+pub mod Seen
+pub mod Steps
+pub mod Appended

@@ -1,0 +1,166 @@
+-- Reading a bundle from left to right. A field is read whole and then judged, before the next one is looked
+-- at, so a refusal is the fault of the first field that is cut or breaks its rule. What follows the last
+-- operation is not read.
+use Rattle.std.specs.Prelude.{ℕ, zero, suc, ◌+◌, ◌&&◌, ◌||◌, ◌≡◌, Bool, true, List, [], ◌∷◌, length, take, drop, Option, Some, None, Result, Ok, Err, nat_le, nat_lt, ◌==◌, if◌then◌else◌}
+use Rattle.std.specs.Int.{Width, w16, w64, byte_len, from_be_bytes}
+use Rattle.std.specs.Str.{is_utf8}
+use Rattle.usfm_ref.specs.declared.key.Place.{Place}
+use Rattle.usfm_ref.specs.declared.key.Place.TheVariants.{Head, Verse}
+use Rattle.usfm_ref.specs.Books.{is_book_code}
+use Rattle.usfm_ref.specs.Keys.{KeyParts, is_key, is_place, is_letter}
+use Rattle.usfm_ref.specs.Segments.{segment}
+use Rattle.op_core.specs.Names.{is_name}
+use Rattle.op_core.specs.Ids.{Id, is_number, id_below}
+use Rattle.op_core.specs.Ops.{Operation}
+use Rattle.bundle_codec.specs.declared.fault.BundleFault.{BundleFault}
+use Rattle.bundle_codec.specs.declared.fault.BundleFault.TheVariants.{Magic, Truncated, NotRising, BadId, BadKey, BadReplaced, BadTag, NotUtf8}
+use Rattle.bundle_codec.specs.Spelling.{magic}
+
+-- the next step of a reading, if the ones before it did not fail
+infixl 10 ◌>>=◌
+abbrev pub ◌>>=◌ : {A B : Type 0} → Result A BundleFault → (A → Result B BundleFault) → Result B BundleFault
+(Ok x) >>= f = f x
+(Err e) >>= f = Err e
+
+-- what a function returned, as `view` sees it, is what reading gives
+abbrev pub Gives : {X Y : Type 0} → (X → Y) → Result X BundleFault → Result Y BundleFault → Type 0
+Gives view (Ok x) read = read ≡ Ok (view x)
+Gives view (Err e) read = read ≡ Err e
+
+-- ---- fields: a value, and the bytes after it. Each takes the rule of its value and the fault of breaking it.
+
+-- a test of what was read so far
+abbrev pub check : Bool → BundleFault → Result (Unit {0}) BundleFault
+check holds bad = if holds then Ok tt else Err bad
+
+abbrev pub byte_at : (ℕ → Bool) → BundleFault → List ℕ → Result (ℕ × List ℕ) BundleFault
+byte_at rule bad [] = Err Truncated
+byte_at rule bad (b ∷ rest) = if rule b then Ok (b, rest) else Err bad
+
+abbrev pub block_at : ℕ → (List ℕ → Bool) → BundleFault → List ℕ → Result (List ℕ × List ℕ) BundleFault
+block_at n rule bad bytes =
+    if nat_lt (length bytes) n then Err Truncated
+    else if rule (take n bytes) then Ok (take n bytes, drop n bytes) else Err bad
+
+abbrev pub number_at : Width → (ℕ → Bool) → BundleFault → List ℕ → Result (ℕ × List ℕ) BundleFault
+number_at w rule bad bytes =
+    if nat_lt (length bytes) (byte_len w) then Err Truncated
+    else if rule (from_be_bytes w (take (byte_len w) bytes)) then Ok (from_be_bytes w (take (byte_len w) bytes), drop (byte_len w) bytes) else Err bad
+
+-- these bytes, one by one
+abbrev pub exactly_at : List ℕ → BundleFault → List ℕ → Result (Unit {0} × List ℕ) BundleFault
+exactly_at [] bad bytes = Ok (tt, bytes)
+exactly_at (m ∷ ms) bad [] = Err Truncated
+exactly_at (m ∷ ms) bad (b ∷ bytes) = if b == m then exactly_at ms bad bytes else Err bad
+
+-- n values one after the other; what may come next depends on those before
+unfoldable pub many_at : {A S : Type 0} → (S → List ℕ → Result (A × List ℕ) BundleFault) → (S → A → S) → ℕ → S → List ℕ → Result (List A × List ℕ) BundleFault
+many_at one next zero s bytes = Ok ([], bytes)
+many_at one next (suc n) s bytes = do
+  first ← one s bytes
+  others ← many_at one next n (next s first.0) first.1
+  Ok (first.0 ∷ others.0, others.1)
+
+-- a value without a rule
+abbrev pub any : {A : Type 0} → A → Bool
+any x = true
+
+-- ---- an operation
+
+-- 1 to 32
+abbrev pub is_name_length : ℕ → Bool
+is_name_length n = nat_le 1 n && nat_le n 32
+
+unfoldable pub id_at : BundleFault → List ℕ → Result (Id × List ℕ) BundleFault
+id_at bad bytes = do
+  number ← number_at w64 is_number bad bytes
+  len ← byte_at is_name_length bad number.1
+  name ← block_at len.0 is_name bad len.1
+  Ok (record { number = number.0; name = name.0 }, name.1)
+
+-- the verse number of a place that is a head (0) or a verse (1)
+abbrev pub is_verse : ℕ → ℕ → Bool
+is_verse kind n = if kind == 0 then n == 0 else is_place (Verse n None)
+
+-- the letter's byte of a place that is a head (0) or a verse (1)
+abbrev pub is_letter_byte : ℕ → ℕ → Bool
+is_letter_byte kind b = b == 0 || (kind == 1 && is_letter (Some b))
+
+abbrev pub place_of : ℕ → ℕ → ℕ → Place
+place_of zero verse letter = Head
+place_of (suc kind) verse zero = Verse verse None
+place_of (suc kind) verse (suc letter) = Verse verse (Some (suc letter))
+
+unfoldable pub place_at : BundleFault → List ℕ → Result (Place × List ℕ) BundleFault
+place_at bad bytes = do
+  kind ← byte_at (λ b. nat_le b 1) bad bytes
+  verse ← number_at w16 (is_verse kind.0) bad kind.1
+  letter ← byte_at (is_letter_byte kind.0) bad verse.1
+  Ok (place_of kind.0 verse.0 letter.0, letter.1)
+
+unfoldable pub key_at : BundleFault → List ℕ → Result (KeyParts × List ℕ) BundleFault
+key_at bad bytes = do
+  chapter ← number_at w16 (λ n. is_key n Head) bad bytes
+  place ← place_at bad chapter.1
+  Ok (record { chapter = chapter.0; place = place.0 }, place.1)
+
+-- an id comes after the one before it, if there is one
+abbrev pub comes_after : Option Id → Id → Bool
+comes_after None i = true
+comes_after (Some before) i = id_below before i
+
+-- an id that comes after the one before it, and has a smaller number than the operation's own id
+unfoldable pub named_at : BundleFault → Id → Option Id → List ℕ → Result (Id × List ℕ) BundleFault
+named_at bad own before bytes = do
+  id ← id_at bad bytes
+  _ ← check (comes_after before id.0 && nat_lt id.0.number own.number) bad
+  Ok id
+
+abbrev pub after_id : Option Id → Id → Option Id
+after_id before i = Some i
+
+unfoldable pub replaced_at : BundleFault → Id → List ℕ → Result (List Id × List ℕ) BundleFault
+replaced_at bad own bytes = do
+  count ← number_at w64 any Truncated bytes
+  many_at (named_at bad own) after_id count.0 None count.1
+
+-- the tag, and the bytes of the text; k is the place of the operation, from 1
+unfoldable pub body_at : ℕ → List ℕ → Result (List ℕ × List ℕ) BundleFault
+body_at k bytes = do
+  tag ← byte_at (λ b. b == 1) (BadTag k) bytes
+  len ← number_at w64 any Truncated tag.1
+  block_at len.0 any Truncated len.1
+
+-- the rules of the text of the k-th operation, once it is whole: it is UTF-8
+abbrev pub judge_text : ℕ → List ℕ → Result (Unit {0}) BundleFault
+judge_text k text = check (is_utf8 text) (NotUtf8 k)
+
+-- the k-th operation, behind one of the id `before`
+unfoldable pub operation_at : ℕ → Option Id → List ℕ → Result (Operation × List ℕ) BundleFault
+operation_at k before bytes = do
+  id ← id_at (BadId k) bytes
+  _ ← check (comes_after before id.0) (NotRising k)
+  book ← block_at 3 is_book_code (BadKey k) id.1
+  key ← key_at (BadKey k) book.1
+  replaced ← replaced_at (BadReplaced k) id.0 key.1
+  text ← body_at k replaced.1
+  _ ← judge_text k text.0
+  Ok (record { id = id.0; segment = segment book.0 key.0; replaced = replaced.0; text = text.0 }, text.1)
+
+-- the place of the operation that comes next, and the id before it
+abbrev pub after_operation : ℕ × Option Id → Operation → ℕ × Option Id
+after_operation s o = (s.0 + 1, Some o.id)
+
+abbrev pub operations_at : ℕ → ℕ × Option Id → List ℕ → Result (List Operation × List ℕ) BundleFault
+operations_at n s bytes = many_at (λ t. operation_at t.0 t.1) after_operation n s bytes
+
+-- a bundle at the front, and what follows it
+unfoldable pub bundle_at : List ℕ → Result (List Operation × List ℕ) BundleFault
+bundle_at bytes = do
+  start ← exactly_at magic Magic bytes
+  count ← number_at w64 any Truncated start.1
+  operations_at count.0 (1, None) count.1
+
+-- the bytes after what was read
+abbrev pub after : {A : Type 0} → Result (A × List ℕ) BundleFault → Result (List ℕ) BundleFault
+after read = read >>= λ x. Ok x.1

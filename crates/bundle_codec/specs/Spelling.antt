@@ -1,0 +1,60 @@
+-- The one spelling of a set of operations: a bundle of format 1 (this project's own format). Numbers are
+-- big-endian and unsigned, in two or eight bytes.
+use Rattle.std.specs.Prelude.{ℕ, ◌<◌, ◌^◌, List, [], ◌∷◌, ◌++◌, length, Option, Some, None, codes}
+use Rattle.std.specs.List.{flat_map, AllByRecursion}
+use Rattle.std.specs.Int.{w16, w64, to_be_bytes}
+use Rattle.usfm_ref.specs.declared.key.Place.{Place}
+use Rattle.usfm_ref.specs.declared.key.Place.TheVariants.{Head, Verse}
+use Rattle.usfm_ref.specs.Keys.{KeyParts}
+use Rattle.op_core.specs.Ids.{Id}
+use Rattle.op_core.specs.Ops.{Operation}
+
+-- the first eight bytes: `USFMSR1` and a line feed
+unfoldable pub magic : List ℕ
+magic = codes "USFMSR1" ++ 10 ∷ []
+
+-- the number in eight bytes, the name's length in one, and the name
+abbrev pub id : Id → List ℕ
+id i = to_be_bytes w64 i.number ++ (length i.name ∷ i.name)
+
+-- a letter's byte, and 0 for none
+abbrev pub letter : Option ℕ → ℕ
+letter None = 0
+letter (Some c) = c
+
+-- 0 for a head and 1 for a verse; the verse's number in two bytes, and its letter in one, which are 0 for a head
+abbrev pub place : Place → List ℕ
+place Head = 0 ∷ (to_be_bytes w16 0 ++ (0 ∷ []))
+place (Verse n l) = 1 ∷ (to_be_bytes w16 n ++ (letter l ∷ []))
+
+-- the chapter in two bytes, and the place
+abbrev pub key : KeyParts → List ℕ
+key k = to_be_bytes w16 k.chapter ++ place k.place
+
+-- how many ids, in eight bytes, and each of them
+abbrev pub ids : List Id → List ℕ
+ids named = to_be_bytes w64 (length named) ++ flat_map id named
+
+-- the tag 1, the text's length in eight bytes, and the text
+abbrev pub body : List ℕ → List ℕ
+body text = 1 ∷ (to_be_bytes w64 (length text) ++ text)
+
+-- the id, the book's code, the key, the ids that are named as replaced, and the text
+abbrev pub operation : Operation → List ℕ
+operation o = id o.id ++ (o.segment.book ++ (key o.segment.key ++ (ids o.replaced ++ body o.text)))
+
+-- the magic, how many operations in eight bytes, and each of them, in the order of the list
+unfoldable pub bundle : List Operation → List ℕ
+bundle ops = magic ++ (to_be_bytes w64 (length ops) ++ flat_map operation ops)
+
+-- ---- what the fields of eight bytes can count
+
+-- an operation whose named ids and text can be counted
+pub record IsCounted (o : Operation) : Type 0 where
+  pub replaced : length o.replaced < 2 ^ 64
+  pub text : length o.text < 2 ^ 64
+
+-- operations that can be counted, each of them too
+pub record AreCounted (ops : List Operation) : Type 0 where
+  pub count : length ops < 2 ^ 64
+  pub each : AllByRecursion IsCounted ops

@@ -1,0 +1,33 @@
+use thiserror::Error;
+
+/// Why bytes do not begin with a bundle: the first field, from left to right, that is cut or breaks
+/// its rule. An operation's place is counted from 1.
+#[derive(Clone, Copy, Debug, PartialEq, Eq, Error)]
+pub enum BundleFault {
+    /// The bytes differ from `USFMSR1` and a line feed, with which a bundle begins.
+    #[error("not a bundle")]
+    Magic,
+    /// The bytes end inside a field. A proper front of a bundle, the empty one too, is refused so.
+    #[error("a bundle that is cut")]
+    Truncated,
+    /// An operation's id is not greater than the one before it.
+    #[error("operation {0}: its id does not come after the one before")]
+    NotRising(u64),
+    /// An operation's number is 0 or above 10^15, or its name is not 1 to 32 of a to z, 0 to 9 and `-`.
+    #[error("operation {0}: not an id")]
+    BadId(u64),
+    /// An operation's book is not three of A to Z and 0 to 9, its chapter or verse is above 999, its
+    /// place is neither head nor verse, its letter is none of a to z, or a head has a verse or a letter.
+    #[error("operation {0}: not a book and a key in it")]
+    BadKey(u64),
+    /// A replaced id breaks the rules of an id, does not come after the one before it, or has a number
+    /// that is not smaller than the operation's.
+    #[error("operation {0}: not the ids that it can replace")]
+    BadReplaced(u64),
+    /// An operation's tag is not 1.
+    #[error("operation {0}: an unknown tag")]
+    BadTag(u64),
+    /// An operation's text is not UTF-8.
+    #[error("operation {0}: its text is not UTF-8")]
+    NotUtf8(u64),
+}

@@ -1,0 +1,13 @@
+//! Laws of bundles, over the definitions alone. Each function does nothing: its contract is the law.
+ghost use Rattle.bundle_codec.specs.Laws as laws;
+
+/// One set has one spelling, and one spelling has one set, whatever follows it.
+pub fn one_spelling()
+    ensures { laws.OneSpelling }
+{}
+
+/// No proper front of a bundle is a bundle, and it is refused as cut.
+pub fn fronts_are_cut()
+    ensures bundle { laws.FrontsAreNoBundles }
+    ensures fault { laws.FrontsAreCut }
+{}

@@ -1,0 +1,85 @@
+// Operations, judged where they stand in the bytes.
+ghost use Rattle.std.specs.Prelude.{◌≡◌, None, Ok, Err, IfOk, option_map};
+ghost use Rattle.bundle_codec.specs.Reading.{Gives, body_at, judge_text, operation_at, operations_at, after};
+ghost use Rattle.bundle_codec.specs.Views.{id_view, op_view};
+
+use crate::fault::BundleFault;
+use crate::fields::{block_of, text_of, u8_at, u64_at};
+use crate::ids::{IdList, IdView, comes_after, id_of, replaced_of};
+use crate::keys::{KeyView, is_book_code, key_of};
+
+// The fields of an operation, lent from the bytes that spell it.
+#[derive(Clone, Copy, Debug)]
+pub(crate) struct OpFields<'a> {
+    pub(crate) id: IdView<'a>,
+    pub(crate) code: &'a [u8],
+    pub(crate) key: KeyView,
+    pub(crate) replaced: IdList<'a>,
+    pub(crate) text: &'a str,
+}
+
+// The tag and the bytes of the text of the operation at this place.
+#[tactic(auto, unfolding(crate::specs::Reading::body_at))]
+pub(crate) fn body_of(place: u64, bytes: &[u8]) -> Result<(&[u8], &[u8]), BundleFault>
+    ensures { Gives (λ x. (x.0.now, x.1.now)) result (body_at place bytes.now) }
+{
+    let (tag, rest) = u8_at(bytes)?;
+    if tag != 1 {
+        return Err(BundleFault::BadTag(place));
+    }
+    let (len, rest) = u64_at(rest)?;
+    block_of(len, rest)
+}
+
+// Judges the text of the operation at this place, once it is whole.
+fn judged_text(place: u64, text: &[u8]) -> Result<&str, BundleFault>
+    ensures rules { Gives (λ _. tt) result (judge_text place text.now) }
+    ensures text { IfOk result (λ s. s.now ≡ text.now) }
+{
+    text_of(text).ok_or(BundleFault::NotUtf8(place))
+}
+
+// Judges the operation at this place, behind one of the id `before`.
+#[tactic(auto, unfolding(crate::specs::Reading::operation_at))]
+fn fields_of<'a>(
+    place: u64,
+    before: &Option<IdView<'_>>,
+    bytes: &'a [u8],
+) -> Result<(OpFields<'a>, &'a [u8]), BundleFault>
+    ensures { Gives (λ x. (op_view x.0, x.1.now)) result (operation_at place (option_map id_view before.now) bytes.now) }
+{
+    let (id, rest) = id_of(BundleFault::BadId(place), bytes)?;
+    if !comes_after(before, &id) {
+        return Err(BundleFault::NotRising(place));
+    }
+    let (code, rest) = block_of(3, rest)?;
+    if !is_book_code(code) {
+        return Err(BundleFault::BadKey(place));
+    }
+    let (key, rest) = key_of(BundleFault::BadKey(place), rest)?;
+    let (replaced, rest) = replaced_of(BundleFault::BadReplaced(place), &id, rest)?;
+    let (text, rest) = body_of(place, rest)?;
+    let text = judged_text(place, text)?;
+    let fields = OpFields {
+        id,
+        code,
+        key,
+        replaced,
+        text,
+    };
+    Ok((fields, rest))
+}
+
+// Judges so many operations, and gives the bytes after them.
+pub(crate) fn after_operations(count: u64, bytes: &[u8]) -> Result<&[u8], BundleFault>
+    ensures { Gives (λ r. r.now) result (after (operations_at count (1, None) bytes.now)) }
+{
+    let mut before = None;
+    let mut rest = bytes;
+    for i in 0..count {
+        let (fields, left) = fields_of(i + 1, &before, rest)?;
+        before = Some(fields.id);
+        rest = left;
+    }
+    Ok(rest)
+}
