@@ -1,0 +1,81 @@
+-- A stream of bundles on its way.
+use Rattle.std.proofs.Common.{◌≡◌, ◌==◌, Bool, true, false, ℕ, zero, suc, ◌<◌, ◌≤◌, List, [], ◌∷◌, length, take, drop, Some, None, Result, Ok, Err, arith, length-take, length-drop, refl, sym, ap, ◌∙◌}
+use Rattle.std.proofs.lemmas.Bool.{eqb-true}
+use Rattle.op_core.specs.Ids.{Id}
+use Rattle.op_core.specs.Ops.{Operation}
+use Rattle.op_core.specs.declared.fault.SetFault.{SetFault}
+use Rattle.op_core.specs.declared.fault.SetFault.TheVariants as set_fault
+use Rattle.op_core.specs.Sets.{clash, join, IsRefusal}
+use Rattle.bundle_codec.specs.declared.fault.BundleFault.{BundleFault}
+use Rattle.bundle_codec.specs.Spelling.{bundle, magic}
+use Rattle.bundle_codec.specs.Reading.{bundle_at}
+use Rattle.usfm_cli.specs.Faults.{of_set}
+use Rattle.usfm_cli.specs.Streams.{with_set, unless_clash, union_within, union_in, UnionAnswers}
+use Rattle.usfm_cli.specs.declared.fault.Fault.{Fault}
+use Rattle.usfm_cli.specs.declared.fault.Fault.TheVariants.{Bundle, Clash}
+
+-- what is left of a stream, with the union so far, leads to what the whole stream leads to
+pub record LeadsTo (held : List Operation) (rest : List ℕ) (wanted : Result (List Operation) Fault) : Type 0 where
+  pub bound : ℕ
+  pub within : length rest ≤ bound
+  pub leads : union_within bound held rest ≡ wanted
+
+pub leads_start : (input : List ℕ) → LeadsTo [] input (union_in [] input)
+leads_start input = record { bound = length input; within = omega arith; leads = refl }
+
+pub leads_end : (held : List Operation) (rest : List ℕ) (wanted : Result (List Operation) Fault) → rest ≡ [] → LeadsTo held rest wanted → wanted ≡ Ok held
+unfolding union_within
+leads_end held [] wanted e l = sym l.leads
+leads_end held (b ∷ rest) wanted e l = cc e
+
+-- one turn, at bytes that are not at their end
+pub next : (bound : ℕ) (held : List Operation) (rest : List ℕ) → length rest ≤ bound → 0 < length rest → (r : Result (List Operation × List ℕ) BundleFault) → bundle_at rest ≡ r
+    → (b : ℕ) × (bound ≡ suc b) × (union_within bound held rest ≡ with_set r (λ set left. unless_clash (clash held set) (union_within b (join held set) left)))
+unfolding union_within
+next bound held [] w l r e = absurd (omega arith)
+next zero held (b ∷ rest) w l r e = absurd (omega arith)
+next (suc bound) held (b ∷ rest) w l r e = (bound, refl, ap (λ x. with_set x (λ set left. unless_clash (clash held set) (union_within bound (join held set) left))) e)
+
+module _ (held : List Operation) (rest : List ℕ) (wanted : Result (List Operation) Fault) (l : LeadsTo held rest wanted) (some : 0 < length rest) where
+  pub leads_fault : (f : BundleFault) → bundle_at rest ≡ Err f → wanted ≡ Err (Bundle f)
+  leads_fault f e = let n = next l.bound held rest l.within some (Err f) e in sym l.leads ∙ n.2
+
+  pub leads_clash : (set : List Operation) (left : List ℕ) (id : Id) → bundle_at rest ≡ Ok (set, left) → clash held set ≡ Some id → wanted ≡ Err (Clash id)
+  leads_clash set left id e c =
+      let n = next l.bound held rest l.within some (Ok (set, left)) e in
+      sym l.leads ∙ n.2 ∙ ap (λ x. unless_clash x (union_within n.0 (join held set) left)) c
+
+  pub leads_on : (set : List Operation) (left : List ℕ) → bundle_at rest ≡ Ok (set, left) → clash held set ≡ None → length left < length rest → LeadsTo (join held set) left wanted
+  leads_on set left e c s =
+      let n = next l.bound held rest l.within some (Ok (set, left)) e in
+      record {
+        bound = n.0;
+        within = omega (arith, n.1, l.within, s);
+        leads = sym (n.2 ∙ ap (λ x. unless_clash x (union_within n.0 (join held set) left)) c) ∙ l.leads;
+      }
+
+-- a bundle is not empty
+pub bundle_is_some : (ops : List Operation) → 0 < length (bundle ops)
+unfolding bundle magic
+bundle_is_some ops = omega arith
+
+-- what is left behind a bundle is shorter
+pub left_is_shorter : (bytes : List ℕ) (n : ℕ) (set : List Operation) → take n bytes ≡ bundle set → n ≡ length (bundle set) → (n ≤ length bytes) × (length (drop n bytes) < length bytes)
+left_is_shorter bytes n set e f =
+    let some = bundle_is_some set in
+    let whole : n ≤ length bytes = omega (arith, ap length e, length-take n bytes) in
+    (whole, omega (arith, length-drop n bytes))
+
+-- what a test for the end says
+pub some_left : (xs : List ℕ) (r : Bool) → r ≡ (length xs == 0) → r ≡ false → 0 < length xs
+some_left [] r e f = cc (sym e ∙ f)
+some_left (x ∷ xs) r e f = omega arith
+
+pub none_left : (xs : List ℕ) (r : Bool) → r ≡ (length xs == 0) → r ≡ true → xs ≡ []
+none_left [] r e f = refl
+none_left (x ∷ xs) r e f = absurd (omega (arith, eqb-true (length (x ∷ xs)) 0 (sym e ∙ f)))
+
+-- a refused join is refused with the clash
+pub refused_join : (held set : List Operation) (left : List ℕ) (rest : List ℕ) (wanted : Result (List Operation) Fault) (fault : SetFault) → LeadsTo held rest wanted → 0 < length rest → bundle_at rest ≡ Ok (set, left) → IsRefusal (clash held set) fault → UnionAnswers wanted (Err (of_set fault))
+refused_join held set left rest wanted set_fault.Memory l some e r = tt
+refused_join held set left rest wanted (set_fault.Clash id) l some e r = leads_clash held rest wanted l some set left id e r

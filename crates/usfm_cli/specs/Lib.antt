@@ -1,0 +1,10 @@
+pub mod Counts
+pub mod Padded
+pub mod Reading
+pub mod Writing
+pub mod Keys
+pub mod Faults
+pub mod Lines
+pub mod Streams
+pub mod Folding
+pub mod StreamLaws

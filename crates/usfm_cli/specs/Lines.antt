@@ -1,0 +1,58 @@
+-- The line that tells of a fault (this project's own rule): `fault`, the fault's number, its details, each after
+-- one space, and a line feed.
+use Rattle.std.specs.Prelude.{ℕ, List, [], ◌∷◌, ◌++◌, codes}
+use Rattle.std.specs.List.{flat_map}
+use Rattle.std.specs.Fmt.{decimal}
+use Rattle.usfm_ref.specs.declared.fault.RefFault.TheVariants.{BadBook, BadRef}
+use Rattle.bundle_codec.specs.declared.fault.BundleFault.{BundleFault}
+use Rattle.bundle_codec.specs.declared.fault.BundleFault.TheVariants.{Magic, Truncated, NotRising, BadId, BadKey, BadReplaced, BadTag, NotUtf8}
+use Rattle.usfm_cli.specs.declared.fault.Fault.{Fault}
+use Rattle.usfm_cli.specs.declared.fault.Fault.TheVariants.{Memory, Reference, Clash, Bundle, NoBook, WriteFailed, ReadFailed, TooLong}
+
+abbrev pub bundle_number : BundleFault → ℕ
+bundle_number Magic = 60
+bundle_number Truncated = 61
+bundle_number (NotRising at) = 62
+bundle_number (BadId at) = 63
+bundle_number (BadKey at) = 64
+bundle_number (BadReplaced at) = 65
+bundle_number (BadTag at) = 66
+bundle_number (NotUtf8 at) = 67
+
+-- the place of the operation, counted from 1
+abbrev pub bundle_details : BundleFault → List (List ℕ)
+bundle_details Magic = []
+bundle_details Truncated = []
+bundle_details (NotRising at) = decimal at ∷ []
+bundle_details (BadId at) = decimal at ∷ []
+bundle_details (BadKey at) = decimal at ∷ []
+bundle_details (BadReplaced at) = decimal at ∷ []
+bundle_details (BadTag at) = decimal at ∷ []
+bundle_details (NotUtf8 at) = decimal at ∷ []
+
+abbrev pub fault_number : Fault → ℕ
+fault_number Memory = 1
+fault_number (Reference BadBook) = 20
+fault_number (Reference BadRef) = 21
+fault_number (Clash id) = 51
+fault_number (Bundle fault) = bundle_number fault
+fault_number NoBook = 82
+fault_number (WriteFailed gone) = 90
+fault_number ReadFailed = 120
+fault_number TooLong = 121
+
+-- an id by its number and its name, a count in decimal
+abbrev pub fault_details : Fault → List (List ℕ)
+fault_details Memory = []
+fault_details (Reference BadBook) = []
+fault_details (Reference BadRef) = []
+fault_details (Clash id) = decimal id.number ∷ id.name ∷ []
+fault_details (Bundle fault) = bundle_details fault
+fault_details NoBook = []
+fault_details (WriteFailed gone) = decimal gone ∷ []
+fault_details ReadFailed = []
+fault_details TooLong = []
+
+abbrev pub fault_text : Fault → List ℕ
+fault_text fault =
+    codes "fault " ++ decimal (fault_number fault) ++ flat_map (λ detail. 32 ∷ detail) (fault_details fault) ++ 10 ∷ []

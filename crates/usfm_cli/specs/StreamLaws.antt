@@ -1,0 +1,42 @@
+-- Laws of streams of bundles.
+use Rattle.std.specs.Prelude.{◌≡◌, ◌<◌, ℕ, List, [], ◌∷◌, Ok, slice_index, ◌⊎◌}
+use Rattle.std.specs.List.{Contains}
+use Rattle.op_core.specs.Ops.{Operation}
+use Rattle.usfm_cli.specs.Streams.{union_in, union_with, AreSpelled, book_of_stream}
+
+-- each is a byte
+abbrev pub AreBytes : List ℕ → Type 0
+AreBytes bytes = (i : ℕ) → slice_index bytes i < 256
+
+-- bundles one after another give the union of their sets, taken one after another, or the first clash
+abbrev pub StreamsGiveUnions : Type 0
+StreamsGiveUnions = (sets : List (List Operation)) (input : List ℕ) → AreSpelled sets input → union_in [] input ≡ union_with [] sets
+
+-- the bytes are bundles one after another, whose sets have this union
+pub record IsStreamOf (input : List ℕ) (union : List Operation) : Type 0 where
+  pub sets : List (List Operation)
+  pub spelled : AreSpelled sets input
+  pub union_is : union_with [] sets ≡ Ok union
+
+-- bytes that give a union are bundles one after another, whose sets have that union
+abbrev pub UnionsAreOfStreams : Type 0
+UnionsAreOfStreams = (input : List ℕ) (union : List Operation) → AreBytes input → union_in [] input ≡ Ok union → IsStreamOf input union
+
+-- the operation is in one of the sets
+abbrev pub IsAmong : List (List Operation) → Operation → Type 0
+IsAmong [] o = ⊥
+IsAmong (set ∷ rest) o = Contains set o ⊎ IsAmong rest o
+
+-- the sets have the same operations together
+pub record SameTogether (sets others : List (List Operation)) : Type 0 where
+  pub there : (o : Operation) → IsAmong sets o → IsAmong others o
+  pub back : (o : Operation) → IsAmong others o → IsAmong sets o
+
+-- Streams whose bundles have the same operations together, in whatever order, grouping and repetition, give the
+-- same bytes of every book, if neither is refused.
+abbrev pub SameOperationsSameBooks : Type 0
+SameOperationsSameBooks =
+    (sets others : List (List Operation)) (input other : List ℕ) (a b : List Operation) →
+    AreSpelled sets input → AreSpelled others other → SameTogether sets others →
+    union_in [] input ≡ Ok a → union_in [] other ≡ Ok b →
+    (book : List ℕ) → book_of_stream book input ≡ book_of_stream book other

@@ -1,0 +1,67 @@
+-- What a stream of bundles folds into (this project's own rule): bundles one after another, whose union is taken
+-- in their order, and then the export of one book.
+use Rattle.std.specs.Prelude.{◌≡◌, ℕ, zero, suc, List, [], ◌∷◌, length, Option, Some, None, Result, Ok, Err, if◌then◌else◌}
+use Rattle.std.specs.List.{flat_map, AllByRecursion}
+use Rattle.op_core.specs.Ids.{Id}
+use Rattle.op_core.specs.Ops.{Operation}
+use Rattle.op_core.specs.Sets.{IsOpSet, clash, join}
+use Rattle.op_core.specs.Export.{has_book, export}
+use Rattle.bundle_codec.specs.declared.fault.BundleFault.{BundleFault}
+use Rattle.bundle_codec.specs.Spelling.{bundle, AreCounted}
+use Rattle.bundle_codec.specs.Reading.{bundle_at}
+use Rattle.usfm_cli.specs.declared.fault.Fault.{Fault}
+use Rattle.usfm_cli.specs.declared.fault.Fault.TheVariants.{Memory, Reference, Clash, Bundle, NoBook, WriteFailed, ReadFailed, TooLong}
+
+-- what follows a set that was read, and the bytes after it, or the bundle's fault
+abbrev pub with_set : {X : Type 0} → Result (List Operation × List ℕ) BundleFault → (List Operation → List ℕ → Result X Fault) → Result X Fault
+with_set (Ok x) next = next x.0 x.1
+with_set (Err f) next = Err (Bundle f)
+
+-- what follows where two sets do not clash, or the clash
+abbrev pub unless_clash : {X : Type 0} → Option Id → Result X Fault → Result X Fault
+unless_clash None next = next
+unless_clash (Some id) next = Err (Clash id)
+
+-- The union of a set and of the bundles that the bytes spell, each joined before the next is read; or the first
+-- refusal. A bundle is not empty, so the length of the bytes bounds how many there are.
+unfoldable pub union_within : ℕ → List Operation → List ℕ → Result (List Operation) Fault
+union_within bound held [] = Ok held
+union_within zero held (b ∷ bytes) = Ok held
+union_within (suc bound) held (b ∷ bytes) =
+    with_set (bundle_at (b ∷ bytes)) (λ set rest. unless_clash (clash held set) (union_within bound (join held set) rest))
+
+abbrev pub union_in : List Operation → List ℕ → Result (List Operation) Fault
+union_in held bytes = union_within (length bytes) held bytes
+
+-- the export of a book of the union, refused where the union has no operation on the book
+abbrev pub book_in : List ℕ → Result (List Operation) Fault → Result (List ℕ) Fault
+book_in book (Err fault) = Err fault
+book_in book (Ok union) = if has_book union book then Ok (export union book) else Err NoBook
+
+-- what a stream gives for a book: the book's bytes, or the first refusal
+abbrev pub book_of_stream : List ℕ → List ℕ → Result (List ℕ) Fault
+book_of_stream book input = book_in book (union_in [] input)
+
+-- ---- the same in terms of sets
+
+-- the input is the spellings of these sets, one after another
+pub record AreSpelled (sets : List (List Operation)) (input : List ℕ) : Type 0 where
+  pub each : AllByRecursion (λ set. IsOpSet set × AreCounted set) sets
+  pub bytes : input ≡ flat_map bundle sets
+
+-- the union of a set and others, taken one after another, or the first clash
+abbrev pub union_with : List Operation → List (List Operation) → Result (List Operation) Fault
+union_with held [] = Ok held
+union_with held (set ∷ rest) = unless_clash (clash held set) (union_with (join held set) rest)
+
+-- what a call that makes the union answers: the set, a bundle's fault, a clash, or a want of memory
+abbrev pub UnionAnswers : Result (List Operation) Fault → Result (List Operation) Fault → Type 0
+UnionAnswers wanted (Ok union) = wanted ≡ Ok union
+UnionAnswers wanted (Err Memory) = Unit {0}
+UnionAnswers wanted (Err (Clash id)) = wanted ≡ Err (Clash id)
+UnionAnswers wanted (Err (Bundle fault)) = wanted ≡ Err (Bundle fault)
+UnionAnswers wanted (Err (Reference fault)) = ⊥
+UnionAnswers wanted (Err NoBook) = ⊥
+UnionAnswers wanted (Err (WriteFailed gone)) = ⊥
+UnionAnswers wanted (Err ReadFailed) = ⊥
+UnionAnswers wanted (Err TooLong) = ⊥

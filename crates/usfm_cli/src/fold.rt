@@ -1,0 +1,63 @@
+// From a stream of bundles to a book.
+ghost use Rattle.std.specs.Prelude.{◌≡◌, []};
+ghost use Rattle.usfm_cli.specs.Streams.{union_in, UnionAnswers};
+ghost use Rattle.usfm_cli.specs.Folding.{FoldsStream, source_failures, sink_failures};
+
+use crate::export::{has_book, write_export};
+use crate::{ByteSink, ByteSource, Fault, read_to_end};
+use bundle_codec::decode;
+use op_core::OpSet;
+use std::alloc::Global;
+use usfm_ref::Book;
+
+/// Reads bundles one after another to the end of the source, takes the union of their operations,
+/// and writes the book's text to the sink: the picked texts of its segments by rising key.
+///
+/// Each bundle is joined before the next one is read, so the first refusal in the order of the
+/// bytes is answered. Nothing is written before all is judged. The source is read at most once for
+/// each byte and once more. An empty input is a list of no bundles.
+///
+/// # Errors
+/// - `ReadFailed` (120) at the first error of the source, of whatever kind; `TooLong` (121) where it
+///   gives more than 268,435,456 bytes.
+/// - `Bundle` (60 to 67) where the bytes are no bundle; `Clash` (51) where a bundle has an operation
+///   that differs from one of a bundle before under the same id, with the least such id.
+/// - `NoBook` (82) where no operation is of the book.
+/// - `WriteFailed` (90) where the sink answers an error or takes 0 bytes, with the bytes gone out:
+///   they are the front of the book of that length.
+/// - `Memory` (1) where a growth was refused. Nothing was written.
+pub fn fold_stream<R: ByteSource, W: ByteSink>(
+    alloc: Global,
+    source: &mut R,
+    sink: &mut W,
+    book: Book,
+) -> Result<(), Fault>
+    ensures folds { FoldsStream book (R.to_come source.old) (R.to_come source.new)
+        (R.reads source.old) (R.reads source.new) (W.taken sink.old) (W.taken sink.new) result }
+    ensures read_failed { R.failures source.new ≡ source_failures result (R.failures source.old) }
+    ensures write_failed { W.failures sink.new ≡ sink_failures result (W.failures sink.old) }
+{
+    let input = read_to_end(alloc, source)?;
+    let union = union_of(alloc, &input)?;
+    if !has_book(&union, book) {
+        return Err(Fault::NoBook);
+    }
+    write_export(&union, book, sink)?;
+    Ok(())
+}
+
+// The union of the bundles that the bytes spell, each joined before the next is read.
+fn union_of(alloc: Global, input: &[u8]) -> Result<OpSet, Fault>
+    ensures { UnionAnswers (union_in [] input.now) result }
+{
+    let mut union = OpSet::new(alloc);
+    let mut rest = input;
+    'bundles: while !rest.is_empty() {
+        let (bundle, length) = decode(alloc, rest)?;
+        let set = bundle.to_set(alloc)?;
+        union.join(set)?;
+        let (_, left) = rest.split_at(length);
+        rest = left;
+    }
+    Ok(union)
+}

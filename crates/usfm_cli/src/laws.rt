@@ -1,0 +1,20 @@
+//! Laws of streams of bundles, over the definitions alone. Each function does nothing: its contract is
+//! the law.
+ghost use Rattle.usfm_cli.specs.StreamLaws as laws;
+
+/// Bundles one after another give the union of their sets, taken one after another, or the first
+/// clash.
+pub fn streams_give_unions()
+    ensures { laws.StreamsGiveUnions }
+{}
+
+/// Bytes that give a union are bundles one after another, whose sets have that union.
+pub fn unions_are_of_streams()
+    ensures { laws.UnionsAreOfStreams }
+{}
+
+/// Streams whose bundles have the same operations together, in whatever order, grouping and
+/// repetition, give the same bytes of every book.
+pub fn same_operations_same_books()
+    ensures { laws.SameOperationsSameBooks }
+{}

@@ -1,0 +1,113 @@
+// The line that tells of a fault.
+ghost use Rattle.std.specs.Prelude.{◌≡◌, ◌<◌, ◌≤◌, ◌+◌, ◌++◌, ◌∷◌, [], length, codes};
+ghost use Rattle.std.specs.List.{flat_map};
+ghost use Rattle.std.specs.Fmt.{decimal};
+ghost use Rattle.usfm_cli.specs.Lines as lines;
+
+use crate::{Fault, FaultLine};
+use bundle_codec::BundleFault;
+use op_core::OpId;
+use usfm_ref::RefFault;
+
+/// The line that tells of a fault: `fault`, its number, its details, each after one space, and a line
+/// feed. The details are an operation's id as its number and its name, the place of an operation in
+/// its bundle, counted from 1, or the bytes gone out. It takes no memory.
+pub fn fault_line(fault: &Fault) -> FaultLine
+    ensures { result ≡ lines.fault_text fault.now }
+{
+    let mut line = numbered(fault_number(fault));
+    match fault {
+        Fault::Clash(id) => push_id(&mut line, id),
+        Fault::Bundle(fault) => push_place(&mut line, fault),
+        Fault::WriteFailed { gone } => push_count(&mut line, *gone),
+        Fault::Memory | Fault::Reference(_) | Fault::NoBook | Fault::ReadFailed | Fault::TooLong =>
+            {}
+    }
+    line.push_text("\n");
+    line
+}
+
+// `fault`, a space and a number.
+fn numbered(number: u64) -> FaultLine
+    requires { number < 1000 }
+    ensures text { result ≡ codes "fault " ++ decimal number }
+    ensures len { length result ≡ 6 + length (decimal number) }
+    ensures short { length result ≤ 9 }
+{
+    let mut line = FaultLine::new();
+    line.push_text("fault ");
+    line.push_number(number);
+    line
+}
+
+// Appends a count as a detail.
+fn push_count(line: &mut FaultLine, count: u64)
+    requires { length line.old ≤ 9 }
+    ensures text { line.new ≡ line.old ++ flat_map (λ detail. 32 ∷ detail) (decimal count ∷ []) }
+    ensures short { length line.new ≤ 30 }
+{
+    line.push_text(" ");
+    line.push_number(count);
+}
+
+// Appends an id as two details.
+fn push_id(line: &mut FaultLine, id: &OpId)
+    requires { length line.old ≤ 8 }
+    ensures text { line.new ≡ line.old ++ flat_map (λ detail. 32 ∷ detail) (decimal id.now.number ∷ id.now.name ∷ []) }
+    ensures short { length line.new ≤ 58 }
+{
+    line.push_text(" ");
+    line.push_number(id.number);
+    line.push_text(" ");
+    line.push_text(id.name.text());
+}
+
+// Appends the place of an operation, where the fault has one.
+fn push_place(line: &mut FaultLine, fault: &BundleFault)
+    requires { length line.old ≤ 9 }
+    ensures text { line.new ≡ line.old ++ flat_map (λ detail. 32 ∷ detail) (lines.bundle_details fault.now) }
+    ensures short { length line.new ≤ 30 }
+{
+    match fault {
+        BundleFault::Magic | BundleFault::Truncated => {}
+        BundleFault::NotRising(at)
+        | BundleFault::BadId(at)
+        | BundleFault::BadKey(at)
+        | BundleFault::BadReplaced(at)
+        | BundleFault::BadTag(at)
+        | BundleFault::NotUtf8(at) => push_count(line, *at),
+    }
+}
+
+fn fault_number(fault: &Fault) -> u64
+    ensures number { result ≡ lines.fault_number fault.now }
+    ensures short { result < 1000 }
+{
+    match fault {
+        Fault::Memory => 1,
+        Fault::Reference(RefFault::BadBook) => 20,
+        Fault::Reference(RefFault::BadRef) => 21,
+        Fault::Clash(_) => 51,
+        Fault::Bundle(fault) => bundle_number(fault),
+        Fault::NoBook => 82,
+        Fault::WriteFailed { gone: _ } => 90,
+        Fault::ReadFailed => 120,
+        Fault::TooLong => 121,
+    }
+}
+
+fn bundle_number(fault: &BundleFault) -> u64
+    ensures number { result ≡ lines.bundle_number fault.now }
+    ensures short { result < 1000 }
+{
+    match fault {
+        BundleFault::Magic => 60,
+        BundleFault::Truncated => 61,
+        BundleFault::NotRising(_) => 62,
+        BundleFault::BadId(_) => 63,
+        BundleFault::BadKey(_) => 64,
+        BundleFault::BadReplaced(_) => 65,
+        BundleFault::BadTag(_) => 66,
+        BundleFault::NotUtf8(_) => 67,
+    }
+}

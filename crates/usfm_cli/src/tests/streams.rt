@@ -1,0 +1,152 @@
+// Readers and writers that are slow, short or failing.
+ghost use Rattle.std.specs.Prelude.{Some, None};
+
+use crate::{ByteSink, ByteSource};
+use std::alloc::Global;
+use std::io;
+use std::io::{Read, Write};
+
+/// Gives a slice at most `step` bytes at a time, and fails at the read `fail_at`, counted from 1.
+#[derive(Drop)]
+pub struct SlowSource<'a> {
+    rest: &'a [u8],
+    step: usize,
+    fail_at: u64,
+    kind: io::ErrorKind,
+    pub reads: u64,
+    pub failures: u64,
+}
+
+impl<'a> SlowSource<'a> {
+    pub fn new(bytes: &'a [u8], step: usize) -> Self {
+        Self::failing(bytes, step, 0, io::ErrorKind::Other)
+    }
+
+    pub fn failing(bytes: &'a [u8], step: usize, fail_at: u64, kind: io::ErrorKind) -> Self {
+        SlowSource {
+            rest: bytes,
+            step,
+            fail_at,
+            kind,
+            reads: 0,
+            failures: 0,
+        }
+    }
+}
+
+impl ByteSource for SlowSource<'_> {
+    ghost to_come = { λ source. Some source.rest.now };
+
+    ghost reads = { λ source. source.reads };
+
+    ghost failures = { λ source. source.failures };
+
+    fn read(&mut self, buffer: &mut [u8]) -> io::Result<usize> {
+        self.reads = self.reads.saturating_add(1);
+        if self.reads == self.fail_at {
+            self.failures = self.failures.saturating_add(1);
+            return Err(io::Error::from(self.kind));
+        }
+        let count = self.step.max(1).min(buffer.len()).min(self.rest.len());
+        buffer[..count].copy_from_slice(&self.rest[..count]);
+        self.rest = &self.rest[count..];
+        Ok(count)
+    }
+}
+
+/// Gives so many zeros, without a list of them.
+#[derive(Drop)]
+pub struct Zeros {
+    pub left: usize,
+    pub reads: u64,
+}
+
+impl ByteSource for Zeros {
+    ghost to_come = { λ _. None };
+
+    ghost reads = { λ source. source.reads };
+
+    ghost failures = { λ _. 0 };
+
+    fn read(&mut self, buffer: &mut [u8]) -> io::Result<usize> {
+        self.reads = self.reads.saturating_add(1);
+        let count = buffer.len().min(self.left);
+        buffer[..count].fill(0);
+        self.left -= count;
+        Ok(count)
+    }
+}
+
+/// How a sink without room refuses a piece.
+#[derive(Clone, Copy, Debug)]
+pub enum Refusal {
+    /// It answers an error.
+    Fails(io::ErrorKind),
+    /// It takes 0 bytes.
+    TakesNothing,
+}
+
+/// Takes at most `step` bytes at a time and `room` in all, and then refuses.
+#[derive(Drop)]
+pub struct ShortSink {
+    pub taken: Vec<u8>,
+    step: usize,
+    room: usize,
+    refusal: Refusal,
+    pub failures: u64,
+}
+
+impl ShortSink {
+    pub fn new(alloc: Global, step: usize, room: usize, refusal: Refusal) -> Self {
+        ShortSink {
+            taken: Vec::new(alloc),
+            step,
+            room,
+            refusal,
+            failures: 0,
+        }
+    }
+}
+
+impl ByteSink for ShortSink {
+    ghost taken = { λ sink. Some sink.taken.items };
+
+    ghost failures = { λ sink. sink.failures };
+
+    fn write(&mut self, piece: &[u8]) -> io::Result<usize> {
+        let count = self.step.max(1).min(self.room).min(piece.len());
+        let answer = match self.refusal {
+            Refusal::Fails(kind) if count == 0 => Err(io::Error::from(kind)),
+            _ => match self.taken.extend_from_slice(&piece[..count]) {
+                Ok(()) => Ok(count),
+                Err(_) => Err(io::Error::from(io::ErrorKind::OutOfMemory)),
+            },
+        };
+        if answer.is_err() || count == 0 && !piece.is_empty() {
+            self.failures = self.failures.saturating_add(1);
+        } else {
+            self.room -= count;
+        }
+        answer
+    }
+}
+
+/// A reader and writer of std that always fails.
+#[derive(Drop)]
+pub struct Broken;
+
+impl Read for Broken {
+    fn read(&mut self, _buffer: &mut [u8]) -> io::Result<usize> {
+        Err(io::Error::from(io::ErrorKind::Interrupted))
+    }
+}
+
+impl Write for Broken {
+    fn write(&mut self, _piece: &[u8]) -> io::Result<usize> {
+        Err(io::Error::from(io::ErrorKind::Interrupted))
+    }
+
+    fn flush(&mut self) -> io::Result<()> {
+        Ok(())
+    }
+}
