@@ -1,0 +1,66 @@
+#!/usr/bin/env python3
+"""Measures `usfm_team fold` against the plain Rust program of the same job, turn about in one run.
+
+    run.py [OPERATIONS ..]      by default 10000 100000
+
+The program is the one that `./usfm_team` builds; the plain one is built here by `rustc -O`. Each job runs several
+times, and the least wall time and the greatest resident memory are told. The job `read and join` asks for a book
+that has no operation, so that both programs read, judge and join all and write nothing; `whole` also exports the
+first book.
+"""
+import os
+import subprocess
+import sys
+import tempfile
+import time
+
+HERE = os.path.dirname(os.path.abspath(__file__))
+TOP = os.path.dirname(os.path.dirname(HERE))
+PROGRAM = os.path.join(TOP, "crates/usfm_team/out/usfm_team")
+TURNS = 5
+
+
+def once(command, stream):
+    """Wall seconds, peak kilobytes and output of one run."""
+    with open(stream, "rb") as source, tempfile.TemporaryFile() as out:
+        start = time.perf_counter()
+        child = subprocess.Popen(command, stdin=source, stdout=out, stderr=subprocess.DEVNULL)
+        _, status, usage = os.wait4(child.pid, 0)
+        wall = time.perf_counter() - start
+        child.returncode = os.waitstatus_to_exitcode(status)
+        out.seek(0)
+        return wall, usage.ru_maxrss, out.read(), child.returncode
+
+
+def compare(label, ours, plain, stream):
+    best = {"ours": [float("inf"), 0], "plain": [float("inf"), 0]}
+    answers = {}
+    for _ in range(TURNS):
+        for name, command in (("ours", ours), ("plain", plain)):
+            wall, peak, text, status = once(command, stream)
+            best[name][0] = min(best[name][0], wall)
+            best[name][1] = max(best[name][1], peak)
+            answers[name] = (text, status)
+    if answers["ours"] != answers["plain"]:
+        sys.exit("%s: the two programs answer differently" % label)
+    (ours_wall, ours_peak), (plain_wall, plain_peak) = best["ours"], best["plain"]
+    print("%-28s %8.3f s %7d KB   plain %8.3f s %7d KB   wall %.2f  memory %.2f"
+          % (label, ours_wall, ours_peak, plain_wall, plain_peak, ours_wall / plain_wall, ours_peak / plain_peak))
+
+
+def main():
+    counts = [int(word) for word in sys.argv[1:]] or [10_000, 100_000]
+    with open(os.path.join(TOP, "samples/first.bundle"), "rb") as sample:
+        subprocess.run([os.path.join(TOP, "usfm_team"), "fold", "MAT"], stdin=sample, stdout=subprocess.DEVNULL, check=True)
+    with tempfile.TemporaryDirectory() as work:
+        plain = os.path.join(work, "plain")
+        subprocess.run(["rustc", "-O", "--edition", "2021", "-o", plain, os.path.join(HERE, "plain.rs")], check=True)
+        for count in counts:
+            stream = os.path.join(work, "stream")
+            with open(stream, "wb") as out:
+                subprocess.run([os.path.join(HERE, "generate.py"), str(count)], stdout=out, check=True)
+            for label, book in (("read and join", "ZZZ"), ("whole", "MAT")):
+                compare("%d %s" % (count, label), [PROGRAM, "fold", book], [plain, book], stream)
+
+
+main()
