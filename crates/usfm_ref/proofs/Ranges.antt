@@ -1,5 +1,5 @@
 -- The ranges of the numbers that are read, and where what is read ends.
-use Rattle.std.proofs.Common.{◌≡◌, ◌<◌, ◌≤◌, ℕ, ◌+◌, nat_le, Bool, true, ◌&&◌, List, [], ◌∷◌, ◌++◌, length, take, Option, Some, None, IsUtf8, refl, ap, sym, ◌∙◌, arith, length-append, append_assoc}
+use Rattle.std.proofs.Common.{◌≡◌, ◌<◌, ◌≤◌, ℕ, nat_le, Bool, true, ◌&&◌, List, [], ◌∷◌, ◌++◌, length, take, Option, Some, None, IsUtf8, refl, ap, sym, ◌∙◌, arith, length-append, append_assoc}
 use Rattle.std.proofs.lemmas.Bool.{and_parts, and_from, le-leb}
 use Rattle.std.proofs.lemmas.Bool.Decides.{nat_tests}
 use Rattle.std.proofs.lemmas.List.{take_at}
@@ -10,7 +10,7 @@ use Rattle.std.specs.Option.{option_to_list, IfSome}
 use Rattle.std.specs.Char.{is_ascii_digit}
 use Rattle.std.specs.Str.{IsAscii, IsCharBoundary}
 use Rattle.usfm_ref.specs.Keys.{is_letter}
-use Rattle.usfm_ref.specs.Numbers.{is_blank, are_blanks, are_digits, is_verse, is_last, chapter_in, verse_in, StartsWithNumber, BridgesTo, ReadsChapter, ReadsVerse}
+use Rattle.usfm_ref.specs.Numbers.{is_blank, are_blanks, is_verse, is_last, chapter_in, StartsWithNumber, BridgesTo, ReadsVerse}
 use Rattle.usfm_ref.specs.declared.number.VerseMark.{VerseMark}
 use Rattle.usfm_ref.proofs.Readings.{chapter_in-some}
 use Rattle.usfm_ref.proofs.Spellings.{number_of-le}

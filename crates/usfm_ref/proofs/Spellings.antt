@@ -12,14 +12,14 @@ use Rattle.std.specs.Result.{IfOk}
 use Rattle.std.specs.Char.{is_ascii_digit, is_ascii_lowercase}
 use Rattle.usfm_ref.specs.Books.{is_book_code}
 use Rattle.usfm_ref.specs.Keys.{KeyParts, is_key, is_letter, is_place}
-use Rattle.usfm_ref.specs.Numbers.{are_digits, number_behind, number_of, number_at}
+use Rattle.usfm_ref.specs.Numbers.{are_blanks, are_digits, number_behind, number_of, ends_number, StartsWithNumber, number_at, chapter_in}
 use Rattle.usfm_ref.specs.References.{place_text, key_text, ref_text, is_zero_led, plain_at, verse_to_end, place_in, key_at, key_in, key_behind, ref_to, ref_in, IsRefTo, ReadsWhatIsWritten, WritesWhatIsRead}
 use Rattle.usfm_ref.specs.declared.fault.RefFault.{RefFault}
 use Rattle.usfm_ref.specs.declared.fault.RefFault.TheVariants.{BadBook}
 use Rattle.usfm_ref.specs.declared.key.Place.{Place}
 use Rattle.usfm_ref.specs.declared.key.Place.TheVariants.{Head, Verse}
 use Rattle.usfm_ref.proofs.Runs.{stops}
-use Rattle.usfm_ref.proofs.Readings.{number_at-run, number_at-some}
+use Rattle.usfm_ref.proofs.Readings.{number_at-run, number_at-some, chapter_in-of}
 
 -- ---- numbers in decimal
 
@@ -47,6 +47,30 @@ decimal_are_digits n h =
     let few : length (decimal n) ≤ 3 = length-decimal-le 3 n (omega arith) (omega arith) (omega arith) in
     let all : list_all is_ascii_digit (decimal n) ≡ true = digits_decimal own n (omega arith) in
     and_from _ _ (and_from _ _ (le-leb 1 (length (decimal n)) some) (le-leb (length (decimal n)) 3 few)) all
+
+-- a number in decimal, with a letter or none, is read
+pub decimal_starts : (number : ℕ) (letter : Option ℕ) (rest : List ℕ) → number ≤ 999 → is_letter letter ≡ true → ends_number rest ≡ true → StartsWithNumber (decimal number ++ (option_to_list letter ++ rest)) number letter rest
+decimal_starts number letter rest small l ends = record {
+  digits = decimal number;
+  bytes_are = refl;
+  are_digits = decimal_are_digits number small;
+  number_is = sym (digits_value-decimal own number (omega arith));
+  is_letter = l;
+  ends = ends;
+}
+
+-- a chapter in decimal behind blanks is read
+pub chapter_in-decimal : (blanks : List ℕ) (number : ℕ) (rest : List ℕ) → are_blanks blanks ≡ true → number ≤ 999 → ends_number rest ≡ true → chapter_in (blanks ++ (decimal number ++ rest)) ≡ Some number
+chapter_in-decimal blanks number rest b small ends =
+    chapter_in-of _ number
+    record {
+      blanks = blanks;
+      bytes = decimal number ++ rest;
+      rest = rest;
+      text_is = refl;
+      are_blanks = b;
+      number_is = decimal_starts number None rest small refl ends;
+    }
 
 -- the first of the digits is no zero, or there is no other
 no_zero : (ds rest : List ℕ) → (get_or ds 0 0 ≡ 48 → length ds ≡ 1) → 0 < length ds → stops is_ascii_digit rest ≡ true → is_zero_led (ds ++ rest) ≡ false
