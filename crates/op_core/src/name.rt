@@ -23,17 +23,20 @@ pub struct ReplicaName {
 impl Model for ReplicaName {
     ghost use Rattle.std.specs.Prelude.{List, ℕ, ◌-◌, ◌≤◌, ◌≡◌, ◌++◌, IsTrue, length, take, drop, replicate};
     ghost use Rattle.op_core.specs.Names.{is_name};
-    ghost use Rattle.op_core.specs.Padded.{IsPadded, padded, padded-again};
+    ghost use Rattle.op_core.specs.Padded.{IsPadded, padded, length-text, padded-text};
 
     ghost Value = { List ℕ };
 
     ghost view = { λ n. take n.len n.bytes };
 
-    ghost invariant = { λ n. IsPadded n.bytes n.len × IsTrue (is_name (take n.len n.bytes)) };
+    ghost invariant = { λ n. IsPadded 32 n.bytes n.len × IsTrue (is_name (take n.len n.bytes)) };
 
-    ghost inverse = { λ text. record { bytes = padded text; len = length text } };
+    ghost inverse = { λ text. record { bytes = padded 32 text; len = length text } };
 
-    ghost inverse_ok = { λ n h i. record { bytes = (padded-again n.bytes n.len h.0).0 i; len = (padded-again n.bytes n.len h.0).1 i } };
+    ghost inverse_ok = { λ n h i. record {
+      bytes = padded-text 32 n.bytes n.len h.0 i;
+      len = length-text 32 n.bytes n.len h.0 i;
+    } };
 }
 
 impl ReplicaName {

@@ -1,5 +1,4 @@
 pub mod Counts
-pub mod Padded
 pub mod Reading
 pub mod Writing
 pub mod Keys

@@ -17,7 +17,7 @@ pub struct FaultLine {
 
 impl Model for FaultLine {
     ghost use Rattle.std.specs.Prelude.{List, ℕ, length, take};
-    ghost use Rattle.usfm_cli.specs.Padded.{IsPadded, padded, length-text, padded-text};
+    ghost use Rattle.op_core.specs.Padded.{IsPadded, padded, length-text, padded-text};
 
     ghost Value = { List ℕ };
 

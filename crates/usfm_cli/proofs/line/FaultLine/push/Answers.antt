@@ -1,5 +1,5 @@
 use Rattle.std.proofs.Common.{length, arith, ap}
-use Rattle.usfm_cli.specs.Padded.{length-text}
+use Rattle.op_core.specs.Padded.{length-text}
 use Rattle.usfm_cli.proofs.Padding.{IsPadded-set}
 use Rattle.usfm_cli.proofs.line.FaultLine.push.Goals as goal
 
