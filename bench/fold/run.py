@@ -4,7 +4,8 @@
     run.py [OPERATIONS ..]      by default 10000 100000
 
 The program is the one that `./usfm_team` builds; the plain one is built here by `rustc -O`. Each job runs several
-times, and the least wall time and the greatest resident memory are told. The job `read and join` asks for a book
+times, and the least wall time is told. The peak of resident memory is that of one more run below `/usr/bin/time`: a
+child of this script would begin with the script's own. The job `read and join` asks for a book
 that has no operation, so that both programs read, judge and join all and write nothing; `whole` also exports the
 first book.
 """
@@ -21,29 +22,35 @@ TURNS = 5
 
 
 def once(command, stream):
-    """Wall seconds, peak kilobytes and output of one run."""
+    """Wall seconds, output and status of one run."""
     with open(stream, "rb") as source, tempfile.TemporaryFile() as out:
         start = time.perf_counter()
-        child = subprocess.Popen(command, stdin=source, stdout=out, stderr=subprocess.DEVNULL)
-        _, status, usage = os.wait4(child.pid, 0)
+        status = subprocess.run(command, stdin=source, stdout=out, stderr=subprocess.DEVNULL).returncode
         wall = time.perf_counter() - start
-        child.returncode = os.waitstatus_to_exitcode(status)
         out.seek(0)
-        return wall, usage.ru_maxrss, out.read(), child.returncode
+        return wall, (out.read(), status)
+
+
+def peak(command, stream):
+    """Peak kilobytes of one run."""
+    with open(stream, "rb") as source, tempfile.NamedTemporaryFile("r") as told:
+        subprocess.run(["/usr/bin/time", "-q", "-f", "%M", "-o", told.name] + command, stdin=source,
+                       stdout=subprocess.DEVNULL, stderr=subprocess.DEVNULL)
+        return int(told.read().split()[-1])
 
 
 def compare(label, ours, plain, stream):
-    best = {"ours": [float("inf"), 0], "plain": [float("inf"), 0]}
+    commands = {"ours": ours, "plain": plain}
+    walls = {"ours": [], "plain": []}
     answers = {}
     for _ in range(TURNS):
-        for name, command in (("ours", ours), ("plain", plain)):
-            wall, peak, text, status = once(command, stream)
-            best[name][0] = min(best[name][0], wall)
-            best[name][1] = max(best[name][1], peak)
-            answers[name] = (text, status)
+        for name, command in commands.items():
+            wall, answers[name] = once(command, stream)
+            walls[name].append(wall)
     if answers["ours"] != answers["plain"]:
         sys.exit("%s: the two programs answer differently" % label)
-    (ours_wall, ours_peak), (plain_wall, plain_peak) = best["ours"], best["plain"]
+    ours_wall, plain_wall = min(walls["ours"]), min(walls["plain"])
+    ours_peak, plain_peak = peak(ours, stream), peak(plain, stream)
     print("%-28s %8.3f s %7d KB   plain %8.3f s %7d KB   wall %.2f  memory %.2f"
           % (label, ours_wall, ours_peak, plain_wall, plain_peak, ours_wall / plain_wall, ours_peak / plain_peak))
 
