@@ -1,4 +1,5 @@
 pub mod Texts
+pub mod IdTexts
 pub mod Rising
 pub mod Walk
 pub mod Union

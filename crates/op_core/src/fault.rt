@@ -5,12 +5,15 @@ use crate::op_id::OpId;
 use std::alloc::{AllocError, AllocFailed};
 use thiserror::Error;
 
-/// Why a text is no name of a replica.
+/// Why a text is no name of a replica, or no id.
 #[derive(Clone, Copy, Debug, PartialEq, Eq, Error)]
 pub enum IdFault {
     /// The text is anything but 1 to 32 of a to z, 0 to 9 and `-`.
     #[error("not a replica's name, which is 1 to 32 of a to z, 0 to 9 and `-`")]
     BadName,
+    /// The text is anything but a number from 1 to 10^15 without leading zeros, a colon and a name.
+    #[error("not an id, which is a number, a colon and a replica's name, as 3:ana")]
+    BadId,
 }
 
 /// Why a set did not take an operation or another set. The set is then unchanged.

@@ -1,7 +1,9 @@
-ghost use Rattle.std.specs.Prelude.{◌≡◌, ◌↔◌, IsTrue, IsSome, IfSome, nat_lt};
+ghost use Rattle.std.specs.Prelude.{◌≡◌, ◌↔◌, ◌<◌, ◌^◌, ℕ, Some, Ok, IsTrue, IsSome, IfSome, IfOk, IfErr, nat_lt};
+ghost use Rattle.std.specs.Fmt.{decimal};
 ghost use Rattle.std.specs.List.{list_all};
 ghost use Rattle.op_core.specs.Ids as ids;
 
+use crate::fault::IdFault;
 use crate::name::ReplicaName;
 use std::marker::Model;
 
@@ -29,6 +31,27 @@ impl Model for OpId {
 }
 
 impl OpId {
+    /// Reads an id: its number in decimal without leading zeros, a colon and its name, as `3:ana`.
+    ///
+    /// # Errors
+    /// `BadId` where the text is anything else, or the number is 0 or above 10^15.
+    pub fn read(text: &str) -> Result<OpId, IdFault>
+        ensures reads { IfOk result (λ id. text.now ≡ ids.id_text id) }
+        ensures only { (id : ids.Id) → IsTrue (ids.is_id id) → text.now ≡ ids.id_text id → result ≡ Ok id }
+        ensures refused { IfErr result (λ fault. fault ≡ IdFault.BadId) }
+    {
+        let Some((number, name)) = text.split_once(':') else {
+            return Err(IdFault::BadId);
+        };
+        let Some(number) = number_in(number) else {
+            return Err(IdFault::BadId);
+        };
+        let Ok(name) = ReplicaName::read(name) else {
+            return Err(IdFault::BadId);
+        };
+        OpId::new(number, name).ok_or(IdFault::BadId)
+    }
+
     /// The id of a number and a name. None exactly where the number is 0 or above 10^15.
     pub fn new(number: u64, name: ReplicaName) -> Option<OpId>
         ensures accepts { IsSome result ↔ IsTrue (ids.is_number number) }
@@ -67,4 +90,22 @@ fn rise(named: &[OpId]) -> bool
         }
     }
     true
+}
+
+// The number from 1 on that the text is in decimal, without leading zeros.
+fn number_in(text: &str) -> Option<u64>
+    ensures reads { IfSome result (λ number. text.now ≡ decimal number) }
+    ensures only { (number : ℕ) → 0 < number → number < 2 ^ 64 → text.now ≡ decimal number → result ≡ Some number }
+{
+    if !starts_plainly(text.as_bytes()) {
+        return None;
+    }
+    text.parse::<u64>().ok()
+}
+
+// Whether the first byte is one of 1 to 9.
+fn starts_plainly(text: &[u8]) -> bool
+    ensures { result ≡ ids.starts_plainly text.now }
+{
+    matches!(text, [b'1'..=b'9', ..])
 }

@@ -69,6 +69,29 @@ fn names_and_ids(rt: HostRuntime) -> Result<(), Fail> {
 }
 
 #[test]
+fn texts_of_ids(rt: HostRuntime) -> Result<(), Fail> {
+    assert!(rt; OpId::read("3:ana") == Ok(op_id(3, "ana")?));
+    let most = "1000000000000000:a-";
+    assert!(rt; OpId::read(most) == Ok(op_id(1_000_000_000_000_000, "a-")?));
+    for text in [
+        "03:ana",
+        "0:ana",
+        "+3:ana",
+        "3",
+        "3:",
+        ":ana",
+        "3 :ana",
+        "3:Ana",
+        "3:ana:ben",
+        "1000000000000001:ana",
+        "18446744073709551617:ana",
+    ] {
+        assert!(rt; OpId::read(text) == Err(IdFault::BadId), "{text}");
+    }
+    Ok(())
+}
+
+#[test]
 fn sets_are_joined(rt: HostRuntime) -> Result<(), Fail> {
     let alloc = rt.alloc();
     let mut set = first_set(alloc)?;
