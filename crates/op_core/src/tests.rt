@@ -86,7 +86,7 @@ fn texts_of_ids(rt: HostRuntime) -> Result<(), Fail> {
         "1000000000000001:ana",
         "18446744073709551617:ana",
     ] {
-        assert!(rt; OpId::read(text) == Err(IdFault::BadId), "{text}");
+        assert!(rt; OpId::read(text) == Err(IdFault::BadOpId), "{text}");
     }
     Ok(())
 }
