@@ -4,4 +4,5 @@ pub mod Spelled
 pub mod Loops
 pub mod Seen
 pub mod Steps
+pub mod FieldSteps
 pub mod Appended

@@ -1,5 +1,5 @@
 -- What is seen of bytes that were judged is what was read of them.
-use Rattle.std.proofs.Common.{true, ◌≡◌, ℕ, zero, suc, ◌+◌, ◌-◌, ◌^◌, ◌<◌, ◌≤◌, List, [], ◌∷◌, ◌++◌, length, take, drop, get_or, ◌&&◌, Option, None, Result, Ok, Err, IsOk, refl, sym, ap, subst, ◌∙◌, arith}
+use Rattle.std.proofs.Common.{true, ◌≡◌, ℕ, zero, suc, ◌-◌, ◌^◌, ◌<◌, ◌≤◌, List, [], ◌∷◌, ◌++◌, length, take, drop, get_or, ◌&&◌, Option, None, Result, Ok, Err, refl, sym, ap, subst, ◌∙◌, arith}
 use Rattle.std.specs.List.{flat_map}
 use Rattle.std.specs.Int.{w64}
 use Rattle.std.proofs.lemmas.List.{take_at, drop_at, length-append, append-nil}
@@ -9,11 +9,11 @@ use Rattle.std.proofs.lemmas.Bool.{and_parts}
 use Rattle.std.proofs.lemmas.Bool.Decides.{nat_tests}
 use Rattle.usfm_ref.specs.Books.{is_code_char, is_book_code}
 use Rattle.op_core.specs.Ids.{Id, is_id}
-use Rattle.op_core.specs.Ops.{Operation, IsOperation}
+use Rattle.op_core.specs.Ops.{Operation}
 use Rattle.op_core.specs.Sets.{IsOpSet}
 use Rattle.bundle_codec.specs.declared.fault.BundleFault.{BundleFault}
 use Rattle.bundle_codec.specs.declared.fault.BundleFault.TheVariants.{Magic, Truncated}
-use Rattle.bundle_codec.specs.Spelling.{id, operation, magic, bundle, IsCounted, AreCounted}
+use Rattle.bundle_codec.specs.Spelling.{id, operation, magic, bundle}
 use Rattle.bundle_codec.specs.Reading.{◌>>=◌, any, exactly_at, number_at, many_at, id_at, named_at, after_id, operation_at, after_operation, operations_at, bundle_at, after}
 use Rattle.bundle_codec.specs.Views.{each_at, found, each_id_at, each_operation_at, operations_in, Spells}
 use Rattle.bundle_codec.proofs.Readers.{IsBytes, Each, Reader, Reads, many_reads, number_reads, exactly_reads, wide64, bind_ok, ok_is}

@@ -1,20 +1,20 @@
 -- Each reader of a bundle reads exactly what is spelled so.
-use Rattle.std.proofs.Common.{◌≡◌, ◌≢◌, ℕ, zero, suc, ◌+◌, ◌^◌, ◌<◌, ◌≤◌, true, ◌&&◌, ◌||◌, cond, eqb, leb, ltb, List, [], ◌∷◌, ◌++◌, length, Option, Some, None, Ok, Err, refl, sym, ap, ◌∙◌, arith, inl, inr, lit<}
+use Rattle.std.proofs.Common.{◌≡◌, ◌≢◌, ℕ, zero, suc, ◌+◌, ◌^◌, ◌<◌, ◌≤◌, true, ◌&&◌, eqb, leb, ltb, List, [], ◌∷◌, ◌++◌, length, Option, Some, None, Ok, Err, refl, sym, ap, ◌∙◌, arith, inl, inr, lit<}
 use Rattle.std.specs.Int.{w16, w64, to_be_bytes}
 use Rattle.std.specs.Str.{is_utf8}
 use Rattle.std.specs.List.{list_all, AllByRecursion, flat_map}
 use Rattle.std.proofs.lemmas.List.Concat.{flat_map-cons}
-use Rattle.std.proofs.lemmas.Bool.{ltb-true, lt-ltb, leb-true, le-leb, and_parts, and_from, or_cases, or_right, eqb-true}
+use Rattle.std.proofs.lemmas.Bool.{leb-true, and_parts, and_from, or_cases, or_right, eqb-true}
 use Rattle.std.proofs.lemmas.List.{append-nil, length-append}
 use Rattle.std.proofs.lemmas.Str.{IsUtf8-from_is_utf8, is_utf8-from_IsUtf8}
 use Rattle.usfm_ref.specs.declared.key.Place.{Place}
 use Rattle.usfm_ref.specs.declared.key.Place.TheVariants.{Head, Verse}
-use Rattle.usfm_ref.specs.Books.{is_book_code, is_code_char}
+use Rattle.usfm_ref.specs.Books.{is_book_code}
 use Rattle.usfm_ref.specs.Keys.{KeyParts, is_place, is_key, is_letter}
 use Rattle.usfm_ref.specs.Segments.{segment}
 use Rattle.op_core.specs.Names.{is_name, is_name_char}
 use Rattle.op_core.specs.Ids.{Id, is_number, is_id, names_fall}
-use Rattle.op_core.specs.Ops.{Operation, IsOperation, is_segment}
+use Rattle.op_core.specs.Ops.{Operation, IsOperation}
 use Rattle.op_core.specs.Sets.{IsOpSet}
 use Rattle.bundle_codec.specs.declared.fault.BundleFault.{BundleFault}
 use Rattle.bundle_codec.specs.declared.fault.BundleFault.TheVariants.{Magic, Truncated, NotRising, BadId, BadKey, BadReplaced, BadTag, NotUtf8}
@@ -99,15 +99,15 @@ replaced_reads bad own =
 
 -- ---- a key
 
-kind_of : Place → ℕ
+pub kind_of : Place → ℕ
 kind_of Head = 0
 kind_of (Verse n l) = 1
 
-verse_of : Place → ℕ
+pub verse_of : Place → ℕ
 verse_of Head = 0
 verse_of (Verse n l) = n
 
-letter_of : Place → ℕ
+pub letter_of : Place → ℕ
 letter_of Head = 0
 letter_of (Verse n l) = letter l
 
@@ -136,7 +136,7 @@ place_letter (suc k) v zero p h e = ap letter_of (sym e)
 place_letter (suc k) v (suc l) p h e = ap letter_of (sym e)
 
 -- what the three bytes and the place that is made of them say of each other
-abbrev IsRead : Place → Type 0
+abbrev pub IsRead : Place → Type 0
 IsRead p = (leb (kind_of p) 1 ≡ true) × (((verse_of p < 2 ^ 16) × (is_verse (kind_of p) (verse_of p) ≡ true)) × ((is_letter_byte (kind_of p) (letter_of p) ≡ true) × (place_of (kind_of p) (verse_of p) (letter_of p) ≡ p)))
 
 lettered : (n c : ℕ) → is_letter_byte 1 c ≡ true → place_of 1 n c ≡ Verse n (Some c) → is_letter (Some c) ≡ true
@@ -160,7 +160,7 @@ place_to (Verse n (Some c)) f = and_from _ _ (and_parts (leb n 999) true f.1.0.1
 verse_below : (n : ℕ) → leb n 999 ≡ true → n < 2 ^ 16
 verse_below n h = omega (arith, leb-true n 999 h)
 
-place_from : (p : Place) → is_place p ≡ true → IsRead p
+pub place_from : (p : Place) → is_place p ≡ true → IsRead p
 unfolding kind_of verse_of letter_of
 place_from Head f = (refl, ((lit< tt, refl), (refl, refl)))
 place_from (Verse n None) f = (refl, ((verse_below n (and_parts (leb n 999) true f).0, f), (refl, refl)))
@@ -169,7 +169,7 @@ place_from (Verse n (Some c)) f =
     let a = letter_again n c p.1 in
     (refl, ((verse_below n p.0, and_from _ _ p.0 refl), (a.0, a.1)))
 
-place_spelled : (p : Place) → (kind_of p ∷ []) ++ (to_be_bytes w16 (verse_of p) ++ ((letter_of p ∷ []) ++ [])) ≡ place p
+pub place_spelled : (p : Place) → (kind_of p ∷ []) ++ (to_be_bytes w16 (verse_of p) ++ ((letter_of p ∷ []) ++ [])) ≡ place p
 unfolding kind_of verse_of letter_of
 place_spelled Head = refl
 place_spelled (Verse n l) = refl
@@ -186,6 +186,9 @@ place_reads bad =
     (λ verse p h f. place_verse kind verse (letter_of p) p h.1 f.1))
     (λ kind p h f. place_kind kind (verse_of p) (letter_of p) p h f.1.1))
     place_to place_from (λ p f. place_spelled p)
+
+pub key_below : (k : KeyParts) → is_key k.chapter k.place ≡ true → k.chapter < 2 ^ 16
+key_below k f = verse_below k.chapter (and_parts (leb k.chapter 999) (is_place k.place) f).0
 
 pub key_reads : (bad : BundleFault) → Reads (key_at bad) key (λ k. is_key k.chapter k.place ≡ true)
 unfolding key_at

@@ -1,6 +1,6 @@
 -- A walk over bytes that were judged. Where a whole value can be read, so can each of its parts, one after
 -- the other, and without its rule.
-use Rattle.std.proofs.Common.{◌≡◌, ◌≢◌, ℕ, suc, ◌+◌, ◌-◌, ◌^◌, ◌<◌, true, List, [], ◌∷◌, ◌++◌, length, None, Result, Ok, Err, IsOk, refl, sym, ap, subst, ◌∙◌, append_assoc, arith}
+use Rattle.std.proofs.Common.{◌≡◌, ◌≢◌, ℕ, suc, ◌-◌, ◌^◌, ◌<◌, true, List, [], ◌∷◌, ◌++◌, length, None, Result, Ok, Err, IsOk, refl, sym, ap, subst, ◌∙◌, append_assoc, arith}
 use Rattle.std.specs.Int.{w64, to_be_bytes}
 use Rattle.std.specs.List.{list_all}
 use Rattle.std.specs.Str.{IsUtf8}
@@ -14,22 +14,12 @@ use Rattle.op_core.specs.Ops.{Operation}
 use Rattle.bundle_codec.specs.declared.fault.BundleFault.{BundleFault}
 use Rattle.bundle_codec.specs.declared.fault.BundleFault.TheVariants.{Truncated, BadKey}
 use Rattle.bundle_codec.specs.Spelling.{id, key, ids, body, operation}
-use Rattle.bundle_codec.specs.Reading.{◌>>=◌, Gives, any, byte_at, block_at, number_at, many_at, id_at, key_at, body_at, operation_at, after}
+use Rattle.bundle_codec.specs.Reading.{◌>>=◌, any, byte_at, block_at, number_at, many_at, id_at, key_at, body_at, operation_at, after}
 use Rattle.bundle_codec.specs.Views.{each_at, found, each_id_at, ids_at}
-use Rattle.bundle_codec.proofs.Readers.{IsBytes, Each, Reader, Reads, step, reads_as, byte_reads, block_reads, number_reads, many_reads, wide64, ok_is}
+use Rattle.bundle_codec.proofs.Readers.{IsBytes, Each, Reader, Reads, step, reads_as, block_reads, number_reads, many_reads, wide64, ok_is}
 use Rattle.bundle_codec.proofs.Spelled.{Follows, number_below, code_length, id_reads, key_reads, body_reads, operation_reads}
 
--- ---- what functions give
-
--- a function that gives what a reading gives does not fail where that did not
-pub given : {X Y : Type 0} (view : X → Y) (r : Result X BundleFault) (read : Result Y BundleFault) → Gives view r read → IsOk read → IsOk r
-given view (Ok x) read g h = refl
-given view (Err e) read g h = absurd (cc (h, g))
-
-pub value : {X Y : Type 0} (view : X → Y) (r : Result X BundleFault) (read : Result Y BundleFault) (x : X) → Gives view r read → r ≡ Ok x → read ≡ Ok (view x)
-value view r read x g e = subst (λ (s : Result _ BundleFault). Gives view s read) e g
-
-is_ok : {A : Type 0} (r : Result A BundleFault) (x : A) → r ≡ Ok x → IsOk r
+pub is_ok : {A : Type 0} (r : Result A BundleFault) (x : A) → r ≡ Ok x → IsOk r
 is_ok r x e = rw e refl
 
 -- ---- the front of some bytes
@@ -50,15 +40,15 @@ front {read = read} {spell = spell} {Fits = Fits} reads bytes fine h = by (read 
     by (Err f) e h = absurd cc
 
 -- what is spelled at the front is read
-at_front : {A : Type 0} {read : Reader A} {spell : A → List ℕ} {Fits : A → Type 0} → Reads read spell Fits → (x : A) (left bytes : List ℕ) → bytes ≡ spell x ++ left → Fits x → read bytes ≡ Ok (x, left)
+pub at_front : {A : Type 0} {read : Reader A} {spell : A → List ℕ} {Fits : A → Type 0} → Reads read spell Fits → (x : A) (left bytes : List ℕ) → bytes ≡ spell x ++ left → Fits x → read bytes ≡ Ok (x, left)
 at_front {read = read} reads x left bytes e fits = ap read e ∙ reads.again x left fits
 
 -- a reading has one answer
 module _ {A : Type 0} (r : Result (A × List ℕ) BundleFault) (x y : A) (left rest : List ℕ) (e : r ≡ Ok (x, left)) (f : r ≡ Ok (y, rest)) where
-  same_value : y ≡ x
+  pub same_value : y ≡ x
   same_value = ap (λ (p : A × List ℕ). p.0) (ok_is (y, rest) (x, left) (sym f ∙ e))
 
-  same_rest : rest ≡ left
+  pub same_rest : rest ≡ left
   same_rest = ap (λ (p : A × List ℕ). p.1) (ok_is (y, rest) (x, left) (sym f ∙ e))
 
 -- ---- an id

@@ -8,7 +8,7 @@ ghost use Rattle.bundle_codec.specs.Reading.{Gives, id_at, comes_after, named_at
 ghost use Rattle.bundle_codec.specs.Views.{id_view, each_id_at, ids_at, ids_view};
 
 use crate::fault::BundleFault;
-use crate::fields::{block_of, u8_at, u64_at};
+use crate::fields::{block_in, block_of, u8_at, u8_in, u64_at, u64_in};
 use op_core::{OpId, ReplicaName};
 use std::marker::Model;
 
@@ -120,9 +120,9 @@ pub(crate) fn id_in(bytes: &[u8]) -> (IdView<'_>, &[u8])
     ensures value { id_at BundleFault.Truncated bytes.now ≡ Ok (id_view result.0, result.1.now) }
     ensures valid { IsTrue (is_id (id_view result.0)) }
 {
-    let (number, rest) = u64_at(bytes).unwrap();
-    let (len, rest) = u8_at(rest).unwrap();
-    let (name, rest) = block_of(len as u64, rest).unwrap();
+    let (number, rest) = u64_in(bytes);
+    let (len, rest) = u8_in(rest);
+    let (name, rest) = block_in(len as u64, rest);
     (IdView { number, name }, rest)
 }
 
@@ -223,7 +223,7 @@ pub(crate) fn replaced_in(bytes: &[u8]) -> (IdList<'_>, &[u8])
     ensures value { ids_at bytes.now ≡ Ok (ids_view result.0, result.1.now) }
     ensures readable { IsOk (each_id_at result.0.count result.0.bytes.now) }
 {
-    let (count, ids) = u64_at(bytes).unwrap();
+    let (count, ids) = u64_in(bytes);
     let rest = after_ids_in(count, ids);
     (IdList { count, bytes: ids }, rest)
 }

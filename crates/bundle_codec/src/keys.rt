@@ -1,11 +1,11 @@
 // Books and keys, judged where they stand in the bytes.
-ghost use Rattle.std.specs.Prelude.{◌≡◌, Ok, Err};
+ghost use Rattle.std.specs.Prelude.{◌≡◌, Ok, Err, IsOk};
 ghost use Rattle.usfm_ref.specs.Books.{is_code_char, is_book_code};
 ghost use Rattle.bundle_codec.specs.Reading.{Gives, place_at, key_at};
 ghost use Rattle.bundle_codec.specs.Views.{key_view};
 
 use crate::fault::BundleFault;
-use crate::fields::{u8_at, u16_at};
+use crate::fields::{u8_at, u8_in, u16_at, u16_in};
 use usfm_ref::Place;
 
 // A chapter and a place in it, which make a key.
@@ -67,4 +67,29 @@ pub(crate) fn key_of(bad: BundleFault, bytes: &[u8]) -> Result<(KeyView, &[u8]),
     }
     let (place, rest) = place_of(bad, rest)?;
     Ok((KeyView { chapter, place }, rest))
+}
+
+// The place at the front of bytes that were judged.
+fn place_in(bad: BundleFault, bytes: &[u8]) -> (Place, &[u8])
+    requires { IsOk (place_at bad bytes.now) }
+    ensures { place_at bad bytes.now ≡ Ok (result.0, result.1.now) }
+{
+    let (kind, rest) = u8_in(bytes);
+    let (number, rest) = u16_in(rest);
+    let (letter, rest) = u8_in(rest);
+    if kind == 0 {
+        return (Place::Head, rest);
+    }
+    let letter = if letter == 0 { None } else { Some(letter) };
+    (Place::Verse { number, letter }, rest)
+}
+
+// The key at the front of bytes that were judged.
+pub(crate) fn key_in(bad: BundleFault, bytes: &[u8]) -> (KeyView, &[u8])
+    requires { IsOk (key_at bad bytes.now) }
+    ensures { key_at bad bytes.now ≡ Ok (key_view result.0, result.1.now) }
+{
+    let (chapter, rest) = u16_in(bytes);
+    let (place, rest) = place_in(bad, rest);
+    (KeyView { chapter, place }, rest)
 }

@@ -1,10 +1,10 @@
 // Operations, judged where they stand in the bytes.
-ghost use Rattle.std.specs.Prelude.{◌≡◌, None, Ok, Err, IfOk, option_map};
+ghost use Rattle.std.specs.Prelude.{◌≡◌, None, Ok, Err, IfOk, IsOk, option_map};
 ghost use Rattle.bundle_codec.specs.Reading.{Gives, body_at, judge_text, operation_at, operations_at, after};
 ghost use Rattle.bundle_codec.specs.Views.{id_view, op_view};
 
 use crate::fault::BundleFault;
-use crate::fields::{block_of, text_of, u8_at, u64_at};
+use crate::fields::{block_in, block_of, text_of, u8_at, u8_in, u64_at, u64_in};
 use crate::ids::{IdList, IdView, comes_after, id_of, replaced_of};
 use crate::keys::{KeyView, is_book_code, key_of};
 
@@ -29,6 +29,16 @@ pub(crate) fn body_of(place: u64, bytes: &[u8]) -> Result<(&[u8], &[u8]), Bundle
     }
     let (len, rest) = u64_at(rest)?;
     block_of(len, rest)
+}
+
+// The bytes of the text behind the tag, in bytes that were judged.
+pub(crate) fn body_in(bytes: &[u8]) -> (&[u8], &[u8])
+    requires { IsOk (body_at 0 bytes.now) }
+    ensures { body_at 0 bytes.now ≡ Ok (result.0.now, result.1.now) }
+{
+    let (_tag, rest) = u8_in(bytes);
+    let (len, rest) = u64_in(rest);
+    block_in(len, rest)
 }
 
 // Judges the text of the operation at this place, once it is whole.

@@ -5,10 +5,10 @@ ghost use Rattle.bundle_codec.specs.Reading.{operation_at};
 ghost use Rattle.bundle_codec.specs.Views.{op_view, each_id_at, each_operation_at, operations_in};
 
 use crate::fault::BundleFault;
-use crate::fields::block_of;
+use crate::fields::block_in;
 use crate::ids::{id_in, replaced_in};
-use crate::keys::key_of;
-use crate::operation::{OpFields, body_of};
+use crate::keys::key_in;
+use crate::operation::{OpFields, body_in};
 use crate::view::OpView;
 use std::marker::Model;
 
@@ -66,10 +66,10 @@ fn fields_in(bytes: &[u8]) -> (OpFields<'_>, &[u8])
     ensures ids { IsOk (each_id_at result.0.replaced.count result.0.replaced.bytes.now) }
 {
     let (id, rest) = id_in(bytes);
-    let (code, rest) = block_of(3, rest).unwrap();
-    let (key, rest) = key_of(BundleFault::BadKey(0), rest).unwrap();
+    let (code, rest) = block_in(3, rest);
+    let (key, rest) = key_in(BundleFault::BadKey(0), rest);
     let (replaced, rest) = replaced_in(rest);
-    let (text, rest) = body_of(0, rest).unwrap();
+    let (text, rest) = body_in(rest);
     // The text was judged to be UTF-8.
     let text = unsafe { str::from_utf8_unchecked(text) };
     let fields = OpFields {

@@ -3,7 +3,7 @@ use Rattle.std.specs.List.{flat_map}
 use Rattle.op_core.specs.Ops.{Operation}
 use Rattle.bundle_codec.specs.Spelling.{operation}
 use Rattle.bundle_codec.specs.Views.{operations_in, Spells}
-use Rattle.bundle_codec.proofs.Seen.{Parts, bundle_parts, left_fits, own_part, own_spells}
+use Rattle.bundle_codec.proofs.Seen.{bundle_parts, left_fits, own_part, own_spells}
 use Rattle.bundle_codec.proofs.bundle.bundle_of.Goals as goal
 
 pub overflow_sub-operations : goal.overflow_sub-operations

@@ -1,4 +1,4 @@
-use Rattle.std.proofs.Common.{None, Ok, sym, ap, ◌∙◌, arith}
+use Rattle.std.proofs.Common.{None, ◌∙◌, arith}
 use Rattle.bundle_codec.specs.Spelling.{operation}
 use Rattle.bundle_codec.specs.Views.{op_view}
 use Rattle.bundle_codec.proofs.Seen.{left_fits, without_is}
