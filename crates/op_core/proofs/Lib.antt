@@ -8,3 +8,4 @@ pub mod Held
 pub mod Shows
 pub mod Clashes
 pub mod Joinings
+pub mod Fronts

@@ -167,14 +167,6 @@ join_other_last xs ys y hx hy = join_push xs ys y ∙ ap (λ (zs : List Operatio
 join_both_last : (xs ys : List Operation) (x y : Operation) → y.id ≡ x.id → AllBelow x.id xs → AllBelow y.id ys → join (xs ++ x ∷ []) (ys ++ y ∷ []) ≡ join xs ys ++ x ∷ []
 join_both_last xs ys x y e hx hy = join_push (xs ++ x ∷ []) ys y ∙ ap (λ (zs : List Operation). join zs ys) (put_tied y x xs e hx) ∙ join_held_last xs ys x (subst (λ (i : Id). AllBelow i ys) e hy)
 
-join_nil : (ys : List Operation) → rises ys ≡ true → join [] ys ≡ ys
-join_nil [] h = refl
-join_nil (y ∷ ys) h = ap (put y) (join_nil ys (rises_parts y ys h).1) ∙ put_first ys (rises_parts y ys h).0
-  where
-    put_first : (zs : List Operation) → AllAbove y.id zs → put y zs ≡ y ∷ zs
-    put_first [] h = refl
-    put_first (z ∷ zs) h = rw (is_less (id_cmp y.id z.id) (and_parts (id_below y.id z.id) (list_all (λ p. id_below y.id p.id) zs) h).0) refl
-
 -- a list is empty or ends in an operation
 data Split (zs : List Operation) : Type 0 where
   nothing : zs ≡ [] → Split zs

@@ -80,7 +80,7 @@ get-put o (p ∷ ops) q h =
     tied true d e = refl
     tied false d e = rw (← e) (sym (or_none (get ops q)))
 
-above-put : (id : Id) (o : Operation) (ops : List Operation) → id_below id o.id ≡ true → AllAbove id ops → AllAbove id (put o ops)
+pub above-put : (id : Id) (o : Operation) (ops : List Operation) → id_below id o.id ≡ true → AllAbove id ops → AllAbove id (put o ops)
 above-put id o [] p h = and_from _ _ p refl
 above-put id o (x ∷ ops) p h =
     let q = and_parts (id_below id x.id) (list_all (λ p. id_below id p.id) ops) h in
