@@ -6,3 +6,4 @@ pub mod Seen
 pub mod Steps
 pub mod FieldSteps
 pub mod Appended
+pub mod Wholes

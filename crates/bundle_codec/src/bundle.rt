@@ -73,7 +73,7 @@ impl<'a> Bundle<'a> {
     }
 }
 
-static MAGIC: [u8; 8] = *b"USFMSR1\n";
+pub(crate) static MAGIC: [u8; 8] = *b"USFMSR1\n";
 
 // The bytes after the magic.
 fn after_magic(bytes: &[u8]) -> Result<&[u8], BundleFault>

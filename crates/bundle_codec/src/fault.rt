@@ -1,3 +1,9 @@
+ghost use Rattle.std.specs.Prelude.{◌≡◌};
+ghost use Rattle.bundle_codec.specs.declared.fault.WholeFault.TheVariants as whole;
+ghost use Rattle.bundle_codec.specs.declared.fault.JoinFault.TheVariants as joining;
+
+use op_core::OpId;
+use std::alloc::AllocError;
 use thiserror::Error;
 
 /// Why bytes do not begin with a bundle: the first field, from left to right, that is cut or breaks
@@ -30,4 +36,53 @@ pub enum BundleFault {
     /// An operation's text is not UTF-8.
     #[error("operation {0}: its text is not UTF-8")]
     NotUtf8(u64),
+}
+
+/// Why bytes are not one whole bundle.
+#[derive(Clone, Copy, Debug, PartialEq, Eq, Error)]
+pub enum WholeFault {
+    /// The bytes do not begin with a bundle.
+    #[error("{0}")]
+    Bundle(BundleFault),
+    /// A bundle and something more.
+    #[error("something follows the bundle")]
+    Trailing,
+}
+
+/// Why two bundles were not joined.
+#[derive(Clone, Copy, Debug, PartialEq, Eq, Error)]
+pub enum JoinFault {
+    /// A growth was refused.
+    #[error("out of memory")]
+    Memory,
+    /// The first bytes, or else the second, are not one whole bundle.
+    #[error("{0}")]
+    Bundle(WholeFault),
+    /// Two operations that are not equal have this id.
+    #[error("two operations that differ have one id: {} {}", .0.number, .0.name.text())]
+    Clash(OpId),
+}
+
+impl From<BundleFault> for WholeFault {
+    ghost from_gives = { λ from fault. fault ≡ whole.Bundle from };
+
+    fn from(fault: BundleFault) -> WholeFault {
+        WholeFault::Bundle(fault)
+    }
+}
+
+impl From<AllocError> for JoinFault {
+    ghost from_gives = { λ _ fault. fault ≡ joining.Memory };
+
+    fn from(_: AllocError) -> JoinFault {
+        JoinFault::Memory
+    }
+}
+
+impl From<WholeFault> for JoinFault {
+    ghost from_gives = { λ from fault. fault ≡ joining.Bundle from };
+
+    fn from(fault: WholeFault) -> JoinFault {
+        JoinFault::Bundle(fault)
+    }
 }

@@ -3,13 +3,14 @@ ghost use Rattle.std.specs.Prelude.{◌≡◌, None, Ok, Err, IsOk, IsTrue, opti
 ghost use Rattle.std.specs.List.{list_all};
 ghost use Rattle.std.specs.Iterator.{YieldsFirst, item_count};
 ghost use Rattle.op_core.specs.Names.{is_name, is_name_char};
-ghost use Rattle.op_core.specs.Ids.{id_below, is_id};
+ghost use Rattle.op_core.specs.Ids.{id_cmp, is_id};
 ghost use Rattle.bundle_codec.specs.Reading.{Gives, id_at, comes_after, named_at, after_id, many_at, replaced_at, after};
 ghost use Rattle.bundle_codec.specs.Views.{id_view, each_id_at, ids_at, ids_view};
 
 use crate::fault::BundleFault;
 use crate::fields::{block_in, block_of, u8_at, u8_in, u64_at, u64_in};
 use op_core::{OpId, ReplicaName};
+use std::cmp::Ordering;
 use std::marker::Model;
 
 // An id whose name lies in the bytes.
@@ -139,10 +140,14 @@ pub(crate) fn made(id: &IdView<'_>) -> OpId
     }
 }
 
-fn is_below(a: &IdView<'_>, b: &IdView<'_>) -> bool
-    ensures { result ≡ id_below (id_view a.now) (id_view b.now) }
+// How one id stands to another.
+pub(crate) fn compared(a: &IdView<'_>, b: &IdView<'_>) -> Ordering
+    ensures { result ≡ id_cmp (id_view a.now) (id_view b.now) }
 {
-    a.number < b.number || (a.number == b.number && a.name.cmp(b.name).is_lt())
+    match a.number.cmp(&b.number) {
+        Ordering::Equal => a.name.cmp(b.name),
+        order => order,
+    }
 }
 
 pub(crate) fn comes_after(before: &Option<IdView<'_>>, id: &IdView<'_>) -> bool
@@ -150,7 +155,7 @@ pub(crate) fn comes_after(before: &Option<IdView<'_>>, id: &IdView<'_>) -> bool
 {
     match before {
         None => true,
-        Some(before) => is_below(before, id),
+        Some(before) => compared(before, id).is_lt(),
     }
 }
 

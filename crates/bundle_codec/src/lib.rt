@@ -10,12 +10,16 @@ pub mod laws;
 mod operation;
 mod view;
 mod walk;
+mod whole;
+mod writing;
 
 pub use bundle::{Bundle, decode};
-pub use fault::BundleFault;
+pub use fault::{BundleFault, JoinFault, WholeFault};
 pub use ids::ReplacedIds;
 pub use view::OpView;
 pub use walk::BundleOps;
+pub use whole::decode_whole;
+pub use writing::encode;
 
 #[cfg(test)]
 mod tests;

@@ -1,12 +1,14 @@
 ghost use Rattle.std.specs.Prelude.{◌≡◌, IfOk};
-ghost use Rattle.op_core.specs.Ops.{IsOperation};
+ghost use Rattle.op_core.specs.Ids.{id_cmp};
+ghost use Rattle.op_core.specs.Ops.{IsOperation, same_op};
 ghost use Rattle.bundle_codec.specs.Spelling.{operation};
 ghost use Rattle.bundle_codec.specs.Views.{op_view, SpellsOne};
 
-use crate::ids::{ReplacedIds, made};
+use crate::ids::{ReplacedIds, compared, made};
 use crate::operation::OpFields;
 use op_core::{Op, OpId};
 use std::alloc::{AllocError, Global};
+use std::cmp::Ordering;
 use std::marker::Model;
 use usfm_ref::{Book, Key};
 
@@ -83,6 +85,21 @@ impl<'a> OpView<'a> {
         ensures { result.now ≡ operation self.now }
     {
         self.bytes
+    }
+
+    // How its id stands to another's.
+    pub(crate) fn compare_id(&self, other: &OpView<'_>) -> Ordering
+        ensures { result ≡ id_cmp self.now.id other.now.id }
+    {
+        compared(&self.fields.id, &other.fields.id)
+    }
+
+    // Whether the two are equal. An operation has one spelling.
+    pub(crate) fn is_same(&self, other: &OpView<'_>) -> bool
+        ensures { result ≡ same_op self.now other.now }
+    {
+        let own = self.bytes;
+        own == other.bytes
     }
 
     /// The operation as a value of its own, copied out of the bytes.

@@ -1,0 +1,42 @@
+-- Bytes that are one bundle and nothing more.
+use Rattle.std.proofs.Common.{◌≡◌, ◌≢◌, ℕ, ◌^◌, ◌<◌, List, [], ◌∷◌, ◌++◌, length, drop, Ok, Err, refl, sym, ap, ◌∙◌, append_assoc, arith}
+use Rattle.std.specs.Int.{w64, to_be_bytes}
+use Rattle.std.specs.List.{flat_map}
+use Rattle.std.proofs.lemmas.List.{append-nil, length-append, length-drop}
+use Rattle.op_core.specs.Ops.{Operation}
+use Rattle.op_core.specs.Sets.{IsOpSet}
+use Rattle.bundle_codec.specs.declared.fault.WholeFault.TheVariants.{Trailing}
+use Rattle.bundle_codec.specs.Spelling.{magic, operation, bundle}
+use Rattle.bundle_codec.specs.Reading.{bundle_at}
+use Rattle.bundle_codec.specs.Joining.{nothing_after, whole_if, whole_at, IsBundle, IsFollowed}
+use Rattle.bundle_codec.proofs.Spelled.{bundle_reads, AreCounted-from_length}
+
+pub trails : (ops : List Operation) (rest : List ℕ) → rest ≢ [] → nothing_after ops rest ≡ Err Trailing
+trails ops [] some = absurd (some refl)
+trails ops (b ∷ rest) some = refl
+
+-- something is left where fewer bytes were read than there are
+pub some_left : (bytes : List ℕ) (n : ℕ) → n < length bytes → drop n bytes ≢ []
+some_left bytes n less none = absurd (omega (arith, ap length none, length-drop n bytes))
+
+-- what is spelled at the front of bytes that a slice can have is read
+pub is_read : (ops : List Operation) (rest : List ℕ) → IsOpSet ops → length (bundle ops ++ rest) < 2 ^ 64 → bundle_at (bundle ops ++ rest) ≡ Ok (ops, rest)
+is_read ops rest set short = bundle_reads.again ops rest (set, AreCounted-from_length ops (omega (arith, length-append (bundle ops) rest)))
+
+pub is_trailing : (bytes : List ℕ) → length bytes < 2 ^ 64 → IsFollowed bytes → whole_at bytes ≡ Err Trailing
+is_trailing bytes short f =
+    ap whole_at f.spelled
+    ∙ ap whole_if (is_read f.ops f.rest f.set (omega (arith, ap length f.spelled)))
+    ∙ trails f.ops f.rest f.some
+
+-- a bundle is read as the set that it spells
+pub whole_reads : (bytes : List ℕ) (b : IsBundle bytes) → whole_at bytes ≡ Ok b.ops
+whole_reads bytes b =
+    let alone = sym (append-nil (bundle b.ops)) in
+    ap whole_at (b.spelled ∙ alone)
+    ∙ ap whole_if (is_read b.ops [] b.set (omega (arith, ap length b.spelled, ap length alone, b.short)))
+
+-- a bundle is its front with the count, and the operations
+pub fronted : (ops : List Operation) → (magic ++ to_be_bytes w64 (length ops)) ++ flat_map operation ops ≡ bundle ops
+unfolding bundle
+fronted ops = append_assoc magic (to_be_bytes w64 (length ops)) (flat_map operation ops)

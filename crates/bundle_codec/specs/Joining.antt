@@ -1,0 +1,64 @@
+-- Whole bundles, and the bundle of the union of two (this project's own format).
+use Rattle.std.specs.Prelude.{◌≡◌, ◌≢◌, ◌<◌, ◌^◌, ℕ, List, [], ◌∷◌, ◌++◌, length, Option, Some, None, Result, Ok, Err, IsOk}
+use Rattle.op_core.specs.Ids.{Id}
+use Rattle.op_core.specs.Ops.{Operation}
+use Rattle.op_core.specs.Sets.{IsOpSet, join, clash}
+use Rattle.bundle_codec.specs.declared.fault.BundleFault.{BundleFault}
+use Rattle.bundle_codec.specs.declared.fault.WholeFault.{WholeFault}
+use Rattle.bundle_codec.specs.declared.fault.WholeFault.TheVariants as whole
+use Rattle.bundle_codec.specs.declared.fault.JoinFault.{JoinFault}
+use Rattle.bundle_codec.specs.declared.fault.JoinFault.TheVariants.{Memory, Bundle, Clash}
+use Rattle.bundle_codec.specs.Spelling.{bundle}
+use Rattle.bundle_codec.specs.Reading.{bundle_at}
+
+-- ---- a bundle and nothing after it
+
+abbrev pub nothing_after : List Operation → List ℕ → Result (List Operation) WholeFault
+nothing_after ops [] = Ok ops
+nothing_after ops (b ∷ rest) = Err whole.Trailing
+
+abbrev pub whole_if : Result (List Operation × List ℕ) BundleFault → Result (List Operation) WholeFault
+whole_if (Ok read) = nothing_after read.0 read.1
+whole_if (Err fault) = Err (whole.Bundle fault)
+
+-- the set of the bundle that the bytes are, or its fault, or that something follows it
+abbrev pub whole_at : List ℕ → Result (List Operation) WholeFault
+whole_at bytes = whole_if (bundle_at bytes)
+
+-- the bytes are one bundle, as many as a slice can have
+pub record IsBundle (bytes : List ℕ) : Type 0 where
+  pub ops : List Operation
+  pub set : IsOpSet ops
+  pub spelled : bytes ≡ bundle ops
+  pub short : length bytes < 2 ^ 64
+
+-- the bytes are a bundle and something more
+pub record IsFollowed (bytes : List ℕ) : Type 0 where
+  pub ops : List Operation
+  pub rest : List ℕ
+  pub set : IsOpSet ops
+  pub some : rest ≢ []
+  pub spelled : bytes ≡ bundle ops ++ rest
+
+-- ---- the bundle of a union
+
+-- the bundle of the union of two sets, or their clash
+abbrev pub union_or_clash : List Operation → List Operation → Option Id → Result (List ℕ) JoinFault
+union_or_clash a b None = Ok (bundle (join a b))
+union_or_clash a b (Some id) = Err (Clash id)
+
+-- what two readings give: the refusal of the first, else that of the second, else the bundle of the union
+abbrev pub of_both : Result (List Operation) WholeFault → Result (List Operation) WholeFault → Result (List ℕ) JoinFault
+of_both (Err fault) second = Err (Bundle fault)
+of_both (Ok a) (Err fault) = Err (Bundle fault)
+of_both (Ok a) (Ok b) = union_or_clash a b (clash a b)
+
+-- the bundle of the union of what both bytes spell
+abbrev pub bundles_joined : List ℕ → List ℕ → Result (List ℕ) JoinFault
+bundles_joined x y = of_both (whole_at x) (whole_at y)
+
+-- A refusal is the one that there is. Want of memory is told of two bundles alone.
+abbrev pub RefusesJoin : List ℕ → List ℕ → JoinFault → Type 0
+RefusesJoin x y Memory = IsOk (whole_at x) × IsOk (whole_at y)
+RefusesJoin x y (Bundle fault) = bundles_joined x y ≡ Err (Bundle fault)
+RefusesJoin x y (Clash id) = bundles_joined x y ≡ Err (Clash id)

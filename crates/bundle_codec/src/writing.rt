@@ -1,0 +1,87 @@
+// Sets of operations, written as bundles.
+ghost use Rattle.std.specs.Prelude.{◌≡◌, ◌++◌, Ok, IfOk};
+ghost use Rattle.std.specs.Int.{w64, to_be_bytes};
+ghost use Rattle.bundle_codec.specs.Spelling as spelled;
+ghost use Rattle.bundle_codec.specs.Joining.{whole_at};
+
+use crate::bundle::MAGIC;
+use op_core::{Op, OpId, OpSet};
+use std::alloc::{AllocError, Global};
+use usfm_ref::{Key, Place};
+
+/// The bundle of a set of operations. There is one for each set.
+///
+/// # Errors
+/// Want of memory alone.
+pub fn encode(alloc: Global, set: &OpSet) -> Result<Vec<u8>, AllocError>
+    ensures spelled { IfOk result (λ bytes. bytes.items ≡ spelled.bundle set.now) }
+    ensures again { IfOk result (λ bytes. whole_at bytes.items ≡ Ok set.now) }
+{
+    let mut bytes = Vec::new(alloc);
+    push_front(&mut bytes, set.len() as u64)?;
+    for op in set.iter() {
+        push_operation(&mut bytes, op)?;
+    }
+    Ok(bytes)
+}
+
+// Appends the magic and the count, with which a bundle begins.
+#[tactic(auto, unfolding(crate::specs::Spelling::magic))]
+pub(crate) fn push_front(bytes: &mut Vec<u8>, count: u64) -> Result<(), AllocError>
+    ensures { IfOk result (λ _. bytes.new.items ≡ bytes.old.items ++ (spelled.magic ++ to_be_bytes w64 count)) }
+{
+    bytes.extend_from_slice(&MAGIC)?;
+    bytes.extend_from_slice(&count.to_be_bytes())
+}
+
+fn push_operation(bytes: &mut Vec<u8>, op: &Op) -> Result<(), AllocError>
+    ensures { IfOk result (λ _. bytes.new.items ≡ bytes.old.items ++ spelled.operation op.now) }
+{
+    push_id(bytes, &op.id())?;
+    bytes.extend_from_slice(&op.book().code())?;
+    push_key(bytes, op.key())?;
+    push_ids(bytes, op.replaced())?;
+    push_text(bytes, op.text())
+}
+
+fn push_id(bytes: &mut Vec<u8>, id: &OpId) -> Result<(), AllocError>
+    ensures { IfOk result (λ _. bytes.new.items ≡ bytes.old.items ++ spelled.id id.now) }
+{
+    let name = id.name.text().as_bytes();
+    bytes.extend_from_slice(&id.number.to_be_bytes())?;
+    bytes.extend_from_slice(&[name.len() as u8])?;
+    bytes.extend_from_slice(name)
+}
+
+fn push_ids(bytes: &mut Vec<u8>, named: &[OpId]) -> Result<(), AllocError>
+    ensures { IfOk result (λ _. bytes.new.items ≡ bytes.old.items ++ spelled.ids named.now) }
+{
+    bytes.extend_from_slice(&(named.len() as u64).to_be_bytes())?;
+    for id in named {
+        push_id(bytes, id)?;
+    }
+    Ok(())
+}
+
+fn push_key(bytes: &mut Vec<u8>, key: Key) -> Result<(), AllocError>
+    ensures { IfOk result (λ _. bytes.new.items ≡ bytes.old.items ++ spelled.key key) }
+{
+    bytes.extend_from_slice(&key.chapter.to_be_bytes())?;
+    let (kind, number, letter) = match key.place {
+        Place::Head => (0, 0, 0),
+        Place::Verse { number, letter } => (1, number, letter.unwrap_or(0)),
+    };
+    bytes.extend_from_slice(&[kind])?;
+    bytes.extend_from_slice(&number.to_be_bytes())?;
+    bytes.extend_from_slice(&[letter])
+}
+
+// Appends the tag, the text's length and the text.
+fn push_text(bytes: &mut Vec<u8>, text: &str) -> Result<(), AllocError>
+    ensures { IfOk result (λ _. bytes.new.items ≡ bytes.old.items ++ spelled.body text.now) }
+{
+    let text = text.as_bytes();
+    bytes.extend_from_slice(&[1])?;
+    bytes.extend_from_slice(&(text.len() as u64).to_be_bytes())?;
+    bytes.extend_from_slice(text)
+}
