@@ -7,3 +7,4 @@ pub mod Steps
 pub mod FieldSteps
 pub mod Appended
 pub mod Wholes
+pub mod Merges

@@ -329,6 +329,9 @@ operation_length o = omega (
   length-append (to_be_bytes w64 (length o.text)) o.text,
 )
 
+pub takes_bytes : (o : Operation) → 1 ≤ length (operation o)
+takes_bytes o = omega (arith, operation_length o, id_some o.id)
+
 -- what an operation of less than 2^64 bytes spells can be counted
 pub IsCounted-from_length : (o : Operation) → length (operation o) < 2 ^ 64 → IsCounted o
 IsCounted-from_length o h =
@@ -347,8 +350,7 @@ unfolding bundle
 AreCounted-from_length ops h =
     let parts = length-append magic (to_be_bytes w64 (length ops) ++ flat_map operation ops) in
     let counted = length-append (to_be_bytes w64 (length ops)) (flat_map operation ops) in
-    let some : (o : Operation) → 1 ≤ length (operation o) = λ o. omega (arith, operation_length o, id_some o.id) in
-    let many = flat_map_long operation some ops in
+    let many = flat_map_long operation takes_bytes ops in
     record { count = omega arith; each = counted_each ops (omega arith) }
 
 -- ---- laws of bundles

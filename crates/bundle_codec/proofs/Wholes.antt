@@ -1,8 +1,8 @@
 -- Bytes that are one bundle and nothing more.
-use Rattle.std.proofs.Common.{◌≡◌, ◌≢◌, ℕ, ◌^◌, ◌<◌, List, [], ◌∷◌, ◌++◌, length, drop, Ok, Err, refl, sym, ap, ◌∙◌, append_assoc, arith}
+use Rattle.std.proofs.Common.{◌≡◌, ◌≢◌, ℕ, ◌^◌, ◌<◌, ◌≤◌, List, [], ◌∷◌, ◌++◌, length, take, drop, Ok, Err, refl, sym, ap, ◌∙◌, append_assoc, arith}
 use Rattle.std.specs.Int.{w64, to_be_bytes}
 use Rattle.std.specs.List.{flat_map}
-use Rattle.std.proofs.lemmas.List.{append-nil, length-append, length-drop}
+use Rattle.std.proofs.lemmas.List.{append-nil, length-append, length-drop, take_at, drop_at}
 use Rattle.op_core.specs.Ops.{Operation}
 use Rattle.op_core.specs.Sets.{IsOpSet}
 use Rattle.bundle_codec.specs.declared.fault.WholeFault.TheVariants.{Trailing}
@@ -40,3 +40,21 @@ whole_reads bytes b =
 pub fronted : (ops : List Operation) → (magic ++ to_be_bytes w64 (length ops)) ++ flat_map operation ops ≡ bundle ops
 unfolding bundle
 fronted ops = append_assoc magic (to_be_bytes w64 (length ops)) (flat_map operation ops)
+
+-- the length of the front with the count
+front_length : (n : ℕ) → length (magic ++ to_be_bytes w64 n) ≡ 16
+unfolding magic
+front_length n = refl
+
+-- operations behind a front are a bundle, once their count is written into it
+module _ (ops : List Operation) (n : ℕ) (bytes : List ℕ) (e : bytes ≡ (magic ++ to_be_bytes w64 n) ++ flat_map operation ops) where
+  pub has_front : 16 ≤ length bytes
+  has_front = omega (arith, ap length e, length-append (magic ++ to_be_bytes w64 n) (flat_map operation ops), front_length n)
+
+  magic_is : take 8 bytes ≡ magic
+  unfolding magic
+  magic_is = ap (take 8) (e ∙ append_assoc magic (to_be_bytes w64 n) (flat_map operation ops)) ∙ take_at magic (to_be_bytes w64 n ++ flat_map operation ops) 8 refl
+
+  pub counted : (count : ℕ) (made : List ℕ) → count ≡ length ops → made ≡ take 8 bytes ++ (to_be_bytes w64 count ++ drop 16 bytes) → made ≡ bundle ops
+  unfolding bundle
+  counted count made k h = h ∙ (λ i. magic_is i ++ (to_be_bytes w64 (k i) ++ (ap (drop 16) e ∙ drop_at (magic ++ to_be_bytes w64 n) (flat_map operation ops) 16 (front_length n)) i))

@@ -3,3 +3,4 @@ pub mod Reading
 pub mod Views
 pub mod Laws
 pub mod Joining
+pub mod Merging
