@@ -8,3 +8,4 @@ pub mod FieldSteps
 pub mod Appended
 pub mod Wholes
 pub mod Merges
+pub mod Groupings

@@ -1,10 +1,13 @@
 -- Laws of bundles.
-use Rattle.std.specs.Prelude.{◌≡◌, ◌≢◌, ℕ, List, [], ◌++◌, Err}
+use Rattle.std.specs.Prelude.{◌≡◌, ◌≢◌, ◌<◌, ◌+◌, ◌^◌, ℕ, List, [], ◌++◌, length, Result, Ok, Err}
 use Rattle.op_core.specs.Ops.{Operation}
 use Rattle.op_core.specs.Sets.{IsOpSet}
 use Rattle.bundle_codec.specs.declared.fault.BundleFault.TheVariants.{Truncated}
+use Rattle.bundle_codec.specs.declared.fault.JoinFault.{JoinFault}
+use Rattle.bundle_codec.specs.declared.fault.JoinFault.TheVariants.{Clash}
 use Rattle.bundle_codec.specs.Spelling.{bundle, AreCounted}
 use Rattle.bundle_codec.specs.Reading.{bundle_at}
+use Rattle.bundle_codec.specs.Joining.{bundles_joined, IsBundle}
 
 -- one set has one spelling, and one spelling has one set, whatever follows it
 abbrev pub OneSpelling : Type 0
@@ -23,3 +26,30 @@ abbrev pub FrontsAreCut : Type 0
 FrontsAreCut =
     (a : List Operation) (front more : List ℕ) → IsOpSet a → AreCounted a →
     bundle a ≡ front ++ more → more ≢ [] → bundle_at front ≡ Err Truncated
+
+-- ---- bundles joined
+
+-- Two bundles joined are the same bytes, or clash at the same id, whichever comes first.
+abbrev pub BundlesCommute : Type 0
+BundlesCommute = (x y : List ℕ) → IsBundle x → IsBundle y → bundles_joined x y ≡ bundles_joined y x
+
+-- a bundle joined with itself is that bundle
+abbrev pub BundleWithItself : Type 0
+BundleWithItself = (x : List ℕ) → IsBundle x → bundles_joined x x ≡ Ok x
+
+-- a joining that goes on with what another one made
+abbrev pub then_joined : Result (List ℕ) JoinFault → (List ℕ → Result (List ℕ) JoinFault) → Result (List ℕ) JoinFault
+then_joined (Ok made) others = others made
+then_joined (Err fault) others = Err fault
+
+-- the same bytes, or two clashes, at whatever ids
+abbrev pub AnswerAlike : Result (List ℕ) JoinFault → Result (List ℕ) JoinFault → Type 0
+AnswerAlike (Ok one) (Ok other) = one ≡ other
+AnswerAlike (Err (Clash id)) (Err (Clash other)) = Unit {0}
+AnswerAlike one other = ⊥
+
+-- Both groupings of three bundles give the same bytes, and one is refused with a clash exactly where the other is.
+abbrev pub BundlesAssociate : Type 0
+BundlesAssociate =
+    (x y z : List ℕ) → IsBundle x → IsBundle y → IsBundle z → length x + length y + length z < 2 ^ 64 →
+    AnswerAlike (then_joined (bundles_joined x y) (λ made. bundles_joined made z)) (then_joined (bundles_joined y z) (λ made. bundles_joined x made))

@@ -11,3 +11,19 @@ pub fn fronts_are_cut()
     ensures bundle { laws.FrontsAreNoBundles }
     ensures fault { laws.FrontsAreCut }
 {}
+
+/// Two bundles joined are the same bytes either way, or clash at the same id either way.
+pub fn bundles_commute()
+    ensures { laws.BundlesCommute }
+{}
+
+/// A bundle joined with itself is that bundle.
+pub fn bundle_with_itself()
+    ensures { laws.BundleWithItself }
+{}
+
+/// Both groupings of three bundles give the same bytes, and one is refused with a clash exactly where
+/// the other is.
+pub fn bundles_associate()
+    ensures { laws.BundlesAssociate }
+{}
