@@ -1,3 +1,5 @@
+mod joining;
+
 use super::*;
 use op_core::{Op, OpId};
 use std::alloc::{AllocError, Global};
