@@ -1,0 +1,9 @@
+pub mod EachOnce
+pub mod Entries
+pub mod Finding
+pub mod LineSteps
+pub mod RecordFields
+pub mod Resume
+pub mod Telling
+pub mod WordLemmas
+pub mod WordList

@@ -1,0 +1,84 @@
+-- The fields of a sheet's lines.
+--
+-- Their names and the style types are those of Paratext's `usfm.sty`. That both are compared without ASCII case, and a value is
+-- judged whole, is this project's own rule.
+use Rattle.std.specs.Prelude.{ℕ, ◌==◌, Bool, true, false, List, [], ◌∷◌, map, Option, None, Some, if◌then◌else◌, codes}
+use Rattle.std.specs.Str.{str_eq_ignore_ascii_case}
+use Rattle.std.specs.Str.Lines.{lines}
+use Rattle.sty_sheet.specs.Lines.{body, first_word, behind_word, behind_feff, trimmed}
+use Rattle.sty_sheet.specs.declared.kind.StyleKind.{StyleKind}
+use Rattle.sty_sheet.specs.declared.kind.StyleKind.TheVariants as kinds
+
+-- a line that is passed over, or a field that is read, with its value
+pub data Field : Type 0 where
+  passed : Field
+  marker : List ℕ → Field
+  occurs_under : List ℕ → Field
+  endmarker : List ℕ → Field
+  name : List ℕ → Field
+  style_type : List ℕ → Field
+  text_type : List ℕ → Field
+
+-- the same word, without ASCII case
+abbrev pub is_word : List ℕ → List ℕ → Bool
+is_word word bs = str_eq_ignore_ascii_case word bs
+
+abbrev pub field_named : List ℕ → List ℕ → Field
+field_named key value =
+    if is_word (codes "Marker") key then marker value
+    else if is_word (codes "OccursUnder") key then occurs_under value
+    else if is_word (codes "Endmarker") key then endmarker value
+    else if is_word (codes "Name") key then name value
+    else if is_word (codes "StyleType") key then style_type value
+    else if is_word (codes "TextType") key then text_type value
+    else passed
+
+-- behind the backslash: the field's name up to a blank, and its value, without the blanks around it
+abbrev pub field_behind : List ℕ → Field
+field_behind bs = field_named (first_word bs) (trimmed (behind_word bs))
+
+-- a line that does not begin with a backslash (92) is passed over
+abbrev pub field_of_body : List ℕ → Field
+field_of_body [] = passed
+field_of_body (b ∷ bs) = if b == 92 then field_behind bs else passed
+
+abbrev pub field_of : List ℕ → Field
+field_of line = field_of_body (body line)
+
+-- the fields of a sheet, one for each line
+abbrev pub fields_of : List ℕ → List Field
+fields_of text = map field_of (lines (behind_feff text))
+
+abbrev pub kind_named : List ℕ → Option StyleKind
+kind_named value =
+    if is_word (codes "Paragraph") value then Some kinds.Paragraph
+    else if is_word (codes "Character") value then Some kinds.Character
+    else if is_word (codes "Note") value then Some kinds.Note
+    else if is_word (codes "Milestone") value then Some kinds.Milestone
+    else None
+
+-- the value of a field of each name
+
+abbrev pub as_name : Field → Option (List ℕ)
+as_name (name value) = Some value
+as_name other = None
+
+abbrev pub as_endmarker : Field → Option (List ℕ)
+as_endmarker (endmarker value) = Some value
+as_endmarker other = None
+
+abbrev pub as_occurs_under : Field → Option (List ℕ)
+as_occurs_under (occurs_under value) = Some value
+as_occurs_under other = None
+
+abbrev pub as_style_type : Field → Option (List ℕ)
+as_style_type (style_type value) = Some value
+as_style_type other = None
+
+abbrev pub as_text_type : Field → Option (List ℕ)
+as_text_type (text_type value) = Some value
+as_text_type other = None
+
+abbrev pub is_marker : Field → Bool
+is_marker (marker value) = true
+is_marker other = false

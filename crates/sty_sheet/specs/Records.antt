@@ -1,0 +1,65 @@
+-- The records of a sheet, and the style of a mark.
+--
+-- The fields are those of Paratext's `usfm.sty`. That a closing name is an Endmarker without its last '*', and which record a mark
+-- has where none has its name, is this project's own rule.
+use Rattle.std.specs.Prelude.{ℕ, ◌-◌, ◌==◌, Bool, true, false, ◌&&◌, not, List, [], ◌∷◌, length, take, filter, Option, None, Some, find, if◌then◌else◌, slice_index}
+use Rattle.std.specs.List.{slice_split}
+use Rattle.std.specs.Str.{bytes_eq}
+use Rattle.sty_sheet.specs.Lines.{is_blank}
+use Rattle.sty_sheet.specs.declared.kind.StyleKind.{StyleKind}
+use Rattle.sty_sheet.specs.declared.kind.StyleKind.TheVariants as kinds
+
+-- closer is the name of the mark that closes it, under the words of OccursUnder
+pub record Record : Type 0 where
+  pub marker : List ℕ
+  pub name : List ℕ
+  pub closer : Option (List ℕ)
+  pub under : List (List ℕ)
+  pub kind : Option StyleKind
+  pub verse_text : Bool
+
+abbrev pub is_filled : List ℕ → Bool
+is_filled bs = not (bytes_eq bs [])
+
+-- the words of a value: what stands between blanks
+unfoldable pub words_of : List ℕ → List (List ℕ)
+words_of bs = filter is_filled (slice_split is_blank bs)
+
+abbrev pub without_star : List ℕ → List ℕ
+without_star bs = if slice_index bs (length bs - 1) == 42 then take (length bs - 1) bs else bs
+
+abbrev pub none_if_empty : List ℕ → Option (List ℕ)
+none_if_empty [] = None
+none_if_empty (b ∷ bs) = Some (b ∷ bs)
+
+-- an Endmarker without a last '*' (42), and none where nothing is left
+abbrev pub closing_name : List ℕ → Option (List ℕ)
+closing_name value = none_if_empty (without_star value)
+
+-- the first record of a marker
+abbrev pub named : List ℕ → List Record → Option Record
+named name rs = find (λ r. bytes_eq name r.marker) rs
+
+abbrev pub is_milestone : Option StyleKind → Bool
+is_milestone None = false
+is_milestone (Some kinds.Paragraph) = false
+is_milestone (Some kinds.Character) = false
+is_milestone (Some kinds.Note) = false
+is_milestone (Some kinds.Milestone) = true
+
+abbrev pub is_name : List ℕ → Option (List ℕ) → Bool
+is_name name None = false
+is_name name (Some closer) = bytes_eq closer name
+
+-- a milestone that a mark of this name closes
+abbrev pub closes_milestone : List ℕ → Record → Bool
+closes_milestone name r = is_milestone r.kind && is_name name r.closer
+
+-- where no record has the name
+abbrev pub or_milestone : List Record → List ℕ → Option Record → Option Record
+or_milestone rs name None = if bytes_eq name [] then None else find (closes_milestone name) rs
+or_milestone rs name (Some r) = Some r
+
+-- the style of a mark: the record of its name; if none has it, and it is not empty, the first milestone that it closes
+abbrev pub mark_style : List Record → List ℕ → Option Record
+mark_style rs name = or_milestone rs name (named name rs)

@@ -1,0 +1,26 @@
+//! Reads Paratext's style sheets, as `usfm.sty`: the records of markers, which borrow the sheet's text.
+//!
+//! Paratext's sheets have records begun by `\Marker`, and the fields `\Name`, `\Endmarker`,
+//! `\OccursUnder`, `\StyleType` and `\TextType`, which are the ones read here. How lines, comments
+//! and `#!` are read, and that a second record of a marker replaces the first, is this project's own
+//! rule.
+#![tactic(auto)]
+
+mod fault;
+mod field;
+mod kind;
+mod line;
+mod reader;
+mod sheet;
+mod style;
+mod styles;
+mod words;
+
+pub use fault::SheetFault;
+pub use kind::StyleKind;
+pub use sheet::Sheet;
+pub use style::Style;
+pub use styles::Styles;
+
+#[cfg(test)]
+mod tests;

@@ -1,0 +1,143 @@
+//! Reading a sheet field by field.
+
+ghost use Rattle.std.specs.Prelude.{◌≡◌};
+ghost use Rattle.sty_sheet.specs.FieldViews.{field_view};
+ghost use Rattle.sty_sheet.specs.Sheets.{misplaced, kind_fault, field_fault};
+
+use crate::fault::SheetFault;
+use crate::field::Field;
+use crate::sheet::Sheet;
+use crate::style::Style;
+use crate::words::{kind_named, split_word};
+use std::alloc::Global;
+
+// Only a field that follows a marker line may stand.
+fn misplaced(seen: bool, line: usize) -> Option<SheetFault>
+    ensures { result ≡ misplaced seen line }
+{
+    if seen {
+        None
+    } else {
+        Some(SheetFault::FieldBeforeMarker { line })
+    }
+}
+
+fn kind_fault(line: usize, value: &str) -> Option<SheetFault>
+    ensures { result ≡ kind_fault line value.now }
+{
+    match kind_named(value) {
+        None => Some(SheetFault::BadStyleType { line }),
+        Some(_) => None,
+    }
+}
+
+// The fault of a line's field, where a marker line was seen before it or none was.
+fn field_fault(seen: bool, line: usize, field: Field<'_>) -> Option<SheetFault>
+    ensures { result ≡ field_fault seen line (field_view field.entry) }
+{
+    match field {
+        Field::Passed => None,
+        Field::Marker(value) => {
+            if value.is_empty() {
+                Some(SheetFault::EmptyMarker { line })
+            } else {
+                None
+            }
+        }
+        Field::StyleType(value) => match misplaced(seen, line) {
+            None => kind_fault(line, value),
+            Some(fault) => Some(fault),
+        },
+        Field::OccursUnder(_) | Field::Endmarker(_) | Field::Name(_) | Field::TextType(_) => {
+            misplaced(seen, line)
+        }
+    }
+}
+
+// The records that are whole, and the one that is being read.
+#[derive(Drop)]
+pub(crate) struct Reader<'s> {
+    pub(crate) sheet: Sheet<'s>,
+    pub(crate) begun: Option<Style<'s>>,
+}
+
+impl<'s> Reader<'s> {
+    ghost use Rattle.std.specs.Prelude.{[], None, Some, Ok, Err, OnOk, OnErr, is_some};
+    ghost use Rattle.sty_sheet.specs.Lines.{first_word};
+    ghost use Rattle.sty_sheet.specs.Sheets.{record_with};
+    ghost use Rattle.sty_sheet.specs.Steps.{reading_of, after, extended, finished, Tells};
+    ghost use Rattle.sty_sheet.specs.Views.{records_of, Gives};
+
+    pub(crate) fn new(alloc: Global) -> Reader<'s>
+        ensures { reading_of result ≡ record { whole = []; begun = None } }
+    {
+        Reader {
+            sheet: Sheet::new(alloc),
+            begun: None,
+        }
+    }
+
+    // Takes the field of a line.
+    pub(crate) fn take(&mut self, field: Field<'s>, line: usize) -> Result<(), SheetFault>
+        ensures reads { OnOk result (reading_of self.new ≡ after (reading_of self.old) (field_view field.entry)) }
+        ensures fault { Tells result (field_fault (is_some (reading_of self.old).begun) line (field_view field.entry)) }
+    {
+        match field_fault(self.begun.is_some(), line, field) {
+            Some(fault) => Err(fault),
+            None => self.add(field),
+        }
+    }
+
+    // The sheet, with the record that was being read.
+    pub(crate) fn finish(mut self) -> Result<Sheet<'s>, SheetFault>
+        ensures { Gives result (Ok (finished (reading_of self.entry))) }
+    {
+        self.put_begun()?;
+        Ok(self.sheet)
+    }
+
+    fn add(&mut self, field: Field<'s>) -> Result<(), SheetFault>
+        ensures reads { OnOk result (reading_of self.new ≡ after (reading_of self.old) (field_view field.entry)) }
+        ensures memory { OnErr result (result ≡ Err SheetFault.Memory) }
+    {
+        match field {
+            Field::Passed => Ok(()),
+            Field::Marker(value) => self.begin(split_word(value).0),
+            Field::OccursUnder(_)
+            | Field::Endmarker(_)
+            | Field::Name(_)
+            | Field::StyleType(_)
+            | Field::TextType(_) => {
+                self.extend(field);
+                Ok(())
+            }
+        }
+    }
+
+    fn extend(&mut self, field: Field<'s>)
+        ensures { reading_of self.new ≡ extended (reading_of self.old) (field_view field.entry) }
+    {
+        if let Some(style) = self.begun {
+            self.begun = Some(style.with_field(field));
+        }
+    }
+
+    fn begin(&mut self, marker: &'s str) -> Result<(), SheetFault>
+        ensures reads { OnOk result (reading_of self.new ≡ record { whole = finished (reading_of self.old); begun = Some (record_with marker.entry.now []) }) }
+        ensures memory { OnErr result (result ≡ Err SheetFault.Memory) }
+    {
+        self.put_begun()?;
+        self.begun = Some(Style::of_marker(marker));
+        Ok(())
+    }
+
+    fn put_begun(&mut self) -> Result<(), SheetFault>
+        ensures puts { OnOk result (records_of self.new.sheet ≡ finished (reading_of self.old)) }
+        ensures memory { OnErr result (result ≡ Err SheetFault.Memory) }
+    {
+        match self.begun.take() {
+            None => Ok(()),
+            Some(style) => self.sheet.put(style),
+        }
+    }
+}

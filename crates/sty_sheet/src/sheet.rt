@@ -1,0 +1,118 @@
+ghost use Rattle.std.specs.Prelude.{◌≡◌, map};
+
+use crate::fault::SheetFault;
+use crate::field::field_of;
+use crate::line::behind_feff;
+use crate::reader::Reader;
+use crate::style::Style;
+use crate::styles::Styles;
+use indexmap::IndexMap;
+use std::alloc::Global;
+
+/// A style sheet: the records of its markers, in the order in which the markers first stand.
+#[derive(Drop)]
+pub struct Sheet<'s> {
+    pub(crate) styles: IndexMap<&'s str, Style<'s>>,
+    ghost keyed: { map (λ e. e.0.now) styles.entries ≡ map (λ e. e.1.marker.now) styles.entries },
+}
+
+impl<'s> Sheet<'s> {
+    ghost use Rattle.std.specs.Prelude.{[], find, OnOk, OnErr};
+    ghost use Rattle.std.specs.Option.{option_map};
+    ghost use Rattle.indexmap.specs.IndexMap.{values};
+    ghost use Rattle.sty_sheet.specs.Records.{named, mark_style, closes_milestone};
+    ghost use Rattle.sty_sheet.specs.Sheets.{sheet_of};
+    ghost use Rattle.sty_sheet.specs.Steps.{put};
+    ghost use Rattle.sty_sheet.specs.Views.{record_of, records_of, records_left, Gives};
+
+    /// The records of a sheet's text.
+    ///
+    /// A line is a field: a backslash, the field's name up to a blank (a space, a tab or a line's
+    /// end), and its value. U+FEFF at the text's start, blanks at a line's start, and one `#!` with
+    /// the blanks after it are passed over; any other `#` at the start or after a blank begins a
+    /// comment. Field names, style types and `VerseText` are compared without ASCII case. A second
+    /// record of a marker replaces the first wholly and keeps its place.
+    ///
+    /// # Errors
+    ///
+    /// The fault of the first faulty line, and on one line `FieldBeforeMarker` before `BadStyleType`.
+    /// `Memory` where a growth was refused.
+    pub fn read(alloc: Global, text: &'s str) -> Result<Sheet<'s>, SheetFault>
+        ensures { Gives result (sheet_of text.now) }
+    {
+        let mut reader = Reader::new(alloc);
+        let mut number = 0;
+        for line in behind_feff(text).lines() {
+            number += 1;
+            reader.take(field_of(line), number)?;
+        }
+        reader.finish()
+    }
+
+    /// The record of a marker. It takes no memory.
+    pub fn style(&self, name: &str) -> Option<&Style<'s>>
+        ensures { option_map (λ s. record_of s.now) result ≡ named name.now (records_of self.now) }
+    {
+        self.styles.get(name)
+    }
+
+    /// The record of a mark's name. If none has it, and the name is not empty, the first milestone
+    /// whose closing name it is: the marks that end a milestone have no record of their own. It takes
+    /// no memory.
+    pub fn style_of(&self, name: &str) -> Option<&Style<'s>>
+        ensures { option_map (λ s. record_of s.now) result ≡ mark_style (records_of self.now) name.now }
+    {
+        match self.style(name) {
+            Some(style) => Some(style),
+            None => {
+                if name.is_empty() {
+                    None
+                } else {
+                    self.milestone(name)
+                }
+            }
+        }
+    }
+
+    /// The records, in the order in which their markers first stand. It takes no memory.
+    pub fn iter(&self) -> Styles<'_, 's>
+        ensures { records_left result ≡ records_of self.now }
+    {
+        Styles {
+            values: self.styles.values(),
+        }
+    }
+
+    // A sheet without records.
+    pub(crate) fn new(alloc: Global) -> Sheet<'s>
+        ensures { records_of result ≡ [] }
+    {
+        Sheet {
+            styles: IndexMap::new(alloc),
+        }
+    }
+
+    // Puts a record behind the others, or in the place of the one of its marker.
+    pub(crate) fn put(&mut self, style: Style<'s>) -> Result<(), SheetFault>
+        ensures puts { OnOk result (records_of self.new ≡ put (records_of self.old) (record_of style.entry)) }
+        ensures memory { OnErr result (result ≡ Err SheetFault.Memory) }
+    {
+        self.styles.insert(style.marker(), style)?;
+        Ok(())
+    }
+
+    // The first milestone that a mark of this name closes.
+    fn milestone(&self, name: &str) -> Option<&Style<'s>>
+        ensures { option_map (λ s. record_of s.now) result ≡ find (closes_milestone name.now) (records_of self.now) }
+    {
+        self.find_milestone(name)
+    }
+
+    fn find_milestone(&self, name: &str) -> Option<&Style<'s>>
+        ensures { option_map (λ s. record_of s.now) result ≡ option_map record_of (find (λ s. closes_milestone name.now (record_of s)) (values self.now.styles)) }
+    {
+        self.styles
+            .values()
+            .find(|style| style.closes_milestone(name))
+    }
+}

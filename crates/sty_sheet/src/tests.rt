@@ -1,0 +1,109 @@
+use super::*;
+use std::process::Abort;
+
+// That a text has this fault.
+fn check_fault(rt: &impl Abort, read: Result<Sheet<'_>, SheetFault>, fault: SheetFault) {
+    match read {
+        Ok(_) => panic!(rt; "no fault, and it has to be {fault}"),
+        Err(told) => assert_eq!(rt; told, fault),
+    }
+}
+
+#[test]
+fn tells_faults(rt: HostRuntime) {
+    let rows = [
+        ("\\Endmarker nd*", SheetFault::FieldBeforeMarker { line: 1 }),
+        (
+            "\\Marker nd\n\\StyleType Foo",
+            SheetFault::BadStyleType { line: 2 },
+        ),
+        ("\\Marker\n", SheetFault::EmptyMarker { line: 1 }),
+        ("\\Marker #a", SheetFault::EmptyMarker { line: 1 }),
+        (
+            "\n\\StyleType Foo\n",
+            SheetFault::FieldBeforeMarker { line: 2 },
+        ),
+        (
+            "\\Marker f\r\n\\StyleType Note x\r\n\\StyleType Note\r\n",
+            SheetFault::BadStyleType { line: 2 },
+        ),
+        (
+            "\\Marker f\n\\StyleType\n",
+            SheetFault::BadStyleType { line: 2 },
+        ),
+    ];
+    for (text, fault) in rows {
+        check_fault(&rt, Sheet::read(rt.alloc(), text), fault);
+    }
+}
+
+// That the sheet has records of these markers and names, in this order.
+fn check_records(rt: &impl Abort, sheet: &Sheet<'_>, records: &[(&str, &str)]) {
+    let mut styles = sheet.iter();
+    for (marker, name) in records {
+        match styles.next() {
+            None => panic!(rt; "no record of {marker}"),
+            Some(style) => {
+                assert_eq!(rt; style.marker(), *marker);
+                assert_eq!(rt; style.name(), *name);
+            }
+        }
+    }
+    assert!(rt; styles.next().is_none());
+}
+
+#[test]
+fn reads_records(rt: HostRuntime) -> Result<(), SheetFault> {
+    let alloc = rt.alloc();
+    let twice = "\\Marker a\n\\Name one\n\\Marker b\n\\Marker a\n";
+    check_records(&rt, &Sheet::read(alloc, twice)?, &[("a", ""), ("b", "")]);
+    let banged = "#!\\Marker a\n# \\Marker b\n#!\\Name one\n";
+    check_records(&rt, &Sheet::read(alloc, banged)?, &[("a", "one")]);
+    let one_bang = "#!#!\\Marker a\n\u{feff}\\Marker b\n";
+    check_records(&rt, &Sheet::read(alloc, one_bang)?, &[]);
+    let marked = "\u{feff} \t\\marker  a b\n\\NAME one # two\n\\name two#three \r\n\\Other\n";
+    check_records(&rt, &Sheet::read(alloc, marked)?, &[("a", "two#three")]);
+    Ok(())
+}
+
+#[test]
+fn reads_fields(rt: HostRuntime) -> Result<(), SheetFault> {
+    let text =
+        "\\Marker add\n\\Endmarker a* b\n\\OccursUnder p  q1\tNEST\n\\StyleType character\n\\TextType versetext\n\\Marker x\n\\Endmarker *\n\\TextType Verse";
+    let sheet = Sheet::read(rt.alloc(), text)?;
+    let mut styles = sheet.iter();
+    if let (Some(add), Some(x)) = (styles.next(), styles.next()) {
+        assert_eq!(rt; add.closer(), Some("a* b"));
+        assert_eq!(rt; add.kind(), Some(StyleKind::Character));
+        assert!(rt; add.verse_text());
+        assert_eq!(rt; add.under(0), Some("p"));
+        assert_eq!(rt; add.under(2), Some("NEST"));
+        assert_eq!(rt; add.under(3), None);
+        assert_eq!(rt; x.closer(), None);
+        assert_eq!(rt; x.kind(), None);
+        assert!(rt; !x.verse_text());
+        assert_eq!(rt; x.under(0), None);
+    } else {
+        panic!(rt; "two records");
+    }
+    Ok(())
+}
+
+// The marker of the style of a mark.
+fn style_marker<'s>(sheet: &Sheet<'s>, name: &str) -> Option<&'s str> {
+    sheet.style_of(name).map(|style| style.marker())
+}
+
+#[test]
+fn finds_styles(rt: HostRuntime) -> Result<(), SheetFault> {
+    let text =
+        "\\Marker qt-s\n\\Endmarker qt-e\n\\StyleType Milestone\n\\Marker nd\n\\Endmarker nd*\n\\StyleType Character\n\\Marker qs\n\\StyleType Milestone\n\\Endmarker nd\n";
+    let sheet = Sheet::read(rt.alloc(), text)?;
+    assert_eq!(rt; style_marker(&sheet, "qt-e"), Some("qt-s"));
+    assert_eq!(rt; style_marker(&sheet, "nd"), Some("nd"));
+    assert_eq!(rt; style_marker(&sheet, ""), None);
+    assert_eq!(rt; style_marker(&sheet, "Nd"), None);
+    assert!(rt; sheet.style("qt-e").is_none());
+    assert!(rt; sheet.style("qt-s").is_some());
+    Ok(())
+}
