@@ -1,3 +1,4 @@
+pub mod Codes
 pub mod Orders
 pub mod Sorted
 pub mod Runs

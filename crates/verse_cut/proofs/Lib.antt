@@ -1,0 +1,11 @@
+pub mod KeyOrder
+pub mod MarkLaws
+pub mod Quiet
+pub mod Headings
+pub mod FitLaws
+pub mod JoinLaws
+pub mod PieceLaws
+pub mod BookLaws
+pub mod CutLaws
+pub mod ChapterLines
+pub mod Steps

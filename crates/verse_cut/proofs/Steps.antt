@@ -1,0 +1,166 @@
+-- What one token does to a walk over a text, and what a walk makes of a cut.
+use Rattle.std.proofs.Common.{◌≡◌, ℕ, ◌+◌, ◌-◌, Bool, true, false, not, cond, ◌&&◌, ◌||◌, List, [], ◌∷◌, ◌++◌, length, take, codes, Option, None, Some, option_map, sym, refl, ap, ◌∙◌, arith, append_assoc, length-append, add-zero}
+use Rattle.std.proofs.lemmas.List.{append-nil, take_at}
+use Rattle.std.specs.Str.{bytes_eq}
+use Rattle.usfm_ref.specs.Keys.{KeyParts, book_head, chapter_head}
+use Rattle.usfm_ref.specs.Numbers.{blanks_at, chapter_in, verse_in}
+use Rattle.usfm_ref.specs.declared.number.VerseMark.{VerseMark}
+use Rattle.usfm_token.specs.Tokens.{Lexeme, mark, words, slice_of, tokens_of}
+use Rattle.usfm_token.specs.View.{lexeme}
+use Rattle.usfm_token.specs.declared.token.Token.{Token}
+use Rattle.usfm_token.proofs.Walk.{no_tokens, token_front}
+use Rattle.verse_cut.specs.Keys.{key_below, verse_key}
+use Rattle.verse_cut.specs.Pieces.{pieces_of}
+use Rattle.verse_cut.specs.Reading.{key_of, Later, goes_on, opens_at, cut_from, pieces_with, cut_of, not_above, is_quiet}
+use Rattle.verse_cut.specs.Walks.{before, read_of, parts_at, GoesToEnd, OpensAt}
+use Rattle.verse_cut.proofs.MarkLaws.{cut_is_read}
+use Rattle.verse_cut.proofs.Quiet.{by_key, stays}
+
+pub read_more : (from sofar rest : List ℕ) → from ≡ sofar ++ rest → read_of from rest ≡ sofar
+read_more from sofar rest h =
+    let n : length from - length rest ≡ length sofar = omega (arith, ap length h ∙ length-append sofar rest) in
+    ap (take (length from - length rest)) h ∙ take_at sofar rest _ (sym n)
+
+-- the tokens from text to here go to the open piece
+pub record Goes (key : KeyParts) (text here : List ℕ) : Type 0 where
+  pub join : read_of text here ++ here ≡ text
+  pub quiet : is_quiet key (tokens_of text) ≡ is_quiet key (tokens_of here)
+  pub cuts : (at : ℕ) → cut_from key at (tokens_of text) ≡ goes_on (read_of text here) (cut_from key (at + length (read_of text here)) (tokens_of here))
+
+pub goes_start : (key : KeyParts) (text : List ℕ) → Goes key text text
+goes_start key text =
+    let nothing : read_of text text ≡ [] = read_more text [] text refl in
+    record {
+      join = ap (λ r. r ++ text) nothing;
+      quiet = refl;
+      cuts = λ at. ap (λ a. cut_from key a (tokens_of text)) (sym (add-zero at)) ∙ ap (λ r. goes_on r (cut_from key (at + length r) (tokens_of text))) (sym nothing);
+    }
+
+module _ (key : KeyParts) (text here behind : List ℕ) (t : Lexeme) (on : Goes key text here) (front : tokens_of here ≡ t ∷ tokens_of behind) where
+  abbrev sofar : List ℕ
+  sofar = read_of text here
+
+  more : text ≡ (sofar ++ slice_of t) ++ behind
+  more = sym on.join ∙ ap (λ r. sofar ++ r) (token_front here behind t front) ∙ sym (append_assoc sofar (slice_of t) behind)
+
+  sofar_more : read_of text behind ≡ sofar ++ slice_of t
+  sofar_more = read_more text (sofar ++ slice_of t) behind more
+
+  -- a token whose key is not above goes to the open piece
+  pub goes_step : not_above key (key_of key.chapter t (tokens_of behind)) ≡ true → Goes key text behind
+  goes_step low = record {
+    join = ap (λ r. r ++ behind) sofar_more ∙ sym more;
+    quiet = on.quiet ∙ ap (is_quiet key) front ∙ ap (λ e. e && is_quiet key (tokens_of behind)) low;
+    cuts = λ at.
+        let place : at + length sofar + length (slice_of t) ≡ at + length (sofar ++ slice_of t) = omega (arith, length-append sofar (slice_of t)) in
+        let far : ℕ → Later = λ a. cut_from key a (tokens_of behind) in
+        on.cuts at
+        ∙ ap (λ ts. goes_on sofar (cut_from key (at + length sofar) ts)) front
+        ∙ ap (goes_on sofar) (stays key (at + length sofar) (slice_of t) (at + length sofar + length (slice_of t)) (tokens_of behind) (key_of key.chapter t (tokens_of behind)) low)
+        ∙ (λ i. (sym (append_assoc sofar (slice_of t) (far (place i)).0) i, (far (place i)).1))
+        ∙ ap (λ r. goes_on r (far (at + length r))) (sym sofar_more);
+  }
+
+-- at the end all of the text goes to the open piece
+pub goes_end : (key : KeyParts) (text here : List ℕ) → Goes key text here → tokens_of here ≡ [] → GoesToEnd key text
+goes_end key text here on none =
+    let empty : here ≡ [] = no_tokens here none in
+    let all : read_of text here ≡ text = sym (append-nil (read_of text here)) ∙ ap (λ r. read_of text here ++ r) (sym empty) ∙ on.join in
+    record {
+      is_quiet = on.quiet ∙ ap (is_quiet key) none;
+      cuts = λ at.
+          on.cuts at ∙ ap (λ ts. goes_on (read_of text here) (cut_from key (at + length (read_of text here)) ts)) none
+          ∙ (λ i. ((append-nil (read_of text here) ∙ all) i, []));
+    }
+
+-- ---- the text behind a mark with a key
+
+no_chapter : chapter_in [] ≡ None
+unfolding chapter_in blanks_at
+no_chapter = refl
+
+no_verse : verse_in [] ≡ None
+unfolding verse_in blanks_at
+no_verse = refl
+
+no_number : (c : ℕ) (q : KeyParts) (e f g : Bool) → cond e None (cond f (option_map chapter_head (chapter_in [])) (cond g (option_map (verse_key c) (verse_in [])) None)) ≡ Some q → ⊥
+no_number c q e f g h = by e f g (chapter_in []) no_chapter (verse_in []) no_verse h
+  where
+    by : (e f g : Bool) (n : Option ℕ) → n ≡ None → (v : Option VerseMark) → v ≡ None → cond e None (cond f (option_map chapter_head n) (cond g (option_map (verse_key c) v) None)) ≡ Some q → ⊥
+    by true f g n p v r h = absurd (cc)
+    by false true g None p v r h = absurd (cc)
+    by false true g (Some n) p v r h = absurd (cc)
+    by false false false n p v r h = absurd (cc)
+    by false false true n p None r h = absurd (cc)
+    by false false true n p (Some v) r h = absurd (cc)
+
+-- a text stands behind a mark with a key
+pub record IsBehindText (ts rest : List Lexeme) : Type 0 where
+  pub text : List ℕ
+  pub is : ts ≡ words text ∷ rest
+
+pub key_has_text : (c : ℕ) (q : KeyParts) (t : Lexeme) (next : Option Token) (rest : List Lexeme) → key_of c t (before next rest) ≡ Some q → IsBehindText (before next rest) rest
+key_has_text c q (words w) next rest h = absurd (cc)
+key_has_text c q (mark m) None rest h = absurd (no_number c q (m.nested || m.closing) (bytes_eq m.name (codes "c")) (bytes_eq m.name (codes "v")) h)
+key_has_text c q (mark m) (Some t) rest h = by (lexeme t) refl h
+  where
+    by : (l : Lexeme) → lexeme t ≡ l → key_of c (mark m) (lexeme t ∷ rest) ≡ Some q → IsBehindText (lexeme t ∷ rest) rest
+    by (words w) is h = record { text = w; is = ap (λ (x : Lexeme). x ∷ rest) is }
+    by (mark n) is h = absurd (no_number c q (m.nested || m.closing) (bytes_eq m.name (codes "c")) (bytes_eq m.name (codes "v")) (ap (λ (x : Lexeme). key_of c (mark m) (x ∷ rest)) (sym is) ∙ h))
+
+-- a mark whose key is above all before opens a piece
+module _ (key found : KeyParts) (text here mid behind : List ℕ) (t : Lexeme) (w : List ℕ) (on : Goes key text here) (front : tokens_of here ≡ t ∷ tokens_of mid) (next : tokens_of mid ≡ words w ∷ tokens_of behind) where
+  here_is : here ≡ (slice_of t ++ w) ++ behind
+  here_is = token_front here mid t front ∙ ap (λ r. slice_of t ++ r) (token_front mid behind (words w) next) ∙ sym (append_assoc (slice_of t) w behind)
+
+  mine : read_of here behind ≡ slice_of t ++ w
+  mine = read_more here (slice_of t ++ w) behind here_is
+
+  opened : (a : ℕ) → key_of key.chapter t (tokens_of mid) ≡ Some found → key_below key found ≡ true → cut_from key a (tokens_of here) ≡ ([], parts_at found a here behind)
+  opened a is above =
+      let far : ℕ → Later = λ b. cut_from found b (tokens_of behind) in
+      let place : a + length (slice_of t) + length w ≡ a + length (slice_of t ++ w) = omega (arith, length-append (slice_of t) w) in
+      ap (cut_from key a) front
+      ∙ ap (by_key key a (slice_of t) (a + length (slice_of t)) (tokens_of mid)) is
+      ∙ ap (λ e. cond e (opens_at found a (slice_of t) (cut_from found (a + length (slice_of t)) (tokens_of mid))) (goes_on (slice_of t) (cut_from key (a + length (slice_of t)) (tokens_of mid)))) above
+      ∙ ap (λ ts. opens_at found a (slice_of t) (cut_from found (a + length (slice_of t)) ts)) next
+      ∙ (λ i. ([], record { key = found; start = a; text = sym (append_assoc (slice_of t) w (far (place i)).0) i } ∷ (far (place i)).1))
+      ∙ ap (λ r. ([], pieces_with found a r (far (a + length r)))) (sym mine)
+
+  pub goes_open : key_of key.chapter t (tokens_of mid) ≡ Some found → key_below key found ≡ true → OpensAt key text here behind found
+  goes_open is above = record {
+    not_quiet = on.quiet ∙ ap (is_quiet key) front ∙ ap (λ o. not_above key o && is_quiet key (tokens_of mid)) is ∙ ap (λ e. not e && is_quiet key (tokens_of mid)) above;
+    join = on.join;
+    mark_join = ap (λ r. r ++ behind) mine ∙ sym here_is;
+    cuts = λ at.
+        on.cuts at
+        ∙ ap (goes_on (read_of text here)) (opened (at + length (read_of text here)) is above)
+        ∙ (λ i. (append-nil (read_of text here) i, parts_at found (at + length (read_of text here)) here behind));
+  }
+
+-- ---- the pieces that are left
+
+-- what stands before here, in two parts
+pub read_both : (from rest here : List ℕ) → read_of from rest ++ rest ≡ from → read_of rest here ++ here ≡ rest → read_of from here ≡ read_of from rest ++ read_of rest here
+read_both from rest here p q =
+    read_more from (read_of from rest ++ read_of rest here) here
+    (sym p ∙ ap (λ r. read_of from rest ++ r) (sym q) ∙ sym (append_assoc (read_of from rest) (read_of rest here) here))
+
+pub read_join : (from rest here : List ℕ) → read_of from rest ++ rest ≡ from → read_of rest here ++ here ≡ rest → read_of from here ++ here ≡ from
+read_join from rest here p q =
+    ap (λ r. r ++ here) (read_both from rest here p q)
+    ∙ append_assoc (read_of from rest) (read_of rest here) here ∙ ap (λ r. read_of from rest ++ r) q ∙ p
+
+pub parts_start : (text : List ℕ) → parts_at book_head 0 text text ≡ pieces_of text
+unfolding cut_of
+parts_start text =
+    ap (λ r. pieces_with book_head 0 r (cut_from book_head (0 + length r) (tokens_of text))) (read_more text [] text refl)
+    ∙ cut_is_read text
+
+pub parts_open : (key found : KeyParts) (start : ℕ) (from rest here behind text : List ℕ) → read_of from rest ++ rest ≡ from → OpensAt key rest here behind found → text ≡ read_of from here → parts_at key start from rest ≡ record { key = key; start = start; text = text } ∷ parts_at found (start + length text) here behind
+parts_open key found start from rest here behind text parts opens is =
+    let sofar = read_of from rest in
+    let whole : read_of from rest ++ read_of rest here ≡ text = sym (is ∙ read_both from rest here parts opens.join) in
+    let place : start + length (read_of from rest) + length (read_of rest here) ≡ start + length text = omega (arith, ap length whole, length-append (read_of from rest) (read_of rest here)) in
+    ap (pieces_with key start sofar) (opens.cuts (start + length sofar))
+    ∙ (λ i. record { key = key; start = start; text = whole i } ∷ parts_at found (place i) here behind)

@@ -1,0 +1,5 @@
+use Rattle.verse_cut.proofs.Steps.{parts_start}
+use Rattle.verse_cut.proofs.cutter.Pieces.new.Goals as goal
+
+pub returns : goal.returns
+returns c = parts_start c.args.text.now

@@ -1,0 +1,9 @@
+pub mod Keys
+pub mod Marks
+pub mod Pieces
+pub mod Fits
+pub mod Reading
+pub mod Walks
+pub mod Views
+pub mod Left
+pub mod Joins

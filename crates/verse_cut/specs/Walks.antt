@@ -1,0 +1,46 @@
+-- What a walk over the tokens of a text takes, and what it leaves of a cut.
+use Rattle.std.specs.Prelude.{◌≡◌, ℕ, ◌+◌, ◌-◌, true, false, List, [], ◌∷◌, ◌++◌, length, take, Option, None, Some}
+use Rattle.usfm_ref.specs.Keys.{KeyParts}
+use Rattle.usfm_token.specs.Tokens.{Lexeme, tokens_of}
+use Rattle.usfm_token.specs.View.{lexeme}
+use Rattle.usfm_token.specs.declared.token.Token.{Token}
+use Rattle.verse_cut.specs.Pieces.{Part}
+use Rattle.verse_cut.specs.Reading.{key_of, cut_from, pieces_with, is_quiet}
+
+-- the token, if there is one, before others; and else nothing
+abbrev pub before : Option Token → List Lexeme → List Lexeme
+before None ts = []
+before (Some t) ts = lexeme t ∷ ts
+
+-- the token is the first
+abbrev pub IsFirst : Option Token → List Lexeme → Type 0
+IsFirst None ts = ts ≡ []
+IsFirst (Some t) [] = ⊥
+IsFirst (Some t) (x ∷ ts) = lexeme t ≡ x
+
+-- A token stands at the front of here, before behind, and has the key, where a verse stands in the chapter.
+pub record TakesToken (chapter : ℕ) (here behind : List ℕ) (key : Option KeyParts) : Type 0 where
+  pub token : Lexeme
+  pub front : tokens_of here ≡ token ∷ tokens_of behind
+  pub key_is : key ≡ key_of chapter token (tokens_of behind)
+
+-- what of a text stands before its rest
+abbrev pub read_of : List ℕ → List ℕ → List ℕ
+read_of from rest = take (length from - length rest) from
+
+-- the piece that is open from a place on, where the walk stands at here, and the later ones
+abbrev pub parts_at : KeyParts → ℕ → List ℕ → List ℕ → List Part
+parts_at key start from here = pieces_with key start (read_of from here) (cut_from key (start + length (read_of from here)) (tokens_of here))
+
+-- No mark in the text has a key above this one, so all of it goes to the open piece.
+pub record GoesToEnd (key : KeyParts) (text : List ℕ) : Type 0 where
+  pub is_quiet : is_quiet key (tokens_of text) ≡ true
+  pub cuts : (at : ℕ) → cut_from key at (tokens_of text) ≡ (text, [])
+
+-- The first mark in the text with a key above this one stands at here, before behind. What stands before it goes to the
+-- open piece, and it opens the next.
+pub record OpensAt (key : KeyParts) (text here behind : List ℕ) (found : KeyParts) : Type 0 where
+  pub not_quiet : is_quiet key (tokens_of text) ≡ false
+  pub join : read_of text here ++ here ≡ text
+  pub mark_join : read_of here behind ++ behind ≡ here
+  pub cuts : (at : ℕ) → cut_from key at (tokens_of text) ≡ (read_of text here, parts_at found (at + length (read_of text here)) here behind)

@@ -1,0 +1,99 @@
+ghost use Rattle.std.specs.Prelude.{◌≡◌, ◌↔◌, ℕ, List, IsTrue, IfOk, IfSome, IsSome, MatchOption, None, Some, Ok, Err};
+ghost use Rattle.usfm_ref.specs.Books.{is_book_code};
+ghost use Rattle.usfm_ref.specs.Numbers.{is_blank};
+ghost use Rattle.verse_cut.specs.Fits.{BeginsWithId, IsHeaded, ends_code};
+ghost use Rattle.verse_cut.specs.Reading as reading;
+
+use crate::fault::BookFault;
+use usfm_ref::Book;
+
+/// The book that a text begins with: at most one U+FEFF, `\id`, one blank (space, tab, CR, LF),
+/// the book's code, and then a blank, a backslash or the end. What stands behind is not looked at.
+/// It takes no memory.
+///
+/// # Errors
+/// `NoId` where the text does not begin with at most one U+FEFF, `\id` and a blank, and else
+/// `BadBook` where no code, and what may follow it, stands behind.
+pub fn book_of(text: &str) -> Result<Book, BookFault>
+    ensures reads { IfOk result (λ book. IsHeaded book text.now) }
+    ensures only { (book : List ℕ) → IsTrue (is_book_code book) → IsHeaded book text.now → result ≡ Ok book }
+    ensures no_id { (result ≡ Err BookFault.NoId) ↔ ((behind : List ℕ) → BeginsWithId text.now behind → ⊥) }
+    ensures value { result ≡ reading.book_in text.now }
+{
+    match behind_id(text.as_bytes()) {
+        None => Err(BookFault::NoId),
+        Some(behind) => match leading_book(behind) {
+            None => Err(BookFault::BadBook),
+            Some(book) => Ok(book),
+        },
+    }
+}
+
+// Whether the text begins with `\id` and the book's code, which ends.
+pub(crate) fn is_headed(book: Book, text: &str) -> bool
+    ensures { result ≡ reading.is_headed book text.now }
+{
+    let Some(behind) = behind_id(text.as_bytes()) else {
+        return false;
+    };
+    match behind.split_first_chunk::<3>() {
+        Some((code, rest)) => *code == book.code() && ends_code(rest),
+        None => false,
+    }
+}
+
+// What stands behind `\id` and one blank at the front, or behind U+FEFF at the front.
+#[tactic(auto, unfolding(crate::specs::Reading::behind_id))]
+fn behind_id(text: &[u8]) -> Option<&[u8]>
+    ensures { MatchOption result (reading.behind_id text.now ≡ None) (λ behind. reading.behind_id text.now ≡ Some behind.now) }
+{
+    match text {
+        [0xEF, 0xBB, 0xBF, bytes @ ..] => id_at(bytes),
+        _ => id_at(text),
+    }
+}
+
+fn id_at(bytes: &[u8]) -> Option<&[u8]>
+    ensures { MatchOption result (reading.id_at bytes.now ≡ None) (λ behind. reading.id_at bytes.now ≡ Some behind.now) }
+{
+    match bytes {
+        [b'\\', b'i', b'd', blank, behind @ ..] if is_blank(*blank) => Some(behind),
+        _ => None,
+    }
+}
+
+fn is_blank(byte: u8) -> bool
+    ensures { result ≡ is_blank byte }
+{
+    matches!(byte, b' ' | b'\t' | b'\r' | b'\n')
+}
+
+// Whether a code may end before these bytes.
+fn ends_code(rest: &[u8]) -> bool
+    ensures { result ≡ ends_code rest.now }
+{
+    match rest {
+        [] => true,
+        [first, ..] => is_blank(*first) || *first == b'\\',
+    }
+}
+
+// The book whose code stands at the front and ends.
+fn leading_book(bytes: &[u8]) -> Option<Book>
+    ensures { result ≡ reading.leading_book bytes.now }
+{
+    match bytes.split_first_chunk::<3>() {
+        Some((code, rest)) if ends_code(rest) => book_of_code(code),
+        _ => None,
+    }
+}
+
+fn book_of_code(code: &[u8; 3]) -> Option<Book>
+    ensures accepts { IsSome result ↔ IsTrue (is_book_code code.now) }
+    ensures book { IfSome result (λ book. book ≡ code.now) }
+{
+    match str::from_utf8(code) {
+        Ok(text) => Book::read(text).ok(),
+        Err(_) => None,
+    }
+}
