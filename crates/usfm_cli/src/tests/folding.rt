@@ -1,6 +1,7 @@
 // Streams of bundles folded into a book, and the lines of faults.
 use super::streams::{Refusal, ShortSink, SlowSource, Zeros};
 use crate::{Fault, MOST_BYTES, ReadFault, fault_line, fold_stream};
+use bundle_codec::join_bundles;
 use std::alloc::Global;
 use std::io::ErrorKind;
 use std::test::Fail;
@@ -68,6 +69,15 @@ fn bundles_are_folded(rt: HostRuntime) -> Result<(), Fail> {
         let answer = folded(alloc, &input, code)?;
         assert_eq!(rt; answer.as_slice(), wanted, "{} bundles", bundles.len());
     }
+    Ok(())
+}
+
+#[test]
+fn joined_bundles_are_folded(rt: HostRuntime) -> Result<(), Fail> {
+    let alloc = rt.alloc();
+    let both = join_bundles(alloc, Y, B1)?;
+    let all = join_bundles(alloc, &both, Z)?;
+    assert_eq!(rt; folded(alloc, &all, "MAT")?.as_slice(), AFTER);
     Ok(())
 }
 
