@@ -1,6 +1,7 @@
 pub mod Readers
 pub mod RisingIds
 pub mod Spelled
+pub mod OneSpelling
 pub mod Loops
 pub mod Seen
 pub mod Steps

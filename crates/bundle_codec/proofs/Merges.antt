@@ -10,7 +10,7 @@ use Rattle.op_core.proofs.Union.{rises_parts}
 use Rattle.op_core.proofs.SideBySide.{clash_none, clash_less, clash_greater, clash_equal, clash_here}
 use Rattle.op_core.proofs.Fronts.{join_none, join_less, join_greater, join_tied}
 use Rattle.bundle_codec.specs.Spelling.{operation}
-use Rattle.bundle_codec.proofs.Spelled.{takes_bytes}
+use Rattle.bundle_codec.proofs.OneSpelling.{takes_bytes}
 use Rattle.bundle_codec.specs.Merging.{GoesPast, Leaves, Steps}
 
 -- the rest of a list, by its two parts in two words

@@ -17,7 +17,8 @@ use Rattle.bundle_codec.specs.Spelling.{id, operation, magic, bundle}
 use Rattle.bundle_codec.specs.Reading.{◌>>=◌, any, exactly_at, number_at, many_at, id_at, named_at, after_id, operation_at, after_operation, operations_at, bundle_at, after}
 use Rattle.bundle_codec.specs.Views.{each_at, found, each_id_at, each_operation_at, operations_in, Spells}
 use Rattle.bundle_codec.proofs.Readers.{IsBytes, Each, Reader, Reads, many_reads, number_reads, exactly_reads, wide64, bind_ok, ok_is}
-use Rattle.bundle_codec.proofs.Spelled.{IsNamed, Follows, FollowsAt, IsSpelled, id_reads, named_reads, operation_reads, operations_follow, bundle_reads, AreCounted-from_length}
+use Rattle.bundle_codec.proofs.Spelled.{IsNamed, Follows, FollowsAt, IsSpelled, id_reads, named_reads, operation_reads, operations_follow, bundle_reads}
+use Rattle.bundle_codec.proofs.OneSpelling.{AreCounted-from_length}
 
 -- ---- bytes that are left
 

@@ -1,29 +1,25 @@
 -- Each reader of a bundle reads exactly what is spelled so.
-use Rattle.std.proofs.Common.{◌≡◌, ◌≢◌, ℕ, zero, suc, ◌+◌, ◌^◌, ◌<◌, ◌≤◌, true, ◌&&◌, eqb, leb, ltb, List, [], ◌∷◌, ◌++◌, length, Option, Some, None, Ok, Err, refl, sym, ap, subst, ◌∙◌, arith, inl, inr, lit<}
+use Rattle.std.proofs.Common.{◌≡◌, ℕ, zero, suc, ◌+◌, ◌^◌, ◌<◌, true, ◌&&◌, eqb, leb, ltb, List, [], ◌∷◌, ◌++◌, length, Option, Some, None, refl, sym, ap, ◌∙◌, arith, inl, inr, lit<}
 use Rattle.std.specs.Int.{w16, w64, to_be_bytes}
 use Rattle.std.specs.Str.{is_utf8}
-use Rattle.std.specs.Cmp.{both_ways}
-use Rattle.std.specs.List.{list_all, AllByRecursion, flat_map}
-use Rattle.std.proofs.lemmas.List.Concat.{flat_map-cons}
+use Rattle.std.specs.List.{list_all, AllByRecursion}
 use Rattle.std.proofs.lemmas.Bool.{leb-true, and_parts, and_from, or_cases, or_right, eqb-true}
-use Rattle.std.proofs.lemmas.List.{append-nil, length-append}
+use Rattle.std.proofs.lemmas.List.{append-nil}
 use Rattle.std.proofs.lemmas.Str.{IsUtf8-from_is_utf8, is_utf8-from_IsUtf8}
 use Rattle.usfm_ref.specs.declared.key.Place.{Place}
 use Rattle.usfm_ref.specs.declared.key.Place.TheVariants.{Head, Verse}
-use Rattle.usfm_ref.specs.Books.{same_bytes, is_book_code}
+use Rattle.usfm_ref.specs.Books.{is_book_code}
 use Rattle.usfm_ref.specs.Keys.{KeyParts, is_place, is_key, is_letter}
 use Rattle.usfm_ref.specs.Segments.{segment}
-use Rattle.usfm_ref.proofs.Orders.{same_bytes-is, same_bytes-refl}
 use Rattle.op_core.specs.Names.{is_name, is_name_char}
 use Rattle.op_core.specs.Ids.{Id, is_number, is_id, names_fall}
-use Rattle.op_core.specs.Ops.{Operation, IsOperation, same_op}
-use Rattle.op_core.specs.Equal.{same_op-is, same_op-refl}
+use Rattle.op_core.specs.Ops.{Operation, IsOperation}
 use Rattle.op_core.specs.Sets.{IsOpSet}
 use Rattle.bundle_codec.specs.declared.fault.BundleFault.{BundleFault}
 use Rattle.bundle_codec.specs.declared.fault.BundleFault.TheVariants.{Magic, Truncated, NotRising, BadId, BadKey, BadReplaced, BadTag, NotUtf8}
 use Rattle.bundle_codec.specs.Spelling.{magic, id, letter, place, key, ids, body, operation, bundle, IsCounted, AreCounted}
 use Rattle.bundle_codec.specs.Reading.{any, is_name_length, id_at, is_verse, is_letter_byte, place_of, place_at, key_at, comes_after, named_at, after_id, replaced_at, body_at, operation_at, after_operation, bundle_at}
-use Rattle.bundle_codec.proofs.Readers.{Each, Reads, step, ends, checked, reads_as, byte_reads, block_reads, number_reads, exactly_reads, wide16, wide64, many_reads, ok_is}
+use Rattle.bundle_codec.proofs.Readers.{Each, Reads, step, ends, checked, reads_as, byte_reads, block_reads, number_reads, exactly_reads, wide16, wide64, many_reads}
 use Rattle.bundle_codec.proofs.RisingIds.{Climbs, rises-from_climbs, climbs-from_rises}
 
 -- ---- an id
@@ -307,87 +303,3 @@ bundle_reads =
     (record { rising = rises-from_climbs (λ o. o.id) None ops (each_climbs_ops 1 None ops f.1.1.1); each = p.0 }, record { count = f.1.0.0; each = p.1 }))
     (λ ops f. (tt, ((f.1.count, refl), (refl, operations_follow ops f))))
     (λ ops f. refl)
-
--- ---- what a bundle of less than 2^64 bytes spells can be counted
-
-flat_map_long : {A : Type 0} (f : A → List ℕ) → ((x : A) → 1 ≤ length (f x)) → (xs : List A) → length xs ≤ length (flat_map f xs)
-flat_map_long f some [] = omega arith
-flat_map_long f some (x ∷ xs) = omega (arith, ap length (flat_map-cons f x xs), length-append (f x) (flat_map f xs), some x, flat_map_long f some xs)
-
-id_some : (i : Id) → 1 ≤ length (id i)
-id_some i = omega (arith, length-append (to_be_bytes w64 i.number) (length i.name ∷ i.name))
-
--- how long the parts of an operation are together
-operation_length : (o : Operation) → length (id o.id) + length (flat_map id o.replaced) + length o.text ≤ length (operation o)
-operation_length o = omega (
-  arith,
-  length-append (id o.id) (o.segment.book ++ (key o.segment.key ++ (ids o.replaced ++ body o.text))),
-  length-append o.segment.book (key o.segment.key ++ (ids o.replaced ++ body o.text)),
-  length-append (key o.segment.key) (ids o.replaced ++ body o.text),
-  length-append (ids o.replaced) (body o.text),
-  length-append (to_be_bytes w64 (length o.replaced)) (flat_map id o.replaced),
-  length-append (to_be_bytes w64 (length o.text)) o.text,
-)
-
-pub takes_bytes : (o : Operation) → 1 ≤ length (operation o)
-takes_bytes o = omega (arith, operation_length o, id_some o.id)
-
--- what an operation of less than 2^64 bytes spells can be counted
-pub IsCounted-from_length : (o : Operation) → length (operation o) < 2 ^ 64 → IsCounted o
-IsCounted-from_length o h =
-    let long = operation_length o in
-    let named = flat_map_long id id_some o.replaced in
-    record { replaced = omega arith; text = omega arith }
-
-counted_each : (ops : List Operation) → length (flat_map operation ops) < 2 ^ 64 → AllByRecursion IsCounted ops
-counted_each [] h = tt
-counted_each (o ∷ ops) h =
-    let parts : length (flat_map operation (o ∷ ops)) ≡ length (operation o) + length (flat_map operation ops) = ap length (flat_map-cons operation o ops) ∙ length-append (operation o) (flat_map operation ops) in
-    (IsCounted-from_length o (omega arith), counted_each ops (omega arith))
-
-pub AreCounted-from_length : (ops : List Operation) → length (bundle ops) < 2 ^ 64 → AreCounted ops
-unfolding bundle
-AreCounted-from_length ops h =
-    let parts = length-append magic (to_be_bytes w64 (length ops) ++ flat_map operation ops) in
-    let counted = length-append (to_be_bytes w64 (length ops)) (flat_map operation ops) in
-    let many = flat_map_long operation takes_bytes ops in
-    record { count = omega arith; each = counted_each ops (omega arith) }
-
--- ---- laws of bundles
-
-nil_at_end : (a b : List ℕ) → a ++ b ≡ [] → b ≡ []
-nil_at_end [] b e = e
-nil_at_end (x ∷ a) b e = absurd cc
-
--- one set has one spelling, and one spelling has one set, whatever follows it
-pub one_spelling : (a b : List Operation) (rest others : List ℕ) → IsSpelled a → IsSpelled b → bundle a ++ rest ≡ bundle b ++ others → (a ≡ b) × (rest ≡ others)
-one_spelling a b rest others f g e =
-    let p = ok_is (a, rest) (b, others) (sym (bundle_reads.again a rest f) ∙ ap bundle_at e ∙ bundle_reads.again b others g) in
-    (ap (λ (x : List Operation × List ℕ). x.0) p, ap (λ (x : List Operation × List ℕ). x.1) p)
-
--- and one operation
-pub same_operation : (o p : Operation) → IsOperation o → IsOperation p → length (operation o) < 2 ^ 64 → operation o ≡ operation p → o ≡ p
-same_operation o p f g short e =
-    let reads = operation_reads 0 None in
-    let one = reads.again o [] (refl, (f, IsCounted-from_length o short)) in
-    let other = reads.again p [] (refl, (g, IsCounted-from_length p (omega (arith, ap length e)))) in
-    ap (λ (x : Operation × List ℕ). x.0) (ok_is (o, []) (p, []) (sym one ∙ ap (λ (w : List ℕ). operation_at 0 None (w ++ [])) e ∙ other))
-
--- the test of their spellings is the test of the operations
-pub same_spellings : (o p : Operation) → IsOperation o → IsOperation p → length (operation o) < 2 ^ 64 → same_bytes (operation o) (operation p) ≡ same_op o p
-same_spellings o p f g short = both_ways (same_bytes (operation o) (operation p)) (same_op o p)
-    (λ h. subst (λ (q : Operation). same_op o q ≡ true) (same_operation o p f g short (same_bytes-is (operation o) (operation p) h)) (same_op-refl o))
-    (λ h. subst (λ (q : Operation). same_bytes (operation o) (operation q) ≡ true) (same_op-is o p h) (same_bytes-refl (operation o)))
-
--- a proper front of a bundle is cut
-pub front_is_cut : (ops : List Operation) (front more : List ℕ) → IsSpelled ops → bundle ops ≡ front ++ more → more ≢ [] → bundle_at front ≡ Err Truncated
-front_is_cut ops front more f e some =
-    let read : bundle_at (front ++ more) ≡ Ok (ops, []) = ap bundle_at (sym e ∙ sym (append-nil (bundle ops))) ∙ bundle_reads.again ops [] f in
-    elim (bundle_reads.cut front more ops [] read) [
-      | inl short ↦ short
-      | inr on ↦ absurd (some (nil_at_end on.0 more (sym on.2)))
-    ]
-
--- and so no bundle
-pub front_is_none : (a b : List Operation) (more : List ℕ) → IsSpelled a → IsSpelled b → bundle a ≡ bundle b ++ more → more ≡ []
-front_is_none a b more f g e = sym (one_spelling a b [] more f g (append-nil (bundle a) ∙ e)).1

@@ -9,7 +9,8 @@ use Rattle.bundle_codec.specs.declared.fault.WholeFault.TheVariants.{Trailing}
 use Rattle.bundle_codec.specs.Spelling.{magic, operation, bundle}
 use Rattle.bundle_codec.specs.Reading.{bundle_at}
 use Rattle.bundle_codec.specs.Joining.{nothing_after, whole_if, whole_at, IsBundle, IsFollowed}
-use Rattle.bundle_codec.proofs.Spelled.{bundle_reads, AreCounted-from_length}
+use Rattle.bundle_codec.proofs.Spelled.{bundle_reads}
+use Rattle.bundle_codec.proofs.OneSpelling.{AreCounted-from_length}
 
 pub trails : (ops : List Operation) (rest : List ℕ) → rest ≢ [] → nothing_after ops rest ≡ Err Trailing
 trails ops [] some = absurd (some refl)

@@ -1,4 +1,4 @@
-//! Bundles: sets of operations as bytes, read in place.
+//! Bundles: sets of operations as bytes, read in place, written, and joined.
 #![tactic(auto)]
 
 mod bundle;

@@ -1,5 +1,5 @@
 // Bytes that are one bundle and nothing more.
-ghost use Rattle.std.specs.Prelude.{◌≡◌, ◌≢◌, ℕ, List, [], ◌++◌, Ok, Err, IfOk, IfErr, IsOkAnd, MatchResult};
+ghost use Rattle.std.specs.Prelude.{◌≡◌, List, Ok, Err, IfOk, IfErr, IsOkAnd, MatchResult};
 ghost use Rattle.op_core.specs.Ops.{Operation};
 ghost use Rattle.op_core.specs.Sets.{IsOpSet};
 ghost use Rattle.bundle_codec.specs.Spelling.{bundle};

@@ -1,4 +1,4 @@
-use Rattle.bundle_codec.proofs.Spelled.{front_is_cut, front_is_none}
+use Rattle.bundle_codec.proofs.OneSpelling.{front_is_cut, front_is_none}
 use Rattle.bundle_codec.proofs.laws.fronts_are_cut.Goals as goal
 
 pub returns-clause-bundle : goal.returns-clause-bundle

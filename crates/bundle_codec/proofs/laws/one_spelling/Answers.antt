@@ -1,4 +1,4 @@
-use Rattle.bundle_codec.proofs.Spelled.{one_spelling}
+use Rattle.bundle_codec.proofs.OneSpelling.{one_spelling}
 use Rattle.bundle_codec.proofs.laws.one_spelling.Goals as goal
 
 pub returns : goal.returns

@@ -2,7 +2,7 @@ use Rattle.std.proofs.Common.{length, ap, ◌∙◌, arith}
 use Rattle.usfm_ref.specs.Books.{same_bytes}
 use Rattle.op_core.specs.Ops.{same_op}
 use Rattle.bundle_codec.specs.Views.{op_view}
-use Rattle.bundle_codec.proofs.Spelled.{same_spellings}
+use Rattle.bundle_codec.proofs.OneSpelling.{same_spellings}
 use Rattle.bundle_codec.proofs.view.OpView.is_same.Goals as goal
 
 pub returns : goal.returns
