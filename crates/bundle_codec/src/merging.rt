@@ -69,7 +69,8 @@ fn pass_least<'a>(left: &mut Walk<'a>, right: &mut Walk<'a>) -> Result<Option<&'
             Ordering::Greater => Ok(right.pass()),
             Ordering::Equal => {
                 if !x.is_same(y) {
-                    return Err(JoinFault::Clash(x.id()));
+                    let id = x.id();
+                    return Err(JoinFault::Clash(id));
                 }
                 right.pass();
                 Ok(left.pass())

@@ -6,7 +6,7 @@ pub returns-then-not-is_same-clause-refused : goal.returns-then-not-is_same-clau
 returns-then-not-is_same-clause-refused c =
     clashes c.args.left.now c.args.right.now _ _ c.in-Some-Some.x.now c.in-Some-Some.y.now c.in-Some-Some.ensures.1 c.in-Some-Some.ensures'.1 c.requires.left c.requires.right
     (sym c.compare_id.ensures ∙ c.in-Equal.is) (sym c.is_same.ensures ∙ c.if-not-is_same.true)
-    ∙ ap Some (sym c.id.ensures.id)
+    ∙ ap Some (sym c.id-id.ensures.id)
 
 pub returns-in-None-default-clause-next : goal.returns-in-None-default-clause-next
 returns-in-None-default-clause-next c = steps_other c.args.left.now c.args.right.now c.pass.new.self c.pass.result c.in-None-default.ensures c.requires.left c.requires.right c.pass.ensures
