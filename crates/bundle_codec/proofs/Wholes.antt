@@ -43,7 +43,7 @@ unfolding bundle
 fronted ops = append_assoc magic (to_be_bytes w64 (length ops)) (flat_map operation ops)
 
 -- the length of the front with the count
-pub front_length : (n : ℕ) → length (magic ++ to_be_bytes w64 n) ≡ 16
+front_length : (n : ℕ) → length (magic ++ to_be_bytes w64 n) ≡ 16
 unfolding magic
 front_length n = refl
 

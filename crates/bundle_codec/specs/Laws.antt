@@ -1,5 +1,5 @@
 -- Laws of bundles.
-use Rattle.std.specs.Prelude.{◌≡◌, ◌≢◌, ◌<◌, ◌+◌, ◌^◌, ℕ, List, [], ◌++◌, length, Result, Ok, Err}
+use Rattle.std.specs.Prelude.{◌≡◌, ◌≢◌, ◌<◌, ◌^◌, ℕ, List, [], ◌++◌, length, Result, Ok, Err}
 use Rattle.op_core.specs.Ops.{Operation}
 use Rattle.op_core.specs.Sets.{IsOpSet}
 use Rattle.bundle_codec.specs.declared.fault.BundleFault.TheVariants.{Truncated}
@@ -48,8 +48,13 @@ AnswerAlike (Ok one) (Ok other) = one ≡ other
 AnswerAlike (Err (Clash id)) (Err (Clash other)) = Unit {0}
 AnswerAlike one other = ⊥
 
+-- what is made, if it is, is no more bytes than a slice can have
+abbrev pub IsHeld : Result (List ℕ) JoinFault → Type 0
+IsHeld (Ok made) = length made < 2 ^ 64
+IsHeld (Err fault) = Unit {0}
+
 -- Both groupings of three bundles give the same bytes, and one is refused with a clash exactly where the other is.
 abbrev pub BundlesAssociate : Type 0
 BundlesAssociate =
-    (x y z : List ℕ) → IsBundle x → IsBundle y → IsBundle z → length x + length y + length z < 2 ^ 64 →
+    (x y z : List ℕ) → IsBundle x → IsBundle y → IsBundle z → IsHeld (bundles_joined x y) → IsHeld (bundles_joined y z) →
     AnswerAlike (then_joined (bundles_joined x y) (λ made. bundles_joined made z)) (then_joined (bundles_joined y z) (λ made. bundles_joined x made))
