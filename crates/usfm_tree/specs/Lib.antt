@@ -1,0 +1,11 @@
+pub mod Forest
+pub mod LeavesViews
+pub mod Places
+pub mod ReaderViews
+pub mod Reading
+pub mod RoleViews
+pub mod SheetViews
+pub mod Stack
+pub mod TakenViews
+pub mod TreeViews
+pub mod Views
