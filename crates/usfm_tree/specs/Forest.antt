@@ -1,4 +1,6 @@
 -- Trees over a text, as what stands side by side: each entry, and what comes after it.
+--
+-- That each mark and text of a USFM text is kept, within a node or as a leaf, is this project's own rule.
 use Rattle.sty_sheet.specs.declared.kind.StyleKind.{StyleKind}
 use Rattle.std.specs.Prelude.{ℕ, zero, suc, option_and_then, List, [], ◌∷◌, ◌++◌, Option, None, Some}
 use Rattle.std.specs.List.{flat_map}

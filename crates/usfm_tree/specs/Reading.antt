@@ -1,4 +1,8 @@
--- The tree of a text by a style sheet.
+-- The tree of a text by a style sheet, as a recursive reading of its tokens.
+--
+-- The USFM 3.0 documentation has paragraph markers without and character and note markers with closing markers, '+' for nested
+-- character markers, and milestones that end with '\*'. What an opening or a closing mark ends where marks are missing, which marks
+-- are leaves, and that nodes stand at most 64 deep, is this project's own rule.
 use Rattle.sty_sheet.specs.declared.kind.StyleKind.{StyleKind}
 use Rattle.sty_sheet.specs.declared.kind.StyleKind.TheVariants as kinds
 use Rattle.std.specs.Prelude.{ℕ, zero, suc, ◌+◌, ◌==◌, nat_lt, Bool, true, false, ◌&&◌, ◌||◌, List, [], ◌∷◌, length, Option, None, Some, if◌then◌else◌, not}
@@ -25,7 +29,8 @@ abbrev pub placed : ℕ → List Lexeme → List Placed
 placed n [] = []
 placed n (t ∷ ts) = record { start = n; token = t } ∷ placed (n + length (slice_of t)) ts
 
--- what a token does
+-- what a token does: plain is a text; alone a mark that is a leaf by its record, or has none; spans a milestone mark; opens a mark that
+-- begins a node of a kind, which a mark of the name closes; closes a closing mark
 pub data Role : Type 0 where
   plain : List ℕ → Role
   alone : MarkParts → Role
@@ -33,6 +38,7 @@ pub data Role : Type 0 where
   opens : StyleKind → Option (List ℕ) → MarkParts → Role
   closes : MarkParts → Role
 
+-- a leaf is a mark without a StyleType, a Character without a closing name, and any other than a Character that has '+'
 abbrev pub styled : MarkParts → Option (List ℕ) → Option StyleKind → Role
 styled m closer None = alone m
 styled m None (Some kinds.Character) = alone m
@@ -63,7 +69,7 @@ is_span (spans m) = true
 is_span (opens kind closer m) = false
 is_span (closes m) = false
 
--- a node that is open
+-- a node that is open; nested is whether its mark has '+'. Lists of open nodes have the innermost first, and not the root.
 pub record Open : Type 0 where
   pub kind : StyleKind
   pub nested : Bool
@@ -98,7 +104,8 @@ same_bool a b = if a then b else not b
 abbrev pub is_closed_by : MarkParts → Open → Bool
 is_closed_by m o = fits_closer m o.closer && same_bool m.nested o.nested
 
--- How many of the open nodes, the innermost first, a closing mark ends: up to a note, the first that it closes.
+-- How many open nodes a closing mark ends: it reaches the character nodes above the innermost note, and that note, and closes the
+-- innermost in reach whose closing name it has and whose mark has '+' exactly if it has. All above ends with it.
 abbrev pub closed_by : MarkParts → List Open → ℕ
 closed_by m [] = 0
 closed_by m (o ∷ os) =
@@ -110,6 +117,8 @@ abbrev pub to_note : List Open → ℕ
 to_note [] = 0
 to_note (o ∷ os) = if is_note o then 1 else (let n = to_note os in if n == 0 then 0 else suc n)
 
+-- A paragraph mark ends all, a note mark an open note with all inside it, a character mark the character nodes above the innermost
+-- note, paragraph or root, and with '+' nothing.
 abbrev pub opening_ends : StyleKind → Bool → List Open → ℕ
 opening_ends kinds.Paragraph nested os = length os
 opening_ends kinds.Character true os = 0
@@ -117,7 +126,7 @@ opening_ends kinds.Character false os = prefix_len is_character os
 opening_ends kinds.Note nested os = to_note os
 opening_ends kinds.Milestone nested os = 0
 
--- how many open nodes, the innermost first, a token ends
+-- how many open nodes a token ends
 abbrev pub ended : List Open → Role → ℕ
 ended os (plain t) = 0
 ended os (alone m) = 0
@@ -168,9 +177,11 @@ abbrev pub milestone_takes : List Placed → Taken
 milestone_takes [] = Taken_none []
 milestone_takes (t ∷ l) = milestone_at t.start (t ∷ l) t.token l
 
+-- kids of the root stand at depth 1, and no node stands deeper than this
 abbrev pub most_open : ℕ
 most_open = 64
 
+-- what was read of the tokens, and the rest
 abbrev pub Read : Type 0
 Read = Forest × List Placed
 
@@ -178,10 +189,13 @@ Read = Forest × List Placed
 abbrev pub followed : (Forest → Forest) → Read → Read
 followed entry after = (entry after.0, after.1)
 
--- go reads the kids of the innermost open node
+-- In what follows go reads the kids of the innermost open node.
+
+-- a milestone with what it takes
 abbrev pub spanned : (List Open → List Placed → Read) → List Open → Placed → MarkParts → Taken → Read
 spanned go os t m taken = followed (spanning kinds.Milestone t.start m taken.kids taken.close) (go os taken.rest)
 
+-- a node with its kids and its closing mark, if the token behind them closes it
 abbrev pub closing : (List Open → List Placed → Read) → List Open → Placed → StyleKind → MarkParts → Forest → Closed → Read
 closing go os t kind m inside closed = followed (spanning kind t.start m inside closed.0) (go os closed.1)
 
@@ -191,9 +205,11 @@ opened styles go o os t m inner = closing go os t o.kind m inner.0 (take_close s
 abbrev pub open_of : StyleKind → Option (List ℕ) → MarkParts → Open
 open_of kind closer m = record { kind = kind; nested = m.nested; closer = closer }
 
+-- whether a node may begin in the innermost open node
 abbrev pub has_room : List Open → Bool
 has_room os = nat_lt (length os) most_open
 
+-- a token that ends no open node, and what follows
 abbrev pub enter : Styles → (List Open → List Placed → Read) → List Open → Placed → List Placed → Role → Read
 enter styles go os t l (plain b) = followed (text t.start b) (go os l)
 enter styles go os t l (alone m) = followed (leaf t.start m) (go os l)
@@ -204,7 +220,7 @@ enter styles go os t l (opens kind closer m) =
     if has_room os then opened styles go (open_of kind closer m) os t m (go (open_of kind closer m ∷ os) l)
     else followed (leaf t.start m) (go os l)
 
--- the kids of the innermost open node, and the rest: the bound falls with the list
+-- the kids of the innermost of the open nodes, up to a token that ends it, and the rest; the bound falls with the list
 unfoldable pub kids : Styles → ℕ → List Open → List Placed → Read
 kids styles zero os l = (nothing, l)
 kids styles (suc n) os [] = (nothing, [])
@@ -212,9 +228,10 @@ kids styles (suc n) os (t ∷ l) =
     if nat_lt 0 (ended os (role styles t.token)) then (nothing, t ∷ l)
     else enter styles (kids styles n) os t l (role styles t.token)
 
--- with a bound that is never met
+-- the same with a bound that is never met, since each of the lists inside is shorter
 abbrev pub kids_of_list : Styles → List Open → List Placed → Read
 kids_of_list styles os l = kids styles (suc (length l)) os l
 
+-- the tree of a text
 unfoldable pub tree_of : Styles → List ℕ → Forest
 tree_of styles s = (kids_of_list styles [] (placed 0 (tokens_of s))).0

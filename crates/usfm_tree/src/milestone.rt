@@ -49,7 +49,7 @@ fn takes_behind<'a>(rest: &'a str, text: &'a str, after_text: &'a str) -> Taken<
     }
 }
 
-/// A text and a bare closing mark, or a bare closing mark, or nothing.
+// A text and a bare closing mark, or a bare closing mark, or nothing.
 #[tactic(auto, using(crate::proofs::TakenLemmas::outcome_none, crate::proofs::TakenLemmas::outcome_other, crate::proofs::TakenLemmas::outcome_bare))]
 pub(crate) fn takes<'a>(rest: &'a str) -> Taken<'a>
     ensures { TakesOf rest.now result }

@@ -14,7 +14,7 @@ use crate::role::Role;
 use sty_sheet::StyleKind;
 use usfm_token::Mark;
 
-/// A node that is open, and what stands before it in its parent.
+// A node that is open: the text from its mark on, and what stands before it in its parent.
 #[derive(Drop)]
 pub(crate) struct Open<'a, 's> {
     pub(crate) kind: StyleKind,
@@ -25,6 +25,7 @@ pub(crate) struct Open<'a, 's> {
     pub(crate) before: Vec<Node<'a>>,
 }
 
+// Whether a closing mark is of this node.
 fn is_closed_by(node: &Open<'_, '_>, mark: Mark<'_>) -> bool
     ensures { result ≡ reading.is_closed_by (mark_parts mark.entry) (open_view node.now) }
 {
@@ -39,19 +40,13 @@ fn is_closed_by(node: &Open<'_, '_>, mark: Mark<'_>) -> bool
 fn is_character(kind: StyleKind) -> bool
     ensures { result ≡ reading.is_character_kind kind }
 {
-    match kind {
-        StyleKind::Character => true,
-        StyleKind::Paragraph | StyleKind::Note | StyleKind::Milestone => false,
-    }
+    matches!(kind, StyleKind::Character)
 }
 
 fn is_note(kind: StyleKind) -> bool
     ensures { result ≡ reading.is_note_kind kind }
 {
-    match kind {
-        StyleKind::Note => true,
-        StyleKind::Paragraph | StyleKind::Character | StyleKind::Milestone => false,
-    }
+    matches!(kind, StyleKind::Note)
 }
 
 // How many open nodes a closing mark ends, the innermost being the last.

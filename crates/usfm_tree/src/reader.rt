@@ -22,7 +22,7 @@ use std::mem;
 use sty_sheet::StyleKind;
 use usfm_token::Mark;
 
-/// The open nodes, the innermost last, and the kids of the innermost so far.
+// The open nodes, the innermost last, and the kids of the innermost so far.
 #[derive(Drop)]
 pub(crate) struct Reader<'a, 's> {
     pub(crate) open_nodes: Vec<Open<'a, 's>>,
@@ -144,8 +144,8 @@ impl<'a, 's> Reader<'a, 's> {
         Ok(close.is_some())
     }
 
-    #[tactic(auto, using(crate::proofs::ReaderLemmas::opens_of_frames, crate::proofs::ReaderLemmas::resumes_twice))]
     // Ends what the token ends. Answers whether it closed a node, and so is used up.
+    #[tactic(auto, using(crate::proofs::ReaderLemmas::opens_of_frames, crate::proofs::ReaderLemmas::resumes_twice))]
     pub(crate) fn unwind(
         &mut self,
         role: Role<'a, 's>,

@@ -10,7 +10,7 @@ ghost use Rattle.usfm_tree.specs.SheetViews.{styles_of};
 use sty_sheet::{Sheet, StyleKind};
 use usfm_token::{Mark, Token};
 
-/// What a token does.
+// What a token does.
 #[derive(Clone, Copy)]
 pub(crate) enum Role<'a, 's> {
     Plain(&'a str),
