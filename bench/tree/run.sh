@@ -1,0 +1,97 @@
+#!/usr/bin/env bash
+# Times the proved reading of a style sheet and of a text's tree (bench.rt.txt) against a plain reader in
+# Rust of the same tree (plain.rs), both built for the processor that Rattle builds for, over a generated
+# sheet of 250 markers and two generated texts: prose, and words each in a pair of marks. Needs rt, rustc
+# and awk, and takes a few minutes.
+#
+# The two are run turn about, and of each the least time of a round counts. The exit status is 1 where
+# the two find different trees, the proved tree takes more than 2 times as long, or the proved sheet
+# more than 5 ms.
+#
+# usage: run.sh [BYTES] [TURNS]
+set -euo pipefail
+here=$(cd "$(dirname "$0")" && pwd)
+top=$(cd "$here/../.." && pwd)
+bytes=${1:-2000000}
+turns=${2:-8}
+rounds=20
+work=$(mktemp -d)
+trap 'rm -rf "$work"' EXIT
+
+# A sheet in the manner of usfm.sty: the markers of the texts and others, each with a record of 14 lines.
+make_sheet() {
+    awk '
+        function record(marker, closer, kind) {
+            printf "\\Marker %s\n", marker
+            if (closer != "") printf "\\Endmarker %s\n", closer
+            printf "\\Name %s - the style of a marker\n\\Description A marker of the sheet # in short\n", marker
+            printf "\\OccursUnder p q1 q2 li1 NEST\n\\Rank 4\n\\TextType VerseText\n\\TextProperties publishable vernacular\n"
+            printf "\\StyleType %s\n\\FontSize 12\n\\Justification Left\n\\SpaceBefore 8\n\\Color 0\n\n", kind
+        }
+        BEGIN {
+            print "# a generated sheet"
+            split("id c p s", paragraphs)
+            for (i = 1; i <= 4; i++) record(paragraphs[i], "", "Paragraph")
+            record("v", "", "Character")
+            split("w nd add ft", characters)
+            for (i = 1; i <= 4; i++) record(characters[i], characters[i] "*", "Character")
+            record("f", "f*", "Note")
+            record("qt-s", "qt-e", "Milestone")
+            for (i = 1; i <= 239; i++) record("z" i, i % 2 ? "z" i "*" : "", i % 2 ? "Character" : "Paragraph")
+        }'
+}
+
+make_text() { awk -v kind="$1" -v size="$bytes" -f "$here/../book.awk"; }
+
+echo "building"
+make_sheet >"$work/sheet"
+make_text prose >"$work/prose"
+make_text marks >"$work/marks"
+rustc -C opt-level=3 -C target-cpu=x86-64-v2 -C codegen-units=1 -o "$work/plain" "$here/plain.rs"
+
+git -C "$work" init -q
+program=$work/crates/tree_bench
+mkdir -p "$program/src"
+for crate in usfm_token sty_sheet usfm_tree; do
+    mkdir -p "$work/crates/$crate"
+    for part in src specs proofs; do
+        cp -r "$top/crates/$crate/$part" "$work/crates/$crate/"
+    done
+done
+cp "$here/bench.rt.txt" "$program/src/main.rt"
+{
+    grep -E '^(usfm_token|sty_sheet|usfm_tree):' "$top/crates.txt"
+    echo "tree_bench: sty_sheet usfm_tree anyhow"
+} >"$work/crates.txt"
+if ! (cd "$program" && rt run -- "$work/sheet" "$work/prose" 1) >"$work/log" 2>&1; then
+    tail -n 30 "$work/log"
+    exit 1
+fi
+
+# The least number that is in a column of a file of outputs.
+least() { cut -d' ' -f"$2" "$1" | sort -n | head -n 1; }
+
+status=0
+for text in prose marks; do
+    for _ in $(seq "$turns"); do
+        "$work/plain" "$work/sheet" "$work/$text" "$rounds" >>"$work/$text.plain"
+        "$program/out/tree_bench" "$work/sheet" "$work/$text" "$rounds" >>"$work/$text.proved"
+    done
+    if [ "$(cut -d' ' -f3- "$work/$text".{plain,proved} | sort -u | wc -l)" != 1 ]; then
+        echo "$text: the two find different trees"
+        cut -d' ' -f3- "$work/$text".{plain,proved} | sort -u
+        status=1
+    fi
+    awk -v text="$text" -v size="$(wc -c <"$work/$text")" -v plain="$(least "$work/$text.plain" 2)" \
+        -v proved="$(least "$work/$text.proved" 2)" 'BEGIN {
+            printf "%s: %d bytes, plain %d us, proved %d us, ratio %.2f\n",
+                text, size, plain / 1000, proved / 1000, proved / plain
+            exit proved > 2 * plain
+        }' || status=1
+done
+awk -v size="$(wc -c <"$work/sheet")" -v plain="$(least "$work/prose.plain" 1)" \
+    -v proved="$(least "$work/prose.proved" 1)" 'BEGIN {
+        printf "sheet: %d bytes, 250 markers, plain %d us, proved %d us\n", size, plain / 1000, proved / 1000
+        exit proved > 5000000
+    }' || status=1
+exit "$status"
