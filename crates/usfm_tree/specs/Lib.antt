@@ -1,4 +1,5 @@
 pub mod Forest
+pub mod Laws
 pub mod LeavesViews
 pub mod Places
 pub mod ReaderViews

@@ -11,6 +11,7 @@
 #![tactic(auto)]
 
 mod build;
+pub mod laws;
 mod leaves;
 mod milestone;
 mod node;
