@@ -14,6 +14,9 @@ use crate::role::Role;
 use sty_sheet::StyleKind;
 use usfm_token::Mark;
 
+// How deep a node may stand: the kids of the root stand at depth 1.
+pub(crate) const DEEPEST: usize = 64;
+
 // A node that is open: the text from its mark on, and what stands before it in its parent.
 #[derive(Drop)]
 pub(crate) struct Open<'a, 's> {

@@ -15,7 +15,7 @@ ghost use Rattle.usfm_tree.specs.Views.{view, forest_of};
 use crate::build::{leaf_node, milestone_node, node_of, text_kids, text_node};
 use crate::milestone::takes;
 use crate::node::{Branch, Node};
-use crate::open::{Open, closing, ended};
+use crate::open::{DEEPEST, Open, closing, ended};
 use crate::role::Role;
 use std::alloc::{AllocError, Global};
 use std::mem;
@@ -218,7 +218,7 @@ impl<'a, 's> Reader<'a, 's> {
                 Ok(())
             }
             Role::Opens(kind, closer, mark) => {
-                if self.open_nodes.len() < 64 {
+                if self.open_nodes.len() < DEEPEST {
                     self.begin(alloc, kind, closer, start, mark, at)?;
                     Ok(())
                 } else {
@@ -248,7 +248,7 @@ impl<'a, 's> Reader<'a, 's> {
         ensures within { IfOk result (λ after. length after.now ≤ length rest.entry.now) }
         ensures fewer { IfOk result (λ after. length (tokens_of after.now) ≤ length (tokens_of rest.entry.now)) }
     {
-        if self.open_nodes.len() >= 64 {
+        if self.open_nodes.len() >= DEEPEST {
             self.enter_leaf(start, mark, rest)?;
             return Ok(rest);
         }

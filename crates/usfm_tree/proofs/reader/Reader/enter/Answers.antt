@@ -34,5 +34,5 @@ pub returns-in_ok-enter_leaf-in-Opens-clause-enters : goal.returns-in_ok-enter_l
 returns-in_ok-enter_leaf-in-Opens-clause-enters c =
     let is = ap role_view c.in-Opens.is in
     let k = c.in_ok-enter_leaf-in-Opens.ensures in
-    let P : reading.Role → Type 0 = λ r. Enters r c.args.start (sofar_of c.args.self.now) (frames_of c.args.self.now) (sofar_of c.enter_leaf-else-len-lt64.new.self) (frames_of c.enter_leaf-else-len-lt64.new.self) in
+    let P : reading.Role → Type 0 = λ r. Enters r c.args.start (sofar_of c.args.self.now) (frames_of c.args.self.now) (sofar_of c.enter_leaf-else-len-lt-DEEPEST.new.self) (frames_of c.enter_leaf-else-len-lt-DEEPEST.new.self) in
     subst P (sym is) (enters_deep c.args.start c.in-Opens.kind (option_map (λ n. n.now) c.in-Opens.closer) (mark_parts c.in-Opens.mark) _ _ _ _ (ap (reading.ended (opens_of (frames_of c.args.self.now))) (sym is) ∙ c.requires.settled) (let size : length (opens_of (frames_of c.args.self.now)) ≡ length c.args.self.now.open_nodes.items = ap length (opens_of_frames c.args.self.now.open_nodes.items) ∙ length_opens_in c.args.self.now.open_nodes.items in omega arith) k.kids k.frames)

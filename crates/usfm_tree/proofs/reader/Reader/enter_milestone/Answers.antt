@@ -22,8 +22,8 @@ cut_off-slice-requires c =
     let t = c.takes-taken.result in
     (span_bytes (mark_parts c.args.mark) (optional_text 0 (text_of t)) (close_mark t), front (goal.at.cut_off-slice-requires c).After-takes-taken 0)
 
-pub returns-then-len-ge64-clause-enters : goal.returns-then-len-ge64-clause-enters
-returns-then-len-ge64-clause-enters c =
+pub returns-then-len-ge-DEEPEST-clause-enters : goal.returns-then-len-ge-DEEPEST-clause-enters
+returns-then-len-ge-DEEPEST-clause-enters c =
     let size : length (opens_of (frames_of c.args.self.now)) ≡ length c.args.self.now.open_nodes.items = ap length (opens_of_frames c.args.self.now.open_nodes.items) ∙ length_opens_in c.args.self.now.open_nodes.items in
     let k = c.in_ok-enter_leaf.ensures in
     span_deep c.args.start c.args.end (mark_parts c.args.mark) c.args.rest.now _ _ _ _ (omega arith) k.kids k.frames
