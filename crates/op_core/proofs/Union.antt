@@ -60,7 +60,7 @@ or_later : (b : Bool) (p : Operation) (x y : Option Operation) → cond b (Some 
 or_later true p x y = refl
 or_later false p x y = refl
 
-or_none : (x : Option Operation) → option_or x None ≡ x
+pub or_none : (x : Option Operation) → option_or x None ≡ x
 or_none None = refl
 or_none (Some x) = refl
 
@@ -157,7 +157,7 @@ get-join xs (o ∷ ys) q hx hy =
     ∙ ap (λ x. option_or x (cond (same_id q o.id) (Some o) None)) (get-join xs ys q hx parts.1)
     ∙ or_last (get xs q) (get ys q) (Some o) (same_id q o.id) (λ s. ap (get ys) (id_from_same q o.id s) ∙ get_above o.id ys parts.0)
 
-or_assoc : (x y z : Option Operation) → option_or (option_or x y) z ≡ option_or x (option_or y z)
+pub or_assoc : (x y z : Option Operation) → option_or (option_or x y) z ≡ option_or x (option_or y z)
 or_assoc None y z = refl
 or_assoc (Some x) y z = refl
 

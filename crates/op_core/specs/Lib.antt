@@ -5,5 +5,7 @@ pub mod Ops
 pub mod Sets
 pub mod Shown
 pub mod Export
+pub mod Lists
 pub mod Equal
 pub mod Laws
+pub mod Index

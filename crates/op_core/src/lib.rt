@@ -1,7 +1,10 @@
 //! Operations on the segments of a Scripture project, and sets of them that can be joined.
 #![tactic(auto)]
 
+mod chapter;
 mod fault;
+mod ids;
+mod index;
 pub mod laws;
 mod merge;
 mod name;
@@ -9,6 +12,8 @@ mod op;
 mod op_id;
 mod ops;
 mod picked;
+mod place;
+mod register;
 mod set;
 
 pub use fault::{IdFault, SetFault};

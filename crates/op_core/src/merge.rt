@@ -1,14 +1,17 @@
 // Two rising lists of operations, walked side by side.
-ghost use Rattle.std.specs.Prelude.{◌≡◌, ◌+◌, ◌≤◌, ◌<◌, [], ◌∷◌, ◌++◌, IsTrue, MatchOption, IfSome, vec_len, vec_capacity};
+ghost use Rattle.std.specs.Prelude.{◌≡◌, ◌+◌, ◌≤◌, [], ◌++◌, IsTrue, is_none, length, filter, take, drop, reverse, vec_len, vec_capacity};
+ghost use Rattle.std.specs.List.{AllByRecursion};
+ghost use Rattle.op_core.specs.Ops.{IsOperation};
 ghost use Rattle.op_core.specs.Sets as sets;
-ghost use Rattle.op_core.specs.Shown.{last_id};
+ghost use Rattle.op_core.specs.Index.{AreApart, IsBefore};
 
 use crate::op::Op;
 use crate::op_id::OpId;
+use crate::place::{find_op, place_op};
 use std::cmp::Ordering;
 
 // The least id under which two rising lists have operations that are not equal.
-pub(crate) fn clash(held: &[Op], other: &[Op]) -> Option<OpId>
+pub(crate) fn clash(held: &[Op], other: &[Op], compared: &mut u64) -> Option<OpId>
     requires held { IsTrue (sets.rises held.now) }
     requires other { IsTrue (sets.rises other.now) }
     ensures { result ≡ sets.clash held.now other.now }
@@ -19,6 +22,7 @@ pub(crate) fn clash(held: &[Op], other: &[Op]) -> Option<OpId>
         let Some((y, others)) = right.split_first() else {
             return None;
         };
+        *compared = compared.saturating_add(1);
         match x.id().cmp(&y.id()) {
             Ordering::Less => left = later,
             Ordering::Greater => right = others,
@@ -34,46 +38,84 @@ pub(crate) fn clash(held: &[Op], other: &[Op]) -> Option<OpId>
     None
 }
 
-// The union of two rising lists, in the list that has room for both. Where both have an id, the held
-// operation stays.
-pub(crate) fn merge(held: &mut Vec<Op>, mut other: Vec<Op>, mut both: Vec<Op>) -> Vec<Op>
-    requires room { vec_len held.old + vec_len other ≤ vec_capacity both }
-    requires empty { both.items ≡ [] }
-    requires held { IsTrue (sets.rises held.old.items) }
-    requires other { IsTrue (sets.rises other.items) }
-    ensures { result.items ≡ sets.join held.old.items other.items }
+// Takes out of a rising list the operations whose ids are held.
+pub(crate) fn leave_held(new: &mut Vec<Op>, held: &[Op], compared: &mut u64)
+    requires { IsTrue (sets.rises held.now) }
+    ensures { new.new.items ≡ filter (λ o. is_none (sets.get held.now o.id)) new.old.items }
 {
-    'merging: while let Some(op) = take_greatest(held, &mut other) {
-        both.push(op).unwrap();
-    }
-    both.reverse();
-    both
-}
-
-// Takes the operation with the greatest id out of two rising lists. Where both end in that id, the held
-// operation is taken, and the other one dropped.
-fn take_greatest(held: &mut Vec<Op>, other: &mut Vec<Op>) -> Option<Op>
-    requires held { IsTrue (sets.rises held.old.items) }
-    requires other { IsTrue (sets.rises other.old.items) }
-    ensures union { MatchOption result (sets.join held.old.items other.old.items ≡ [])
-        (λ op. sets.join held.old.items other.old.items ≡ sets.join held.new.items other.new.items ++ op ∷ []) }
-    ensures fewer { IfSome result (λ _. vec_len held.new + vec_len other.new < vec_len held.old + vec_len other.old) }
-    ensures held { IsTrue (sets.rises held.new.items) }
-    ensures other { IsTrue (sets.rises other.new.items) }
-{
-    match last_id(held).cmp(&last_id(other)) {
-        Ordering::Less => other.pop(),
-        Ordering::Greater => held.pop(),
-        Ordering::Equal => {
-            let _ = other.pop();
-            held.pop()
+    let mut kept = 0;
+    for i in 0..new.len() {
+        if find_op(held, new[i].id(), compared).is_none() {
+            new.swap(kept, i);
+            kept += 1;
         }
     }
+    new.truncate(kept);
 }
 
-fn last_id(ops: &[Op]) -> Option<OpId>
-    ensures { result ≡ last_id ops.now }
+// How many held operations are before the first of the new ones.
+pub(crate) fn place_first(held: &[Op], new: &[Op], compared: &mut u64) -> usize
+    requires held { IsTrue (sets.rises held.now) }
+    requires new { IsTrue (sets.rises new.now) }
+    ensures within { result ≤ length held.now }
+    ensures before { IsBefore result held.now new.now }
 {
-    let last = ops.last()?;
-    Some(last.id())
+    match new.split_first() {
+        None => held.len(),
+        Some((op, _)) => place_op(held, op.id(), compared),
+    }
+}
+
+// Looks at each operation, which shows that it is within its ranges. Nothing of it is left in the program.
+pub(crate) fn look_at_each(new: &[Op])
+    ensures { AllByRecursion IsOperation new.now }
+{
+    for op in new {
+        let _ = op.id();
+    }
+}
+
+// Merges new operations into a rising list, of whose ids none is there. There is room for them, and in
+// `tail` for them and for what is behind the first of them.
+pub(crate) fn merge(
+    ops: &mut Vec<Op>,
+    mut new: Vec<Op>,
+    mut tail: Vec<Op>,
+    from: usize,
+    compared: &mut u64,
+)
+    requires ops { IsTrue (sets.rises ops.old.items) }
+    requires new { IsTrue (sets.rises new.items) }
+    requires apart { AreApart ops.old.items new.items }
+    requires before { IsBefore from ops.old.items new.items }
+    requires tail { tail.items ≡ [] }
+    requires room { vec_len ops.old + vec_len new ≤ vec_capacity ops.old }
+    requires room_behind { vec_len ops.old + vec_len new ≤ vec_capacity tail + from }
+    ensures { ops.new.items ≡ sets.join ops.old.items new.items }
+{
+    'merging: while let Some(op) = new.pop() {
+        let at = place_op(ops, op.id(), compared);
+        move_behind(ops, at, &mut tail);
+        tail.push(op).unwrap();
+    }
+    move_behind(&mut tail, 0, ops);
+}
+
+// Moves what is from a place on to the end of another list, the last first. There is room for it.
+fn move_behind(ops: &mut Vec<Op>, at: usize, to: &mut Vec<Op>)
+    requires at { at ≤ vec_len ops.old }
+    requires room { vec_len to.old + vec_len ops.old ≤ vec_capacity to.old + at }
+    ensures left { ops.new.items ≡ take at ops.old.items }
+    ensures moved { to.new.items ≡ to.old.items ++ reverse (drop at ops.old.items) }
+    ensures left_len { vec_len ops.new ≡ at }
+    ensures moved_len { vec_len to.new + at ≡ vec_len to.old + vec_len ops.old }
+    ensures left_room { vec_capacity ops.new ≡ vec_capacity ops.old }
+    ensures moved_room { vec_capacity to.old ≤ vec_capacity to.new }
+{
+    'moving: while ops.len() > at {
+        let Some(op) = ops.pop() else {
+            return;
+        };
+        to.push(op).unwrap();
+    }
 }

@@ -2,14 +2,13 @@ ghost use Rattle.std.specs.Prelude.{◌≡◌, IsTrue, string_bytes};
 ghost use Rattle.std.specs.Cmp.{partial_equiv_from_equiv};
 ghost use Rattle.std.specs.Cmp.Lexicographic.{pointwise};
 ghost use Rattle.std.specs.List.{list_all};
-ghost use Rattle.usfm_ref.specs.Keys.{is_verse_of};
 ghost use Rattle.usfm_ref.specs.Segments.{segment};
 ghost use Rattle.op_core.specs.Ids as ids;
-ghost use Rattle.op_core.specs.Ops.{IsOperation, in_segment, is_verse_in, names};
+ghost use Rattle.op_core.specs.Ops.{IsOperation, in_segment, names};
 
 use crate::op_id::OpId;
 use std::marker::Model;
-use usfm_ref::{Book, Key, Place};
+use usfm_ref::{Book, Key};
 
 /// The text that a replica gave to a segment, a book's key, and the ids of the operations that it
 /// replaces there.
@@ -99,13 +98,6 @@ impl Op {
         self.book == book && self.key == key
     }
 
-    // Whether the operation is of a verse of the chapter.
-    pub(crate) fn is_verse_in(&self, book: Book, chapter: u16) -> bool
-        ensures { result ≡ is_verse_in book chapter self.now }
-    {
-        self.book == book && is_verse_of(chapter, self.key)
-    }
-
     // Whether the operation names the id as replaced.
     pub(crate) fn names(&self, id: OpId) -> bool
         ensures { result ≡ names self.now id }
@@ -129,12 +121,6 @@ impl PartialEq for Op {
             && same_ids(&self.replaced, &other.replaced)
             && self.text.as_bytes() == other.text.as_bytes()
     }
-}
-
-fn is_verse_of(chapter: u16, key: Key) -> bool
-    ensures { result ≡ is_verse_of chapter key }
-{
-    key.chapter == chapter && key.place != Place::Head
 }
 
 fn same_ids(left: &[OpId], right: &[OpId]) -> bool

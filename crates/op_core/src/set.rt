@@ -1,37 +1,46 @@
-ghost use Rattle.std.specs.Prelude.{◌≡◌, ◌≢◌, ◌+◌, ◌≤◌, ◌↔◌, [], ◌∷◌, length, map, not, is_none, None, IsTrue, IfOk, IfErr, OnOk, OnErr};
+ghost use Rattle.std.specs.Prelude.{◌≡◌, ◌≢◌, ◌&&◌, ◌+◌, ◌≤◌, ◌↔◌, [], ◌∷◌, length, map, not, is_none, None, IsTrue, IfOk, IfErr, OnOk, OnErr};
 ghost use Rattle.std.specs.Option.{option_copied};
-ghost use Rattle.std.specs.List.{position_or_len};
 ghost use Rattle.usfm_ref.specs.Segments.{segment};
-ghost use Rattle.op_core.specs.Ids.{id_below};
 ghost use Rattle.op_core.specs.Sets as sets;
 ghost use Rattle.op_core.specs.Shown as texts;
+ghost use Rattle.op_core.specs.Lists as lists;
+ghost use Rattle.std.specs.List.{AllByRecursion, list_any};
+ghost use Rattle.usfm_ref.specs.Keys.{is_verse_of};
 
+use crate::chapter::Chapter;
 use crate::fault::SetFault;
-use crate::merge::{clash, merge};
+use crate::index::enroll;
+use crate::merge::{clash, leave_held, look_at_each, merge, place_first};
 use crate::op::Op;
 use crate::op_id::OpId;
 use crate::ops::Ops;
 use crate::picked::Picked;
+use crate::place::{find_op, place_op, register_at, registers_of};
+use crate::register::Register;
 use std::alloc::{AllocError, Global};
 use std::marker::Model;
+use std::slice;
 use usfm_ref::{Book, Key, Place};
 
 /// A set of operations, of which no two have one id. It keeps the allocator that it was made with.
 #[derive(Debug, Drop)]
 pub struct OpSet {
     ops: Vec<Op>,
+    chapters: Vec<Chapter>,
+    compared: u64,
 }
 
 impl Model for OpSet {
     ghost use Rattle.std.specs.Prelude.{List};
     ghost use Rattle.op_core.specs.Ops.{Operation};
     ghost use Rattle.op_core.specs.Sets.{IsOpSet};
+    ghost use Rattle.op_core.specs.Index.{IsIndex};
 
     ghost Value = { List Operation };
 
     ghost view = { λ s. s.ops.items };
 
-    ghost invariant = { λ s. IsOpSet s.ops.items };
+    ghost invariant = { λ s. IsOpSet s.ops.items × IsIndex s.ops.items s.chapters.items };
 }
 
 impl OpSet {
@@ -41,6 +50,8 @@ impl OpSet {
     {
         OpSet {
             ops: Vec::new(alloc),
+            chapters: Vec::new(alloc),
+            compared: 0,
         }
     }
 
@@ -70,7 +81,7 @@ impl OpSet {
     pub fn get(&self, id: &OpId) -> Option<&Op>
         ensures { option_copied result ≡ sets.get self.now id.now }
     {
-        find_op(&self.ops, *id)
+        find_op(&self.ops, *id, &mut 0)
     }
 
     /// Adds an operation, and says whether it is new. One that is held already, alike, is dropped,
@@ -88,15 +99,25 @@ impl OpSet {
         ensures err { OnErr result (self.new ≡ self.old) }
     {
         let id = op.id();
-        if let Some(held) = self.get(&id) {
+        if let Some(held) = find_op(&self.ops, id, &mut self.compared) {
             return if *held == op {
                 Ok(false)
             } else {
                 Err(SetFault::Clash(id))
             };
         }
-        let at = place(&self.ops, id);
-        self.ops.insert(at, op)?;
+        self.ops.reserve(1)?;
+        let alloc = *self.ops.allocator();
+        let new = slice::from_ref(&op);
+        enroll(
+            &mut self.chapters,
+            alloc,
+            &self.ops,
+            new,
+            &mut self.compared,
+        )?;
+        let at = place_op(&self.ops, id, &mut self.compared);
+        self.ops.insert(at, op).unwrap();
         Ok(true)
     }
 
@@ -112,14 +133,52 @@ impl OpSet {
         ensures refused { IfErr result (sets.IsRefusal (sets.clash self.old other)) }
         ensures err { OnErr result (self.new ≡ self.old) }
     {
-        if let Some(id) = clash(&self.ops, &other.ops) {
+        if let Some(id) = clash(&self.ops, &other.ops, &mut self.compared) {
             return Err(SetFault::Clash(id));
         }
-        let before = self.ops.len();
-        let room = before + other.ops.len();
-        let both = Vec::with_capacity(*self.ops.allocator(), room)?;
-        self.ops = merge(&mut self.ops, other.ops, both);
-        Ok((self.ops.len() - before) as u64)
+        let mut new = other.ops;
+        leave_held(&mut new, &self.ops, &mut self.compared);
+        Ok(self.join_rising(new)?)
+    }
+
+    /// Adds operations that rise by id and of which none is held, and says how many they are. What
+    /// lies behind the first of them is moved once, however many they are.
+    ///
+    /// # Errors
+    /// Want of memory alone. The set is then unchanged, and the operations dropped.
+    pub fn join_rising(&mut self, new: Vec<Op>) -> Result<u64, AllocError>
+        requires rising { IsTrue (sets.rises new.items) }
+        requires apart { AllByRecursion (λ o. sets.get self.old o.id ≡ None) new.items }
+        ensures ok { OnOk result (self.new ≡ sets.join self.old new.items) }
+        ensures count { IfOk result (λ n. n ≡ length new.items) }
+        ensures err { OnErr result (self.new ≡ self.old) }
+    {
+        look_at_each(&new);
+        let count = new.len();
+        let from = place_first(&self.ops, &new, &mut self.compared);
+        let alloc = *self.ops.allocator();
+        let tail = Vec::with_capacity(alloc, self.ops.len() - from + count)?;
+        self.ops.reserve(count)?;
+        enroll(
+            &mut self.chapters,
+            alloc,
+            &self.ops,
+            &new,
+            &mut self.compared,
+        )?;
+        merge(&mut self.ops, new, tail, from, &mut self.compared);
+        Ok(count as u64)
+    }
+
+    /// The ids of the operations that the segment shows, rising, lent from the set; none where the
+    /// segment has no operation. It takes no memory.
+    pub fn shown_ids(&self, book: Book, key: Key) -> &[OpId]
+        ensures { result.now ≡ lists.shown_ids self.now (segment book key) }
+    {
+        match register_at(registers_of(&self.chapters, book, key, &mut 0), key, &mut 0) {
+            None => &[],
+            Some(register) => &register.shown,
+        }
     }
 
     /// What the segment shows: the operations of it whose ids no operation of it names as replaced,
@@ -130,9 +189,11 @@ impl OpSet {
     pub fn shown(&self, alloc: Global, book: Book, key: Key) -> Result<Vec<&Op>, AllocError>
         ensures { IfOk result (λ v. map (λ op. op.now) v.items ≡ texts.shown self.now (segment book key)) }
     {
-        let mut shown = Vec::new(alloc);
-        for op in &self.ops {
-            if self.shows(book, key, op) {
+        let _ = &self.ops;
+        let ids = self.shown_ids(book, key);
+        let mut shown = Vec::with_capacity(alloc, ids.len())?;
+        for id in ids {
+            if let Some(op) = self.get(id) {
                 shown.push(op)?;
             }
         }
@@ -148,7 +209,7 @@ impl OpSet {
         if key.place == Place::Head
             && key.chapter >= 1
             && self.is_text_empty(book, key)
-            && self.has_verse_text(book, key.chapter)
+            && self.has_verse_text(book, key)
         {
             return Picked::ChapterLine(key.chapter);
         }
@@ -158,33 +219,13 @@ impl OpSet {
         }
     }
 
-    // Whether an operation of the segment names the id.
-    fn is_replaced(&self, book: Book, key: Key, id: OpId) -> bool
-        ensures { result ≡ texts.is_replaced self.now (segment book key) id }
-    {
-        self.ops
-            .iter()
-            .any(|op| op.in_segment(book, key) && op.names(id))
-    }
-
-    // Whether the segment shows the operation.
-    fn shows(&self, book: Book, key: Key, op: &Op) -> bool
-        ensures { result ≡ texts.is_shown self.now (segment book key) op.now }
-    {
-        op.in_segment(book, key) && !self.is_replaced(book, key, op.id())
-    }
-
     // The shown operation with the greatest id.
     fn greatest(&self, book: Book, key: Key) -> Option<&Op>
         ensures { option_copied result ≡ texts.last (texts.shown self.now (segment book key)) }
     {
-        let mut last = None;
-        for op in &self.ops {
-            if self.shows(book, key, op) {
-                last = Some(op);
-            }
-        }
-        last
+        let _ = &self.ops;
+        let id = self.shown_ids(book, key).last()?;
+        self.get(id)
     }
 
     fn is_text_empty(&self, book: Book, key: Key) -> bool
@@ -197,41 +238,27 @@ impl OpSet {
     }
 
     // Whether some verse of the chapter has a text that is not empty.
-    fn has_verse_text(&self, book: Book, chapter: u16) -> bool
-        ensures { result ≡ texts.has_verse_text self.now book chapter }
+    fn has_verse_text(&self, book: Book, key: Key) -> bool
+        ensures { result ≡ texts.has_verse_text self.now book key.chapter }
     {
-        self.ops
-            .iter()
-            .any(|op| self.is_verse_with_text(book, chapter, op))
+        let _ = &self.ops;
+        let registers = registers_of(&self.chapters, book, key, &mut 0);
+        self.has_text_among(registers, book, key)
     }
 
-    // Whether the operation's segment is a verse of the chapter, and its text is not empty.
-    fn is_verse_with_text(&self, book: Book, chapter: u16, op: &Op) -> bool
-        ensures { result ≡ texts.is_verse_with_text self.now book chapter op.now }
+    // Whether one of the registers is of a verse of the key's chapter with a text that is not empty.
+    fn has_text_among(&self, registers: &[Register], book: Book, key: Key) -> bool
+        ensures { result ≡ list_any (λ r. is_verse_of key.chapter r.key && not (texts.is_empty (texts.text_of self.now (segment book r.key)))) registers.now }
     {
-        op.is_verse_in(book, chapter) && !self.is_text_empty(op.book(), op.key())
+        registers.iter().any(|register| {
+            is_verse_beside(key, register.key) && !self.is_text_empty(book, register.key)
+        })
     }
 }
 
-fn find_op(ops: &[Op], id: OpId) -> Option<&Op>
-    requires { IsTrue (sets.rises ops.now) }
-    ensures { option_copied result ≡ sets.get ops.now id }
+// Whether the key is a verse of the other one's chapter.
+fn is_verse_beside(other: Key, key: Key) -> bool
+    ensures { result ≡ is_verse_of other.chapter key }
 {
-    let at = place(ops, id);
-    if at < ops.len() {
-        let op = &ops[at];
-        if op.id() == id {
-            return Some(op);
-        }
-    }
-    None
-}
-
-// How many operations at the front have an id below this one.
-fn place(ops: &[Op], id: OpId) -> usize
-    requires { IsTrue (sets.rises ops.now) }
-    ensures place { result ≡ position_or_len (λ o. not (id_below o.id id)) ops.now }
-    ensures within { result ≤ length ops.now }
-{
-    ops.partition_point(|op| op.id() < id)
+    key.chapter == other.chapter && key.place != Place::Head
 }

@@ -1,6 +1,8 @@
 pub mod Codes
 pub mod Orders
 pub mod Sorted
+pub mod Placed
+pub mod Members
 pub mod Runs
 pub mod Readings
 pub mod Spellings

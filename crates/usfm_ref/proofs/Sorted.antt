@@ -6,6 +6,7 @@ use Rattle.std.specs.Ordering.{is_eq, is_lt, ordering_reverse}
 use Rattle.std.specs.List.{list_all, position_or_len, find, filter}
 use Rattle.std.specs.List.Sorted.{IsPartitionedBy}
 use Rattle.std.specs.Cmp.{IsTotalOrder}
+use Rattle.std.proofs.lemmas.Cmp.{eq_by_cmp_equiv}
 use Rattle.std.proofs.lemmas.Bool.{and_parts, and_from, cond-true, cond-false, true≢false, false≢true}
 use Rattle.std.specs.FinMap.Entries.{by_order}
 use Rattle.usfm_ref.specs.Rising.{rises_by, with_item, rising}
@@ -14,6 +15,10 @@ pub is_less : (o : Ordering) → is_lt o ≡ true → o ≡ Less
 is_less Less h = refl
 is_less Equal h = cc
 is_less Greater h = cc
+
+-- a tie, or none, is the same either way
+pub tied_back : {K : Type 0} (R : K → K → Ordering) (o : IsTotalOrder R) (a b : K) (r : Bool) → is_eq (R a b) ≡ r → is_eq (R b a) ≡ r
+tied_back R o a b r e = (eq_by_cmp_equiv o).symm b a ∙ e
 
 module _ {K X : Type 0} (R : K → K → Ordering) (o : IsTotalOrder R) (key : X → K) where
   abbrev pub Above : K → List X → Type 0
@@ -54,17 +59,17 @@ module _ {K X : Type 0} (R : K → K → Ordering) (o : IsTotalOrder R) (key : X
       let p = first_above q x xs h in
       cond-false _ _ _ (ap is_eq (is_less _ p.0)) ∙ above_none q xs p.1
 
-  back : (a b : K) (r : Ordering) → R a b ≡ r → R b a ≡ ordering_reverse r
+  pub back : (a b : K) (r : Ordering) → R a b ≡ r → R b a ≡ ordering_reverse r
   back a b r e = o.antisymm b a ∙ ap ordering_reverse e
 
   -- what stands at the place of a key
   abbrev pub place : K → List X → ℕ
   place q xs = position_or_len (λ x. not (is_lt (R (key x) q))) xs
 
-  place_here : (q : K) (x : X) (xs : List X) → is_lt (R (key x) q) ≡ false → place q (x ∷ xs) ≡ 0
+  pub place_here : (q : K) (x : X) (xs : List X) → is_lt (R (key x) q) ≡ false → place q (x ∷ xs) ≡ 0
   place_here q x xs e = rw e refl
 
-  place_later : (q : K) (x : X) (xs : List X) → is_lt (R (key x) q) ≡ true → place q (x ∷ xs) ≡ suc (place q xs)
+  pub place_later : (q : K) (x : X) (xs : List X) → is_lt (R (key x) q) ≡ true → place q (x ∷ xs) ≡ suc (place q xs)
   place_later q x xs e = rw e (omega arith)
 
   pub found_here : (q : K) (xs : List X) (n : ℕ) (x : X) → rises_by R key xs ≡ true → n ≡ place q xs → n < length xs → x ≡ get_or xs n x → is_eq (R q (key x)) ≡ true → found q xs ≡ Some x

@@ -19,3 +19,8 @@ with_item cmp k (x ∷ xs) = by_order (cmp k x) (k ∷ x ∷ xs) (x ∷ xs) (x �
 abbrev pub rising : {K : Type 0} → (K → K → Ordering) → List K → List K
 rising cmp [] = []
 rising cmp (x ∷ xs) = with_item cmp x (rising cmp xs)
+
+-- a rising list with one item more in the place of its key; where one of its key is there, that one is replaced
+abbrev pub placed : {K X : Type 0} → (K → K → Ordering) → (X → K) → X → List X → List X
+placed cmp key y [] = y ∷ []
+placed cmp key y (x ∷ xs) = by_order (cmp (key y) (key x)) (y ∷ x ∷ xs) (y ∷ xs) (x ∷ placed cmp key y xs)

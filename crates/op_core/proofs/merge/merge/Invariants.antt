@@ -1,14 +1,18 @@
-use Rattle.std.proofs.Common.{◌≡◌, ◌+◌, ◌≤◌, ◌++◌, true, reverse, vec_len, vec_capacity}
+use Rattle.std.proofs.Common.{◌≡◌, ◌≤◌, ◌+◌, ◌++◌, true, reverse, vec_len, vec_capacity}
 use Rattle.op_core.specs.Sets.{rises, join}
+use Rattle.op_core.specs.Index.{AreApart, IsBefore}
 use Rattle.op_core.proofs.merge.merge.Given as goal
 
 abbrev pub invariant-merging : goal.invariant-merging
 invariant-merging l = record {
-  held : rises l.held.items ≡ true;
-  other : rises l.other.items ≡ true;
-  room : vec_len l.held + vec_len l.other + vec_len l.both ≤ vec_capacity l.both;
-  union : join l.held.items l.other.items ++ reverse l.both.items ≡ join l.initial.held.items l.initial.other.items;
+  rising : rises l.ops.items ≡ true;
+  new_rises : rises l.new.items ≡ true;
+  apart : AreApart l.ops.items l.new.items;
+  before : IsBefore l.from l.ops.items l.new.items;
+  room : vec_len l.ops + vec_len l.new + vec_len l.tail ≤ vec_capacity l.ops;
+  room_behind : vec_len l.ops + vec_len l.new + vec_len l.tail ≤ vec_capacity l.tail + l.from;
+  union : join l.ops.items l.new.items ++ reverse l.tail.items ≡ join l.initial.ops.items l.initial.new.items;
 }
 
 abbrev pub decreases-merging : goal.decreases-merging
-decreases-merging l = vec_len l.held + vec_len l.other
+decreases-merging l = vec_len l.new

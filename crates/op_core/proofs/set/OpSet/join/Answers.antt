@@ -1,19 +1,27 @@
-use Rattle.std.proofs.Common.{length, ap, arith}
-use Rattle.op_core.proofs.Union.{IsOpSet-join}
-use Rattle.op_core.proofs.SideBySide.{length-join}
+use Rattle.std.proofs.Common.{ap, ◌∙◌, List, length, arith}
+use Rattle.op_core.specs.Ops.{Operation}
+use Rattle.op_core.specs.Sets.{join}
+use Rattle.op_core.proofs.Fresh.{fresh, fresh_rises, fresh_apart, join_fresh, length_join}
 use Rattle.op_core.proofs.set.OpSet.join.Goals as goal
 
-pub overflow_sub-result : goal.overflow_sub-result
-overflow_sub-result c =
-    let grown = length-join c.self.inside.ops.items c.other.inside.ops.items in
-    let now = ap length c.merge.ensures in
-    omega (arith, grown, now, c.merge.result.ok.0, c.self.inside.ops.ok.0, c.len-before.ensures, c.len-2.ensures)
+pub join_rising-requires-clause-rising : goal.join_rising-requires-clause-rising
+join_rising-requires-clause-rising c = rw c.leave_held.ensures (fresh_rises c.deref-3.result.now c.other.inside.ops.items c.other.invariant.0.rising)
 
-pub invariant_of-self : goal.invariant_of-self
-invariant_of-self c = rw c.merge.ensures (IsOpSet-join c.self.inside.ops.items c.other.inside.ops.items c.self.invariant c.other.invariant)
+pub join_rising-requires-clause-apart : goal.join_rising-requires-clause-apart
+join_rising-requires-clause-apart c = rw (c.leave_held.ensures, c.deref-3.ensures.value) (fresh_apart c.self.inside.ops.items c.other.inside.ops.items)
+
+pub returns-clause-ok : goal.returns-clause-ok
+returns-clause-ok c =
+    let e = c.leave_held.ensures ∙ ap (λ (s : List Operation). fresh s c.other.inside.ops.items) c.deref-3.ensures.value in
+    c.in_ok-join_rising.ensures.ok ∙ ap (join c.self.inside.ops.items) e
+    ∙ join_fresh c.self.inside.ops.items c.other.inside.ops.items c.self.invariant.0.rising c.other.invariant.0.rising
+    ∙ (λ i. join (c.self.view_is i) (c.other.view_is i))
 
 pub returns-clause-count : goal.returns-clause-count
 returns-clause-count c =
-    let grown = length-join c.self.inside.ops.items c.other.inside.ops.items in
-    let now = ap length c.merge.ensures in
-    omega (arith, grown, now, c.merge.result.ok.0, c.self.inside.ops.ok.0, c.len-before.ensures, c.len-2.ensures, ap length c.self.view_is)
+    let e = c.leave_held.ensures ∙ ap (λ (s : List Operation). fresh s c.other.inside.ops.items) c.deref-3.ensures.value in
+    let grown = length_join c.self.inside.ops.items (fresh c.self.inside.ops.items c.other.inside.ops.items) c.self.invariant.0.rising (fresh_rises c.self.inside.ops.items c.other.inside.ops.items c.other.invariant.0.rising) (fresh_apart c.self.inside.ops.items c.other.inside.ops.items) in
+    let now = ap length (c.in_ok-join_rising.ensures.ok ∙ ap (join c.self.inside.ops.items) e) in
+    let new = c.in_ok-join_rising.ensures.count ∙ ap length e in
+    let held = ap length c.self.view_is in
+    omega (arith, grown, now, new, held)

@@ -1,0 +1,10 @@
+use Rattle.std.proofs.Common.{◌-◌}
+use Rattle.op_core.specs.Ids.{id_below}
+use Rattle.usfm_ref.proofs.Placed.{IsNarrowed}
+use Rattle.op_core.proofs.place.place_op.Given as goal
+
+abbrev pub invariant-halves : goal.invariant-halves
+invariant-halves l = IsNarrowed (λ o. id_below o.id l.id) l.ops l.low l.high
+
+abbrev pub decreases-halves : goal.decreases-halves
+decreases-halves l = l.high - l.low

@@ -1,0 +1,123 @@
+// The index of a set, chapter by chapter.
+ghost use Rattle.std.specs.Prelude.{◌≡◌, ◌≤◌, IsTrue, OnOk, OnErr};
+ghost use Rattle.usfm_ref.specs.Segments.{segment};
+ghost use Rattle.op_core.specs.Ids.{ids_rise};
+ghost use Rattle.op_core.specs.Sets as sets;
+ghost use Rattle.op_core.specs.Sets.{IsOpSet};
+ghost use Rattle.op_core.specs.Index.{register_of, shown_in, missing_in, shown_room_in, missing_room_in, IsOrderly, IsIndex, AreApart, HasRoomFor, Prepares, AdmitsIn, unheld};
+
+use crate::chapter::{Chapter, admit_at_key, prepare_key};
+use crate::op::Op;
+use crate::place::{head_of, place_chapter};
+use crate::register::unheld;
+use std::alloc::{AllocError, Global};
+use usfm_ref::{Book, Key};
+
+// Promises room at a segment for one more shown id and so many more missing ones.
+pub(crate) fn prepare(
+    chapters: &mut Vec<Chapter>,
+    alloc: Global,
+    book: Book,
+    key: Key,
+    missing: usize,
+    compared: &mut u64,
+) -> Result<(), AllocError>
+    requires { IsOrderly chapters.old.items }
+    ensures ok { OnOk result (Prepares (segment book key) 1 missing chapters.old.items chapters.new.items) }
+    ensures err { OnErr result (Prepares (segment book key) 0 0 chapters.old.items chapters.new.items) }
+{
+    let head = head_of(key);
+    let at = place_chapter(chapters, book, head, compared);
+    if at < chapters.len() {
+        let chapter = &mut chapters[at];
+        if chapter.order(book, head).is_eq() {
+            return prepare_key(&mut chapter.registers, alloc, key, missing, compared);
+        }
+    }
+    chapters.reserve(1)?;
+    let mut registers = Vec::new(alloc);
+    prepare_key(&mut registers, alloc, key, missing, compared)?;
+    let chapter = Chapter {
+        book,
+        head,
+        registers,
+    };
+    chapters.insert(at, chapter).unwrap();
+    Ok(())
+}
+
+// Takes in operations that rise and of which none is held. All growths are made before the first change.
+pub(crate) fn enroll(
+    chapters: &mut Vec<Chapter>,
+    alloc: Global,
+    held: &[Op],
+    new: &[Op],
+    compared: &mut u64,
+) -> Result<(), AllocError>
+    requires held { IsOpSet held.now }
+    requires new { IsOpSet new.now }
+    requires apart { AreApart held.now new.now }
+    requires index { IsIndex held.now chapters.old.items }
+    ensures ok { OnOk result (IsIndex (sets.join held.now new.now) chapters.new.items) }
+    ensures err { OnErr result (IsIndex held.now chapters.new.items) }
+{
+    prepare_all(chapters, alloc, held, new, compared)?;
+    admit_all(chapters, held, new, compared);
+    Ok(())
+}
+
+// Promises room for all of the operations.
+fn prepare_all(
+    chapters: &mut Vec<Chapter>,
+    alloc: Global,
+    held: &[Op],
+    new: &[Op],
+    compared: &mut u64,
+) -> Result<(), AllocError>
+    requires held { IsTrue (sets.rises held.now) }
+    requires new { IsTrue (sets.rises new.now) }
+    requires index { IsIndex held.now chapters.old.items }
+    ensures index { IsIndex held.now chapters.new.items }
+    ensures room { OnOk result (HasRoomFor held.now new.now new.now chapters.new.items) }
+{
+    for op in new {
+        let missing = unheld(held, new, op, compared);
+        prepare(chapters, alloc, op.book(), op.key(), missing, compared)?;
+    }
+    Ok(())
+}
+
+// Takes in the operations, for all of which room was promised.
+fn admit_all(chapters: &mut Vec<Chapter>, held: &[Op], new: &[Op], compared: &mut u64)
+    requires held { IsOpSet held.now }
+    requires new { IsOpSet new.now }
+    requires apart { AreApart held.now new.now }
+    requires index { IsIndex held.now chapters.old.items }
+    requires room { HasRoomFor held.now new.now new.now chapters.old.items }
+    ensures { IsIndex (sets.join held.now new.now) chapters.new.items }
+{
+    for op in new {
+        admit(chapters, held, new, op, compared);
+    }
+}
+
+// Takes in one operation more at its segment, where room was promised.
+pub(crate) fn admit(
+    chapters: &mut Vec<Chapter>,
+    held: &[Op],
+    more: &[Op],
+    op: &Op,
+    compared: &mut u64,
+)
+    requires held { IsTrue (sets.rises held.now) }
+    requires more { IsTrue (sets.rises more.now) }
+    requires orderly { IsOrderly chapters.old.items }
+    requires shown { IsTrue (ids_rise (shown_in (register_of op.now.segment chapters.old.items))) }
+    requires missing { IsTrue (ids_rise (missing_in (register_of op.now.segment chapters.old.items))) }
+    requires shown_room { 1 ≤ shown_room_in (register_of op.now.segment chapters.old.items) }
+    requires missing_room { unheld held.now more.now op.now op.now.replaced ≤ missing_room_in (register_of op.now.segment chapters.old.items) }
+    ensures { AdmitsIn held.now more.now op.now chapters.old.items chapters.new.items }
+{
+    let at = place_chapter(chapters, op.book(), head_of(op.key()), compared);
+    admit_at_key(&mut chapters[at].registers, held, more, op, compared);
+}
