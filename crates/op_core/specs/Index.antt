@@ -1,7 +1,7 @@
 -- The index that a set keeps of its operations: chapter by chapter, a register for each segment with the ids that
 -- the segment shows and those that it misses. All of it follows from the operations, and no contract of a set
 -- names it.
-use Rattle.std.specs.Prelude.{◌≡◌, ◌≤◌, ◌+◌, ℕ, Bool, not, cond, ◌&&◌, ◌||◌, List, [], Option, Some, None, IsTrue, vec_len, vec_capacity, length, filter}
+use Rattle.std.specs.Prelude.{◌≡◌, ◌<◌, ◌≤◌, min, ◌+◌, ℕ, Bool, not, cond, ◌&&◌, ◌||◌, List, [], Option, Some, None, IsTrue, vec_len, vec_capacity, length, filter}
 use Rattle.std.specs.List.{list_any, find, AllByRecursion, sum_by, position_or_len}
 use Rattle.std.specs.Ordering.{is_eq}
 use Rattle.usfm_ref.specs.Keys.{KeyParts, key_cmp, head_of}
@@ -100,6 +100,11 @@ pub record IsIndex (ops : List Operation) (chapters : List Chapter) : Type 0 whe
   pub keeps : Keeps ops chapters
 
 -- ---- steps
+
+-- what a search of so many items counts: at least one comparison where there is one, up to what a word holds
+pub record Counts (items before after : ℕ) : Type 0 where
+  pub grows : before ≤ after
+  pub one : 0 < items → min (before + 1) 18446744073709551615 ≤ after
 
 -- how many of the ids that an operation names are of no operation of its segment
 abbrev pub unheld : List Operation → List Operation → Operation → List Id → ℕ

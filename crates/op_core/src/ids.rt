@@ -3,7 +3,7 @@ ghost use Rattle.std.specs.Prelude.{◌≡◌, ◌<◌, ◌≤◌, ◌+◌, not,
 ghost use Rattle.std.specs.List.{list_any, position_or_len};
 ghost use Rattle.usfm_ref.specs.Rising.{placed};
 ghost use Rattle.op_core.specs.Ids.{id_cmp, id_below, same_id, ids_rise};
-ghost use Rattle.op_core.specs.Index.{without};
+ghost use Rattle.op_core.specs.Index.{without, Counts};
 
 use crate::op_id::OpId;
 use std::alloc::AllocError;
@@ -20,6 +20,7 @@ pub(crate) fn place_id(ids: &[OpId], id: OpId, compared: &mut u64) -> usize
     requires rising { IsTrue (ids_rise ids.now) }
     ensures place { result ≡ position_or_len (λ i. not (id_below i id)) ids.now }
     ensures within { result ≤ length ids.now }
+    ensures counted { Counts (length ids.now) compared.old compared.new }
 {
     let mut low = 0;
     let mut high = ids.len();

@@ -9,7 +9,7 @@ ghost use Rattle.usfm_ref.specs.Segments.{segment, segment_cmp};
 ghost use Rattle.usfm_ref.specs.Rising.{rises_by};
 ghost use Rattle.op_core.specs.Ids.{id_below};
 ghost use Rattle.op_core.specs.Sets as sets;
-ghost use Rattle.op_core.specs.Index.{place_of, register_at, registers_of, is_in};
+ghost use Rattle.op_core.specs.Index.{place_of, register_at, registers_of, is_in, Counts};
 
 use crate::chapter::Chapter;
 use crate::ids::is_below;
@@ -23,6 +23,7 @@ pub(crate) fn place_op(ops: &[Op], id: OpId, compared: &mut u64) -> usize
     requires rising { IsTrue (sets.rises ops.now) }
     ensures place { result ≡ position_or_len (λ o. not (id_below o.id id)) ops.now }
     ensures within { result ≤ length ops.now }
+    ensures counted { Counts (length ops.now) compared.old compared.new }
 {
     let mut low = 0;
     let mut high = ops.len();
@@ -74,6 +75,7 @@ pub(crate) fn place_chapter(
     requires rising { IsTrue (rises_by segment_cmp place_of chapters.now) }
     ensures place { result ≡ position_or_len (λ c. not (is_lt (segment_cmp (place_of c) (segment book head)))) chapters.now }
     ensures within { result ≤ length chapters.now }
+    ensures counted { Counts (length chapters.now) compared.old compared.new }
 {
     let mut low = 0;
     let mut high = chapters.len();
@@ -94,6 +96,7 @@ pub(crate) fn place_register(registers: &[Register], key: Key, compared: &mut u6
     requires rising { IsTrue (rises_by key_cmp (λ r. r.key) registers.now) }
     ensures place { result ≡ position_or_len (λ r. not (is_lt (key_cmp r.key key))) registers.now }
     ensures within { result ≤ length registers.now }
+    ensures counted { Counts (length registers.now) compared.old compared.new }
 {
     let mut low = 0;
     let mut high = registers.len();

@@ -7,10 +7,18 @@ use Rattle.usfm_ref.proofs.Placed.{narrowed_low, narrowed_high, narrowed_place}
 use Rattle.op_core.proofs.place.place_op.Goals as goal
 
 pub halves-preserved-then-is_below : goal.halves-preserved-then-is_below
-halves-preserved-then-is_below c = narrowed_low (λ (o : Operation). id_below o.id c.args.id) c.args.ops.now _ _ _ c.index-ops-middle.result (parted id_cmp id_total (λ (o : Operation). o.id) c.args.id c.args.ops.now c.requires.rising) c.halves.invariant (omega arith) c.index-ops-middle.is (ap (λ i. id_below i c.args.id) (sym c.id.ensures.id) ∙ sym c.is_below.ensures ∙ c.if-is_below.true)
+halves-preserved-then-is_below c = record {
+  narrowed = narrowed_low (λ (o : Operation). id_below o.id c.args.id) c.args.ops.now _ _ _ c.index-ops-middle.result (parted id_cmp id_total (λ (o : Operation). o.id) c.args.id c.args.ops.now c.requires.rising) c.halves.invariant.narrowed (omega arith) c.index-ops-middle.is (ap (λ i. id_below i c.args.id) (sym c.id.ensures.id) ∙ sym c.is_below.ensures ∙ c.if-is_below.true);
+  grows = omega (arith, c.halves.invariant.grows, c.saturating_add.ensures);
+  counts = λ _. omega (arith, c.halves.invariant.grows, c.saturating_add.ensures);
+}
 
 pub halves-preserved : goal.halves-preserved
-halves-preserved c = narrowed_high (λ (o : Operation). id_below o.id c.args.id) c.args.ops.now _ _ _ c.index-ops-middle.result (parted id_cmp id_total (λ (o : Operation). o.id) c.args.id c.args.ops.now c.requires.rising) c.halves.invariant (omega arith) (omega arith) c.index-ops-middle.is (ap (λ i. id_below i c.args.id) (sym c.id.ensures.id) ∙ sym c.is_below.ensures ∙ c.if-is_below.false)
+halves-preserved c = record {
+  narrowed = narrowed_high (λ (o : Operation). id_below o.id c.args.id) c.args.ops.now _ _ _ c.index-ops-middle.result (parted id_cmp id_total (λ (o : Operation). o.id) c.args.id c.args.ops.now c.requires.rising) c.halves.invariant.narrowed (omega arith) (omega arith) c.index-ops-middle.is (ap (λ i. id_below i c.args.id) (sym c.id.ensures.id) ∙ sym c.is_below.ensures ∙ c.if-is_below.false);
+  grows = omega (arith, c.halves.invariant.grows, c.saturating_add.ensures);
+  counts = λ _. omega (arith, c.halves.invariant.grows, c.saturating_add.ensures);
+}
 
 pub returns-clause-place : goal.returns-clause-place
-returns-clause-place c = narrowed_place (λ (o : Operation). id_below o.id c.args.id) c.args.ops.now _ _ c.halves.invariant (omega arith)
+returns-clause-place c = narrowed_place (λ (o : Operation). id_below o.id c.args.id) c.args.ops.now _ _ c.halves.invariant.narrowed (omega arith)
