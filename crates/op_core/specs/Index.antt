@@ -1,7 +1,7 @@
 -- The index that a set keeps of its operations: chapter by chapter, a register for each segment with the ids that
 -- the segment shows and those that it misses. All of it follows from the operations, and no contract of a set
 -- names it.
-use Rattle.std.specs.Prelude.{◌≡◌, ◌<◌, ◌≤◌, min, ◌+◌, ℕ, Bool, not, cond, ◌&&◌, ◌||◌, List, [], Option, Some, None, IsTrue, vec_len, vec_capacity, length, filter}
+use Rattle.std.specs.Prelude.{◌≡◌, ◌≢◌, ◌⊎◌, ◌<◌, ◌≤◌, min, ◌+◌, ℕ, Bool, not, cond, ◌&&◌, ◌||◌, List, [], Option, Some, None, IsTrue, vec_len, vec_capacity, length, filter}
 use Rattle.std.specs.List.{list_any, find, AllByRecursion, sum_by, position_or_len}
 use Rattle.std.specs.Ordering.{is_eq}
 use Rattle.usfm_ref.specs.Keys.{KeyParts, key_cmp, head_of}
@@ -83,8 +83,10 @@ HasRoomIn (Some r) = HasRoom r
 
 -- ---- the index
 
--- chapters rise, and in each its registers; the promised room is there
+-- chapters rise, each by its head, and in each its registers, which are of that chapter; the promised room is there
 pub record IsOrderly (chapters : List Chapter) : Type 0 where
+  pub heads : AllByRecursion (λ c. head_of c.head ≡ c.head) chapters
+  pub homes : (g : Segment) (key : KeyParts) → register_at key (registers_of g chapters) ≢ None → head_of key ≡ head_of g.key
   pub rising : IsTrue (rises_by segment_cmp place_of chapters)
   pub registers : (g : Segment) → IsTrue (rises_by key_cmp (λ r. r.key) (registers_of g chapters))
   pub room : (g : Segment) (key : KeyParts) → HasRoomIn (register_at key (registers_of g chapters))
@@ -142,6 +144,7 @@ pub record HasMoreRoom (s m : ℕ) (before after : Register) : Type 0 where
 -- the same at the key among a chapter's registers, where there need be none yet
 pub record PreparesKey (key : KeyParts) (s m : ℕ) (before after : List Register) : Type 0 where
   pub rising : IsTrue (rises_by key_cmp (λ r. r.key) after)
+  pub homes : (k : KeyParts) → register_at k after ≢ None → (register_at k before ≢ None) ⊎ (k ≡ key)
   pub room : (k : KeyParts) → HasRoomIn (register_at k after)
   pub shown : (k : KeyParts) → shown_in (register_at k after) ≡ shown_in (register_at k before)
   pub missing : (k : KeyParts) → missing_in (register_at k after) ≡ missing_in (register_at k before)

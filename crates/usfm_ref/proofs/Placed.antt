@@ -3,7 +3,7 @@ use Rattle.std.proofs.Common.{◌≡◌, ℕ, zero, suc, ◌<◌, ◌≤◌, ◌
 use Rattle.std.specs.declared.cmp.Ordering.{Ordering}
 use Rattle.std.specs.declared.cmp.Ordering.TheVariants.{Less, Equal, Greater}
 use Rattle.std.specs.Ordering.{is_eq, is_lt}
-use Rattle.std.specs.List.{position_or_len, insert, remove, filter}
+use Rattle.std.specs.List.{position_or_len, insert, remove, filter, AllByRecursion}
 use Rattle.std.specs.List.Sorted.{IsPartitionedBy}
 use Rattle.std.specs.Cmp.{IsTotalOrder, tied_itself}
 use Rattle.std.specs.FinMap.Entries.{by_order}
@@ -116,6 +116,14 @@ module _ {K X : Type 0} (R : K → K → Ordering) (o : IsTotalOrder R) (key : X
         | Equal ↦ λ e. and_from _ _ (tied_above (key y) (key x) xs e p.0) p.1
         | Greater ↦ λ e. and_from _ _ (above_placed (key x) y xs (ap is_lt (sorted.back R o key (key y) (key x) Greater e)) p.0) (rises_placed y xs p.1)
       ] refl
+
+  pub all_placed : (P : X → Type 0) (y : X) (xs : List X) → P y → AllByRecursion P xs → AllByRecursion P (placed R key y xs)
+  all_placed P y [] p h = (p, tt)
+  all_placed P y (x ∷ xs) p h = elim (R (key y) (key x)) as (λ r. AllByRecursion P (by_order r (y ∷ x ∷ xs) (y ∷ xs) (x ∷ placed R key y xs))) [
+    | Less ↦ (p, h)
+    | Equal ↦ (p, h.1)
+    | Greater ↦ (h.0, all_placed P y xs p h.1)
+  ]
 
   -- two keys that do not tie are not both tied to a third
   apart : (q a b : K) (r : Ordering) → R a b ≡ r → is_eq r ≡ false → is_eq (R q a) ≡ true → is_eq (R q b) ≡ false

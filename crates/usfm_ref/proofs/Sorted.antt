@@ -3,9 +3,9 @@ use Rattle.std.proofs.Common.{◌≡◌, ℕ, zero, suc, ◌<◌, ◌≤◌, Boo
 use Rattle.std.specs.declared.cmp.Ordering.{Ordering}
 use Rattle.std.specs.declared.cmp.Ordering.TheVariants.{Less, Equal, Greater}
 use Rattle.std.specs.Ordering.{is_eq, is_lt, ordering_reverse}
-use Rattle.std.specs.List.{list_all, position_or_len, find, filter}
+use Rattle.std.specs.List.{list_all, position_or_len, find, filter, AllByRecursion}
 use Rattle.std.specs.List.Sorted.{IsPartitionedBy}
-use Rattle.std.specs.Cmp.{IsTotalOrder}
+use Rattle.std.specs.Cmp.{IsTotalOrder, tied_itself}
 use Rattle.std.proofs.lemmas.Cmp.{eq_by_cmp_equiv}
 use Rattle.std.proofs.lemmas.Bool.{and_parts, and_from, cond-true, cond-false, true≢false, false≢true}
 use Rattle.std.specs.FinMap.Entries.{by_order}
@@ -61,6 +61,19 @@ module _ {K X : Type 0} (R : K → K → Ordering) (o : IsTotalOrder R) (key : X
 
   pub back : (a b : K) (r : Ordering) → R a b ≡ r → R b a ≡ ordering_reverse r
   back a b r e = o.antisymm b a ∙ ap ordering_reverse e
+
+  below_found : (x : X) (xs ys : List X) → Above (key x) ys → AllByRecursion (λ y. found (key y) xs ≡ Some y) ys → AllByRecursion (λ y. found (key y) (x ∷ xs) ≡ Some y) ys
+  below_found x xs [] a h = tt
+  below_found x xs (y ∷ ys) a h =
+      let p = first_above (key x) y ys a in
+      (cond-false _ _ _ (ap is_eq (back (key x) (key y) Less (is_less _ p.0))) ∙ h.0, below_found x xs ys p.1 h.1)
+
+  -- each item is found under its key
+  pub each_found : (xs : List X) → rises_by R key xs ≡ true → AllByRecursion (λ x. found (key x) xs ≡ Some x) xs
+  each_found [] h = tt
+  each_found (x ∷ xs) h =
+      let p = parts x xs h in
+      (cond-true _ _ _ (ap is_eq (tied_itself o (key x))), below_found x xs xs p.0 (each_found xs p.1))
 
   -- what stands at the place of a key
   abbrev pub place : K → List X → ℕ
