@@ -142,7 +142,7 @@ module _ (held front behind : List Operation) (o : Operation) (hh : rises held �
 -- ---- room for what is to come
 
 -- the segment's test of its own operation
-here : (o : Operation) → in_segment o.segment o ≡ true
+pub here : (o : Operation) → in_segment o.segment o ≡ true
 here o = in_segment-is o.segment o ∙ ap is_eq (tied_itself segment_total o.segment)
 
 -- a promise at the operation's segment, by the test of operations

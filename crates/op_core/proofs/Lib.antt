@@ -18,5 +18,7 @@ pub mod Merging
 pub mod Verses
 pub mod Listed
 pub mod Fresh
+pub mod Walks
+pub mod Awaited
 pub mod Joinings
 pub mod Fronts

@@ -1,7 +1,7 @@
 -- The index that a set keeps of its operations: chapter by chapter, a register for each segment with the ids that
 -- the segment shows and those that it misses. All of it follows from the operations, and no contract of a set
 -- names it.
-use Rattle.std.specs.Prelude.{◌≡◌, ◌≢◌, ◌⊎◌, ◌<◌, ◌≤◌, min, ◌+◌, ℕ, Bool, not, cond, ◌&&◌, ◌||◌, List, [], Option, Some, None, IsTrue, vec_len, vec_capacity, length, filter}
+use Rattle.std.specs.Prelude.{◌≡◌, ◌≢◌, ◌⊎◌, ◌<◌, ◌≤◌, min, ◌+◌, ℕ, Bool, true, false, not, cond, ◌&&◌, ◌||◌, List, [], ◌∷◌, Option, Some, None, IsTrue, vec_len, vec_capacity, length, filter}
 use Rattle.std.specs.List.{list_any, find, AllByRecursion, sum_by, position_or_len}
 use Rattle.std.specs.Ordering.{is_eq}
 use Rattle.usfm_ref.specs.Keys.{KeyParts, key_cmp, head_of}
@@ -62,6 +62,14 @@ shown_in (Some r) = r.shown.items
 abbrev pub missing_in : Option Register → List Id
 missing_in None = []
 missing_in (Some r) = r.missing.items
+
+abbrev pub is_none_left : List Id → Bool
+is_none_left [] = true
+is_none_left (id ∷ ids) = false
+
+-- whether a register shows an id; one that shows none is only prepared
+abbrev pub is_kept : Register → Bool
+is_kept r = not (is_none_left r.shown.items)
 
 -- for how many ids more there is room that was promised
 abbrev pub shown_room_in : Option Register → ℕ

@@ -1,6 +1,7 @@
-ghost use Rattle.std.specs.Prelude.{◌≡◌, ◌≢◌, ◌&&◌, ◌+◌, ◌≤◌, ◌↔◌, [], ◌∷◌, length, map, not, is_none, None, IsTrue, IfOk, IfErr, OnOk, OnErr};
+ghost use Rattle.std.specs.Prelude.{◌≡◌, ◌≢◌, ◌&&◌, ◌||◌, ◌+◌, ◌≤◌, ◌↔◌, [], ◌∷◌, length, map, not, is_none, None, IsTrue, IfOk, IfErr, OnOk, OnErr};
 ghost use Rattle.std.specs.Option.{option_copied};
 ghost use Rattle.usfm_ref.specs.Segments.{segment};
+ghost use Rattle.op_core.specs.Ids.{Id, same_id};
 ghost use Rattle.op_core.specs.Sets as sets;
 ghost use Rattle.op_core.specs.Shown as texts;
 ghost use Rattle.op_core.specs.Lists as lists;
@@ -181,6 +182,27 @@ impl OpSet {
         }
     }
 
+    /// The ids that a held operation names and none has, rising, each once.
+    ///
+    /// # Errors
+    /// Want of memory alone.
+    pub fn awaited(&self, alloc: Global) -> Result<Vec<OpId>, AllocError>
+        ensures { IfOk result (λ ids. ids.items ≡ lists.awaited self.now) }
+    {
+        let _ = &self.ops;
+        let mut ids = Vec::new(alloc);
+        self.push_awaited(&self.chapters, &mut ids)?;
+        ids.sort_unstable();
+        ids.dedup();
+        Ok(ids)
+    }
+
+    /// How many comparisons the calls made that change the set: each of two ids or of two segments
+    /// adds one, up to `u64::MAX`. It is no part of the set, and may rise in a refused call.
+    pub fn compared(&self) -> u64 {
+        self.compared
+    }
+
     /// What the segment shows: the operations of it whose ids no operation of it names as replaced,
     /// rising, lent from the set.
     ///
@@ -217,6 +239,36 @@ impl OpSet {
             None => Picked::Nothing,
             Some(op) => Picked::Held(op),
         }
+    }
+
+    // Adds what the chapters' registers miss and no operation has.
+    fn push_awaited(&self, chapters: &[Chapter], ids: &mut Vec<OpId>) -> Result<(), AllocError>
+        ensures { OnOk result ((q : Id) → list_any (same_id q) ids.new.items ≡ (list_any (same_id q) ids.old.items || (list_any (λ c. list_any (λ r. list_any (same_id q) r.missing.items) c.registers.items) chapters.now && not (lists.is_held self.now q)))) }
+    {
+        for chapter in chapters {
+            self.push_missing_in(&chapter.registers, ids)?;
+        }
+        Ok(())
+    }
+
+    fn push_missing_in(&self, registers: &[Register], ids: &mut Vec<OpId>) -> Result<(), AllocError>
+        ensures { OnOk result ((q : Id) → list_any (same_id q) ids.new.items ≡ (list_any (same_id q) ids.old.items || (list_any (λ r. list_any (same_id q) r.missing.items) registers.now && not (lists.is_held self.now q)))) }
+    {
+        for register in registers {
+            self.push_unheld(&register.missing, ids)?;
+        }
+        Ok(())
+    }
+
+    fn push_unheld(&self, missing: &[OpId], ids: &mut Vec<OpId>) -> Result<(), AllocError>
+        ensures { OnOk result ((q : Id) → list_any (same_id q) ids.new.items ≡ (list_any (same_id q) ids.old.items || (list_any (same_id q) missing.now && not (lists.is_held self.now q)))) }
+    {
+        for id in missing {
+            if self.get(id).is_none() {
+                ids.push(*id)?;
+            }
+        }
+        Ok(())
     }
 
     // The shown operation with the greatest id.
