@@ -20,5 +20,8 @@ pub mod Listed
 pub mod Fresh
 pub mod Walks
 pub mod Awaited
+pub mod IndexSegments
+pub mod KeyWalks
+pub mod BookWalks
 pub mod Joinings
 pub mod Fronts

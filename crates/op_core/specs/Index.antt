@@ -1,9 +1,10 @@
 -- The index that a set keeps of its operations: chapter by chapter, a register for each segment with the ids that
 -- the segment shows and those that it misses. All of it follows from the operations, and no contract of a set
 -- names it.
-use Rattle.std.specs.Prelude.{◌≡◌, ◌≢◌, ◌⊎◌, ◌<◌, ◌≤◌, min, ◌+◌, ℕ, Bool, true, false, not, cond, ◌&&◌, ◌||◌, List, [], ◌∷◌, Option, Some, None, IsTrue, vec_len, vec_capacity, length, filter}
+use Rattle.std.specs.Prelude.{◌≡◌, ◌≢◌, ◌⊎◌, ◌<◌, ◌≤◌, min, ◌+◌, ℕ, Bool, true, false, not, cond, ◌&&◌, ◌||◌, List, [], ◌∷◌, ◌++◌, Option, Some, None, IsTrue, vec_len, vec_capacity, length, filter}
 use Rattle.std.specs.List.{list_any, find, AllByRecursion, sum_by, position_or_len}
 use Rattle.std.specs.Ordering.{is_eq}
+use Rattle.usfm_ref.specs.Books.{same_bytes}
 use Rattle.usfm_ref.specs.Keys.{KeyParts, key_cmp, head_of}
 use Rattle.usfm_ref.specs.Segments.{Segment, segment, segment_cmp}
 use Rattle.usfm_ref.specs.Rising.{rises_by}
@@ -206,3 +207,27 @@ pub record AdmitsIn (held more : List Operation) (o : Operation) (before after :
   pub orderly : IsOrderly after
   pub is_now : (g : Segment) → register_of g after ≡ cond (is_eq (segment_cmp g o.segment)) (Some new) (register_of g before)
   pub admits : Admits held more o old new
+
+-- ---- walks
+
+-- the keys of the registers that show an id
+abbrev pub kept_keys : List Register → List KeyParts
+kept_keys [] = []
+kept_keys (r ∷ registers) = cond (is_kept r) (r.key ∷ kept_keys registers) (kept_keys registers)
+
+abbrev pub chapter_keys : List ℕ → List Chapter → List KeyParts
+chapter_keys book [] = []
+chapter_keys book (c ∷ chapters) = cond (same_bytes c.book book) (kept_keys c.registers.items) [] ++ chapter_keys book chapters
+
+-- what a walk over a book's keys has left
+abbrev pub keys_left : List ℕ → List Register → List Chapter → List KeyParts
+keys_left book registers chapters = kept_keys registers ++ chapter_keys book chapters
+
+abbrev pub is_last : Option (List ℕ) → List ℕ → Bool
+is_last None book = false
+is_last (Some last) book = same_bytes last book
+
+-- what a walk over the books has left, behind the one that it told last
+abbrev pub books_left : Option (List ℕ) → List Chapter → List (List ℕ)
+books_left last [] = []
+books_left last (c ∷ chapters) = cond (list_any is_kept c.registers.items && not (is_last last c.book)) (c.book ∷ books_left (Some c.book) chapters) (books_left last chapters)

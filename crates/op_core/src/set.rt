@@ -8,9 +8,11 @@ ghost use Rattle.op_core.specs.Lists as lists;
 ghost use Rattle.std.specs.List.{AllByRecursion, list_any};
 ghost use Rattle.usfm_ref.specs.Keys.{is_verse_of};
 
+use crate::books::Books;
 use crate::chapter::Chapter;
 use crate::fault::SetFault;
 use crate::index::enroll;
+use crate::keys::Keys;
 use crate::merge::{clash, leave_held, look_at_each, merge, place_first};
 use crate::op::Op;
 use crate::op_id::OpId;
@@ -180,6 +182,22 @@ impl OpSet {
             None => &[],
             Some(register) => &register.shown,
         }
+    }
+
+    /// The books with an operation, in the order of books. The walk takes no memory.
+    pub fn books(&self) -> Books<'_>
+        ensures { result ≡ lists.books_of self.now }
+    {
+        let _ = &self.ops;
+        Books::new(&self.chapters)
+    }
+
+    /// The keys of a book with an operation, rising. The walk takes no memory.
+    pub fn keys(&self, book: Book) -> Keys<'_>
+        ensures { result ≡ lists.keys_of self.now book }
+    {
+        let _ = &self.ops;
+        Keys::new(book, &self.chapters)
     }
 
     /// The ids that a held operation names and none has, rising, each once.

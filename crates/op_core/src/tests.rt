@@ -3,21 +3,27 @@ use std::alloc::Global;
 use std::test::Fail;
 use usfm_ref::{Book, Key, Place};
 
-fn op_id(number: u64, name: &str) -> Result<OpId, Fail> {
+pub(crate) fn op_id(number: u64, name: &str) -> Result<OpId, Fail> {
     let name = ReplicaName::read(name)?;
     Ok(OpId::new(number, name).ok_or("number")?)
 }
 
-fn head(chapter: u16) -> Result<Key, Fail> {
+pub(crate) fn head(chapter: u16) -> Result<Key, Fail> {
     Ok(Key::new(chapter, Place::Head).ok_or("key")?)
 }
 
-fn verse(number: u16) -> Result<Key, Fail> {
+pub(crate) fn verse(number: u16) -> Result<Key, Fail> {
     let letter = None;
     Ok(Key::new(1, Place::Verse { number, letter }).ok_or("key")?)
 }
 
-fn op(alloc: Global, id: OpId, key: Key, named: &[OpId], text: &str) -> Result<Op, Fail> {
+pub(crate) fn op(
+    alloc: Global,
+    id: OpId,
+    key: Key,
+    named: &[OpId],
+    text: &str,
+) -> Result<Op, Fail> {
     if !names_fall(&id, named) {
         return Err(Fail::from("the named ids do not fall"));
     }

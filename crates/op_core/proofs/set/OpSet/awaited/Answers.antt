@@ -1,4 +1,4 @@
-use Rattle.std.proofs.Common.{sym, ap, subst, ◌≡◌, ◌&&◌, ◌||◌, ◌∙◌, not, List}
+use Rattle.std.proofs.Common.{subst, ◌&&◌, ◌||◌, ◌∙◌, not, List}
 use Rattle.std.specs.List.{list_any}
 use Rattle.std.proofs.lemmas.List.Filters.{dedup_is}
 use Rattle.op_core.specs.Ids.{Id, same_id}
