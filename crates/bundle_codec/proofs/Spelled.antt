@@ -11,12 +11,13 @@ use Rattle.usfm_ref.specs.declared.key.Place.TheVariants.{Head, Verse}
 use Rattle.usfm_ref.specs.Books.{is_book_code}
 use Rattle.usfm_ref.specs.Keys.{KeyParts, is_place, is_key, is_letter}
 use Rattle.usfm_ref.specs.Segments.{segment}
+use Rattle.verse_cut.specs.Reading.{text_fits}
 use Rattle.op_core.specs.Names.{is_name, is_name_char}
 use Rattle.op_core.specs.Ids.{Id, is_number, is_id, names_fall}
 use Rattle.op_core.specs.Ops.{Operation, IsOperation}
 use Rattle.op_core.specs.Sets.{IsOpSet}
 use Rattle.bundle_codec.specs.declared.fault.BundleFault.{BundleFault}
-use Rattle.bundle_codec.specs.declared.fault.BundleFault.TheVariants.{Magic, Truncated, NotRising, BadId, BadKey, BadReplaced, BadTag, NotUtf8}
+use Rattle.bundle_codec.specs.declared.fault.BundleFault.TheVariants.{Magic, Truncated, NotRising, BadId, BadKey, BadReplaced, BadTag, NotUtf8, BadText}
 use Rattle.bundle_codec.specs.Spelling.{magic, id, letter, place, key, ids, body, operation, bundle, IsCounted, AreCounted}
 use Rattle.bundle_codec.specs.Reading.{any, is_name_length, id_at, is_verse, is_letter_byte, place_of, place_at, key_at, comes_after, named_at, after_id, replaced_at, body_at, operation_at, after_operation, bundle_at}
 use Rattle.bundle_codec.proofs.Readers.{Each, Reads, step, ends, checked, reads_as, byte_reads, block_reads, number_reads, exactly_reads, wide16, wide64, many_reads}
@@ -239,13 +240,13 @@ operation_reads k before =
     (step (λ (o : Operation). o.segment.book) (block_reads 3 is_book_code (BadKey k)) (λ book.
     step (λ (o : Operation). o.segment.key) (key_reads (BadKey k)) (λ key.
     step (λ (o : Operation). o.replaced) (replaced_reads (BadReplaced k) i) (λ replaced.
-    step (λ (o : Operation). o.text) (body_reads k) (λ text. checked (is_utf8 text) (NotUtf8 k)
-    (ends (record { id = i; segment = segment book key; replaced = replaced; text = text })))
-    (λ text o _ f. ap (λ (x : Operation). x.text) (sym f.1)))
-    (λ replaced o _ f. ap (λ (x : Operation). x.replaced) (sym f.1.1)))
-    (λ key o _ f. ap (λ (x : Operation). x.segment.key) (sym f.1.1.1)))
-    (λ book o _ f. ap (λ (x : Operation). x.segment.book) (sym f.1.1.1.1))))
-    (λ i o _ f. ap (λ (x : Operation). x.id) (sym f.1.1.1.1.1.1)))
+    step (λ (o : Operation). o.text) (body_reads k) (λ text. checked (is_utf8 text) (NotUtf8 k) (checked (text_fits book key text) (BadText k)
+    (ends (record { id = i; segment = segment book key; replaced = replaced; text = text }))))
+    (λ text o _ f. ap (λ (x : Operation). x.text) (sym f.1.1)))
+    (λ replaced o _ f. ap (λ (x : Operation). x.replaced) (sym f.1.1.1)))
+    (λ key o _ f. ap (λ (x : Operation). x.segment.key) (sym f.1.1.1.1)))
+    (λ book o _ f. ap (λ (x : Operation). x.segment.book) (sym f.1.1.1.1.1))))
+    (λ i o _ f. ap (λ (x : Operation). x.id) (sym f.1.1.1.1.1.1.1)))
     (λ o f. (
       f.1.0,
       (
@@ -255,6 +256,7 @@ operation_reads k before =
           ids = f.1.1.1.1.0.1.0;
           falls = f.1.1.1.1.0.1.1;
           text = IsUtf8-from_is_utf8 o.text f.1.1.1.1.1.1.0;
+          fits = f.1.1.1.1.1.1.1.0;
         },
         record { replaced = f.1.1.1.1.0.0; text = f.1.1.1.1.1.0 },
       ),
@@ -262,7 +264,7 @@ operation_reads k before =
     (λ o f.
     let fits = f.1.0 in
     let segment = and_parts (is_book_code o.segment.book) (is_key o.segment.key.chapter o.segment.key.place) fits.segment in
-    (fits.id, (f.0, ((code_length o.segment.book segment.0, segment.0), (segment.1, ((f.1.1.replaced, (fits.ids, fits.falls)), (f.1.1.text, (is_utf8-from_IsUtf8 o.text fits.text, refl))))))))
+    (fits.id, (f.0, ((code_length o.segment.book segment.0, segment.0), (segment.1, ((f.1.1.replaced, (fits.ids, fits.falls)), (f.1.1.text, (is_utf8-from_IsUtf8 o.text fits.text, (fits.fits, refl)))))))))
     (λ o f. ap (λ (w : List ℕ). id o.id ++ (o.segment.book ++ (key o.segment.key ++ (ids o.replaced ++ w)))) (append-nil (body o.text)))
 
 -- ---- a bundle

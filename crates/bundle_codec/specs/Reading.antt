@@ -9,11 +9,12 @@ use Rattle.usfm_ref.specs.declared.key.Place.TheVariants.{Head, Verse}
 use Rattle.usfm_ref.specs.Books.{is_book_code}
 use Rattle.usfm_ref.specs.Keys.{KeyParts, is_key, is_place, is_letter}
 use Rattle.usfm_ref.specs.Segments.{segment}
+use Rattle.verse_cut.specs.Reading.{text_fits}
 use Rattle.op_core.specs.Names.{is_name}
 use Rattle.op_core.specs.Ids.{Id, is_number, id_below}
 use Rattle.op_core.specs.Ops.{Operation}
 use Rattle.bundle_codec.specs.declared.fault.BundleFault.{BundleFault}
-use Rattle.bundle_codec.specs.declared.fault.BundleFault.TheVariants.{Magic, Truncated, NotRising, BadId, BadKey, BadReplaced, BadTag, NotUtf8}
+use Rattle.bundle_codec.specs.declared.fault.BundleFault.TheVariants.{Magic, Truncated, NotRising, BadId, BadKey, BadReplaced, BadTag, NotUtf8, BadText}
 use Rattle.bundle_codec.specs.Spelling.{magic}
 
 -- the next step of a reading, if the ones before it did not fail
@@ -135,7 +136,7 @@ body_at k bytes = do
 abbrev pub judge_text : ℕ → List ℕ → Result (Unit {0}) BundleFault
 judge_text k text = check (is_utf8 text) (NotUtf8 k)
 
--- the k-th operation, behind one of the id `before`
+-- the k-th operation, behind one of the id `before`; its text is judged last, by its rule and then by its segment
 unfoldable pub operation_at : ℕ → Option Id → List ℕ → Result (Operation × List ℕ) BundleFault
 operation_at k before bytes = do
   id ← id_at (BadId k) bytes
@@ -145,6 +146,7 @@ operation_at k before bytes = do
   replaced ← replaced_at (BadReplaced k) id.0 key.1
   text ← body_at k replaced.1
   _ ← judge_text k text.0
+  _ ← check (text_fits book.0 key.0 text.0) (BadText k)
   Ok (record { id = id.0; segment = segment book.0 key.0; replaced = replaced.0; text = text.0 }, text.1)
 
 -- the place of the operation that comes next, and the id before it

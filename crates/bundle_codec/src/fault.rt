@@ -36,6 +36,9 @@ pub enum BundleFault {
     /// An operation's text is not UTF-8.
     #[error("operation {0}: its text is not UTF-8")]
     NotUtf8(u64),
+    /// An operation's text does not fit its book and key.
+    #[error("operation {0}: its text does not fit its book and key")]
+    BadText(u64),
 }
 
 /// Why bytes are not one whole bundle.

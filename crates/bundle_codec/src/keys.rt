@@ -1,12 +1,15 @@
 // Books and keys, judged where they stand in the bytes.
-ghost use Rattle.std.specs.Prelude.{◌≡◌, Ok, Err, IsOk};
+ghost use Rattle.std.specs.Prelude.{◌≡◌, IsTrue, IfOk, IsOk, Ok, Err};
 ghost use Rattle.usfm_ref.specs.Books.{is_code_char, is_book_code};
+ghost use Rattle.usfm_ref.specs.Keys.{is_key, is_place};
+ghost use Rattle.verse_cut.specs.Reading.{text_fits};
 ghost use Rattle.bundle_codec.specs.Reading.{Gives, place_at, key_at};
 ghost use Rattle.bundle_codec.specs.Views.{key_view};
 
 use crate::fault::BundleFault;
 use crate::fields::{u8_at, u8_in, u16_at, u16_in};
-use usfm_ref::Place;
+use usfm_ref::{Book, Key, Place};
+use verse_cut::fits;
 
 // A chapter and a place in it, which make a key.
 #[derive(Clone, Copy, Debug)]
@@ -34,7 +37,8 @@ pub(crate) fn is_book_code(bytes: &[u8]) -> bool
 // Judges the place at the front, field by field. What is a key is said by usfm_ref.
 #[tactic(auto, unfolding(crate::specs::Reading::place_at))]
 fn place_of(bad: BundleFault, bytes: &[u8]) -> Result<(Place, &[u8]), BundleFault>
-    ensures { Gives (λ x. (x.0, x.1.now)) result (place_at bad bytes.now) }
+    ensures reads { Gives (λ x. (x.0, x.1.now)) result (place_at bad bytes.now) }
+    ensures right { IfOk result (λ x. IsTrue (is_place x.0)) }
 {
     let (kind, rest) = u8_at(bytes)?;
     if kind > 1 {
@@ -59,7 +63,8 @@ fn place_of(bad: BundleFault, bytes: &[u8]) -> Result<(Place, &[u8]), BundleFaul
 // Judges the key at the front, field by field.
 #[tactic(auto, unfolding(crate::specs::Reading::key_at))]
 pub(crate) fn key_of(bad: BundleFault, bytes: &[u8]) -> Result<(KeyView, &[u8]), BundleFault>
-    ensures { Gives (λ x. (key_view x.0, x.1.now)) result (key_at bad bytes.now) }
+    ensures reads { Gives (λ x. (key_view x.0, x.1.now)) result (key_at bad bytes.now) }
+    ensures right { IfOk result (λ x. IsTrue (is_key x.0.chapter x.0.place)) }
 {
     let (chapter, rest) = u16_at(bytes)?;
     if chapter > 999 {
@@ -92,4 +97,27 @@ pub(crate) fn key_in(bad: BundleFault, bytes: &[u8]) -> (KeyView, &[u8])
     let (chapter, rest) = u16_in(bytes);
     let (place, rest) = place_in(bad, rest);
     (KeyView { chapter, place }, rest)
+}
+
+// The book of a code that was judged.
+pub(crate) fn book_in(code: &[u8]) -> Book
+    requires { IsTrue (is_book_code code.now) }
+    ensures { result ≡ code.now }
+{
+    // A book's code is ASCII, so it is text.
+    let code = unsafe { str::from_utf8_unchecked(code) };
+    Book::read(code).unwrap()
+}
+
+// Whether a text fits a code and a key that were judged.
+pub(crate) fn fits_segment(code: &[u8], key: KeyView, text: &str) -> bool
+    requires code { IsTrue (is_book_code code.now) }
+    requires key { IsTrue (is_key key.chapter key.place) }
+    ensures { result ≡ text_fits code.now (key_view key) text.now }
+{
+    let key = Key {
+        chapter: key.chapter,
+        place: key.place,
+    };
+    fits(book_in(code), key, text)
 }

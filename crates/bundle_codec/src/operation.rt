@@ -6,7 +6,7 @@ ghost use Rattle.bundle_codec.specs.Views.{id_view, op_view};
 use crate::fault::BundleFault;
 use crate::fields::{block_in, block_of, text_of, u8_at, u8_in, u64_at, u64_in};
 use crate::ids::{IdList, IdView, comes_after, id_of, replaced_of};
-use crate::keys::{KeyView, is_book_code, key_of};
+use crate::keys::{KeyView, fits_segment, is_book_code, key_of};
 
 // The fields of an operation, lent from the bytes that spell it.
 #[derive(Clone, Copy, Debug)]
@@ -70,6 +70,9 @@ fn fields_of<'a>(
     let (replaced, rest) = replaced_of(BundleFault::BadReplaced(place), &id, rest)?;
     let (text, rest) = body_of(place, rest)?;
     let text = judged_text(place, text)?;
+    if !fits_segment(code, key, text) {
+        return Err(BundleFault::BadText(place));
+    }
     let fields = OpFields {
         id,
         code,

@@ -166,7 +166,7 @@ fn every_front_is_cut(rt: HostRuntime) {
 
 #[test]
 fn bytes_are_changed(rt: HostRuntime) -> Result<(), Fail> {
-    let table: [(usize, &[u8], Result<usize, BundleFault>); 29] = [
+    let table: [(usize, &[u8], Result<usize, BundleFault>); 32] = [
         (0, &[0x54], Err(BundleFault::Magic)),
         (8, &[0xff; 8], Err(BundleFault::Truncated)),
         (15, &[3], Err(BundleFault::Truncated)),
@@ -196,12 +196,15 @@ fn bytes_are_changed(rt: HostRuntime) -> Result<(), Fail> {
         // 999 and 1000
         (77, &[3, 0xe7], Ok(108)),
         (77, &[3, 0xe8], Err(BundleFault::BadKey(2))),
-        (80, &[3, 0xe7], Ok(108)),
+        (80, &[3, 0xe7], Err(BundleFault::BadText(2))),
         (80, &[3, 0xe8], Err(BundleFault::BadKey(2))),
-        (82, b"z", Ok(108)),
+        (82, b"z", Err(BundleFault::BadText(2))),
         (82, &[0x41], Err(BundleFault::BadKey(2))),
         (82, b"{", Err(BundleFault::BadKey(2))),
         (99, &[9], Err(BundleFault::Truncated)),
+        (58, b"X", Err(BundleFault::BadText(1))),
+        (103, b"2", Err(BundleFault::BadText(2))),
+        (103, &[0xff], Err(BundleFault::NotUtf8(2))),
     ];
     for (at, with, want) in table {
         let bytes = changed(rt.alloc(), &B1, at, with)?;

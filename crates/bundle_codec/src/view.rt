@@ -5,6 +5,7 @@ ghost use Rattle.bundle_codec.specs.Spelling.{operation};
 ghost use Rattle.bundle_codec.specs.Views.{op_view, SpellsOne};
 
 use crate::ids::{ReplacedIds, compared, made};
+use crate::keys::book_in;
 use crate::operation::OpFields;
 use op_core::{Op, OpId};
 use std::alloc::{AllocError, Global};
@@ -51,9 +52,7 @@ impl<'a> OpView<'a> {
     pub fn book(&self) -> Book
         ensures { result ≡ self.now.segment.book }
     {
-        // A book's code is ASCII, so it is text.
-        let code = unsafe { str::from_utf8_unchecked(self.fields.code) };
-        Book::read(code).unwrap()
+        book_in(self.fields.code)
     }
 
     /// The key of its segment.

@@ -1,3 +1,5 @@
+pub mod CutsBack
+pub mod Exported
 pub mod Texts
 pub mod IdTexts
 pub mod Rising

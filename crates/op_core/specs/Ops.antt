@@ -7,6 +7,7 @@ use Rattle.std.specs.Cmp.Lexicographic.{pointwise}
 use Rattle.usfm_ref.specs.Books.{same_bytes, is_book_code}
 use Rattle.usfm_ref.specs.Keys.{is_key, is_verse_of}
 use Rattle.usfm_ref.specs.Segments.{Segment, same_segment}
+use Rattle.verse_cut.specs.Reading.{text_fits}
 use Rattle.op_core.specs.Ids.{Id, same_id, is_id, names_fall}
 
 -- the text that a replica gave to a segment, and the ids of the operations that it replaces there
@@ -20,13 +21,15 @@ pub record Operation : Type 0 where
 abbrev pub is_segment : Segment → Bool
 is_segment g = is_book_code g.book && is_key g.key.chapter g.key.place
 
--- each part within its ranges; the replaced ids rise, and each has a smaller number than the operation
+-- each part within its ranges; the replaced ids rise, and each has a smaller number than the operation; the text fits the
+-- segment
 pub record IsOperation (o : Operation) : Type 0 where
   pub id : IsTrue (is_id o.id)
   pub segment : IsTrue (is_segment o.segment)
   pub ids : IsTrue (list_all is_id o.replaced)
   pub falls : IsTrue (names_fall o.id o.replaced)
   pub text : IsUtf8 o.text
+  pub fits : IsTrue (text_fits o.segment.book o.segment.key o.text)
 
 -- whether the operation is of the segment
 abbrev pub in_segment : Segment → Operation → Bool

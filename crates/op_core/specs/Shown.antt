@@ -1,11 +1,12 @@
 -- What a segment shows, and the text that is picked for it. A multi-value register shows each write that no
 -- write of the register replaces (INRIA RR-7506); which of several is picked, and the chapter's own line, are
 -- this project's own rule.
-use Rattle.std.specs.Prelude.{ℕ, nat_le, Bool, true, false, not, ◌&&◌, cond, List, [], ◌∷◌, ◌++◌, Option, Some, None, filter, codes, option_map}
+use Rattle.std.specs.Prelude.{ℕ, nat_le, Bool, not, ◌&&◌, cond, List, [], ◌∷◌, Option, Some, None, filter, option_map}
 use Rattle.std.specs.List.{list_any}
-use Rattle.std.specs.Fmt.{decimal}
 use Rattle.usfm_ref.specs.Keys.{is_head}
 use Rattle.usfm_ref.specs.Segments.{Segment}
+pub use Rattle.verse_cut.specs.Reading.{is_empty}
+pub use Rattle.verse_cut.specs.Joins.{chapter_line}
 use Rattle.op_core.specs.declared.picked.Picked.{Picked}
 use Rattle.op_core.specs.declared.picked.Picked.TheVariants.{Nothing, Held, ChapterLine}
 use Rattle.op_core.specs.Ids.{Id}
@@ -38,10 +39,6 @@ text_in (Some o) = o.text
 -- the text of the greatest shown id
 abbrev pub text_of : List Operation → Segment → List ℕ
 text_of held g = text_in (last (shown held g))
-
-abbrev pub is_empty : List ℕ → Bool
-is_empty [] = true
-is_empty (c ∷ rest) = false
 
 -- whether the operation's segment is a verse of the chapter and has a text that is not empty
 abbrev pub is_verse_with_text : List Operation → List ℕ → ℕ → Operation → Bool
@@ -77,10 +74,6 @@ abbrev pub picked : Picked → Pick
 picked Nothing = Empty
 picked (Held op) = Greatest op.now
 picked (ChapterLine chapter) = Line chapter
-
--- the line of a chapter that has none: `\c`, a space, the number, and a line feed
-abbrev pub chapter_line : ℕ → List ℕ
-chapter_line chapter = codes "\\c " ++ decimal chapter ++ 10 ∷ []
 
 abbrev pub picked_text : Pick → List ℕ
 picked_text (Line chapter) = chapter_line chapter

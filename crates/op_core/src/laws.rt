@@ -1,4 +1,5 @@
 //! Laws of sets of operations, over the definitions alone.
+ghost use Rattle.op_core.specs.CutsBack as cuts_back;
 ghost use Rattle.op_core.specs.Laws as laws;
 
 /// Each grouping of three sets has the same union.
@@ -40,4 +41,20 @@ pub fn clash_commutes()
 /// have one union, and so one export of every book.
 pub fn equal_unions_export_alike()
     ensures { laws.EqualUnionsExportAlike }
+{}
+
+/// The export of a book of a set cuts back into the head's picked text, perhaps empty, and then
+/// each other picked text that is not empty, each with its key and its place.
+pub fn exports_cut_back()
+    ensures { cuts_back.ExportsCutBack }
+{}
+
+/// Each key with a picked text that is not empty is among those of the export.
+pub fn picks_are_exported()
+    ensures { cuts_back.PicksAreExported }
+{}
+
+/// The export of a book of a set is UTF-8.
+pub fn exports_are_text()
+    ensures { cuts_back.ExportsAreText }
 {}

@@ -3,6 +3,7 @@ ghost use Rattle.std.specs.Cmp.{partial_equiv_from_equiv};
 ghost use Rattle.std.specs.Cmp.Lexicographic.{pointwise};
 ghost use Rattle.std.specs.List.{list_all};
 ghost use Rattle.usfm_ref.specs.Segments.{segment};
+ghost use Rattle.verse_cut.specs.Reading.{text_fits};
 ghost use Rattle.op_core.specs.Ids as ids;
 ghost use Rattle.op_core.specs.Ops.{IsOperation, in_segment, names};
 
@@ -11,7 +12,7 @@ use std::marker::Model;
 use usfm_ref::{Book, Key};
 
 /// The text that a replica gave to a segment, a book's key, and the ids of the operations that it
-/// replaces there.
+/// replaces there. The text fits the book and the key.
 #[derive(Debug, Drop)]
 pub struct Op {
     id: OpId,
@@ -35,9 +36,11 @@ impl Model for Op {
 
 impl Op {
     /// The operation of these parts. The replaced ids have to rise, each with a smaller number than
-    /// the operation's, which `names_fall` tests.
+    /// the operation's, which `names_fall` tests, and the text has to fit the book and the key,
+    /// which `verse_cut::fits` tests.
     pub fn new(id: OpId, book: Book, key: Key, replaced: Vec<OpId>, text: String) -> Op
-        requires { IsTrue (ids.names_fall id replaced.items) }
+        requires falls { IsTrue (ids.names_fall id replaced.items) }
+        requires fits { IsTrue (text_fits book key (string_bytes text)) }
         ensures { result ≡ record { id = id; segment = segment book key; replaced = replaced.items; text = string_bytes text } }
     {
         // Each part is looked at, which shows that it is within its ranges.

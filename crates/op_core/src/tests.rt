@@ -2,6 +2,7 @@ use super::*;
 use std::alloc::Global;
 use std::test::Fail;
 use usfm_ref::{Book, Key, Place};
+use verse_cut::fits;
 
 pub(crate) fn op_id(number: u64, name: &str) -> Result<OpId, Fail> {
     let name = ReplicaName::read(name)?;
@@ -27,9 +28,13 @@ pub(crate) fn op(
     if !names_fall(&id, named) {
         return Err(Fail::from("the named ids do not fall"));
     }
+    let book = Book::read("MAT")?;
+    if !fits(book, key, text) {
+        return Err(Fail::from("the text does not fit"));
+    }
     let replaced = Vec::from_slice(alloc, named)?;
     let text = String::from_str(alloc, text)?;
-    Ok(Op::new(id, Book::read("MAT")?, key, replaced, text))
+    Ok(Op::new(id, book, key, replaced, text))
 }
 
 // 1 ana on MAT 0, and 2 ana on MAT 1:1.

@@ -6,3 +6,4 @@ pub mod LineLengths
 pub mod Exporting
 pub mod Unions
 pub mod StreamLemmas
+pub mod BooksCutBack

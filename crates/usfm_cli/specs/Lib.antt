@@ -7,3 +7,4 @@ pub mod Lines
 pub mod Streams
 pub mod Folding
 pub mod StreamLaws
+pub mod Books

@@ -5,7 +5,7 @@ use Rattle.std.specs.List.{flat_map}
 use Rattle.std.specs.Fmt.{decimal}
 use Rattle.usfm_ref.specs.declared.fault.RefFault.TheVariants.{BadBook, BadRef}
 use Rattle.bundle_codec.specs.declared.fault.BundleFault.{BundleFault}
-use Rattle.bundle_codec.specs.declared.fault.BundleFault.TheVariants.{Magic, Truncated, NotRising, BadId, BadKey, BadReplaced, BadTag, NotUtf8}
+use Rattle.bundle_codec.specs.declared.fault.BundleFault.TheVariants.{Magic, Truncated, NotRising, BadId, BadKey, BadReplaced, BadTag, NotUtf8, BadText}
 use Rattle.usfm_cli.specs.declared.fault.Fault.{Fault}
 use Rattle.usfm_cli.specs.declared.fault.Fault.TheVariants.{Memory, Reference, Clash, Bundle, NoBook, WriteFailed, ReadFailed, TooLong}
 
@@ -18,6 +18,7 @@ bundle_number (BadKey at) = 64
 bundle_number (BadReplaced at) = 65
 bundle_number (BadTag at) = 66
 bundle_number (NotUtf8 at) = 67
+bundle_number (BadText at) = 68
 
 -- the place of the operation, counted from 1
 abbrev pub bundle_details : BundleFault → List (List ℕ)
@@ -29,6 +30,7 @@ bundle_details (BadKey at) = decimal at ∷ []
 bundle_details (BadReplaced at) = decimal at ∷ []
 bundle_details (BadTag at) = decimal at ∷ []
 bundle_details (NotUtf8 at) = decimal at ∷ []
+bundle_details (BadText at) = decimal at ∷ []
 
 abbrev pub fault_number : Fault → ℕ
 fault_number Memory = 1

@@ -4,6 +4,7 @@ ghost use Rattle.std.specs.List.{fold, filter};
 ghost use Rattle.std.specs.Io.KnownBytes.{Appends};
 ghost use Rattle.usfm_ref.specs.Keys.{head_of};
 ghost use Rattle.op_core.specs.Export as exports;
+ghost use Rattle.op_core.specs.Sets.{IsOpSet};
 ghost use Rattle.op_core.specs.Shown.{picked, picked_text, chapter_line};
 ghost use Rattle.usfm_cli.specs.Counts.{failures_after};
 ghost use Rattle.usfm_cli.specs.Writing.{TakesAll, TakesFront};
@@ -15,7 +16,8 @@ use usfm_ref::{Book, Key, Place};
 
 // Whether the set has an operation of the book.
 pub(crate) fn has_book(set: &OpSet, book: Book) -> bool
-    ensures { result ≡ exports.has_book set.now book }
+    ensures has { result ≡ exports.has_book set.now book }
+    ensures set { IsOpSet set.now }
 {
     set.iter().any(|op| is_of(op, book))
 }

@@ -21,7 +21,7 @@ pub enum Fault {
     /// 51: two operations that are not equal have this id.
     #[error("two operations that differ have one id: {} {}", .0.number, .0.name.text())]
     Clash(OpId),
-    /// 60 to 67: bytes that are no bundle.
+    /// 60 to 68: bytes that are no bundle.
     #[error("{0}")]
     Bundle(BundleFault),
     /// 82: the book has no operation.

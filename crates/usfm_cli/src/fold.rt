@@ -1,6 +1,7 @@
 // From a stream of bundles to a book.
-ghost use Rattle.std.specs.Prelude.{◌≡◌, []};
+ghost use Rattle.std.specs.Prelude.{◌≡◌, [], OnOk};
 ghost use Rattle.usfm_cli.specs.Streams.{union_in, UnionAnswers};
+ghost use Rattle.usfm_cli.specs.Books.{WritesBook};
 ghost use Rattle.usfm_cli.specs.Folding.{FoldsStream, source_failures, sink_failures};
 
 use crate::export::{has_book, write_export};
@@ -11,7 +12,8 @@ use std::alloc::Global;
 use usfm_ref::Book;
 
 /// Reads bundles one after another to the end of the source, takes the union of their operations,
-/// and writes the book's text to the sink: the picked texts of its segments by rising key.
+/// and writes the book's text to the sink: the picked texts of its segments by rising key. The book
+/// is UTF-8, and cuts back into them.
 ///
 /// Each bundle is joined before the next one is read, so the first refusal in the order of the
 /// bytes is answered. Nothing is written before all is judged. The source is read at most once for
@@ -20,7 +22,7 @@ use usfm_ref::Book;
 /// # Errors
 /// - `ReadFailed` (120) at the first error of the source, of whatever kind; `TooLong` (121) where it
 ///   gives more than 268,435,456 bytes.
-/// - `Bundle` (60 to 67) where the bytes are no bundle; `Clash` (51) where a bundle has an operation
+/// - `Bundle` (60 to 68) where the bytes are no bundle; `Clash` (51) where a bundle has an operation
 ///   that differs from one of a bundle before under the same id, with the least such id.
 /// - `NoBook` (82) where no operation is of the book.
 /// - `WriteFailed` (90) where the sink answers an error or takes 0 bytes, with the bytes gone out:
@@ -34,6 +36,7 @@ pub fn fold_stream<R: ByteSource, W: ByteSink>(
 ) -> Result<(), Fault>
     ensures folds { FoldsStream book (R.to_come source.old) (R.to_come source.new)
         (R.reads source.old) (R.reads source.new) (W.taken sink.old) (W.taken sink.new) result }
+    ensures cuts_back { OnOk result (WritesBook book (W.taken sink.old) (W.taken sink.new)) }
     ensures read_failed { R.failures source.new ≡ source_failures result (R.failures source.old) }
     ensures write_failed { W.failures sink.new ≡ sink_failures result (W.failures sink.old) }
 {

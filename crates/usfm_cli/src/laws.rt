@@ -1,5 +1,6 @@
 //! Laws of streams of bundles, over the definitions alone. Each function does nothing: its contract is
 //! the law.
+ghost use Rattle.usfm_cli.specs.Books as books;
 ghost use Rattle.usfm_cli.specs.StreamLaws as laws;
 
 /// Bundles one after another give the union of their sets, taken one after another, or the first
@@ -17,4 +18,10 @@ pub fn unions_are_of_streams()
 /// repetition, give the same bytes of every book.
 pub fn same_operations_same_books()
     ensures { laws.SameOperationsSameBooks }
+{}
+
+/// What a stream of bytes gives for a book is the export of a set, is UTF-8, and cuts back into the
+/// picked texts.
+pub fn folded_books_cut_back()
+    ensures { books.FoldedBooksCutBack }
 {}

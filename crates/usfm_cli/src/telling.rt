@@ -75,7 +75,8 @@ fn push_place(line: &mut FaultLine, fault: &BundleFault)
         | BundleFault::BadKey(at)
         | BundleFault::BadReplaced(at)
         | BundleFault::BadTag(at)
-        | BundleFault::NotUtf8(at) => push_count(line, *at),
+        | BundleFault::NotUtf8(at)
+        | BundleFault::BadText(at) => push_count(line, *at),
     }
 }
 
@@ -109,5 +110,6 @@ fn bundle_number(fault: &BundleFault) -> u64
         BundleFault::BadReplaced(_) => 65,
         BundleFault::BadTag(_) => 66,
         BundleFault::NotUtf8(_) => 67,
+        BundleFault::BadText(_) => 68,
     }
 }

@@ -23,6 +23,10 @@ const CLASHING: &[u8] =
 const NAMES_ITSELF: &[u8] =
     b"USFMSR1\n\0\0\0\0\0\0\0\x01\0\0\0\0\0\0\0\x01\x03anaMAT\0\0\0\0\0\0\0\0\0\0\0\0\0\x01\0\0\0\0\0\0\0\x01\x03ana\x01\0\0\0\0\0\0\0\x08\\id MAT\n";
 
+// B1 with the text `\v 2 In␊` at MAT 1:1.
+const FITS_ANOTHER: &[u8] =
+    b"USFMSR1\n\0\0\0\0\0\0\0\x02\0\0\0\0\0\0\0\x01\x03anaMAT\0\0\0\0\0\0\0\0\0\0\0\0\0\0\x01\0\0\0\0\0\0\0\x08\\id MAT\n\0\0\0\0\0\0\0\x02\x03anaMAT\0\x01\x01\0\x01\0\0\0\0\0\0\0\0\0\x01\0\0\0\0\0\0\0\x08\\v 2 In\n";
+
 // Bundles one after another.
 fn stream(alloc: Global, bundles: &[&[u8]]) -> Result<Vec<u8>, Fail> {
     let mut bytes = Vec::new(alloc);
@@ -63,6 +67,7 @@ fn bundles_are_folded(rt: HostRuntime) -> Result<(), Fail> {
         ([B1, CLASHING].as_slice(), "MAT", b"fault 51 2 ana\n"),
         ([B1].as_slice(), "LUK", b"fault 82\n"),
         ([NAMES_ITSELF].as_slice(), "MAT", b"fault 65 1\n"),
+        ([FITS_ANOTHER].as_slice(), "MAT", b"fault 68 2\n"),
         ([B1, b"\0"].as_slice(), "MAT", b"fault 60\n"),
     ] {
         let input = stream(alloc, bundles)?;
