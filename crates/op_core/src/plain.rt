@@ -24,6 +24,7 @@ impl PlainSet {
                 at += 1;
             }
         }
+        let at = at.min(self.ops.len());
         self.ops.insert(at, op)?;
         Ok(())
     }

@@ -25,6 +25,31 @@ fn arrival(alloc: Global, which: usize) -> Result<Vec<Op>, Fail> {
     Ok(ops)
 }
 
+// Adds one operation by `join_rising`, if its id is not held.
+fn join_one(alloc: Global, set: &mut OpSet, op: Op) -> Result<u64, Fail> {
+    let id = op.id();
+    if set.get(&id).is_some() {
+        return Err(Fail::from("the id is held"));
+    }
+    Ok(set.join_rising(vec![in alloc; op]?)?)
+}
+
+fn books_of(alloc: Global, set: &OpSet) -> Result<Vec<Book>, Fail> {
+    let mut books = Vec::new(alloc);
+    for book in set.books() {
+        books.push(book)?;
+    }
+    Ok(books)
+}
+
+fn keys_of(alloc: Global, set: &OpSet, book: Book) -> Result<Vec<Key>, Fail> {
+    let mut keys = Vec::new(alloc);
+    for key in set.keys(book) {
+        keys.push(key)?;
+    }
+    Ok(keys)
+}
+
 #[test]
 fn six_orders(rt: HostRuntime) -> Result<(), Fail> {
     let alloc = rt.alloc();
@@ -54,7 +79,8 @@ fn six_orders(rt: HostRuntime) -> Result<(), Fail> {
         assert!(rt; set.shown_ids(mat, verse(1)?) == both.as_slice());
         assert!(rt; set.shown_ids(mat, verse(2)?).is_empty());
         assert!(rt; set.awaited(alloc)?.is_empty());
-        assert!(rt; set.books().count() == 1 && set.keys(mat).count() == 2);
+        assert!(rt; &*books_of(alloc, &set)? == [mat].as_slice());
+        assert!(rt; &*keys_of(alloc, &set, mat)? == [head(0)?, verse(1)?].as_slice());
     }
     Ok(())
 }
@@ -63,9 +89,13 @@ fn six_orders(rt: HostRuntime) -> Result<(), Fail> {
 fn what_is_named_is_awaited(rt: HostRuntime) -> Result<(), Fail> {
     let alloc = rt.alloc();
     let mut set = OpSet::new(alloc);
-    assert_eq!(rt; set.join_rising(arrival(alloc, 1)?)?, 1);
+    for op in arrival(alloc, 1)? {
+        assert_eq!(rt; join_one(alloc, &mut set, op)?, 1);
+    }
     assert!(rt; &*set.awaited(alloc)? == [op_id(2, "ana")?].as_slice());
-    assert_eq!(rt; set.join_rising(arrival(alloc, 0)?)?, 2);
+    for op in arrival(alloc, 0)? {
+        assert_eq!(rt; join_one(alloc, &mut set, op)?, 1);
+    }
     assert!(rt; set.awaited(alloc)?.is_empty());
     let mat = Book::read("MAT")?;
     assert!(rt; set.shown_ids(mat, verse(1)?) == [op_id(3, "ben")?].as_slice());
@@ -102,9 +132,8 @@ fn a_search_costs_a_logarithm(rt: HostRuntime) -> Result<(), Fail> {
     let before = set.compared();
     set.insert(op(alloc, op_id(100, "ben")?, key, &[named], "b")?)?;
     let between = set.compared();
-    let mut new = Vec::new(alloc);
-    new.push(op(alloc, op_id(101, "ben")?, key, &[op_id(100, "ben")?], "c")?)?;
-    assert_eq!(rt; set.join_rising(new)?, 1);
+    let last = op(alloc, op_id(101, "ben")?, key, &[op_id(100, "ben")?], "c")?;
+    assert_eq!(rt; join_one(alloc, &mut set, last)?, 1);
     let after = set.compared();
     for (one, other) in [(before, between), (between, after)] {
         assert!(rt; one < other && other - one <= 256, "{one} {other}");
@@ -121,7 +150,7 @@ fn scattered(i: u16) -> u16 {
 
 // An operation of one of a few segments, which names an earlier one of its own or of another segment.
 fn any_op(alloc: Global, i: u16) -> Result<Op, Fail> {
-    let number = scattered(i) + 1;
+    let number = scattered(i).saturating_add(1);
     let name = if number % 3 == 0 { "ben" } else { "ana" };
     let mut named: Vec<OpId> = Vec::new(alloc);
     if number > 5 {
@@ -150,11 +179,10 @@ fn the_index_is_the_plain_program(rt: HostRuntime) -> Result<(), Fail> {
             );
         }
         assert!(rt; set.awaited(alloc)? == plain.awaited(alloc)?, "{i}");
-        let keys = plain.keys(alloc, mat)?;
-        assert_eq!(rt; set.keys(mat).count(), keys.len(), "{i}");
-        for (one, other) in set.keys(mat).zip(keys.iter()) {
-            assert!(rt; one == *other, "{i}");
-        }
+        assert!(rt;
+            keys_of(alloc, &set, mat)? == plain.keys(alloc, mat)?,
+            "{i}"
+        );
     }
     Ok(())
 }
