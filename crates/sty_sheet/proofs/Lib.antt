@@ -1,6 +1,7 @@
 pub mod EachOnce
 pub mod Entries
 pub mod Finding
+pub mod LastRecords
 pub mod LineSteps
 pub mod RecordFields
 pub mod Resume

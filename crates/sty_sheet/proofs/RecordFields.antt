@@ -12,7 +12,7 @@ or_none : {A : Type 0} (o : Option A) → option_or None o ≡ option_or o None
 or_none None = refl
 or_none (Some x) = refl
 
-or_assoc : {A : Type 0} (o p q : Option A) → option_or (option_or o p) q ≡ option_or o (option_or p q)
+pub or_assoc : {A : Type 0} (o p q : Option A) → option_or (option_or o p) q ≡ option_or o (option_or p q)
 or_assoc None p q = refl
 or_assoc (Some x) p q = refl
 

@@ -9,6 +9,7 @@
 mod fault;
 mod field;
 mod kind;
+pub mod laws;
 mod line;
 mod reader;
 mod sheet;
