@@ -111,7 +111,7 @@ fn apart(alloc: Global, count: u16) -> Result<OpSet, Fail> {
             letter: None,
         };
         let key = Key::new(i / 64, place).ok_or("key")?;
-        set.insert(op(alloc, op_id(u64::from(i) + 1, "ana")?, key, &[], "a")?)?;
+        set.insert(op(alloc, op_id(u64::from(i) + 1, "ana")?, key, &[], "")?)?;
     }
     Ok(set)
 }
@@ -130,9 +130,9 @@ fn a_search_costs_a_logarithm(rt: HostRuntime) -> Result<(), Fail> {
     .ok_or("key")?;
     let named = op_id(68, "ana")?;
     let before = set.compared();
-    set.insert(op(alloc, op_id(100, "ben")?, key, &[named], "b")?)?;
+    set.insert(op(alloc, op_id(100, "ben")?, key, &[named], "")?)?;
     let between = set.compared();
-    let last = op(alloc, op_id(101, "ben")?, key, &[op_id(100, "ben")?], "c")?;
+    let last = op(alloc, op_id(101, "ben")?, key, &[op_id(100, "ben")?], "")?;
     assert_eq!(rt; join_one(alloc, &mut set, last)?, 1);
     let after = set.compared();
     for (one, other) in [(before, between), (between, after)] {
@@ -158,8 +158,8 @@ fn any_op(alloc: Global, i: u16) -> Result<Op, Fail> {
         let its = if other % 3 == 0 { "ben" } else { "ana" };
         named.push(op_id(u64::from(other), its)?)?;
     }
-    let key = Key::new(number % 2, Place::Head).ok_or("key")?;
-    op(alloc, op_id(u64::from(number), name)?, key, &named, "a")
+    let key = Key::new(number % 2 + 1, Place::Head).ok_or("key")?;
+    op(alloc, op_id(u64::from(number), name)?, key, &named, "")
 }
 
 #[test]
@@ -171,7 +171,7 @@ fn the_index_is_the_plain_program(rt: HostRuntime) -> Result<(), Fail> {
     for i in 0..64 {
         assert!(rt; set.insert(any_op(alloc, i)?)?, "{i}");
         plain.add(any_op(alloc, i)?)?;
-        for chapter in 0..2 {
+        for chapter in 1..3 {
             let shown = plain.shown_ids(alloc, mat, head(chapter)?)?;
             assert!(rt;
                 *set.shown_ids(mat, head(chapter)?) == *shown,
