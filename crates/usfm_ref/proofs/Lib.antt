@@ -2,6 +2,7 @@ pub mod Codes
 pub mod Orders
 pub mod Sorted
 pub mod Placed
+pub mod Ranks
 pub mod Members
 pub mod Runs
 pub mod Readings

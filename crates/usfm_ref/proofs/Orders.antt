@@ -10,7 +10,7 @@ use Rattle.std.specs.Cmp.Lexicographic.{nat_list_cmp_total, options_total, bytes
 use Rattle.std.specs.FinMap.{slice_cmp-IsAntisymmetric, nat_cmp-IsAntisymmetric}
 use Rattle.std.proofs.lemmas.Cmp.{on_total, then_total}
 use Rattle.std.proofs.lemmas.Bool.{and_parts, and_from, eqb-true, eq-eqb}
-use Rattle.usfm_ref.specs.Books.{book_cmp, rank_of, same_bytes}
+use Rattle.usfm_ref.specs.Books.{book_cmp, code_cmp, rank_of, same_bytes}
 use Rattle.usfm_ref.specs.Keys.{KeyParts, letter_cmp, place_cmp, key_cmp, same_letter, same_key, same_place}
 use Rattle.usfm_ref.specs.Segments.{Segment, segment_cmp, same_segment}
 use Rattle.usfm_ref.specs.declared.key.Place.{Place}
@@ -47,8 +47,11 @@ place_total = subst IsTotalOrder (λ i p q. sym (place_as p q) i) (on_total vers
 pub key_total : IsTotalOrder key_cmp
 key_total = then_total (on_total (λ (a : KeyParts). a.chapter) nat_cmp_total) (on_total (λ (a : KeyParts). a.place) place_total)
 
+pub code_total : IsTotalOrder code_cmp
+code_total = nat_list_cmp_total
+
 pub book_total : IsTotalOrder book_cmp
-book_total = then_total (on_total rank_of nat_cmp_total) nat_list_cmp_total
+book_total = then_total (on_total rank_of nat_cmp_total) code_total
 
 pub segment_total : IsTotalOrder segment_cmp
 segment_total = then_total (on_total (λ (a : Segment). a.book) book_total) (on_total (λ (a : Segment). a.key) key_total)

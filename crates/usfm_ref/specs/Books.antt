@@ -1,9 +1,9 @@
 -- Codes of books, and the order of books: USFM 3.0's identifiers of books in the order of the canon of 66,
 -- and every other code behind them by its bytes (this project's own rule).
 use Rattle.std.specs.Prelude.{ℕ, ◌==◌, nat_le, Bool, false, ◌&&◌, ◌||◌, List, [], ◌∷◌, codes}
-use Rattle.std.specs.List.{position_or_len}
+use Rattle.std.specs.List.{position_or_len, list_all, list_any}
 use Rattle.std.specs.declared.cmp.Ordering.{Ordering}
-use Rattle.std.specs.Ordering.{nat_cmp, ordering_then}
+use Rattle.std.specs.Ordering.{nat_cmp, ordering_then, is_eq}
 use Rattle.std.specs.Cmp.Lexicographic.{slice_cmp, pointwise}
 
 -- one of A to Z or 0 to 9
@@ -37,6 +37,14 @@ canon =
 unfoldable pub rank_of : List ℕ → ℕ
 rank_of code = position_or_len (λ one. same_bytes one code) canon
 
+-- codes by their bytes
+abbrev pub code_cmp : List ℕ → List ℕ → Ordering
+code_cmp = slice_cmp nat_cmp
+
+-- a list of codes with their places has the canon: each place is right, and each code of the canon is there
+abbrev pub has_canon : List (List ℕ × ℕ) → Bool
+has_canon known = list_all (λ e. rank_of e.0 == e.1) known && list_all (λ one. list_any (λ e. is_eq (code_cmp one e.0)) known) canon
+
 -- the order of books: by the canon, and then by bytes
 abbrev pub book_cmp : List ℕ → List ℕ → Ordering
-book_cmp a b = ordering_then (nat_cmp (rank_of a) (rank_of b)) (slice_cmp nat_cmp a b)
+book_cmp a b = ordering_then (nat_cmp (rank_of a) (rank_of b)) (code_cmp a b)

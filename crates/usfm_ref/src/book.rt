@@ -1,6 +1,8 @@
-ghost use Rattle.std.specs.Prelude.{◌≡◌, ◌≤◌, length, ◌↔◌, IsTrue, IsOk, IfOk, IfErr, IsSome, IfSome};
-ghost use Rattle.usfm_ref.specs.Books.{is_book_code, rank_of, is_code_char, same_bytes};
+ghost use Rattle.std.specs.Prelude.{◌≡◌, ◌↔◌, not, IsTrue, IsOk, IfOk, IfErr, IsSome, IfSome};
 ghost use Rattle.std.specs.List.{position_or_len};
+ghost use Rattle.std.specs.Ordering.{is_lt};
+ghost use Rattle.usfm_ref.specs.Books.{is_book_code, rank_of, is_code_char, code_cmp, has_canon};
+ghost use Rattle.usfm_ref.specs.Rising.{rises_by};
 
 use crate::fault::RefFault;
 use std::marker::Model;
@@ -31,14 +33,74 @@ impl Model for Book {
     ghost inverse_ok = { λ b h i. record { rank = sym h.1 i; code = b.code } };
 }
 
-const CANON: [[u8; 3]; 66] = [
-    *b"GEN", *b"EXO", *b"LEV", *b"NUM", *b"DEU", *b"JOS", *b"JDG", *b"RUT", *b"1SA", *b"2SA",
-    *b"1KI", *b"2KI", *b"1CH", *b"2CH", *b"EZR", *b"NEH", *b"EST", *b"JOB", *b"PSA", *b"PRO",
-    *b"ECC", *b"SNG", *b"ISA", *b"JER", *b"LAM", *b"EZK", *b"DAN", *b"HOS", *b"JOL", *b"AMO",
-    *b"OBA", *b"JON", *b"MIC", *b"NAM", *b"HAB", *b"ZEP", *b"HAG", *b"ZEC", *b"MAL", *b"MAT",
-    *b"MRK", *b"LUK", *b"JHN", *b"ACT", *b"ROM", *b"1CO", *b"2CO", *b"GAL", *b"EPH", *b"PHP",
-    *b"COL", *b"1TH", *b"2TH", *b"1TI", *b"2TI", *b"TIT", *b"PHM", *b"HEB", *b"JAS", *b"1PE",
-    *b"2PE", *b"1JN", *b"2JN", *b"3JN", *b"JUD", *b"REV",
+// The codes of the canon by their bytes, each with its place in the canon, so that a code is found by halves.
+const BY_CODE: [([u8; 3], u8); 66] = [
+    (*b"1CH", 12),
+    (*b"1CO", 45),
+    (*b"1JN", 61),
+    (*b"1KI", 10),
+    (*b"1PE", 59),
+    (*b"1SA", 8),
+    (*b"1TH", 51),
+    (*b"1TI", 53),
+    (*b"2CH", 13),
+    (*b"2CO", 46),
+    (*b"2JN", 62),
+    (*b"2KI", 11),
+    (*b"2PE", 60),
+    (*b"2SA", 9),
+    (*b"2TH", 52),
+    (*b"2TI", 54),
+    (*b"3JN", 63),
+    (*b"ACT", 43),
+    (*b"AMO", 29),
+    (*b"COL", 50),
+    (*b"DAN", 26),
+    (*b"DEU", 4),
+    (*b"ECC", 20),
+    (*b"EPH", 48),
+    (*b"EST", 16),
+    (*b"EXO", 1),
+    (*b"EZK", 25),
+    (*b"EZR", 14),
+    (*b"GAL", 47),
+    (*b"GEN", 0),
+    (*b"HAB", 34),
+    (*b"HAG", 36),
+    (*b"HEB", 57),
+    (*b"HOS", 27),
+    (*b"ISA", 22),
+    (*b"JAS", 58),
+    (*b"JDG", 6),
+    (*b"JER", 23),
+    (*b"JHN", 42),
+    (*b"JOB", 17),
+    (*b"JOL", 28),
+    (*b"JON", 31),
+    (*b"JOS", 5),
+    (*b"JUD", 64),
+    (*b"LAM", 24),
+    (*b"LEV", 2),
+    (*b"LUK", 41),
+    (*b"MAL", 38),
+    (*b"MAT", 39),
+    (*b"MIC", 32),
+    (*b"MRK", 40),
+    (*b"NAM", 33),
+    (*b"NEH", 15),
+    (*b"NUM", 3),
+    (*b"OBA", 30),
+    (*b"PHM", 56),
+    (*b"PHP", 49),
+    (*b"PRO", 19),
+    (*b"PSA", 18),
+    (*b"REV", 65),
+    (*b"ROM", 44),
+    (*b"RUT", 7),
+    (*b"SNG", 21),
+    (*b"TIT", 55),
+    (*b"ZEC", 37),
+    (*b"ZEP", 35),
 ];
 
 impl Book {
@@ -94,18 +156,47 @@ fn is_code_byte(byte: u8) -> bool
 fn rank(code: &[u8; 3]) -> u8
     ensures { result ≡ rank_of code.now }
 {
-    let canon = CANON;
-    place(&canon, code) as u8
+    let known = BY_CODE;
+    rank_among(&known, code)
 }
 
-fn place(known: &[[u8; 3]], code: &[u8; 3]) -> usize
-    ensures first { result ≡ position_or_len (λ one. same_bytes one code.now) known.now }
-    ensures within { result ≤ length known.now }
+// The place of a code in the canon, or 66, by a list of the canon's codes that rises.
+fn rank_among(known: &[([u8; 3], u8)], code: &[u8; 3]) -> u8
+    requires rising { IsTrue (rises_by code_cmp (λ e. e.0) known.now) }
+    requires canon { IsTrue (has_canon known.now) }
+    ensures { result ≡ rank_of code.now }
 {
-    for (i, one) in known.iter().enumerate() {
-        if one == code {
-            return i;
+    let at = place(known, code);
+    if at < known.len() {
+        let (found, rank) = known[at];
+        if found == *code {
+            return rank;
         }
     }
-    known.len()
+    66
+}
+
+// How many codes at the front are below this one.
+fn place(known: &[([u8; 3], u8)], code: &[u8; 3]) -> usize
+    requires rising { IsTrue (rises_by code_cmp (λ e. e.0) known.now) }
+    ensures { result ≡ position_or_len (λ e. not (is_lt (code_cmp e.0 code.now))) known.now }
+{
+    let mut low = 0;
+    let mut high = known.len();
+    'halves: while low < high {
+        let middle = low + (high - low) / 2;
+        let (found, _) = known[middle];
+        if is_below(&found, code) {
+            low = middle + 1;
+        } else {
+            high = middle;
+        }
+    }
+    low
+}
+
+fn is_below(code: &[u8; 3], other: &[u8; 3]) -> bool
+    ensures { result ≡ is_lt (code_cmp code.now other.now) }
+{
+    code.cmp(other).is_lt()
 }
