@@ -1,0 +1,76 @@
+"""What the benches of bundles have in common: a proved program and a plain one, built beside each other and run in turn."""
+import os
+import shutil
+import subprocess
+import sys
+
+HERE = os.path.dirname(os.path.abspath(__file__))
+TOP = os.path.dirname(HERE)
+MAGIC = b"USFMSR1\n"
+
+
+def lines_of(crate):
+    """The lines of crates.txt of a crate and of all that it stands on, in their order."""
+    with open(os.path.join(TOP, "crates.txt")) as every:
+        lines = [line for line in every if line.strip()]
+    wanted = {crate}
+    for line in reversed(lines):
+        name, needs = line.split(":")
+        if name in wanted:
+            wanted.update(needs.split())
+    return [line for line in lines if line.split(":")[0] in wanted]
+
+
+def build(work, folder, crate, words):
+    """Builds FOLDER/bench.rt.txt over the crate by `rt run`, with these words, and FOLDER/plain.rs by `rustc -O`."""
+    subprocess.run(["git", "-C", work, "init", "-q"], check=True)
+    name = os.path.basename(folder) + "_bench"
+    lines = lines_of(crate)
+    for line in lines:
+        copied = line.split(":")[0]
+        shutil.copytree(os.path.join(TOP, "crates", copied), os.path.join(work, "crates", copied))
+    program = os.path.join(work, "crates", name)
+    os.makedirs(os.path.join(program, "src"))
+    shutil.copy(os.path.join(folder, "bench.rt.txt"), os.path.join(program, "src/main.rt"))
+    with open(os.path.join(work, "crates.txt"), "w") as out:
+        out.writelines(lines + ["%s: %s anyhow\n" % (name, crate)])
+    ran = subprocess.run(["rt", "run", "--", *words], cwd=program, stdout=subprocess.PIPE, stderr=subprocess.STDOUT, text=True)
+    if ran.returncode:
+        sys.exit("\n".join(ran.stdout.splitlines()[-30:]))
+    plain = os.path.join(work, "plain")
+    subprocess.run(["rustc", "-O", "--edition", "2021", "-o", plain, os.path.join(folder, "plain.rs")], check=True)
+    return os.path.join(program, "out", name), plain
+
+
+def write_bundles(count, names):
+    """Writes bundles of so many operations each: the first of a generated stream of three."""
+    generate = os.path.join(HERE, "fold/generate.py")
+    stream = subprocess.run([generate, str(count * 10 // 6)], stdout=subprocess.PIPE, check=True).stdout
+    for name, bundle in zip(names, stream.split(MAGIC)[1:]):
+        with open(name, "wb") as out:
+            out.write(MAGIC + bundle)
+
+
+def once(program, words):
+    """Nanoseconds of the least round, what else the program told, and its peak kilobytes."""
+    child = subprocess.Popen([program, *words], stdout=subprocess.PIPE, text=True)
+    told = child.stdout.read().split()
+    _, status, usage = os.wait4(child.pid, 0)
+    child.returncode = os.waitstatus_to_exitcode(status)
+    if child.returncode:
+        sys.exit("%s failed" % program)
+    return int(told[0]), told[1:], usage.ru_maxrss
+
+
+def turn_about(programs, words, turns):
+    """The least nanoseconds of each program, and what they told, in which they have to agree."""
+    least = [float("inf")] * len(programs)
+    answers = []
+    for _ in range(turns):
+        for i, program in enumerate(programs):
+            nanos, told, _ = once(program, words)
+            least[i] = min(least[i], nanos)
+            answers.append(told)
+    if any(told != answers[0] for told in answers):
+        sys.exit("the two programs answer differently")
+    return least, answers[0]
