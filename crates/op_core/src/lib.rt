@@ -4,6 +4,7 @@
 mod books;
 mod chapter;
 mod fault;
+mod finder;
 mod ids;
 mod index;
 mod keys;
@@ -20,6 +21,7 @@ mod set;
 
 pub use books::Books;
 pub use fault::{IdFault, SetFault};
+pub use finder::Finder;
 pub use keys::Keys;
 pub use name::ReplicaName;
 pub use op::Op;

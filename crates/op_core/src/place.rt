@@ -1,5 +1,5 @@
 // Searches by halves in what rises. Each comparison of two ids or two segments is counted.
-ghost use Rattle.std.specs.Prelude.{◌≡◌, ◌≤◌, ◌||◌, length, not, IsTrue};
+ghost use Rattle.std.specs.Prelude.{◌≡◌, ◌<◌, ◌≤◌, ◌||◌, length, not, IsTrue};
 ghost use Rattle.std.specs.List.{position_or_len};
 ghost use Rattle.std.specs.Ordering.{is_lt};
 ghost use Rattle.std.specs.Option.{option_copied};
@@ -25,18 +25,57 @@ pub(crate) fn place_op(ops: &[Op], id: OpId, compared: &mut u64) -> usize
     ensures within { result ≤ length ops.now }
     ensures counted { Counts (length ops.now) compared.old compared.new }
 {
+    search(ops, id, ops.len() / 2, ops.len(), compared)
+}
+
+// The same where the place is near another one. It costs a comparison or two where it is that one or
+// beside it.
+pub(crate) fn place_near(ops: &[Op], id: OpId, near: usize, compared: &mut u64) -> usize
+    requires rising { IsTrue (sets.rises ops.now) }
+    ensures place { result ≡ position_or_len (λ o. not (id_below o.id id)) ops.now }
+    ensures within { result ≤ length ops.now }
+    ensures counted { Counts (length ops.now) compared.old compared.new }
+{
+    search(ops, id, near.min(ops.len().saturating_sub(1)), 1, compared)
+}
+
+// Looks first at `next`, then on from there by steps that double, and by halves as soon as a step leads out
+// of what is left.
+fn search(ops: &[Op], id: OpId, mut next: usize, mut reach: usize, compared: &mut u64) -> usize
+    requires rising { IsTrue (sets.rises ops.now) }
+    ensures place { result ≡ position_or_len (λ o. not (id_below o.id id)) ops.now }
+    ensures within { result ≤ length ops.now }
+    ensures counted { Counts (length ops.now) compared.old compared.new }
+{
     let mut low = 0;
     let mut high = ops.len();
-    'halves: while low < high {
-        let middle = low + (high - low) / 2;
+    'narrowing: while low < high {
+        let middle = within(low, high, next);
+        let step = reach;
+        reach = reach.saturating_mul(2);
         *compared = compared.saturating_add(1);
         if is_below(ops[middle].id(), id) {
             low = middle + 1;
+            next = middle.saturating_add(step);
         } else {
             high = middle;
+            next = middle.saturating_sub(step);
         }
     }
     low
+}
+
+// `next` where it is from `low` to below `high`, else what halves these.
+fn within(low: usize, high: usize, next: usize) -> usize
+    requires { low < high }
+    ensures at_least { low ≤ result }
+    ensures below { result < high }
+{
+    if low <= next && next < high {
+        next
+    } else {
+        low + (high - low) / 2
+    }
 }
 
 // The operation of an id.
@@ -45,6 +84,15 @@ pub(crate) fn find_op<'a>(ops: &'a [Op], id: OpId, compared: &mut u64) -> Option
     ensures { option_copied result ≡ sets.get ops.now id }
 {
     let at = place_op(ops, id, compared);
+    op_at(ops, at, id)
+}
+
+// The operation of an id, by how many at the front have an id below it.
+pub(crate) fn op_at<'a>(ops: &'a [Op], at: usize, id: OpId) -> Option<&'a Op>
+    requires rising { IsTrue (sets.rises ops.now) }
+    requires place { at ≡ position_or_len (λ o. not (id_below o.id id)) ops.now }
+    ensures { option_copied result ≡ sets.get ops.now id }
+{
     if at < ops.len() {
         let op = &ops[at];
         if op.id() == id {

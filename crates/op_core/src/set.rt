@@ -11,6 +11,7 @@ ghost use Rattle.usfm_ref.specs.Keys.{is_verse_of};
 use crate::books::Books;
 use crate::chapter::Chapter;
 use crate::fault::SetFault;
+use crate::finder::Finder;
 use crate::index::enroll;
 use crate::keys::Keys;
 use crate::merge::{clash, leave_held, look_at_each, merge, place_first};
@@ -85,6 +86,13 @@ impl OpSet {
         ensures { option_copied result ≡ sets.get self.now id.now }
     {
         find_op(&self.ops, *id, &mut 0)
+    }
+
+    /// What finds held operations by their ids, and fastest by ids that rise. It takes no memory.
+    pub fn finder(&self) -> Finder<'_>
+        ensures { result ≡ self.now }
+    {
+        Finder::new(&self.ops)
     }
 
     /// Adds an operation, and says whether it is new. One that is held already, alike, is dropped,

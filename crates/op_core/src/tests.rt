@@ -124,6 +124,13 @@ fn sets_are_joined(rt: HostRuntime) -> Result<(), Fail> {
     assert_eq!(rt; set.len(), 3);
     assert_eq!(rt; set.iter().count(), 3);
     assert!(rt; set.get(&ben3).is_some() && set.get(&op_id(1, "cy")?).is_none());
+    let mut finder = set.finder();
+    assert!(rt;
+        finder.find(&op_id(9, "ana")?).is_none() && finder.find(&op_id(1, "cy")?).is_none()
+    );
+    for _ in 0..2 {
+        assert!(rt; finder.find(&ben3).is_some_and(|op| op.id() == ben3));
+    }
     Ok(())
 }
 
