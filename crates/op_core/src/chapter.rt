@@ -36,6 +36,7 @@ pub(crate) fn prepare_key(
     alloc: Global,
     key: Key,
     missing: usize,
+    near: &mut usize,
     compared: &mut u64,
 ) -> Result<(), AllocError>
     requires rising { IsTrue (rises_by key_cmp (λ r. r.key) registers.old.items) }
@@ -43,7 +44,7 @@ pub(crate) fn prepare_key(
     ensures ok { OnOk result (PreparesKey key 1 missing registers.old.items registers.new.items) }
     ensures err { OnErr result (PreparesKey key 0 0 registers.old.items registers.new.items) }
 {
-    let at = place_register(registers, key, compared);
+    let at = place_register(registers, key, near, compared);
     if at < registers.len() {
         let register = &mut registers[at];
         if register.order(key).is_eq() {
@@ -63,6 +64,7 @@ pub(crate) fn admit_at_key(
     held: &[Op],
     more: &[Op],
     op: &Op,
+    near: &mut usize,
     compared: &mut u64,
 )
     requires held { IsTrue (sets.rises held.now) }
@@ -75,6 +77,6 @@ pub(crate) fn admit_at_key(
     requires missing_room { unheld held.now more.now op.now op.now.replaced ≤ missing_room_in (register_at op.now.segment.key registers.old.items) }
     ensures { AdmitsAtKey held.now more.now op.now registers.old.items registers.new.items }
 {
-    let at = place_register(registers, op.key(), compared);
+    let at = place_register(registers, op.key(), near, compared);
     registers[at].admit(held, more, op, compared);
 }

@@ -8,7 +8,7 @@ ghost use Rattle.op_core.specs.Index.{register_of, shown_in, missing_in, shown_r
 
 use crate::chapter::{Chapter, admit_at_key, prepare_key};
 use crate::op::Op;
-use crate::place::{head_of, place_chapter};
+use crate::place::{Near, head_of, place_chapter};
 use crate::register::unheld;
 use std::alloc::{AllocError, Global};
 use usfm_ref::{Book, Key};
@@ -20,6 +20,7 @@ pub(crate) fn prepare(
     book: Book,
     key: Key,
     missing: usize,
+    near: &mut Near,
     compared: &mut u64,
 ) -> Result<(), AllocError>
     requires { IsOrderly chapters.old.items }
@@ -27,16 +28,30 @@ pub(crate) fn prepare(
     ensures err { OnErr result (Prepares (segment book key) 0 0 chapters.old.items chapters.new.items) }
 {
     let head = head_of(key);
-    let at = place_chapter(chapters, book, head, compared);
+    let at = place_chapter(chapters, book, head, &mut near.chapter, compared);
     if at < chapters.len() {
         let chapter = &mut chapters[at];
         if chapter.order(book, head).is_eq() {
-            return prepare_key(&mut chapter.registers, alloc, key, missing, compared);
+            return prepare_key(
+                &mut chapter.registers,
+                alloc,
+                key,
+                missing,
+                &mut near.register,
+                compared,
+            );
         }
     }
     chapters.reserve(1)?;
     let mut registers = Vec::new(alloc);
-    prepare_key(&mut registers, alloc, key, missing, compared)?;
+    prepare_key(
+        &mut registers,
+        alloc,
+        key,
+        missing,
+        &mut near.register,
+        compared,
+    )?;
     let chapter = Chapter {
         book,
         head,
@@ -80,9 +95,18 @@ fn prepare_all(
     ensures index { IsIndex held.now chapters.new.items }
     ensures room { OnOk result (HasRoomFor held.now new.now new.now chapters.new.items) }
 {
+    let mut near = Near::default();
     for op in new {
         let missing = unheld(held, new, op, compared);
-        prepare(chapters, alloc, op.book(), op.key(), missing, compared)?;
+        prepare(
+            chapters,
+            alloc,
+            op.book(),
+            op.key(),
+            missing,
+            &mut near,
+            compared,
+        )?;
     }
     Ok(())
 }
@@ -96,8 +120,9 @@ fn admit_all(chapters: &mut Vec<Chapter>, held: &[Op], new: &[Op], compared: &mu
     requires room { HasRoomFor held.now new.now new.now chapters.old.items }
     ensures { IsIndex (sets.join held.now new.now) chapters.new.items }
 {
+    let mut near = Near::default();
     for op in new {
-        admit(chapters, held, new, op, compared);
+        admit(chapters, held, new, op, &mut near, compared);
     }
 }
 
@@ -107,6 +132,7 @@ pub(crate) fn admit(
     held: &[Op],
     more: &[Op],
     op: &Op,
+    near: &mut Near,
     compared: &mut u64,
 )
     requires held { IsTrue (sets.rises held.now) }
@@ -118,6 +144,19 @@ pub(crate) fn admit(
     requires missing_room { unheld held.now more.now op.now op.now.replaced ≤ missing_room_in (register_of op.now.segment chapters.old.items) }
     ensures { AdmitsIn held.now more.now op.now chapters.old.items chapters.new.items }
 {
-    let at = place_chapter(chapters, op.book(), head_of(op.key()), compared);
-    admit_at_key(&mut chapters[at].registers, held, more, op, compared);
+    let at = place_chapter(
+        chapters,
+        op.book(),
+        head_of(op.key()),
+        &mut near.chapter,
+        compared,
+    );
+    admit_at_key(
+        &mut chapters[at].registers,
+        held,
+        more,
+        op,
+        &mut near.register,
+        compared,
+    );
 }

@@ -7,7 +7,7 @@ ghost use Rattle.op_core.specs.Index.{AreApart, IsBefore};
 
 use crate::op::Op;
 use crate::op_id::OpId;
-use crate::place::{find_op, place_op};
+use crate::place::{find_near, place_last};
 use std::cmp::Ordering;
 
 // The least id under which two rising lists have operations that are not equal.
@@ -44,8 +44,9 @@ pub(crate) fn leave_held(new: &mut Vec<Op>, held: &[Op], compared: &mut u64)
     ensures { new.new.items ≡ filter (λ o. is_none (sets.get held.now o.id)) new.old.items }
 {
     let mut kept = 0;
+    let mut near = 0;
     for i in 0..new.len() {
-        if find_op(held, new[i].id(), compared).is_none() {
+        if find_near(held, new[i].id(), &mut near, compared).is_none() {
             new.swap(kept, i);
             kept += 1;
         }
@@ -62,7 +63,7 @@ pub(crate) fn place_first(held: &[Op], new: &[Op], compared: &mut u64) -> usize
 {
     match new.split_first() {
         None => held.len(),
-        Some((op, _)) => place_op(held, op.id(), compared),
+        Some((op, _)) => place_last(held, op.id(), compared),
     }
 }
 
@@ -94,7 +95,7 @@ pub(crate) fn merge(
     ensures { ops.new.items ≡ sets.join ops.old.items new.items }
 {
     'merging: while let Some(op) = new.pop() {
-        let at = place_op(ops, op.id(), compared);
+        let at = place_last(ops, op.id(), compared);
         move_behind(ops, at, &mut tail);
         tail.push(op).unwrap();
     }

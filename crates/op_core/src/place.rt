@@ -1,5 +1,5 @@
-// Searches by halves in what rises. Each comparison of two ids or two segments is counted.
-ghost use Rattle.std.specs.Prelude.{◌≡◌, ◌<◌, ◌≤◌, ◌||◌, length, not, IsTrue};
+// Searches in what rises. Each comparison of two ids or two segments is counted.
+ghost use Rattle.std.specs.Prelude.{◌≡◌, ◌≤◌, ◌||◌, length, not, IsTrue};
 ghost use Rattle.std.specs.List.{position_or_len};
 ghost use Rattle.std.specs.Ordering.{is_lt};
 ghost use Rattle.std.specs.Option.{option_copied};
@@ -16,32 +16,11 @@ use crate::ids::is_below;
 use crate::op::Op;
 use crate::op_id::OpId;
 use crate::register::Register;
+use crate::steps::Steps;
 use usfm_ref::{Book, Key, Place};
 
 // How many operations at the front have an id below this one.
-pub(crate) fn place_op(ops: &[Op], id: OpId, compared: &mut u64) -> usize
-    requires rising { IsTrue (sets.rises ops.now) }
-    ensures place { result ≡ position_or_len (λ o. not (id_below o.id id)) ops.now }
-    ensures within { result ≤ length ops.now }
-    ensures counted { Counts (length ops.now) compared.old compared.new }
-{
-    search(ops, id, ops.len() / 2, ops.len(), compared)
-}
-
-// The same where the place is near another one. It costs a comparison or two where it is that one or
-// beside it.
-pub(crate) fn place_near(ops: &[Op], id: OpId, near: usize, compared: &mut u64) -> usize
-    requires rising { IsTrue (sets.rises ops.now) }
-    ensures place { result ≡ position_or_len (λ o. not (id_below o.id id)) ops.now }
-    ensures within { result ≤ length ops.now }
-    ensures counted { Counts (length ops.now) compared.old compared.new }
-{
-    search(ops, id, near.min(ops.len().saturating_sub(1)), 1, compared)
-}
-
-// Looks first at `next`, then on from there by steps that double, and by halves as soon as a step leads out
-// of what is left.
-fn search(ops: &[Op], id: OpId, mut next: usize, mut reach: usize, compared: &mut u64) -> usize
+fn place_op(ops: &[Op], id: OpId, mut steps: Steps, compared: &mut u64) -> usize
     requires rising { IsTrue (sets.rises ops.now) }
     ensures place { result ≡ position_or_len (λ o. not (id_below o.id id)) ops.now }
     ensures within { result ≤ length ops.now }
@@ -49,33 +28,28 @@ fn search(ops: &[Op], id: OpId, mut next: usize, mut reach: usize, compared: &mu
 {
     let mut low = 0;
     let mut high = ops.len();
-    'narrowing: while low < high {
-        let middle = within(low, high, next);
-        let step = reach;
-        reach = reach.saturating_mul(2);
+    'halves: while low < high {
+        let middle = steps.look(low, high);
         *compared = compared.saturating_add(1);
         if is_below(ops[middle].id(), id) {
             low = middle + 1;
-            next = middle.saturating_add(step);
+            steps.go_on(middle);
         } else {
             high = middle;
-            next = middle.saturating_sub(step);
+            steps.go_back(middle);
         }
     }
     low
 }
 
-// `next` where it is from `low` to below `high`, else what halves these.
-fn within(low: usize, high: usize, next: usize) -> usize
-    requires { low < high }
-    ensures at_least { low ≤ result }
-    ensures below { result < high }
+// The same, where the place is likely to be the end or near it.
+pub(crate) fn place_last(ops: &[Op], id: OpId, compared: &mut u64) -> usize
+    requires rising { IsTrue (sets.rises ops.now) }
+    ensures place { result ≡ position_or_len (λ o. not (id_below o.id id)) ops.now }
+    ensures within { result ≤ length ops.now }
+    ensures counted { Counts (length ops.now) compared.old compared.new }
 {
-    if low <= next && next < high {
-        next
-    } else {
-        low + (high - low) / 2
-    }
+    place_op(ops, id, Steps::near(ops.len(), ops.len()), compared)
 }
 
 // The operation of an id.
@@ -83,7 +57,22 @@ pub(crate) fn find_op<'a>(ops: &'a [Op], id: OpId, compared: &mut u64) -> Option
     requires rising { IsTrue (sets.rises ops.now) }
     ensures { option_copied result ≡ sets.get ops.now id }
 {
-    let at = place_op(ops, id, compared);
+    let at = place_op(ops, id, Steps::halves(ops.len()), compared);
+    op_at(ops, at, id)
+}
+
+// The same, begun where the last search ended.
+pub(crate) fn find_near<'a>(
+    ops: &'a [Op],
+    id: OpId,
+    near: &mut usize,
+    compared: &mut u64,
+) -> Option<&'a Op>
+    requires rising { IsTrue (sets.rises ops.now) }
+    ensures { option_copied result ≡ sets.get ops.now id }
+{
+    let at = place_op(ops, id, Steps::near(*near, ops.len()), compared);
+    *near = at;
     op_at(ops, at, id)
 }
 
@@ -113,11 +102,19 @@ pub(crate) fn is_in(ops: &[Op], book: Book, key: Key, id: OpId, compared: &mut u
     }
 }
 
+/// Where the last searches for a segment ended, among the chapters and among the registers of its chapter.
+#[derive(Clone, Copy, Debug, Default)]
+pub(crate) struct Near {
+    pub(crate) chapter: usize,
+    pub(crate) register: usize,
+}
+
 // How many chapters at the front are before this one.
-pub(crate) fn place_chapter(
+fn search_chapters(
     chapters: &[Chapter],
     book: Book,
     head: Key,
+    mut steps: Steps,
     compared: &mut u64,
 ) -> usize
     requires rising { IsTrue (rises_by segment_cmp place_of chapters.now) }
@@ -128,19 +125,39 @@ pub(crate) fn place_chapter(
     let mut low = 0;
     let mut high = chapters.len();
     'halves: while low < high {
-        let middle = low + (high - low) / 2;
+        let middle = steps.look(low, high);
         *compared = compared.saturating_add(1);
         if chapters[middle].order(book, head).is_lt() {
             low = middle + 1;
+            steps.go_on(middle);
         } else {
             high = middle;
+            steps.go_back(middle);
         }
     }
     low
 }
 
+// The same, begun where the last search ended.
+pub(crate) fn place_chapter(
+    chapters: &[Chapter],
+    book: Book,
+    head: Key,
+    near: &mut usize,
+    compared: &mut u64,
+) -> usize
+    requires rising { IsTrue (rises_by segment_cmp place_of chapters.now) }
+    ensures place { result ≡ position_or_len (λ c. not (is_lt (segment_cmp (place_of c) (segment book head)))) chapters.now }
+    ensures within { result ≤ length chapters.now }
+    ensures counted { Counts (length chapters.now) compared.old compared.new }
+{
+    let steps = Steps::near(*near, chapters.len());
+    *near = search_chapters(chapters, book, head, steps, compared);
+    *near
+}
+
 // How many registers at the front are before this key.
-pub(crate) fn place_register(registers: &[Register], key: Key, compared: &mut u64) -> usize
+fn search_registers(registers: &[Register], key: Key, mut steps: Steps, compared: &mut u64) -> usize
     requires rising { IsTrue (rises_by key_cmp (λ r. r.key) registers.now) }
     ensures place { result ≡ position_or_len (λ r. not (is_lt (key_cmp r.key key))) registers.now }
     ensures within { result ≤ length registers.now }
@@ -149,15 +166,34 @@ pub(crate) fn place_register(registers: &[Register], key: Key, compared: &mut u6
     let mut low = 0;
     let mut high = registers.len();
     'halves: while low < high {
-        let middle = low + (high - low) / 2;
+        let middle = steps.look(low, high);
         *compared = compared.saturating_add(1);
         if registers[middle].order(key).is_lt() {
             low = middle + 1;
+            steps.go_on(middle);
         } else {
             high = middle;
+            steps.go_back(middle);
         }
     }
     low
+}
+
+// The same, begun where the last search ended.
+pub(crate) fn place_register(
+    registers: &[Register],
+    key: Key,
+    near: &mut usize,
+    compared: &mut u64,
+) -> usize
+    requires rising { IsTrue (rises_by key_cmp (λ r. r.key) registers.now) }
+    ensures place { result ≡ position_or_len (λ r. not (is_lt (key_cmp r.key key))) registers.now }
+    ensures within { result ≤ length registers.now }
+    ensures counted { Counts (length registers.now) compared.old compared.new }
+{
+    let steps = Steps::near(*near, registers.len());
+    *near = search_registers(registers, key, steps, compared);
+    *near
 }
 
 // The registers of a segment's chapter.
@@ -171,7 +207,13 @@ pub(crate) fn registers_of<'a>(
     ensures { result.now ≡ registers_of (segment book key) chapters.now }
 {
     let head = head_of(key);
-    let at = place_chapter(chapters, book, head, compared);
+    let at = search_chapters(
+        chapters,
+        book,
+        head,
+        Steps::halves(chapters.len()),
+        compared,
+    );
     if at < chapters.len() {
         let chapter = &chapters[at];
         if chapter.order(book, head).is_eq() {
@@ -190,7 +232,7 @@ pub(crate) fn register_at<'a>(
     requires rising { IsTrue (rises_by key_cmp (λ r. r.key) registers.now) }
     ensures { option_copied result ≡ register_at key registers.now }
 {
-    let at = place_register(registers, key, compared);
+    let at = search_registers(registers, key, Steps::halves(registers.len()), compared);
     if at < registers.len() {
         let register = &registers[at];
         if register.order(key).is_eq() {

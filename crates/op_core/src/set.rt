@@ -19,7 +19,7 @@ use crate::op::Op;
 use crate::op_id::OpId;
 use crate::ops::Ops;
 use crate::picked::Picked;
-use crate::place::{find_op, place_op, register_at, registers_of};
+use crate::place::{find_op, op_at, place_last, register_at, registers_of};
 use crate::register::Register;
 use std::alloc::{AllocError, Global};
 use std::marker::Model;
@@ -110,7 +110,8 @@ impl OpSet {
         ensures err { OnErr result (self.new ≡ self.old) }
     {
         let id = op.id();
-        if let Some(held) = find_op(&self.ops, id, &mut self.compared) {
+        let at = place_last(&self.ops, id, &mut self.compared);
+        if let Some(held) = op_at(&self.ops, at, id) {
             return if *held == op {
                 Ok(false)
             } else {
@@ -127,7 +128,6 @@ impl OpSet {
             new,
             &mut self.compared,
         )?;
-        let at = place_op(&self.ops, id, &mut self.compared);
         self.ops.insert(at, op).unwrap();
         Ok(true)
     }
