@@ -1,5 +1,5 @@
 -- New operations taken in one after another, rising.
-use Rattle.std.proofs.Common.{◌≡◌, ℕ, nat_lt, zero, suc, ◌<◌, ◌≤◌, ◌+◌, Bool, true, false, cond, ◌||◌, List, [], ◌∷◌, ◌++◌, Option, Some, None, length, get_or, take, drop, arith, add-one, append_assoc, refl, sym, ap, subst, ◌∙◌}
+use Rattle.std.proofs.Common.{◌≡◌, ℕ, nat_lt, zero, suc, ◌<◌, ◌≤◌, ◌+◌, Bool, true, false, not, cond, ◌||◌, List, [], ◌∷◌, ◌++◌, Option, Some, None, length, get_or, take, drop, arith, add-one, append_assoc, refl, sym, ap, subst, ◌∙◌}
 use Rattle.std.specs.declared.cmp.Ordering.TheVariants.{Less}
 use Rattle.std.specs.Ordering.{is_eq, is_lt, nat_cmp, ordering_then}
 use Rattle.std.specs.List.{list_all, list_any, AllByRecursion}
@@ -16,12 +16,14 @@ use Rattle.op_core.specs.Names.{name_cmp}
 use Rattle.op_core.specs.Equal.{id_from_same}
 use Rattle.op_core.specs.Ops.{Operation, IsOperation, in_segment, names}
 use Rattle.op_core.specs.Sets.{rises, get, put, join, IsOpSet}
-use Rattle.op_core.specs.Index.{is_in, register_of, shown_room_in, missing_room_in, unheld, AreApart, shown_needed, missing_needed, HasRoomFor, Prepares, AdmitsIn, IsIndex}
+use Rattle.op_core.specs.Shown.{is_replaced}
+use Rattle.op_core.specs.Lists.{shown_ids}
+use Rattle.op_core.specs.Index.{is_in, AreInside, register_of, shown_room_in, missing_room_in, unheld, AreApart, shown_needed, missing_needed, HasRoomFor, Prepares, AdmitsIn, IsIndex}
 use Rattle.op_core.specs.declared.chapter.Chapter.{Chapter}
 use Rattle.op_core.proofs.Union.{AllAbove, rises_parts, get_above, above_trans, apart_above, rises-put, rises-join, get-put, get-join, same_gets, or_none, or_assoc}
 use Rattle.op_core.proofs.Clashes.{get_cases}
 use Rattle.op_core.proofs.Inside.{is_of, in-get}
-use Rattle.op_core.proofs.Kept.{in_segment-is, index_put}
+use Rattle.op_core.proofs.Kept.{any_shown, in_segment-is, index_put}
 
 -- ---- a list at one of its items
 
@@ -138,6 +140,24 @@ module _ (held front behind : List Operation) (o : Operation) (hh : rises held �
       ∙ or_assoc (get held q) (get front q) _
       ∙ ap (option_or (get held q)) (sym (get-append front (o ∷ []) q))
       ∙ sym (get-join held (front ++ o ∷ []) q hh rising))
+
+-- what the union so far has, one of the two lists has
+inside_either : (held front behind : List Operation) → rises held ≡ true → rises (front ++ behind) ≡ true → (g : Segment) (q : Id) → is_in (join held front) g q ≡ true → (is_in held g q || is_in (front ++ behind) g q) ≡ true
+inside_either held front behind hh hn g q e =
+    (λ i. in-get held g q hh i || (in-get (front ++ behind) g q hn ∙ ap (is_of g) (get-append front behind q)) i)
+    ∙ by (get held q) (get front q) (sym (in-get (join held front) g q (rises-join held front hh) ∙ ap (is_of g) (get-join held front q hh (front_rises front behind hn))) ∙ e)
+  where
+    by : (a b : Option Operation) → is_of g (option_or a b) ≡ true → (is_of g a || is_of g (option_or b (get behind q))) ≡ true
+    by None None e = absurd (false≢true e)
+    by None (Some z) e = e
+    by (Some x) b e = ap (λ t. t || is_of g (option_or b (get behind q))) e
+
+-- so what a segment shows so far is of the operations of one of them
+pub shown_inside : (held new : List Operation) (n : ℕ) (g : Segment) (ids : List Id) → rises held ≡ true → rises new ≡ true → ids ≡ shown_ids (join held (take n new)) g → AreInside held new g ids
+shown_inside held new n g ids hh hn h q e =
+    let shown = and_parts (is_in (join held (take n new)) g q) (not (is_replaced (join held (take n new)) g q)) (sym (any_shown (join held (take n new)) g q) ∙ ap (list_any (same_id q)) (sym h) ∙ e) in
+    ap (λ (ops : List Operation). is_in held g q || is_in ops g q) (sym (take-append-drop n new))
+    ∙ inside_either held (take n new) (drop n new) hh (subst (λ (ops : List Operation). rises ops ≡ true) (sym (take-append-drop n new)) hn) g q shown.0
 
 -- ---- room for what is to come
 

@@ -4,7 +4,7 @@ ghost use Rattle.usfm_ref.specs.Keys.{key_cmp};
 ghost use Rattle.usfm_ref.specs.Rising.{rises_by};
 ghost use Rattle.op_core.specs.Ids.{ids_rise};
 ghost use Rattle.op_core.specs.Sets as sets;
-ghost use Rattle.op_core.specs.Index.{place_of, register_at, shown_in, missing_in, shown_room_in, missing_room_in, HasRoomIn, PreparesKey, AdmitsAtKey, unheld};
+ghost use Rattle.op_core.specs.Index.{place_of, register_at, shown_in, missing_in, shown_room_in, missing_room_in, HasRoomIn, PreparesKey, AdmitsAtKey, AreInside, unheld};
 
 use crate::op::Op;
 use crate::place::place_register;
@@ -75,6 +75,7 @@ pub(crate) fn admit_at_key(
     requires missing { IsTrue (ids_rise (missing_in (register_at op.now.segment.key registers.old.items))) }
     requires shown_room { 1 ≤ shown_room_in (register_at op.now.segment.key registers.old.items) }
     requires missing_room { unheld held.now more.now op.now op.now.replaced ≤ missing_room_in (register_at op.now.segment.key registers.old.items) }
+    requires inside { AreInside held.now more.now op.now.segment (shown_in (register_at op.now.segment.key registers.old.items)) }
     ensures { AdmitsAtKey held.now more.now op.now registers.old.items registers.new.items }
 {
     let at = place_register(registers, op.key(), near, compared);

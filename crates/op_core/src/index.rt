@@ -4,11 +4,11 @@ ghost use Rattle.usfm_ref.specs.Segments.{segment};
 ghost use Rattle.op_core.specs.Ids.{ids_rise};
 ghost use Rattle.op_core.specs.Sets as sets;
 ghost use Rattle.op_core.specs.Sets.{IsOpSet};
-ghost use Rattle.op_core.specs.Index.{register_of, shown_in, missing_in, shown_room_in, missing_room_in, IsOrderly, IsIndex, AreApart, HasRoomFor, Prepares, AdmitsIn, unheld};
+ghost use Rattle.op_core.specs.Index.{register_of, shown_in, missing_in, shown_room_in, missing_room_in, IsOrderly, IsIndex, AreApart, AreInside, HasRoomFor, Prepares, AdmitsIn, unheld};
 
 use crate::chapter::{Chapter, admit_at_key, prepare_key};
 use crate::op::Op;
-use crate::place::{Near, head_of, place_chapter};
+use crate::place::{Near, head_of, place_chapter, shown_of};
 use crate::register::unheld;
 use std::alloc::{AllocError, Global};
 use usfm_ref::{Book, Key};
@@ -97,7 +97,7 @@ fn prepare_all(
 {
     let mut near = Near::default();
     for op in new {
-        let missing = unheld(held, new, op, compared);
+        let missing = count_unheld(chapters, held, new, op, &mut near, compared);
         prepare(
             chapters,
             alloc,
@@ -109,6 +109,27 @@ fn prepare_all(
         )?;
     }
     Ok(())
+}
+
+// How many of the ids that a new operation names are of no operation of its segment.
+fn count_unheld(
+    chapters: &[Chapter],
+    held: &[Op],
+    new: &[Op],
+    op: &Op,
+    near: &mut Near,
+    compared: &mut u64,
+) -> usize
+    requires held { IsTrue (sets.rises held.now) }
+    requires new { IsTrue (sets.rises new.now) }
+    requires index { IsIndex held.now chapters.now }
+    ensures { result ≡ unheld held.now new.now op.now op.now.replaced }
+{
+    if op.replaced().is_empty() {
+        return 0;
+    }
+    let shown = shown_of(chapters, op.book(), op.key(), near, compared);
+    unheld(shown, held, new, op, compared)
 }
 
 // Takes in the operations, for all of which room was promised.
@@ -142,6 +163,7 @@ pub(crate) fn admit(
     requires missing { IsTrue (ids_rise (missing_in (register_of op.now.segment chapters.old.items))) }
     requires shown_room { 1 ≤ shown_room_in (register_of op.now.segment chapters.old.items) }
     requires missing_room { unheld held.now more.now op.now op.now.replaced ≤ missing_room_in (register_of op.now.segment chapters.old.items) }
+    requires inside { AreInside held.now more.now op.now.segment (shown_in (register_of op.now.segment chapters.old.items)) }
     ensures { AdmitsIn held.now more.now op.now chapters.old.items chapters.new.items }
 {
     let at = place_chapter(

@@ -9,7 +9,7 @@ ghost use Rattle.usfm_ref.specs.Segments.{segment, segment_cmp};
 ghost use Rattle.usfm_ref.specs.Rising.{rises_by};
 ghost use Rattle.op_core.specs.Ids.{id_below};
 ghost use Rattle.op_core.specs.Sets as sets;
-ghost use Rattle.op_core.specs.Index.{place_of, register_at, registers_of, is_in, Counts};
+ghost use Rattle.op_core.specs.Index.{place_of, register_at, register_of, registers_of, shown_in, is_in, IsOrderly, Counts};
 
 use crate::chapter::Chapter;
 use crate::ids::is_below;
@@ -109,12 +109,12 @@ pub(crate) struct Near {
     pub(crate) register: usize,
 }
 
-// How many chapters at the front are before this one.
-fn search_chapters(
+// How many chapters at the front are before this one. The search begins where the last one ended.
+pub(crate) fn place_chapter(
     chapters: &[Chapter],
     book: Book,
     head: Key,
-    mut steps: Steps,
+    near: &mut usize,
     compared: &mut u64,
 ) -> usize
     requires rising { IsTrue (rises_by segment_cmp place_of chapters.now) }
@@ -122,6 +122,7 @@ fn search_chapters(
     ensures within { result ≤ length chapters.now }
     ensures counted { Counts (length chapters.now) compared.old compared.new }
 {
+    let mut steps = Steps::beside(*near, chapters.len());
     let mut low = 0;
     let mut high = chapters.len();
     'halves: while low < high {
@@ -135,34 +136,23 @@ fn search_chapters(
             steps.go_back(middle);
         }
     }
+    *near = low;
     low
 }
 
-// The same, begun where the last search ended.
-pub(crate) fn place_chapter(
-    chapters: &[Chapter],
-    book: Book,
-    head: Key,
+// How many registers at the front are before this key. The search begins where the last one ended.
+pub(crate) fn place_register(
+    registers: &[Register],
+    key: Key,
     near: &mut usize,
     compared: &mut u64,
 ) -> usize
-    requires rising { IsTrue (rises_by segment_cmp place_of chapters.now) }
-    ensures place { result ≡ position_or_len (λ c. not (is_lt (segment_cmp (place_of c) (segment book head)))) chapters.now }
-    ensures within { result ≤ length chapters.now }
-    ensures counted { Counts (length chapters.now) compared.old compared.new }
-{
-    let steps = Steps::near(*near, chapters.len());
-    *near = search_chapters(chapters, book, head, steps, compared);
-    *near
-}
-
-// How many registers at the front are before this key.
-fn search_registers(registers: &[Register], key: Key, mut steps: Steps, compared: &mut u64) -> usize
     requires rising { IsTrue (rises_by key_cmp (λ r. r.key) registers.now) }
     ensures place { result ≡ position_or_len (λ r. not (is_lt (key_cmp r.key key))) registers.now }
     ensures within { result ≤ length registers.now }
     ensures counted { Counts (length registers.now) compared.old compared.new }
 {
+    let mut steps = Steps::beside(*near, registers.len());
     let mut low = 0;
     let mut high = registers.len();
     'halves: while low < high {
@@ -176,24 +166,8 @@ fn search_registers(registers: &[Register], key: Key, mut steps: Steps, compared
             steps.go_back(middle);
         }
     }
+    *near = low;
     low
-}
-
-// The same, begun where the last search ended.
-pub(crate) fn place_register(
-    registers: &[Register],
-    key: Key,
-    near: &mut usize,
-    compared: &mut u64,
-) -> usize
-    requires rising { IsTrue (rises_by key_cmp (λ r. r.key) registers.now) }
-    ensures place { result ≡ position_or_len (λ r. not (is_lt (key_cmp r.key key))) registers.now }
-    ensures within { result ≤ length registers.now }
-    ensures counted { Counts (length registers.now) compared.old compared.new }
-{
-    let steps = Steps::near(*near, registers.len());
-    *near = search_registers(registers, key, steps, compared);
-    *near
 }
 
 // The registers of a segment's chapter.
@@ -201,19 +175,14 @@ pub(crate) fn registers_of<'a>(
     chapters: &'a [Chapter],
     book: Book,
     key: Key,
+    near: &mut usize,
     compared: &mut u64,
 ) -> &'a [Register]
     requires rising { IsTrue (rises_by segment_cmp place_of chapters.now) }
     ensures { result.now ≡ registers_of (segment book key) chapters.now }
 {
     let head = head_of(key);
-    let at = search_chapters(
-        chapters,
-        book,
-        head,
-        Steps::halves(chapters.len()),
-        compared,
-    );
+    let at = place_chapter(chapters, book, head, near, compared);
     if at < chapters.len() {
         let chapter = &chapters[at];
         if chapter.order(book, head).is_eq() {
@@ -227,12 +196,13 @@ pub(crate) fn registers_of<'a>(
 pub(crate) fn register_at<'a>(
     registers: &'a [Register],
     key: Key,
+    near: &mut usize,
     compared: &mut u64,
 ) -> Option<&'a Register>
     requires rising { IsTrue (rises_by key_cmp (λ r. r.key) registers.now) }
     ensures { option_copied result ≡ register_at key registers.now }
 {
-    let at = search_registers(registers, key, Steps::halves(registers.len()), compared);
+    let at = place_register(registers, key, near, compared);
     if at < registers.len() {
         let register = &registers[at];
         if register.order(key).is_eq() {
@@ -240,6 +210,24 @@ pub(crate) fn register_at<'a>(
         }
     }
     None
+}
+
+// The ids that a segment shows.
+pub(crate) fn shown_of<'a>(
+    chapters: &'a [Chapter],
+    book: Book,
+    key: Key,
+    near: &mut Near,
+    compared: &mut u64,
+) -> &'a [OpId]
+    requires { IsOrderly chapters.now }
+    ensures { result.now ≡ shown_in (register_of (segment book key) chapters.now) }
+{
+    let registers = registers_of(chapters, book, key, &mut near.chapter, compared);
+    match register_at(registers, key, &mut near.register, compared) {
+        None => &[],
+        Some(register) => &register.shown,
+    }
 }
 
 // The head of the chapter that a key stands in.

@@ -1,10 +1,10 @@
-ghost use Rattle.std.specs.Prelude.{◌≡◌, ◌≤◌, ◌||◌, IsTrue, [], OnOk, OnErr};
+ghost use Rattle.std.specs.Prelude.{◌≡◌, ◌≤◌, ◌||◌, IsTrue, [], OnOk, OnErr, vec_len, vec_capacity};
 ghost use Rattle.usfm_ref.specs.Keys.{key_cmp};
 ghost use Rattle.op_core.specs.Ids.{ids_rise};
 ghost use Rattle.op_core.specs.Sets as sets;
-ghost use Rattle.op_core.specs.Index.{HasRoom, HasMoreRoom, Replaces, Admits, is_in, unheld};
+ghost use Rattle.op_core.specs.Index.{HasRoom, HasMoreRoom, Replaces, Admits, AreInside, is_in, unheld, without};
 
-use crate::ids::{put_id, reserve_ids, take_id};
+use crate::ids::{has_id, put_id, reserve_ids, take_id};
 use crate::op::Op;
 use crate::op_id::OpId;
 use crate::place::is_in;
@@ -75,6 +75,7 @@ impl Register {
         requires room { HasRoom self.old }
         requires shown_room { 1 ≤ self.old.shown_room }
         requires missing_room { unheld held.now more.now op.now op.now.replaced ≤ self.old.missing_room }
+        requires inside { AreInside held.now more.now op.now.segment self.old.shown.items }
         ensures { Admits held.now more.now op.now self.old self.new }
     {
         let hidden = take_id(&mut self.missing, op.id(), compared);
@@ -93,11 +94,11 @@ impl Register {
         requires missing { IsTrue (ids_rise self.old.missing.items) }
         requires room { HasRoom self.old }
         requires missing_room { unheld held.now more.now op.now op.now.replaced ≤ self.old.missing_room }
+        requires inside { AreInside held.now more.now op.now.segment self.old.shown.items }
         ensures { Replaces held.now more.now op.now op.now.replaced self.old self.new }
     {
         for id in op.replaced() {
-            take_id(&mut self.shown, *id, compared);
-            if !is_inside(held, more, op, *id, compared) {
+            if !take_named(&mut self.shown, held, more, op, *id, compared) {
                 put_id(&mut self.missing, *id, compared);
                 self.missing_room -= 1;
             }
@@ -105,8 +106,48 @@ impl Register {
     }
 }
 
-// Whether the id is of an operation of the segment.
-fn is_inside(held: &[Op], more: &[Op], op: &Op, id: OpId, compared: &mut u64) -> bool
+// Takes an id that the operation names out of the shown ones of its segment, and says whether it is of an operation
+// there. What is shown is; so only another id is searched among all operations.
+fn take_named(
+    shown: &mut Vec<OpId>,
+    held: &[Op],
+    more: &[Op],
+    op: &Op,
+    id: OpId,
+    compared: &mut u64,
+) -> bool
+    requires held { IsTrue (sets.rises held.now) }
+    requires more { IsTrue (sets.rises more.now) }
+    requires rising { IsTrue (ids_rise shown.old.items) }
+    requires shown_inside { AreInside held.now more.now op.now.segment shown.old.items }
+    ensures inside { result ≡ (is_in held.now op.now.segment id || is_in more.now op.now.segment id) }
+    ensures items { shown.new.items ≡ without id shown.old.items }
+    ensures capacity { vec_capacity shown.new ≡ vec_capacity shown.old }
+    ensures len { vec_len shown.new ≤ vec_len shown.old }
+{
+    take_id(shown, id, compared) || is_among(held, more, op, id, compared)
+}
+
+// Whether the id is of an operation of the segment, which shows these.
+fn is_inside(
+    shown: &[OpId],
+    held: &[Op],
+    more: &[Op],
+    op: &Op,
+    id: OpId,
+    compared: &mut u64,
+) -> bool
+    requires held { IsTrue (sets.rises held.now) }
+    requires more { IsTrue (sets.rises more.now) }
+    requires rising { IsTrue (ids_rise shown.now) }
+    requires shown_inside { AreInside held.now more.now op.now.segment shown.now }
+    ensures { result ≡ (is_in held.now op.now.segment id || is_in more.now op.now.segment id) }
+{
+    has_id(shown, id, compared) || is_among(held, more, op, id, compared)
+}
+
+// The same, searched among all operations.
+fn is_among(held: &[Op], more: &[Op], op: &Op, id: OpId, compared: &mut u64) -> bool
     requires held { IsTrue (sets.rises held.now) }
     requires more { IsTrue (sets.rises more.now) }
     ensures { result ≡ (is_in held.now op.now.segment id || is_in more.now op.now.segment id) }
@@ -114,15 +155,17 @@ fn is_inside(held: &[Op], more: &[Op], op: &Op, id: OpId, compared: &mut u64) ->
     is_in(held, op.book(), op.key(), id, compared) || is_in(more, op.book(), op.key(), id, compared)
 }
 
-// How many of the ids that the operation names are of no operation of its segment.
-pub(crate) fn unheld(held: &[Op], more: &[Op], op: &Op, compared: &mut u64) -> usize
+// How many of the ids that the operation names are of no operation of its segment, which shows these.
+pub(crate) fn unheld(shown: &[OpId], held: &[Op], more: &[Op], op: &Op, compared: &mut u64) -> usize
     requires held { IsTrue (sets.rises held.now) }
     requires more { IsTrue (sets.rises more.now) }
+    requires rising { IsTrue (ids_rise shown.now) }
+    requires shown_inside { AreInside held.now more.now op.now.segment shown.now }
     ensures { result ≡ unheld held.now more.now op.now op.now.replaced }
 {
     let mut count = 0;
     for id in op.replaced() {
-        if !is_inside(held, more, op, *id, compared) {
+        if !is_inside(shown, held, more, op, *id, compared) {
             count += 1;
         }
     }

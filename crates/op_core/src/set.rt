@@ -19,7 +19,7 @@ use crate::op::Op;
 use crate::op_id::OpId;
 use crate::ops::Ops;
 use crate::picked::Picked;
-use crate::place::{find_op, op_at, place_last, register_at, registers_of};
+use crate::place::{Near, find_op, op_at, place_last, registers_of, shown_of};
 use crate::register::Register;
 use std::alloc::{AllocError, Global};
 use std::marker::Model;
@@ -186,10 +186,7 @@ impl OpSet {
     pub fn shown_ids(&self, book: Book, key: Key) -> &[OpId]
         ensures { result.now ≡ lists.shown_ids self.now (segment book key) }
     {
-        match register_at(registers_of(&self.chapters, book, key, &mut 0), key, &mut 0) {
-            None => &[],
-            Some(register) => &register.shown,
-        }
+        shown_of(&self.chapters, book, key, &mut Near::default(), &mut 0)
     }
 
     /// The books with an operation, in the order of books. The walk takes no memory.
@@ -320,7 +317,7 @@ impl OpSet {
         ensures { result ≡ texts.has_verse_text self.now book key.chapter }
     {
         let _ = &self.ops;
-        let registers = registers_of(&self.chapters, book, key, &mut 0);
+        let registers = registers_of(&self.chapters, book, key, &mut 0, &mut 0);
         self.has_text_among(registers, book, key)
     }
 
