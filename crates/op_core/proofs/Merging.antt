@@ -1,5 +1,5 @@
 -- New operations merged into a rising list from the back.
-use Rattle.std.proofs.Common.{◌≡◌, ℕ, zero, suc, ◌≤◌, ◌-◌, Bool, true, false, List, [], ◌∷◌, ◌++◌, Option, Some, None, length, take, drop, reverse, arith, append_assoc, refl, sym, ap, subst, ◌∙◌}
+use Rattle.std.proofs.Common.{◌≡◌, ℕ, zero, suc, ◌≤◌, ◌-◌, Bool, true, false, List, [], ◌∷◌, ◌++◌, Option, Some, None, length, take, drop, reverse, arith, append_assoc, take_all, refl, sym, ap, subst, ◌∙◌}
 use Rattle.std.specs.declared.cmp.Ordering.{Ordering}
 use Rattle.std.specs.declared.cmp.Ordering.TheVariants.{Less, Equal, Greater}
 use Rattle.std.specs.Ordering.{is_eq, is_lt, ordering_reverse}
@@ -8,7 +8,7 @@ use Rattle.std.specs.Option.{option_or}
 use Rattle.std.specs.FinMap.Entries.{by_order}
 use Rattle.std.proofs.lemmas.Bool.{and_parts, and_from, cond-true, cond-false}
 use Rattle.std.proofs.Math.Seq.{take-append_seam, drop-append_seam}
-use Rattle.std.proofs.lemmas.List.{append-nil, take-append-drop, reverse-append, reverse-reverse}
+use Rattle.std.proofs.lemmas.List.{append-nil, drop_all, take-append-drop, reverse-append, reverse-reverse}
 use Rattle.usfm_ref.proofs.Sorted.{is_less}
 use Rattle.usfm_ref.proofs.Sorted as sorted
 use Rattle.op_core.specs.Ids.{Id, id_cmp, id_below, same_id}
@@ -16,7 +16,7 @@ use Rattle.op_core.specs.Ops.{Operation}
 use Rattle.op_core.specs.Sets.{rises, get, put, join}
 use Rattle.op_core.specs.Index.{AreApart, IsBefore}
 use Rattle.op_core.proofs.Rising.{id_total, same_id-cmp, below_trans}
-use Rattle.op_core.proofs.Union.{AllAbove, rises_parts, above_trans, join_push}
+use Rattle.op_core.proofs.Union.{AllAbove, rises_parts, above_trans, join_push, same_gets, rises-join, get-join}
 use Rattle.op_core.proofs.Enrolled.{AllBelow, split_rises, front_rises, get-append}
 
 abbrev pub place : Id → List Operation → ℕ
@@ -81,6 +81,23 @@ join_last ops ys o n e h hy g =
     ∙ join_under (take n ops) (o ∷ drop n ops) ys (all_under o (drop n ops) ys below at.above)
 
 -- ---- what is left of the lists
+
+-- what is joined to nothing stays
+pub join_none : (new : List Operation) → rises new ≡ true → join [] new ≡ new
+join_none new h = same_gets _ _ (rises-join [] new refl) h (λ q. get-join [] new q refl h)
+
+-- new operations behind all of a list go to its end
+pub join_behind : (held new : List Operation) (n : ℕ) → length held ≤ n → rises held ≡ true → rises new ≡ true → AreApart held new → IsBefore n held new → join held new ≡ held ++ new
+join_behind held [] n l hh hn a b = sym (append-nil held)
+join_behind held (o ∷ new) n l hh hn a b =
+    let p = rises_parts o new hn in
+    let m = b.0 in
+    let behind : length held ≤ place o.id held = omega (arith, m, l) in
+    let at = at_place o held (place o.id held) refl hh a.0 in
+    ap (put o) (join_behind held new n l hh p.1 a.1 b.1)
+    ∙ put_under o held new p.0
+    ∙ ap (λ (xs : List Operation). xs ++ new) (at.stands ∙ (λ i. take_all (place o.id held) held behind i ++ o ∷ drop_all (place o.id held) held behind i))
+    ∙ append_assoc held (o ∷ []) new
 
 pub rises_take : (ops : List Operation) (n : ℕ) → rises ops ≡ true → rises (take n ops) ≡ true
 rises_take ops n h = front_rises (take n ops) (drop n ops) (subst (λ (xs : List Operation). rises xs ≡ true) (sym (take-append-drop n ops)) h)

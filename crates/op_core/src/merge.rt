@@ -1,5 +1,5 @@
 // Two rising lists of operations, walked side by side.
-ghost use Rattle.std.specs.Prelude.{◌≡◌, ◌+◌, ◌≤◌, [], ◌++◌, IsTrue, is_none, length, filter, take, drop, reverse, vec_len, vec_capacity};
+ghost use Rattle.std.specs.Prelude.{◌≡◌, ◌<◌, ◌+◌, ◌≤◌, OnOk, IfOk, [], ◌++◌, IsTrue, is_none, length, filter, take, drop, reverse, vec_len, vec_capacity};
 ghost use Rattle.std.specs.List.{AllByRecursion};
 ghost use Rattle.op_core.specs.Ops.{IsOperation};
 ghost use Rattle.op_core.specs.Sets as sets;
@@ -8,6 +8,7 @@ ghost use Rattle.op_core.specs.Index.{AreApart, IsBefore};
 use crate::op::Op;
 use crate::op_id::OpId;
 use crate::place::{find_near, place_last};
+use std::alloc::{AllocError, Global};
 use std::cmp::Ordering;
 
 // The least id under which two rising lists have operations that are not equal.
@@ -76,9 +77,66 @@ pub(crate) fn look_at_each(new: &[Op])
     }
 }
 
+// Makes room for so many operations more. To an empty list they come with their own.
+pub(crate) fn reserve_ops(ops: &mut Vec<Op>, count: usize) -> Result<(), AllocError>
+    ensures items { ops.new.items ≡ ops.old.items }
+    ensures len { vec_len ops.new ≡ vec_len ops.old }
+    ensures room { OnOk result (0 < vec_len ops.old → vec_len ops.old + count ≤ vec_capacity ops.new) }
+{
+    if ops.is_empty() {
+        return Ok(());
+    }
+    ops.reserve(count)
+}
+
+// An empty list with room for so many new operations and what is behind the first of them. Where nothing is
+// behind it, none is needed.
+pub(crate) fn tail_of(
+    alloc: Global,
+    len: usize,
+    from: usize,
+    count: usize,
+) -> Result<Vec<Op>, AllocError>
+    ensures items { IfOk result (λ tail. tail.items ≡ []) }
+    ensures room { IfOk result (λ tail. from < len → len + count ≤ vec_capacity tail + from) }
+{
+    if from >= len {
+        return Ok(Vec::new(alloc));
+    }
+    let room = (len - from).checked_add(count).ok_or(AllocError)?;
+    Vec::with_capacity(alloc, room)
+}
+
 // Merges new operations into a rising list, of whose ids none is there. There is room for them, and in
 // `tail` for them and for what is behind the first of them.
 pub(crate) fn merge(
+    ops: &mut Vec<Op>,
+    mut new: Vec<Op>,
+    tail: Vec<Op>,
+    from: usize,
+    compared: &mut u64,
+)
+    requires ops { IsTrue (sets.rises ops.old.items) }
+    requires new { IsTrue (sets.rises new.items) }
+    requires apart { AreApart ops.old.items new.items }
+    requires before { IsBefore from ops.old.items new.items }
+    requires tail { tail.items ≡ [] }
+    requires room { 0 < vec_len ops.old → vec_len ops.old + vec_len new ≤ vec_capacity ops.old }
+    requires room_behind { from < vec_len ops.old → vec_len ops.old + vec_len new ≤ vec_capacity tail + from }
+    ensures { ops.new.items ≡ sets.join ops.old.items new.items }
+{
+    if ops.is_empty() {
+        *ops = new;
+    } else if from >= ops.len() {
+        ops.append(&mut new).unwrap();
+    } else {
+        interleave(ops, new, tail, from, compared);
+    }
+}
+
+// Merges new operations into a rising list from the back: what is behind each of them goes to the tail, the last
+// first, and at last from there to the end of the list.
+fn interleave(
     ops: &mut Vec<Op>,
     mut new: Vec<Op>,
     mut tail: Vec<Op>,

@@ -14,7 +14,7 @@ use crate::fault::SetFault;
 use crate::finder::Finder;
 use crate::index::enroll;
 use crate::keys::Keys;
-use crate::merge::{clash, leave_held, look_at_each, merge, place_first};
+use crate::merge::{clash, leave_held, look_at_each, merge, place_first, reserve_ops, tail_of};
 use crate::op::Op;
 use crate::op_id::OpId;
 use crate::ops::Ops;
@@ -168,8 +168,8 @@ impl OpSet {
         let count = new.len();
         let from = place_first(&self.ops, &new, &mut self.compared);
         let alloc = *self.ops.allocator();
-        let tail = Vec::with_capacity(alloc, self.ops.len() - from + count)?;
-        self.ops.reserve(count)?;
+        let tail = tail_of(alloc, self.ops.len(), from, count)?;
+        reserve_ops(&mut self.ops, count)?;
         enroll(
             &mut self.chapters,
             alloc,

@@ -15,14 +15,14 @@ enroll-requires-clause-new c =
     }
 
 pub enroll-requires-clause-apart : goal.enroll-requires-clause-apart
-enroll-requires-clause-apart c = rw (c.deref-4.ensures.value, c.deref-5.ensures.value, c.in_ok-reserve.ensures.items, c.self.view_is) c.requires.apart
+enroll-requires-clause-apart c = rw (c.deref-4.ensures.value, c.deref-5.ensures.value, c.in_ok-reserve_ops.ensures.items, c.self.view_is) c.requires.apart
 
 pub merge-requires-clause-apart : goal.merge-requires-clause-apart
-merge-requires-clause-apart c = rw (c.in_ok-reserve.ensures.items, c.self.view_is) c.requires.apart
+merge-requires-clause-apart c = rw (c.in_ok-reserve_ops.ensures.items, c.self.view_is) c.requires.apart
 
 pub invariant_of-self-2 : goal.invariant_of-self-2
 invariant_of-self-2 c =
-    let e : c.merge.new.ops.items ≡ join c.self.inside.ops.items c.args.new.items = c.merge.ensures ∙ ap (λ (s : List Operation). join s c.args.new.items) c.in_ok-reserve.ensures.items in
+    let e : c.merge.new.ops.items ≡ join c.self.inside.ops.items c.args.new.items = c.merge.ensures ∙ ap (λ (s : List Operation). join s c.args.new.items) c.in_ok-reserve_ops.ensures.items in
     let new : IsOpSet c.args.new.items = record { rising = c.requires.rising; each = subst (AllByRecursion IsOperation) c.deref.ensures.value c.look_at_each.ensures } in
-    let index : IsIndex (join c.self.inside.ops.items c.args.new.items) c.enroll.new.chapters.items = rw (c.deref-4.ensures.value, c.in_ok-reserve.ensures.items, c.deref-5.ensures.value) at c.in_ok-enroll.ensures.ok in
+    let index : IsIndex (join c.self.inside.ops.items c.args.new.items) c.enroll.new.chapters.items = rw (c.deref-4.ensures.value, c.in_ok-reserve_ops.ensures.items, c.deref-5.ensures.value) at c.in_ok-enroll.ensures.ok in
     rw e (IsOpSet-join c.self.inside.ops.items c.args.new.items c.self.invariant.0 new, index)
