@@ -67,6 +67,7 @@ pub(crate) fn enroll(
     alloc: Global,
     held: &[Op],
     new: &[Op],
+    near: &mut Near,
     compared: &mut u64,
 ) -> Result<(), AllocError>
     requires held { IsOpSet held.now }
@@ -76,8 +77,8 @@ pub(crate) fn enroll(
     ensures ok { OnOk result (IsIndex (sets.join held.now new.now) chapters.new.items) }
     ensures err { OnErr result (IsIndex held.now chapters.new.items) }
 {
-    prepare_all(chapters, alloc, held, new, compared)?;
-    admit_all(chapters, held, new, compared);
+    prepare_all(chapters, alloc, held, new, near, compared)?;
+    admit_all(chapters, held, new, near, compared);
     Ok(())
 }
 
@@ -87,6 +88,7 @@ fn prepare_all(
     alloc: Global,
     held: &[Op],
     new: &[Op],
+    near: &mut Near,
     compared: &mut u64,
 ) -> Result<(), AllocError>
     requires held { IsTrue (sets.rises held.now) }
@@ -95,16 +97,15 @@ fn prepare_all(
     ensures index { IsIndex held.now chapters.new.items }
     ensures room { OnOk result (HasRoomFor held.now new.now new.now chapters.new.items) }
 {
-    let mut near = Near::default();
     for op in new {
-        let missing = count_unheld(chapters, held, new, op, &mut near, compared);
+        let missing = count_unheld(chapters, held, new, op, near, compared);
         prepare(
             chapters,
             alloc,
             op.book(),
             op.key(),
             missing,
-            &mut near,
+            near,
             compared,
         )?;
     }
@@ -133,7 +134,13 @@ fn count_unheld(
 }
 
 // Takes in the operations, for all of which room was promised.
-fn admit_all(chapters: &mut Vec<Chapter>, held: &[Op], new: &[Op], compared: &mut u64)
+fn admit_all(
+    chapters: &mut Vec<Chapter>,
+    held: &[Op],
+    new: &[Op],
+    near: &mut Near,
+    compared: &mut u64,
+)
     requires held { IsOpSet held.now }
     requires new { IsOpSet new.now }
     requires apart { AreApart held.now new.now }
@@ -141,9 +148,8 @@ fn admit_all(chapters: &mut Vec<Chapter>, held: &[Op], new: &[Op], compared: &mu
     requires room { HasRoomFor held.now new.now new.now chapters.old.items }
     ensures { IsIndex (sets.join held.now new.now) chapters.new.items }
 {
-    let mut near = Near::default();
     for op in new {
-        admit(chapters, held, new, op, &mut near, compared);
+        admit(chapters, held, new, op, near, compared);
     }
 }
 

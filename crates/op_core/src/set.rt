@@ -31,6 +31,7 @@ use usfm_ref::{Book, Key, Place};
 pub struct OpSet {
     ops: Vec<Op>,
     chapters: Vec<Chapter>,
+    near: Near,
     compared: u64,
 }
 
@@ -55,6 +56,7 @@ impl OpSet {
         OpSet {
             ops: Vec::new(alloc),
             chapters: Vec::new(alloc),
+            near: Near::default(),
             compared: 0,
         }
     }
@@ -126,6 +128,7 @@ impl OpSet {
             alloc,
             &self.ops,
             new,
+            &mut self.near,
             &mut self.compared,
         )?;
         self.ops.insert(at, op).unwrap();
@@ -175,6 +178,7 @@ impl OpSet {
             alloc,
             &self.ops,
             &new,
+            &mut self.near,
             &mut self.compared,
         )?;
         merge(&mut self.ops, new, tail, from, &mut self.compared);
