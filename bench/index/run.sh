@@ -1,0 +1,64 @@
+#!/usr/bin/env bash
+# Times sets of operations (bench.rt.txt) against sets in plain Rust by maps (plain.rs), both built for the processor
+# that Rattle builds for: so many single inserts with the making of the operations, two thirds of them each in a new
+# segment and the others over what a segment shows; the join of a first set of six tenths of them into an empty one,
+# and then of two more, which lie behind it or overlap. Needs rt and rustc, and takes some minutes.
+#
+# The two are run turn about, and of each the least time of a round counts. The exit status is 1 where the two show
+# different ids, or a job takes the proved program longer than the plain one.
+#
+# usage: run.sh [OPERATIONS] [TURNS]
+set -euo pipefail
+here=$(cd "$(dirname "$0")" && pwd)
+top=$(cd "$here/../.." && pwd)
+count=${1:-100000}
+turns=${2:-5}
+rounds=5
+crates='usfm_ref usfm_token verse_cut op_core'
+work=$(mktemp -d)
+trap 'rm -rf "$work"' EXIT
+
+echo "building"
+rustc -C opt-level=3 -C target-cpu=x86-64-v2 -C codegen-units=1 --edition 2021 -o "$work/plain" "$here/plain.rs"
+git -C "$work" init -q
+program=$work/crates/index_bench
+mkdir -p "$program/src"
+for crate in $crates; do
+    mkdir -p "$work/crates/$crate"
+    for part in src specs proofs; do
+        if [ -e "$top/crates/$crate/$part" ]; then
+            cp -r "$top/crates/$crate/$part" "$work/crates/$crate/"
+        fi
+    done
+done
+cp "$here/bench.rt.txt" "$program/src/main.rt"
+{
+    grep -E "^(${crates// /|}):" "$top/crates.txt"
+    echo "index_bench: usfm_ref verse_cut op_core anyhow"
+} >"$work/crates.txt"
+if ! (cd "$program" && rt run -- 1000 1) >"$work/log" 2>&1; then
+    tail -n 30 "$work/log"
+    exit 1
+fi
+
+for _ in $(seq "$turns"); do
+    "$work/plain" "$count" "$rounds" >>"$work/plain.out"
+    "$program/out/index_bench" "$count" "$rounds" >>"$work/proved.out"
+done
+if [ "$(grep -hv inserts "$work"/{plain,proved}.out | sort -u | wc -l)" != 1 ]; then
+    echo "the two show different ids"
+    exit 1
+fi
+
+# The least number behind a word in a file of outputs.
+least() { sed -n "s/.*\b$2 \([0-9]*\).*/\1/p" "$1" | sort -n | head -n 1; }
+
+status=0
+for job in inserts first apart overlapping; do
+    awk -v job="$job" -v count="$count" -v plain="$(least "$work/plain.out" "$job")" \
+        -v proved="$(least "$work/proved.out" "$job")" 'BEGIN {
+            printf "%s of %d: plain %d us, proved %d us, ratio %.2f\n", job, count, plain, proved, proved / plain
+            exit proved > plain
+        }' || status=1
+done
+exit "$status"
