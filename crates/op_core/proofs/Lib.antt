@@ -27,3 +27,4 @@ pub mod KeyWalks
 pub mod BookWalks
 pub mod Joinings
 pub mod Fronts
+pub mod NextIds

@@ -6,6 +6,7 @@ pub mod Sets
 pub mod Shown
 pub mod Export
 pub mod Lists
+pub mod NextIds
 pub mod CutsBack
 pub mod Equal
 pub mod Laws

@@ -5,6 +5,7 @@ ghost use Rattle.op_core.specs.Ids.{Id, same_id};
 ghost use Rattle.op_core.specs.Sets as sets;
 ghost use Rattle.op_core.specs.Shown as texts;
 ghost use Rattle.op_core.specs.Lists as lists;
+ghost use Rattle.op_core.specs.NextIds as next_ids;
 ghost use Rattle.std.specs.List.{AllByRecursion, list_any};
 ghost use Rattle.usfm_ref.specs.Keys.{is_verse_of};
 
@@ -81,6 +82,16 @@ impl OpSet {
         ensures set { sets.IsOpSet self.now }
     {
         Ops::new(&self.ops)
+    }
+
+    /// The greatest number of an operation, 0 where it has none. It takes no memory.
+    pub fn greatest_number(&self) -> u64
+        ensures { result ≡ next_ids.greatest_number self.now }
+    {
+        match self.ops.last() {
+            None => 0,
+            Some(op) => op.id().number,
+        }
     }
 
     /// The held operation of an id, lent from the set. It takes no memory.
