@@ -43,7 +43,7 @@ none_same (k ∷ ks) h =
     by false e below later = later
 
 module _ (held : List Operation) (book : List ℕ) where
-  abbrev text_at : KeyParts → List ℕ
+  abbrev pub text_at : KeyParts → List ℕ
   text_at key = picked_at held book key
 
   joined_map : (ks : List KeyParts) → texts_joined (map (keyed_text held book) ks) ≡ flat_map text_at ks
@@ -51,7 +51,7 @@ module _ (held : List Operation) (book : List ℕ) where
   joined_map (k ∷ ks) = ap (λ r. text_at k ++ r) (joined_map ks)
 
   -- the head's text, if it is no key then it is empty, and the texts behind it
-  split : (ks : List KeyParts) → rises_by key_cmp (λ k. k) ks ≡ true → (is_empty (text_at book_head) ≡ false → list_any (same_key book_head) ks ≡ true) → flat_map text_at ks ≡ text_at book_head ++ texts_joined (map (keyed_text held book) (filter (key_below book_head) ks))
+  pub split : (ks : List KeyParts) → rises_by key_cmp (λ k. k) ks ≡ true → (is_empty (text_at book_head) ≡ false → list_any (same_key book_head) ks ≡ true) → flat_map text_at ks ≡ text_at book_head ++ texts_joined (map (keyed_text held book) (filter (key_below book_head) ks))
   split [] rises there = sym (none_there (text_at book_head) (λ e. there e)) ∙ sym (nothing (text_at book_head))
     where
       none_there : (t : List ℕ) → (is_empty t ≡ false → false ≡ true) → t ≡ []
@@ -109,10 +109,10 @@ module _ (held : List Operation) (book : List ℕ) where
       by later true e = and_from (key_below book_head k) _ e later
       by later false e = later
 
-  keys_rise : rises_by key_cmp (λ k. k) (exported_keys held book) ≡ true
+  pub keys_rise : rises_by key_cmp (λ k. k) (exported_keys held book) ≡ true
   keys_rise = rises-rising key_cmp key_total (flat_map (λ key. head_of key ∷ key ∷ []) (keys_in held book))
 
-  texts_rise : (head : List ℕ) → TextsRise (at_book_head head ∷ later_texts held book)
+  pub texts_rise : (head : List ℕ) → TextsRise (at_book_head head ∷ later_texts held book)
   texts_rise head =
       and_from (list_all (λ t. key_below book_head t.key) (later_texts held book)) (rises_by key_cmp (λ t. t.key) (later_texts held book))
       (above_map book_head (filter (key_below book_head) (exported_keys held book)) ∙ kept_behind (exported_keys held book))

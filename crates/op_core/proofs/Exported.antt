@@ -58,7 +58,7 @@ any_weaker p q (x ∷ xs) f h = by (any_weaker p q xs f) (p x) refl h
     by later false e h = or_second (q x) (list_any q xs) (later h)
 
 -- an item that passes is one of which what holds of all does
-found_of : {X : Type 0} (P : X → Type 0) (p : X → Bool) (xs : List X) → AllByRecursion P xs → list_any p xs ≡ true → (x : X) × P x × (p x ≡ true)
+pub found_of : {X : Type 0} (P : X → Type 0) (p : X → Bool) (xs : List X) → AllByRecursion P xs → list_any p xs ≡ true → (x : X) × P x × (p x ≡ true)
 found_of P p [] all h = absurd (cc)
 found_of {X} P p (x ∷ xs) all h = by (found_of P p xs all.1) (p x) refl h
   where
@@ -207,7 +207,7 @@ any-with_item p k (x ∷ ks) = by (any-with_item p k ks) (key_cmp k x) refl
     by later Equal e = sym (or_twice (p x) (list_any p ks)) ∙ ap (λ (y : KeyParts). p y || (p x || list_any p ks)) (sym (key_exact k x e))
     by later Greater e = ap (λ b. p x || b) later ∙ or_swap (p x) (p k) (list_any p ks)
 
-any-rising : (p : KeyParts → Bool) (ks : List KeyParts) → list_any p (rising key_cmp ks) ≡ list_any p ks
+pub any-rising : (p : KeyParts → Bool) (ks : List KeyParts) → list_any p (rising key_cmp ks) ≡ list_any p ks
 any-rising p [] = refl
 any-rising p (k ∷ ks) = any-with_item p k (rising key_cmp ks) ∙ ap (λ b. p k || b) (any-rising p ks)
 
