@@ -3,7 +3,8 @@ ghost use Rattle.std.specs.Prelude.{◌≡◌, None, Ok, Err, IsOk, IsTrue, opti
 ghost use Rattle.std.specs.List.{list_all};
 ghost use Rattle.std.specs.Iterator.{YieldsFirst, item_count};
 ghost use Rattle.op_core.specs.Names.{is_name, is_name_char};
-ghost use Rattle.op_core.specs.Ids.{id_cmp, is_id};
+ghost use Rattle.std.specs.Cmp.Lexicographic.{pointwise};
+ghost use Rattle.op_core.specs.Ids.{id_cmp, is_id, same_id};
 ghost use Rattle.bundle_codec.specs.Reading.{Gives, id_at, comes_after, named_at, after_id, many_at, replaced_at, after};
 ghost use Rattle.bundle_codec.specs.Views.{id_view, each_id_at, ids_at, ids_view};
 
@@ -193,6 +194,19 @@ fn after_ids<'a>(
         rest = left;
     }
     Ok(rest)
+}
+
+// Whether the ids are those of the walk.
+pub(crate) fn same_ids(ids: &[OpId], mut walk: ReplacedIds<'_>) -> bool
+    ensures { result ≡ pointwise same_id ids.now walk.entry }
+{
+    for id in ids {
+        match walk.next() {
+            Some(other) if *id == other => {}
+            _ => return false,
+        }
+    }
+    walk.next().is_none()
 }
 
 // Judges the replaced ids of the operation of the id `own`.

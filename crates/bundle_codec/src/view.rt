@@ -1,10 +1,10 @@
 ghost use Rattle.std.specs.Prelude.{◌≡◌, IfOk};
 ghost use Rattle.op_core.specs.Ids.{id_cmp};
-ghost use Rattle.op_core.specs.Ops.{IsOperation, same_op};
+ghost use Rattle.op_core.specs.Ops.{IsOperation, in_segment, same_op};
 ghost use Rattle.bundle_codec.specs.Spelling.{operation};
 ghost use Rattle.bundle_codec.specs.Views.{op_view, SpellsOne};
 
-use crate::ids::{ReplacedIds, compared, made};
+use crate::ids::{ReplacedIds, compared, made, same_ids};
 use crate::keys::book_in;
 use crate::operation::OpFields;
 use op_core::{Op, OpId};
@@ -86,6 +86,13 @@ impl<'a> OpView<'a> {
         self.bytes
     }
 
+    // Whether it is of an operation's segment.
+    fn is_beside(&self, op: &Op) -> bool
+        ensures { result ≡ in_segment op.now.segment self.now }
+    {
+        self.book() == op.book() && self.key() == op.key()
+    }
+
     // How its id stands to another's.
     pub(crate) fn compare_id(&self, other: &OpView<'_>) -> Ordering
         ensures { result ≡ id_cmp self.now.id other.now.id }
@@ -99,6 +106,16 @@ impl<'a> OpView<'a> {
     {
         let own = self.bytes;
         own == other.bytes
+    }
+
+    /// Whether it is equal to an operation that is not lent from the bytes. It takes no memory.
+    pub fn is_equal(&self, op: &Op) -> bool
+        ensures { result ≡ same_op op.now self.now }
+    {
+        op.id() == self.id()
+            && self.is_beside(op)
+            && same_ids(op.replaced(), self.replaced())
+            && op.text().as_bytes() == self.text().as_bytes()
     }
 
     /// The operation as a value of its own, copied out of the bytes.
