@@ -22,7 +22,7 @@ pub use joining::join_bundles;
 pub use view::OpView;
 pub use walk::BundleOps;
 pub use whole::decode_whole;
-pub use writing::encode;
+pub use writing::{encode, push_bundle};
 
 #[cfg(test)]
 mod tests;

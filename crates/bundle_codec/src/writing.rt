@@ -18,11 +18,24 @@ pub fn encode(alloc: Global, set: &OpSet) -> Result<Vec<u8>, AllocError>
     ensures again { IfOk result (λ bytes. whole_at bytes.items ≡ Ok set.now) }
 {
     let mut bytes = Vec::new(alloc);
-    push_front(&mut bytes, set.len() as u64)?;
-    for op in set.iter() {
-        push_operation(&mut bytes, op)?;
-    }
+    push_bundle(&mut bytes, set)?;
+    // The set's operations show that they are one.
+    let _ = set.iter();
     Ok(bytes)
+}
+
+/// Appends the bundle of a set to bytes, for a file that has it behind something else.
+///
+/// # Errors
+/// Want of memory alone.
+pub fn push_bundle(bytes: &mut Vec<u8>, set: &OpSet) -> Result<(), AllocError>
+    ensures { IfOk result (λ _. bytes.new.items ≡ bytes.old.items ++ spelled.bundle set.now) }
+{
+    push_front(bytes, set.len() as u64)?;
+    for op in set.iter() {
+        push_operation(bytes, op)?;
+    }
+    Ok(())
 }
 
 // Appends the magic and the count, with which a bundle begins.
