@@ -1,0 +1,15 @@
+-- What a replica is: the name that its own operations get, and the set of operations that it holds (Shapiro,
+-- Preguiça, Baquero and Zawirski, INRIA RR-7506: the state of a replica).
+use Rattle.std.specs.Prelude.{ℕ, List, IsTrue}
+use Rattle.op_core.specs.Names.{is_name}
+use Rattle.op_core.specs.Ops.{Operation}
+use Rattle.op_core.specs.Sets.{IsOpSet}
+
+pub record State : Type 0 where
+  pub name : List ℕ
+  pub held : List Operation
+
+-- a right name, and no two operations with one id
+pub record IsState (s : State) : Type 0 where
+  pub name : IsTrue (is_name s.name)
+  pub set : IsOpSet s.held

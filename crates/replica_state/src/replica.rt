@@ -1,0 +1,89 @@
+ghost use Rattle.std.specs.Prelude.{◌≡◌, [], map, IfOk};
+ghost use Rattle.usfm_ref.specs.Segments.{segment};
+ghost use Rattle.op_core.specs.Lists as lists;
+ghost use Rattle.op_core.specs.Shown as texts;
+ghost use Rattle.replica_state.specs.States.{IsState};
+
+use op_core::{Books, Keys, Op, OpSet, Picked, ReplicaName};
+use std::alloc::{AllocError, Global};
+use std::marker::Model;
+use usfm_ref::{Book, Key};
+
+/// A copy of a project that one person edits: the name that the replica's own operations get, and
+/// the set of operations that it holds. It keeps the allocator that it was made with.
+#[derive(Debug, Drop)]
+pub struct Replica {
+    name: ReplicaName,
+    set: OpSet,
+}
+
+impl Model for Replica {
+    ghost use Rattle.replica_state.specs.States.{State, IsState};
+
+    ghost Value = { State };
+
+    ghost view = { λ r. record { name = r.name; held = r.set } };
+
+    ghost invariant = { λ r. IsState (record { name = r.name; held = r.set }) };
+}
+
+impl Replica {
+    /// A replica of this name that holds nothing. It takes no memory.
+    pub fn new(alloc: Global, name: ReplicaName) -> Replica
+        ensures { result ≡ record { name = name; held = [] } }
+    {
+        // The name's text and the set's operations show that both are within their rules.
+        let _ = name.text();
+        let set = OpSet::new(alloc);
+        let _ = set.iter();
+        Replica { name, set }
+    }
+
+    /// The replica's name.
+    pub fn name(&self) -> ReplicaName
+        ensures name { result ≡ self.now.name }
+        ensures valid { IsState self.now }
+    {
+        self.name
+    }
+
+    /// The books with an operation, in the order of books. The walk takes no memory.
+    pub fn books(&self) -> Books<'_>
+        ensures { result ≡ lists.books_of self.now.held }
+    {
+        self.set.books()
+    }
+
+    /// The keys of a book with an operation, rising. The walk takes no memory.
+    pub fn keys(&self, book: Book) -> Keys<'_>
+        ensures { result ≡ lists.keys_of self.now.held book }
+    {
+        self.set.keys(book)
+    }
+
+    /// What the segment shows: the operations of it whose ids no operation of it names as replaced,
+    /// rising, lent from the replica.
+    ///
+    /// # Errors
+    /// Want of memory alone.
+    pub fn shown(&self, alloc: Global, book: Book, key: Key) -> Result<Vec<&Op>, AllocError>
+        ensures { IfOk result (λ v. map (λ op. op.now) v.items ≡ texts.shown self.now.held (segment book key)) }
+    {
+        self.set.shown(alloc, book, key)
+    }
+
+    /// What stands for the segment's text in its book's export: the chapter's own line for a head
+    /// from chapter 1 on whose text would be empty while some verse of the chapter has a text, else
+    /// the shown operation with the greatest id, if there is one. It takes no memory.
+    pub fn pick(&self, book: Book, key: Key) -> Picked<'_>
+        ensures { texts.picked result ≡ texts.pick self.now.held (segment book key) }
+    {
+        self.set.pick(book, key)
+    }
+
+    /// How many comparisons the calls made that change the replica: each of two ids or of two segments
+    /// adds one, up to `u64::MAX`. It is no part of the replica's state, and may rise in a refused call.
+    pub fn compared(&self) -> u64 {
+        self.set.compared()
+    }
+}
