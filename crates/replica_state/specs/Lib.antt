@@ -1,1 +1,5 @@
 pub mod States
+pub mod Receives
+pub mod Edits
+pub mod Imports
+pub mod Steps

@@ -13,8 +13,9 @@ use usfm_ref::{Book, Key};
 /// the set of operations that it holds. It keeps the allocator that it was made with.
 #[derive(Debug, Drop)]
 pub struct Replica {
-    name: ReplicaName,
-    set: OpSet,
+    pub(crate) alloc: Global,
+    pub(crate) name: ReplicaName,
+    pub(crate) set: OpSet,
 }
 
 impl Model for Replica {
@@ -36,7 +37,7 @@ impl Replica {
         let _ = name.text();
         let set = OpSet::new(alloc);
         let _ = set.iter();
-        Replica { name, set }
+        Replica { alloc, name, set }
     }
 
     /// The replica's name.

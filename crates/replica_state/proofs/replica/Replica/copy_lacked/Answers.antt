@@ -1,0 +1,11 @@
+use Rattle.std.proofs.Common.{ap, sym, ◌∙◌, Some}
+use Rattle.op_core.specs.Sets.{get}
+use Rattle.replica_state.proofs.Lacking.{clashes}
+use Rattle.replica_state.proofs.replica.Replica.copy_lacked.Goals as goal
+
+pub returns-in-Some-2-clause-refused : goal.returns-in-Some-2-clause-refused
+returns-in-Some-2-clause-refused c =
+    let kept = c.loop-view.invariant in
+    let held = sym (c.in-Some-find.ensures.found ∙ (λ i. get (kept.0 i) (c.id-id.ensures.id i))) in
+    clashes c.args.self.now.held c.args.bundle.now c.loop-view.new.items c.loop-view.view-iterator c.next.new.self c.in-Some.view c.in-Some-find.op.now kept.1 c.in-Some.ensures.steps held (sym c.is_equal.ensures ∙ c.if-is_equal.false)
+    ∙ ap Some (sym c.id-id.ensures.id)

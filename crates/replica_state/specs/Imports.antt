@@ -1,0 +1,72 @@
+-- Imports of a book's file into a replica (this project's own rule): the edits that make the file the export of its book.
+use Rattle.std.specs.Prelude.{ℕ, suc, Bool, not, ◌&&◌, ◌||◌, List, [], ◌∷◌, ◌++◌, length, map, filter, Option, None, Some, Result, Ok, Err, if◌then◌else◌}
+use Rattle.std.specs.List.{find, flat_map, list_any}
+use Rattle.usfm_ref.specs.Books.{same_bytes}
+use Rattle.usfm_ref.specs.Keys.{KeyParts, key_cmp, head_of, same_key, is_verse_of}
+use Rattle.usfm_ref.specs.Rising.{rising}
+use Rattle.usfm_ref.specs.Segments.{segment}
+use Rattle.verse_cut.specs.Pieces.{Part, pieces_of}
+use Rattle.verse_cut.specs.Reading.{book_in}
+use Rattle.verse_cut.specs.declared.fault.BookFault.{BookFault}
+use Rattle.op_core.specs.Ops.{Operation}
+use Rattle.op_core.specs.Shown.{wants_chapter_line}
+use Rattle.op_core.specs.CutsBack.{picked_at}
+use Rattle.op_core.specs.Lists.{keys_of, shown_ids}
+use Rattle.op_core.specs.NextIds.{next_number}
+use Rattle.replica_state.specs.States.{State}
+use Rattle.replica_state.specs.Edits.{has_numbers, edit_with}
+use Rattle.replica_state.specs.declared.fault.ImportFault.{ImportFault}
+use Rattle.replica_state.specs.declared.fault.ImportFault.TheVariants.{BadFile, NumberFull}
+
+abbrev pub text_in : Option Part → List ℕ
+text_in None = []
+text_in (Some p) = p.text
+
+-- the text of the piece of a key, empty if there is none
+abbrev pub piece_at : List Part → KeyParts → List ℕ
+piece_at pieces key = text_in (find (λ p. same_key key p.key) pieces)
+
+abbrev pub has_piece : List Part → KeyParts → Bool
+has_piece pieces key = list_any (λ p. same_key key p.key) pieces
+
+-- whether a verse of the chapter has a piece
+abbrev pub has_verse : List Part → ℕ → Bool
+has_verse pieces chapter = list_any (λ p. is_verse_of chapter p.key) pieces
+
+-- whether the key is picked as its chapter's line, and a file has a piece there and no verse of the chapter: without an
+-- edit the line would be gone with the last verse
+abbrev pub loses_line : List Operation → List ℕ → List Part → KeyParts → Bool
+loses_line held book pieces key =
+    wants_chapter_line held (segment book key) && has_piece pieces key && not (has_verse pieces key.chapter)
+
+-- whether an import edits the key: what is picked differs from the file's piece, or the chapter's line would be gone
+abbrev pub is_due : List Operation → List ℕ → List Part → KeyParts → Bool
+is_due held book pieces key = not (same_bytes (picked_at held book key) (piece_at pieces key)) || loses_line held book pieces key
+
+-- the keys where either may hold: those with an operation, the heads of their chapters, and those of the file
+abbrev pub walked_keys : List Operation → List ℕ → List Part → List KeyParts
+walked_keys held book pieces = rising key_cmp (flat_map (λ key. head_of key ∷ key ∷ []) (keys_of held book) ++ map (λ p. p.key) pieces)
+
+abbrev pub due_keys : List Operation → List ℕ → List Part → List KeyParts
+due_keys held book pieces = filter (is_due held book pieces) (walked_keys held book pieces)
+
+-- The edits of some keys of a book to the file's pieces, numbered one after the other. Each names all ids that its segment
+-- shows; no other one of them is of its segment.
+abbrev pub edits_from : ℕ → State → List ℕ → List Part → List KeyParts → List Operation
+edits_from number s book pieces [] = []
+edits_from number s book pieces (key ∷ keys) =
+    edit_with (record { number = number; name = s.name }) (segment book key) (shown_ids s.held (segment book key)) (piece_at pieces key)
+    ∷ edits_from (suc number) s book pieces keys
+
+-- the edits, if numbers are left for them
+abbrev pub edits_numbered : State → List ℕ → List Part → List KeyParts → Result (List Operation) ImportFault
+edits_numbered s book pieces keys =
+    if has_numbers s.held (length keys) then Ok (edits_from (next_number s.held) s book pieces keys) else Err NumberFull
+
+abbrev pub import_into : State → List Part → Result (List ℕ) BookFault → Result (List Operation) ImportFault
+import_into s pieces (Err fault) = Err (BadFile fault)
+import_into s pieces (Ok book) = edits_numbered s book pieces (due_keys s.held book pieces)
+
+-- the operations of an import
+abbrev pub import_ops : State → List ℕ → Result (List Operation) ImportFault
+import_ops s file = import_into s (pieces_of file) (book_in file)

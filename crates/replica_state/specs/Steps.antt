@@ -1,0 +1,56 @@
+-- The steps of a replica: what it is after a command, and what is answered (this project's own rule, over the joining of
+-- states in INRIA RR-7506).
+use Rattle.std.specs.Prelude.{ℕ, List, [], ◌∷◌, length, Option, None, Some, Result, Ok, Err}
+use Rattle.usfm_ref.specs.Segments.{Segment}
+use Rattle.op_core.specs.Ids.{Id}
+use Rattle.op_core.specs.Ops.{Operation}
+use Rattle.op_core.specs.Sets.{join, clash}
+use Rattle.replica_state.specs.States.{State}
+use Rattle.replica_state.specs.Receives.{lacked}
+use Rattle.replica_state.specs.Edits.{edit_op, edit_over_op}
+use Rattle.replica_state.specs.Imports.{import_ops}
+use Rattle.replica_state.specs.declared.fault.EditFault.{EditFault}
+use Rattle.replica_state.specs.declared.fault.ImportFault.{ImportFault}
+use Rattle.replica_state.specs.declared.fault.ReceiveFault.{ReceiveFault}
+use Rattle.replica_state.specs.declared.fault.ReceiveFault.TheVariants as receiving
+
+-- what a replica may be told to do: to take in the operations of a bundle, to give a segment a text, over all or over given
+-- ids, and to take in a book's file
+pub data Command : Type 0 where
+  Receive : (bundle : List Operation) → Command
+  Edit : (g : Segment) (text : List ℕ) → Command
+  EditOver : (g : Segment) (text : List ℕ) (given : List Id) → Command
+  Import : (file : List ℕ) → Command
+
+-- what is answered: how many operations are new, or the clash; the id that an edit made; how many edits an import made
+pub data Reply : Type 0 where
+  Received : (answer : Result ℕ ReceiveFault) → Reply
+  Edited : (answer : Result Id EditFault) → Reply
+  Imported : (answer : Result ℕ ImportFault) → Reply
+
+pub record Step : Type 0 where
+  pub after : State
+  pub reply : Reply
+
+-- the replica with operations more
+abbrev pub with_ops : State → List Operation → State
+with_ops s ops = record { name = s.name; held = join s.held ops }
+
+abbrev pub received : State → List Operation → Option Id → Step
+received s bundle None = record { after = with_ops s bundle; reply = Received (Ok (length (lacked s.held bundle))) }
+received s bundle (Some id) = record { after = s; reply = Received (Err (receiving.Clash id)) }
+
+abbrev pub edited : State → Result Operation EditFault → Step
+edited s (Ok o) = record { after = with_ops s (o ∷ []); reply = Edited (Ok o.id) }
+edited s (Err fault) = record { after = s; reply = Edited (Err fault) }
+
+abbrev pub imported : State → Result (List Operation) ImportFault → Step
+imported s (Ok ops) = record { after = with_ops s ops; reply = Imported (Ok (length ops)) }
+imported s (Err fault) = record { after = s; reply = Imported (Err fault) }
+
+-- the step of a command
+abbrev pub step : State → Command → Step
+step s (Receive bundle) = received s bundle (clash s.held bundle)
+step s (Edit g text) = edited s (edit_op s g text)
+step s (EditOver g text given) = edited s (edit_over_op s g text given)
+step s (Import file) = imported s (import_ops s file)

@@ -1,0 +1,199 @@
+// Edits of a replica.
+ghost use Rattle.std.specs.Prelude.{◌≡◌, ◌≢◌, ◌∷◌, [], None, Err, IfOk, IsTrue, OnOk, OnErr, filter, length, not};
+ghost use Rattle.std.specs.List.{AllByRecursion, find};
+ghost use Rattle.std.specs.Option.{option_copied};
+ghost use Rattle.usfm_ref.specs.Keys.{book_head, same_key};
+ghost use Rattle.usfm_ref.specs.Segments.{segment};
+ghost use Rattle.verse_cut.specs.Reading.{text_fits};
+ghost use Rattle.op_core.specs.Export.{has_book};
+ghost use Rattle.op_core.specs.Ids.{names_fall};
+ghost use Rattle.op_core.specs.NextIds.{given_ids, is_among};
+ghost use Rattle.op_core.specs.Sets.{get, rises};
+ghost use Rattle.replica_state.specs.Edits as edits;
+ghost use Rattle.replica_state.specs.States.{IsState};
+ghost use Rattle.replica_state.specs.Steps.{step, Edit, EditOver, Edited, with_ops};
+
+use crate::fault::EditFault;
+use crate::replica::Replica;
+use op_core::{Op, OpId};
+use std::alloc::{AllocError, Global};
+use usfm_ref::{Book, Key, Place};
+use verse_cut::fits;
+
+// The greatest number of an operation.
+const LAST_NUMBER: u64 = 1_000_000_000_000_000;
+
+impl Replica {
+    /// Gives a segment a text, by an operation of the replica that names all ids which the segment
+    /// shows, and answers its id: the replica's name, and the greatest held number and one.
+    ///
+    /// # Errors
+    /// - `BadText` where the text does not fit the book and the key.
+    /// - `NoBook` where the book has no operation and the key is not the head of the book.
+    /// - `NumberFull` where the number would be above 10^15.
+    /// - `Memory` where a growth was refused.
+    ///
+    /// The first of them is answered, and the replica is then unchanged.
+    pub fn edit(&mut self, book: Book, key: Key, text: &str) -> Result<OpId, EditFault>
+        ensures step { result ≢ Err EditFault.Memory →
+            step self.old (Edit (segment book key) text.now) ≡ record { after = self.new; reply = Edited result } }
+        ensures err { OnErr result (self.new ≡ self.old) }
+    {
+        if let Some(fault) = self.edit_fault(book, key, text) {
+            return Err(fault);
+        }
+        let Some(id) = self.next_id() else {
+            return Err(EditFault::NumberFull);
+        };
+        let replaced = self.set.shown_ids(book, key).to_vec(self.alloc)?;
+        self.add(id, book, key, replaced, text)?;
+        Ok(id)
+    }
+
+    /// Gives a segment a text, by an operation of the replica that names the given ids, and answers
+    /// its id: the replica's name, and the greatest held number and one. The ids stand in any order,
+    /// and one that is repeated counts once. No ids name nothing.
+    ///
+    /// # Errors
+    /// - `BadText` where the text does not fit the book and the key.
+    /// - `NoBook` where the book has no operation and the key is not the head of the book.
+    /// - `NotShown` with the first of the ids that the segment does not show.
+    /// - `NumberFull` where the number would be above 10^15.
+    /// - `Memory` where a growth was refused.
+    ///
+    /// The first of them is answered, and the replica is then unchanged.
+    pub fn edit_over(
+        &mut self,
+        book: Book,
+        key: Key,
+        text: &str,
+        over: &[OpId],
+    ) -> Result<OpId, EditFault>
+        ensures step { result ≢ Err EditFault.Memory →
+            step self.old (EditOver (segment book key) text.now over.now) ≡ record { after = self.new; reply = Edited result } }
+        ensures err { OnErr result (self.new ≡ self.old) }
+    {
+        if let Some(fault) = self.edit_fault(book, key, text) {
+            return Err(fault);
+        }
+        if let Some(id) = first_not_among(over, self.set.shown_ids(book, key)) {
+            return Err(EditFault::NotShown(*id));
+        }
+        let Some(id) = self.next_id() else {
+            return Err(EditFault::NumberFull);
+        };
+        let replaced = self.given_ids(book, key, over)?;
+        self.add(id, book, key, replaced, text)?;
+        Ok(id)
+    }
+
+    // Why an edit of the segment may not begin, if it may not.
+    fn edit_fault(&self, book: Book, key: Key, text: &str) -> Option<EditFault>
+        ensures { result ≡ edits.edit_fault self.now.held (segment book key) text.now }
+    {
+        if !fits(book, key, text) {
+            Some(EditFault::BadText)
+        } else if self.has_book(book) || is_book_head(key) {
+            None
+        } else {
+            Some(EditFault::NoBook)
+        }
+    }
+
+    // Whether the book has an operation.
+    fn has_book(&self, book: Book) -> bool
+        ensures { result ≡ has_book self.now.held book }
+    {
+        self.set.keys(book).next().is_some()
+    }
+
+    // The ids that the segment shows, of those that are given.
+    fn given_ids(&self, book: Book, key: Key, given: &[OpId]) -> Result<Vec<OpId>, AllocError>
+        ensures { IfOk result (λ ids. ids.items ≡ given_ids self.now.held (segment book key) given.now) }
+    {
+        given_among(self.alloc, self.set.shown_ids(book, key), given)
+    }
+
+    // The id of the replica's next operation, if a number is left for it.
+    fn next_id(&self) -> Option<OpId>
+        ensures next { result ≡ edits.next_id self.now }
+        ensures state { IsState self.now }
+    {
+        let greatest = self.set.greatest_number();
+        if greatest < LAST_NUMBER {
+            Some(OpId {
+                number: greatest + 1,
+                name: self.name,
+            })
+        } else {
+            None
+        }
+    }
+
+    // Adds an operation whose id is not held.
+    fn add(
+        &mut self,
+        id: OpId,
+        book: Book,
+        key: Key,
+        replaced: Vec<OpId>,
+        text: &str,
+    ) -> Result<(), AllocError>
+        requires new { get self.old.held id ≡ None }
+        requires falls { IsTrue (names_fall id replaced.items) }
+        requires fits { IsTrue (text_fits book key text.now) }
+        ensures ok { OnOk result (self.new ≡ with_ops self.old (edits.edit_with id (segment book key) replaced.items text.now ∷ [])) }
+        ensures err { OnErr result (self.new ≡ self.old) }
+    {
+        let text = String::from_str(self.alloc, text)?;
+        let op = Op::new(id, book, key, replaced, text);
+        let new = Vec::from_array(self.alloc, [op])?;
+        self.join_new(new)?;
+        Ok(())
+    }
+
+    // Adds operations that rise by id and of which none is held, and says how many they are.
+    pub(crate) fn join_new(&mut self, new: Vec<Op>) -> Result<u64, AllocError>
+        requires rising { IsTrue (rises new.items) }
+        requires apart { AllByRecursion (λ o. get self.old.held o.id ≡ None) new.items }
+        ensures ok { OnOk result (self.new ≡ with_ops self.old new.items) }
+        ensures count { IfOk result (λ n. n ≡ length new.items) }
+        ensures err { OnErr result (self.new ≡ self.old) }
+    {
+        let count = self.set.join_rising(new)?;
+        // The set's operations show that they are within their rules.
+        let _ = self.set.iter();
+        Ok(count)
+    }
+}
+
+// The first of the ids that is not among the shown ones.
+fn first_not_among<'a>(ids: &'a [OpId], shown: &[OpId]) -> Option<&'a OpId>
+    ensures { option_copied result ≡ find (λ id. not (is_among shown.now id)) ids.now }
+{
+    ids.iter().find(|id| !is_among(shown, **id))
+}
+
+// The shown ids that are given.
+fn given_among(alloc: Global, shown: &[OpId], given: &[OpId]) -> Result<Vec<OpId>, AllocError>
+    ensures { IfOk result (λ ids. ids.items ≡ filter (is_among given.now) shown.now) }
+{
+    shown
+        .iter()
+        .copied()
+        .filter(|id| is_among(given, *id))
+        .collect(alloc)
+}
+
+// Whether the id is among some ids.
+fn is_among(ids: &[OpId], id: OpId) -> bool
+    ensures { result ≡ is_among ids.now id }
+{
+    ids.iter().any(|one| id == *one)
+}
+
+fn is_book_head(key: Key) -> bool
+    ensures { result ≡ same_key key book_head }
+{
+    key.chapter == 0 && key.place == Place::Head
+}

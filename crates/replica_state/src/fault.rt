@@ -1,0 +1,110 @@
+ghost use Rattle.std.specs.Prelude.{◌≡◌};
+ghost use Rattle.replica_state.specs.declared.fault.EditFault.TheVariants as edit;
+ghost use Rattle.replica_state.specs.declared.fault.ImportFault.TheVariants as import;
+ghost use Rattle.replica_state.specs.declared.fault.ReceiveFault.TheVariants as receiving;
+
+use op_core::OpId;
+use std::alloc::{AllocError, AllocFailed};
+use thiserror::Error;
+use verse_cut::BookFault;
+
+/// Why a replica did not take a bundle in. The replica is then unchanged.
+#[derive(Clone, Copy, Debug, PartialEq, Eq, Error)]
+pub enum ReceiveFault {
+    /// A growth was refused.
+    #[error("out of memory")]
+    Memory,
+    /// The replica and the bundle have operations of this id that are not equal.
+    #[error("two operations that differ have one id: {} {}", .0.number, .0.name.text())]
+    Clash(OpId),
+}
+
+/// Why a segment was not edited. The replica is then unchanged.
+#[derive(Clone, Copy, Debug, PartialEq, Eq, Error)]
+pub enum EditFault {
+    /// A growth was refused.
+    #[error("out of memory")]
+    Memory,
+    /// The text does not fit the book and the key.
+    #[error("the text does not fit its book and key")]
+    BadText,
+    /// The book has no operation, and the key is not the head of the book.
+    #[error("no operation is of the book")]
+    NoBook,
+    /// The segment does not show this id, the first such one of those that were given.
+    #[error("the segment does not show {} {}", .0.number, .0.name.text())]
+    NotShown(OpId),
+    /// The next number would be above 10^15.
+    #[error("no number is left for the edit")]
+    NumberFull,
+}
+
+/// Why a file was not imported. The replica is then unchanged.
+#[derive(Clone, Copy, Debug, PartialEq, Eq, Error)]
+pub enum ImportFault {
+    /// A growth was refused.
+    #[error("out of memory")]
+    Memory,
+    /// The file does not begin as a book does.
+    #[error("{0}")]
+    BadFile(BookFault),
+    /// The number of the last edit would be above 10^15.
+    #[error("no numbers are left for the edits")]
+    NumberFull,
+}
+
+impl From<AllocError> for ReceiveFault {
+    ghost from_gives = { λ _ fault. fault ≡ receiving.Memory };
+
+    fn from(_: AllocError) -> ReceiveFault {
+        ReceiveFault::Memory
+    }
+}
+
+impl<T: Drop> From<AllocFailed<T>> for ReceiveFault {
+    ghost from_gives = { λ _ fault. fault ≡ receiving.Memory };
+
+    fn from(_: AllocFailed<T>) -> ReceiveFault {
+        ReceiveFault::Memory
+    }
+}
+
+impl From<AllocError> for EditFault {
+    ghost from_gives = { λ _ fault. fault ≡ edit.Memory };
+
+    fn from(_: AllocError) -> EditFault {
+        EditFault::Memory
+    }
+}
+
+impl<T: Drop> From<AllocFailed<T>> for EditFault {
+    ghost from_gives = { λ _ fault. fault ≡ edit.Memory };
+
+    fn from(_: AllocFailed<T>) -> EditFault {
+        EditFault::Memory
+    }
+}
+
+impl From<AllocError> for ImportFault {
+    ghost from_gives = { λ _ fault. fault ≡ import.Memory };
+
+    fn from(_: AllocError) -> ImportFault {
+        ImportFault::Memory
+    }
+}
+
+impl<T: Drop> From<AllocFailed<T>> for ImportFault {
+    ghost from_gives = { λ _ fault. fault ≡ import.Memory };
+
+    fn from(_: AllocFailed<T>) -> ImportFault {
+        ImportFault::Memory
+    }
+}
+
+impl From<BookFault> for ImportFault {
+    ghost from_gives = { λ from fault. fault ≡ import.BadFile from };
+
+    fn from(fault: BookFault) -> ImportFault {
+        ImportFault::BadFile(fault)
+    }
+}

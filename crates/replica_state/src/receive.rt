@@ -1,0 +1,58 @@
+ghost use Rattle.std.specs.Prelude.{◌≡◌, ◌≢◌, [], None, Ok, Err, IfOk, IfErr, OnOk, OnErr};
+ghost use Rattle.op_core.specs.Sets as sets;
+ghost use Rattle.replica_state.specs.Receives as receives;
+ghost use Rattle.replica_state.specs.States.{IsState};
+ghost use Rattle.replica_state.specs.Steps.{step, with_ops, Receive, Received};
+
+use crate::fault::ReceiveFault;
+use crate::replica::Replica;
+use bundle_codec::Bundle;
+use op_core::Op;
+
+impl Replica {
+    /// Takes in the operations of a bundle, and says how many are new. One that is held already,
+    /// alike, is passed over; only the new ones are copied. So a bundle whose operations are all
+    /// held, alike, takes no memory.
+    ///
+    /// # Errors
+    /// `Clash` with the least id under which the replica and the bundle have operations that are not
+    /// equal; `Memory` where a growth was refused. The replica is then unchanged.
+    pub fn receive(&mut self, bundle: &Bundle<'_>) -> Result<u64, ReceiveFault>
+        ensures step { result ≢ Err ReceiveFault.Memory → step self.old (Receive bundle.now) ≡ record { after = self.new; reply = Received result } }
+        ensures ok { OnOk result (self.new ≡ with_ops self.old bundle.now) }
+        ensures agrees { OnOk result (sets.clash self.old.held bundle.now ≡ None) }
+        ensures refused { IfErr result (receives.RefusesReceive (sets.clash self.old.held bundle.now)) }
+        ensures nothing_new { receives.lacked self.old.held bundle.now ≡ [] → result ≢ Err ReceiveFault.Memory }
+        ensures held { receives.AreHeld self.old.held bundle.now → result ≡ Ok 0 }
+        ensures err { OnErr result (self.new ≡ self.old) }
+    {
+        let new = self.copy_lacked(bundle)?;
+        if new.is_empty() {
+            return Ok(0);
+        }
+        Ok(self.join_new(new)?)
+    }
+
+    // The operations of a bundle that the replica lacks, copied out of the bundle's bytes, rising.
+    // Nothing grows before the first of them.
+    fn copy_lacked(&self, bundle: &Bundle<'_>) -> Result<Vec<Op>, ReceiveFault>
+        ensures state { IsState self.now }
+        ensures set { sets.IsOpSet bundle.now }
+        ensures ok { IfOk result (λ new. new.items ≡ receives.lacked self.now.held bundle.now) }
+        ensures agrees { OnOk result (sets.clash self.now.held bundle.now ≡ None) }
+        ensures refused { IfErr result (receives.RefusesReceive (sets.clash self.now.held bundle.now)) }
+        ensures nothing_new { receives.lacked self.now.held bundle.now ≡ [] → result ≢ Err ReceiveFault.Memory }
+    {
+        let mut finder = self.set.finder();
+        let mut new = Vec::new(self.alloc);
+        for view in bundle.ops() {
+            let id = view.id();
+            match finder.find(&id) {
+                None => new.push(view.to_op(self.alloc)?)?,
+                Some(op) if view.is_equal(op) => {}
+                Some(_) => return Err(ReceiveFault::Clash(id)),
+            }
+        }
+        Ok(new)
+    }
+}
