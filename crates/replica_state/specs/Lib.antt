@@ -3,3 +3,5 @@ pub mod Receives
 pub mod Edits
 pub mod Imports
 pub mod Steps
+pub mod Runs
+pub mod Laws

@@ -1,6 +1,6 @@
 -- What a replica is: the name that its own operations get, and the set of operations that it holds (Shapiro,
 -- Preguiça, Baquero and Zawirski, INRIA RR-7506: the state of a replica).
-use Rattle.std.specs.Prelude.{ℕ, List, IsTrue}
+use Rattle.std.specs.Prelude.{ℕ, List, [], IsTrue}
 use Rattle.op_core.specs.Names.{is_name}
 use Rattle.op_core.specs.Ops.{Operation}
 use Rattle.op_core.specs.Sets.{IsOpSet}
@@ -8,6 +8,10 @@ use Rattle.op_core.specs.Sets.{IsOpSet}
 pub record State : Type 0 where
   pub name : List ℕ
   pub held : List Operation
+
+-- the replica of a name that holds nothing
+abbrev pub begun : List ℕ → State
+begun name = record { name = name; held = [] }
 
 -- a right name, and no two operations with one id
 pub record IsState (s : State) : Type 0 where

@@ -4,6 +4,7 @@
 
 mod edit;
 mod fault;
+pub mod laws;
 mod receive;
 mod replica;
 

@@ -1,9 +1,12 @@
-ghost use Rattle.std.specs.Prelude.{◌≡◌, [], map, IfOk};
+ghost use Rattle.std.specs.Prelude.{◌≡◌, map, Ok, IfOk};
 ghost use Rattle.usfm_ref.specs.Segments.{segment};
 ghost use Rattle.op_core.specs.Lists as lists;
 ghost use Rattle.op_core.specs.Shown as texts;
-ghost use Rattle.replica_state.specs.States.{IsState};
+ghost use Rattle.bundle_codec.specs.Joining.{whole_at};
+ghost use Rattle.bundle_codec.specs.Spelling.{bundle};
+ghost use Rattle.replica_state.specs.States.{IsState, begun};
 
+use bundle_codec::encode;
 use op_core::{Books, Keys, Op, OpSet, Picked, ReplicaName};
 use std::alloc::{AllocError, Global};
 use std::marker::Model;
@@ -31,7 +34,7 @@ impl Model for Replica {
 impl Replica {
     /// A replica of this name that holds nothing. It takes no memory.
     pub fn new(alloc: Global, name: ReplicaName) -> Replica
-        ensures { result ≡ record { name = name; held = [] } }
+        ensures { result ≡ begun name }
     {
         // The name's text and the set's operations show that both are within their rules.
         let _ = name.text();
@@ -80,6 +83,17 @@ impl Replica {
         ensures { texts.picked result ≡ texts.pick self.now.held (segment book key) }
     {
         self.set.pick(book, key)
+    }
+
+    /// The bundle of all operations that the replica holds.
+    ///
+    /// # Errors
+    /// Want of memory alone.
+    pub fn bundle(&self, alloc: Global) -> Result<Vec<u8>, AllocError>
+        ensures spelled { IfOk result (λ bytes. bytes.items ≡ bundle self.now.held) }
+        ensures again { IfOk result (λ bytes. whole_at bytes.items ≡ Ok self.now.held) }
+    {
+        encode(alloc, &self.set)
     }
 
     /// How many comparisons the calls made that change the replica: each of two ids or of two segments

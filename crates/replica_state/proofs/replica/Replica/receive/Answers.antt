@@ -19,9 +19,9 @@ pub returns-then-is_empty-clause-step : goal.returns-then-is_empty-clause-step
 returns-then-is_empty-clause-step c =
     let none = from_empty c.in_ok-new.new.items (sym c.in_ok-new.new.ok.0 ∙ eqb-true _ 0 (sym c.if-is_empty.ensures)) in
     λ _. answered c.args.self.now c.args.self.now c.args.bundle.now 0
-        (ap (with_ops c.args.self.now) (sym none) ∙ all_joined c.args.self.now c.args.bundle.now c.in_ok-new.new.items c.in_ok-new.ensures.state c.in_ok-new.ensures.set c.in_ok-new.ensures.ok)
-        c.in_ok-new.ensures.agrees
-        (ap length (sym none ∙ c.in_ok-new.ensures.ok))
+    (ap (with_ops c.args.self.now) (sym none) ∙ all_joined c.args.self.now c.args.bundle.now c.in_ok-new.new.items c.in_ok-new.ensures.state c.in_ok-new.ensures.set c.in_ok-new.ensures.ok)
+    c.in_ok-new.ensures.agrees
+    (ap length (sym none ∙ c.in_ok-new.ensures.ok))
 
 pub join_new-requires-clause-rising : goal.join_new-requires-clause-rising
 join_new-requires-clause-rising c = rw c.in_ok-new.ensures.ok (fresh_rises c.args.self.now.held c.args.bundle.now c.in_ok-new.ensures.set.rising)

@@ -1,0 +1,29 @@
+-- Laws of replicas.
+use Rattle.std.specs.Prelude.{◌≡◌, ℕ, List, [], ◌∷◌, ◌⊎◌, map}
+use Rattle.std.specs.List.{Contains, AllByRecursion}
+use Rattle.op_core.specs.Ops.{Operation}
+use Rattle.op_core.specs.Sets.{IsOpSet}
+use Rattle.op_core.specs.Export.{export}
+use Rattle.replica_state.specs.States.{begun}
+use Rattle.replica_state.specs.Steps.{Receive}
+use Rattle.replica_state.specs.Runs.{after, NoneRefused}
+
+-- the operation is in one of the bundles
+abbrev pub IsAmong : List (List Operation) → Operation → Type 0
+IsAmong [] o = ⊥
+IsAmong (bundle ∷ rest) o = Contains bundle o ⊎ IsAmong rest o
+
+-- the bundles have the same operations together
+pub record SameTogether (bundles others : List (List Operation)) : Type 0 where
+  pub there : (o : Operation) → IsAmong bundles o → IsAmong others o
+  pub back : (o : Operation) → IsAmong others o → IsAmong bundles o
+
+-- Two replicas that received bundles with the same operations together, in whatever order, grouping and repetition, hold
+-- the same operations, and export the same bytes of every book, if no bundle was refused.
+abbrev pub SameBundlesSameBooks : Type 0
+SameBundlesSameBooks =
+    (name other : List ℕ) (bundles others : List (List Operation)) →
+    AllByRecursion IsOpSet bundles → AllByRecursion IsOpSet others → SameTogether bundles others →
+    NoneRefused (begun name) (map Receive bundles) → NoneRefused (begun other) (map Receive others) →
+    ((after (begun name) (map Receive bundles)).held ≡ (after (begun other) (map Receive others)).held)
+    × ((book : List ℕ) → export (after (begun name) (map Receive bundles)).held book ≡ export (after (begun other) (map Receive others)).held book)
