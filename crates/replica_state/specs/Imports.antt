@@ -1,8 +1,10 @@
 -- Imports of a book's file into a replica (this project's own rule): the edits that make the file the export of its book.
 use Rattle.std.specs.Prelude.{ℕ, suc, Bool, not, ◌&&◌, ◌||◌, List, [], ◌∷◌, ◌++◌, length, map, filter, Option, None, Some, Result, Ok, Err, if◌then◌else◌}
-use Rattle.std.specs.List.{find, flat_map, list_any}
+use Rattle.std.specs.List.{find, list_any}
+use Rattle.std.specs.Option.{is_some}
+use Rattle.std.specs.Ordering.{is_eq}
 use Rattle.usfm_ref.specs.Books.{same_bytes}
-use Rattle.usfm_ref.specs.Keys.{KeyParts, key_cmp, head_of, same_key, is_verse_of}
+use Rattle.usfm_ref.specs.Keys.{KeyParts, key_cmp, head_of, is_verse_of}
 use Rattle.usfm_ref.specs.Rising.{rising}
 use Rattle.usfm_ref.specs.Segments.{segment}
 use Rattle.verse_cut.specs.Pieces.{Part, pieces_of}
@@ -22,12 +24,13 @@ abbrev pub text_in : Option Part → List ℕ
 text_in None = []
 text_in (Some p) = p.text
 
--- the text of the piece of a key, empty if there is none
-abbrev pub piece_at : List Part → KeyParts → List ℕ
-piece_at pieces key = text_in (find (λ p. same_key key p.key) pieces)
+-- the piece of a key
+abbrev pub piece_of : List Part → KeyParts → Option Part
+piece_of pieces key = find (λ p. is_eq (key_cmp key p.key)) pieces
 
-abbrev pub has_piece : List Part → KeyParts → Bool
-has_piece pieces key = list_any (λ p. same_key key p.key) pieces
+-- its text, empty if there is none
+abbrev pub piece_at : List Part → KeyParts → List ℕ
+piece_at pieces key = text_in (piece_of pieces key)
 
 -- whether a verse of the chapter has a piece
 abbrev pub has_verse : List Part → ℕ → Bool
@@ -37,7 +40,7 @@ has_verse pieces chapter = list_any (λ p. is_verse_of chapter p.key) pieces
 -- edit the line would be gone with the last verse
 abbrev pub loses_line : List Operation → List ℕ → List Part → KeyParts → Bool
 loses_line held book pieces key =
-    wants_chapter_line held (segment book key) && has_piece pieces key && not (has_verse pieces key.chapter)
+    wants_chapter_line held (segment book key) && is_some (piece_of pieces key) && not (has_verse pieces key.chapter)
 
 -- whether an import edits the key: what is picked differs from the file's piece, or the chapter's line would be gone
 abbrev pub is_due : List Operation → List ℕ → List Part → KeyParts → Bool
@@ -45,7 +48,7 @@ is_due held book pieces key = not (same_bytes (picked_at held book key) (piece_a
 
 -- the keys where either may hold: those with an operation, the heads of their chapters, and those of the file
 abbrev pub walked_keys : List Operation → List ℕ → List Part → List KeyParts
-walked_keys held book pieces = rising key_cmp (flat_map (λ key. head_of key ∷ key ∷ []) (keys_of held book) ++ map (λ p. p.key) pieces)
+walked_keys held book pieces = rising key_cmp (map head_of (keys_of held book) ++ (keys_of held book ++ map (λ p. p.key) pieces))
 
 abbrev pub due_keys : List Operation → List ℕ → List Part → List KeyParts
 due_keys held book pieces = filter (is_due held book pieces) (walked_keys held book pieces)

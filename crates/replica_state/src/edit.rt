@@ -21,7 +21,7 @@ use usfm_ref::{Book, Key, Place};
 use verse_cut::fits;
 
 // The greatest number of an operation.
-const LAST_NUMBER: u64 = 1_000_000_000_000_000;
+pub(crate) const LAST_NUMBER: u64 = 1_000_000_000_000_000;
 
 impl Replica {
     /// Gives a segment a text, by an operation of the replica that names all ids which the segment

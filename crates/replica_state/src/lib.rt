@@ -1,10 +1,12 @@
 //! Replicas: the copies of a Scripture project, one for each person who edits. A replica takes in bundles of
-//! operations from the others, edits segments, and shows and picks texts from the set of all that it holds.
+//! operations from the others, edits segments, imports books, and shows and picks texts from the set of all that it holds.
 #![tactic(auto)]
 
 mod edit;
 mod fault;
+mod import;
 pub mod laws;
+mod pieces;
 mod receive;
 mod replica;
 

@@ -1,0 +1,76 @@
+-- What stands at the keys of a file's pieces.
+use Rattle.std.proofs.Common.{◌≡◌, ℕ, Bool, true, false, ◌&&◌, cond, List, [], ◌∷◌, take, drop, Option, None, Some, Ok, refl, sym, ap, subst, ◌∙◌}
+use Rattle.std.specs.Cmp.{Equal-is}
+use Rattle.std.specs.List.{All}
+use Rattle.std.specs.Ordering.{is_eq}
+use Rattle.std.proofs.lemmas.Bool.{and_parts}
+use Rattle.std.proofs.lemmas.List.Elements.{All-head, All-tail}
+use Rattle.usfm_ref.specs.Books.{is_book_code}
+use Rattle.usfm_ref.specs.Keys.{KeyParts, key_cmp, book_head, same_key}
+use Rattle.usfm_ref.proofs.Orders.{key_exact, same_key-is}
+use Rattle.verse_cut.specs.Fits.{IsHeaded, Fits, ends_code}
+use Rattle.verse_cut.specs.Pieces.{Part, pieces_of}
+use Rattle.verse_cut.specs.Joins.{IsJoinOf}
+use Rattle.verse_cut.specs.Reading.{behind_id, book_at, book_or_bad, leading_book, book_in, text_fits}
+use Rattle.verse_cut.proofs.BookLaws.{books_are_joins}
+use Rattle.verse_cut.proofs.FitLaws.{fits_is_read, fits_other}
+use Rattle.verse_cut.proofs.Headings.{book_reads}
+use Rattle.verse_cut.proofs.PieceLaws.{pieces_fit}
+use Rattle.replica_state.specs.Imports.{text_in, piece_of, piece_at}
+
+-- ---- the book of a file
+
+code_leads : (bytes book : List ℕ) → leading_book bytes ≡ Some book → is_book_code book ≡ true
+code_leads bytes book h = by (is_book_code (take 3 bytes) && ends_code (drop 3 bytes)) refl h
+  where
+    by : (e : Bool) → is_book_code (take 3 bytes) && ends_code (drop 3 bytes) ≡ e → cond e (Some (take 3 bytes)) None ≡ Some book → is_book_code book ≡ true
+    by true e h =
+        let is : take 3 bytes ≡ book = cc in
+        ap is_book_code (sym is) ∙ (and_parts (is_book_code (take 3 bytes)) (ends_code (drop 3 bytes)) e).0
+    by false e h = absurd (cc)
+
+pub book_is_code : (text book : List ℕ) → book_in text ≡ Ok book → is_book_code book ≡ true
+unfolding book_in
+book_is_code text book h = by (behind_id text) h
+  where
+    second : (o : Option (List ℕ)) (bytes : List ℕ) → leading_book bytes ≡ o → book_or_bad o ≡ Ok book → is_book_code book ≡ true
+    second None bytes e h = absurd (cc)
+    second (Some b) bytes e h = let is : b ≡ book = cc in code_leads bytes book (e ∙ ap Some is)
+
+    by : (o : Option (List ℕ)) → book_at o ≡ Ok book → is_book_code book ≡ true
+    by None h = absurd (cc)
+    by (Some bytes) h = second (leading_book bytes) bytes refl h
+
+pub book_is_headed : (text book : List ℕ) → book_in text ≡ Ok book → IsHeaded book text
+book_is_headed text book h = book_reads text (Ok book) (sym h)
+
+-- ---- the piece of a key
+
+-- a piece that is found is of the key, and what holds of all holds of it
+pub piece_has : (P : Part → Type 0) (key : KeyParts) (pieces : List Part) (p : Part) → All P pieces → piece_of pieces key ≡ Some p → P p × (key ≡ p.key)
+piece_has P key [] p all h = absurd (cc)
+piece_has P key (q ∷ pieces) p all h = by (λ e. piece_has P key pieces p (All-tail P q pieces all) e) (is_eq (key_cmp key q.key)) refl h
+  where
+    by : (piece_of pieces key ≡ Some p → P p × (key ≡ p.key)) → (b : Bool) → is_eq (key_cmp key q.key) ≡ b → cond b (Some q) (piece_of pieces key) ≡ Some p → P p × (key ≡ p.key)
+    by rest true e h =
+        let is : q ≡ p = cc in
+        (subst P is (All-head P q pieces all), key_exact key q.key ((Equal-is _).0 e) ∙ ap (λ (r : Part). r.key) is)
+    by rest false e h = rest h
+
+-- the head of a book has a piece
+pub head_has_piece : (text : List ℕ) (book : List ℕ) (j : IsJoinOf book text) → piece_of (pieces_of text) book_head ≡ Some (record { key = book_head; start = 0; text = j.head })
+head_has_piece text book j = ap (λ ps. piece_of ps book_head) j.pieces
+
+-- what a file has at a key, perhaps nothing, fits it
+pub piece_fits : (book text : List ℕ) (key : KeyParts) → is_book_code book ≡ true → IsHeaded book text → text_fits book key (piece_at (pieces_of text) key) ≡ true
+piece_fits book text key code headed = by (piece_of (pieces_of text) key) refl
+  where
+    absent : (b : Bool) → same_key key book_head ≡ b → piece_of (pieces_of text) key ≡ None → text_fits book key [] ≡ true
+    absent true e gone = absurd (let there = head_has_piece text book (books_are_joins book text code headed) in let here = ap (piece_of (pieces_of text)) (sym (same_key-is key book_head e)) ∙ gone in cc)
+    absent false e gone = sym (fits_other book key [] e)
+
+    by : (o : Option Part) → piece_of (pieces_of text) key ≡ o → text_fits book key (text_in o) ≡ true
+    by None e = absent (same_key key book_head) refl e
+    by (Some p) e =
+        let h = piece_has (λ q. Fits book q.key q.text) key (pieces_of text) p (pieces_fit book text code headed) e in
+        (fits_is_read book key p.text).1 (subst (λ k. Fits book k p.text) (sym h.1) h.0)
