@@ -12,7 +12,7 @@ use Rattle.usfm_ref.specs.Segments.{segment}
 use Rattle.usfm_ref.proofs.Orders.{same_bytes-is}
 use Rattle.verse_cut.specs.Pieces.{Part}
 use Rattle.op_core.specs.Names.{name_cmp}
-use Rattle.op_core.specs.Ids.{id_below}
+use Rattle.op_core.specs.Ids.{Id, id_below}
 use Rattle.op_core.specs.Ops.{Operation}
 use Rattle.op_core.specs.Sets.{rises, get}
 use Rattle.op_core.specs.Shown.{wants_chapter_line, chapter_line, last, shown, Line, greatest, pick, picked_text}
@@ -29,13 +29,14 @@ module _ (s : State) (book : List ℕ) (pieces : List Part) where
   abbrev pub edit_at : ℕ → KeyParts → Operation
   edit_at n key = edit_with (record { number = n; name = s.name }) (segment book key) (shown_ids s.held (segment book key)) (piece_at pieces key)
 
-  numbers_above : (n m : ℕ) (keys : List KeyParts) → n < m → list_all (λ o. id_below (record { number = n; name = s.name }) o.id) (edits_from m s book pieces keys) ≡ true
-  numbers_above n m [] l = refl
-  numbers_above n m (k ∷ keys) l = and_from _ _ (ap (λ r. is_lt (ordering_then r (name_cmp s.name s.name))) (sym (nat_cmp_is n m Less l))) (numbers_above n (suc m) keys (omega arith))
+  -- an id of a smaller number is below each of the edits
+  pub numbers_above : (i : Id) (m : ℕ) (keys : List KeyParts) → i.number < m → list_all (λ o. id_below i o.id) (edits_from m s book pieces keys) ≡ true
+  numbers_above i m [] l = refl
+  numbers_above i m (k ∷ keys) l = and_from _ _ (ap (λ r. is_lt (ordering_then r (name_cmp i.name s.name))) (sym (nat_cmp_is i.number m Less l))) (numbers_above i (suc m) keys (omega arith))
 
   pub edits_rise : (n : ℕ) (keys : List KeyParts) → rises (edits_from n s book pieces keys) ≡ true
   edits_rise n [] = refl
-  edits_rise n (k ∷ keys) = and_from _ _ (numbers_above n (suc n) keys (omega arith)) (edits_rise (suc n) keys)
+  edits_rise n (k ∷ keys) = and_from _ _ (numbers_above (record { number = n; name = s.name }) (suc n) keys (omega arith)) (edits_rise (suc n) keys)
 
   pub edits_are_new : (n : ℕ) (keys : List KeyParts) → greatest_number s.held < n → AllByRecursion (λ o. get s.held o.id ≡ None) (edits_from n s book pieces keys)
   edits_are_new n [] l = tt

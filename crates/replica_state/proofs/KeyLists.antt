@@ -49,7 +49,7 @@ strict_rises (k ∷ ks) h = and_from _ _ (over ks h.0) (strict_rises ks h.1)
     over [] a = refl
     over (y ∷ ys) a = and_from _ _ (ap is_lt a.0) (over ys a.1)
 
-same_key-cmp : (a b : KeyParts) → same_key a b ≡ eq_by_cmp key_cmp a b
+pub same_key-cmp : (a b : KeyParts) → same_key a b ≡ eq_by_cmp key_cmp a b
 same_key-cmp a b = both_ways (same_key a b) (eq_by_cmp key_cmp a b)
     (λ h. subst (λ c. is_eq (key_cmp a c) ≡ true) (same_key-is a b h) (ap is_eq (tied_itself key_total a)))
     (λ h. subst (λ c. same_key a c ≡ true) (key_exact a b ((Equal-is _).0 h)) (same_key-refl a))

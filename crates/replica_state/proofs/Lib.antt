@@ -4,3 +4,8 @@ pub mod FilePieces
 pub mod Imports
 pub mod Lacking
 pub mod Runs
+pub mod Appended
+pub mod KeyTexts
+pub mod DueKeys
+pub mod ImportedTexts
+pub mod Exports

@@ -5,3 +5,4 @@ pub mod Imports
 pub mod Steps
 pub mod Runs
 pub mod Laws
+pub mod ImportLaws

@@ -12,3 +12,6 @@ mod replica;
 
 pub use fault::{EditFault, ImportFault, ReceiveFault};
 pub use replica::Replica;
+
+#[cfg(test)]
+mod edit_rows;

@@ -1,0 +1,7 @@
+//! Laws of imports.
+ghost use Rattle.replica_state.specs.ImportLaws as laws;
+
+/// After an import that is not refused the export of the file's book is the file.
+pub fn imports_are_exported()
+    ensures { laws.ImportsAreExported }
+{}
