@@ -81,7 +81,7 @@ behind_none (t ∷ ts) q h f = by (behind_none ts q p.1 f) (is_eq (key_cmp q t.k
     by rest false e = ap own_text (cond-false _ _ _ e) ∙ rest
 
 -- a text that is behind the head of the book is not the head's
-behind_head : (head : List ℕ) (ts : List KeyText) (q : KeyParts) → key_below book_head q ≡ true → text_at (at_book_head head ∷ ts) q ≡ text_at ts q
+pub behind_head : (head : List ℕ) (ts : List KeyText) (q : KeyParts) → key_below book_head q ≡ true → text_at (at_book_head head ∷ ts) q ≡ text_at ts q
 behind_head head ts q h = by (is_eq (key_cmp q book_head)) refl
   where
     by : (b : Bool) → is_eq (key_cmp q book_head) ≡ b → own_text (cond b (Some (at_book_head head)) (at_key ts q)) ≡ text_at ts q

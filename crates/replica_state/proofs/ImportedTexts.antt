@@ -25,7 +25,7 @@ use Rattle.replica_state.proofs.DueKeys.{due_rise, not_due}
 use Rattle.replica_state.proofs.FilePieces.{book_is_code, book_is_headed}
 use Rattle.replica_state.proofs.KeyTexts.{text_at, text_of_piece, stands, item_at}
 
-any_found : {X : Type 0} (p : X → Bool) (xs : List X) → list_any p xs ≡ true → (x : X) × (p x ≡ true)
+pub any_found : {X : Type 0} (p : X → Bool) (xs : List X) → list_any p xs ≡ true → (x : X) × (p x ≡ true)
 any_found p [] h = cc h
 any_found {X} p (x ∷ xs) h = by (λ g. any_found p xs g) (p x) refl h
   where
@@ -46,7 +46,7 @@ wants_no_text held g h =
     let a = and_parts (is_head g.key.place && nat_le 1 g.key.chapter && is_empty (text_of held g)) (has_verse_text held g.book g.key.chapter) h in
     empty_is (text_of held g) (and_parts (is_head g.key.place && nat_le 1 g.key.chapter) (is_empty (text_of held g)) a.0).1
 
-verse_wants_none : (held : List Operation) (g : Segment) → is_head g.key.place ≡ false → wants_chapter_line held g ≡ false
+pub verse_wants_none : (held : List Operation) (g : Segment) → is_head g.key.place ≡ false → wants_chapter_line held g ≡ false
 verse_wants_none held g h = ap (λ b. b && nat_le 1 g.key.chapter && is_empty (text_of held g) && has_verse_text held g.book g.key.chapter) h
 
 module _ (s : State) (state : IsState s) (book file : List ℕ) (named : book_in file ≡ Ok book) where

@@ -9,3 +9,4 @@ pub mod KeyTexts
 pub mod DueKeys
 pub mod ImportedTexts
 pub mod Exports
+pub mod OwnExports

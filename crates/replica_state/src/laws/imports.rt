@@ -5,3 +5,8 @@ ghost use Rattle.replica_state.specs.ImportLaws as laws;
 pub fn imports_are_exported()
     ensures { laws.ImportsAreExported }
 {}
+
+/// The import of the export of a book whose head has an operation adds nothing.
+pub fn own_exports_add_nothing()
+    ensures { laws.OwnExportsAddNothing }
+{}
