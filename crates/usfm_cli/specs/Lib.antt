@@ -8,3 +8,4 @@ pub mod Streams
 pub mod Folding
 pub mod StreamLaws
 pub mod Books
+pub mod TreeLaws

@@ -1,7 +1,8 @@
-//! Laws of streams of bundles, over the definitions alone. Each function does nothing: its contract is
-//! the law.
+//! Laws of streams of bundles and of the trees of books, over the definitions alone. Each function
+//! does nothing: its contract is the law.
 ghost use Rattle.usfm_cli.specs.Books as books;
 ghost use Rattle.usfm_cli.specs.StreamLaws as laws;
+ghost use Rattle.usfm_cli.specs.TreeLaws as trees;
 
 /// Bundles one after another give the union of their sets, taken one after another, or the first
 /// clash.
@@ -24,4 +25,9 @@ pub fn same_operations_same_books()
 /// picked texts.
 pub fn folded_books_cut_back()
     ensures { books.FoldedBooksCutBack }
+{}
+
+/// The leaves of an exported book's tree, by whatever style sheet, join to the book's bytes.
+pub fn exports_are_leaves()
+    ensures { trees.ExportsAreLeaves }
 {}

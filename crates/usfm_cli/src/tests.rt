@@ -2,6 +2,7 @@
 mod folding;
 mod line_words;
 pub(crate) mod streams;
+mod trees;
 
 use self::streams::{Broken, Refusal, ShortSink, SlowSource, Zeros};
 use crate::told::within;

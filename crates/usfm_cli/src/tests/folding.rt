@@ -8,7 +8,7 @@ use std::test::Fail;
 use usfm_ref::Book;
 
 // 1 ana on MAT 0, `\id MAT␊`; 2 ana on MAT 1:1, `\v 1 In␊`.
-const B1: &[u8] =
+pub(crate) const B1: &[u8] =
     b"USFMSR1\n\0\0\0\0\0\0\0\x02\0\0\0\0\0\0\0\x01\x03anaMAT\0\0\0\0\0\0\0\0\0\0\0\0\0\0\x01\0\0\0\0\0\0\0\x08\\id MAT\n\0\0\0\0\0\0\0\x02\x03anaMAT\0\x01\x01\0\x01\0\0\0\0\0\0\0\0\0\x01\0\0\0\0\0\0\0\x08\\v 1 In\n";
 // 3 ben on MAT 1:1, naming 2 ana, `\v 1 At␊`.
 const Y: &[u8] =
@@ -37,7 +37,7 @@ fn stream(alloc: Global, bundles: &[&[u8]]) -> Result<Vec<u8>, Fail> {
 }
 
 // What is written for a book of the stream, or the line of the fault, with nothing written.
-fn folded(alloc: Global, input: &[u8], code: &str) -> Result<Vec<u8>, Fail> {
+pub(crate) fn folded(alloc: Global, input: &[u8], code: &str) -> Result<Vec<u8>, Fail> {
     let mut source = SlowSource::new(input, 4096);
     let mut sink = ShortSink::new(alloc, 4096, 4096, Refusal::TakesNothing);
     match fold_stream(alloc, &mut source, &mut sink, Book::read(code)?) {
@@ -47,7 +47,7 @@ fn folded(alloc: Global, input: &[u8], code: &str) -> Result<Vec<u8>, Fail> {
     }
 }
 
-const FIRST: &[u8] = b"\\id MAT\n\\c 1\n\\v 1 In\n";
+pub(crate) const FIRST: &[u8] = b"\\id MAT\n\\c 1\n\\v 1 In\n";
 
 const AFTER: &[u8] = b"\\id MAT\n\\c 1\n\\v 1 At\n";
 
