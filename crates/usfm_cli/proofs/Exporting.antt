@@ -1,52 +1,56 @@
 -- A book that goes out key by key.
-use Rattle.std.proofs.Common.{◌≡◌, ℕ, ◌<◌, List, [], ◌∷◌, ◌++◌, length, Option, None, Some, arith, append-nil, append_assoc, refl, sym, ap, subst, ◌∙◌}
-use Rattle.std.specs.List.{filter, flat_map}
+use Rattle.std.proofs.Common.{◌≡◌, ℕ, Bool, true, cond, Result, Ok, Err, IfErr, List, [], ◌∷◌, ◌++◌, Option, None, Some, arith, append-nil, append_assoc, sym, ap, subst, ◌∙◌}
 use Rattle.std.specs.Io.KnownBytes.{Appends}
-use Rattle.usfm_ref.specs.Keys.{KeyParts, key_cmp, head_of}
-use Rattle.usfm_ref.specs.Segments.{segment}
-use Rattle.usfm_ref.proofs.Orders.{key_total}
-use Rattle.usfm_ref.proofs.Sorted.{rises-rising}
+use Rattle.std.proofs.lemmas.Grind.{flat_map-append}
+use Rattle.usfm_ref.specs.Keys.{KeyParts, head_of}
 use Rattle.op_core.specs.Ops.{Operation}
-use Rattle.op_core.specs.Shown.{pick, picked_text}
-use Rattle.op_core.specs.Export.{keys_in, exported_keys, export}
-use Rattle.usfm_cli.specs.Keys.{is_after, next_of}
+use Rattle.op_core.specs.Export.{exported_keys, export}
+use Rattle.op_core.specs.CutsBack.{picked_at}
+use Rattle.op_core.specs.Lists.{keys_of}
+use Rattle.usfm_cli.specs.Heads.{lacks_head, with_head, with_heads, texts_at}
 use Rattle.usfm_cli.specs.Writing.{TakesAll, TakesFront}
-use Rattle.usfm_cli.proofs.NextKeys.{rest_next, rest_end, rest_all}
-use Rattle.usfm_cli.proofs.Pieces.{TakesAll-nil, TakesAll-push, TakesFront-at}
+use Rattle.usfm_cli.specs.declared.writing.WriteFault.{WriteFault}
+use Rattle.usfm_cli.proofs.Heads.{heads_are}
+use Rattle.usfm_cli.proofs.Pieces.{TakesAll-nil, TakesAll-append, TakesFront-append}
 
--- the text that a book shows at a key
-abbrev pub text_at : List Operation → List ℕ → KeyParts → List ℕ
-text_at held book key = picked_text (pick held (segment book key))
+-- the text of a key goes out behind that of its chapter's head
+pub front_behind_head : (held : List Operation) (book : List ℕ) (before : Option KeyParts) (key : KeyParts) (head_text text : List ℕ) (a b c : Option (List ℕ)) (gone middle : ℕ) (r : Result ℕ WriteFault)
+    → lacks_head before key ≡ true → head_text ≡ picked_at held book (head_of key) → text ≡ picked_at held book key → TakesAll a b head_text gone middle
+    → IfErr r (λ fault. TakesFront b c text middle fault.gone) → IfErr r (λ fault. TakesFront a c (texts_at held book (with_head before key)) gone fault.gone)
+front_behind_head held book before key head_text text a b c gone middle (Ok total) lacks h t all front = tt
+front_behind_head held book before key head_text text a b c gone middle (Err fault) lacks h t all front =
+    let both : head_text ++ (text ++ []) ≡ texts_at held book (with_head before key) = (λ i. h i ++ (t i ++ [])) ∙ ap (λ (l : Bool). texts_at held book (cond l (head_of key ∷ key ∷ []) (key ∷ []))) (sym lacks) in
+    subst (λ (bytes : List ℕ). TakesFront a c bytes gone fault.gone) both (TakesFront-append a b c head_text text [] gone middle fault.gone all front)
 
--- the texts of the keys up to one are gone out
-pub record IsWritten (held : List Operation) (book : List ℕ) (before : Option KeyParts) (a b : Option (List ℕ)) (gone : ℕ) : Type 0 where
+-- the texts of the keys up to one are gone out, and those of these keys are left
+pub record IsWritten (held : List Operation) (book : List ℕ) (before : Option KeyParts) (left : List KeyParts) (a b : Option (List ℕ)) (gone : ℕ) : Type 0 where
   pub done : List KeyParts
-  pub keys : done ++ filter (is_after before) (exported_keys held book) ≡ exported_keys held book
-  pub taken : TakesAll a b (flat_map (text_at held book) done) 0 gone
+  pub keys : done ++ with_heads before left ≡ exported_keys held book
+  pub taken : TakesAll a b (texts_at held book done) 0 gone
 
-pub written_start : (held : List Operation) (book : List ℕ) (a : Option (List ℕ)) → IsWritten held book None a a 0
-written_start held book a = record { done = []; keys = rest_all (exported_keys held book); taken = TakesAll-nil a 0 (omega arith) }
+pub written_start : (held : List Operation) (book : List ℕ) (a : Option (List ℕ)) → IsWritten held book None (keys_of held book) a a 0
+written_start held book a = record { done = []; keys = heads_are held book; taken = TakesAll-nil a 0 (omega arith) }
 
-module _ (held : List Operation) (book : List ℕ) (before : Option KeyParts) (k : KeyParts) (e : next_of before (exported_keys held book) ≡ Some k) where
-  keys_left : filter (is_after before) (exported_keys held book) ≡ k ∷ filter (is_after (Some k)) (exported_keys held book)
-  keys_left = rest_next before (exported_keys held book) k (rises-rising key_cmp key_total (flat_map (λ key. head_of key ∷ key ∷ []) (keys_in held book))) e
+module _ (held : List Operation) (book : List ℕ) (before : Option KeyParts) (k : KeyParts) (left rest : List KeyParts) (e : left ≡ k ∷ rest) where
+  texts_after : (done : List KeyParts) → texts_at held book (done ++ (with_head before k ++ with_heads (Some k) rest)) ≡ texts_at held book done ++ (texts_at held book (with_head before k) ++ texts_at held book (with_heads (Some k) rest))
+  texts_after done =
+      flat_map-append _ done (with_head before k ++ with_heads (Some k) rest)
+      ∙ ap (λ (bytes : List ℕ). texts_at held book done ++ bytes) (flat_map-append _ (with_head before k) (with_heads (Some k) rest))
 
-  pub fewer_left : length (filter (is_after (Some k)) (exported_keys held book)) < length (filter (is_after before) (exported_keys held book))
-  fewer_left = omega (arith, ap length keys_left)
-
-  pub written_more : (a b c : Option (List ℕ)) (gone total : ℕ) → IsWritten held book before a b gone → TakesAll b c (text_at held book k) gone total → IsWritten held book (Some k) a c total
+  pub written_more : (a b c : Option (List ℕ)) (gone total : ℕ) → IsWritten held book before left a b gone → TakesAll b c (texts_at held book (with_head before k)) gone total → IsWritten held book (Some k) rest a c total
   written_more a b c gone total w t = record {
-    done = w.done ++ k ∷ [];
-    keys = append_assoc w.done (k ∷ []) (filter (is_after (Some k)) (exported_keys held book)) ∙ ap (λ (rest : List KeyParts). w.done ++ rest) (sym keys_left) ∙ w.keys;
-    taken = TakesAll-push (text_at held book) w.done k a b c 0 gone total w.taken t;
+    done = w.done ++ with_head before k;
+    keys = append_assoc w.done (with_head before k) (with_heads (Some k) rest) ∙ ap (λ (keys : List KeyParts). w.done ++ with_heads before keys) (sym e) ∙ w.keys;
+    taken = subst (λ (text : List ℕ). TakesAll a c text 0 total) (sym (flat_map-append _ w.done (with_head before k))) (TakesAll-append a b c (texts_at held book w.done) (texts_at held book (with_head before k)) 0 gone total w.taken t);
   }
 
-  pub written_front : (a b c : Option (List ℕ)) (gone total : ℕ) → IsWritten held book before a b gone → TakesFront b c (text_at held book k) gone total → TakesFront a c (export held book) 0 total
+  pub written_front : (a b c : Option (List ℕ)) (gone total : ℕ) → IsWritten held book before left a b gone → TakesFront b c (texts_at held book (with_head before k)) gone total → TakesFront a c (export held book) 0 total
   written_front a b c gone total w t =
-      subst (λ (keys : List KeyParts). TakesFront a c (flat_map (text_at held book) keys) 0 total) (ap (λ (rest : List KeyParts). w.done ++ rest) (sym keys_left) ∙ w.keys)
-      (TakesFront-at (text_at held book) w.done k (filter (is_after (Some k)) (exported_keys held book)) (text_at held book k) a b c 0 gone total refl w.taken t)
+      let keys : w.done ++ (with_head before k ++ with_heads (Some k) rest) ≡ exported_keys held book = ap (λ (keys : List KeyParts). w.done ++ with_heads before keys) (sym e) ∙ w.keys in
+      subst (λ (text : List ℕ). TakesFront a c text 0 total) (sym (texts_after w.done) ∙ ap (texts_at held book) keys)
+      (TakesFront-append a b c (texts_at held book w.done) (texts_at held book (with_head before k)) (texts_at held book (with_heads (Some k) rest)) 0 gone total w.taken t)
 
-pub written_end : (held : List Operation) (book : List ℕ) (before : Option KeyParts) (a b : Option (List ℕ)) (gone : ℕ) → next_of before (exported_keys held book) ≡ None → IsWritten held book before a b gone → Appends a b (export held book)
-written_end held book before a b gone e w =
-    let all : w.done ≡ exported_keys held book = sym (append-nil w.done) ∙ ap (λ (rest : List KeyParts). w.done ++ rest) (sym (rest_end before (exported_keys held book) e)) ∙ w.keys in
-    subst (λ (keys : List KeyParts). Appends a b (flat_map (text_at held book) keys)) all w.taken.taken
+pub written_end : (held : List Operation) (book : List ℕ) (before : Option KeyParts) (left : List KeyParts) (a b : Option (List ℕ)) (gone : ℕ) → left ≡ [] → IsWritten held book before left a b gone → Appends a b (export held book)
+written_end held book before left a b gone e w =
+    let all : w.done ≡ exported_keys held book = sym (append-nil w.done) ∙ ap (λ (keys : List KeyParts). w.done ++ with_heads before keys) (sym e) ∙ w.keys in
+    subst (λ (keys : List KeyParts). Appends a b (texts_at held book keys)) all w.taken.taken

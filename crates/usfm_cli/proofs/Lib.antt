@@ -1,7 +1,7 @@
 pub mod Inputs
 pub mod Padding
 pub mod Pieces
-pub mod NextKeys
+pub mod Heads
 pub mod LineLengths
 pub mod Exporting
 pub mod Unions

@@ -1,7 +1,7 @@
 pub mod Counts
 pub mod Reading
 pub mod Writing
-pub mod Keys
+pub mod Heads
 pub mod Faults
 pub mod Lines
 pub mod Streams
