@@ -1,0 +1,6 @@
+pub mod Padding
+pub mod Pieces
+pub mod Heads
+mod LineLengths
+mod Exporting
+pub mod Books

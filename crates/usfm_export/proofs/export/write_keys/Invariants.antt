@@ -1,0 +1,12 @@
+use Rattle.std.proofs.Common.{◌≡◌}
+use Rattle.usfm_export.proofs.Exporting.{IsWritten}
+use Rattle.usfm_export.proofs.export.write_keys.Given as goal
+
+-- the sink took the texts of the keys so far, and did not fail
+abbrev pub invariant-loop-key : goal.invariant-loop-key
+invariant-loop-key g l =
+    let sink = g.W.ByteSink in
+    record {
+      written : IsWritten l.replica.held l.book l.before l.key-iterator (sink.taken l.fn.sink) (sink.taken l.sink) l.gone;
+      failures : sink.failures l.sink ≡ sink.failures l.fn.sink;
+    }

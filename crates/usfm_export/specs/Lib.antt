@@ -1,0 +1,4 @@
+pub mod Counts
+pub mod Writing
+pub mod Heads
+pub mod Books

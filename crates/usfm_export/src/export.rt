@@ -1,0 +1,155 @@
+// The export of a book out of a replica.
+ghost use Rattle.std.specs.Prelude.{◌≡◌, OnOk, IfOk, IfErr};
+ghost use Rattle.std.specs.Io.KnownBytes.{Appends};
+ghost use Rattle.usfm_ref.specs.Keys.{head_of};
+ghost use Rattle.op_core.specs.Export as exports;
+ghost use Rattle.op_core.specs.Sets.{IsOpSet};
+ghost use Rattle.op_core.specs.Shown.{picked, picked_text, chapter_line};
+ghost use Rattle.usfm_export.specs.Books.{IsBookOf, AnswersBook, AnswersText, sink_failures};
+ghost use Rattle.usfm_export.specs.Counts.{failures_after};
+ghost use Rattle.usfm_export.specs.Heads.{lacks_head, with_head, texts_at};
+ghost use Rattle.usfm_export.specs.Writing.{TakesAll, TakesFront};
+
+use crate::{ByteSink, ExportFault, ShortLine, StdSink, TextFault, WriteFault, write_more};
+use op_core::Picked;
+use replica_state::Replica;
+use std::alloc::Global;
+use usfm_ref::{Book, Key, Place};
+
+/// The text of a book: the picked texts of its segments by rising key. It is UTF-8, and cuts back
+/// into them.
+///
+/// # Errors
+/// - `NoBook` (82) exactly where the book has no operation.
+/// - `Memory` (1) where a growth was refused.
+pub fn book_text(alloc: Global, replica: &Replica, book: Book) -> Result<Vec<u8>, TextFault>
+    ensures { AnswersText replica.now.held book result }
+{
+    let mut sink = StdSink::new(Vec::new(alloc));
+    match write_book(replica, book, &mut sink) {
+        Ok(()) => Ok(sink.into_inner()),
+        Err(ExportFault::NoBook) => Err(TextFault::NoBook),
+        Err(ExportFault::WriteFailed { gone: _ }) => Err(TextFault::Memory),
+    }
+}
+
+/// Writes the text of a book to a sink: the picked texts of its segments by rising key, in one walk
+/// over its keys. It takes no memory.
+///
+/// # Errors
+/// - `NoBook` (82) exactly where the book has no operation. Nothing was written.
+/// - `WriteFailed` (90) where the sink answers an error, of whatever kind, or takes 0 bytes, with the
+///   bytes gone out: they are the front of the book of that length. No write is tried again.
+pub fn write_book<W: ByteSink>(
+    replica: &Replica,
+    book: Book,
+    sink: &mut W,
+) -> Result<(), ExportFault>
+    ensures answers { AnswersBook replica.now.held book (W.taken sink.old) (W.taken sink.new) result }
+    ensures is_book { OnOk result (IsBookOf replica.now.held book (exports.export replica.now.held book)) }
+    ensures failed { W.failures sink.new ≡ sink_failures result (W.failures sink.old) }
+{
+    if !has_book(replica, book) {
+        return Err(ExportFault::NoBook);
+    }
+    write_keys(replica, book, sink)?;
+    Ok(())
+}
+
+// Whether the replica has an operation of the book.
+fn has_book(replica: &Replica, book: Book) -> bool
+    ensures has { result ≡ exports.has_book replica.now.held book }
+    ensures set { IsOpSet replica.now.held }
+{
+    // The name shows that the replica holds a set.
+    let _ = replica.name();
+    replica.keys(book).next().is_some()
+}
+
+// Writes the picked texts of the book's segments by rising key, in one walk over its keys with an
+// operation. It takes no memory.
+fn write_keys<W: ByteSink>(replica: &Replica, book: Book, sink: &mut W) -> Result<(), WriteFault>
+    ensures all { OnOk result
+        (Appends (W.taken sink.old) (W.taken sink.new) (exports.export replica.now.held book)) }
+    ensures front { IfErr result (λ fault.
+        TakesFront (W.taken sink.old) (W.taken sink.new) (exports.export replica.now.held book) 0 fault.gone) }
+    ensures failed { W.failures sink.new ≡ failures_after result (W.failures sink.old) }
+{
+    let mut gone = 0;
+    let mut before = None;
+    for key in replica.keys(book) {
+        gone = write_key(replica, book, before, key, sink, gone)?;
+        before = Some(key);
+    }
+    Ok(())
+}
+
+// Writes the picked text of a key, and before it that of its chapter's head where no key of the
+// chapter was before: a head without an operation may be picked as its chapter's line.
+fn write_key<W: ByteSink>(
+    replica: &Replica,
+    book: Book,
+    before: Option<Key>,
+    key: Key,
+    sink: &mut W,
+    gone: u64,
+) -> Result<u64, WriteFault>
+    ensures all { IfOk result (λ total.
+        TakesAll (W.taken sink.old) (W.taken sink.new) (texts_at replica.now.held book (with_head before key)) gone total) }
+    ensures front { IfErr result (λ fault.
+        TakesFront (W.taken sink.old) (W.taken sink.new) (texts_at replica.now.held book (with_head before key)) gone fault.gone) }
+    ensures failed { W.failures sink.new ≡ failures_after result (W.failures sink.old) }
+{
+    if !lacks_head(before, key) {
+        return write_picked(sink, gone, replica.pick(book, key));
+    }
+    let with_head = write_picked(sink, gone, replica.pick(book, head_of(key)))?;
+    write_picked(sink, with_head, replica.pick(book, key))
+}
+
+// Writes a picked text of a book of which `gone` bytes are gone out, and answers how many are then.
+fn write_picked<W: ByteSink>(sink: &mut W, gone: u64, choice: Picked<'_>) -> Result<u64, WriteFault>
+    ensures all { IfOk result (λ total.
+        TakesAll (W.taken sink.old) (W.taken sink.new) (picked_text (picked choice.entry)) gone total) }
+    ensures front { IfErr result (λ fault.
+        TakesFront (W.taken sink.old) (W.taken sink.new) (picked_text (picked choice.entry)) gone fault.gone) }
+    ensures failed { W.failures sink.new ≡ failures_after result (W.failures sink.old) }
+{
+    match choice {
+        Picked::Held(op) => write_more(sink, gone, op.text().as_bytes()),
+        Picked::ChapterLine(chapter) => write_more(sink, gone, chapter_line(chapter).bytes()),
+        Picked::Nothing => Ok(gone),
+    }
+}
+
+// The line of a chapter that has none: `\c`, a space, the number and a line feed.
+fn chapter_line(chapter: u16) -> ShortLine
+    ensures { result ≡ chapter_line chapter }
+{
+    let mut line = ShortLine::new();
+    line.push_text("\\c ");
+    line.push_number(u64::from(chapter));
+    line.push_text("\n");
+    line
+}
+
+// Whether a key is the first of its chapter, behind the key before, and is not the chapter's head.
+fn lacks_head(before: Option<Key>, key: Key) -> bool
+    ensures { result ≡ lacks_head before key }
+{
+    let first = match before {
+        None => true,
+        Some(before) => before.chapter != key.chapter,
+    };
+    first && key.place != Place::Head
+}
+
+// The head of the chapter that a key stands in.
+fn head_of(key: Key) -> Key
+    ensures { result ≡ head_of key }
+{
+    Key {
+        chapter: key.chapter,
+        place: Place::Head,
+    }
+}

@@ -1,0 +1,20 @@
+//! The export of a book out of a replica: its picked texts by rising key, written to a sink or given
+//! as bytes.
+//!
+//! A [`ByteSink`] takes bytes and counts its failures, so that contracts can say what was written and
+//! whose fault an error was. [`StdSink`] makes one of a writer of std.
+#![tactic(auto)]
+
+mod export;
+mod fault;
+mod line;
+mod sink;
+mod told;
+mod writing;
+
+pub use export::{book_text, write_book};
+pub use fault::{ExportFault, TextFault};
+pub use line::{MOST_LINE_BYTES, ShortLine};
+pub use sink::{ByteSink, StdSink};
+pub use told::within;
+pub use writing::{WriteFault, write_all, write_more, write_pieces};
