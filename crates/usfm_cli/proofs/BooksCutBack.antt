@@ -5,17 +5,15 @@ use Rattle.op_core.specs.Ids.{Id}
 use Rattle.op_core.specs.Ops.{Operation}
 use Rattle.op_core.specs.Sets.{IsOpSet, clash, join}
 use Rattle.op_core.specs.Export.{has_book, export}
-use Rattle.op_core.proofs.CutsBack.{exports_cut_back, exports_are_text}
 use Rattle.op_core.proofs.Union.{IsOpSet-join}
 use Rattle.bundle_codec.specs.Spelling.{AreCounted}
-use Rattle.usfm_cli.specs.Books.{IsBookOf, FoldedBooksCutBack}
+use Rattle.usfm_export.specs.Books.{IsBookOf}
+use Rattle.usfm_export.proofs.Books.{is_book}
+use Rattle.usfm_cli.specs.Books.{FoldedBooksCutBack}
 use Rattle.usfm_cli.specs.Streams.{unless_clash, union_in, union_with, book_in}
 use Rattle.usfm_cli.specs.declared.fault.Fault.{Fault}
 use Rattle.usfm_cli.specs.declared.fault.Fault.TheVariants.{NoBook}
 use Rattle.usfm_cli.proofs.StreamLemmas.{stream_of}
-
-pub is_book : (union : List Operation) (book : List ℕ) → IsOpSet union → IsBookOf union book (export union book)
-is_book union book set = record { set = set; text_is = refl; is_text = exports_are_text union book set; cuts_back = exports_cut_back union book set }
 
 -- the union of sets is a set
 union_is_set : (held : List Operation) (sets : List (List Operation)) (union : List Operation) → IsOpSet held → AllByRecursion (λ set. IsOpSet set × AreCounted set) sets → union_with held sets ≡ Ok union → IsOpSet union

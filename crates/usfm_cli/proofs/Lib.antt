@@ -1,9 +1,5 @@
 pub mod Inputs
-pub mod Padding
-pub mod Pieces
-pub mod Heads
 pub mod LineLengths
-pub mod Exporting
 pub mod Unions
 pub mod StreamLemmas
 pub mod BooksCutBack

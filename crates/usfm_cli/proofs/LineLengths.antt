@@ -12,9 +12,6 @@ digits_of_fault n h = length-decimal-le 3 n (omega arith) h (omega arith)
 pub digits_of_count : (n : ℕ) → n < 2 ^ 64 → length (decimal n) ≤ 20
 digits_of_count n h = length-decimal-le 20 n (omega arith) (omega arith) h
 
-pub digits_of_chapter : (n : ℕ) → n < 2 ^ 16 → length (decimal n) ≤ 5
-digits_of_chapter n h = length-decimal-le 5 n (omega arith) (omega arith) (omega arith)
-
 pub digits_of_id : (n : ℕ) → is_number n ≡ true → length (decimal n) ≤ 16
 digits_of_id n h = let most : n ≤ 1000000000000000 = leb-true n 1000000000000000 (and_parts (leb 1 n) (leb n 1000000000000000) h).1 in length-decimal-le 16 n (omega arith) (omega arith) (omega arith)
 

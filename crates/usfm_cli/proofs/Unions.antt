@@ -3,13 +3,14 @@ use Rattle.std.proofs.Common.{◌≡◌, ◌==◌, Bool, true, false, ℕ, zero,
 use Rattle.std.proofs.lemmas.Bool.{eqb-true}
 use Rattle.op_core.specs.Ids.{Id}
 use Rattle.op_core.specs.Ops.{Operation}
-use Rattle.op_core.specs.declared.fault.SetFault.{SetFault}
-use Rattle.op_core.specs.declared.fault.SetFault.TheVariants as set_fault
-use Rattle.op_core.specs.Sets.{clash, join, IsRefusal}
+use Rattle.op_core.specs.Sets.{clash, join}
 use Rattle.bundle_codec.specs.declared.fault.BundleFault.{BundleFault}
 use Rattle.bundle_codec.specs.Spelling.{bundle, magic}
 use Rattle.bundle_codec.specs.Reading.{bundle_at}
-use Rattle.usfm_cli.specs.Faults.{of_set}
+use Rattle.replica_state.specs.declared.fault.ReceiveFault.{ReceiveFault}
+use Rattle.replica_state.specs.declared.fault.ReceiveFault.TheVariants as receiving
+use Rattle.replica_state.specs.Receives.{RefusesReceive}
+use Rattle.usfm_cli.specs.Faults.{of_receiving}
 use Rattle.usfm_cli.specs.Streams.{with_set, unless_clash, union_within, union_in, UnionAnswers}
 use Rattle.usfm_cli.specs.declared.fault.Fault.{Fault}
 use Rattle.usfm_cli.specs.declared.fault.Fault.TheVariants.{Bundle, Clash}
@@ -75,7 +76,7 @@ pub none_left : (xs : List ℕ) (r : Bool) → r ≡ (length xs == 0) → r ≡ 
 none_left [] r e f = refl
 none_left (x ∷ xs) r e f = absurd (omega (arith, eqb-true (length (x ∷ xs)) 0 (sym e ∙ f)))
 
--- a refused join is refused with the clash
-pub refused_join : (held set : List Operation) (left : List ℕ) (rest : List ℕ) (wanted : Result (List Operation) Fault) (fault : SetFault) → LeadsTo held rest wanted → 0 < length rest → bundle_at rest ≡ Ok (set, left) → IsRefusal (clash held set) fault → UnionAnswers wanted (Err (of_set fault))
-refused_join held set left rest wanted set_fault.Memory l some e r = tt
-refused_join held set left rest wanted (set_fault.Clash id) l some e r = leads_clash held rest wanted l some set left id e r
+-- a refused bundle is refused with the clash
+pub refused_bundle : (held set : List Operation) (left : List ℕ) (rest : List ℕ) (wanted : Result (List Operation) Fault) (fault : ReceiveFault) → LeadsTo held rest wanted → 0 < length rest → bundle_at rest ≡ Ok (set, left) → RefusesReceive (clash held set) fault → UnionAnswers wanted (Err (of_receiving fault))
+refused_bundle held set left rest wanted receiving.Memory l some e r = tt
+refused_bundle held set left rest wanted (receiving.Clash id) l some e r = leads_clash held rest wanted l some set left id e r

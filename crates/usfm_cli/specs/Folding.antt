@@ -1,9 +1,9 @@
 -- What a call that folds a stream into a book answers, and what it leaves of its source and its sink.
 use Rattle.std.specs.Prelude.{◌≡◌, ℕ, ◌+◌, ◌≤◌, List, length, Option, Result, Ok, Err}
 use Rattle.std.specs.Io.KnownBytes.{Consumes, Appends, IsAtEnd}
-use Rattle.usfm_cli.specs.Counts.{one_more}
+use Rattle.usfm_export.specs.Counts.{one_more}
 use Rattle.usfm_cli.specs.Reading.{most_bytes}
-use Rattle.usfm_cli.specs.Writing.{TakesFront}
+use Rattle.usfm_export.specs.Writing.{TakesFront}
 use Rattle.usfm_cli.specs.Streams.{book_of_stream}
 use Rattle.usfm_cli.specs.declared.fault.Fault.{Fault}
 use Rattle.usfm_cli.specs.declared.fault.Fault.TheVariants.{Memory, Reference, Clash, Bundle, NoBook, WriteFailed, ReadFailed, TooLong}

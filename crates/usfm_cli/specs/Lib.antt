@@ -1,7 +1,4 @@
-pub mod Counts
 pub mod Reading
-pub mod Writing
-pub mod Heads
 pub mod Faults
 pub mod Lines
 pub mod Streams

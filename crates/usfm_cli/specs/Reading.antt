@@ -1,7 +1,7 @@
 -- What it is to read a source to its end (this project's own rule).
 use Rattle.std.specs.Prelude.{◌≡◌, ℕ, ◌+◌, ◌≤◌, List, length, Option, Result, Ok, Err, Vec}
 use Rattle.std.specs.Io.KnownBytes.{Consumes, IsAtEnd}
-use Rattle.usfm_cli.specs.Counts.{one_more}
+use Rattle.usfm_export.specs.Counts.{one_more}
 use Rattle.usfm_cli.specs.declared.reading.ReadFault.{ReadFault}
 use Rattle.usfm_cli.specs.declared.reading.ReadFault.TheVariants.{Memory, ReadFailed, TooLong}
 

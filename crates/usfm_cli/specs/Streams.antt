@@ -9,6 +9,7 @@ use Rattle.op_core.specs.Export.{has_book, export}
 use Rattle.bundle_codec.specs.declared.fault.BundleFault.{BundleFault}
 use Rattle.bundle_codec.specs.Spelling.{bundle, AreCounted}
 use Rattle.bundle_codec.specs.Reading.{bundle_at}
+use Rattle.replica_state.specs.States.{State}
 use Rattle.usfm_cli.specs.declared.fault.Fault.{Fault}
 use Rattle.usfm_cli.specs.declared.fault.Fault.TheVariants.{Memory, Reference, Clash, Bundle, NoBook, WriteFailed, ReadFailed, TooLong}
 
@@ -54,9 +55,9 @@ abbrev pub union_with : List Operation → List (List Operation) → Result (Lis
 union_with held [] = Ok held
 union_with held (set ∷ rest) = unless_clash (clash held set) (union_with (join held set) rest)
 
--- what a call that makes the union answers: the set, a bundle's fault, a clash, or a want of memory
-abbrev pub UnionAnswers : Result (List Operation) Fault → Result (List Operation) Fault → Type 0
-UnionAnswers wanted (Ok union) = wanted ≡ Ok union
+-- what a call that makes the union answers: a replica that holds it, a bundle's fault, a clash, or a want of memory
+abbrev pub UnionAnswers : Result (List Operation) Fault → Result State Fault → Type 0
+UnionAnswers wanted (Ok replica) = wanted ≡ Ok replica.held
 UnionAnswers wanted (Err Memory) = Unit {0}
 UnionAnswers wanted (Err (Clash id)) = wanted ≡ Err (Clash id)
 UnionAnswers wanted (Err (Bundle fault)) = wanted ≡ Err (Bundle fault)

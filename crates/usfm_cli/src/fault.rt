@@ -2,11 +2,13 @@ ghost use Rattle.std.specs.Prelude.{◌≡◌};
 ghost use Rattle.usfm_cli.specs.Faults as faults;
 ghost use Rattle.usfm_cli.specs.declared.fault.Fault.TheVariants.{Memory, Bundle, WriteFailed};
 
-use crate::{ReadFault, WriteFault};
+use crate::ReadFault;
 use bundle_codec::BundleFault;
-use op_core::{OpId, SetFault};
+use op_core::OpId;
+use replica_state::ReceiveFault;
 use std::alloc::AllocError;
 use thiserror::Error;
+use usfm_export::{ExportFault, WriteFault};
 use usfm_ref::RefFault;
 
 /// Why a command was refused. `fault_line` tells it with its number.
@@ -46,13 +48,13 @@ impl From<AllocError> for Fault {
     }
 }
 
-impl From<SetFault> for Fault {
-    ghost from_gives = { λ from fault. fault ≡ faults.of_set from };
+impl From<ReceiveFault> for Fault {
+    ghost from_gives = { λ from fault. fault ≡ faults.of_receiving from };
 
-    fn from(fault: SetFault) -> Self {
+    fn from(fault: ReceiveFault) -> Self {
         match fault {
-            SetFault::Memory => Fault::Memory,
-            SetFault::Clash(id) => Fault::Clash(id),
+            ReceiveFault::Memory => Fault::Memory,
+            ReceiveFault::Clash(id) => Fault::Clash(id),
         }
     }
 }
@@ -73,6 +75,17 @@ impl From<ReadFault> for Fault {
             ReadFault::Memory => Fault::Memory,
             ReadFault::ReadFailed => Fault::ReadFailed,
             ReadFault::TooLong => Fault::TooLong,
+        }
+    }
+}
+
+impl From<ExportFault> for Fault {
+    ghost from_gives = { λ from fault. fault ≡ faults.of_export from };
+
+    fn from(fault: ExportFault) -> Self {
+        match fault {
+            ExportFault::NoBook => Fault::NoBook,
+            ExportFault::WriteFailed { gone } => Fault::WriteFailed { gone },
         }
     }
 }

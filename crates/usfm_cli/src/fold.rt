@@ -4,18 +4,19 @@ ghost use Rattle.usfm_cli.specs.Streams.{union_in, UnionAnswers};
 ghost use Rattle.usfm_cli.specs.Books.{WritesBook};
 ghost use Rattle.usfm_cli.specs.Folding.{FoldsStream, source_failures, sink_failures};
 
-use crate::export::{has_book, write_export};
-use crate::{ByteSink, ByteSource, Fault, read_to_end};
+use crate::{ByteSource, Fault, read_to_end};
 use bundle_codec::decode;
-use op_core::OpSet;
+use op_core::ReplicaName;
+use replica_state::Replica;
 use std::alloc::Global;
+use usfm_export::{ByteSink, write_book};
 use usfm_ref::Book;
 
 /// Reads bundles one after another to the end of the source, takes the union of their operations,
 /// and writes the book's text to the sink: the picked texts of its segments by rising key. The book
 /// is UTF-8, and cuts back into them.
 ///
-/// Each bundle is joined before the next one is read, so the first refusal in the order of the
+/// Each bundle is received before the next one is read, so the first refusal in the order of the
 /// bytes is answered. Nothing is written before all is judged. The source is read at most once for
 /// each byte and once more. An empty input is a list of no bundles.
 ///
@@ -41,26 +42,24 @@ pub fn fold_stream<R: ByteSource, W: ByteSink>(
     ensures write_failed { W.failures sink.new ≡ sink_failures result (W.failures sink.old) }
 {
     let input = read_to_end(alloc, source)?;
-    let union = union_of(alloc, &input)?;
-    if !has_book(&union, book) {
-        return Err(Fault::NoBook);
-    }
-    write_export(&union, book, sink)?;
+    let fold = receive_all(alloc, &input)?;
+    write_book(&fold, book, sink)?;
     Ok(())
 }
 
-// The union of the bundles that the bytes spell, each joined before the next is read.
-fn union_of(alloc: Global, input: &[u8]) -> Result<OpSet, Fault>
+// A replica that received the bundles that the bytes spell, each before the next is read. It makes no
+// operation, so its name is never told.
+fn receive_all(alloc: Global, input: &[u8]) -> Result<Replica, Fault>
     ensures { UnionAnswers (union_in [] input.now) result }
 {
-    let mut union = OpSet::new(alloc);
+    let name = ReplicaName::read("fold").unwrap();
+    let mut fold = Replica::new(alloc, name);
     let mut rest = input;
     'bundles: while !rest.is_empty() {
         let (bundle, length) = decode(alloc, rest)?;
-        let set = bundle.to_set(alloc)?;
-        union.join(set)?;
+        fold.receive(&bundle)?;
         let (_, left) = rest.split_at(length);
         rest = left;
     }
-    Ok(union)
+    Ok(fold)
 }

@@ -1,31 +1,26 @@
 //! The commands of a Scripture project over byte sources and byte sinks.
 //!
-//! A [`ByteSource`] gives bytes and counts its reads and failures, a [`ByteSink`] takes bytes and
+//! A [`ByteSource`] gives bytes and counts its reads and failures, as a [`ByteSink`] takes bytes and
 //! counts its failures, so that contracts can say what was read, what was written and whose fault
 //! an error was. [`StdSource`] and [`StdSink`] make them of std's readers and writers.
 #![tactic(auto)]
 
-mod export;
 mod fault;
 mod fold;
 pub mod laws;
-mod line;
 mod reading;
-mod sink;
 mod source;
 mod telling;
 #[cfg(test)]
 mod tests;
-mod told;
 mod words;
-mod writing;
 
 pub use fault::Fault;
 pub use fold::fold_stream;
-pub use line::{FaultLine, MOST_LINE_BYTES};
 pub use reading::{MOST_BYTES, ReadFault, read_to_end};
-pub use sink::{ByteSink, StdSink};
 pub use source::{ByteSource, StdSource};
 pub use telling::fault_line;
+pub use usfm_export::{
+    ByteSink, MOST_LINE_BYTES, ShortLine, StdSink, WriteFault, write_all, write_more, write_pieces,
+};
 pub use words::{Line, LineFault, read_words};
-pub use writing::{WriteFault, write_all, write_more, write_pieces};

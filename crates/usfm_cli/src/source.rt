@@ -2,11 +2,11 @@
 // failures.
 ghost use Rattle.std.specs.Prelude.{◌≡◌, ◌≤◌, ℕ, List, Option, length, IfOk};
 ghost use Rattle.std.specs.Io.KnownBytes.{ReadConsumes};
-ghost use Rattle.usfm_cli.specs.Counts.{one_more, failures_after};
+ghost use Rattle.usfm_export.specs.Counts.{one_more, failures_after};
 
-use crate::told::within;
 use std::io;
 use std::io::Read;
+use usfm_export::within;
 
 /// What bytes are read from.
 ///

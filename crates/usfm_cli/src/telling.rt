@@ -4,15 +4,16 @@ ghost use Rattle.std.specs.List.{flat_map};
 ghost use Rattle.std.specs.Fmt.{decimal};
 ghost use Rattle.usfm_cli.specs.Lines as lines;
 
-use crate::{Fault, FaultLine};
+use crate::Fault;
 use bundle_codec::BundleFault;
 use op_core::OpId;
+use usfm_export::ShortLine;
 use usfm_ref::RefFault;
 
 /// The line that tells of a fault: `fault`, its number, its details, each after one space, and a line
 /// feed. The details are an operation's id as its number and its name, the place of an operation in
 /// its bundle, counted from 1, or the bytes gone out. It takes no memory.
-pub fn fault_line(fault: &Fault) -> FaultLine
+pub fn fault_line(fault: &Fault) -> ShortLine
     ensures { result ≡ lines.fault_text fault.now }
 {
     let mut line = numbered(fault_number(fault));
@@ -28,20 +29,20 @@ pub fn fault_line(fault: &Fault) -> FaultLine
 }
 
 // `fault`, a space and a number.
-fn numbered(number: u64) -> FaultLine
+fn numbered(number: u64) -> ShortLine
     requires { number < 1000 }
     ensures text { result ≡ codes "fault " ++ decimal number }
     ensures len { length result ≡ 6 + length (decimal number) }
     ensures short { length result ≤ 9 }
 {
-    let mut line = FaultLine::new();
+    let mut line = ShortLine::new();
     line.push_text("fault ");
     line.push_number(number);
     line
 }
 
 // Appends a count as a detail.
-fn push_count(line: &mut FaultLine, count: u64)
+fn push_count(line: &mut ShortLine, count: u64)
     requires { length line.old ≤ 9 }
     ensures text { line.new ≡ line.old ++ flat_map (λ detail. 32 ∷ detail) (decimal count ∷ []) }
     ensures short { length line.new ≤ 30 }
@@ -51,7 +52,7 @@ fn push_count(line: &mut FaultLine, count: u64)
 }
 
 // Appends an id as two details.
-fn push_id(line: &mut FaultLine, id: &OpId)
+fn push_id(line: &mut ShortLine, id: &OpId)
     requires { length line.old ≤ 8 }
     ensures text { line.new ≡ line.old ++ flat_map (λ detail. 32 ∷ detail) (decimal id.now.number ∷ id.now.name ∷ []) }
     ensures short { length line.new ≤ 58 }
@@ -63,7 +64,7 @@ fn push_id(line: &mut FaultLine, id: &OpId)
 }
 
 // Appends the place of an operation, where the fault has one.
-fn push_place(line: &mut FaultLine, fault: &BundleFault)
+fn push_place(line: &mut ShortLine, fault: &BundleFault)
     requires { length line.old ≤ 9 }
     ensures text { line.new ≡ line.old ++ flat_map (λ detail. 32 ∷ detail) (lines.bundle_details fault.now) }
     ensures short { length line.new ≤ 30 }

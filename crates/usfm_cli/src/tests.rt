@@ -1,17 +1,18 @@
 // Reading to the end and writing piece by piece, with slow, short and failing streams.
+mod books;
 mod folding;
 mod line_words;
 pub(crate) mod streams;
 mod trees;
 
 use self::streams::{Broken, Refusal, ShortSink, SlowSource, Zeros};
-use crate::told::within;
 use crate::{
-    ByteSink, ByteSource, FaultLine, MOST_BYTES, MOST_LINE_BYTES, ReadFault, StdSink, StdSource,
+    ByteSink, ByteSource, MOST_BYTES, MOST_LINE_BYTES, ReadFault, ShortLine, StdSink, StdSource,
     WriteFault, read_to_end, write_all, write_more, write_pieces,
 };
 use std::io::ErrorKind;
 use std::test::Fail;
+use usfm_export::within;
 
 const TEXT: [u8; 8] = *b"abcdefgh";
 
@@ -134,15 +135,15 @@ fn failing_forms_of_std(rt: HostRuntime) -> Result<(), Fail> {
     Ok(())
 }
 
-fn number_line(number: u64) -> FaultLine {
-    let mut line = FaultLine::new();
+fn number_line(number: u64) -> ShortLine {
+    let mut line = ShortLine::new();
     line.push_number(number);
     line
 }
 
 #[test]
 fn lines(rt: HostRuntime) {
-    let mut line = FaultLine::new();
+    let mut line = ShortLine::new();
     assert!(rt; line.bytes().is_empty());
     line.push_text("fault 51 ");
     line.push_number(1_000_000_000_000_000);

@@ -17,7 +17,7 @@ const Y: &[u8] =
 const Z: &[u8] =
     b"USFMSR1\n\0\0\0\0\0\0\0\x01\0\0\0\0\0\0\0\x03\x03anaMAT\0\x01\x01\0\x01\0\0\0\0\0\0\0\0\x01\0\0\0\0\0\0\0\x02\x03ana\x01\0\0\0\0\0\0\0\x08\\v 1 To\n";
 // 1 cy on MAT 1, `\c 1␊`; 1 dan on MAT 1:2, `\v 2 b␊`; 2 ana on MAT 1:1, `\v 1 Xx␊`.
-const CLASHING: &[u8] =
+pub(crate) const CLASHING: &[u8] =
     b"USFMSR1\n\0\0\0\0\0\0\0\x03\0\0\0\0\0\0\0\x01\x02cyMAT\0\x01\0\0\0\0\0\0\0\0\0\0\0\0\x01\0\0\0\0\0\0\0\x05\\c 1\n\0\0\0\0\0\0\0\x01\x03danMAT\0\x01\x01\0\x02\0\0\0\0\0\0\0\0\0\x01\0\0\0\0\0\0\0\x07\\v 2 b\n\0\0\0\0\0\0\0\x02\x03anaMAT\0\x01\x01\0\x01\0\0\0\0\0\0\0\0\0\x01\0\0\0\0\0\0\0\x08\\v 1 Xx\n";
 // 1 ana on MAT 0, naming itself.
 const NAMES_ITSELF: &[u8] =

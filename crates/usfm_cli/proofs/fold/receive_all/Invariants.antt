@@ -1,10 +1,10 @@
 use Rattle.std.proofs.Common.{length, []}
 use Rattle.usfm_cli.specs.Streams.{union_in}
 use Rattle.usfm_cli.proofs.Unions.{LeadsTo}
-use Rattle.usfm_cli.proofs.fold.union_of.Given as goal
+use Rattle.usfm_cli.proofs.fold.receive_all.Given as goal
 
 abbrev pub invariant-bundles : goal.invariant-bundles
-invariant-bundles l = LeadsTo l.union l.rest (union_in [] l.input)
+invariant-bundles l = LeadsTo l.fold.held l.rest (union_in [] l.input)
 
 abbrev pub decreases-bundles : goal.decreases-bundles
 decreases-bundles l = length l.rest

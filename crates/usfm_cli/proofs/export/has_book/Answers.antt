@@ -1,6 +1,0 @@
-use Rattle.std.proofs.Common.{◌∙◌}
-use Rattle.usfm_cli.proofs.Heads.{has_key}
-use Rattle.usfm_cli.proofs.export.has_book.Goals as goal
-
-pub returns-clause-has : goal.returns-clause-has
-returns-clause-has c = c.is_some.ensures ∙ has_key c.args.set.now c.args.book c.keys.result c.next.new.self c.next.result c.keys.ensures c.next.ensures.steps
