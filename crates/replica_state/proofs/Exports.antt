@@ -23,7 +23,7 @@ use Rattle.replica_state.specs.Imports.{due_keys, edits_numbered, import_into}
 use Rattle.replica_state.specs.ImportLaws.{ImportsAreExported}
 use Rattle.replica_state.specs.Steps.{Step, Import, Imported, imported, step}
 use Rattle.replica_state.specs.declared.fault.ImportFault.{ImportFault}
-use Rattle.replica_state.specs.declared.fault.ImportFault.TheVariants.{NumberFull}
+use Rattle.replica_state.specs.declared.fault.ImportFault.TheVariants.{NumbersUsedUp}
 use Rattle.replica_state.proofs.Appended.{is_there, joined_behind}
 use Rattle.replica_state.proofs.DueKeys.{there_kept}
 use Rattle.replica_state.proofs.ImportedTexts as imports
@@ -143,4 +143,4 @@ imports_are_exported s file book count state named reply =
         ap (λ (x : Result (List Operation) ImportFault). export (imported s x).after.held book) (cond-true _ _ _ e)
         ∙ ap (λ (ops : List Operation). export ops book) (joined_behind s state book (pieces_of file) due)
         ∙ export_is_file s state book file named
-    by false e r = absurd (let full : Imported (Err NumberFull) ≡ Imported (Ok count) = ap (λ (x : Result (List Operation) ImportFault). (imported s x).reply) (sym (cond-false _ _ _ e)) ∙ r in cc)
+    by false e r = absurd (let full : Imported (Err NumbersUsedUp) ≡ Imported (Ok count) = ap (λ (x : Result (List Operation) ImportFault). (imported s x).reply) (sym (cond-false _ _ _ e)) ∙ r in cc)

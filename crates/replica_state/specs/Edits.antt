@@ -12,7 +12,7 @@ use Rattle.op_core.specs.Lists.{shown_ids}
 use Rattle.op_core.specs.NextIds.{greatest_number, next_number, is_among, given_ids}
 use Rattle.replica_state.specs.States.{State}
 use Rattle.replica_state.specs.declared.fault.EditFault.{EditFault}
-use Rattle.replica_state.specs.declared.fault.EditFault.TheVariants.{BadText, NoBook, NotShown, NumberFull}
+use Rattle.replica_state.specs.declared.fault.EditFault.TheVariants.{BadSegment, NoBook, NotShown, NumbersUsedUp}
 
 -- whether numbers up to 10^15 are left for so many operations more
 abbrev pub has_numbers : List Operation → ℕ → Bool
@@ -27,14 +27,14 @@ abbrev pub next_id : State → Option Id
 next_id s = if has_numbers s.held 1 then Some (record { number = next_number s.held; name = s.name }) else None
 
 abbrev pub edit_by : Option Id → Segment → List Id → List ℕ → Result Operation EditFault
-edit_by None g replaced text = Err NumberFull
+edit_by None g replaced text = Err NumbersUsedUp
 edit_by (Some id) g replaced text = Ok (edit_with id g replaced text)
 
 -- why an edit of the segment may not begin: the text does not fit it; or its book has no operation, and it is not the
 -- book's head
 abbrev pub edit_fault : List Operation → Segment → List ℕ → Option EditFault
 edit_fault held g text =
-    if not (text_fits g.book g.key text) then Some BadText
+    if not (text_fits g.book g.key text) then Some BadSegment
     else (if has_book held g.book || same_key g.key book_head then None else Some NoBook)
 
 -- the first of some ids that the segment does not show

@@ -18,7 +18,7 @@ use Rattle.op_core.specs.NextIds.{next_number}
 use Rattle.replica_state.specs.States.{State}
 use Rattle.replica_state.specs.Edits.{has_numbers, edit_with}
 use Rattle.replica_state.specs.declared.fault.ImportFault.{ImportFault}
-use Rattle.replica_state.specs.declared.fault.ImportFault.TheVariants.{BadFile, NumberFull}
+use Rattle.replica_state.specs.declared.fault.ImportFault.TheVariants.{BadFile, NumbersUsedUp}
 
 abbrev pub text_in : Option Part → List ℕ
 text_in None = []
@@ -64,7 +64,7 @@ edits_from number s book pieces (key ∷ keys) =
 -- the edits, if numbers are left for them
 abbrev pub edits_numbered : State → List ℕ → List Part → List KeyParts → Result (List Operation) ImportFault
 edits_numbered s book pieces keys =
-    if has_numbers s.held (length keys) then Ok (edits_from (next_number s.held) s book pieces keys) else Err NumberFull
+    if has_numbers s.held (length keys) then Ok (edits_from (next_number s.held) s book pieces keys) else Err NumbersUsedUp
 
 abbrev pub import_into : State → List Part → Result (List ℕ) BookFault → Result (List Operation) ImportFault
 import_into s pieces (Err fault) = Err (BadFile fault)

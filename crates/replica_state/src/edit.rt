@@ -28,9 +28,9 @@ impl Replica {
     /// shows, and answers its id: the replica's name, and the greatest held number and one.
     ///
     /// # Errors
-    /// - `BadText` where the text does not fit the book and the key.
+    /// - `BadSegment` where the text does not fit the book and the key.
     /// - `NoBook` where the book has no operation and the key is not the head of the book.
-    /// - `NumberFull` where the number would be above 10^15.
+    /// - `NumbersUsedUp` where the number would be above 10^15.
     /// - `Memory` where a growth was refused.
     ///
     /// The first of them is answered, and the replica is then unchanged.
@@ -43,7 +43,7 @@ impl Replica {
             return Err(fault);
         }
         let Some(id) = self.next_id() else {
-            return Err(EditFault::NumberFull);
+            return Err(EditFault::NumbersUsedUp);
         };
         let replaced = self.set.shown_ids(book, key).to_vec(self.alloc)?;
         self.add(id, book, key, replaced, text)?;
@@ -55,10 +55,10 @@ impl Replica {
     /// and one that is repeated counts once. No ids name nothing.
     ///
     /// # Errors
-    /// - `BadText` where the text does not fit the book and the key.
+    /// - `BadSegment` where the text does not fit the book and the key.
     /// - `NoBook` where the book has no operation and the key is not the head of the book.
     /// - `NotShown` with the first of the ids that the segment does not show.
-    /// - `NumberFull` where the number would be above 10^15.
+    /// - `NumbersUsedUp` where the number would be above 10^15.
     /// - `Memory` where a growth was refused.
     ///
     /// The first of them is answered, and the replica is then unchanged.
@@ -80,7 +80,7 @@ impl Replica {
             return Err(EditFault::NotShown(*id));
         }
         let Some(id) = self.next_id() else {
-            return Err(EditFault::NumberFull);
+            return Err(EditFault::NumbersUsedUp);
         };
         let replaced = self.given_ids(book, key, over)?;
         self.add(id, book, key, replaced, text)?;
@@ -92,7 +92,7 @@ impl Replica {
         ensures { result ≡ edits.edit_fault self.now.held (segment book key) text.now }
     {
         if !fits(book, key, text) {
-            Some(EditFault::BadText)
+            Some(EditFault::BadSegment)
         } else if self.has_book(book) || is_book_head(key) {
             None
         } else {

@@ -1,4 +1,5 @@
 // The worked rows of edits and imports.
+use crate::receive_rows::{assert_id, verse};
 use crate::{EditFault, ImportFault, Replica};
 use bundle_codec::{decode, encode};
 use op_core::{Op, OpId, OpSet, Picked, ReplicaName};
@@ -13,14 +14,6 @@ type Parts<'a> = (u64, &'a str, Key, Option<u64>, &'a str);
 
 fn head(chapter: u16) -> Result<Key, Fail> {
     Ok(Key::new(chapter, Place::Head).ok_or("no key")?)
-}
-
-fn verse(chapter: u16, number: u16) -> Result<Key, Fail> {
-    let place = Place::Verse {
-        number,
-        letter: None,
-    };
-    Ok(Key::new(chapter, place).ok_or("no key")?)
 }
 
 fn op_id(number: u64, name: &str) -> Result<OpId, Fail> {
@@ -56,11 +49,6 @@ fn holding(alloc: Global, name: &str, ops: &[Parts<'_>]) -> Result<Replica, Fail
     let (bundle, _) = decode(alloc, &bytes)?;
     replica.receive(&bundle)?;
     Ok(replica)
-}
-
-fn assert_id(rt: &impl Abort, id: OpId, number: u64, name: &str) {
-    assert_eq!(rt; id.number, number);
-    assert_eq!(rt; id.name.text(), name);
 }
 
 fn assert_picked(
@@ -154,12 +142,12 @@ fn edits_are_refused(rt: HostRuntime) -> Result<(), Fail> {
         (2, "ana", one, None, "\\v 1 In\n"),
     ];
     let mut ana = holding(alloc, "ana", &ops)?;
-    assert!(rt; ana.edit(mat, one, "\\v 2 b") == Err(EditFault::BadText));
-    assert!(rt; ana.edit(mat, one, "\\v 1 a \\v 2 b") == Err(EditFault::BadText));
-    assert!(rt; ana.edit(mat, head(1)?, "\\c 2") == Err(EditFault::BadText));
-    assert!(rt; ana.edit(mat, head(0)?, "") == Err(EditFault::BadText));
+    assert!(rt; ana.edit(mat, one, "\\v 2 b") == Err(EditFault::BadSegment));
+    assert!(rt; ana.edit(mat, one, "\\v 1 a \\v 2 b") == Err(EditFault::BadSegment));
+    assert!(rt; ana.edit(mat, head(1)?, "\\c 2") == Err(EditFault::BadSegment));
+    assert!(rt; ana.edit(mat, head(0)?, "") == Err(EditFault::BadSegment));
     assert!(rt; ana.edit(luk, one, "\\v 1 a") == Err(EditFault::NoBook));
-    assert!(rt; ana.edit(luk, one, "\\v 2 a") == Err(EditFault::BadText));
+    assert!(rt; ana.edit(luk, one, "\\v 2 a") == Err(EditFault::BadSegment));
     assert!(rt; ana.import("\\c 1") == Err(ImportFault::BadFile(BookFault::NoId)));
     assert!(rt; ana.import("\\id mat") == Err(ImportFault::BadFile(BookFault::BadBook)));
     assert_id(&rt, ana.edit(mat, one, "\\v 1 a \\c 1")?, 3, "ana");
@@ -172,9 +160,9 @@ fn no_number_is_left(rt: HostRuntime) -> Result<(), Fail> {
     let ops = [(1_000_000_000_000_000, "zed", head(0)?, None, "\\id MAT\n")];
     let mut ana = holding(alloc, "ana", &ops)?;
     let mat = Book::read("MAT")?;
-    assert!(rt; ana.edit(mat, head(1)?, "\\c 1\n") == Err(EditFault::NumberFull));
+    assert!(rt; ana.edit(mat, head(1)?, "\\c 1\n") == Err(EditFault::NumbersUsedUp));
     assert_eq!(rt; ana.import("\\id MAT\n")?, 0);
-    assert!(rt; ana.import("\\id MAT\n\\c 1\n") == Err(ImportFault::NumberFull));
+    assert!(rt; ana.import("\\id MAT\n\\c 1\n") == Err(ImportFault::NumbersUsedUp));
     assert!(rt; matches!(ana.pick(mat, head(1)?), Picked::Nothing));
     Ok(())
 }

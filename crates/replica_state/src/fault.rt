@@ -27,7 +27,7 @@ pub enum EditFault {
     Memory,
     /// The text does not fit the book and the key.
     #[error("the text does not fit its book and key")]
-    BadText,
+    BadSegment,
     /// The book has no operation, and the key is not the head of the book.
     #[error("no operation is of the book")]
     NoBook,
@@ -36,7 +36,7 @@ pub enum EditFault {
     NotShown(OpId),
     /// The next number would be above 10^15.
     #[error("no number is left for the edit")]
-    NumberFull,
+    NumbersUsedUp,
 }
 
 /// Why a file was not imported. The replica is then unchanged.
@@ -50,7 +50,7 @@ pub enum ImportFault {
     BadFile(BookFault),
     /// The number of the last edit would be above 10^15.
     #[error("no numbers are left for the edits")]
-    NumberFull,
+    NumbersUsedUp,
 }
 
 impl From<AllocError> for ReceiveFault {

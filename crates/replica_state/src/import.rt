@@ -33,7 +33,7 @@ impl Replica {
     /// # Errors
     /// - `BadFile` where the file does not begin with at most one U+FEFF, `\id`, a blank, and a
     ///   book's code that ends.
-    /// - `NumberFull` where an edit is due and the last one's number would be above 10^15.
+    /// - `NumbersUsedUp` where an edit is due and the last one's number would be above 10^15.
     /// - `Memory` where a growth was refused.
     ///
     /// The first of them is answered, and the replica is then unchanged.
@@ -46,7 +46,7 @@ impl Replica {
         let pieces = cut(self.alloc, file)?;
         let due = self.due_keys(book, &pieces)?;
         if !self.has_numbers(due.len()) {
-            return Err(ImportFault::NumberFull);
+            return Err(ImportFault::NumbersUsedUp);
         }
         let edits = self.edits_of(book, &pieces, &due)?;
         Ok(self.join_new(edits)?)

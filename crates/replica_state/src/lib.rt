@@ -15,3 +15,5 @@ pub use replica::Replica;
 
 #[cfg(test)]
 mod edit_rows;
+#[cfg(test)]
+mod receive_rows;
