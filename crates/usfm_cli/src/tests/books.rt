@@ -8,7 +8,7 @@ use std::alloc::Global;
 use std::io::ErrorKind;
 use std::test::Fail;
 use usfm_export::{ExportFault, TextFault, book_text, write_book};
-use usfm_ref::Book;
+use usfm_ref::{Book, Key, Place};
 
 // A replica that received one bundle.
 fn received(alloc: Global, bytes: &[u8]) -> Result<Replica, Fail> {
@@ -50,5 +50,29 @@ fn books_are_written(rt: HostRuntime) -> Result<(), Fail> {
     assert!(rt; answer == Err(ExportFault::NoBook));
     assert_eq!(rt; sink.taken.as_slice(), FIRST);
     assert_eq!(rt; sink.failures, 0);
+    Ok(())
+}
+
+#[test]
+fn imports_come_out(rt: HostRuntime) -> Result<(), Fail> {
+    let alloc = rt.alloc();
+    let mat = Book::read("MAT")?;
+    let mut ana = Replica::new(alloc, ReplicaName::read("ana")?);
+    let marked = "\u{FEFF}\\id MAT\r\n\\c 1\r\n\\v 1 a\r\n";
+    assert_eq!(rt; ana.import(marked)?, 3);
+    assert_eq!(rt; book_text(alloc, &ana, mat)?.as_slice(), marked.as_bytes());
+    assert_eq!(rt; ana.import(marked)?, 0);
+    let mut ben = Replica::new(alloc, ReplicaName::read("ben")?);
+    let file = "\\id MAT\n\\c 1\n\\v 1 In\n";
+    ben.import(file)?;
+    ben.edit(mat, Key::new(1, Place::Head).ok_or("no key")?, "")?;
+    assert_eq!(rt; book_text(alloc, &ben, mat)?.as_slice(), file.as_bytes());
+    assert_eq!(rt; ben.import(file)?, 0);
+    let without_verses = "\\id MAT\n\\c 1\n";
+    assert_eq!(rt; ben.import(without_verses)?, 2);
+    assert_eq!(rt;
+        book_text(alloc, &ben, mat)?.as_slice(),
+        without_verses.as_bytes()
+    );
     Ok(())
 }
