@@ -1,0 +1,76 @@
+//! What fits, in plain Rust: what the plain programs of the benches that judge operations have in common.
+
+#[derive(Clone, Copy, PartialEq, Eq, PartialOrd, Ord)]
+pub enum Place {
+    Head,
+    Verse(u16, u8),
+}
+
+#[derive(Clone, Copy, PartialEq, Eq, PartialOrd, Ord)]
+pub struct Key {
+    pub chapter: u16,
+    pub place: Place,
+}
+
+fn is_blank(byte: u8) -> bool {
+    matches!(byte, b' ' | b'\t' | b'\r' | b'\n')
+}
+
+/// The number and the letter, or 0, directly behind a mark.
+fn number_at(text: &[u8], letters: bool) -> Option<(u16, u8)> {
+    let blanks = text.iter().take_while(|b| is_blank(**b)).count();
+    let text = &text[blanks..];
+    let digits = text.iter().take_while(|b| b.is_ascii_digit()).count();
+    if blanks == 0 || !(1..=3).contains(&digits) {
+        return None;
+    }
+    let number = text[..digits].iter().fold(0, |n, b| n * 10 + u16::from(b - b'0'));
+    let (letter, rest) = match &text[digits..] {
+        [letter @ b'a'..=b'z', rest @ ..] if letters => (*letter, rest),
+        rest => (0, rest),
+    };
+    match rest.first() {
+        Some(b) if b.is_ascii_alphanumeric() => None,
+        _ => Some((number, letter)),
+    }
+}
+
+/// The key of the mark behind a backslash, where a verse stands in the chapter.
+fn key_at(text: &[u8], chapter: u16) -> Option<Key> {
+    let is_name = |b: &&u8| b.is_ascii_alphanumeric() || matches!(**b, b'-' | b'_');
+    let name = text.iter().take_while(is_name).count();
+    let behind = &text[name..];
+    if behind.first() == Some(&b'*') {
+        return None;
+    }
+    match &text[..name] {
+        b"c" => number_at(behind, false).map(|(chapter, _)| Key { chapter, place: Place::Head }),
+        b"v" => number_at(behind, true).map(|(verse, letter)| Key { chapter, place: Place::Verse(verse, letter) }),
+        _ => None,
+    }
+}
+
+/// Whether no mark of the text has a key above this one.
+fn is_quiet(text: &str, key: Key) -> bool {
+    text.match_indices('\\')
+        .all(|(at, _)| key_at(&text.as_bytes()[at + 1..], key.chapter).is_none_or(|found| found <= key))
+}
+
+/// Whether a text fits a key of a book.
+pub fn fits(book: &[u8], key: Key, text: &str) -> bool {
+    if key == (Key { chapter: 0, place: Place::Head }) {
+        let Some([blank, code @ ..]) = text.strip_prefix('\u{FEFF}').unwrap_or(text).as_bytes().strip_prefix(b"\\id") else {
+            return false;
+        };
+        let Some(behind) = code.strip_prefix(book) else {
+            return false;
+        };
+        let ends = behind.first().is_none_or(|b| is_blank(*b) || *b == b'\\');
+        return is_blank(*blank) && ends && is_quiet(text, key);
+    }
+    match text.as_bytes() {
+        [] => true,
+        [b'\\', mark @ ..] => key_at(mark, key.chapter) == Some(key) && is_quiet(&text[1..], key),
+        _ => false,
+    }
+}
