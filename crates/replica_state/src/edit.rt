@@ -1,5 +1,5 @@
 // Edits of a replica.
-ghost use Rattle.std.specs.Prelude.{◌≡◌, ◌≢◌, ◌∷◌, [], None, Err, IfOk, IsTrue, OnOk, OnErr, filter, length, not};
+ghost use Rattle.std.specs.Prelude.{◌≡◌, ◌≢◌, ◌∷◌, [], None, Err, IfOk, IfErr, IsTrue, OnOk, OnErr, filter, length, not};
 ghost use Rattle.std.specs.List.{AllByRecursion, find};
 ghost use Rattle.std.specs.Option.{option_copied};
 ghost use Rattle.usfm_ref.specs.Keys.{book_head, same_key};
@@ -7,6 +7,7 @@ ghost use Rattle.usfm_ref.specs.Segments.{segment};
 ghost use Rattle.verse_cut.specs.Reading.{text_fits};
 ghost use Rattle.op_core.specs.Export.{has_book};
 ghost use Rattle.op_core.specs.Ids.{names_fall};
+ghost use Rattle.op_core.specs.Lists.{shown_ids};
 ghost use Rattle.op_core.specs.NextIds.{given_ids, is_among};
 ghost use Rattle.op_core.specs.Sets.{get, rises};
 ghost use Rattle.replica_state.specs.Edits as edits;
@@ -33,10 +34,12 @@ impl Replica {
     /// - `NumbersUsedUp` where the number would be above 10^15.
     /// - `Memory` where a growth was refused.
     ///
-    /// The first of them is answered, and the replica is then unchanged.
+    /// The first of them is answered, and the replica is then unchanged. No other refusal takes
+    /// memory.
     pub fn edit(&mut self, book: Book, key: Key, text: &str) -> Result<OpId, EditFault>
         ensures step { result ≢ Err EditFault.Memory →
             step self.old (Edit (segment book key) text.now) ≡ record { after = self.new; reply = Edited result } }
+        ensures refused { IfErr (edits.edit_op self.old (segment book key) text.now) (λ fault. result ≡ Err fault) }
         ensures err { OnErr result (self.new ≡ self.old) }
     {
         if let Some(fault) = self.edit_fault(book, key, text) {
@@ -45,7 +48,7 @@ impl Replica {
         let Some(id) = self.next_id() else {
             return Err(EditFault::NumbersUsedUp);
         };
-        let replaced = self.set.shown_ids(book, key).to_vec(self.alloc)?;
+        let replaced = self.shown_ids(book, key)?;
         self.add(id, book, key, replaced, text)?;
         Ok(id)
     }
@@ -61,7 +64,8 @@ impl Replica {
     /// - `NumbersUsedUp` where the number would be above 10^15.
     /// - `Memory` where a growth was refused.
     ///
-    /// The first of them is answered, and the replica is then unchanged.
+    /// The first of them is answered, and the replica is then unchanged. No other refusal takes
+    /// memory.
     pub fn edit_over(
         &mut self,
         book: Book,
@@ -71,6 +75,7 @@ impl Replica {
     ) -> Result<OpId, EditFault>
         ensures step { result ≢ Err EditFault.Memory →
             step self.old (EditOver (segment book key) text.now over.now) ≡ record { after = self.new; reply = Edited result } }
+        ensures refused { IfErr (edits.edit_over_op self.old (segment book key) text.now over.now) (λ fault. result ≡ Err fault) }
         ensures err { OnErr result (self.new ≡ self.old) }
     {
         if let Some(fault) = self.edit_fault(book, key, text) {
@@ -105,6 +110,13 @@ impl Replica {
         ensures { result ≡ has_book self.now.held book }
     {
         self.set.keys(book).next().is_some()
+    }
+
+    // The ids that the segment shows.
+    pub(crate) fn shown_ids(&self, book: Book, key: Key) -> Result<Vec<OpId>, AllocError>
+        ensures { IfOk result (λ ids. ids.items ≡ shown_ids self.now.held (segment book key)) }
+    {
+        self.set.shown_ids(book, key).to_vec(self.alloc)
     }
 
     // The ids that the segment shows, of those that are given.

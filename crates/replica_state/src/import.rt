@@ -1,11 +1,11 @@
 // Imports of a book's file into a replica.
-ghost use Rattle.std.specs.Prelude.{◌≡◌, ◌≢◌, ◌<◌, Err, IfOk, IsTrue, OnErr, OnOk, ◌++◌, length, map, string_bytes};
+ghost use Rattle.std.specs.Prelude.{◌≡◌, ◌≢◌, ◌<◌, Err, IfOk, IfErr, IsTrue, OnErr, OnOk, ◌++◌, length, map, string_bytes};
 ghost use Rattle.usfm_ref.specs.Books.{same_bytes};
 ghost use Rattle.usfm_ref.specs.Keys.{key_cmp, head_of};
 ghost use Rattle.usfm_ref.specs.Rising.{rises_by};
 ghost use Rattle.usfm_ref.specs.Segments.{segment};
 ghost use Rattle.verse_cut.specs.Joins as joins;
-ghost use Rattle.verse_cut.specs.Reading.{text_fits};
+ghost use Rattle.verse_cut.specs.Reading.{book_in, text_fits};
 ghost use Rattle.verse_cut.specs.Views.{parts_of};
 ghost use Rattle.op_core.specs.Lists.{keys_of, shown_ids};
 ghost use Rattle.op_core.specs.NextIds.{greatest_number, next_number};
@@ -36,10 +36,12 @@ impl Replica {
     /// - `NumbersUsedUp` where an edit is due and the last one's number would be above 10^15.
     /// - `Memory` where a growth was refused.
     ///
-    /// The first of them is answered, and the replica is then unchanged.
+    /// The first of them is answered, and the replica is then unchanged. A file that is no book's
+    /// takes no memory.
     pub fn import(&mut self, file: &str) -> Result<u64, ImportFault>
         ensures step { result ≢ Err ImportFault.Memory →
             step self.old (Import file.now) ≡ record { after = self.new; reply = Imported result } }
+        ensures bad_file { IfErr (book_in file.now) (λ fault. result ≡ Err (ImportFault.BadFile fault)) }
         ensures err { OnErr result (self.new ≡ self.old) }
     {
         let book = book_of(file)?;
@@ -159,7 +161,7 @@ impl Replica {
         requires fits { IsTrue (text_fits book key (imports.piece_at (parts_of pieces.now) key)) }
         ensures { IfOk result (λ op. op ≡ edits.edit_with id (segment book key) (shown_ids self.now.held (segment book key)) (imports.piece_at (parts_of pieces.now) key)) }
     {
-        let replaced = self.set.shown_ids(book, key).to_vec(self.alloc)?;
+        let replaced = self.shown_ids(book, key)?;
         let text = String::from_str(self.alloc, piece_at(pieces, key))?;
         Ok(Op::new(id, book, key, replaced, text))
     }

@@ -1,8 +1,6 @@
 use Rattle.std.proofs.Common.{ap, ◌∙◌}
 use Rattle.usfm_ref.specs.Segments.{segment}
 use Rattle.op_core.specs.Ids.{names_fall}
-use Rattle.op_core.specs.Lists.{shown_ids}
-use Rattle.replica_state.specs.States.{State}
 use Rattle.replica_state.proofs.Edits.{next_is_new, next_falls}
 use Rattle.replica_state.proofs.replica.Replica.edit.Goals as goal
 
@@ -11,5 +9,5 @@ add-requires-clause-new c = next_is_new c.args.self.now c.in-Some-next_id.id c.i
 
 pub add-requires-clause-falls : goal.add-requires-clause-falls
 add-requires-clause-falls c =
-    let items = c.in_ok-replaced.ensures.items_if_clones_equal (λ x y e. e) ∙ c.shown_ids.ensures ∙ ap (λ (s : State). shown_ids s.held (segment c.args.book c.args.key)) c.self.view_is in
-    ap (names_fall c.in-Some-next_id.id) items ∙ next_falls c.args.self.now (segment c.args.book c.args.key) c.in-Some-next_id.id c.next_id.ensures.state c.in-Some-next_id.ensures.next
+    ap (names_fall c.in-Some-next_id.id) c.in_ok-replaced.ensures
+    ∙ next_falls c.args.self.now (segment c.args.book c.args.key) c.in-Some-next_id.id c.next_id.ensures.state c.in-Some-next_id.ensures.next
