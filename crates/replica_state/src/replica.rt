@@ -1,4 +1,4 @@
-ghost use Rattle.std.specs.Prelude.{◌≡◌, map, Ok, IfOk};
+ghost use Rattle.std.specs.Prelude.{◌≡◌, ◌++◌, map, Ok, IfOk};
 ghost use Rattle.usfm_ref.specs.Segments.{segment};
 ghost use Rattle.op_core.specs.Lists as lists;
 ghost use Rattle.op_core.specs.Shown as texts;
@@ -6,7 +6,7 @@ ghost use Rattle.bundle_codec.specs.Joining.{whole_at};
 ghost use Rattle.bundle_codec.specs.Spelling.{bundle};
 ghost use Rattle.replica_state.specs.States.{IsState, begun};
 
-use bundle_codec::encode;
+use bundle_codec::{encode, push_bundle};
 use op_core::{Books, Keys, Op, OpSet, Picked, ReplicaName};
 use std::alloc::{AllocError, Global};
 use std::marker::Model;
@@ -94,6 +94,17 @@ impl Replica {
         ensures again { IfOk result (λ bytes. whole_at bytes.items ≡ Ok self.now.held) }
     {
         encode(alloc, &self.set)
+    }
+
+    /// Appends the bundle of all operations that the replica holds to bytes, for a file that has it
+    /// behind something else. After an error a front of it may stand there.
+    ///
+    /// # Errors
+    /// Want of memory alone.
+    pub fn push_bundle(&self, bytes: &mut Vec<u8>) -> Result<(), AllocError>
+        ensures { IfOk result (λ _. bytes.new.items ≡ bytes.old.items ++ bundle self.now.held) }
+    {
+        push_bundle(bytes, &self.set)
     }
 
     /// How many comparisons the calls made that change the replica: each of two ids or of two segments
