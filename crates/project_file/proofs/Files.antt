@@ -1,0 +1,119 @@
+-- Project files: what is spelled is read, and what is read is spelled so.
+use Rattle.std.proofs.Common.{◌≡◌, ℕ, ◌<◌, ◌^◌, List, [], ◌∷◌, ◌++◌, length, Option, Some, None, Result, Ok, Err, refl, sym, ap, subst, ◌∙◌, append_assoc, arith}
+use Rattle.std.proofs.lemmas.List.{length-append, append-nil}
+use Rattle.op_core.specs.Ids.{Id}
+use Rattle.op_core.specs.Ops.{Operation}
+use Rattle.op_core.specs.Sets.{IsOpSet, clash}
+use Rattle.op_core.proofs.Fronts.{join_none}
+use Rattle.op_core.proofs.SideBySide.{clash_none}
+use Rattle.bundle_codec.specs.declared.fault.BundleFault.{BundleFault}
+use Rattle.bundle_codec.specs.declared.fault.WholeFault.{WholeFault}
+use Rattle.bundle_codec.specs.Spelling.{bundle}
+use Rattle.bundle_codec.specs.Reading.{bundle_at}
+use Rattle.bundle_codec.specs.Joining.{nothing_after, whole_if, whole_at}
+use Rattle.bundle_codec.proofs.Readers.{IsBytes}
+use Rattle.bundle_codec.proofs.Spelled.{bundle_reads}
+use Rattle.bundle_codec.proofs.Wholes.{whole_reads}
+use Rattle.replica_state.specs.States.{State, IsState, begun}
+use Rattle.replica_state.specs.Steps.{with_ops}
+use Rattle.project_file.specs.declared.fault.LoadFault.{LoadFault}
+use Rattle.project_file.specs.declared.fault.LoadFault.TheVariants.{Bundle}
+use Rattle.project_file.specs.Projects.{magic, project, front_at, state_of, behind_front, project_at}
+use Rattle.project_file.proofs.Fronts.{IsFront, front_again, front_is, bytes_behind}
+
+-- ---- a bundle and nothing more
+
+nothing_left : (ops held : List Operation) (rest : List ℕ) → nothing_after ops rest ≡ Ok held → (ops ≡ held) × (rest ≡ [])
+nothing_left ops held [] e = (cc e, refl)
+nothing_left ops held (b ∷ rest) e = cc e
+
+whole_is : (bytes : List ℕ) (held : List Operation) → IsBytes bytes → whole_at bytes ≡ Ok held → IsOpSet held × (bytes ≡ bundle held)
+whole_is bytes held fits e = by (bundle_at bytes) refl e
+  where
+    by : (r : Result (List Operation × List ℕ) BundleFault) → bundle_at bytes ≡ r → whole_if r ≡ Ok held → IsOpSet held × (bytes ≡ bundle held)
+    by (Err fault) f e = cc e
+    by (Ok read) f e =
+        let none = nothing_left read.0 held read.1 e in
+        let t = bundle_reads.takes bytes read.0 read.1 fits f in
+        (subst IsOpSet none.0 t.1.0, t.0.parts ∙ (λ i. bundle (none.0 i) ++ none.1 i) ∙ append-nil (bundle held))
+
+-- ---- what is spelled is read
+
+-- in bytes that a slice can have
+short_bundle : (s : State) → length (project s) < 2 ^ 64 → length (bundle s.held) < 2 ^ 64
+unfolding project
+short_bundle s h = omega (arith, length-append magic (length s.name ∷ (s.name ++ bundle s.held)), length-append s.name (bundle s.held))
+
+pub project_again : (s : State) → IsState s → length (project s) < 2 ^ 64 → project_at (project s) ≡ Ok s
+unfolding project
+project_again s v short =
+    ap behind_front (front_again s.name (bundle s.held) v.name)
+    ∙ ap (state_of s.name) (whole_reads (bundle s.held) (record { ops = s.held; set = v.set; spelled = refl; short = short_bundle s short }))
+
+pub read_again : (bytes : List ℕ) (s : State) → length bytes < 2 ^ 64 → IsState s → bytes ≡ project s → project_at bytes ≡ Ok s
+read_again bytes s short v e = ap project_at e ∙ project_again s v (omega (arith, ap length e))
+
+-- a project file is refused with no fault
+pub not_refused : (bytes : List ℕ) (fault : LoadFault) → length bytes < 2 ^ 64 → project_at bytes ≡ Err fault → (s : State) → IsState s → bytes ≡ project s → ⊥
+not_refused bytes fault short f s v e = let read = read_again bytes s short v e in absurd cc
+
+-- bytes that a slice can have are the project file of at most one replica
+pub same_replica : (bytes : List ℕ) (s t : State) → length bytes < 2 ^ 64 → project_at bytes ≡ Ok s → IsState t → bytes ≡ project t → s ≡ t
+same_replica bytes s t short read v e = let same : Ok s ≡ Ok t = sym read ∙ read_again bytes t short v e in cc same
+
+pub one_replica : (s t : State) → IsState s → IsState t → length (project s) < 2 ^ 64 → project s ≡ project t → s ≡ t
+one_replica s t v w short e = same_replica (project s) s t short (project_again s v short) w e
+
+-- the parts of a project file, one behind the other
+pub project-parts : (s : State) (name : List ℕ) → name ≡ s.name → ((magic ++ length name ∷ []) ++ name) ++ bundle s.held ≡ project s
+unfolding project
+project-parts s name e =
+    append_assoc (magic ++ length name ∷ []) name (bundle s.held)
+    ∙ append_assoc magic (length name ∷ []) (name ++ bundle s.held)
+    ∙ ap (λ (w : List ℕ). magic ++ (length w ∷ (w ++ bundle s.held))) e
+
+-- ---- what is read is spelled so
+
+-- the bytes are the project file of a replica
+pub record IsFileOf (bytes : List ℕ) (s : State) : Type 0 where
+  pub valid : IsState s
+  pub spelled : bytes ≡ project s
+
+IsFileOf-from_parts : (bytes name rest : List ℕ) (held : List Operation) → IsFront bytes name rest → IsOpSet held → rest ≡ bundle held → IsFileOf bytes (record { name = name; held = held })
+unfolding project
+IsFileOf-from_parts bytes name rest held f set e = record {
+  valid = record { name = f.valid; set = set };
+  spelled = f.spelled ∙ ap (λ (w : List ℕ). magic ++ (length name ∷ (name ++ w))) e;
+}
+
+pub project_is : (bytes : List ℕ) (s : State) → IsBytes bytes → project_at bytes ≡ Ok s → IsFileOf bytes s
+project_is bytes s fits e = by_front (front_at bytes) refl e
+  where
+    by_whole : (name rest : List ℕ) → IsFront bytes name rest → (r : Result (List Operation) WholeFault) → whole_at rest ≡ r → state_of name r ≡ Ok s → IsFileOf bytes s
+    by_whole name rest f (Err fault) w e = cc e
+    by_whole name rest f (Ok held) w e =
+        let b = whole_is rest held (bytes_behind bytes name rest fits f) w in
+        let same : ◌≡◌ {A = State} (record { name = name; held = held }) s = cc e in
+        subst (IsFileOf bytes) same (IsFileOf-from_parts bytes name rest held f b.0 b.1)
+
+    by_front : (front : Option (List ℕ × List ℕ)) → front_at bytes ≡ front → behind_front front ≡ Ok s → IsFileOf bytes s
+    by_front None f e = cc e
+    by_front (Some front) f e = by_whole front.0 front.1 (front_is bytes front.0 front.1 f) (whole_at front.1) refl e
+
+-- ---- a replica that held nothing and received the bundle behind a front
+
+pub no_clash : (name : List ℕ) (r : State) (held : List Operation) (id : Id) → r ≡ begun name → clash r.held held ≡ Some id → ⊥
+no_clash name r held id e f = let none : clash r.held held ≡ None = ap (λ (s : State). clash s.held held) e ∙ clash_none held in absurd cc
+
+module _ (bytes name rest : List ℕ) (held : List Operation) (s : State) (front : front_at bytes ≡ Some (name, rest)) (whole : whole_at rest ≡ Ok held) (set : IsOpSet held) (new : s ≡ with_ops (begun name) held) where
+  held_is : s ≡ record { name = name; held = held }
+  held_is = new ∙ (λ i. record { name = name; held = join_none held set.rising i })
+
+  pub loaded_is : project_at bytes ≡ Ok s
+  loaded_is = ap behind_front front ∙ ap (state_of name) whole ∙ ap Ok (sym held_is)
+
+  pub is_file : rest ≡ bundle held → IsFileOf bytes s
+  is_file e = subst (IsFileOf bytes) (sym held_is) (IsFileOf-from_parts bytes name rest held (front_is bytes name rest front) set e)
+
+pub bundle_refused : (bytes name rest : List ℕ) (fault : WholeFault) → front_at bytes ≡ Some (name, rest) → whole_at rest ≡ Err fault → project_at bytes ≡ Err (Bundle fault)
+bundle_refused bytes name rest fault front whole = ap behind_front front ∙ ap (state_of name) whole

@@ -1,0 +1,72 @@
+-- The front of a project file: what is spelled is read, and what is read is spelled so.
+use Rattle.std.proofs.Common.{◌≡◌, ℕ, ◌<◌, Bool, true, false, ◌&&◌, cond, eqb, leb, List, [], ◌∷◌, ◌++◌, length, take, drop, Some, None, IsTrue, refl, sym, ap, subst, ◌∙◌, arith, inl, inr}
+use Rattle.std.specs.List.{starts_with, All}
+use Rattle.std.proofs.lemmas.Bool.{cases_lt, and_parts, leb-true, le-leb}
+use Rattle.std.proofs.lemmas.Bool.Decides.{Decides-eqb}
+use Rattle.std.proofs.lemmas.List.{take_at, drop_at, take-append-drop, length-append, length-take-le, get_or_past}
+use Rattle.std.proofs.lemmas.List.Elements.{All-get_or}
+use Rattle.std.proofs.lemmas.Slice.Eq.{starts_is}
+use Rattle.op_core.specs.Names.{is_name}
+use Rattle.bundle_codec.proofs.Readers.{IsBytes, IsBytes-drop}
+use Rattle.project_file.specs.Projects.{magic, name_at, front_at}
+
+-- a name behind the magic and its length, and what follows it
+pub record IsFront (bytes name rest : List ℕ) : Type 0 where
+  pub spelled : bytes ≡ magic ++ (length name ∷ (name ++ rest))
+  pub valid : IsTrue (is_name name)
+
+-- ---- what is spelled is read
+
+name_again : (name rest : List ℕ) → IsTrue (is_name name) → name_at (length name ∷ (name ++ rest)) ≡ Some (name, rest)
+name_again name rest h =
+    let front : take (length name) (name ++ rest) ≡ name = take_at name rest (length name) refl in
+    let behind : drop (length name) (name ++ rest) ≡ rest = drop_at name rest (length name) refl in
+    let fits : leb (length name) (length (name ++ rest)) ≡ true = le-leb _ _ (omega (arith, length-append name rest)) in
+    rw (fits, front, behind, h) refl
+
+pub front_again : (name rest : List ℕ) → IsTrue (is_name name) → front_at (magic ++ (length name ∷ (name ++ rest))) ≡ Some (name, rest)
+unfolding front_at magic
+front_again name rest h = name_again name rest h
+
+-- ---- what is read is spelled so
+
+if_some : {A : Type 0} (b : Bool) (x y : A) → cond b (Some x) None ≡ Some y → (b ≡ true) × (x ≡ y)
+if_some true x y e = (refl, cc e)
+if_some false x y e = cc e
+
+name_is : (bytes name rest : List ℕ) → name_at bytes ≡ Some (name, rest) → (bytes ≡ length name ∷ (name ++ rest)) × IsTrue (is_name name)
+name_is [] name rest e = cc e
+name_is (n ∷ bytes) name rest e =
+    let p = if_some (leb n (length bytes) && is_name (take n bytes)) (take n bytes, drop n bytes) (name, rest) e in
+    let tests = and_parts (leb n (length bytes)) (is_name (take n bytes)) p.0 in
+    let front : take n bytes ≡ name = ap (λ (x : List ℕ × List ℕ). x.0) p.1 in
+    let behind : drop n bytes ≡ rest = ap (λ (x : List ℕ × List ℕ). x.1) p.1 in
+    let long : length name ≡ n = ap length (sym front) ∙ length-take-le n bytes (leb-true n (length bytes) tests.0) in
+    (λ i. sym long i ∷ (sym (take-append-drop n bytes) ∙ (λ i. front i ++ behind i)) i, ap is_name (sym front) ∙ tests.1)
+
+behind_magic : (begins : Bool) (bytes name rest : List ℕ) → starts_with eqb bytes magic ≡ begins → front_at bytes ≡ Some (name, rest) → IsFront bytes name rest
+unfolding front_at
+behind_magic true bytes name rest h e =
+    let named = name_is (drop (length magic) bytes) name rest (rw h at e) in
+    let begins : bytes ≡ magic ++ drop (length magic) bytes = (starts_is Decides-eqb bytes magic (starts_with eqb bytes magic) refl).0 h in
+    record { spelled = begins ∙ ap (λ (w : List ℕ). magic ++ w) named.0; valid = named.1 }
+behind_magic false bytes name rest h e = let none : None ≡ Some (name, rest) = rw h at e in cc none
+
+pub front_is : (bytes name rest : List ℕ) → front_at bytes ≡ Some (name, rest) → IsFront bytes name rest
+front_is bytes name rest e = behind_magic (starts_with eqb bytes magic) bytes name rest refl e
+
+-- ---- bytes
+
+pub IsBytes-from_All : (bytes : List ℕ) → All (λ b. b < 256) bytes → IsBytes bytes
+IsBytes-from_All bytes h i =
+    elim (cases_lt i (length bytes)) [
+      | inl lt ↦ All-get_or (λ b. b < 256) bytes i 0 lt h
+      | inr le ↦ rw (get_or_past bytes i 0 le) (omega arith)
+    ]
+
+pub bytes_behind : (bytes name rest : List ℕ) → IsBytes bytes → IsFront bytes name rest → IsBytes rest
+unfolding magic
+bytes_behind bytes name rest fits f =
+    let whole : IsBytes (magic ++ (length name ∷ (name ++ rest))) = subst IsBytes f.spelled fits in
+    let behind : IsBytes (name ++ rest) = IsBytes-drop 9 (magic ++ (length name ∷ (name ++ rest))) whole in
+    subst IsBytes (drop_at name rest (length name) refl) (IsBytes-drop (length name) (name ++ rest) behind)

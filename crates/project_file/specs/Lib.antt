@@ -1,0 +1,3 @@
+pub mod Projects
+pub mod Answers
+pub mod Laws

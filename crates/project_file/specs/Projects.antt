@@ -1,0 +1,48 @@
+-- Project files: a replica as bytes, its name in front of the bundle of what it holds (this project's own format).
+use Rattle.std.specs.Prelude.{ℕ, nat_eq, nat_le, ◌&&◌, List, [], ◌∷◌, ◌++◌, length, take, drop, codes, Option, Some, None, option_and_then, Result, Ok, Err, if◌then◌else◌}
+use Rattle.std.specs.List.{starts_with}
+use Rattle.op_core.specs.Names.{is_name}
+use Rattle.op_core.specs.Ops.{Operation}
+use Rattle.bundle_codec.specs.declared.fault.WholeFault.{WholeFault}
+use Rattle.bundle_codec.specs.Spelling.{bundle}
+use Rattle.bundle_codec.specs.Joining.{whole_at}
+use Rattle.replica_state.specs.States.{State}
+use Rattle.project_file.specs.declared.fault.LoadFault.{LoadFault}
+use Rattle.project_file.specs.declared.fault.LoadFault.TheVariants.{BadProject, Bundle}
+
+-- the first eight bytes: `USFMPJ1` and a line feed
+unfoldable pub magic : List ℕ
+magic = codes "USFMPJ1" ++ 10 ∷ []
+
+-- the project file of a replica: the magic, the name's length in one byte, the name, and the bundle of what is held
+unfoldable pub project : State → List ℕ
+project s = magic ++ (length s.name ∷ (s.name ++ bundle s.held))
+
+-- ---- reading, from left to right
+
+-- the bytes after the magic, where it stands at the front
+abbrev pub after_magic : List ℕ → Option (List ℕ)
+after_magic bytes = if starts_with nat_eq bytes magic then Some (drop (length magic) bytes) else None
+
+-- a name behind its length, where they stand at the front, and the bytes after it
+abbrev pub name_at : List ℕ → Option (List ℕ × List ℕ)
+name_at [] = None
+name_at (n ∷ bytes) = if nat_le n (length bytes) && is_name (take n bytes) then Some (take n bytes, drop n bytes) else None
+
+-- the name behind the magic, and the bytes after it
+unfoldable pub front_at : List ℕ → Option (List ℕ × List ℕ)
+front_at bytes = option_and_then name_at (after_magic bytes)
+
+-- the replica of a name that holds the set of a bundle, or the bundle's fault
+abbrev pub state_of : List ℕ → Result (List Operation) WholeFault → Result State LoadFault
+state_of name (Ok held) = Ok (record { name = name; held = held })
+state_of name (Err fault) = Err (Bundle fault)
+
+-- the bytes after the name are one bundle and nothing more
+abbrev pub behind_front : Option (List ℕ × List ℕ) → Result State LoadFault
+behind_front None = Err BadProject
+behind_front (Some front) = state_of front.0 (whole_at front.1)
+
+-- the replica whose project file the bytes are, or the first fault: of the magic or the name, then of the bundle
+abbrev pub project_at : List ℕ → Result State LoadFault
+project_at bytes = behind_front (front_at bytes)

@@ -1,0 +1,81 @@
+// The worked rows of project files.
+use crate::{CreateFault, LoadFault, create, load, save};
+use bundle_codec::{BundleFault, WholeFault};
+use std::alloc::{AllocError, Global};
+use std::process::Abort;
+use std::test::Fail;
+
+// The project file of a replica `ana` that holds nothing.
+const ANA: [u8; 28] = *b"USFMPJ1\n\x03anaUSFMSR1\n\0\0\0\0\0\0\0\0";
+
+// 1 ana on MAT 0, and 2 ana on MAT 1:1; neither names anything.
+const B1: [u8; 108] =
+    *b"USFMSR1\n\0\0\0\0\0\0\0\x02\0\0\0\0\0\0\0\x01\x03anaMAT\0\0\0\0\0\0\0\0\0\0\0\0\0\0\x01\0\0\0\0\0\0\0\x08\\id MAT\n\0\0\0\0\0\0\0\x02\x03anaMAT\0\x01\x01\0\x01\0\0\0\0\0\0\0\0\0\x01\0\0\0\0\0\0\0\x08\\v 1 In\n";
+
+const CUT: LoadFault = LoadFault::Bundle(WholeFault::Bundle(BundleFault::Truncated));
+
+const TRAILING: LoadFault = LoadFault::Bundle(WholeFault::Trailing);
+
+// The bytes of a front, with others behind them.
+fn joined(alloc: Global, front: &[u8], behind: &[u8]) -> Result<Vec<u8>, AllocError> {
+    let mut bytes = front.to_vec(alloc)?;
+    bytes.extend_from_slice(behind)?;
+    Ok(bytes)
+}
+
+fn assert_loads(rt: &impl Abort, alloc: Global, bytes: &[u8]) -> Result<(), Fail> {
+    let replica = load(alloc, bytes)?;
+    assert_eq!(rt; replica.name().text(), "ana");
+    assert_eq!(rt; save(alloc, &replica)?.as_slice(), bytes);
+    Ok(())
+}
+
+#[test]
+fn created(rt: HostRuntime) -> Result<(), Fail> {
+    let alloc = rt.alloc();
+    assert_eq!(rt; create(alloc, "ana")?.as_slice(), &ANA);
+    assert_eq!(rt; create(alloc, "Ana").err(), Some(CreateFault::BadName));
+    Ok(())
+}
+
+#[test]
+fn loaded_and_saved(rt: HostRuntime) -> Result<(), Fail> {
+    let alloc = rt.alloc();
+    assert_loads(&rt, alloc, &ANA)?;
+    assert_loads(&rt, alloc, &joined(alloc, &ANA[..12], &B1)?)
+}
+
+#[test]
+fn cut_or_longer(rt: HostRuntime) -> Result<(), Fail> {
+    let alloc = rt.alloc();
+    for length in 0..28 {
+        let wanted = if length < 12 {
+            LoadFault::BadProject
+        } else {
+            CUT
+        };
+        assert_eq!(rt; load(alloc, &ANA[..length]).err(), Some(wanted));
+    }
+    let longer = joined(alloc, &ANA, &[0])?;
+    assert_eq!(rt; load(alloc, &longer).err(), Some(TRAILING));
+    Ok(())
+}
+
+#[test]
+fn other_fronts(rt: HostRuntime) -> Result<(), Fail> {
+    let alloc = rt.alloc();
+    let longest = joined(alloc, b"USFMPJ1\n\x20", &[b'a'; 32])?;
+    assert!(rt; load(alloc, &joined(alloc, &longest, &ANA[12..])?).is_ok());
+    let too_long = joined(alloc, b"USFMPJ1\n\x21", &[b'a'; 33])?;
+    for front in [
+        b"USFMPJ2\n\x03ana".as_slice(),
+        b"USFMPJ1\n\0",
+        b"USFMPJ1\n\x03aNa",
+        b"USFMPJ1\n\x03a\xc3\xa9",
+        &too_long,
+    ] {
+        let bytes = joined(alloc, front, &ANA[12..])?;
+        assert_eq!(rt; load(alloc, &bytes).err(), Some(LoadFault::BadProject));
+    }
+    Ok(())
+}
