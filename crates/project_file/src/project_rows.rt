@@ -33,7 +33,7 @@ fn assert_loads(rt: &impl Abort, alloc: Global, bytes: &[u8]) -> Result<(), Fail
 #[test]
 fn created(rt: HostRuntime) -> Result<(), Fail> {
     let alloc = rt.alloc();
-    assert_eq!(rt; create(alloc, "ana")?.as_slice(), &ANA);
+    assert_eq!(rt; create(alloc, "ana")?.as_slice(), ANA.as_slice());
     assert_eq!(rt; create(alloc, "Ana").err(), Some(CreateFault::BadName));
     Ok(())
 }
