@@ -20,6 +20,7 @@ static MAGIC: [u8; 8] = *b"USFMPJ1\n";
 /// - `Memory` (1) where a growth was refused.
 pub fn create(alloc: Global, name: &str) -> Result<Vec<u8>, CreateFault>
     ensures spelled { IfOk result (λ bytes. bytes.items ≡ projects.project (begun name.now)) }
+    ensures again { IfOk result (λ bytes. projects.project_at bytes.items ≡ Ok (begun name.now)) }
     ensures named { IfOk result (λ _. IsTrue (is_name name.now)) }
     ensures refused { IfErr result (answers.RefusesName name.now) }
 {

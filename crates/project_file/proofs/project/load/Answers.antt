@@ -15,7 +15,7 @@ returns-in_err-bundle-clause-only c = λ s valid is.
     absurd (not_refused c.args.bytes.now (Bundle c.in_err-bundle.field-0.0) (omega arith) refused s valid is)
 
 pub unreachable-requires : goal.unreachable-requires
-unreachable-requires c = no_clash c.in-Some.front.0 c.new-replica.result c.in_ok-bundle.bundle c.in-Err-Clash.field-0-0 c.new-replica.ensures (rw c.in-Err-Clash.field-0-is at c.in-Err-Clash.ensures.refused)
+unreachable-requires c = no_clash _ c.new-replica.result c.in_ok-bundle.bundle c.in-Err-Clash.field-0-0 c.new-replica.ensures (rw c.in-Err-Clash.field-0-is at c.in-Err-Clash.ensures.refused)
 
 pub returns-in-Ok-clause-loaded : goal.returns-in-Ok-clause-loaded
 returns-in-Ok-clause-loaded c =
