@@ -7,7 +7,7 @@ ghost use Rattle.bundle_codec.specs.Spelling.{bundle};
 ghost use Rattle.replica_state.specs.States.{IsState, begun};
 
 use bundle_codec::{encode, push_bundle};
-use op_core::{Books, Keys, Op, OpSet, Picked, ReplicaName};
+use op_core::{Books, Keys, Op, OpId, OpSet, Picked, ReplicaName};
 use std::alloc::{AllocError, Global};
 use std::marker::Model;
 use usfm_ref::{Book, Key};
@@ -63,6 +63,16 @@ impl Replica {
         ensures { result ≡ lists.keys_of self.now.held book }
     {
         self.set.keys(book)
+    }
+
+    /// The ids that a held operation names and none has, rising, each once.
+    ///
+    /// # Errors
+    /// Want of memory alone.
+    pub fn awaited(&self, alloc: Global) -> Result<Vec<OpId>, AllocError>
+        ensures { IfOk result (λ ids. ids.items ≡ lists.awaited self.now.held) }
+    {
+        self.set.awaited(alloc)
     }
 
     /// What the segment shows: the operations of it whose ids no operation of it names as replaced,
