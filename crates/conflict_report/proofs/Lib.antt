@@ -1,0 +1,3 @@
+mod Latest
+mod Gathered
+mod Emptiness

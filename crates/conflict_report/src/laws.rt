@@ -1,0 +1,8 @@
+//! Laws of reports, over the definitions alone. Each function does nothing: its contract is the law.
+ghost use Rattle.conflict_report.specs.Laws as laws;
+
+/// The report of a set is empty exactly where no segment shows two different texts, and no id is
+/// awaited.
+pub fn empty_reports()
+    ensures { laws.EmptyReports }
+{}
