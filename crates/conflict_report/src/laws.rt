@@ -6,3 +6,9 @@ ghost use Rattle.conflict_report.specs.Laws as laws;
 pub fn empty_reports()
     ensures { laws.EmptyReports }
 {}
+
+/// Replicas that received bundles with the same operations together, in whatever order, grouping and
+/// repetition, give the same report.
+pub fn same_bundles_same_reports()
+    ensures { laws.SameBundlesSameReports }
+{}
