@@ -66,10 +66,11 @@ fn push_segment<'a>(
         ++ reports.conflict_at replica.now.held (segment book key)) }
 {
     let texts = distinct_texts(alloc, replica, book, key)?;
-    if texts.len() < 2 {
+    let count = texts.len();
+    if count < 2 {
         return Ok(());
     }
-    parts.push(Part::Line(conflict_line(alloc, book, key, texts.len())?))?;
+    parts.push(Part::Line(conflict_line(alloc, book, key, count)?))?;
     push_texts(alloc, &texts, parts)
 }
 
