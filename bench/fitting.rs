@@ -1,12 +1,12 @@
 //! What fits, in plain Rust: what the plain programs of the benches that judge operations have in common.
 
-#[derive(Clone, Copy, PartialEq, Eq, PartialOrd, Ord)]
+#[derive(Clone, Copy, PartialEq, Eq, PartialOrd, Ord, Hash)]
 pub enum Place {
     Head,
     Verse(u16, u8),
 }
 
-#[derive(Clone, Copy, PartialEq, Eq, PartialOrd, Ord)]
+#[derive(Clone, Copy, PartialEq, Eq, PartialOrd, Ord, Hash)]
 pub struct Key {
     pub chapter: u16,
     pub place: Place,
@@ -36,7 +36,7 @@ fn number_at(text: &[u8], letters: bool) -> Option<(u16, u8)> {
 }
 
 /// The key of the mark behind a backslash, where a verse stands in the chapter.
-fn key_at(text: &[u8], chapter: u16) -> Option<Key> {
+pub fn key_at(text: &[u8], chapter: u16) -> Option<Key> {
     let is_name = |b: &&u8| b.is_ascii_alphanumeric() || matches!(**b, b'-' | b'_');
     let name = text.iter().take_while(is_name).count();
     let behind = &text[name..];
@@ -56,17 +56,24 @@ fn is_quiet(text: &str, key: Key) -> bool {
         .all(|(at, _)| key_at(&text.as_bytes()[at + 1..], key.chapter).is_none_or(|found| found <= key))
 }
 
+/// What stands behind `\id` and a blank, at most one U+FEFF before them: it begins with the code of a book.
+pub fn code_of_head(text: &str) -> Option<&[u8]> {
+    match text.strip_prefix('\u{FEFF}').unwrap_or(text).as_bytes().strip_prefix(b"\\id")? {
+        [blank, code @ ..] if is_blank(*blank) => Some(code),
+        _ => None,
+    }
+}
+
+/// Whether a book's code ends before these bytes.
+pub fn code_ends(behind: &[u8]) -> bool {
+    behind.first().is_none_or(|b| is_blank(*b) || *b == b'\\')
+}
+
 /// Whether a text fits a key of a book.
 pub fn fits(book: &[u8], key: Key, text: &str) -> bool {
     if key == (Key { chapter: 0, place: Place::Head }) {
-        let Some([blank, code @ ..]) = text.strip_prefix('\u{FEFF}').unwrap_or(text).as_bytes().strip_prefix(b"\\id") else {
-            return false;
-        };
-        let Some(behind) = code.strip_prefix(book) else {
-            return false;
-        };
-        let ends = behind.first().is_none_or(|b| is_blank(*b) || *b == b'\\');
-        return is_blank(*blank) && ends && is_quiet(text, key);
+        let behind = code_of_head(text).and_then(|code| code.strip_prefix(book));
+        return behind.is_some_and(code_ends) && is_quiet(text, key);
     }
     match text.as_bytes() {
         [] => true,

@@ -7,34 +7,14 @@ The operations are those of a team of four on the New Testament: heads of books 
 texts of a natural length, edits that replace what was shown, and edits of one verse by two people apart from
 each other. The same number of operations gives the same bytes.
 """
+import os
 import random
-import struct
 import sys
 
+sys.path.insert(0, os.path.dirname(os.path.dirname(os.path.abspath(__file__))))
+from operations import NAMES, bundle, operation, text_of
+
 BOOKS = "MAT MRK LUK JHN ACT ROM 1CO 2CO GAL EPH PHP COL 1TH 2TH 1TI 2TI TIT PHM HEB JAS 1PE 2PE 1JN 2JN 3JN JUD REV".split()
-NAMES = [b"ana", b"ben", b"cy", b"dan-2"]
-WORDS = "in the beginning was word and light shines darkness people who walked have seen great on those living land".split()
-
-
-def text_of(rng, verse):
-    words = (rng.choice(WORDS) for _ in range(rng.randint(8, 40)))
-    return ("\\v %d %s\n" % (verse, " ".join(words))).encode()
-
-
-def identity(op_id):
-    number, name = op_id
-    return struct.pack(">QB", number, len(name)) + name
-
-
-def operation(op_id, book, chapter, verse, replaced, text):
-    place = struct.pack(">BHB", 0 if verse is None else 1, verse or 0, 0)
-    named = b"".join(identity(r) for r in sorted(replaced))
-    return (identity(op_id) + book.encode() + struct.pack(">H", chapter) + place + struct.pack(">Q", len(replaced))
-            + named + struct.pack(">BQ", 1, len(text)) + text)
-
-
-def bundle(operations):
-    return b"USFMSR1\n" + struct.pack(">Q", len(operations)) + b"".join(bytes_of for _, bytes_of in operations)
 
 
 def segments(count):
