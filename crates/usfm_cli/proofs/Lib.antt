@@ -3,3 +3,5 @@ pub mod LineLengths
 pub mod Unions
 pub mod StreamLemmas
 pub mod BooksCutBack
+pub mod ReadTheSame
+pub mod Running

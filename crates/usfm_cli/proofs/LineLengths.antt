@@ -18,5 +18,5 @@ digits_of_id n h = let most : n ≤ 1000000000000000 = leb-true n 10000000000000
 pub bytes_of_name : (text : List ℕ) → is_name text ≡ true → length text ≤ 32
 bytes_of_name text h = leb-true _ _ (and_parts _ _ (and_parts _ _ h).0).1
 
-pub digits_of_clash : length (decimal 51) ≤ 2
-digits_of_clash = length-decimal-le 2 51 (omega arith) (omega arith) (omega arith)
+pub digits_below_100 : (n : ℕ) → n < 100 → length (decimal n) ≤ 2
+digits_below_100 n h = length-decimal-le 2 n (omega arith) h (omega arith)

@@ -1,20 +1,74 @@
 -- The faults of the layers as faults of a command.
+use Rattle.usfm_ref.specs.declared.fault.RefFault.TheVariants as reference
+use Rattle.usfm_token.specs.declared.fault.TokenFault.{TokenFault}
+use Rattle.usfm_token.specs.declared.fault.TokenFault.TheVariants as token
+use Rattle.verse_cut.specs.declared.fault.BookFault.{BookFault}
+use Rattle.verse_cut.specs.declared.fault.BookFault.TheVariants as opening
+use Rattle.bundle_codec.specs.declared.fault.WholeFault.{WholeFault}
+use Rattle.bundle_codec.specs.declared.fault.WholeFault.TheVariants as whole
 use Rattle.replica_state.specs.declared.fault.ReceiveFault.{ReceiveFault}
 use Rattle.replica_state.specs.declared.fault.ReceiveFault.TheVariants as receiving
+use Rattle.replica_state.specs.declared.fault.EditFault.{EditFault}
+use Rattle.replica_state.specs.declared.fault.EditFault.TheVariants as edit
+use Rattle.replica_state.specs.declared.fault.ImportFault.{ImportFault}
+use Rattle.replica_state.specs.declared.fault.ImportFault.TheVariants as importing
 use Rattle.usfm_export.specs.declared.fault.ExportFault.{ExportFault}
 use Rattle.usfm_export.specs.declared.fault.ExportFault.TheVariants as writing
+use Rattle.usfm_export.specs.declared.fault.TextFault.{TextFault}
+use Rattle.usfm_export.specs.declared.fault.TextFault.TheVariants as giving
+use Rattle.op_core.specs.declared.fault.IdFault.TheVariants as ids
+use Rattle.project_file.specs.declared.fault.CreateFault.{CreateFault}
+use Rattle.project_file.specs.declared.fault.CreateFault.TheVariants as creating
+use Rattle.project_file.specs.declared.fault.LoadFault.{LoadFault}
+use Rattle.project_file.specs.declared.fault.LoadFault.TheVariants as loading
 use Rattle.usfm_cli.specs.declared.reading.ReadFault.{ReadFault}
 use Rattle.usfm_cli.specs.declared.reading.ReadFault.TheVariants as reading
 use Rattle.usfm_cli.specs.declared.fault.Fault.{Fault}
-use Rattle.usfm_cli.specs.declared.fault.Fault.TheVariants.{Memory, Clash, NoBook, WriteFailed, ReadFailed, TooLong}
+use Rattle.usfm_cli.specs.declared.fault.Fault.TheVariants.{Memory, NotText, Reference, NoId, Naming, Clash, Bundle, Trailing, BadSegment, NumbersUsedUp, NoBook, NotShown, WriteFailed, BadProject, ReadFailed, TooLong}
+
+abbrev pub of_text : TokenFault → Fault
+of_text (token.NotUtf8 valid) = NotText valid
+
+abbrev pub of_book : BookFault → Fault
+of_book opening.NoId = NoId
+of_book opening.BadBook = Reference reference.BadBook
+
+abbrev pub of_whole : WholeFault → Fault
+of_whole (whole.Bundle fault) = Bundle fault
+of_whole whole.Trailing = Trailing
 
 abbrev pub of_receiving : ReceiveFault → Fault
 of_receiving receiving.Memory = Memory
 of_receiving (receiving.Clash id) = Clash id
 
+abbrev pub of_edit : EditFault → Fault
+of_edit edit.Memory = Memory
+of_edit edit.BadSegment = BadSegment
+of_edit edit.NoBook = NoBook
+of_edit (edit.NotShown id) = NotShown id
+of_edit edit.NumbersUsedUp = NumbersUsedUp
+
+abbrev pub of_import : ImportFault → Fault
+of_import importing.Memory = Memory
+of_import (importing.BadFile fault) = of_book fault
+of_import importing.NumbersUsedUp = NumbersUsedUp
+
 abbrev pub of_export : ExportFault → Fault
 of_export writing.NoBook = NoBook
 of_export (writing.WriteFailed gone) = WriteFailed gone
+
+abbrev pub of_book_text : TextFault → Fault
+of_book_text giving.Memory = Memory
+of_book_text giving.NoBook = NoBook
+
+abbrev pub of_loading : LoadFault → Fault
+of_loading loading.Memory = Memory
+of_loading loading.BadProject = BadProject
+of_loading (loading.Bundle fault) = of_whole fault
+
+abbrev pub of_creating : CreateFault → Fault
+of_creating creating.Memory = Memory
+of_creating creating.BadName = Naming ids.BadName
 
 abbrev pub of_reading : ReadFault → Fault
 of_reading reading.Memory = Memory

@@ -6,7 +6,7 @@ use Rattle.usfm_cli.specs.Reading.{most_bytes}
 use Rattle.usfm_export.specs.Writing.{TakesFront}
 use Rattle.usfm_cli.specs.Streams.{book_of_stream}
 use Rattle.usfm_cli.specs.declared.fault.Fault.{Fault}
-use Rattle.usfm_cli.specs.declared.fault.Fault.TheVariants.{Memory, Reference, Clash, Bundle, NoBook, WriteFailed, ReadFailed, TooLong}
+use Rattle.usfm_cli.specs.declared.fault.Fault.TheVariants.{Memory, WriteFailed, ReadFailed, TooLong}
 
 -- What an answer says of the text that is to be written, or of its refusal, and of what the sink took: all of the
 -- text, the front of it that is told, or nothing.
@@ -15,12 +15,7 @@ AnswersText wanted before after (Ok done) = (text : List ℕ) × (wanted ≡ Ok 
 AnswersText wanted before after (Err (WriteFailed gone)) =
     (text : List ℕ) × (wanted ≡ Ok text) × TakesFront before after text 0 gone
 AnswersText wanted before after (Err Memory) = after ≡ before
-AnswersText wanted before after (Err (Reference fault)) = (wanted ≡ Err (Reference fault)) × (after ≡ before)
-AnswersText wanted before after (Err (Clash id)) = (wanted ≡ Err (Clash id)) × (after ≡ before)
-AnswersText wanted before after (Err (Bundle fault)) = (wanted ≡ Err (Bundle fault)) × (after ≡ before)
-AnswersText wanted before after (Err NoBook) = (wanted ≡ Err NoBook) × (after ≡ before)
-AnswersText wanted before after (Err ReadFailed) = (wanted ≡ Err ReadFailed) × (after ≡ before)
-AnswersText wanted before after (Err TooLong) = (wanted ≡ Err TooLong) × (after ≡ before)
+AnswersText wanted before after (Err fault) = (wanted ≡ Err fault) × (after ≡ before)
 
 -- What an answer says of the bytes that the source gave: where a read failed, where they are too long and where
 -- memory was wanted, that nothing was written; else that they are all of them, and what the book of that stream

@@ -1,6 +1,9 @@
 pub mod Reading
 pub mod Faults
 pub mod Lines
+pub mod Commands
+pub mod Executing
+pub mod ExecLaws
 pub mod Streams
 pub mod Folding
 pub mod StreamLaws

@@ -4,10 +4,11 @@ use Rattle.std.specs.Prelude.{ℕ, List, [], ◌∷◌, ◌++◌, codes}
 use Rattle.std.specs.List.{flat_map}
 use Rattle.std.specs.Fmt.{decimal}
 use Rattle.usfm_ref.specs.declared.fault.RefFault.TheVariants.{BadBook, BadRef}
+use Rattle.op_core.specs.declared.fault.IdFault.TheVariants.{BadName, BadOpId}
 use Rattle.bundle_codec.specs.declared.fault.BundleFault.{BundleFault}
 use Rattle.bundle_codec.specs.declared.fault.BundleFault.TheVariants.{Magic, Truncated, NotRising, BadId, BadKey, BadReplaced, BadTag, NotUtf8, BadText}
 use Rattle.usfm_cli.specs.declared.fault.Fault.{Fault}
-use Rattle.usfm_cli.specs.declared.fault.Fault.TheVariants.{Memory, Reference, Clash, Bundle, NoBook, WriteFailed, ReadFailed, TooLong}
+use Rattle.usfm_cli.specs.declared.fault.Fault.TheVariants.{Memory, NotText, Reference, NoId, Naming, Clash, Bundle, Trailing, BadSegment, NumbersUsedUp, NoBook, NotShown, WriteFailed, BadProject, ReadFailed, TooLong, FileFailed}
 
 abbrev pub bundle_number : BundleFault → ℕ
 bundle_number Magic = 60
@@ -34,26 +35,33 @@ bundle_details (BadText at) = decimal at ∷ []
 
 abbrev pub fault_number : Fault → ℕ
 fault_number Memory = 1
+fault_number (NotText valid) = 10
 fault_number (Reference BadBook) = 20
 fault_number (Reference BadRef) = 21
+fault_number NoId = 30
+fault_number (Naming BadName) = 50
 fault_number (Clash id) = 51
+fault_number (Naming BadOpId) = 52
 fault_number (Bundle fault) = bundle_number fault
+fault_number Trailing = 70
+fault_number BadSegment = 80
+fault_number NumbersUsedUp = 81
 fault_number NoBook = 82
+fault_number (NotShown id) = 83
 fault_number (WriteFailed gone) = 90
+fault_number BadProject = 110
 fault_number ReadFailed = 120
 fault_number TooLong = 121
+fault_number FileFailed = 130
 
--- an id by its number and its name, a count in decimal
+-- an id by its number and its name, a count of bytes and the place of an operation in decimal
 abbrev pub fault_details : Fault → List (List ℕ)
-fault_details Memory = []
-fault_details (Reference BadBook) = []
-fault_details (Reference BadRef) = []
+fault_details (NotText valid) = decimal valid ∷ []
 fault_details (Clash id) = decimal id.number ∷ id.name ∷ []
+fault_details (NotShown id) = decimal id.number ∷ id.name ∷ []
 fault_details (Bundle fault) = bundle_details fault
-fault_details NoBook = []
 fault_details (WriteFailed gone) = decimal gone ∷ []
-fault_details ReadFailed = []
-fault_details TooLong = []
+fault_details other = []
 
 abbrev pub fault_text : Fault → List ℕ
 fault_text fault =

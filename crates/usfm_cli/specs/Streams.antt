@@ -11,7 +11,7 @@ use Rattle.bundle_codec.specs.Spelling.{bundle, AreCounted}
 use Rattle.bundle_codec.specs.Reading.{bundle_at}
 use Rattle.replica_state.specs.States.{State}
 use Rattle.usfm_cli.specs.declared.fault.Fault.{Fault}
-use Rattle.usfm_cli.specs.declared.fault.Fault.TheVariants.{Memory, Reference, Clash, Bundle, NoBook, WriteFailed, ReadFailed, TooLong}
+use Rattle.usfm_cli.specs.declared.fault.Fault.TheVariants.{Memory, Clash, Bundle, NoBook}
 
 -- what follows a set that was read, and the bytes after it, or the bundle's fault
 abbrev pub with_set : {X : Type 0} → Result (List Operation × List ℕ) BundleFault → (List Operation → List ℕ → Result X Fault) → Result X Fault
@@ -61,8 +61,4 @@ UnionAnswers wanted (Ok replica) = wanted ≡ Ok replica.held
 UnionAnswers wanted (Err Memory) = Unit {0}
 UnionAnswers wanted (Err (Clash id)) = wanted ≡ Err (Clash id)
 UnionAnswers wanted (Err (Bundle fault)) = wanted ≡ Err (Bundle fault)
-UnionAnswers wanted (Err (Reference fault)) = ⊥
-UnionAnswers wanted (Err NoBook) = ⊥
-UnionAnswers wanted (Err (WriteFailed gone)) = ⊥
-UnionAnswers wanted (Err ReadFailed) = ⊥
-UnionAnswers wanted (Err TooLong) = ⊥
+UnionAnswers wanted (Err other) = ⊥

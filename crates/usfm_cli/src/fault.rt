@@ -1,15 +1,18 @@
 ghost use Rattle.std.specs.Prelude.{◌≡◌};
 ghost use Rattle.usfm_cli.specs.Faults as faults;
-ghost use Rattle.usfm_cli.specs.declared.fault.Fault.TheVariants.{Memory, Bundle, WriteFailed};
+ghost use Rattle.usfm_cli.specs.declared.fault.Fault.TheVariants.{Memory, Reference, Naming, Bundle, WriteFailed};
 
 use crate::ReadFault;
-use bundle_codec::BundleFault;
-use op_core::OpId;
-use replica_state::ReceiveFault;
+use bundle_codec::{BundleFault, WholeFault};
+use op_core::{IdFault, OpId};
+use project_file::{CreateFault, LoadFault};
+use replica_state::{EditFault, ImportFault, ReceiveFault};
 use std::alloc::AllocError;
 use thiserror::Error;
-use usfm_export::{ExportFault, WriteFault};
+use usfm_export::{ExportFault, TextFault, WriteFault};
 use usfm_ref::RefFault;
+use usfm_token::TokenFault;
+use verse_cut::BookFault;
 
 /// Why a command was refused. `fault_line` tells it with its number.
 #[derive(Clone, Copy, Debug, PartialEq, Eq, Error)]
@@ -17,27 +20,55 @@ pub enum Fault {
     /// 1: a growth was refused.
     #[error("out of memory")]
     Memory,
-    /// 20 and 21: a text that is no book's code, or no reference.
+    /// 10: bytes that are no text, which is UTF-8. Their longest front that is has so many bytes.
+    #[error("not UTF-8 after {valid} bytes")]
+    NotText { valid: usize },
+    /// 20 and 21: a text that is no book's code, or no reference; 20 also a file whose book has no
+    /// code.
     #[error("{0}")]
     Reference(RefFault),
+    /// 30: a file that does not begin with at most one U+FEFF, `\id` and a blank.
+    #[error("the file does not begin with \\id and a blank")]
+    NoId,
+    /// 50 and 52: a text that is no replica's name, or no operation's id.
+    #[error("{0}")]
+    Naming(IdFault),
     /// 51: two operations that are not equal have this id.
     #[error("two operations that differ have one id: {} {}", .0.number, .0.name.text())]
     Clash(OpId),
     /// 60 to 68: bytes that are no bundle.
     #[error("{0}")]
     Bundle(BundleFault),
+    /// 70: something follows a bundle.
+    #[error("something follows the bundle")]
+    Trailing,
+    /// 80: a text that does not fit its book and key.
+    #[error("the text does not fit its book and key")]
+    BadSegment,
+    /// 81: the next number, or that of an import's last edit, would be above 10^15.
+    #[error("no number is left for the edit")]
+    NumbersUsedUp,
     /// 82: the book has no operation.
     #[error("the book has no operation")]
     NoBook,
+    /// 83: the segment does not show this id, the first such one of those that were given.
+    #[error("the segment does not show {} {}", .0.number, .0.name.text())]
+    NotShown(OpId),
     /// 90: the writer failed after it had taken so many bytes.
     #[error("the writer failed after {gone} bytes")]
     WriteFailed { gone: u64 },
+    /// 110: bytes that do not begin as a project does, with its name.
+    #[error("not a project")]
+    BadProject,
     /// 120: the reader answered an error.
     #[error("the reader failed")]
     ReadFailed,
     /// 121: the input has more than 268,435,456 bytes.
     #[error("the input is too long")]
     TooLong,
+    /// 130: a project's file was not made, replaced or renamed.
+    #[error("the project's file was not written")]
+    FileFailed,
 }
 
 impl From<AllocError> for Fault {
@@ -64,6 +95,113 @@ impl From<BundleFault> for Fault {
 
     fn from(fault: BundleFault) -> Self {
         Fault::Bundle(fault)
+    }
+}
+
+impl From<RefFault> for Fault {
+    ghost from_gives = { λ from fault. fault ≡ Reference from };
+
+    fn from(fault: RefFault) -> Self {
+        Fault::Reference(fault)
+    }
+}
+
+impl From<IdFault> for Fault {
+    ghost from_gives = { λ from fault. fault ≡ Naming from };
+
+    fn from(fault: IdFault) -> Self {
+        Fault::Naming(fault)
+    }
+}
+
+impl From<TokenFault> for Fault {
+    ghost from_gives = { λ from fault. fault ≡ faults.of_text from };
+
+    fn from(fault: TokenFault) -> Self {
+        let TokenFault::NotUtf8 { valid } = fault;
+        Fault::NotText { valid }
+    }
+}
+
+impl From<BookFault> for Fault {
+    ghost from_gives = { λ from fault. fault ≡ faults.of_book from };
+
+    fn from(fault: BookFault) -> Self {
+        match fault {
+            BookFault::NoId => Fault::NoId,
+            BookFault::BadBook => Fault::Reference(RefFault::BadBook),
+        }
+    }
+}
+
+impl From<WholeFault> for Fault {
+    ghost from_gives = { λ from fault. fault ≡ faults.of_whole from };
+
+    fn from(fault: WholeFault) -> Self {
+        match fault {
+            WholeFault::Bundle(fault) => Fault::Bundle(fault),
+            WholeFault::Trailing => Fault::Trailing,
+        }
+    }
+}
+
+impl From<EditFault> for Fault {
+    ghost from_gives = { λ from fault. fault ≡ faults.of_edit from };
+
+    fn from(fault: EditFault) -> Self {
+        match fault {
+            EditFault::Memory => Fault::Memory,
+            EditFault::BadSegment => Fault::BadSegment,
+            EditFault::NoBook => Fault::NoBook,
+            EditFault::NotShown(id) => Fault::NotShown(id),
+            EditFault::NumbersUsedUp => Fault::NumbersUsedUp,
+        }
+    }
+}
+
+impl From<ImportFault> for Fault {
+    ghost from_gives = { λ from fault. fault ≡ faults.of_import from };
+
+    fn from(fault: ImportFault) -> Self {
+        match fault {
+            ImportFault::Memory => Fault::Memory,
+            ImportFault::BadFile(fault) => Fault::from(fault),
+            ImportFault::NumbersUsedUp => Fault::NumbersUsedUp,
+        }
+    }
+}
+
+impl From<TextFault> for Fault {
+    ghost from_gives = { λ from fault. fault ≡ faults.of_book_text from };
+
+    fn from(fault: TextFault) -> Self {
+        match fault {
+            TextFault::Memory => Fault::Memory,
+            TextFault::NoBook => Fault::NoBook,
+        }
+    }
+}
+
+impl From<LoadFault> for Fault {
+    ghost from_gives = { λ from fault. fault ≡ faults.of_loading from };
+
+    fn from(fault: LoadFault) -> Self {
+        match fault {
+            LoadFault::Memory => Fault::Memory,
+            LoadFault::BadProject => Fault::BadProject,
+            LoadFault::Bundle(fault) => Fault::from(fault),
+        }
+    }
+}
+
+impl From<CreateFault> for Fault {
+    ghost from_gives = { λ from fault. fault ≡ faults.of_creating from };
+
+    fn from(fault: CreateFault) -> Self {
+        match fault {
+            CreateFault::Memory => Fault::Memory,
+            CreateFault::BadName => Fault::Naming(IdFault::BadName),
+        }
     }
 }
 

@@ -1,6 +1,7 @@
-//! Laws of streams of bundles and of the trees of books, over the definitions alone. Each function
+//! Laws of streams of bundles, of projects and of the trees of books, over the definitions alone. Each function
 //! does nothing: its contract is the law.
 ghost use Rattle.usfm_cli.specs.Books as books;
+ghost use Rattle.usfm_cli.specs.ExecLaws as projects;
 ghost use Rattle.usfm_cli.specs.StreamLaws as laws;
 ghost use Rattle.usfm_cli.specs.TreeLaws as trees;
 
@@ -30,4 +31,10 @@ pub fn folded_books_cut_back()
 /// The leaves of an exported book's tree, by whatever style sheet, join to the book's bytes.
 pub fn exports_are_leaves()
     ensures { trees.ExportsAreLeaves }
+{}
+
+/// Projects that hold the same operations after whatever commands write the same bytes of every book,
+/// and the same conflict report.
+pub fn same_operations_read_the_same()
+    ensures { projects.SameOperationsReadTheSame }
 {}

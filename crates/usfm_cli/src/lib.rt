@@ -5,6 +5,9 @@
 //! an error was. [`StdSource`] and [`StdSink`] make them of std's readers and writers.
 #![tactic(auto)]
 
+mod command;
+mod doing;
+mod executing;
 mod fault;
 mod fold;
 pub mod laws;
@@ -13,10 +16,14 @@ mod source;
 mod telling;
 #[cfg(test)]
 mod tests;
+mod usage;
 mod words;
 
+pub use command::Command;
+pub use executing::{Outcome, exec, exec_each};
 pub use fault::Fault;
 pub use fold::fold_stream;
+pub use project_file::create;
 pub use reading::{MOST_BYTES, ReadFault, read_to_end};
 pub use source::{ByteSource, StdSource};
 pub use telling::fault_line;

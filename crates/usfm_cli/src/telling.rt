@@ -6,23 +6,25 @@ ghost use Rattle.usfm_cli.specs.Lines as lines;
 
 use crate::Fault;
 use bundle_codec::BundleFault;
-use op_core::OpId;
+use op_core::{IdFault, OpId};
 use usfm_export::ShortLine;
 use usfm_ref::RefFault;
 
 /// The line that tells of a fault: `fault`, its number, its details, each after one space, and a line
 /// feed. The details are an operation's id as its number and its name, the place of an operation in
-/// its bundle, counted from 1, or the bytes gone out. It takes no memory.
+/// its bundle, counted from 1, the bytes gone out, or the length of the longest front that is text.
+/// It takes no memory.
 pub fn fault_line(fault: &Fault) -> ShortLine
     ensures { result ≡ lines.fault_text fault.now }
 {
     let mut line = numbered(fault_number(fault));
     match fault {
+        Fault::NotText { valid } => push_count(&mut line, *valid as u64),
         Fault::Clash(id) => push_id(&mut line, id),
+        Fault::NotShown(id) => push_id(&mut line, id),
         Fault::Bundle(fault) => push_place(&mut line, fault),
         Fault::WriteFailed { gone } => push_count(&mut line, *gone),
-        Fault::Memory | Fault::Reference(_) | Fault::NoBook | Fault::ReadFailed | Fault::TooLong =>
-            {}
+        _ => {}
     }
     line.push_text("\n");
     line
@@ -87,14 +89,24 @@ fn fault_number(fault: &Fault) -> u64
 {
     match fault {
         Fault::Memory => 1,
+        Fault::NotText { valid: _ } => 10,
         Fault::Reference(RefFault::BadBook) => 20,
         Fault::Reference(RefFault::BadRef) => 21,
+        Fault::NoId => 30,
+        Fault::Naming(IdFault::BadName) => 50,
         Fault::Clash(_) => 51,
+        Fault::Naming(IdFault::BadOpId) => 52,
         Fault::Bundle(fault) => bundle_number(fault),
+        Fault::Trailing => 70,
+        Fault::BadSegment => 80,
+        Fault::NumbersUsedUp => 81,
         Fault::NoBook => 82,
+        Fault::NotShown(_) => 83,
         Fault::WriteFailed { gone: _ } => 90,
+        Fault::BadProject => 110,
         Fault::ReadFailed => 120,
         Fault::TooLong => 121,
+        Fault::FileFailed => 130,
     }
 }
 

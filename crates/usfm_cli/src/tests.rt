@@ -1,7 +1,9 @@
 // Reading to the end and writing piece by piece, with slow, short and failing streams.
 mod books;
+mod commands;
 mod folding;
 mod line_words;
+mod player;
 pub(crate) mod streams;
 mod trees;
 

@@ -1,15 +1,62 @@
 // The words of the command line.
-ghost use Rattle.std.specs.Prelude.{◌≡◌};
-
 use crate::Fault;
+use crate::usage::program;
 use clap::error::ErrorKind;
-use clap::{Arg, ArgMatches, Command, Error};
-use std::alloc::{AllocError, Global};
-use usfm_ref::{Book, RefFault};
+use clap::{ArgMatches, Error};
+use op_core::{IdFault, OpId, ReplicaName};
+use std::alloc::{AllocError, AllocFailed, Global};
+use usfm_ref::{Book, Key, RefFault, read_ref};
 
-/// What the words ask for: a subcommand with its values.
-#[derive(Clone, Copy, Debug, PartialEq, Eq)]
+/// What the words ask for: a subcommand with its values. Files are named as they were given.
+#[derive(Debug, Drop)]
 pub enum Line {
+    /// `init PROJECT NAME`: begin a project under a replica's name.
+    Init {
+        project: String,
+        name: ReplicaName,
+    },
+    /// `import PROJECT FILE`: take in a book's file.
+    Import {
+        project: String,
+        file: String,
+    },
+    /// `edit PROJECT REF`: give a segment the text of standard input.
+    Edit {
+        project: String,
+        book: Book,
+        key: Key,
+    },
+    /// `edit-over PROJECT REF [ID..]`: the same, in the place of these operations alone.
+    EditOver {
+        project: String,
+        book: Book,
+        key: Key,
+        ids: Vec<OpId>,
+    },
+    /// `shown PROJECT REF`: tell what a segment shows.
+    Shown {
+        project: String,
+        book: Book,
+        key: Key,
+    },
+    /// `receive PROJECT BUNDLE`: take in a bundle.
+    Receive {
+        project: String,
+        bundle: String,
+    },
+    /// `send PROJECT`: write the bundle of all operations.
+    Send {
+        project: String,
+    },
+    /// `export PROJECT BOOK`: write the text of a book.
+    Export {
+        project: String,
+        book: Book,
+    },
+    /// `report PROJECT`: tell the conflicts, and what is awaited.
+    Report {
+        project: String,
+    },
     /// `fold BOOK`: fold the bundles of standard input into the book.
     Fold(Book),
 }
@@ -31,9 +78,21 @@ impl From<AllocError> for LineFault {
     }
 }
 
+impl<T: Drop> From<AllocFailed<T>> for LineFault {
+    fn from(_: AllocFailed<T>) -> Self {
+        LineFault::Refused(Fault::Memory)
+    }
+}
+
 impl From<RefFault> for LineFault {
     fn from(fault: RefFault) -> Self {
-        LineFault::Refused(Fault::Reference(fault))
+        LineFault::Refused(Fault::from(fault))
+    }
+}
+
+impl From<IdFault> for LineFault {
+    fn from(fault: IdFault) -> Self {
+        LineFault::Refused(Fault::from(fault))
     }
 }
 
@@ -45,63 +104,82 @@ impl From<RefFault> for LineFault {
 /// # Errors
 /// - `Help` where `--help`, `-h` or `help` asks for it.
 /// - `Usage` where the words have the shape of no subcommand.
-/// - `Refused` with `BadBook` (20) where a book is no code, with `Memory` (1) where a growth was
+/// - `Refused` with `Reference` (20, 21) where a book is no code or a reference is none, with `Naming`
+///   (50, 52) where a name is no replica's or an id is none, with `Memory` (1) where a growth was
 ///   refused.
 pub fn read_words(alloc: Global, words: &[String]) -> Result<Line, LineFault> {
     match program(alloc)?.try_get_matches_from(words) {
-        Ok(matches) => line_of(&matches),
+        Ok(matches) => match matches.subcommand() {
+            Some((name, given)) => line_of(alloc, name, given),
+            None => Ok(Line::Fold(Book::read("")?)),
+        },
         Err(error) => Err(told(alloc, &error)?),
     }
 }
 
-// The program's subcommands and their words.
-fn program<'a>(alloc: Global) -> Result<Command<'a>, AllocError> {
-    Command::new(alloc, "usfm_team")
-        .bin_name("usfm_team")?
-        .no_binary_name(true)
-        .about("Keeps the Scripture project of a team that works offline.")
-        .after_help(
-            "Example: usfm_team fold MAT < first.bundle\n\n\
-             What is refused is told on standard error in one line, `fault NUMBER ..`, with status 1; the \
-             help of a subcommand lists its faults. A line that is no use of the program is told with status 2.",
-        )
-        .subcommand_required(true)
-        .subcommand(fold_words(alloc)?)
+// The line of a subcommand, by its values.
+fn line_of(alloc: Global, name: &str, given: &ArgMatches<'_>) -> Result<Line, LineFault> {
+    match name {
+        "init" => Ok(Line::Init {
+            project: text(alloc, given, "PROJECT")?,
+            name: ReplicaName::read(word(given, "NAME"))?,
+        }),
+        "import" => Ok(Line::Import {
+            project: text(alloc, given, "PROJECT")?,
+            file: text(alloc, given, "FILE")?,
+        }),
+        "receive" => Ok(Line::Receive {
+            project: text(alloc, given, "PROJECT")?,
+            bundle: text(alloc, given, "BUNDLE")?,
+        }),
+        "send" => Ok(Line::Send {
+            project: text(alloc, given, "PROJECT")?,
+        }),
+        "export" => Ok(Line::Export {
+            project: text(alloc, given, "PROJECT")?,
+            book: Book::read(word(given, "BOOK"))?,
+        }),
+        "report" => Ok(Line::Report {
+            project: text(alloc, given, "PROJECT")?,
+        }),
+        "fold" => Ok(Line::Fold(Book::read(word(given, "BOOK"))?)),
+        _ => segment_line(alloc, name, given),
+    }
 }
 
-const FOLD_FAULTS: &str = "\
-Bundles stand one after another; their order and how often each stands make no difference.
-
-Example: usfm_team fold MAT < first.bundle
-
-Faults:
-  fault 1                out of memory
-  fault 20               BOOK is no book's code
-  fault 51 NUMBER NAME   two operations that differ have this id
-  fault 60               a bundle does not begin as a bundle does
-  fault 61               a bundle is cut
-  fault 62 to 68 PLACE   the operation at this place of its bundle is not well formed
-  fault 82               no operation is of the book
-  fault 90 BYTES         writing failed after so many bytes
-  fault 120              reading failed
-  fault 121              the input has more than 268,435,456 bytes";
-
-fn fold_words<'a>(alloc: Global) -> Result<Command<'a>, AllocError> {
-    let book = Arg::new(alloc, "BOOK")
-        .required(true)
-        .help("The book's code: three of A to Z and 0 to 9, as MAT");
-    Command::new(alloc, "fold")
-        .about("Joins the bundles on standard input and writes a book's text")
-        .after_help(FOLD_FAULTS)
-        .arg(book)
+// The line of a subcommand on a segment.
+fn segment_line(alloc: Global, name: &str, given: &ArgMatches<'_>) -> Result<Line, LineFault> {
+    let project = text(alloc, given, "PROJECT")?;
+    let (book, key) = read_ref(word(given, "REF"))?;
+    match name {
+        "edit" => Ok(Line::Edit { project, book, key }),
+        "edit-over" => Ok(Line::EditOver {
+            project,
+            book,
+            key,
+            ids: read_ids(alloc, given.get_strs("ID").unwrap_or(&[]))?,
+        }),
+        _ => Ok(Line::Shown { project, book, key }),
+    }
 }
 
-fn line_of(matches: &ArgMatches<'_>) -> Result<Line, LineFault> {
-    let book = match matches.subcommand_matches("fold") {
-        Some(given) => given.get_str("BOOK").unwrap_or(""),
-        None => "",
-    };
-    Ok(Line::Fold(Book::read(book)?))
+// The ids that some words spell.
+fn read_ids(alloc: Global, words: &[&str]) -> Result<Vec<OpId>, LineFault> {
+    let mut ids = Vec::new(alloc);
+    for word in words {
+        ids.push(OpId::read(*word)?)?;
+    }
+    Ok(ids)
+}
+
+// The word of an argument. Each that is required was given.
+fn word<'a>(given: &ArgMatches<'a>, argument: &str) -> &'a str {
+    given.get_str(argument).unwrap_or("")
+}
+
+// A copy of it.
+fn text(alloc: Global, given: &ArgMatches<'_>, argument: &str) -> Result<String, AllocError> {
+    String::from_str(alloc, word(given, argument))
 }
 
 fn told(alloc: Global, error: &Error) -> Result<LineFault, AllocError> {

@@ -1,12 +1,17 @@
 //! `usfm_team`: keeps the Scripture project of a team that works offline.
 #![tactic(auto)]
 
+mod files;
+
+use crate::files::{begin_file, read_file, replace_file};
 use std::io;
 use std::io::{ErrorKind, Write};
 use std::process::ExitCode;
 use usfm_cli::{
-    Fault, Line, LineFault, StdSink, StdSource, fault_line, fold_stream, read_words, write_all,
+    Command, Fault, Line, LineFault, StdSink, StdSource, create, exec, fault_line, fold_stream,
+    read_to_end, read_words, write_all,
 };
+use usfm_ref::Book;
 
 const REFUSED: u8 = 1;
 
@@ -14,7 +19,10 @@ const USAGE: u8 = 2;
 
 fn main(rt: HostRuntime) -> ExitCode {
     match read_line(&rt) {
-        Ok(line) => run(&rt, line),
+        Ok(line) => match run(&rt, line) {
+            Ok(()) => ExitCode::SUCCESS,
+            Err(fault) => refuse(&rt, &fault),
+        },
         Err(LineFault::Help(text)) => tell_help(&rt, text.as_bytes()),
         Err(LineFault::Usage(text)) => tell_usage(&rt, &text),
         Err(LineFault::Refused(fault)) => refuse(&rt, &fault),
@@ -39,23 +47,89 @@ fn read_line(rt: &HostRuntime) -> Result<Line, LineFault> {
     }
 }
 
-// Does what a line asks for. Standard output has no buffer here, so nothing is left to flush.
-fn run(rt: &HostRuntime, line: Line) -> ExitCode {
-    let Line::Fold(book) = line;
+// Does what a line asks for. Files are read in the order of the words, and standard input last.
+fn run(rt: &HostRuntime, line: Line) -> Result<(), Fault> {
+    match line {
+        Line::Init { project, name } => begin_file(rt, &project, &create(rt.alloc(), name.text())?),
+        Line::Import { project, file } => {
+            let bytes = read_file(rt, &project)?;
+            let file = read_file(rt, &file)?;
+            act(rt, &project, &bytes, &Command::Import(&file))
+        }
+        Line::Edit { project, book, key } => {
+            let bytes = read_file(rt, &project)?;
+            let text = &read_input(rt)?;
+            act(rt, &project, &bytes, &Command::Edit { book, key, text })
+        }
+        Line::EditOver {
+            project,
+            book,
+            key,
+            ids,
+        } => {
+            let bytes = read_file(rt, &project)?;
+            let text = &read_input(rt)?;
+            let ids = &ids;
+            let command = Command::EditOver {
+                book,
+                key,
+                text,
+                ids,
+            };
+            act(rt, &project, &bytes, &command)
+        }
+        Line::Receive { project, bundle } => {
+            let bytes = read_file(rt, &project)?;
+            let bundle = read_file(rt, &bundle)?;
+            act(rt, &project, &bytes, &Command::Receive(&bundle))
+        }
+        Line::Shown { project, book, key } => ask(rt, &project, &Command::Shown(book, key)),
+        Line::Send { project } => ask(rt, &project, &Command::Send),
+        Line::Export { project, book } => ask(rt, &project, &Command::Export(book)),
+        Line::Report { project } => ask(rt, &project, &Command::Report),
+        Line::Fold(book) => fold(rt, book),
+    }
+}
+
+// Does a command on a project's file that it reads first.
+fn ask(rt: &HostRuntime, project: &str, command: &Command<'_>) -> Result<(), Fault> {
+    act(rt, project, &read_file(rt, project)?, command)
+}
+
+// Does a command on a project's file, which has these bytes: first the file is replaced where the command
+// changes it, and then the command's output is written.
+fn act(rt: &HostRuntime, project: &str, bytes: &[u8], command: &Command<'_>) -> Result<(), Fault> {
+    let outcome = exec(rt.alloc(), bytes, command)?;
+    if outcome.project() != bytes {
+        replace_file(rt, project, outcome.project())?;
+    }
+    write_output(rt, outcome.output())
+}
+
+// Folds the bundles of standard input into a book.
+fn fold(rt: &HostRuntime, book: Book) -> Result<(), Fault> {
     let mut source = StdSource::new(rt.reader());
     let mut sink = StdSink::new(io::writer(rt));
-    match fold_stream(rt.alloc(), &mut source, &mut sink, book) {
-        Ok(()) => ExitCode::SUCCESS,
-        Err(fault) => refuse(rt, &fault),
-    }
+    fold_stream(rt.alloc(), &mut source, &mut sink, book)
+}
+
+// The bytes of standard input.
+fn read_input(rt: &HostRuntime) -> Result<Vec<u8>, Fault> {
+    let mut source = StdSource::new(rt.reader());
+    Ok(read_to_end(rt.alloc(), &mut source)?)
+}
+
+// Writes to standard output. It has no buffer here, so nothing is left to flush.
+fn write_output(rt: &HostRuntime, bytes: &[u8]) -> Result<(), Fault> {
+    let mut sink = StdSink::new(io::writer(rt));
+    Ok(write_all(&mut sink, bytes)?)
 }
 
 // Writes the help that was asked for to standard output.
 fn tell_help(rt: &HostRuntime, text: &[u8]) -> ExitCode {
-    let mut sink = StdSink::new(io::writer(rt));
-    match write_all(&mut sink, text) {
+    match write_output(rt, text) {
         Ok(()) => ExitCode::SUCCESS,
-        Err(fault) => refuse(rt, &Fault::from(fault)),
+        Err(fault) => refuse(rt, &fault),
     }
 }
 

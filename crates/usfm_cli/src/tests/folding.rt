@@ -11,16 +11,16 @@ use usfm_ref::Book;
 pub(crate) const B1: &[u8] =
     b"USFMSR1\n\0\0\0\0\0\0\0\x02\0\0\0\0\0\0\0\x01\x03anaMAT\0\0\0\0\0\0\0\0\0\0\0\0\0\0\x01\0\0\0\0\0\0\0\x08\\id MAT\n\0\0\0\0\0\0\0\x02\x03anaMAT\0\x01\x01\0\x01\0\0\0\0\0\0\0\0\0\x01\0\0\0\0\0\0\0\x08\\v 1 In\n";
 // 3 ben on MAT 1:1, naming 2 ana, `\v 1 At␊`.
-const Y: &[u8] =
+pub(crate) const Y: &[u8] =
     b"USFMSR1\n\0\0\0\0\0\0\0\x01\0\0\0\0\0\0\0\x03\x03benMAT\0\x01\x01\0\x01\0\0\0\0\0\0\0\0\x01\0\0\0\0\0\0\0\x02\x03ana\x01\0\0\0\0\0\0\0\x08\\v 1 At\n";
 // 3 ana on MAT 1:1, naming 2 ana, `\v 1 To␊`.
-const Z: &[u8] =
+pub(crate) const Z: &[u8] =
     b"USFMSR1\n\0\0\0\0\0\0\0\x01\0\0\0\0\0\0\0\x03\x03anaMAT\0\x01\x01\0\x01\0\0\0\0\0\0\0\0\x01\0\0\0\0\0\0\0\x02\x03ana\x01\0\0\0\0\0\0\0\x08\\v 1 To\n";
 // 1 cy on MAT 1, `\c 1␊`; 1 dan on MAT 1:2, `\v 2 b␊`; 2 ana on MAT 1:1, `\v 1 Xx␊`.
 pub(crate) const CLASHING: &[u8] =
     b"USFMSR1\n\0\0\0\0\0\0\0\x03\0\0\0\0\0\0\0\x01\x02cyMAT\0\x01\0\0\0\0\0\0\0\0\0\0\0\0\x01\0\0\0\0\0\0\0\x05\\c 1\n\0\0\0\0\0\0\0\x01\x03danMAT\0\x01\x01\0\x02\0\0\0\0\0\0\0\0\0\x01\0\0\0\0\0\0\0\x07\\v 2 b\n\0\0\0\0\0\0\0\x02\x03anaMAT\0\x01\x01\0\x01\0\0\0\0\0\0\0\0\0\x01\0\0\0\0\0\0\0\x08\\v 1 Xx\n";
 // 1 ana on MAT 0, naming itself.
-const NAMES_ITSELF: &[u8] =
+pub(crate) const NAMES_ITSELF: &[u8] =
     b"USFMSR1\n\0\0\0\0\0\0\0\x01\0\0\0\0\0\0\0\x01\x03anaMAT\0\0\0\0\0\0\0\0\0\0\0\0\0\x01\0\0\0\0\0\0\0\x01\x03ana\x01\0\0\0\0\0\0\0\x08\\id MAT\n";
 
 // B1 with the text `\v 2 In␊` at MAT 1:1.
@@ -49,7 +49,7 @@ pub(crate) fn folded(alloc: Global, input: &[u8], code: &str) -> Result<Vec<u8>,
 
 pub(crate) const FIRST: &[u8] = b"\\id MAT\n\\c 1\n\\v 1 In\n";
 
-const AFTER: &[u8] = b"\\id MAT\n\\c 1\n\\v 1 At\n";
+pub(crate) const AFTER: &[u8] = b"\\id MAT\n\\c 1\n\\v 1 At\n";
 
 #[test]
 fn bundles_are_folded(rt: HostRuntime) -> Result<(), Fail> {

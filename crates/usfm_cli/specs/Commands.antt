@@ -1,0 +1,102 @@
+-- What a command does to a replica, and what it answers (this project's own rule, over the steps of a replica).
+use Rattle.std.specs.Prelude.{◌≡◌, ℕ, List, [], ◌∷◌, ◌++◌, length, codes, Result, Ok, Err, Vec, if◌then◌else◌}
+use Rattle.std.specs.Fmt.{decimal}
+use Rattle.std.specs.List.{flat_map}
+use Rattle.std.specs.Str.{is_utf8}
+use Rattle.std.specs.Str.Lossy.{utf8_valid_len}
+use Rattle.usfm_ref.specs.Segments.{Segment, segment}
+use Rattle.op_core.specs.Ids.{Id}
+use Rattle.op_core.specs.Ops.{Operation}
+use Rattle.op_core.specs.Shown.{shown}
+use Rattle.op_core.specs.Export.{has_book, export}
+use Rattle.bundle_codec.specs.declared.fault.WholeFault.{WholeFault}
+use Rattle.bundle_codec.specs.Spelling.{bundle}
+use Rattle.bundle_codec.specs.Joining.{whole_at}
+use Rattle.replica_state.specs.States.{State}
+use Rattle.replica_state.specs.Steps as steps
+use Rattle.replica_state.specs.Steps.{Step, Reply, Received, Edited, Imported, step}
+use Rattle.conflict_report.specs.Reports.{report}
+use Rattle.usfm_cli.specs.Faults.{of_receiving, of_edit, of_import, of_whole}
+use Rattle.usfm_cli.specs.declared.command.Command.{Command}
+use Rattle.usfm_cli.specs.declared.command.Command.TheVariants.{Import, Edit, EditOver, Receive, Shown, Send, Export, Report}
+use Rattle.usfm_cli.specs.declared.fault.Fault.{Fault}
+use Rattle.usfm_cli.specs.declared.fault.Fault.TheVariants.{Memory, NotText, NoBook}
+
+-- the replica after a command, and what the command writes
+pub record Done : Type 0 where
+  pub after : State
+  pub output : List ℕ
+
+-- a word, a space and what follows, as a line
+abbrev pub line_of : List ℕ → List ℕ → List ℕ
+line_of word rest = word ++ 32 ∷ rest ++ 10 ∷ []
+
+-- an id: its number, a space and its name
+abbrev pub id_text : Id → List ℕ
+id_text id = decimal id.number ++ 32 ∷ id.name
+
+-- a shown operation: a line with its id and the length of its text, the text, and a line feed
+abbrev pub shown_line : Operation → List ℕ
+shown_line o = line_of (codes "op") (id_text o.id ++ 32 ∷ decimal (length o.text)) ++ o.text ++ 10 ∷ []
+
+-- what is told of a step: how many operations are new, the id that an edit made, how many edits an import made
+abbrev pub told : Reply → Result (List ℕ) Fault
+told (Received (Ok count)) = Ok (line_of (codes "new") (decimal count))
+told (Received (Err fault)) = Err (of_receiving fault)
+told (Edited (Ok id)) = Ok (line_of (codes "made") (id_text id))
+told (Edited (Err fault)) = Err (of_edit fault)
+told (Imported (Ok count)) = Ok (line_of (codes "added") (decimal count))
+told (Imported (Err fault)) = Err (of_import fault)
+
+abbrev pub done_if : State → Result (List ℕ) Fault → Result Done Fault
+done_if after (Ok output) = Ok (record { after = after; output = output })
+done_if after (Err fault) = Err fault
+
+-- what a step does, or why it is refused
+abbrev pub done : Step → Result Done Fault
+done taken = done_if taken.after (told taken.reply)
+
+-- bytes that are to be a text are refused where they are none
+abbrev pub with_text : List ℕ → Result Done Fault → Result Done Fault
+with_text bytes next = if is_utf8 bytes then next else Err (NotText (utf8_valid_len bytes))
+
+-- what is done with the set of a bundle, or the bundle's fault
+abbrev pub with_bundle : State → Result (List Operation) WholeFault → Result Done Fault
+with_bundle s (Ok ops) = done (step s (steps.Receive ops))
+with_bundle s (Err fault) = Err (of_whole fault)
+
+-- the step of an import, of an edit, of an edit over given ids, with texts as they came
+abbrev pub import_done : State → List ℕ → Result Done Fault
+import_done s file = with_text file (done (step s (steps.Import file)))
+
+abbrev pub edit_done : State → Segment → List ℕ → Result Done Fault
+edit_done s g text = with_text text (done (step s (steps.Edit g text)))
+
+abbrev pub edit_over_done : State → Segment → List ℕ → List Id → Result Done Fault
+edit_over_done s g text ids = with_text text (done (step s (steps.EditOver g text ids)))
+
+-- what a segment shows, operation by operation
+abbrev pub shown_text : List Operation → Segment → List ℕ
+shown_text held g = flat_map shown_line (shown held g)
+
+-- the text of a book, if it has an operation
+abbrev pub export_text : List Operation → List ℕ → Result (List ℕ) Fault
+export_text held book = if has_book held book then Ok (export held book) else Err NoBook
+
+-- What a command does to a replica, or why it is refused. From `Shown` on they leave it as it is.
+abbrev pub outcome : State → Command → Result Done Fault
+outcome s (Import file) = import_done s file.now
+outcome s (Edit book key text) = edit_done s (segment book key) text.now
+outcome s (EditOver book key text ids) = edit_over_done s (segment book key) text.now ids.now
+outcome s (Receive bytes) = with_bundle s (whole_at bytes.now)
+outcome s (Shown book key) = done_if s (Ok (shown_text s.held (segment book key)))
+outcome s Send = done_if s (Ok (bundle s.held))
+outcome s (Export book) = done_if s (export_text s.held book)
+outcome s Report = done_if s (Ok (report s.held))
+
+-- What is answered of what is wanted, where the replica is then so: what is written, or the refusal; or that memory was
+-- wanted.
+abbrev pub Answers : {A : Type 0} → Result Done Fault → State → Result (Vec ℕ A) Fault → Type 0
+Answers wanted after (Ok output) = wanted ≡ Ok (record { after = after; output = output.items })
+Answers wanted after (Err Memory) = Unit {0}
+Answers wanted after (Err fault) = wanted ≡ Err fault

@@ -1,0 +1,33 @@
+-- Laws of projects under commands.
+use Rattle.std.specs.Prelude.{◌≡◌, ℕ, List, Result, Ok, Err}
+use Rattle.std.specs.List.{Contains}
+use Rattle.op_core.specs.Ops.{Operation}
+use Rattle.replica_state.specs.States.{State, IsState}
+use Rattle.project_file.specs.Projects.{project_at}
+use Rattle.usfm_cli.specs.Executing.{Written, executed, file_after}
+use Rattle.usfm_cli.specs.declared.command.Command.{Command}
+use Rattle.usfm_cli.specs.declared.command.Command.TheVariants.{Export, Report}
+use Rattle.usfm_cli.specs.declared.fault.Fault.{Fault}
+
+-- what is written
+abbrev pub output_of : Result Written Fault → Result (List ℕ) Fault
+output_of (Ok w) = Ok w.output
+output_of (Err fault) = Err fault
+
+-- both hold the same operations
+pub record HoldTheSame (s t : State) : Type 0 where
+  pub there : (o : Operation) → Contains s.held o → Contains t.held o
+  pub back : (o : Operation) → Contains t.held o → Contains s.held o
+
+-- the same is written for both files: each book, or that it has no operation, and the conflict report
+pub record ReadTheSame (file other : List ℕ) : Type 0 where
+  pub books : (book : List ℕ) → output_of (executed file (Export book)) ≡ output_of (executed other (Export book))
+  pub report : output_of (executed file Report) ≡ output_of (executed other Report)
+
+-- Two projects, each after a list of commands, read the same where they then hold the same operations, in whatever order,
+-- grouping and repetition these were accepted, and whatever was refused.
+abbrev pub SameOperationsReadTheSame : Type 0
+SameOperationsReadTheSame =
+    (file other : List ℕ) (commands others : List Command) (s t : State) →
+    project_at (file_after file commands) ≡ Ok s → project_at (file_after other others) ≡ Ok t →
+    IsState s → IsState t → HoldTheSame s t → ReadTheSame (file_after file commands) (file_after other others)

@@ -1,0 +1,50 @@
+-- What commands make of a project's file (this project's own rule): the file is read, the command is done, and the file of the
+-- replica after it is written.
+use Rattle.std.specs.Prelude.{ℕ, List, [], ◌∷◌, Result, Ok, Err}
+use Rattle.replica_state.specs.States.{State}
+use Rattle.project_file.specs.declared.fault.LoadFault.{LoadFault}
+use Rattle.project_file.specs.Projects.{project, project_at}
+use Rattle.usfm_cli.specs.Faults.{of_loading}
+use Rattle.usfm_cli.specs.Commands.{Done, outcome}
+use Rattle.usfm_cli.specs.declared.command.Command.{Command}
+use Rattle.usfm_cli.specs.declared.fault.Fault.{Fault}
+
+-- the project's file after a command, and what the command writes
+pub record Written : Type 0 where
+  pub project : List ℕ
+  pub output : List ℕ
+
+abbrev pub written : Result Done Fault → Result Written Fault
+written (Ok d) = Ok (record { project = project d.after; output = d.output })
+written (Err fault) = Err fault
+
+-- what a command makes of a replica that was read, or why none was read
+abbrev pub of_loaded : Result State LoadFault → Command → Result Written Fault
+of_loaded (Ok s) command = written (outcome s command)
+of_loaded (Err fault) command = Err (of_loading fault)
+
+-- what a command makes of a project's file, or why it is refused
+abbrev pub executed : List ℕ → Command → Result Written Fault
+executed bytes command = of_loaded (project_at bytes) command
+
+-- ---- commands one after another
+
+-- a refused command leaves the file as it is
+abbrev pub file_or : List ℕ → Result Written Fault → List ℕ
+file_or bytes (Ok w) = w.project
+file_or bytes (Err fault) = bytes
+
+-- a project's file after commands, in their order
+abbrev pub file_after : List ℕ → List Command → List ℕ
+file_after bytes [] = bytes
+file_after bytes (command ∷ later) = file_after (file_or bytes (executed bytes command)) later
+
+-- a refused command leaves the replica as it is
+abbrev pub state_or : State → Result Done Fault → State
+state_or s (Ok d) = d.after
+state_or s (Err fault) = s
+
+-- a replica after commands, in their order
+abbrev pub state_after : State → List Command → State
+state_after s [] = s
+state_after s (command ∷ later) = state_after (state_or s (outcome s command)) later

@@ -1,0 +1,34 @@
+// What a project may be told to do.
+use op_core::OpId;
+use usfm_ref::{Book, Key};
+
+/// A command of a project. Files, bundles and texts are bytes as they came.
+#[derive(Clone, Copy, Debug)]
+pub enum Command<'a> {
+    /// Takes in the file of a book, by the edits that make it the book's export: `added N`.
+    Import(&'a [u8]),
+    /// Gives a segment a text, in the place of all that it shows: `made NUMBER NAME`.
+    Edit {
+        book: Book,
+        key: Key,
+        text: &'a [u8],
+    },
+    /// Gives a segment a text, in the place of some operations that it shows: `made NUMBER NAME`.
+    EditOver {
+        book: Book,
+        key: Key,
+        text: &'a [u8],
+        ids: &'a [OpId],
+    },
+    /// Takes in a bundle: `new N`.
+    Receive(&'a [u8]),
+    /// Tells what a segment shows: for each operation `op NUMBER NAME LENGTH`, its text and a line
+    /// feed.
+    Shown(Book, Key),
+    /// Gives the bundle of all operations.
+    Send,
+    /// Gives the text of a book.
+    Export(Book),
+    /// Tells the conflicts, and the operations that are awaited.
+    Report,
+}

@@ -1,0 +1,145 @@
+// What commands do to a replica, and what they write.
+ghost use Rattle.std.specs.Prelude.{◌≡◌, true, false, ◌++◌, IfOk, IfErr, OnOk, codes};
+ghost use Rattle.std.specs.Fmt.{decimal};
+ghost use Rattle.std.specs.List.{flat_map};
+ghost use Rattle.std.specs.Str.{is_utf8};
+ghost use Rattle.std.specs.Str.Lossy.{utf8_valid_len};
+ghost use Rattle.usfm_ref.specs.Segments.{segment};
+ghost use Rattle.bundle_codec.specs.Joining.{whole_at};
+ghost use Rattle.usfm_cli.specs.Commands as commands;
+
+use crate::command::Command;
+use crate::fault::Fault;
+use bundle_codec::decode_whole;
+use conflict_report::report_text;
+use op_core::{Op, OpId};
+use replica_state::Replica;
+use std::alloc::{AllocError, Global};
+use usfm_export::book_text;
+use usfm_ref::{Book, Key};
+use usfm_token::read_text;
+
+// Does what a command says, and answers what it writes.
+pub(crate) fn obey(
+    alloc: Global,
+    replica: &mut Replica,
+    command: &Command<'_>,
+) -> Result<Vec<u8>, Fault>
+    ensures { commands.Answers (commands.outcome replica.old command.now) replica.new result }
+{
+    match *command {
+        Command::Import(file) => import(alloc, replica, file),
+        Command::Edit { book, key, text } => edit(alloc, replica, book, key, text),
+        Command::EditOver {
+            book,
+            key,
+            text,
+            ids,
+        } => edit_over(alloc, replica, book, key, text, ids),
+        Command::Receive(bytes) => receive(alloc, replica, bytes),
+        Command::Shown(book, key) => Ok(shown_lines(alloc, replica, book, key)?),
+        Command::Send => Ok(replica.bundle(alloc)?),
+        Command::Export(book) => Ok(book_text(alloc, replica, book)?),
+        Command::Report => Ok(report_text(alloc, replica)?),
+    }
+}
+
+// Takes in the file of a book.
+fn import(alloc: Global, replica: &mut Replica, file: &[u8]) -> Result<Vec<u8>, Fault>
+    ensures { commands.Answers (commands.import_done replica.old file.now) replica.new result }
+{
+    let added = replica.import(text_in(file)?)?;
+    Ok(count_line(alloc, "added", added)?)
+}
+
+// Gives a segment a text, in the place of all that it shows.
+fn edit(
+    alloc: Global,
+    replica: &mut Replica,
+    book: Book,
+    key: Key,
+    text: &[u8],
+) -> Result<Vec<u8>, Fault>
+    ensures { commands.Answers (commands.edit_done replica.old (segment book key) text.now) replica.new result }
+{
+    let made = replica.edit(book, key, text_in(text)?)?;
+    Ok(made_line(alloc, &made)?)
+}
+
+// Gives a segment a text, in the place of some operations that it shows.
+fn edit_over(
+    alloc: Global,
+    replica: &mut Replica,
+    book: Book,
+    key: Key,
+    text: &[u8],
+    ids: &[OpId],
+) -> Result<Vec<u8>, Fault>
+    ensures { commands.Answers (commands.edit_over_done replica.old (segment book key) text.now ids.now) replica.new result }
+{
+    let made = replica.edit_over(book, key, text_in(text)?, ids)?;
+    Ok(made_line(alloc, &made)?)
+}
+
+// Takes in a bundle.
+fn receive(alloc: Global, replica: &mut Replica, bytes: &[u8]) -> Result<Vec<u8>, Fault>
+    ensures { commands.Answers (commands.with_bundle replica.old (whole_at bytes.now)) replica.new result }
+{
+    let bundle = decode_whole(alloc, bytes)?;
+    let new = replica.receive(&bundle)?;
+    Ok(count_line(alloc, "new", new)?)
+}
+
+// What a segment shows, operation by operation.
+fn shown_lines(
+    alloc: Global,
+    replica: &Replica,
+    book: Book,
+    key: Key,
+) -> Result<Vec<u8>, AllocError>
+    ensures { IfOk result (λ bytes. bytes.items ≡ commands.shown_text replica.now.held (segment book key)) }
+{
+    let mut bytes = Vec::new(alloc);
+    let shown = replica.shown(alloc, book, key)?;
+    for op in &shown {
+        push_op(alloc, &mut bytes, *op)?;
+    }
+    Ok(bytes)
+}
+
+// Appends a shown operation: a line with its id and the length of its text, the text, and a line feed.
+fn push_op(alloc: Global, bytes: &mut Vec<u8>, op: &Op) -> Result<(), AllocError>
+    ensures { OnOk result (bytes.new.items ≡ bytes.old.items ++ commands.shown_line op.now) }
+{
+    let id = op.id();
+    let line = format!(in alloc; "op {} {} {}\n", id.number, id.name.text(), op.text().len())?;
+    bytes.extend_from_slice(line.as_bytes())?;
+    bytes.extend_from_slice(op.text().as_bytes())?;
+    bytes.push(b'\n')?;
+    Ok(())
+}
+
+// A line of a word and a count.
+fn count_line(alloc: Global, word: &str, count: u64) -> Result<Vec<u8>, AllocError>
+    ensures { IfOk result (λ line. line.items ≡ commands.line_of word.now (decimal count)) }
+{
+    let line = format!(in alloc; "{word} {count}\n")?;
+    Ok(line.into_bytes())
+}
+
+// The line of the id that an edit made.
+fn made_line(alloc: Global, id: &OpId) -> Result<Vec<u8>, AllocError>
+    ensures { IfOk result (λ line. line.items ≡ commands.line_of (codes "made") (commands.id_text id.now)) }
+{
+    let line = format!(in alloc; "made {} {}\n", id.number, id.name.text())?;
+    Ok(line.into_bytes())
+}
+
+// The bytes as text.
+fn text_in(bytes: &[u8]) -> Result<&str, Fault>
+    ensures ok { IfOk result (λ text. (is_utf8 bytes.now ≡ true) × (text.now ≡ bytes.now)) }
+    ensures refused { IfErr result (λ fault.
+        (is_utf8 bytes.now ≡ false) × (fault ≡ Fault.NotText (utf8_valid_len bytes.now))) }
+{
+    Ok(read_text(bytes)?)
+}

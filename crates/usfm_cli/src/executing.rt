@@ -1,0 +1,114 @@
+// Commands over a project's file.
+ghost use Rattle.std.specs.Prelude.{◌≡◌, ◌≢◌, Ok, Err, IfOk, IfErr};
+ghost use Rattle.replica_state.specs.States.{State};
+ghost use Rattle.project_file.specs.Projects.{project_at};
+ghost use Rattle.usfm_cli.specs.Commands.{outcome};
+ghost use Rattle.usfm_cli.specs.Executing.{executed, file_or, file_after, state_or, state_after};
+
+use crate::command::Command;
+use crate::doing::obey;
+use crate::fault::Fault;
+use project_file::{load, save};
+use std::alloc::{AllocError, Global};
+use std::marker::Model;
+
+/// What a command made: the project's file after it, and what it writes.
+#[derive(Debug, Drop)]
+pub struct Outcome {
+    project: Vec<u8>,
+    output: Vec<u8>,
+}
+
+impl Model for Outcome {
+    ghost use Rattle.usfm_cli.specs.Executing.{Written};
+
+    ghost Value = { Written };
+
+    ghost view = { λ o. record { project = o.project.items; output = o.output.items } };
+}
+
+impl Outcome {
+    /// The project's file after the command.
+    pub fn project(&self) -> &[u8]
+        ensures { result.now ≡ self.now.project }
+    {
+        &self.project
+    }
+
+    /// What the command writes.
+    pub fn output(&self) -> &[u8]
+        ensures { result.now ≡ self.now.output }
+    {
+        &self.output
+    }
+}
+
+/// Does a command on a project, given as the bytes of its file: reads the project, does the command's
+/// step, and answers the file of the project after it and what the command writes. A command that
+/// only tells gives the project's bytes back as they are.
+///
+/// # Errors
+/// First those of the project: `BadProject` (110) where the bytes do not begin as a project does, and
+/// then those of its bundle, `Bundle` (60 to 68) and `Trailing` (70). Then those of the command, in
+/// this order:
+/// - `Import`: `NotText` (10), `NoId` (30), `Reference` (20), `NumbersUsedUp` (81).
+/// - `Edit`: `NotText` (10), `BadSegment` (80), `NoBook` (82), `NumbersUsedUp` (81).
+/// - `EditOver`: the same, with `NotShown` (83) before `NumbersUsedUp`.
+/// - `Receive`: `Bundle` (60 to 68), `Trailing` (70), `Clash` (51).
+/// - `Export`: `NoBook` (82).
+///
+/// The others refuse nothing.
+///
+/// `Memory` (1) where a growth was refused. The project is the bytes that were given, so that a
+/// refused command leaves it as it is.
+pub fn exec(alloc: Global, project: &[u8], command: &Command<'_>) -> Result<Outcome, Fault>
+    ensures answer { result ≢ Err Fault.Memory → executed project.now command.now ≡ result }
+    // The file after it is that of the replica after the command's step.
+    ensures after { IfOk result (λ made. (s : State) → project_at project.now ≡ Ok s
+        → project_at made.project ≡ Ok (state_or s (outcome s command.now))) }
+{
+    let mut replica = load(alloc, project)?;
+    let output = obey(alloc, &mut replica, command)?;
+    let project = save(alloc, &replica)?;
+    Ok(Outcome { project, output })
+}
+
+/// Does commands one after another on a project, as so many calls of `exec` do, and answers the
+/// project's file after them. A command that is refused leaves the project as it is.
+///
+/// So the file is that of the replica that the steps of the commands make, one after another.
+///
+/// # Errors
+/// `Memory` (1) alone, where a growth was refused.
+pub fn exec_each(
+    alloc: Global,
+    project: &[u8],
+    commands: &[Command<'_>],
+) -> Result<Vec<u8>, AllocError>
+    ensures file { IfOk result (λ file. file.items ≡ file_after project.now commands.now) }
+    ensures run { IfOk result (λ file. (s : State) → project_at project.now ≡ Ok s
+        → project_at file.items ≡ Ok (state_after s commands.now)) }
+{
+    let mut file = project.to_vec(alloc)?;
+    for command in commands {
+        file = file_after(alloc, file, command)?;
+    }
+    Ok(file)
+}
+
+// A project's file after a command, the same where the command is refused.
+fn file_after(alloc: Global, file: Vec<u8>, command: &Command<'_>) -> Result<Vec<u8>, AllocError>
+    ensures file { IfOk result (λ next. next.items ≡ file_or file.items (executed file.items command.now)) }
+    ensures run { IfOk result (λ next. (s : State) → project_at file.items ≡ Ok s
+        → project_at next.items ≡ Ok (state_or s (outcome s command.now))) }
+{
+    match exec(alloc, &file, command) {
+        Ok(outcome) => Ok(outcome.project),
+        Err(fault) => {
+            if fault == Fault::Memory {
+                return Err(AllocError);
+            }
+            Ok(file)
+        }
+    }
+}

@@ -1,0 +1,299 @@
+// The program's subcommands, their words and their help.
+use clap::{Arg, Command};
+use std::alloc::{AllocError, Global};
+
+// What an argument is called, and what is to be given for it.
+type Words<'a> = &'a [(&'static str, &'static str)];
+
+const PROJECT: (&str, &str) = ("PROJECT", "The project's file");
+
+const REF: (&str, &str) = (
+    "REF",
+    "A segment, as one word: \"MAT 1:1\" a verse, \"MAT 1\" the head of a chapter, \"MAT 0\" the head of the book",
+);
+
+const BOOK: (&str, &str) = (
+    "BOOK",
+    "The book's code: three of A to Z and 0 to 9, as MAT",
+);
+
+/// The program's subcommands and their words.
+pub(crate) fn program<'a>(alloc: Global) -> Result<Command<'a>, AllocError> {
+    Command::new(alloc, "usfm_team")
+        .bin_name("usfm_team")?
+        .no_binary_name(true)
+        .about("Keeps the Scripture project of a team that works offline.")
+        .after_help(MORE)
+        .subcommand_required(true)
+        .subcommand(init(alloc)?)?
+        .subcommand(import(alloc)?)?
+        .subcommand(edit(alloc)?)?
+        .subcommand(edit_over(alloc)?)?
+        .subcommand(shown(alloc)?)?
+        .subcommand(receive(alloc)?)?
+        .subcommand(send(alloc)?)?
+        .subcommand(export(alloc)?)?
+        .subcommand(report(alloc)?)?
+        .subcommand(fold(alloc)?)
+}
+
+const MORE: &str = "\
+Begin with:
+  usfm_team init ana.project ana
+  usfm_team import ana.project matthew.usfm
+
+What is refused is told on standard error in one line, `fault NUMBER ..`, with status 1; the
+help of a subcommand lists its faults. A line that is no use of the program is told with status 2.
+A project is written to PROJECT.new and renamed. One of more than 268,435,456 bytes is written, and
+cannot be read again.";
+
+// A subcommand with its words, each of them required.
+fn command<'a>(
+    alloc: Global,
+    name: &'a str,
+    about: &'a str,
+    more: &'a str,
+    words: Words<'_>,
+) -> Result<Command<'a>, AllocError> {
+    let mut made = Command::new(alloc, name).about(about).after_help(more);
+    for (word, help) in words {
+        made = made.arg(Arg::new(alloc, *word).required(true).help(*help))?;
+    }
+    Ok(made)
+}
+
+fn init<'a>(alloc: Global) -> Result<Command<'a>, AllocError> {
+    let name = (
+        "NAME",
+        "Your name in the project, which no one else has: 1 to 32 of a to z, 0 to 9 and -",
+    );
+    command(alloc, "init", "Begins a project", INIT, &[PROJECT, name])
+}
+
+const INIT: &str = "\
+Example: usfm_team init ana.project ana
+
+Faults:
+  fault 1      out of memory
+  fault 50     NAME is no replica's name
+  fault 130    something stands under the name PROJECT, or the file was not written";
+
+fn import<'a>(alloc: Global) -> Result<Command<'a>, AllocError> {
+    let file = (
+        "FILE",
+        "A book in USFM, in UTF-8, that begins with \\id and the book's code",
+    );
+    command(
+        alloc,
+        "import",
+        "Takes in a book's file, by the edits that make it the book's export",
+        IMPORT,
+        &[PROJECT, file],
+    )
+}
+
+const IMPORT: &str = "\
+Writes `added N`, N the number of edits.
+
+Example: usfm_team import ana.project matthew.usfm
+
+Faults:
+  fault 1                  out of memory
+  fault 10 BYTES           FILE is not UTF-8 after so many bytes
+  fault 20, fault 30       FILE does not begin with \\id, a blank and a book's code
+  fault 60 to 70, 110      PROJECT is no project
+  fault 81                 no number is left for the edits
+  fault 90 BYTES           writing to standard output failed; the project is changed
+  fault 120, fault 121     a file was not read, or has more than 268,435,456 bytes
+  fault 130                the project was not written";
+
+fn edit<'a>(alloc: Global) -> Result<Command<'a>, AllocError> {
+    command(
+        alloc,
+        "edit",
+        "Gives a segment the text of standard input, in the place of all that it shows",
+        EDIT,
+        &[PROJECT, REF],
+    )
+}
+
+const EDIT: &str = "\
+The text is the whole segment, with its mark: `\\v 1 In the beginning` for a verse 1. The empty text takes
+the segment out of its book. Writes `made NUMBER NAME`, the edit's id.
+
+Example: printf '\\\\v 1 At\\n' | usfm_team edit ana.project 'MAT 1:1'
+
+Faults:
+  fault 1                  out of memory
+  fault 10 BYTES           the text is not UTF-8 after so many bytes
+  fault 20, fault 21       REF is no segment
+  fault 60 to 70, 110      PROJECT is no project
+  fault 80                 the text does not fit REF: another mark, or a later verse or chapter in it
+  fault 81                 no number is left for the edit
+  fault 82                 the project has no such book; import it, or give the head `MAT 0` its text first
+  fault 90 BYTES           writing to standard output failed; the project is changed
+  fault 120, fault 121     a file was not read, or has more than 268,435,456 bytes
+  fault 130                the project was not written";
+
+fn edit_over<'a>(alloc: Global) -> Result<Command<'a>, AllocError> {
+    let ids = Arg::new(alloc, "ID").num_args(0..).help(
+        "The operations to replace, as `shown` tells them: 3:ana for `op 3 ana`",
+    );
+    command(
+        alloc,
+        "edit-over",
+        "Gives a segment the text of standard input, in the place of given operations alone",
+        EDIT_OVER,
+        &[PROJECT, REF],
+    )?
+    .arg(ids)
+}
+
+const EDIT_OVER: &str = "\
+What it does not name stays shown beside the new text; with no ID it replaces nothing.
+
+Example: printf '\\\\v 1 As\\n' | usfm_team edit-over ana.project 'MAT 1:1' 3:ana 3:ben
+
+Faults: those of `edit`, and
+  fault 52                 ID is no operation's id
+  fault 83 NUMBER NAME     the segment does not show this operation";
+
+fn shown<'a>(alloc: Global) -> Result<Command<'a>, AllocError> {
+    command(
+        alloc,
+        "shown",
+        "Tells what a segment shows: each text that no other one replaces",
+        SHOWN,
+        &[PROJECT, REF],
+    )
+}
+
+const SHOWN: &str = "\
+For each operation a line `op NUMBER NAME LENGTH`, the text of so many bytes, and a line feed. The last
+one is the text that the book has.
+
+Example: usfm_team shown ana.project 'MAT 1:1'
+
+Faults:
+  fault 1                  out of memory
+  fault 20, fault 21       REF is no segment
+  fault 60 to 70, 110      PROJECT is no project
+  fault 90 BYTES           writing failed after so many bytes
+  fault 120, fault 121     the file was not read, or has more than 268,435,456 bytes";
+
+fn receive<'a>(alloc: Global) -> Result<Command<'a>, AllocError> {
+    let bundle = ("BUNDLE", "A bundle, as `send` writes it");
+    command(
+        alloc,
+        "receive",
+        "Takes in a bundle",
+        RECEIVE,
+        &[PROJECT, bundle],
+    )
+}
+
+const RECEIVE: &str = "\
+Writes `new N`, N the number of operations that the project did not have.
+
+Example: usfm_team receive ana.project ben.bundle
+
+Faults:
+  fault 1                  out of memory
+  fault 51 NUMBER NAME     the project and the bundle have two operations that differ under this id
+  fault 60 to 70           BUNDLE is no bundle, or PROJECT is no project
+  fault 90 BYTES           writing to standard output failed; the project is changed
+  fault 110                PROJECT is no project
+  fault 120, fault 121     a file was not read, or has more than 268,435,456 bytes
+  fault 130                the project was not written";
+
+fn send<'a>(alloc: Global) -> Result<Command<'a>, AllocError> {
+    command(
+        alloc,
+        "send",
+        "Writes the bundle of all operations of the project",
+        SEND,
+        &[PROJECT],
+    )
+}
+
+const SEND: &str = "\
+Example: usfm_team send ana.project > ana.bundle
+
+Faults:
+  fault 1                  out of memory
+  fault 60 to 70, 110      PROJECT is no project
+  fault 90 BYTES           writing failed after so many bytes
+  fault 120, fault 121     the file was not read, or has more than 268,435,456 bytes";
+
+fn export<'a>(alloc: Global) -> Result<Command<'a>, AllocError> {
+    command(
+        alloc,
+        "export",
+        "Writes the text of a book",
+        EXPORT,
+        &[PROJECT, BOOK],
+    )
+}
+
+const EXPORT: &str = "\
+Where a segment shows several texts, the one of the greatest id is written.
+
+Example: usfm_team export ana.project MAT > matthew.usfm
+
+Faults:
+  fault 1                  out of memory
+  fault 20                 BOOK is no book's code
+  fault 60 to 70, 110      PROJECT is no project
+  fault 82                 the project has no operation of the book
+  fault 90 BYTES           writing failed after so many bytes
+  fault 120, fault 121     the file was not read, or has more than 268,435,456 bytes";
+
+fn report<'a>(alloc: Global) -> Result<Command<'a>, AllocError> {
+    command(
+        alloc,
+        "report",
+        "Tells the segments that show several texts, and the operations that are awaited",
+        REPORT,
+        &[PROJECT],
+    )
+}
+
+const REPORT: &str = "\
+For each such segment a line `conflict REF COUNT`; then for each of its texts, the one that the book has
+first, a line `text NUMBER NAME LENGTH`, the text of so many bytes, and a line feed. Then a line
+`awaited NUMBER NAME` for each operation that another one replaces and that has not come yet.
+
+Example: usfm_team report ana.project
+
+Faults:
+  fault 1                  out of memory
+  fault 60 to 70, 110      PROJECT is no project
+  fault 90 BYTES           writing failed after so many bytes
+  fault 120, fault 121     the file was not read, or has more than 268,435,456 bytes";
+
+fn fold<'a>(alloc: Global) -> Result<Command<'a>, AllocError> {
+    command(
+        alloc,
+        "fold",
+        "Joins the bundles on standard input and writes a book's text",
+        FOLD,
+        &[BOOK],
+    )
+}
+
+const FOLD: &str = "\
+Bundles stand one after another; their order and how often each stands make no difference.
+
+Example: usfm_team fold MAT < first.bundle
+
+Faults:
+  fault 1                out of memory
+  fault 20               BOOK is no book's code
+  fault 51 NUMBER NAME   two operations that differ have this id
+  fault 60               a bundle does not begin as a bundle does
+  fault 61               a bundle is cut
+  fault 62 to 68 PLACE   the operation at this place of its bundle is not well formed
+  fault 82               no operation is of the book
+  fault 90 BYTES         writing failed after so many bytes
+  fault 120              reading failed
+  fault 121              the input has more than 268,435,456 bytes";
