@@ -5,6 +5,14 @@ use crate::{Command, Fault, exec};
 use std::process::Abort;
 use std::test::Fail;
 
+// 3 ben on MAT 1:2, naming 2 ana, which is of MAT 1:1.
+const NAMES_ANOTHER: &[u8] =
+    b"USFMSR1\n\0\0\0\0\0\0\0\x01\0\0\0\0\0\0\0\x03\x03benMAT\0\x01\x01\0\x02\0\0\0\0\0\0\0\0\x01\0\0\0\0\0\0\0\x02\x03ana\x01\0\0\0\0\0\0\0\x07\\v 2 b\n";
+
+// 1000000000000000 zed on MAT 0.
+const LAST_NUMBER: &[u8] =
+    b"USFMSR1\n\0\0\0\0\0\0\0\x01\0\x03\x8d\x7e\xa4\xc6\x80\0\x03zedMAT\0\0\0\0\0\0\0\0\0\0\0\0\0\0\x01\0\0\0\0\0\0\0\x08\\id MAT\n";
+
 const FIRST_FILE: &str = "\\id MAT\n\\c 1\n\\v 1 In\n";
 
 #[test]
@@ -44,6 +52,8 @@ fn any_order_reads_the_same(rt: HostRuntime) -> Result<(), Fail> {
             "made 4 ana\n",
         )?;
         says(&rt, ana.export(), "\\id MAT\n\\c 1\n\\v 1 As\n")?;
+        let shown = "op 3 ben 8\n\\v 1 At\n\nop 4 ana 8\n\\v 1 As\n\n";
+        says(&rt, ana.shown("MAT 1:1"), shown)?;
     }
     Ok(())
 }
@@ -84,6 +94,28 @@ fn edits_that_fit(rt: HostRuntime) -> Result<(), Fail> {
     says(&rt, ana.edit("MAT 1:2", "\\v 2 b\n"), "made 4 ana\n")?;
     says(&rt, ana.export(), "\\id MAT\n\\c 1\n\\v 1 In\\\\v 2 b\n")?;
     says(&rt, ana.edit("MAT 1:1", "\\v 1 a \\c 1"), "made 5 ana\n")
+}
+
+#[test]
+fn names_of_another_segment(rt: HostRuntime) -> Result<(), Fail> {
+    let mut ana = Player::new(rt.alloc(), "ana")?;
+    says(&rt, ana.receive(B1), "new 2\n")?;
+    says(&rt, ana.export(), FIRST_FILE)?;
+    says(&rt, ana.receive(NAMES_ANOTHER), "new 1\n")?;
+    says(&rt, ana.export(), "\\id MAT\n\\c 1\n\\v 1 In\n\\v 2 b\n")?;
+    says(&rt, ana.report(), "")
+}
+
+#[test]
+fn no_number_is_left(rt: HostRuntime) -> Result<(), Fail> {
+    let mut ana = Player::new(rt.alloc(), "ana")?;
+    says(&rt, ana.receive(LAST_NUMBER), "new 1\n")?;
+    let before = ana.file.clone()?;
+    says(&rt, ana.edit("MAT 1", "\\c 1\n"), "fault 81\n")?;
+    says(&rt, ana.import("\\id MAT\n\\c 1\n"), "fault 81\n")?;
+    says(&rt, ana.import("\\id MAT\n"), "added 0\n")?;
+    assert!(rt; ana.file.as_slice() == before.as_slice());
+    Ok(())
 }
 
 #[test]
