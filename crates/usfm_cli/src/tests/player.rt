@@ -10,12 +10,17 @@ use usfm_ref::{Book, read_ref};
 pub(crate) struct Player {
     alloc: Global,
     pub(crate) file: Vec<u8>,
+    // None: it is here for its type, without which the prover does not read how a command lends ids.
+    ids: Vec<OpId>,
 }
 
 impl Player {
     pub(crate) fn new(alloc: Global, name: &str) -> Result<Player, Fail> {
-        let file = create(alloc, name)?;
-        Ok(Player { alloc, file })
+        Ok(Player {
+            alloc,
+            file: create(alloc, name)?,
+            ids: Vec::new(alloc),
+        })
     }
 
     // What a command writes, or the line of its fault. The file is the one after it.
