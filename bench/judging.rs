@@ -3,8 +3,11 @@
 
 #[path = "fitting.rs"]
 mod fitting;
+#[path = "reading.rs"]
+mod reading;
 
-use fitting::{Key, Place, fits};
+use fitting::fits;
+pub use reading::{Fault, Reader};
 
 #[derive(Clone, Copy, PartialEq, Eq, PartialOrd, Ord)]
 pub struct Id<'a> {
@@ -18,55 +21,17 @@ pub struct Entry<'a> {
     pub bytes: &'a [u8],
 }
 
-/// A number of the table of faults, and its details.
-pub type Fault = (u32, String);
-
-fn cut() -> Fault {
-    (61, String::new())
-}
-
 fn at(number: u32, place: u64) -> Fault {
     (number, place.to_string())
 }
 
-/// The bytes that are still to be judged.
-pub struct Reader<'a> {
-    pub rest: &'a [u8],
-}
-
 impl<'a> Reader<'a> {
-    fn take(&mut self, count: u64) -> Result<&'a [u8], Fault> {
-        let count = usize::try_from(count).map_err(|_| cut())?;
-        let (front, rest) = self.rest.split_at_checked(count).ok_or_else(cut)?;
-        self.rest = rest;
-        Ok(front)
-    }
-
-    fn u8(&mut self) -> Result<u8, Fault> {
-        Ok(self.take(1)?[0])
-    }
-
-    fn u16(&mut self) -> Result<u16, Fault> {
-        Ok(u16::from_be_bytes(self.take(2)?.try_into().unwrap()))
-    }
-
-    fn u64(&mut self) -> Result<u64, Fault> {
-        Ok(u64::from_be_bytes(self.take(8)?.try_into().unwrap()))
-    }
-
     fn id(&mut self, bad: impl Fn() -> Fault) -> Result<Id<'a>, Fault> {
         let number = self.u64()?;
         if !(1..=1_000_000_000_000_000).contains(&number) {
             return Err(bad());
         }
-        let length = self.u8()?;
-        if !(1..=32).contains(&length) {
-            return Err(bad());
-        }
-        let name = self.take(length.into())?;
-        if !name.iter().all(|b| b.is_ascii_lowercase() || b.is_ascii_digit() || *b == b'-') {
-            return Err(bad());
-        }
+        let name = self.name(bad)?;
         Ok(Id { number, name })
     }
 
@@ -76,26 +41,6 @@ impl<'a> Reader<'a> {
             Ok(code)
         } else {
             Err(at(64, place))
-        }
-    }
-
-    fn key(&mut self, place: u64) -> Result<Key, Fault> {
-        let chapter = self.u16()?;
-        if chapter > 999 {
-            return Err(at(64, place));
-        }
-        let kind = self.u8()?;
-        if kind > 1 {
-            return Err(at(64, place));
-        }
-        let verse = self.u16()?;
-        if verse > if kind == 0 { 0 } else { 999 } {
-            return Err(at(64, place));
-        }
-        match self.u8()? {
-            0 if kind == 0 => Ok(Key { chapter, place: Place::Head }),
-            letter @ (0 | b'a'..=b'z') if kind == 1 => Ok(Key { chapter, place: Place::Verse(verse, letter) }),
-            _ => Err(at(64, place)),
         }
     }
 
@@ -118,7 +63,7 @@ impl<'a> Reader<'a> {
             return Err(at(62, place));
         }
         let book = self.book(place)?;
-        let key = self.key(place)?;
+        let key = self.key(|| at(64, place))?;
         self.replaced(place, id)?;
         if self.u8()? != 1 {
             return Err(at(66, place));

@@ -2,8 +2,11 @@
 
 #[path = "fitting.rs"]
 pub mod fitting;
+#[path = "reading.rs"]
+mod reading;
 
 use fitting::{Key, Place, fits};
+pub use reading::{Fault, Reader};
 use std::borrow::Cow;
 use std::collections::{BTreeMap, BTreeSet, HashSet};
 
@@ -22,75 +25,14 @@ pub struct Op {
     pub text: String,
 }
 
-/// A number of the table of faults, and its details.
-pub type Fault = (u32, String);
-
-/// The bytes that are still to be judged.
-pub struct Reader<'a> {
-    pub rest: &'a [u8],
-}
-
-impl<'a> Reader<'a> {
-    fn take(&mut self, count: u64) -> Result<&'a [u8], Fault> {
-        let count = usize::try_from(count).map_err(|_| cut())?;
-        let (front, rest) = self.rest.split_at_checked(count).ok_or_else(cut)?;
-        self.rest = rest;
-        Ok(front)
-    }
-
-    fn u8(&mut self) -> Result<u8, Fault> {
-        Ok(self.take(1)?[0])
-    }
-
-    fn u16(&mut self) -> Result<u16, Fault> {
-        Ok(u16::from_be_bytes(self.take(2)?.try_into().unwrap()))
-    }
-
-    fn u64(&mut self) -> Result<u64, Fault> {
-        Ok(u64::from_be_bytes(self.take(8)?.try_into().unwrap()))
-    }
-
+impl Reader<'_> {
     fn id(&mut self, bad: impl Fn() -> Fault) -> Result<Id, Fault> {
         let number = self.u64()?;
         if !(1..=1_000_000_000_000_000).contains(&number) {
             return Err(bad());
         }
-        let name = self.name(bad)?;
+        let name = self.name(bad)?.to_vec();
         Ok(Id { number, name })
-    }
-
-    /// The name of a replica, its length before it.
-    pub fn name(&mut self, bad: impl Fn() -> Fault) -> Result<Vec<u8>, Fault> {
-        let length = self.u8()?;
-        if !(1..=32).contains(&length) {
-            return Err(bad());
-        }
-        let name = self.take(length.into())?;
-        if !name.iter().all(|b| b.is_ascii_lowercase() || b.is_ascii_digit() || *b == b'-') {
-            return Err(bad());
-        }
-        Ok(name.to_vec())
-    }
-
-    fn key(&mut self, bad: impl Fn() -> Fault) -> Result<Key, Fault> {
-        let chapter = self.u16()?;
-        if chapter > 999 {
-            return Err(bad());
-        }
-        let kind = self.u8()?;
-        if kind > 1 {
-            return Err(bad());
-        }
-        let verse = self.u16()?;
-        if verse > 999 || (kind == 0 && verse != 0) {
-            return Err(bad());
-        }
-        let letter = self.u8()?;
-        if letter != 0 && (kind == 0 || !letter.is_ascii_lowercase()) {
-            return Err(bad());
-        }
-        let place = if kind == 0 { Place::Head } else { Place::Verse(verse, letter) };
-        Ok(Key { chapter, place })
     }
 
     fn op(&mut self, at: u64, before: Option<&Id>) -> Result<Op, Fault> {
@@ -143,10 +85,6 @@ impl<'a> Reader<'a> {
         }
         Ok(ops)
     }
-}
-
-fn cut() -> Fault {
-    (61, String::new())
 }
 
 /// The union of two lists that rise by id.

@@ -105,7 +105,7 @@ impl Project {
         let mut reader = Reader { rest };
         let name = reader.name(|| fault(110)).map_err(|_| fault(110))?;
         let ops = whole_bundle(reader.rest)?;
-        Ok(Project { name, ops })
+        Ok(Project { name: name.to_vec(), ops })
     }
 
     /// Makes the text of a book this one, by an operation for each change. Answers how many were made.
