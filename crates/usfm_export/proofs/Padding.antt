@@ -1,7 +1,7 @@
 -- Laws of a short text in a wide array.
 use Rattle.std.proofs.Common.{◌≡◌, ◌+◌, ◌-◌, ◌<◌, ℕ, List, drop, replicate, set, sym, ap, ◌∙◌, arith, length-set}
 use Rattle.std.proofs.lemmas.List.{drop-set-lt, drop-drop, drop-replicate}
-use Rattle.op_core.specs.Padded.{IsPadded}
+use Rattle.usfm_export.specs.Padded.{IsPadded}
 
 -- one byte more of the text, at the place of the first zero
 pub IsPadded-set : (width : ℕ) (bytes : List ℕ) (len byte : ℕ) → len < width → IsPadded width bytes len → IsPadded width (set bytes len byte) (len + 1)

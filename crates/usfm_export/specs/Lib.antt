@@ -1,3 +1,4 @@
+pub mod Padded
 pub mod Counts
 pub mod Writing
 pub mod Heads

@@ -17,7 +17,8 @@ pub struct ShortLine {
 
 impl Model for ShortLine {
     ghost use Rattle.std.specs.Prelude.{List, ℕ, length, take};
-    ghost use Rattle.op_core.specs.Padded.{IsPadded, padded, length-text, padded-text};
+    ghost use Rattle.op_core.specs.Padded.{padded};
+    ghost use Rattle.usfm_export.specs.Padded.{IsPadded, length-text, padded-text};
 
     ghost Value = { List ℕ };
 

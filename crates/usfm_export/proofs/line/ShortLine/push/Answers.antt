@@ -1,5 +1,5 @@
 use Rattle.std.proofs.Common.{length, arith, ap}
-use Rattle.op_core.specs.Padded.{length-text}
+use Rattle.usfm_export.specs.Padded.{length-text}
 use Rattle.usfm_export.proofs.Padding.{IsPadded-set}
 use Rattle.usfm_export.proofs.line.ShortLine.push.Goals as goal
 
