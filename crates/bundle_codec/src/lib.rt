@@ -22,7 +22,7 @@ pub use joining::join_bundles;
 pub use view::OpView;
 pub use walk::BundleOps;
 pub use whole::decode_whole;
-pub use writing::{encode, push_bundle};
+pub use writing::{encode, encode_after};
 
 #[cfg(test)]
 mod tests;

@@ -17,25 +17,25 @@ pub fn encode(alloc: Global, set: &OpSet) -> Result<Vec<u8>, AllocError>
     ensures spelled { IfOk result (λ bytes. bytes.items ≡ spelled.bundle set.now) }
     ensures again { IfOk result (λ bytes. whole_at bytes.items ≡ Ok set.now) }
 {
-    let mut bytes = Vec::new(alloc);
-    push_bundle(&mut bytes, set)?;
+    let bytes = encode_after(Vec::new(alloc), set)?;
     // The set's operations show that they are one.
     let _ = set.iter();
     Ok(bytes)
 }
 
-/// Appends the bundle of a set to bytes, for a file that has it behind something else.
+/// The bytes with the bundle of a set behind them, for a file that has it behind something else. The
+/// bytes are taken, and dropped on an error.
 ///
 /// # Errors
 /// Want of memory alone.
-pub fn push_bundle(bytes: &mut Vec<u8>, set: &OpSet) -> Result<(), AllocError>
-    ensures { IfOk result (λ _. bytes.new.items ≡ bytes.old.items ++ spelled.bundle set.now) }
+pub fn encode_after(mut bytes: Vec<u8>, set: &OpSet) -> Result<Vec<u8>, AllocError>
+    ensures { IfOk result (λ whole. whole.items ≡ bytes.items ++ spelled.bundle set.now) }
 {
-    push_front(bytes, set.len() as u64)?;
+    push_front(&mut bytes, set.len() as u64)?;
     for op in set.iter() {
-        push_operation(bytes, op)?;
+        push_operation(&mut bytes, op)?;
     }
-    Ok(())
+    Ok(bytes)
 }
 
 // Appends the magic and the count, with which a bundle begins.

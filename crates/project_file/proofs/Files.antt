@@ -1,5 +1,5 @@
 -- Project files: what is spelled is read, and what is read is spelled so.
-use Rattle.std.proofs.Common.{◌≡◌, ℕ, ◌<◌, ◌^◌, List, [], ◌∷◌, ◌++◌, length, Option, Some, None, Result, Ok, Err, refl, sym, ap, subst, ◌∙◌, append_assoc, arith}
+use Rattle.std.proofs.Common.{◌≡◌, ℕ, ◌<◌, ◌^◌, List, [], ◌∷◌, ◌++◌, length, Option, Some, None, Result, Ok, Err, Vec, IfOk, refl, sym, ap, subst, ◌∙◌, append_assoc, arith}
 use Rattle.std.proofs.lemmas.List.{length-append, append-nil}
 use Rattle.op_core.specs.Ids.{Id}
 use Rattle.op_core.specs.Ops.{Operation}
@@ -52,6 +52,11 @@ project_again s v short =
 
 pub read_again : (bytes : List ℕ) (s : State) → length bytes < 2 ^ 64 → IsState s → bytes ≡ project s → project_at bytes ≡ Ok s
 read_again bytes s short v e = ap project_at e ∙ project_again s v (omega (arith, ap length e))
+
+-- so for a file that was made, unless none was
+pub file_read_again : {A E : Type 0} (made : Result (Vec ℕ A) E) (s : State) → IsState s → IfOk made (λ file. file.items ≡ project s) → IfOk made (λ file. project_at file.items ≡ Ok s)
+file_read_again (Ok file) s v e = read_again file.items s (omega (arith, file.ok.0, file.small)) v e
+file_read_again (Err fault) s v e = tt
 
 -- a project file is refused with no fault
 pub not_refused : (bytes : List ℕ) (fault : LoadFault) → length bytes < 2 ^ 64 → project_at bytes ≡ Err fault → (s : State) → IsState s → bytes ≡ project s → ⊥

@@ -77,8 +77,7 @@ pub fn save(alloc: Global, replica: &Replica) -> Result<Vec<u8>, AllocError>
     bytes.extend_from_slice(&MAGIC)?;
     bytes.extend_from_slice(&[name.len() as u8])?;
     bytes.extend_from_slice(name)?;
-    replica.push_bundle(&mut bytes)?;
-    Ok(bytes)
+    replica.bundle_after(bytes)
 }
 
 // The name behind the magic, and the bytes after it.

@@ -6,7 +6,7 @@ ghost use Rattle.bundle_codec.specs.Joining.{whole_at};
 ghost use Rattle.bundle_codec.specs.Spelling.{bundle};
 ghost use Rattle.replica_state.specs.States.{IsState, begun};
 
-use bundle_codec::{encode, push_bundle};
+use bundle_codec::{encode, encode_after};
 use op_core::{Books, Keys, Op, OpId, OpSet, Picked, ReplicaName};
 use std::alloc::{AllocError, Global};
 use std::marker::Model;
@@ -106,15 +106,15 @@ impl Replica {
         encode(alloc, &self.set)
     }
 
-    /// Appends the bundle of all operations that the replica holds to bytes, for a file that has it
-    /// behind something else. After an error a front of it may stand there.
+    /// The bytes with the bundle of all operations that the replica holds behind them, for a file that
+    /// has it behind something else. The bytes are taken, and dropped on an error.
     ///
     /// # Errors
     /// Want of memory alone.
-    pub fn push_bundle(&self, bytes: &mut Vec<u8>) -> Result<(), AllocError>
-        ensures { IfOk result (λ _. bytes.new.items ≡ bytes.old.items ++ bundle self.now.held) }
+    pub fn bundle_after(&self, bytes: Vec<u8>) -> Result<Vec<u8>, AllocError>
+        ensures { IfOk result (λ whole. whole.items ≡ bytes.items ++ bundle self.now.held) }
     {
-        push_bundle(bytes, &self.set)
+        encode_after(bytes, &self.set)
     }
 
     /// How many comparisons the calls made that change the replica: each of two ids or of two segments

@@ -4,9 +4,9 @@ use Rattle.bundle_codec.proofs.Wholes.{whole_reads}
 use Rattle.bundle_codec.proofs.writing.encode.Goals as goal
 
 pub returns-clause-again : goal.returns-clause-again
-returns-clause-again c = whole_reads c.push_bundle.new.bytes.items (record {
+returns-clause-again c = whole_reads c.in_ok-bytes.bytes.items (record {
   ops = c.args.set.now;
   set = c.iter.ensures.set;
-  spelled = c.in_ok-push_bundle.ensures ∙ ap (λ front. front ++ bundle c.args.set.now) c.new-bytes.ensures.items;
-  short = omega (arith, c.push_bundle.new.bytes.ok.0, c.push_bundle.new.bytes.small);
+  spelled = c.in_ok-bytes.ensures ∙ ap (λ front. front ++ bundle c.args.set.now) c.new.ensures.items;
+  short = omega (arith, c.in_ok-bytes.bytes.ok.0, c.in_ok-bytes.bytes.small);
 })
