@@ -3,6 +3,7 @@ ghost use Rattle.std.specs.Prelude.{◌≡◌, ◌≢◌, Ok, Err, IfOk, IfErr};
 ghost use Rattle.replica_state.specs.States.{State};
 ghost use Rattle.project_file.specs.Projects.{project_at};
 ghost use Rattle.usfm_cli.specs.Commands.{outcome};
+ghost use Rattle.usfm_cli.specs.Faults.{of_loading};
 ghost use Rattle.usfm_cli.specs.Executing.{executed, file_or, file_after, state_or, state_after};
 
 use crate::command::Command;
@@ -59,10 +60,12 @@ impl Outcome {
 ///
 /// The others refuse nothing.
 ///
-/// `Memory` (1) where a growth was refused. The project is the bytes that were given, so that a
-/// refused command leaves it as it is.
+/// `Memory` (1) where a growth was refused; never of bytes that are no project, whose refusals take no
+/// memory. The project is the bytes that were given, so that a refused command leaves it as it is.
 pub fn exec(alloc: Global, project: &[u8], command: &Command<'_>) -> Result<Outcome, Fault>
     ensures answer { result ≢ Err Fault.Memory → executed project.now command.now ≡ result }
+    // A file that is no project is refused for that, whatever memory there is.
+    ensures no_project { IfErr (project_at project.now) (λ fault. result ≡ Err (of_loading fault)) }
     // The file after it is that of the replica after the command's step.
     ensures after { IfOk result (λ made. (s : State) → project_at project.now ≡ Ok s
         → project_at made.project ≡ Ok (state_or s (outcome s command.now))) }
