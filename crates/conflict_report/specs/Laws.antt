@@ -6,10 +6,10 @@ use Rattle.op_core.specs.Ops.{Operation}
 use Rattle.op_core.specs.Sets.{IsOpSet}
 use Rattle.op_core.specs.Shown.{shown}
 use Rattle.op_core.specs.Lists.{awaited}
+use Rattle.op_core.specs.Laws.{SameTogether}
 use Rattle.replica_state.specs.States.{begun}
 use Rattle.replica_state.specs.Steps.{Receive}
 use Rattle.replica_state.specs.Runs.{after, NoneRefused}
-use Rattle.replica_state.specs.Laws.{SameTogether}
 use Rattle.conflict_report.specs.Reports.{report}
 
 -- no two operations that the segment shows have different texts

@@ -26,5 +26,6 @@ pub mod IndexSegments
 pub mod KeyWalks
 pub mod BookWalks
 pub mod Joinings
+pub mod Together
 pub mod Fronts
 pub mod NextIds

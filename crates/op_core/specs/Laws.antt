@@ -1,5 +1,5 @@
 -- Laws of sets of operations.
-use Rattle.std.specs.Prelude.{◌≡◌, ◌≢◌, ℕ, true, List, [], None, Some, Result, Ok, Err, Option, ◌⊎◌}
+use Rattle.std.specs.Prelude.{◌≡◌, ◌≢◌, ℕ, true, List, [], ◌∷◌, None, Some, Result, Ok, Err, Option, ◌⊎◌}
 use Rattle.std.specs.List.{list_any, Contains}
 use Rattle.std.specs.Option.{option_or}
 use Rattle.usfm_ref.specs.Segments.{Segment}
@@ -80,3 +80,15 @@ EqualUnionsExportAlike =
     (one other : Joining) (a b : List Operation) → AreSets one → AreSets other → SameOperations one other →
     union_by one ≡ Ok a → union_by other ≡ Ok b →
     (a ≡ b) × ((book : List ℕ) → export a book ≡ export b book)
+
+-- ---- sets joined one after another
+
+-- the operation is in one of the sets
+abbrev pub IsAmong : List (List Operation) → Operation → Type 0
+IsAmong [] o = ⊥
+IsAmong (set ∷ rest) o = Contains set o ⊎ IsAmong rest o
+
+-- the sets have the same operations together
+pub record SameTogether (sets others : List (List Operation)) : Type 0 where
+  pub there : (o : Operation) → IsAmong sets o → IsAmong others o
+  pub back : (o : Operation) → IsAmong others o → IsAmong sets o

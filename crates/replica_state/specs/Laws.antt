@@ -1,22 +1,13 @@
 -- Laws of replicas.
-use Rattle.std.specs.Prelude.{◌≡◌, ℕ, List, [], ◌∷◌, ◌⊎◌, map}
-use Rattle.std.specs.List.{Contains, AllByRecursion}
+use Rattle.std.specs.Prelude.{◌≡◌, ℕ, List, map}
+use Rattle.std.specs.List.{AllByRecursion}
 use Rattle.op_core.specs.Ops.{Operation}
 use Rattle.op_core.specs.Sets.{IsOpSet}
 use Rattle.op_core.specs.Export.{export}
+use Rattle.op_core.specs.Laws.{SameTogether}
 use Rattle.replica_state.specs.States.{begun}
 use Rattle.replica_state.specs.Steps.{Receive}
 use Rattle.replica_state.specs.Runs.{after, NoneRefused}
-
--- the operation is in one of the bundles
-abbrev pub IsAmong : List (List Operation) → Operation → Type 0
-IsAmong [] o = ⊥
-IsAmong (bundle ∷ rest) o = Contains bundle o ⊎ IsAmong rest o
-
--- the bundles have the same operations together
-pub record SameTogether (bundles others : List (List Operation)) : Type 0 where
-  pub there : (o : Operation) → IsAmong bundles o → IsAmong others o
-  pub back : (o : Operation) → IsAmong others o → IsAmong bundles o
 
 -- Two replicas that received bundles with the same operations together, in whatever order, grouping and repetition, hold
 -- the same operations, and export the same bytes of every book, if no bundle was refused.

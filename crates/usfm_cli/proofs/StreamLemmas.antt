@@ -1,18 +1,18 @@
 -- Streams of bundles, and the sets that they spell.
-use Rattle.std.proofs.Common.{◌≡◌, ℕ, zero, suc, ◌≤◌, List, [], ◌∷◌, ◌++◌, length, Option, Some, None, Result, Ok, Err, ◌⊎◌, inl, inr, arith, length-append, refl, sym, ap, ◌∙◌}
+use Rattle.std.proofs.Common.{◌≡◌, ℕ, zero, suc, ◌≤◌, List, [], ◌∷◌, ◌++◌, length, Option, Some, None, Result, Ok, Err, arith, length-append, refl, sym, ap, ◌∙◌}
 use Rattle.std.specs.List.{AllByRecursion, flat_map}
 use Rattle.op_core.specs.Ids.{Id}
 use Rattle.op_core.specs.Ops.{Operation}
 use Rattle.op_core.specs.Sets.{IsOpSet, clash, join}
-use Rattle.op_core.specs.Laws.{Joining, AreSets, IsInOne, joined_or_clash, with_both, union_by}
+use Rattle.op_core.specs.Laws.{Joining, joined_or_clash, with_both, union_by, SameTogether}
 use Rattle.op_core.specs.Laws.Joining.{Part, Joined}
-use Rattle.op_core.proofs.Joinings.{same_unions}
+use Rattle.op_core.proofs.Together.{joined_in, same_from_none}
 use Rattle.bundle_codec.specs.declared.fault.BundleFault.{BundleFault}
 use Rattle.bundle_codec.specs.Spelling.{bundle, AreCounted}
 use Rattle.bundle_codec.specs.Reading.{bundle_at}
 use Rattle.bundle_codec.proofs.Spelled.{bundle_reads}
 use Rattle.usfm_cli.specs.Streams.{with_set, unless_clash, union_within, union_in, union_with, AreSpelled, book_in, book_of_stream}
-use Rattle.usfm_cli.specs.StreamLaws.{AreBytes, IsStreamOf, IsAmong, SameTogether}
+use Rattle.usfm_cli.specs.StreamLaws.{AreBytes, IsStreamOf}
 use Rattle.usfm_cli.specs.declared.fault.Fault.{Fault}
 use Rattle.usfm_cli.proofs.Unions.{next, bundle_is_some}
 
@@ -83,13 +83,7 @@ gives_union sets input s =
 
 -- ---- order, grouping and repetition
 
--- the sets joined one after another into a way of joining
-joined_in : Joining → List (List Operation) → Joining
-joined_in way [] = way
-joined_in way (set ∷ rest) = joined_in (Joined way (Part set)) rest
-
 union_joined : (way : Joining) (held : List Operation) (sets : List (List Operation)) (union : List Operation) → union_by way ≡ Ok held → union_with held sets ≡ Ok union → union_by (joined_in way sets) ≡ Ok union
-unfolding joined_in
 union_joined way held [] union w h = let same : held ≡ union = cc h in w ∙ ap Ok same
 union_joined way held (set ∷ rest) union w h =
     let c = no_clash (clash held set) (union_with (join held set) rest) union h in
@@ -97,47 +91,14 @@ union_joined way held (set ∷ rest) union w h =
     ap (λ r. with_both r (Ok set) (λ a b. joined_or_clash a b (clash a b))) w ∙ ap (joined_or_clash held set) c.0 in
     union_joined (Joined way (Part set)) (join held set) rest union more c.1
 
-are_sets : (way : Joining) (sets : List (List Operation)) → AreSets way → AreEach sets → AreSets (joined_in way sets)
-unfolding joined_in
-are_sets way [] w each = w
-are_sets way (set ∷ rest) w each = are_sets (Joined way (Part set)) rest (w, each.0.0) each.1
-
-among : (way : Joining) (sets : List (List Operation)) (o : Operation) → IsInOne (joined_in way sets) o → IsInOne way o ⊎ IsAmong sets o
-unfolding joined_in
-among way [] o i = inl i
-among way (set ∷ rest) o i = elim (among (Joined way (Part set)) rest o i) [
-  | inl here ↦ elim here [ inl before ↦ inl before | inr mine ↦ inr (inl mine) ]
-  | inr later ↦ inr (inr later)
-]
-
-is_in_one : (way : Joining) (sets : List (List Operation)) (o : Operation) → IsInOne way o ⊎ IsAmong sets o → IsInOne (joined_in way sets) o
-unfolding joined_in
-is_in_one way [] o (inl before) = before
-is_in_one way [] o (inr never) = absurd never
-is_in_one way (set ∷ rest) o (inl before) = is_in_one (Joined way (Part set)) rest o (inl (inl before))
-is_in_one way (set ∷ rest) o (inr (inl mine)) = is_in_one (Joined way (Part set)) rest o (inl (inr mine))
-is_in_one way (set ∷ rest) o (inr (inr later)) = is_in_one (Joined way (Part set)) rest o (inr later)
-
--- the way that joins sets to the empty one
-from_none : List (List Operation) → Joining
-from_none sets = joined_in (Part []) sets
-
-crossed : (sets others : List (List Operation)) → ((o : Operation) → IsAmong sets o → IsAmong others o) → (o : Operation) → IsInOne (from_none sets) o → IsInOne (from_none others) o
-unfolding from_none
-crossed sets others f o i = elim (among (Part []) sets o i) [
-  | inl nowhere ↦ absurd (omega (arith, nowhere.1))
-  | inr here ↦ is_in_one (Part []) others o (inr (f o here))
-]
-
-empty_set : IsOpSet []
-empty_set = record { rising = refl; each = tt }
+are_sets : (sets : List (List Operation)) → AreEach sets → AllByRecursion IsOpSet sets
+are_sets [] each = tt
+are_sets (set ∷ rest) each = (each.0.0, are_sets rest each.1)
 
 pub same_books : (sets others : List (List Operation)) (input other : List ℕ) (a b : List Operation) → AreSpelled sets input → AreSpelled others other → SameTogether sets others → union_in [] input ≡ Ok a → union_in [] other ≡ Ok b → (book : List ℕ) → book_of_stream book input ≡ book_of_stream book other
-unfolding from_none
 same_books sets others input other a b s t same ha hb book = ap (book_in book) (ha ∙ ap Ok union ∙ sym hb)
   where
     union : a ≡ b
-    union = same_unions (from_none sets) (from_none others) a b (are_sets (Part []) sets empty_set s.each) (are_sets (Part []) others empty_set t.each)
-        (record { there = crossed sets others same.there; back = crossed others sets same.back })
+    union = same_from_none sets others a b (are_sets sets s.each) (are_sets others t.each) same
         (union_joined (Part []) [] sets a refl (sym (gives_union sets input s) ∙ ha))
         (union_joined (Part []) [] others b refl (sym (gives_union others other t) ∙ hb))

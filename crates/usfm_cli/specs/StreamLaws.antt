@@ -1,7 +1,7 @@
 -- Laws of streams of bundles.
-use Rattle.std.specs.Prelude.{◌≡◌, ◌<◌, ℕ, List, [], ◌∷◌, Ok, slice_index, ◌⊎◌}
-use Rattle.std.specs.List.{Contains}
+use Rattle.std.specs.Prelude.{◌≡◌, ◌<◌, ℕ, List, [], Ok, slice_index}
 use Rattle.op_core.specs.Ops.{Operation}
+use Rattle.op_core.specs.Laws.{SameTogether}
 use Rattle.usfm_cli.specs.Streams.{union_in, union_with, AreSpelled, book_of_stream}
 
 -- each is a byte
@@ -21,16 +21,6 @@ pub record IsStreamOf (input : List ℕ) (union : List Operation) : Type 0 where
 -- bytes that give a union are bundles one after another, whose sets have that union
 abbrev pub UnionsAreOfStreams : Type 0
 UnionsAreOfStreams = (input : List ℕ) (union : List Operation) → AreBytes input → union_in [] input ≡ Ok union → IsStreamOf input union
-
--- the operation is in one of the sets
-abbrev pub IsAmong : List (List Operation) → Operation → Type 0
-IsAmong [] o = ⊥
-IsAmong (set ∷ rest) o = Contains set o ⊎ IsAmong rest o
-
--- the sets have the same operations together
-pub record SameTogether (sets others : List (List Operation)) : Type 0 where
-  pub there : (o : Operation) → IsAmong sets o → IsAmong others o
-  pub back : (o : Operation) → IsAmong others o → IsAmong sets o
 
 -- Streams whose bundles have the same operations together, in whatever order, grouping and repetition, give the
 -- same bytes of every book, if neither is refused.
