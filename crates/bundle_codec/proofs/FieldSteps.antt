@@ -8,14 +8,14 @@ use Rattle.usfm_ref.specs.Keys.{is_place, is_key}
 use Rattle.bundle_codec.specs.declared.fault.BundleFault.{BundleFault}
 use Rattle.bundle_codec.specs.declared.fault.BundleFault.TheVariants.{Truncated}
 use Rattle.bundle_codec.specs.Spelling.{place, key, body}
-use Rattle.bundle_codec.specs.Reading.{any, byte_at, block_at, number_at, place_of, place_at, key_at, body_at}
-use Rattle.bundle_codec.proofs.Readers.{IsBytes, byte_reads, block_reads, number_reads, wide16, wide64}
+use Rattle.bundle_codec.specs.Reading.{AreBytes, any, byte_at, block_at, number_at, place_of, place_at, key_at, body_at}
+use Rattle.bundle_codec.proofs.Readers.{byte_reads, block_reads, number_reads, wide16, wide64}
 use Rattle.bundle_codec.proofs.Spelled.{kind_of, verse_of, letter_of, place_from, place_spelled, place_reads, key_reads, body_reads, key_below}
 use Rattle.bundle_codec.proofs.Steps.{Front, front, is_ok, at_front, same_value, same_rest}
 
 -- ---- a place
 
-module _ (bad : BundleFault) (bytes : List ℕ) (fine : IsBytes bytes) (h : IsOk (place_at bad bytes)) where
+module _ (bad : BundleFault) (bytes : List ℕ) (fine : AreBytes bytes) (h : IsOk (place_at bad bytes)) where
   place_front : Front (place_at bad) place (λ p. is_place p ≡ true) bytes
   place_front = front (place_reads bad) bytes fine h
 
@@ -77,7 +77,7 @@ module _ (bad : BundleFault) (bytes : List ℕ) (fine : IsBytes bytes) (h : IsOk
 
 -- ---- a key
 
-module _ (bad : BundleFault) (bytes : List ℕ) (fine : IsBytes bytes) (h : IsOk (key_at bad bytes)) where
+module _ (bad : BundleFault) (bytes : List ℕ) (fine : AreBytes bytes) (h : IsOk (key_at bad bytes)) where
   key_front : Front (key_at bad) key (λ k. is_key k.chapter k.place ≡ true) bytes
   key_front = front (key_reads bad) bytes fine h
 
@@ -110,7 +110,7 @@ module _ (bad : BundleFault) (bytes : List ℕ) (fine : IsBytes bytes) (h : IsOk
 
 -- ---- a text
 
-module _ (bytes : List ℕ) (fine : IsBytes bytes) (h : IsOk (body_at 0 bytes)) where
+module _ (bytes : List ℕ) (fine : AreBytes bytes) (h : IsOk (body_at 0 bytes)) where
   body_front : Front (body_at 0) body (λ text. length text < 2 ^ 64) bytes
   body_front = front (body_reads 0) bytes fine h
 

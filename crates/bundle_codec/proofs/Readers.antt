@@ -8,23 +8,20 @@ use Rattle.std.proofs.lemmas.List.Concat.{flat_map-cons}
 use Rattle.std.proofs.lemmas.Nat.{be_bytes_2, be_bytes_8, from_be_bytes-to_be_bytes_2, from_be_bytes-to_be_bytes_8}
 use Rattle.bundle_codec.specs.declared.fault.BundleFault.{BundleFault}
 use Rattle.bundle_codec.specs.declared.fault.BundleFault.TheVariants.{Truncated}
-use Rattle.bundle_codec.specs.Reading.{◌>>=◌, check, byte_at, block_at, number_at, exactly_at, many_at}
+use Rattle.bundle_codec.specs.Reading.{◌>>=◌, AreBytes, check, byte_at, block_at, number_at, exactly_at, many_at}
 
-abbrev pub IsBytes : List ℕ → Type 0
-IsBytes bytes = (i : ℕ) → get_or bytes i 0 < 256
+pub AreBytes-drop : (n : ℕ) (bytes : List ℕ) → AreBytes bytes → AreBytes (drop n bytes)
+AreBytes-drop n bytes h i = rw get_or-drop (h (n + i))
 
-pub IsBytes-drop : (n : ℕ) (bytes : List ℕ) → IsBytes bytes → IsBytes (drop n bytes)
-IsBytes-drop n bytes h i = rw get_or-drop (h (n + i))
-
-pub IsBytes-take : (n : ℕ) (bytes : List ℕ) → IsBytes bytes → IsBytes (take n bytes)
-IsBytes-take n bytes h i =
+pub AreBytes-take : (n : ℕ) (bytes : List ℕ) → AreBytes bytes → AreBytes (take n bytes)
+AreBytes-take n bytes h i =
     elim (cases_lt i n) [
       | inl lt ↦ rw (get_or-take n bytes i 0 lt) (h i)
       | inr le ↦ rw (get_or_past (take n bytes) i 0 (omega (arith, length-take n bytes))) (omega arith)
     ]
 
-pub IsBytes-rest : (b : ℕ) (bytes : List ℕ) → IsBytes (b ∷ bytes) → IsBytes bytes
-IsBytes-rest b bytes h i = h (suc i)
+pub AreBytes-rest : (b : ℕ) (bytes : List ℕ) → AreBytes (b ∷ bytes) → AreBytes bytes
+AreBytes-rest b bytes h i = h (suc i)
 
 -- each of a list fits after those before it
 abbrev pub Each : {A S : Type 0} → (S → A → Type 0) → (S → A → S) → S → List A → Type 0
@@ -37,7 +34,7 @@ Reader A = List ℕ → Result (A × List ℕ) BundleFault
 -- a reader took the text from the front
 pub record Takes (bytes text rest : List ℕ) : Type 0 where
   pub parts : bytes ≡ text ++ rest
-  pub rest_fits : IsBytes rest
+  pub rest_fits : AreBytes rest
 
 -- one text after another was taken
 takes_then : (bytes text mid more rest : List ℕ) → Takes bytes text mid → Takes mid more rest → Takes bytes (text ++ more) rest
@@ -78,7 +75,7 @@ cut_as read a b x y mid rest e one = subst (λ (p : _ × List ℕ). Cut read a b
 
 -- a reader of what is spelled so and fits
 pub record Reads {A : Type 0} (read : Reader A) (spell : A → List ℕ) (Fits : A → Type 0) : Type 0 where
-  pub takes : (bytes : List ℕ) (x : A) (rest : List ℕ) → IsBytes bytes → read bytes ≡ Ok (x, rest) → Takes bytes (spell x) rest × Fits x
+  pub takes : (bytes : List ℕ) (x : A) (rest : List ℕ) → AreBytes bytes → read bytes ≡ Ok (x, rest) → Takes bytes (spell x) rest × Fits x
   pub again : (x : A) (rest : List ℕ) → Fits x → read (spell x ++ rest) ≡ Ok (x, rest)
   pub cut : (a b : List ℕ) (x : A) (rest : List ℕ) → read (a ++ b) ≡ Ok (x, rest) → Cut read a b x rest
 
@@ -130,7 +127,7 @@ ends made = record {
   takes = λ bytes c rest fits e.
       let p = ok_is (made, bytes) (c, rest) e in
       let rest_is : bytes ≡ rest = ap (λ (p : _ × List ℕ). p.1) p in
-      (record { parts = rest_is; rest_fits = subst IsBytes rest_is fits }, ap (λ (p : _ × List ℕ). p.0) p);
+      (record { parts = rest_is; rest_fits = subst AreBytes rest_is fits }, ap (λ (p : _ × List ℕ). p.0) p);
   again = λ c rest is. ap (λ m. Ok (m, rest)) is;
   cut = λ a b c rest e.
       let p = ok_is (made, a ++ b) (c, rest) e in
@@ -165,12 +162,12 @@ reads_as {read = read} {spell = spell} spell' Fits' reads to from same = record 
 
 -- ---- fields
 
-takes_byte : (rule : ℕ → Bool) (bad : BundleFault) (bytes : List ℕ) (x : ℕ) (rest : List ℕ) → IsBytes bytes → byte_at rule bad bytes ≡ Ok (x, rest) → Takes bytes (x ∷ []) rest × (rule x ≡ true)
+takes_byte : (rule : ℕ → Bool) (bad : BundleFault) (bytes : List ℕ) (x : ℕ) (rest : List ℕ) → AreBytes bytes → byte_at rule bad bytes ≡ Ok (x, rest) → Takes bytes (x ∷ []) rest × (rule x ≡ true)
 takes_byte rule bad [] x rest fits e = absurd cc
 takes_byte rule bad (b ∷ bytes) x rest fits e =
     let p = passed (rule b) bad (Ok (b, bytes)) (x, rest) e in
     let q = ok_is (b, bytes) (x, rest) p.1 in
-    subst (λ (y : ℕ × List ℕ). Takes (b ∷ bytes) (y.0 ∷ []) y.1 × (rule y.0 ≡ true)) q (record { parts = refl; rest_fits = IsBytes-rest b bytes fits }, p.0)
+    subst (λ (y : ℕ × List ℕ). Takes (b ∷ bytes) (y.0 ∷ []) y.1 × (rule y.0 ≡ true)) q (record { parts = refl; rest_fits = AreBytes-rest b bytes fits }, p.0)
 
 cut_byte : (rule : ℕ → Bool) (bad : BundleFault) (a b : List ℕ) (x : ℕ) (rest : List ℕ) → byte_at rule bad (a ++ b) ≡ Ok (x, rest) → Cut (byte_at rule bad) a b x rest
 cut_byte rule bad [] b x rest e = inl refl
@@ -193,7 +190,7 @@ block_reads n rule bad = record {
       let long : n ≤ length bytes = ltb-false _ _ g.0 in
       let p = passed (rule (take n bytes)) bad (Ok (take n bytes, drop n bytes)) (x, rest) g.1 in
       let q = ok_is (take n bytes, drop n bytes) (x, rest) p.1 in
-      subst (λ (y : List ℕ × List ℕ). Takes bytes y.0 y.1 × ((length y.0 ≡ n) × (rule y.0 ≡ true))) q (record { parts = sym (take-append-drop n bytes); rest_fits = IsBytes-drop n bytes fits }, (length-take-le n bytes long, p.0));
+      subst (λ (y : List ℕ × List ℕ). Takes bytes y.0 y.1 × ((length y.0 ≡ n) × (rule y.0 ≡ true))) q (record { parts = sym (take-append-drop n bytes); rest_fits = AreBytes-drop n bytes fits }, (length-take-le n bytes long, p.0));
   again = λ x rest fits.
       let long : ltb (length (x ++ rest)) n ≡ false = le-ltb _ _ (omega (arith, length-append x rest, fits.0)) in
       rw (long, take_at x rest n fits.0, drop_at x rest n fits.0, fits.1) refl;
@@ -214,9 +211,9 @@ block_reads n rule bad = record {
 
 pub record IsWide (w : Width) (limit : ℕ) : Type 0 where
   pub len : (n : ℕ) → length (to_be_bytes w n) ≡ byte_len w
-  pub back : (bytes : List ℕ) → length bytes ≡ byte_len w → IsBytes bytes → to_be_bytes w (from_be_bytes w bytes) ≡ bytes
+  pub back : (bytes : List ℕ) → length bytes ≡ byte_len w → AreBytes bytes → to_be_bytes w (from_be_bytes w bytes) ≡ bytes
   pub again : (n : ℕ) → n < limit → from_be_bytes w (to_be_bytes w n) ≡ n
-  pub below : (bytes : List ℕ) → IsBytes bytes → from_be_bytes w bytes < limit
+  pub below : (bytes : List ℕ) → AreBytes bytes → from_be_bytes w bytes < limit
 
 pub wide16 : IsWide w16 (2 ^ 16)
 wide16 = record {
@@ -249,8 +246,8 @@ number-block w rule bad bytes = two_tests (ltb (length bytes) (byte_len w)) (rul
 abbrev rule_of : Width → (ℕ → Bool) → List ℕ → Bool
 rule_of w rule b = rule (from_be_bytes w b)
 
-IsBytes-front : (bytes front rest : List ℕ) → IsBytes bytes → bytes ≡ front ++ rest → IsBytes front
-IsBytes-front bytes front rest fits e = subst IsBytes (ap (take (length front)) e ∙ take_at front rest (length front) refl) (IsBytes-take (length front) bytes fits)
+AreBytes-front : (bytes front rest : List ℕ) → AreBytes bytes → bytes ≡ front ++ rest → AreBytes front
+AreBytes-front bytes front rest fits e = subst AreBytes (ap (take (length front)) e ∙ take_at front rest (length front) refl) (AreBytes-take (length front) bytes fits)
 
 cut_number : (w : Width) (rule : ℕ → Bool) (bad : BundleFault) (a b : List ℕ) (n : ℕ) (rest : List ℕ) → Cut (number_of w rule bad) a b n rest → Cut (number_at w rule bad) a b n rest
 cut_number w rule bad a b n rest one = subst (λ (r : Result (ℕ × List ℕ) BundleFault). (r ≡ Err Truncated) ⊎ ((l : List ℕ) × (r ≡ Ok (n, l)) × (rest ≡ l ++ b))) (sym (number-block w rule bad a)) one
@@ -261,7 +258,7 @@ number_reads w limit wide rule bad = record {
       let a = bind_ok (block_at (byte_len w) (rule_of w rule) bad bytes) (λ b. Ok (from_be_bytes w b.0, b.1)) (n, rest) (sym (number-block w rule bad bytes) ∙ e) in
       let t = (block_reads (byte_len w) (rule_of w rule) bad).takes bytes a.0.0 a.0.1 fits a.1 in
       let q = ok_is (from_be_bytes w a.0.0, a.0.1) (n, rest) a.2 in
-      let fine : IsBytes a.0.0 = IsBytes-front bytes a.0.0 a.0.1 fits t.0.parts in
+      let fine : AreBytes a.0.0 = AreBytes-front bytes a.0.0 a.0.1 fits t.0.parts in
       let text : to_be_bytes w (from_be_bytes w a.0.0) ≡ a.0.0 = wide.back a.0.0 t.1.0 fine in
       subst (λ (y : ℕ × List ℕ). Takes bytes (to_be_bytes w y.0) y.1 × ((y.0 < limit) × (rule y.0 ≡ true))) q
       (record { parts = t.0.parts ∙ ap (λ (v : List ℕ). v ++ a.0.1) (sym text); rest_fits = t.0.rest_fits }, (wide.below a.0.0 fine, t.1.1));
@@ -276,14 +273,14 @@ number_reads w limit wide rule bad = record {
       cut_number w rule bad a b n rest (cut_as (number_of w rule bad) a b (from_be_bytes w f.0.0) n f.0.1 rest q one);
 }
 
-takes_exactly : (text : List ℕ) (bad : BundleFault) (bytes : List ℕ) (x : Unit {0}) (rest : List ℕ) → IsBytes bytes → exactly_at text bad bytes ≡ Ok (x, rest) → Takes bytes text rest
+takes_exactly : (text : List ℕ) (bad : BundleFault) (bytes : List ℕ) (x : Unit {0}) (rest : List ℕ) → AreBytes bytes → exactly_at text bad bytes ≡ Ok (x, rest) → Takes bytes text rest
 takes_exactly [] bad bytes x rest fits e =
     let is : bytes ≡ rest = ap (λ (p : Unit {0} × List ℕ). p.1) (ok_is (tt, bytes) (x, rest) e) in
-    record { parts = is; rest_fits = subst IsBytes is fits }
+    record { parts = is; rest_fits = subst AreBytes is fits }
 takes_exactly (m ∷ text) bad [] x rest fits e = absurd cc
 takes_exactly (m ∷ text) bad (b ∷ bytes) x rest fits e =
     let p = passed (eqb b m) bad (exactly_at text bad bytes) (x, rest) e in
-    let t = takes_exactly text bad bytes x rest (IsBytes-rest b bytes fits) p.1 in
+    let t = takes_exactly text bad bytes x rest (AreBytes-rest b bytes fits) p.1 in
     record { parts = ap (λ (w : List ℕ). b ∷ w) t.parts ∙ ap (λ (c : ℕ). c ∷ (text ++ rest)) (eqb-true b m p.0); rest_fits = t.rest_fits }
 
 exactly_again : (text : List ℕ) (bad : BundleFault) (rest : List ℕ) → exactly_at text bad (text ++ rest) ≡ Ok (tt, rest)

@@ -9,9 +9,9 @@ use Rattle.op_core.specs.Sets.{IsOpSet}
 use Rattle.bundle_codec.specs.declared.fault.BundleFault.{BundleFault}
 use Rattle.bundle_codec.specs.declared.fault.BundleFault.TheVariants.{Magic, Truncated}
 use Rattle.bundle_codec.specs.Spelling.{id, operation, magic, bundle}
-use Rattle.bundle_codec.specs.Reading.{◌>>=◌, any, exactly_at, number_at, many_at, id_at, named_at, after_id, operation_at, after_operation, operations_at, bundle_at, after}
+use Rattle.bundle_codec.specs.Reading.{AreBytes, ◌>>=◌, any, exactly_at, number_at, many_at, id_at, named_at, after_id, operation_at, after_operation, operations_at, bundle_at, after}
 use Rattle.bundle_codec.specs.Views.{each_at, found, each_id_at, each_operation_at, operations_in, Spells}
-use Rattle.bundle_codec.proofs.Readers.{IsBytes, Each, Reader, Reads, many_reads, number_reads, exactly_reads, wide64, bind_ok, ok_is}
+use Rattle.bundle_codec.proofs.Readers.{Each, Reader, Reads, many_reads, number_reads, exactly_reads, wide64, bind_ok, ok_is}
 use Rattle.bundle_codec.proofs.Spelled.{IsNamed, Follows, FollowsAt, IsSpelled, id_reads, named_reads, operation_reads, operations_follow, bundle_reads}
 use Rattle.bundle_codec.proofs.OneSpelling.{AreCounted-from_length}
 
@@ -45,7 +45,7 @@ module _ {A S : Type 0} (one : S → Reader A) (next : S → A → S) (other : R
   pub each_again : (n : ℕ) (s : S) (xs : List A) (rest : List ℕ) → length xs ≡ n → Each Fits next s xs → each_at other n (flat_map spell xs ++ rest) ≡ Ok (xs, rest)
   each_again n s xs rest len fits = (many_reads (λ _. other) (λ (t : Unit {0}) _. t) spell (λ _. P) (λ _. others) n tt).again xs rest (len, each_relaxed next Fits P weaker s xs fits)
 
-  pub each_as : (n : ℕ) (s : S) (bytes : List ℕ) (xs : List A) (rest : List ℕ) → IsBytes bytes → many_at one next n s bytes ≡ Ok (xs, rest) → each_at other n bytes ≡ Ok (xs, rest)
+  pub each_as : (n : ℕ) (s : S) (bytes : List ℕ) (xs : List A) (rest : List ℕ) → AreBytes bytes → many_at one next n s bytes ≡ Ok (xs, rest) → each_at other n bytes ≡ Ok (xs, rest)
   each_as n s bytes xs rest fits e =
       let t = (many_reads one next spell Fits reads n s).takes bytes xs rest fits e in
       ap (each_at other n) t.0.parts ∙ each_again n s xs rest t.1.0 t.1.1
@@ -62,7 +62,7 @@ found_is r xs rest e = ap found e
 
 -- ---- replaced ids
 
-pub replaced_seen : (bad : BundleFault) (own : Id) (n : ℕ) (bytes rest : List ℕ) → IsBytes bytes → after (many_at (named_at bad own) after_id n None bytes) ≡ Ok rest → many_at (named_at bad own) after_id n None bytes ≡ Ok (found (each_id_at n bytes), rest)
+pub replaced_seen : (bad : BundleFault) (own : Id) (n : ℕ) (bytes rest : List ℕ) → AreBytes bytes → after (many_at (named_at bad own) after_id n None bytes) ≡ Ok rest → many_at (named_at bad own) after_id n None bytes ≡ Ok (found (each_id_at n bytes), rest)
 replaced_seen bad own n bytes rest fits e =
     let r = after_ok (many_at (named_at bad own) after_id n None bytes) rest e in
     let again = each_as (named_at bad own) after_id (id_at Truncated) id (IsNamed own) (λ i. is_id i ≡ true) (named_reads bad own) (id_reads Truncated) (λ s i f. f.0) n None bytes r.0 rest fits r.1 in
@@ -78,7 +78,7 @@ pub record Parts (bytes : List ℕ) (n : ℕ) (operations left : List ℕ) : Typ
   pub count : length ops ≡ n
   pub set : IsSpelled ops
 
-pub bundle_parts : (bytes rest : List ℕ) (n : ℕ) (operations left : List ℕ) → IsBytes bytes → exactly_at magic Magic bytes ≡ Ok (tt, rest) → number_at w64 any Truncated rest ≡ Ok (n, operations) → after (operations_at n (1, None) operations) ≡ Ok left → Parts bytes n operations left
+pub bundle_parts : (bytes rest : List ℕ) (n : ℕ) (operations left : List ℕ) → AreBytes bytes → exactly_at magic Magic bytes ≡ Ok (tt, rest) → number_at w64 any Truncated rest ≡ Ok (n, operations) → after (operations_at n (1, None) operations) ≡ Ok left → Parts bytes n operations left
 unfolding bundle_at
 bundle_parts bytes rest n operations left fits first second third =
     let a = (exactly_reads magic Magic).takes bytes tt rest fits first in
@@ -112,7 +112,7 @@ own_spells bytes n operations left p =
 spelled_in : (bytes : List ℕ) → length bytes < 2 ^ 64 → (ops : List Operation) (rest : List ℕ) → IsOpSet ops → bytes ≡ bundle ops ++ rest → IsSpelled ops
 spelled_in bytes short ops rest set is = (set, AreCounted-from_length ops (omega (arith, ap length is, length-append (bundle ops) rest)))
 
-module _ (bytes : List ℕ) (fits : IsBytes bytes) (ops : List Operation) (left : List ℕ) (e : bundle_at bytes ≡ Ok (ops, left)) where
+module _ (bytes : List ℕ) (fits : AreBytes bytes) (ops : List Operation) (left : List ℕ) (e : bundle_at bytes ≡ Ok (ops, left)) where
   pub read_parts : bytes ≡ bundle ops ++ left
   read_parts = (bundle_reads.takes bytes ops left fits e).0.parts
 

@@ -14,9 +14,9 @@ use Rattle.op_core.specs.Ops.{Operation}
 use Rattle.bundle_codec.specs.declared.fault.BundleFault.{BundleFault}
 use Rattle.bundle_codec.specs.declared.fault.BundleFault.TheVariants.{Truncated, BadKey}
 use Rattle.bundle_codec.specs.Spelling.{id, key, ids, body, operation}
-use Rattle.bundle_codec.specs.Reading.{◌>>=◌, any, byte_at, block_at, number_at, many_at, id_at, key_at, body_at, operation_at, after}
+use Rattle.bundle_codec.specs.Reading.{AreBytes, ◌>>=◌, any, byte_at, block_at, number_at, many_at, id_at, key_at, body_at, operation_at, after}
 use Rattle.bundle_codec.specs.Views.{each_at, found, each_id_at, ids_at}
-use Rattle.bundle_codec.proofs.Readers.{IsBytes, Each, Reader, Reads, step, reads_as, block_reads, number_reads, many_reads, wide64, ok_is}
+use Rattle.bundle_codec.proofs.Readers.{Each, Reader, Reads, step, reads_as, block_reads, number_reads, many_reads, wide64, ok_is}
 use Rattle.bundle_codec.proofs.Spelled.{Follows, number_below, code_length, id_reads, key_reads, body_reads, operation_reads}
 
 pub is_ok : {A : Type 0} (r : Result A BundleFault) (x : A) → r ≡ Ok x → IsOk r
@@ -32,7 +32,7 @@ pub record Front {A : Type 0} (read : Reader A) (spell : A → List ℕ) (Fits :
   pub parts : bytes ≡ spell first ++ left
   pub fits : Fits first
 
-pub front : {A : Type 0} {read : Reader A} {spell : A → List ℕ} {Fits : A → Type 0} → Reads read spell Fits → (bytes : List ℕ) → IsBytes bytes → IsOk (read bytes) → Front read spell Fits bytes
+pub front : {A : Type 0} {read : Reader A} {spell : A → List ℕ} {Fits : A → Type 0} → Reads read spell Fits → (bytes : List ℕ) → AreBytes bytes → IsOk (read bytes) → Front read spell Fits bytes
 front {read = read} {spell = spell} {Fits = Fits} reads bytes fine h = by (read bytes) refl h
   where
     by : (r : Result _ BundleFault) → read bytes ≡ r → IsOk r → Front read spell Fits bytes
@@ -53,7 +53,7 @@ module _ {A : Type 0} (r : Result (A × List ℕ) BundleFault) (x y : A) (left r
 
 -- ---- an id
 
-module _ (bytes : List ℕ) (fine : IsBytes bytes) (h : IsOk (id_at Truncated bytes)) where
+module _ (bytes : List ℕ) (fine : AreBytes bytes) (h : IsOk (id_at Truncated bytes)) where
   id_front : Front (id_at Truncated) id (λ i. is_id i ≡ true) bytes
   id_front = front (id_reads Truncated) bytes fine h
 
@@ -190,7 +190,7 @@ ids_reads =
 
 -- ---- an operation
 
-module _ (bytes : List ℕ) (fine : IsBytes bytes) (h : IsOk (operation_at 0 None bytes)) where
+module _ (bytes : List ℕ) (fine : AreBytes bytes) (h : IsOk (operation_at 0 None bytes)) where
   op_front : Front (operation_at 0 None) operation (Follows None) bytes
   op_front = front (operation_reads 0 None) bytes fine h
 

@@ -1,13 +1,14 @@
 -- Bytes that are one bundle and nothing more.
-use Rattle.std.proofs.Common.{◌≡◌, ◌≢◌, ℕ, ◌^◌, ◌<◌, ◌≤◌, List, [], ◌∷◌, ◌++◌, length, take, drop, Ok, Err, refl, sym, ap, ◌∙◌, append_assoc, arith}
+use Rattle.std.proofs.Common.{◌≡◌, ◌≢◌, ℕ, ◌^◌, ◌<◌, ◌≤◌, List, [], ◌∷◌, ◌++◌, length, take, drop, Result, Ok, Err, refl, sym, ap, subst, ◌∙◌, append_assoc, arith}
 use Rattle.std.specs.Int.{w64, to_be_bytes}
 use Rattle.std.specs.List.{flat_map}
 use Rattle.std.proofs.lemmas.List.{append-nil, length-append, length-drop, take_at, drop_at}
 use Rattle.op_core.specs.Ops.{Operation}
 use Rattle.op_core.specs.Sets.{IsOpSet}
+use Rattle.bundle_codec.specs.declared.fault.BundleFault.{BundleFault}
 use Rattle.bundle_codec.specs.declared.fault.WholeFault.TheVariants.{Trailing}
 use Rattle.bundle_codec.specs.Spelling.{magic, operation, bundle}
-use Rattle.bundle_codec.specs.Reading.{bundle_at}
+use Rattle.bundle_codec.specs.Reading.{AreBytes, bundle_at}
 use Rattle.bundle_codec.specs.Joining.{nothing_after, whole_if, whole_at, IsBundle, IsFollowed}
 use Rattle.bundle_codec.proofs.Spelled.{bundle_reads}
 use Rattle.bundle_codec.proofs.OneSpelling.{AreCounted-from_length}
@@ -36,6 +37,21 @@ whole_reads bytes b =
     let alone = sym (append-nil (bundle b.ops)) in
     ap whole_at (b.spelled ∙ alone)
     ∙ ap whole_if (is_read b.ops [] b.set (omega (arith, ap length b.spelled, ap length alone, b.short)))
+
+nothing_left : (ops held : List Operation) (rest : List ℕ) → nothing_after ops rest ≡ Ok held → (ops ≡ held) × (rest ≡ [])
+nothing_left ops held [] e = (cc e, refl)
+nothing_left ops held (b ∷ rest) e = cc e
+
+-- bytes that are read to their end as a set are its bundle
+pub whole_is : (bytes : List ℕ) (held : List Operation) → AreBytes bytes → whole_at bytes ≡ Ok held → IsOpSet held × (bytes ≡ bundle held)
+whole_is bytes held fits e = by (bundle_at bytes) refl e
+  where
+    by : (r : Result (List Operation × List ℕ) BundleFault) → bundle_at bytes ≡ r → whole_if r ≡ Ok held → IsOpSet held × (bytes ≡ bundle held)
+    by (Err fault) f e = cc e
+    by (Ok read) f e =
+        let none = nothing_left read.0 held read.1 e in
+        let t = bundle_reads.takes bytes read.0 read.1 fits f in
+        (subst IsOpSet none.0 t.1.0, t.0.parts ∙ (λ i. bundle (none.0 i) ++ none.1 i) ∙ append-nil (bundle held))
 
 -- a bundle is its front with the count, and the operations
 pub fronted : (ops : List Operation) → (magic ++ to_be_bytes w64 (length ops)) ++ flat_map operation ops ≡ bundle ops

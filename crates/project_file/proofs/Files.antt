@@ -1,41 +1,22 @@
 -- Project files: what is spelled is read, and what is read is spelled so.
 use Rattle.std.proofs.Common.{◌≡◌, ℕ, ◌<◌, ◌^◌, List, [], ◌∷◌, ◌++◌, length, Option, Some, None, Result, Ok, Err, Vec, IfOk, refl, sym, ap, subst, ◌∙◌, append_assoc, arith}
-use Rattle.std.proofs.lemmas.List.{length-append, append-nil}
+use Rattle.std.proofs.lemmas.List.{length-append}
 use Rattle.op_core.specs.Ids.{Id}
 use Rattle.op_core.specs.Ops.{Operation}
 use Rattle.op_core.specs.Sets.{IsOpSet, clash}
 use Rattle.op_core.proofs.Fronts.{join_none}
 use Rattle.op_core.proofs.SideBySide.{clash_none}
-use Rattle.bundle_codec.specs.declared.fault.BundleFault.{BundleFault}
 use Rattle.bundle_codec.specs.declared.fault.WholeFault.{WholeFault}
 use Rattle.bundle_codec.specs.Spelling.{bundle}
-use Rattle.bundle_codec.specs.Reading.{bundle_at}
-use Rattle.bundle_codec.specs.Joining.{nothing_after, whole_if, whole_at}
-use Rattle.bundle_codec.proofs.Readers.{IsBytes}
-use Rattle.bundle_codec.proofs.Spelled.{bundle_reads}
-use Rattle.bundle_codec.proofs.Wholes.{whole_reads}
+use Rattle.bundle_codec.specs.Reading.{AreBytes}
+use Rattle.bundle_codec.specs.Joining.{whole_at}
+use Rattle.bundle_codec.proofs.Wholes.{whole_reads, whole_is}
 use Rattle.replica_state.specs.States.{State, IsState, begun}
 use Rattle.replica_state.specs.Steps.{with_ops}
 use Rattle.project_file.specs.declared.fault.LoadFault.{LoadFault}
 use Rattle.project_file.specs.declared.fault.LoadFault.TheVariants.{Bundle}
 use Rattle.project_file.specs.Projects.{magic, project, front_at, state_of, behind_front, project_at}
 use Rattle.project_file.proofs.Fronts.{IsFront, front_again, front_is, bytes_behind}
-
--- ---- a bundle and nothing more
-
-nothing_left : (ops held : List Operation) (rest : List ℕ) → nothing_after ops rest ≡ Ok held → (ops ≡ held) × (rest ≡ [])
-nothing_left ops held [] e = (cc e, refl)
-nothing_left ops held (b ∷ rest) e = cc e
-
-whole_is : (bytes : List ℕ) (held : List Operation) → IsBytes bytes → whole_at bytes ≡ Ok held → IsOpSet held × (bytes ≡ bundle held)
-whole_is bytes held fits e = by (bundle_at bytes) refl e
-  where
-    by : (r : Result (List Operation × List ℕ) BundleFault) → bundle_at bytes ≡ r → whole_if r ≡ Ok held → IsOpSet held × (bytes ≡ bundle held)
-    by (Err fault) f e = cc e
-    by (Ok read) f e =
-        let none = nothing_left read.0 held read.1 e in
-        let t = bundle_reads.takes bytes read.0 read.1 fits f in
-        (subst IsOpSet none.0 t.1.0, t.0.parts ∙ (λ i. bundle (none.0 i) ++ none.1 i) ∙ append-nil (bundle held))
 
 -- ---- what is spelled is read
 
@@ -91,7 +72,7 @@ IsFileOf-from_parts bytes name rest held f set e = record {
   spelled = f.spelled ∙ ap (λ (w : List ℕ). magic ++ (length name ∷ (name ++ w))) e;
 }
 
-pub project_is : (bytes : List ℕ) (s : State) → IsBytes bytes → project_at bytes ≡ Ok s → IsFileOf bytes s
+pub project_is : (bytes : List ℕ) (s : State) → AreBytes bytes → project_at bytes ≡ Ok s → IsFileOf bytes s
 project_is bytes s fits e = by_front (front_at bytes) refl e
   where
     by_whole : (name rest : List ℕ) → IsFront bytes name rest → (r : Result (List Operation) WholeFault) → whole_at rest ≡ r → state_of name r ≡ Ok s → IsFileOf bytes s

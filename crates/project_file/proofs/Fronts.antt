@@ -1,13 +1,13 @@
 -- The front of a project file: what is spelled is read, and what is read is spelled so.
-use Rattle.std.proofs.Common.{◌≡◌, ℕ, ◌<◌, Bool, true, false, ◌&&◌, cond, eqb, leb, List, [], ◌∷◌, ◌++◌, length, take, drop, Some, None, IsTrue, refl, sym, ap, subst, ◌∙◌, arith, inl, inr}
-use Rattle.std.specs.List.{starts_with, All}
-use Rattle.std.proofs.lemmas.Bool.{cases_lt, and_parts, leb-true, le-leb}
+use Rattle.std.proofs.Common.{◌≡◌, ℕ, Bool, true, false, ◌&&◌, cond, eqb, leb, List, [], ◌∷◌, ◌++◌, length, take, drop, Some, None, IsTrue, refl, sym, ap, subst, ◌∙◌, arith}
+use Rattle.std.specs.List.{starts_with}
+use Rattle.std.proofs.lemmas.Bool.{and_parts, leb-true, le-leb}
 use Rattle.std.proofs.lemmas.Bool.Decides.{Decides-eqb}
-use Rattle.std.proofs.lemmas.List.{take_at, drop_at, take-append-drop, length-append, length-take-le, get_or_past}
-use Rattle.std.proofs.lemmas.List.Elements.{All-get_or}
+use Rattle.std.proofs.lemmas.List.{take_at, drop_at, take-append-drop, length-append, length-take-le}
 use Rattle.std.proofs.lemmas.Slice.Eq.{starts_is}
 use Rattle.op_core.specs.Names.{is_name}
-use Rattle.bundle_codec.proofs.Readers.{IsBytes, IsBytes-drop}
+use Rattle.bundle_codec.specs.Reading.{AreBytes}
+use Rattle.bundle_codec.proofs.Readers.{AreBytes-drop}
 use Rattle.project_file.specs.Projects.{magic, name_at, front_at}
 
 -- a name behind the magic and its length, and what follows it
@@ -57,16 +57,9 @@ front_is bytes name rest e = behind_magic (starts_with eqb bytes magic) bytes na
 
 -- ---- bytes
 
-pub IsBytes-from_All : (bytes : List ℕ) → All (λ b. b < 256) bytes → IsBytes bytes
-IsBytes-from_All bytes h i =
-    elim (cases_lt i (length bytes)) [
-      | inl lt ↦ All-get_or (λ b. b < 256) bytes i 0 lt h
-      | inr le ↦ rw (get_or_past bytes i 0 le) (omega arith)
-    ]
-
-pub bytes_behind : (bytes name rest : List ℕ) → IsBytes bytes → IsFront bytes name rest → IsBytes rest
+pub bytes_behind : (bytes name rest : List ℕ) → AreBytes bytes → IsFront bytes name rest → AreBytes rest
 unfolding magic
 bytes_behind bytes name rest fits f =
-    let whole : IsBytes (magic ++ (length name ∷ (name ++ rest))) = subst IsBytes f.spelled fits in
-    let behind : IsBytes (name ++ rest) = IsBytes-drop 9 (magic ++ (length name ∷ (name ++ rest))) whole in
-    subst IsBytes (drop_at name rest (length name) refl) (IsBytes-drop (length name) (name ++ rest) behind)
+    let whole : AreBytes (magic ++ (length name ∷ (name ++ rest))) = subst AreBytes f.spelled fits in
+    let behind : AreBytes (name ++ rest) = AreBytes-drop 9 (magic ++ (length name ∷ (name ++ rest))) whole in
+    subst AreBytes (drop_at name rest (length name) refl) (AreBytes-drop (length name) (name ++ rest) behind)

@@ -1,5 +1,6 @@
 -- Laws of project files.
-use Rattle.std.specs.Prelude.{◌≡◌, ◌<◌, ◌^◌, ℕ, List, length, All, Ok}
+use Rattle.std.specs.Prelude.{◌≡◌, ◌<◌, ◌^◌, ℕ, List, length, Ok}
+use Rattle.bundle_codec.specs.Reading.{AreBytes}
 use Rattle.replica_state.specs.States.{State, IsState}
 use Rattle.project_file.specs.Projects.{project, project_at}
 
@@ -9,7 +10,7 @@ SavedIsLoaded = (s : State) → IsState s → length (project s) < 2 ^ 64 → pr
 
 -- what was loaded is saved as the same bytes
 abbrev pub LoadedIsSaved : Type 0
-LoadedIsSaved = (bytes : List ℕ) (s : State) → All (λ b. b < 256) bytes → project_at bytes ≡ Ok s → IsState s × (project s ≡ bytes)
+LoadedIsSaved = (bytes : List ℕ) (s : State) → AreBytes bytes → project_at bytes ≡ Ok s → IsState s × (project s ≡ bytes)
 
 -- the project files of two replicas that differ in their names or sets differ
 abbrev pub OneReplica : Type 0

@@ -9,10 +9,10 @@ use Rattle.op_core.specs.Laws.Joining.{Part, Joined}
 use Rattle.op_core.proofs.Together.{joined_in, same_from_none}
 use Rattle.bundle_codec.specs.declared.fault.BundleFault.{BundleFault}
 use Rattle.bundle_codec.specs.Spelling.{bundle, AreCounted}
-use Rattle.bundle_codec.specs.Reading.{bundle_at}
+use Rattle.bundle_codec.specs.Reading.{AreBytes, bundle_at}
 use Rattle.bundle_codec.proofs.Spelled.{bundle_reads}
 use Rattle.usfm_cli.specs.Streams.{with_set, unless_clash, union_within, union_in, union_with, AreSpelled, book_in, book_of_stream}
-use Rattle.usfm_cli.specs.StreamLaws.{AreBytes, IsStreamOf}
+use Rattle.usfm_cli.specs.StreamLaws.{IsStreamOf}
 use Rattle.usfm_cli.specs.declared.fault.Fault.{Fault}
 use Rattle.usfm_cli.proofs.Unions.{next, bundle_is_some}
 

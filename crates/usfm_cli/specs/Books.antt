@@ -3,7 +3,7 @@ use Rattle.std.specs.Prelude.{◌≡◌, ℕ, List, Option, Ok}
 use Rattle.std.specs.Io.KnownBytes.{Appends}
 use Rattle.op_core.specs.Ops.{Operation}
 use Rattle.usfm_export.specs.Books.{IsBookOf}
-use Rattle.usfm_cli.specs.StreamLaws.{AreBytes}
+use Rattle.bundle_codec.specs.Reading.{AreBytes}
 use Rattle.usfm_cli.specs.Streams.{book_of_stream}
 
 -- a sink took such a book

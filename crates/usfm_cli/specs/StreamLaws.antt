@@ -1,12 +1,9 @@
 -- Laws of streams of bundles.
-use Rattle.std.specs.Prelude.{◌≡◌, ◌<◌, ℕ, List, [], Ok, slice_index}
+use Rattle.std.specs.Prelude.{◌≡◌, ℕ, List, [], Ok}
 use Rattle.op_core.specs.Ops.{Operation}
 use Rattle.op_core.specs.Laws.{SameTogether}
+use Rattle.bundle_codec.specs.Reading.{AreBytes}
 use Rattle.usfm_cli.specs.Streams.{union_in, union_with, AreSpelled, book_of_stream}
-
--- each is a byte
-abbrev pub AreBytes : List ℕ → Type 0
-AreBytes bytes = (i : ℕ) → slice_index bytes i < 256
 
 -- bundles one after another give the union of their sets, taken one after another, or the first clash
 abbrev pub StreamsGiveUnions : Type 0
