@@ -18,7 +18,7 @@ import time
 HERE = os.path.dirname(os.path.abspath(__file__))
 TOP = os.path.dirname(os.path.dirname(HERE))
 PROGRAM = os.path.join(TOP, "crates/usfm_team/out/usfm_team")
-TURNS = 5
+TURNS = 15
 
 
 def once(command, stream):

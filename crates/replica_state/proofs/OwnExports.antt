@@ -1,5 +1,5 @@
 -- The import of the export of a book whose head has an operation adds nothing.
-use Rattle.std.proofs.Common.{◌≡◌, ◌≢◌, ℕ, ◌+◌, ◌≤◌, Bool, true, false, not, cond, ◌&&◌, ◌||◌, nat_le, ◌==◌, List, [], ◌∷◌, ◌++◌, filter, length, Option, None, Some, Result, Ok, arith, refl, sym, ap, subst, ◌∙◌}
+use Rattle.std.proofs.Common.{◌≡◌, ◌≢◌, ℕ, ◌+◌, ◌≤◌, Bool, true, false, not, cond, ◌&&◌, ◌||◌, nat_le, ◌==◌, List, [], ◌∷◌, filter, Some, Result, Ok, arith, refl, sym, ap, subst, ◌∙◌}
 use Rattle.std.specs.List.{AllByRecursion, list_any}
 use Rattle.std.specs.Ordering.{is_eq}
 use Rattle.std.specs.Option.{is_some}
@@ -11,7 +11,7 @@ use Rattle.usfm_ref.proofs.Orders.{same_bytes-is, same_bytes-refl, same_key-is}
 use Rattle.verse_cut.specs.Keys.{key_below}
 use Rattle.verse_cut.specs.Fits.{IsHeaded}
 use Rattle.verse_cut.specs.Pieces.{Part, pieces_of}
-use Rattle.verse_cut.specs.Joins.{KeyText, filled, at_book_head, pieces_from, texts_joined}
+use Rattle.verse_cut.specs.Joins.{filled, at_book_head}
 use Rattle.verse_cut.specs.Reading.{book_in, is_empty, text_fits}
 use Rattle.verse_cut.specs.declared.fault.BookFault.{BookFault}
 use Rattle.verse_cut.proofs.BookLaws.{joins_keep_their_book}
@@ -33,7 +33,7 @@ use Rattle.replica_state.specs.Edits.{has_numbers}
 use Rattle.replica_state.specs.Imports as spec
 use Rattle.replica_state.specs.Imports.{piece_of, piece_at, has_verse, is_due, loses_line, walked_keys, due_keys, edits_numbered, import_into}
 use Rattle.replica_state.specs.ImportLaws.{OwnExportsAddNothing}
-use Rattle.replica_state.specs.Steps.{Step, Import, Imported, imported, step}
+use Rattle.replica_state.specs.Steps.{Import, Imported, imported, step}
 use Rattle.replica_state.proofs.Exports.{behind_head, later_at}
 use Rattle.replica_state.proofs.ImportedTexts.{any_found, verse_wants_none}
 use Rattle.replica_state.proofs.KeyTexts.{key_is, text_at, text_of_piece}

@@ -12,7 +12,7 @@ returns-clause-spelled c =
     let counted = c.in_ok-extend_from_slice-2.ensures.items ∙ ap (λ (w : List ℕ). w ++ length name ∷ []) front in
     let named = c.in_ok-extend_from_slice-3.ensures.items ∙ ap (λ (w : List ℕ). w ++ name) counted in
     let whole = ap (λ (w : List ℕ). w ++ bundle c.args.replica.now.held) named
-        ∙ project-parts c.args.replica.now name (c.as_bytes-name.ensures.value ∙ c.text.ensures.text ∙ c.name-name.ensures.name) in
+    ∙ project-parts c.args.replica.now name (c.as_bytes-name.ensures.value ∙ c.text.ensures.text ∙ c.name-name.ensures.name) in
     subst (λ (w : List ℕ). IfOk c.bundle_after.result (λ v. v.items ≡ w)) whole c.bundle_after.ensures
 
 pub returns-clause-again : goal.returns-clause-again
