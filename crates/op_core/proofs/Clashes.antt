@@ -1,5 +1,5 @@
 -- The clash of two sets is the same either way.
-use Rattle.std.proofs.Common.{◌≡◌, Bool, true, false, not, cond, List, [], ◌∷◌, Option, Some, None, refl, sym, ap, subst, ◌∙◌}
+use Rattle.std.proofs.Common.{◌≡◌, ◌≢◌, Bool, true, false, not, cond, List, [], ◌∷◌, Option, Some, None, refl, sym, ap, subst, ◌∙◌}
 use Rattle.std.specs.declared.cmp.Ordering.{Ordering}
 use Rattle.std.specs.declared.cmp.Ordering.TheVariants.{Less, Equal, Greater}
 use Rattle.std.specs.List.{list_all, find}
@@ -8,6 +8,7 @@ use Rattle.std.proofs.lemmas.Bool.{and_parts, cond-false, cond-true, false≢tru
 use Rattle.op_core.specs.Ids.{Id, id_cmp, same_id, id_below}
 use Rattle.op_core.specs.Ops.{Operation, same_op}
 use Rattle.op_core.specs.Sets.{rises, get, differs, clash}
+use Rattle.op_core.specs.Laws.{AgreeAt, ClashAt}
 use Rattle.op_core.proofs.Rising.{id_exact}
 use Rattle.op_core.specs.Equal.{id_from_same, same_id-refl}
 use Rattle.op_core.proofs.Union.{AllAbove, above_trans, rises_parts, get_above, apart_below, apart_above, less_below, greater_below}
@@ -113,3 +114,42 @@ clash_comm xs ys hx hy = by (find (Differs xs) ys) refl (find (Differs ys) xs) r
     by (Some o) e s f = sym (same_first xs ys o hx (first_is (Differs xs) ys o hy e) s f)
     by None e None f = refl
     by None e (Some x) f = same_first ys xs x hy (first_is (Differs ys) xs x hx f) None e
+
+-- an operation that is equal to one of its id
+same_of_no_difference : (p o : Operation) → differs (Some p) o ≡ false → p ≡ o
+same_of_no_difference p o h = by (same_op p o) refl h
+  where
+    by : (b : Bool) → same_op p o ≡ b → not b ≡ false → p ≡ o
+    by true e h = same_op-is p o e
+    by false e h = absurd (true≢false h)
+
+-- the first that differs is a clash
+clash_at : (xs ys : List Operation) (o : Operation) → FirstIs (Differs xs) ys o → ClashAt xs ys o.id
+clash_at xs ys o f = by (get xs o.id) refl f.passes
+  where
+    apart : (p : Operation) → differs (Some p) o ≡ true → p ≢ o
+    apart p d s = true≢false (sym (subst (λ (q : Operation). same_op p q ≡ true) s (same_op-refl p)) ∙ not-true (same_op p o) d)
+
+    agree : (q : Id) → id_below q o.id ≡ true → AgreeAt xs ys q
+    agree q l u v gu gv =
+        let is : v.id ≡ q = get_id ys q v gv in
+        let at : get xs v.id ≡ Some u = ap (get xs) is ∙ gu in
+        same_of_no_difference u v (ap (λ (r : Option Operation). differs r v) (sym at) ∙ f.before q v gv l)
+
+    by : (r : Option Operation) → get xs o.id ≡ r → differs r o ≡ true → ClashAt xs ys o.id
+    by None e d = absurd (false≢true d)
+    by (Some p) e d = record {
+      one = p;
+      other = o;
+      one_held = e;
+      other_held = f.held;
+      differ = apart p d;
+      below = agree;
+    }
+
+pub clash_is : (xs ys : List Operation) (id : Id) → rises ys ≡ true → clash xs ys ≡ Some id → ClashAt xs ys id
+clash_is xs ys id hy h = by (find (Differs xs) ys) refl h
+  where
+    by : (r : Option Operation) → find (Differs xs) ys ≡ r → option_map (λ (p : Operation). p.id) r ≡ Some id → ClashAt xs ys id
+    by None e h = cc h
+    by (Some o) e h = let is : o.id ≡ id = cc h in subst (ClashAt xs ys) is (clash_at xs ys o (first_is (Differs xs) ys o hy e))

@@ -1,13 +1,14 @@
 -- Joining what is not held yet.
-use Rattle.std.proofs.Common.{◌≡◌, suc, ◌+◌, Bool, true, false, cond, List, [], ◌∷◌, Option, Some, None, length, filter, is_none, arith, refl, sym, ap, ◌∙◌}
+use Rattle.std.proofs.Common.{◌≡◌, suc, ◌+◌, Bool, true, false, not, cond, List, [], ◌∷◌, Option, Some, None, length, filter, is_none, arith, refl, sym, ap, ◌∙◌}
 use Rattle.std.specs.declared.cmp.Ordering.TheVariants.{Less, Equal, Greater}
-use Rattle.std.specs.Option.{option_or}
+use Rattle.std.specs.List.{find}
+use Rattle.std.specs.Option.{option_or, option_map}
 use Rattle.std.specs.FinMap.Entries.{by_order}
 use Rattle.usfm_ref.proofs.Sorted.{rises_filter}
 use Rattle.op_core.specs.Ids.{Id, id_cmp, same_id}
-use Rattle.op_core.specs.Equal.{id_from_same}
+use Rattle.op_core.specs.Equal.{id_from_same, same_op-refl}
 use Rattle.op_core.specs.Ops.{Operation}
-use Rattle.op_core.specs.Sets.{rises, get, put, join}
+use Rattle.op_core.specs.Sets.{rises, get, put, join, differs, clash, AreHeld}
 use Rattle.op_core.specs.Index.{AreApart}
 use Rattle.op_core.proofs.Rising.{id_total}
 use Rattle.op_core.proofs.Union.{rises_parts, get_above, rises-join, get-join, same_gets}
@@ -44,6 +45,18 @@ join_fresh held new hh hn = same_gets _ _ (rises-join held (fresh held new) hh) 
     by : (q : Id) (r : Option Operation) → get held q ≡ r → option_or (get held q) (get (fresh held new) q) ≡ option_or (get held q) (get new q)
     by q None e = ap (option_or (get held q)) (get_fresh held new q e)
     by q (Some x) e = rw e refl
+
+-- ---- operations that are held, alike
+
+pub nothing_fresh : (held ops : List Operation) → AreHeld held ops → fresh held ops ≡ []
+nothing_fresh held [] h = refl
+nothing_fresh held (o ∷ ops) h = ap (λ (r : Option Operation). cond (is_none r) (o ∷ fresh held ops) (fresh held ops)) h.0 ∙ nothing_fresh held ops h.1
+
+pub held_without_clash : (held ops : List Operation) → AreHeld held ops → clash held ops ≡ None
+held_without_clash held [] h = refl
+held_without_clash held (o ∷ ops) h =
+    let same : differs (get held o.id) o ≡ false = ap (λ (r : Option Operation). differs r o) h.0 ∙ ap not (same_op-refl o) in
+    ap (λ (b : Bool). option_map (λ (q : Operation). q.id) (cond b (Some o) (find (λ (q : Operation). differs (get held q.id) q) ops))) same ∙ held_without_clash held ops h.1
 
 -- ---- how many they are
 

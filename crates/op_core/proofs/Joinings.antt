@@ -1,14 +1,14 @@
 -- Sets joined in some order, grouping and repetition hold what one of them holds.
-use Rattle.std.proofs.Common.{◌≡◌, ℕ, zero, suc, ◌<◌, List, [], ◌∷◌, length, get_or, Option, Some, None, Result, Ok, Err, ◌⊎◌, inl, inr, arith, refl, sym, ap, subst, ◌∙◌}
+use Rattle.std.proofs.Common.{◌≡◌, ℕ, zero, suc, ◌<◌, List, [], ◌∷◌, length, get_or, Option, Some, None, Result, Ok, Err, ◌⊎◌, inl, inr, arith, refl, sym, ap, subst, ◌∙◌, is_ok}
 use Rattle.std.specs.List.{Contains, AllByRecursion}
 use Rattle.std.specs.Option.{option_or}
 use Rattle.op_core.specs.Ids.{Id}
 use Rattle.op_core.specs.Ops.{Operation}
 use Rattle.op_core.specs.Sets.{IsOpSet, get, join, clash}
-use Rattle.op_core.specs.Laws.{Joining, AreSets, IsInOne, SameOperations, joined_or_clash, with_both, union_by}
+use Rattle.op_core.specs.Laws.{Joining, AreSets, IsInOne, SameOperations, joined_or_clash, with_both, union_by, RefusedAlike}
 use Rattle.op_core.specs.Laws.Joining.{Part, Joined}
 use Rattle.op_core.proofs.Union.{IsOpSet-join, get-join, same_gets, agree_from_no_clash, held_itself}
-use Rattle.op_core.proofs.Clashes.{get_cases, get_id}
+use Rattle.op_core.proofs.Clashes.{get_cases, get_id, clash_is}
 
 -- an operation that is held under an id is in the set
 pub Contains-get : (xs : List Operation) (q : Id) (o : Operation) → get xs q ≡ Some o → Contains xs o
@@ -93,3 +93,38 @@ same_unions one other a b s t same ha hb = same_gets a b (IsOpSet-union_by one a
     by q (Some o) e y f = e ∙ sym (crossed one other a b s t ha hb same.there q o e)
     by q None e (Some o) f = crossed other one b a t s hb ha same.back q o f ∙ sym f
     by q None e None f = e ∙ sym f
+
+-- ---- refused alike
+
+-- in a union, operations of one id are one
+one_of_an_id : (way : Joining) (a : List Operation) (o p : Operation) → AreSets way → union_by way ≡ Ok a → IsInOne way o → IsInOne way p → o.id ≡ p.id → o ≡ p
+one_of_an_id way a o p s h i j same =
+    let there = one_is_held way a o s h i in
+    let here = one_is_held way a p s h j in
+    cc (sym there ∙ ap (get a) same ∙ here)
+
+-- sets of which no two have two operations of one id are joined
+joined_if_one : (way : Joining) → AreSets way → ((o p : Operation) → IsInOne way o → IsInOne way p → o.id ≡ p.id → o ≡ p) → (a : List Operation) × (union_by way ≡ Ok a)
+joined_if_one (Part set) s one = (set, refl)
+joined_if_one (Joined l r) s one =
+    let x = joined_if_one l s.0 (λ o p i j. one o p (inl i) (inl j)) in
+    let y = joined_if_one r s.1 (λ o p i j. one o p (inr i) (inr j)) in
+    by x.0 y.0 x.1 y.1 (clash x.0 y.0) refl
+  where
+    by : (x y : List Operation) → union_by l ≡ Ok x → union_by r ≡ Ok y → (c : Option Id) → clash x y ≡ c → (a : List Operation) × (union_by (Joined l r) ≡ Ok a)
+    by x y ex ey None e = (join x y, (λ i. with_both (ex i) (ey i) (λ a b. joined_or_clash a b (clash a b))) ∙ ap (joined_or_clash x y) e)
+    by x y ex ey (Some id) e =
+        let c = clash_is x y id (IsOpSet-union_by r y s.1 ey).rising e in
+        let same = get_id x id c.one c.one_held ∙ sym (get_id y id c.other c.other_held) in
+        absurd (c.differ (one c.one c.other (inl (held_from_one l x id c.one s.0 ex c.one_held)) (inr (held_from_one r y id c.other s.1 ey c.other_held)) same))
+
+pub refused_alike : RefusedAlike
+refused_alike one other s t same = by (union_by one) refl (union_by other) refl
+  where
+    made_there : (w v : Joining) (a : List Operation) → AreSets w → AreSets v → ((o : Operation) → IsInOne v o → IsInOne w o) → union_by w ≡ Ok a → (b : List Operation) × (union_by v ≡ Ok b)
+    made_there w v a s t f h = joined_if_one v t (λ o p i j. one_of_an_id w a o p s h (f o i) (f p j))
+
+    by : (x : Result (List Operation) Id) → union_by one ≡ x → (y : Result (List Operation) Id) → union_by other ≡ y → is_ok (union_by one) ≡ is_ok (union_by other)
+    by (Ok a) ex y ey = let b = made_there one other a s t same.back ex in ap is_ok ex ∙ sym (ap is_ok b.1)
+    by (Err id) ex (Ok b) ey = let a = made_there other one b t s same.there ey in ap is_ok a.1 ∙ sym (ap is_ok ey)
+    by (Err id) ex (Err other) ey = ap is_ok ex ∙ sym (ap is_ok ey)

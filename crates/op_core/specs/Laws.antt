@@ -1,9 +1,9 @@
 -- Laws of sets of operations.
-use Rattle.std.specs.Prelude.{◌≡◌, ◌≢◌, ℕ, true, List, [], ◌∷◌, None, Some, Result, Ok, Err, Option, ◌⊎◌}
+use Rattle.std.specs.Prelude.{◌≡◌, ◌≢◌, ℕ, true, List, [], ◌∷◌, None, Some, Result, Ok, Err, Option, ◌⊎◌, IsTrue, is_ok}
 use Rattle.std.specs.List.{list_any, Contains}
 use Rattle.std.specs.Option.{option_or}
 use Rattle.usfm_ref.specs.Segments.{Segment}
-use Rattle.op_core.specs.Ids.{Id}
+use Rattle.op_core.specs.Ids.{Id, id_below}
 use Rattle.op_core.specs.Ops.{Operation, in_segment}
 use Rattle.op_core.specs.Sets.{IsOpSet, get, join, clash}
 use Rattle.op_core.specs.Shown.{shown}
@@ -20,6 +20,27 @@ JoinCommutes = (a b : List Operation) → IsOpSet a → IsOpSet b → clash a b 
 -- two sets clash at one id, whichever comes first
 abbrev pub ClashCommutes : Type 0
 ClashCommutes = (a b : List Operation) → IsOpSet a → IsOpSet b → clash a b ≡ clash b a
+
+-- two sets agree at an id if both hold no other operation under it than one
+abbrev pub AgreeAt : List Operation → List Operation → Id → Type 0
+AgreeAt a b id = (o p : Operation) → get a id ≡ Some o → get b id ≡ Some p → o ≡ p
+
+-- two sets clash at an id: each holds an operation under it, the two are not equal, and below it the sets agree
+pub record ClashAt (a b : List Operation) (id : Id) : Type 0 where
+  pub one : Operation
+  pub other : Operation
+  pub one_held : get a id ≡ Some one
+  pub other_held : get b id ≡ Some other
+  pub differ : one ≢ other
+  pub below : (q : Id) → IsTrue (id_below q id) → AgreeAt a b q
+
+-- what is told as a clash is one, and the least
+abbrev pub ClashIsLeast : Type 0
+ClashIsLeast = (a b : List Operation) (id : Id) → IsOpSet a → IsOpSet b → clash a b ≡ Some id → ClashAt a b id
+
+-- sets without a clash agree at every id
+abbrev pub NoClashAgrees : Type 0
+NoClashAgrees = (a b : List Operation) → IsOpSet a → IsOpSet b → clash a b ≡ None → (id : Id) → AgreeAt a b id
 
 abbrev pub JoinWithItself : Type 0
 JoinWithItself = (a : List Operation) → IsOpSet a → (join a a ≡ a) × (clash a a ≡ None)
@@ -80,6 +101,11 @@ EqualUnionsExportAlike =
     (one other : Joining) (a b : List Operation) → AreSets one → AreSets other → SameOperations one other →
     union_by one ≡ Ok a → union_by other ≡ Ok b →
     (a ≡ b) × ((book : List ℕ) → export a book ≡ export b book)
+
+-- Sets whose operations are together the same are joined either way, or refused either way.
+abbrev pub RefusedAlike : Type 0
+RefusedAlike =
+    (one other : Joining) → AreSets one → AreSets other → SameOperations one other → is_ok (union_by one) ≡ is_ok (union_by other)
 
 -- ---- sets joined one after another
 

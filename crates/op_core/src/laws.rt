@@ -1,6 +1,15 @@
 //! Laws of sets of operations, over the definitions alone.
+ghost use Rattle.std.specs.Prelude.{◌≡◌};
 ghost use Rattle.op_core.specs.CutsBack as cuts_back;
+ghost use Rattle.op_core.specs.Ids.{Id, id_cmp};
 ghost use Rattle.op_core.specs.Laws as laws;
+
+use crate::op_id::OpId;
+
+/// Ids go by number, and then by the bytes of the name.
+pub fn ids_are_ordered()
+    ensures { (a b : Id) → ⟦<OpId as Ord>⟧.cmp a b ≡ id_cmp a b }
+{}
 
 /// Each grouping of three sets has the same union.
 pub fn join_is_associative()
@@ -35,6 +44,22 @@ pub fn segment_shows_one()
 /// Two sets clash at one id, whichever comes first.
 pub fn clash_commutes()
     ensures { laws.ClashCommutes }
+{}
+
+/// A clash is real, and the least: both sets hold the id, by operations that are not equal, and below
+/// it they agree.
+pub fn clash_is_least()
+    ensures { laws.ClashIsLeast }
+{}
+
+/// Sets without a clash agree at every id.
+pub fn no_clash_agrees()
+    ensures { laws.NoClashAgrees }
+{}
+
+/// Two ways of joining sets whose operations are together the same are refused alike.
+pub fn refused_alike()
+    ensures { laws.RefusedAlike }
 {}
 
 /// Sets whose operations are together the same, joined in whatever order, grouping and repetition,

@@ -5,7 +5,7 @@ ghost use Rattle.std.specs.List.{list_all};
 ghost use Rattle.usfm_ref.specs.Segments.{segment};
 ghost use Rattle.verse_cut.specs.Reading.{text_fits};
 ghost use Rattle.op_core.specs.Ids as ids;
-ghost use Rattle.op_core.specs.Ops.{IsOperation, in_segment, names};
+ghost use Rattle.op_core.specs.Ops.{IsOperation, in_segment};
 
 use crate::op_id::OpId;
 use std::marker::Model;
@@ -99,13 +99,6 @@ impl Op {
         ensures { result ≡ in_segment (segment book key) self.now }
     {
         self.book == book && self.key == key
-    }
-
-    // Whether the operation names the id as replaced.
-    pub(crate) fn names(&self, id: OpId) -> bool
-        ensures { result ≡ names self.now id }
-    {
-        self.replaced.iter().any(|named| id == *named)
     }
 }
 

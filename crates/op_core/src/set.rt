@@ -1,10 +1,11 @@
-ghost use Rattle.std.specs.Prelude.{◌≡◌, ◌≢◌, ◌&&◌, ◌||◌, ◌+◌, ◌≤◌, ◌↔◌, [], ◌∷◌, length, map, not, is_none, None, IsTrue, IfOk, IfErr, OnOk, OnErr};
+ghost use Rattle.std.specs.Prelude.{◌≡◌, ◌≢◌, ◌&&◌, ◌||◌, ◌+◌, ◌≤◌, ◌↔◌, [], ◌∷◌, length, map, not, is_none, None, IsTrue, IsOk, IfOk, IfErr, OnOk, OnErr};
 ghost use Rattle.std.specs.Option.{option_copied};
 ghost use Rattle.usfm_ref.specs.Segments.{segment};
 ghost use Rattle.op_core.specs.Ids.{Id, same_id};
 ghost use Rattle.op_core.specs.Sets as sets;
 ghost use Rattle.op_core.specs.Shown as texts;
 ghost use Rattle.op_core.specs.Lists as lists;
+ghost use Rattle.op_core.specs.Index.{is_missed, is_missed_in};
 ghost use Rattle.op_core.specs.NextIds as next_ids;
 ghost use Rattle.std.specs.List.{AllByRecursion, list_any};
 ghost use Rattle.usfm_ref.specs.Keys.{is_verse_of};
@@ -146,7 +147,8 @@ impl OpSet {
         Ok(true)
     }
 
-    /// Adds the operations of another set, and says how many are new.
+    /// Adds the operations of another set, and says how many are new. Where each of them is held
+    /// already, alike, nothing grows.
     ///
     /// # Errors
     /// `Clash` with the least id under which the two sets hold operations that are not equal;
@@ -156,6 +158,7 @@ impl OpSet {
         ensures count { IfOk result (λ n. length self.new ≡ length self.old + n) }
         ensures agrees { OnOk result (sets.clash self.old other ≡ None) }
         ensures refused { IfErr result (sets.IsRefusal (sets.clash self.old other)) }
+        ensures held { sets.AreHeld self.old other → result ≢ Err SetFault.Memory }
         ensures err { OnErr result (self.new ≡ self.old) }
     {
         if let Some(id) = clash(&self.ops, &other.ops, &mut self.compared) {
@@ -167,17 +170,21 @@ impl OpSet {
     }
 
     /// Adds operations that rise by id and of which none is held, and says how many they are. What
-    /// lies behind the first of them is moved once, however many they are.
+    /// lies after the first of them is moved once, however many they are. No operation takes no memory.
     ///
     /// # Errors
-    /// Want of memory alone. The set is then unchanged, and the operations dropped.
+    /// Out of memory alone. The set is then unchanged, and the operations dropped.
     pub fn join_rising(&mut self, new: Vec<Op>) -> Result<u64, AllocError>
         requires rising { IsTrue (sets.rises new.items) }
         requires apart { AllByRecursion (λ o. sets.get self.old o.id ≡ None) new.items }
         ensures ok { OnOk result (self.new ≡ sets.join self.old new.items) }
         ensures count { IfOk result (λ n. n ≡ length new.items) }
+        ensures none { new.items ≡ [] → IsOk result }
         ensures err { OnErr result (self.new ≡ self.old) }
     {
+        if new.is_empty() {
+            return Ok(0);
+        }
         look_at_each(&new);
         let count = new.len();
         let from = place_first(&self.ops, &new, &mut self.compared);
@@ -220,12 +227,14 @@ impl OpSet {
         Keys::new(book, &self.chapters)
     }
 
-    /// The ids that a held operation names and none has, rising, each once.
+    /// The ids that a held operation names and none has, rising, each once. Where there is none, it
+    /// takes no memory.
     ///
     /// # Errors
-    /// Want of memory alone.
+    /// Out of memory alone.
     pub fn awaited(&self, alloc: Global) -> Result<Vec<OpId>, AllocError>
-        ensures { IfOk result (λ ids. ids.items ≡ lists.awaited self.now) }
+        ensures ids { IfOk result (λ ids. ids.items ≡ lists.awaited self.now) }
+        ensures none { lists.awaited self.now ≡ [] → IsOk result }
     {
         let _ = &self.ops;
         let mut ids = Vec::new(alloc);
@@ -242,12 +251,13 @@ impl OpSet {
     }
 
     /// What the segment shows: the operations of it whose ids no operation of it names as replaced,
-    /// rising, lent from the set.
+    /// rising, lent from the set. Where it shows none, it takes no memory.
     ///
     /// # Errors
-    /// Want of memory alone.
+    /// Out of memory alone.
     pub fn shown(&self, alloc: Global, book: Book, key: Key) -> Result<Vec<&Op>, AllocError>
-        ensures { IfOk result (λ v. map (λ op. op.now) v.items ≡ texts.shown self.now (segment book key)) }
+        ensures ops { IfOk result (λ v. map (λ op. op.now) v.items ≡ texts.shown self.now (segment book key)) }
+        ensures none { texts.shown self.now (segment book key) ≡ [] → IsOk result }
     {
         let _ = &self.ops;
         let ids = self.shown_ids(book, key);
@@ -279,9 +289,12 @@ impl OpSet {
         }
     }
 
-    // Adds what the chapters' registers miss and no operation has.
+    // Adds what the chapters' registers miss and no operation has. Where that fails, there is one.
     fn push_awaited(&self, chapters: &[Chapter], ids: &mut Vec<OpId>) -> Result<(), AllocError>
-        ensures { OnOk result ((q : Id) → list_any (same_id q) ids.new.items ≡ (list_any (same_id q) ids.old.items || (list_any (λ c. list_any (λ r. list_any (same_id q) r.missing.items) c.registers.items) chapters.now && not (lists.is_held self.now q)))) }
+        ensures ids { OnOk result ((q : Id) → list_any (same_id q) ids.new.items
+            ≡ (list_any (same_id q) ids.old.items || (is_missed_in chapters.now q && not (lists.is_held self.now q)))) }
+        ensures one { OnErr result ((q : Id)
+            × IsTrue (is_missed_in chapters.now q && not (lists.is_held self.now q))) }
     {
         for chapter in chapters {
             self.push_missing_in(&chapter.registers, ids)?;
@@ -290,7 +303,10 @@ impl OpSet {
     }
 
     fn push_missing_in(&self, registers: &[Register], ids: &mut Vec<OpId>) -> Result<(), AllocError>
-        ensures { OnOk result ((q : Id) → list_any (same_id q) ids.new.items ≡ (list_any (same_id q) ids.old.items || (list_any (λ r. list_any (same_id q) r.missing.items) registers.now && not (lists.is_held self.now q)))) }
+        ensures ids { OnOk result ((q : Id) → list_any (same_id q) ids.new.items
+            ≡ (list_any (same_id q) ids.old.items || (is_missed registers.now q && not (lists.is_held self.now q)))) }
+        ensures one { OnErr result ((q : Id)
+            × IsTrue (is_missed registers.now q && not (lists.is_held self.now q))) }
     {
         for register in registers {
             self.push_unheld(&register.missing, ids)?;
@@ -299,7 +315,11 @@ impl OpSet {
     }
 
     fn push_unheld(&self, missing: &[OpId], ids: &mut Vec<OpId>) -> Result<(), AllocError>
-        ensures { OnOk result ((q : Id) → list_any (same_id q) ids.new.items ≡ (list_any (same_id q) ids.old.items || (list_any (same_id q) missing.now && not (lists.is_held self.now q)))) }
+        ensures ids { OnOk result ((q : Id) → list_any (same_id q) ids.new.items
+            ≡ (list_any (same_id q) ids.old.items
+                || (list_any (same_id q) missing.now && not (lists.is_held self.now q)))) }
+        ensures one { OnErr result ((q : Id)
+            × IsTrue (list_any (same_id q) missing.now && not (lists.is_held self.now q))) }
     {
         for id in missing {
             if self.get(id).is_none() {

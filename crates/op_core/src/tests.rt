@@ -116,6 +116,9 @@ fn sets_are_joined(rt: HostRuntime) -> Result<(), Fail> {
     let ben3 = op_id(3, "ben")?;
     assert!(rt; later.insert(op(alloc, ben3, verse(1)?, &[ana2], "\\v 1 At\n")?)?);
     assert_eq!(rt; set.join(later)?, 1);
+    assert_eq!(rt; set.join(first_set(alloc)?)?, 0);
+    assert_eq!(rt; set.join_rising(Vec::new(alloc))?, 0);
+    assert_eq!(rt; set.shown(alloc, mat, verse(9)?)?.len(), 0);
     let shown = set.shown(alloc, mat, verse(1)?)?;
     assert_eq!(rt; shown.len(), 1);
     assert!(rt; shown[0].id() == ben3 && shown[0].text() == "\\v 1 At\n");

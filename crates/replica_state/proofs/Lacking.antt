@@ -4,12 +4,12 @@ use Rattle.std.specs.List.{find}
 use Rattle.std.specs.Option.{option_map}
 use Rattle.std.proofs.lemmas.Bool.{cond-true}
 use Rattle.op_core.specs.Ops.{Operation, same_op}
-use Rattle.op_core.specs.Sets.{IsOpSet, get, differs, clash, join}
+use Rattle.op_core.specs.Sets.{IsOpSet, get, differs, clash, join, AreHeld}
 use Rattle.op_core.specs.Equal.{same_op-refl}
-use Rattle.op_core.proofs.Fresh.{join_fresh}
+use Rattle.op_core.proofs.Fresh.{join_fresh, nothing_fresh, held_without_clash}
 use Rattle.replica_state.specs.declared.fault.ReceiveFault.{ReceiveFault}
 use Rattle.replica_state.specs.declared.fault.ReceiveFault.TheVariants.{Memory, Clash}
-use Rattle.replica_state.specs.Receives.{lacked, AreHeld, RefusesReceive}
+use Rattle.replica_state.specs.Receives.{lacked, RefusesReceive}
 use Rattle.replica_state.specs.States.{State, IsState}
 use Rattle.replica_state.specs.Steps.{step, received, with_ops, Receive, Received}
 
@@ -37,19 +37,9 @@ answered s after bundle n e none m = ap (received s bundle) none ∙ (λ i. reco
 
 -- ---- a bundle that is held, alike
 
-pub nothing_lacked : (held bundle : List Operation) → AreHeld held bundle → lacked held bundle ≡ []
-nothing_lacked held [] h = refl
-nothing_lacked held (o ∷ bundle) h = ap (λ (r : Option Operation). cond (is_none r) (o ∷ lacked held bundle) (lacked held bundle)) h.0 ∙ nothing_lacked held bundle h.1
-
-no_clash : (held bundle : List Operation) → AreHeld held bundle → clash held bundle ≡ None
-no_clash held [] h = refl
-no_clash held (o ∷ bundle) h =
-    let same : differs (get held o.id) o ≡ false = ap (λ (r : Option Operation). differs r o) h.0 ∙ ap not (same_op-refl o) in
-    ap (λ (b : Bool). option_map (λ (q : Operation). q.id) (cond b (Some o) (find (λ (q : Operation). differs (get held q.id) q) bundle))) same ∙ no_clash held bundle h.1
-
 pub not_refused : (held bundle : List Operation) (fault : ReceiveFault) → RefusesReceive (clash held bundle) fault → (lacked held bundle ≡ [] → fault ≢ Memory) → AreHeld held bundle → ⊥
-not_refused held bundle Memory r some h = some (nothing_lacked held bundle h) refl
-not_refused held bundle (Clash id) r some h = never (sym (no_clash held bundle h) ∙ r)
+not_refused held bundle Memory r some h = some (nothing_fresh held bundle h) refl
+not_refused held bundle (Clash id) r some h = never (sym (held_without_clash held bundle h) ∙ r)
   where
     never : None ≡ Some id → ⊥
     never e = cc e

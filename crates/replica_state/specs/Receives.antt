@@ -1,6 +1,5 @@
 -- Taking in a bundle: the join of two states (Shapiro, Preguiça, Baquero and Zawirski, INRIA RR-7506).
 use Rattle.std.specs.Prelude.{◌≡◌, List, filter, is_none, Option, Some}
-use Rattle.std.specs.List.{AllByRecursion}
 use Rattle.op_core.specs.Ids.{Id}
 use Rattle.op_core.specs.Ops.{Operation}
 use Rattle.op_core.specs.Sets.{get}
@@ -10,10 +9,6 @@ use Rattle.replica_state.specs.declared.fault.ReceiveFault.TheVariants.{Memory, 
 -- the operations of a bundle whose ids a set lacks
 abbrev pub lacked : List Operation → List Operation → List Operation
 lacked held bundle = filter (λ o. is_none (get held o.id)) bundle
-
--- each operation of a bundle is held, alike
-abbrev pub AreHeld : List Operation → List Operation → Type 0
-AreHeld held bundle = AllByRecursion (λ o. get held o.id ≡ Some o) bundle
 
 -- a refusal is for want of memory, or for the clash that there is
 abbrev pub RefusesReceive : Option Id → ReceiveFault → Type 0

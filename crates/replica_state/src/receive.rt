@@ -23,7 +23,7 @@ impl Replica {
         ensures agrees { OnOk result (sets.clash self.old.held bundle.now ≡ None) }
         ensures refused { IfErr result (receives.RefusesReceive (sets.clash self.old.held bundle.now)) }
         ensures nothing_new { receives.lacked self.old.held bundle.now ≡ [] → result ≢ Err ReceiveFault.Memory }
-        ensures held { receives.AreHeld self.old.held bundle.now → result ≡ Ok 0 }
+        ensures held { sets.AreHeld self.old.held bundle.now → result ≡ Ok 0 }
         ensures err { OnErr result (self.new ≡ self.old) }
     {
         let new = self.copy_lacked(bundle)?;

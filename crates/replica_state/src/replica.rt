@@ -1,4 +1,4 @@
-ghost use Rattle.std.specs.Prelude.{◌≡◌, ◌++◌, map, Ok, IfOk};
+ghost use Rattle.std.specs.Prelude.{◌≡◌, ◌++◌, [], map, Ok, IsOk, IfOk};
 ghost use Rattle.usfm_ref.specs.Segments.{segment};
 ghost use Rattle.op_core.specs.Lists as lists;
 ghost use Rattle.op_core.specs.Shown as texts;
@@ -65,23 +65,26 @@ impl Replica {
         self.set.keys(book)
     }
 
-    /// The ids that a held operation names and none has, rising, each once.
+    /// The ids that a held operation names and none has, rising, each once. Where there is none, it
+    /// takes no memory.
     ///
     /// # Errors
-    /// Want of memory alone.
+    /// Out of memory alone.
     pub fn awaited(&self, alloc: Global) -> Result<Vec<OpId>, AllocError>
-        ensures { IfOk result (λ ids. ids.items ≡ lists.awaited self.now.held) }
+        ensures ids { IfOk result (λ ids. ids.items ≡ lists.awaited self.now.held) }
+        ensures none { lists.awaited self.now.held ≡ [] → IsOk result }
     {
         self.set.awaited(alloc)
     }
 
     /// What the segment shows: the operations of it whose ids no operation of it names as replaced,
-    /// rising, lent from the replica.
+    /// rising, lent from the replica. Where it shows none, it takes no memory.
     ///
     /// # Errors
-    /// Want of memory alone.
+    /// Out of memory alone.
     pub fn shown(&self, alloc: Global, book: Book, key: Key) -> Result<Vec<&Op>, AllocError>
-        ensures { IfOk result (λ v. map (λ op. op.now) v.items ≡ texts.shown self.now.held (segment book key)) }
+        ensures ops { IfOk result (λ v. map (λ op. op.now) v.items ≡ texts.shown self.now.held (segment book key)) }
+        ensures none { texts.shown self.now.held (segment book key) ≡ [] → IsOk result }
     {
         self.set.shown(alloc, book, key)
     }

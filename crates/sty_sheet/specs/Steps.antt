@@ -54,10 +54,10 @@ after s (name value) = extended s (name value)
 after s (style_type value) = extended s (style_type value)
 after s (text_type value) = extended s (text_type value)
 
--- what a call answers where this fault, or none, is due; want of memory alone says nothing of it
+-- what a call answers where this fault, or none, is due; a want of memory is told where none is
 abbrev pub Tells : Result (Unit {0}) SheetFault → Option SheetFault → Type 0
 Tells (Ok done) due = due ≡ None
-Tells (Err Memory) due = Unit {0}
+Tells (Err Memory) due = due ≡ None
 Tells (Err (FieldBeforeMarker n)) due = due ≡ Some (FieldBeforeMarker n)
 Tells (Err (EmptyMarker n)) due = due ≡ Some (EmptyMarker n)
 Tells (Err (BadStyleType n)) due = due ≡ Some (BadStyleType n)

@@ -1,7 +1,8 @@
 use Rattle.std.proofs.Common.{ap, ◌∙◌, List, length, arith}
+use Rattle.std.proofs.lemmas.Bool.{false≢true}
 use Rattle.op_core.specs.Ops.{Operation}
 use Rattle.op_core.specs.Sets.{join}
-use Rattle.op_core.proofs.Fresh.{fresh, fresh_rises, fresh_apart, join_fresh, length_join}
+use Rattle.op_core.proofs.Fresh.{fresh, fresh_rises, fresh_apart, join_fresh, length_join, nothing_fresh}
 use Rattle.op_core.proofs.set.OpSet.join.Goals as goal
 
 pub join_rising-requires-clause-rising : goal.join_rising-requires-clause-rising
@@ -25,3 +26,10 @@ returns-clause-count c =
     let new = c.in_ok-join_rising.ensures.count ∙ ap length e in
     let held = ap length c.self.view_is in
     omega (arith, grown, now, new, held)
+
+pub returns-in_err-join_rising-clause-held : goal.returns-in_err-join_rising-clause-held
+returns-in_err-join_rising-clause-held c = λ held refused.
+    let e = c.leave_held.ensures ∙ ap (λ (s : List Operation). fresh s c.other.inside.ops.items) c.deref-3.ensures.value in
+    let none = e ∙ (λ i. fresh (c.self.view_is i) (c.other.view_is i)) ∙ nothing_fresh c.args.self.now c.args.other held in
+    let went = c.in_err-join_rising.ensures.none none in
+    absurd (false≢true went)

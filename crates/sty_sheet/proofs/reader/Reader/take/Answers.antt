@@ -1,9 +1,11 @@
 use Rattle.std.proofs.Common.{◌∙◌, ap, sym}
 use Rattle.sty_sheet.specs.FieldViews.{field_view}
 use Rattle.sty_sheet.specs.Sheets.{field_fault}
+use Rattle.std.specs.Prelude.{is_some}
+use Rattle.sty_sheet.specs.Steps.{reading_of}
 use Rattle.sty_sheet.specs.Views.{record_of}
 use Rattle.sty_sheet.proofs.Telling.{tells_due, is_some_map}
 use Rattle.sty_sheet.proofs.reader.Reader.take.Goals as goal
 
 pub returns-in-Some-clause-fault : goal.returns-in-Some-clause-fault
-returns-in-Some-clause-fault c = tells_due c.in-Some.fault _ (ap (λ seen. field_fault seen c.args.line (field_view c.args.field)) (is_some_map record_of c.args.self.now.begun ∙ sym c.is_some.ensures) ∙ sym c.field_fault.ensures ∙ c.in-Some.is)
+returns-in-Some-clause-fault c = tells_due (is_some (reading_of c.args.self.now).begun) c.args.line (field_view c.args.field) c.in-Some.fault (ap (λ seen. field_fault seen c.args.line (field_view c.args.field)) (is_some_map record_of c.args.self.now.begun ∙ sym c.is_some.ensures) ∙ sym c.field_fault.ensures ∙ c.in-Some.is)
