@@ -1,9 +1,9 @@
 -- Sets that are joined one after another to the empty one.
 use Rattle.std.proofs.Common.{◌≡◌, List, [], ◌∷◌, Ok, ◌⊎◌, inl, inr, arith, refl}
-use Rattle.std.specs.List.{AllByRecursion}
+use Rattle.std.specs.List.{AllByRecursion, Contains}
 use Rattle.op_core.specs.Ops.{Operation}
 use Rattle.op_core.specs.Sets.{IsOpSet}
-use Rattle.op_core.specs.Laws.{Joining, AreSets, IsInOne, union_by, IsAmong, SameTogether}
+use Rattle.op_core.specs.Laws.{Joining, AreSets, IsInOne, SameOperations, union_by, IsAmong, SameTogether}
 use Rattle.op_core.specs.Laws.Joining.{Part, Joined}
 use Rattle.op_core.proofs.Joinings.{same_unions}
 
@@ -42,6 +42,18 @@ crossed sets others f o i = elim (among (Part []) sets o i) [
 
 empty_set : IsOpSet []
 empty_set = record { rising = refl; each = tt }
+
+-- a set whose operations are together those of a list of sets is their union
+pub set_from_none : (held : List Operation) (sets : List (List Operation)) (union : List Operation) → IsOpSet held → AllByRecursion IsOpSet sets
+    → ((o : Operation) → Contains held o → IsAmong sets o) → ((o : Operation) → IsAmong sets o → Contains held o) → union_by (from_none sets) ≡ Ok union → held ≡ union
+set_from_none held sets union h s there back e =
+    same_unions (Part held) (from_none sets) held union h (are_sets (Part []) sets empty_set s) (record {
+      there = λ o i. is_in_one (Part []) sets o (inr (there o i));
+      back = λ o i. elim (among (Part []) sets o i) [
+        | inl nowhere ↦ absurd (omega (arith, nowhere.1))
+        | inr here ↦ back o here
+      ];
+    }) refl e
 
 -- lists of sets that have the same operations together have the same union
 pub same_from_none : (sets others : List (List Operation)) (a b : List Operation) → AllByRecursion IsOpSet sets → AllByRecursion IsOpSet others → SameTogether sets others → union_by (from_none sets) ≡ Ok a → union_by (from_none others) ≡ Ok b → a ≡ b

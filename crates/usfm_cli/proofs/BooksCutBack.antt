@@ -32,9 +32,9 @@ folded_books_cut_back book input text bytes h = by (union_in [] input) refl h
     by_book union set true h = let is : export union book ≡ text = cc in subst (IsBookOf union book) is (is_book union book set)
     by_book union set false h = absurd (cc)
 
-    by : (u : Result (List Operation) Fault) → union_in [] input ≡ u → book_in book u ≡ Ok text → (union : List Operation) × IsBookOf union book text
+    by : (u : Result (List Operation) Fault) → union_in [] input ≡ u → book_in book u ≡ Ok text → (union : List Operation) × (union_in [] input ≡ Ok union) × IsBookOf union book text
     by (Err fault) e h = absurd (cc)
     by (Ok union) e h =
         let stream = stream_of input union bytes e in
         let set = union_is_set [] stream.sets union (record { rising = refl; each = tt }) stream.spelled.each stream.union_is in
-        (union, by_book union set (has_book union book) h)
+        (union, e, by_book union set (has_book union book) h)

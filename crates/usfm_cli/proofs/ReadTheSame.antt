@@ -1,8 +1,13 @@
 -- Projects that hold the same operations read the same.
-use Rattle.std.proofs.Common.{◌≡◌, ℕ, List, Result, Ok, Err, refl, sym, ap, ◌∙◌}
+use Rattle.std.proofs.Common.{◌≡◌, ℕ, List, [], Result, Ok, Err, refl, sym, ap, ◌∙◌}
 use Rattle.op_core.specs.Laws.Joining.{Part}
 use Rattle.op_core.specs.Ops.{Operation}
+use Rattle.std.specs.List.{Contains}
+use Rattle.op_core.specs.Laws.{IsAmong}
 use Rattle.op_core.proofs.Joinings.{same_unions}
+use Rattle.op_core.proofs.Together.{set_from_none}
+use Rattle.usfm_cli.specs.Streams.{AreSpelled, union_in, book_in, book_of_stream}
+use Rattle.usfm_cli.proofs.StreamLemmas.{are_sets, union_joined, gives_union}
 use Rattle.replica_state.specs.States.{State, IsState}
 use Rattle.project_file.specs.Projects.{project_at}
 use Rattle.conflict_report.specs.Reports.{report}
@@ -26,6 +31,13 @@ exported file s book loads = ap (λ r. output_of (of_loaded r (Export book))) lo
 
 reported : (file : List ℕ) (s : State) → project_at file ≡ Ok s → output_of (executed file Report) ≡ Ok (report s.held)
 reported file s loads = ap (λ r. output_of (of_loaded r Report)) loads
+
+-- a project and a stream with the same operations
+pub read_as_stream : (file : List ℕ) (s : State) (sets : List (List Operation)) (input : List ℕ) (union : List Operation) → project_at file ≡ Ok s → IsState s → AreSpelled sets input → union_in [] input ≡ Ok union
+    → ((o : Operation) → Contains s.held o → IsAmong sets o) → ((o : Operation) → IsAmong sets o → Contains s.held o) → (book : List ℕ) → output_of (executed file (Export book)) ≡ book_of_stream book input
+read_as_stream file s sets input union loads hs spelled e there back book =
+    let same : s.held ≡ union = set_from_none s.held sets union hs.set (are_sets sets spelled.each) there back (union_joined (Part []) [] sets union refl (sym (gives_union sets input spelled) ∙ e)) in
+    exported file s book loads ∙ ap (λ (held : List Operation). export_text held book) same ∙ sym (ap (book_in book) e)
 
 pub same_operations : (file other : List ℕ) (s t : State) → project_at file ≡ Ok s → project_at other ≡ Ok t → IsState s → IsState t → HoldTheSame s t → ReadTheSame file other
 same_operations file other s t loads loaded hs ht same =

@@ -83,7 +83,7 @@ gives_union sets input s =
 
 -- ---- order, grouping and repetition
 
-union_joined : (way : Joining) (held : List Operation) (sets : List (List Operation)) (union : List Operation) → union_by way ≡ Ok held → union_with held sets ≡ Ok union → union_by (joined_in way sets) ≡ Ok union
+pub union_joined : (way : Joining) (held : List Operation) (sets : List (List Operation)) (union : List Operation) → union_by way ≡ Ok held → union_with held sets ≡ Ok union → union_by (joined_in way sets) ≡ Ok union
 union_joined way held [] union w h = let same : held ≡ union = cc h in w ∙ ap Ok same
 union_joined way held (set ∷ rest) union w h =
     let c = no_clash (clash held set) (union_with (join held set) rest) union h in
@@ -91,7 +91,7 @@ union_joined way held (set ∷ rest) union w h =
     ap (λ r. with_both r (Ok set) (λ a b. joined_or_clash a b (clash a b))) w ∙ ap (joined_or_clash held set) c.0 in
     union_joined (Joined way (Part set)) (join held set) rest union more c.1
 
-are_sets : (sets : List (List Operation)) → AreEach sets → AllByRecursion IsOpSet sets
+pub are_sets : (sets : List (List Operation)) → AreEach sets → AllByRecursion IsOpSet sets
 are_sets [] each = tt
 are_sets (set ∷ rest) each = (each.0.0, are_sets rest each.1)
 

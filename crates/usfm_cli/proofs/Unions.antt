@@ -11,7 +11,8 @@ use Rattle.replica_state.specs.declared.fault.ReceiveFault.{ReceiveFault}
 use Rattle.replica_state.specs.declared.fault.ReceiveFault.TheVariants as receiving
 use Rattle.replica_state.specs.Receives.{RefusesReceive}
 use Rattle.usfm_cli.specs.Faults.{of_receiving}
-use Rattle.usfm_cli.specs.Streams.{with_set, unless_clash, union_within, union_in, UnionAnswers}
+use Rattle.usfm_cli.specs.Streams.{with_set, unless_clash, union_within, union_in, UnionAnswers, ReceivesOne}
+use Rattle.usfm_cli.specs.Streams.ReceivesOne.{Here, After}
 use Rattle.usfm_cli.specs.declared.fault.Fault.{Fault}
 use Rattle.usfm_cli.specs.declared.fault.Fault.TheVariants.{Bundle, Clash}
 
@@ -76,7 +77,22 @@ pub none_left : (xs : List ℕ) (r : Bool) → r ≡ (length xs == 0) → r ≡ 
 none_left [] r e f = refl
 none_left (x ∷ xs) r e f = absurd (omega (arith, eqb-true (length (x ∷ xs)) 0 (sym e ∙ f)))
 
--- a refused bundle is refused with the clash
-pub refused_bundle : (held set : List Operation) (left : List ℕ) (rest : List ℕ) (wanted : Result (List Operation) Fault) (fault : ReceiveFault) → LeadsTo held rest wanted → 0 < length rest → bundle_at rest ≡ Ok (set, left) → RefusesReceive (clash held set) fault → UnionAnswers wanted (Err (of_receiving fault))
-refused_bundle held set left rest wanted receiving.Memory l some e r = tt
-refused_bundle held set left rest wanted (receiving.Clash id) l some e r = leads_clash held rest wanted l some set left id e r
+-- a stream on its way: what is left leads to what the whole leads to, and a bundle that is received of it is received of the whole
+pub record IsOnWay (input : List ℕ) (held : List Operation) (rest : List ℕ) : Type 0 where
+  pub leads : LeadsTo held rest (union_in [] input)
+  pub back : ReceivesOne held rest → ReceivesOne [] input
+
+pub way_start : (input : List ℕ) → IsOnWay input [] input
+way_start input = record { leads = leads_start input; back = λ one. one }
+
+module _ (input : List ℕ) (held set : List Operation) (rest left : List ℕ) (w : IsOnWay input held rest) (some : 0 < length rest) (read : bundle_at rest ≡ Ok (set, left)) where
+  pub way_on : clash held set ≡ None → length left < length rest → IsOnWay input (join held set) left
+  way_on c s = record {
+    leads = leads_on held rest (union_in [] input) w.leads some set left read c s;
+    back = λ one. w.back (After held rest set left read c one);
+  }
+
+  -- a refused bundle is refused with the clash, or for want of memory
+  pub refused_bundle : (fault : ReceiveFault) → RefusesReceive (clash held set) fault → UnionAnswers input (Err (of_receiving fault))
+  refused_bundle receiving.Memory r = w.back (Here held rest set left read)
+  refused_bundle (receiving.Clash id) r = leads_clash held rest (union_in [] input) w.leads some set left id read r

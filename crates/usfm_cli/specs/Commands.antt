@@ -1,5 +1,5 @@
 -- What a command does to a replica, and what it answers (this project's own rule, over the steps of a replica).
-use Rattle.std.specs.Prelude.{◌≡◌, ℕ, List, [], ◌∷◌, ◌++◌, length, codes, Result, Ok, Err, Vec, if◌then◌else◌}
+use Rattle.std.specs.Prelude.{◌≡◌, ℕ, List, [], ◌∷◌, ◌++◌, length, codes, Result, Ok, Err, Vec, Bool, true, false, IsTrue, if◌then◌else◌}
 use Rattle.std.specs.Fmt.{decimal}
 use Rattle.std.specs.List.{flat_map}
 use Rattle.std.specs.Str.{is_utf8}
@@ -20,7 +20,7 @@ use Rattle.usfm_cli.specs.Faults.{of_receiving, of_edit, of_import, of_whole}
 use Rattle.usfm_cli.specs.declared.command.Command.{Command}
 use Rattle.usfm_cli.specs.declared.command.Command.TheVariants.{Import, Edit, EditOver, Receive, Shown, Send, Export, Report}
 use Rattle.usfm_cli.specs.declared.fault.Fault.{Fault}
-use Rattle.usfm_cli.specs.declared.fault.Fault.TheVariants.{Memory, NotText, NoBook}
+use Rattle.usfm_cli.specs.declared.fault.Fault.TheVariants.{Memory, NotText, NoBook, Clash, NumbersUsedUp}
 
 -- the replica after a command, and what the command writes
 pub record Done : Type 0 where
@@ -94,9 +94,50 @@ outcome s Send = done_if s (Ok (bundle s.held))
 outcome s (Export book) = done_if s (export_text s.held book)
 outcome s Report = done_if s (Ok (report s.held))
 
+-- whether a command only tells, and changes no replica
+abbrev pub only_tells : Command → Bool
+only_tells (Import file) = false
+only_tells (Edit book key text) = false
+only_tells (EditOver book key text ids) = false
+only_tells (Receive bytes) = false
+only_tells (Shown book key) = true
+only_tells Send = true
+only_tells (Export book) = true
+only_tells Report = true
+
+-- ---- refusals, and want of memory
+
+abbrev pub no_fault : Fault → Bool
+no_fault fault = false
+
+abbrev pub is_clash : Fault → Bool
+is_clash (Clash id) = true
+is_clash fault = false
+
+abbrev pub is_numbers_used_up : Fault → Bool
+is_numbers_used_up NumbersUsedUp = true
+is_numbers_used_up fault = false
+
+-- The refusals of a command that are found only with memory: a clash, since what a bundle brings is copied before all of it was
+-- looked at, and that an import has no number left, since its edits are counted from its pieces.
+abbrev pub is_late : Command → Fault → Bool
+is_late (Import file) = is_numbers_used_up
+is_late (Edit book key text) = no_fault
+is_late (EditOver book key text ids) = no_fault
+is_late (Receive bytes) = is_clash
+is_late (Shown book key) = no_fault
+is_late Send = no_fault
+is_late (Export book) = no_fault
+is_late Report = no_fault
+
+-- memory may be wanted where nothing is refused, or what is refused is found so late
+abbrev pub MayWantMemory : (Fault → Bool) → Result Done Fault → Type 0
+MayWantMemory late (Ok d) = Unit {0}
+MayWantMemory late (Err fault) = IsTrue (late fault)
+
 -- What is answered of what is wanted, where the replica is then so: what is written, or the refusal; or that memory was
--- wanted.
-abbrev pub Answers : {A : Type 0} → Result Done Fault → State → Result (Vec ℕ A) Fault → Type 0
-Answers wanted after (Ok output) = wanted ≡ Ok (record { after = after; output = output.items })
-Answers wanted after (Err Memory) = Unit {0}
-Answers wanted after (Err fault) = wanted ≡ Err fault
+-- wanted, where it may be.
+abbrev pub Answers : {A : Type 0} → (Fault → Bool) → Result Done Fault → State → Result (Vec ℕ A) Fault → Type 0
+Answers late wanted after (Ok output) = wanted ≡ Ok (record { after = after; output = output.items })
+Answers late wanted after (Err Memory) = MayWantMemory late wanted
+Answers late wanted after (Err fault) = wanted ≡ Err fault

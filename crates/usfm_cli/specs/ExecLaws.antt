@@ -1,9 +1,11 @@
 -- Laws of projects under commands.
-use Rattle.std.specs.Prelude.{◌≡◌, ℕ, List, Result, Ok, Err}
+use Rattle.std.specs.Prelude.{◌≡◌, ℕ, List, [], Result, Ok, Err}
 use Rattle.std.specs.List.{Contains}
+use Rattle.op_core.specs.Laws.{IsAmong}
 use Rattle.op_core.specs.Ops.{Operation}
 use Rattle.replica_state.specs.States.{State, IsState}
 use Rattle.project_file.specs.Projects.{project_at}
+use Rattle.usfm_cli.specs.Streams.{AreSpelled, union_in, book_of_stream}
 use Rattle.usfm_cli.specs.Executing.{Written, executed, file_after}
 use Rattle.usfm_cli.specs.declared.command.Command.{Command}
 use Rattle.usfm_cli.specs.declared.command.Command.TheVariants.{Export, Report}
@@ -23,6 +25,15 @@ pub record HoldTheSame (s t : State) : Type 0 where
 pub record ReadTheSame (file other : List ℕ) : Type 0 where
   pub books : (book : List ℕ) → output_of (executed file (Export book)) ≡ output_of (executed other (Export book))
   pub report : output_of (executed file Report) ≡ output_of (executed other Report)
+
+-- A project, after a list of commands, and a stream of bundles write the same bytes of every book, or refuse it alike, where the
+-- stream's bundles have together the operations that the project holds.
+abbrev pub ProjectsReadAsStreams : Type 0
+ProjectsReadAsStreams =
+    (file : List ℕ) (commands : List Command) (s : State) (sets : List (List Operation)) (input : List ℕ) (union : List Operation) →
+    project_at (file_after file commands) ≡ Ok s → IsState s → AreSpelled sets input → union_in [] input ≡ Ok union →
+    ((o : Operation) → Contains s.held o → IsAmong sets o) → ((o : Operation) → IsAmong sets o → Contains s.held o) →
+    (book : List ℕ) → output_of (executed (file_after file commands) (Export book)) ≡ book_of_stream book input
 
 -- Two projects, each after a list of commands, read the same where they then hold the same operations, in whatever order,
 -- grouping and repetition these were accepted, and whatever was refused.

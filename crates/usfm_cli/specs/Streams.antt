@@ -55,10 +55,16 @@ abbrev pub union_with : List Operation → List (List Operation) → Result (Lis
 union_with held [] = Ok held
 union_with held (set ∷ rest) = unless_clash (clash held set) (union_with (join held set) rest)
 
--- what a call that makes the union answers: a replica that holds it, a bundle's fault, a clash, or a want of memory
-abbrev pub UnionAnswers : Result (List Operation) Fault → Result State Fault → Type 0
-UnionAnswers wanted (Ok replica) = wanted ≡ Ok replica.held
-UnionAnswers wanted (Err Memory) = Unit {0}
-UnionAnswers wanted (Err (Clash id)) = wanted ≡ Err (Clash id)
-UnionAnswers wanted (Err (Bundle fault)) = wanted ≡ Err (Bundle fault)
-UnionAnswers wanted (Err other) = ⊥
+-- A bundle is received: the bytes begin with it, or with bundles that join to a set, the one after the other, and then with it.
+pub data ReceivesOne : List Operation → List ℕ → Type 0 where
+  Here : (held : List Operation) (bytes : List ℕ) (set : List Operation) (rest : List ℕ) → bundle_at bytes ≡ Ok (set, rest) → ReceivesOne held bytes
+  After : (held : List Operation) (bytes : List ℕ) (set : List Operation) (rest : List ℕ) → bundle_at bytes ≡ Ok (set, rest) → clash held set ≡ None → ReceivesOne (join held set) rest → ReceivesOne held bytes
+
+-- what a call that makes the union answers: a replica that holds it, a bundle's fault, a clash, or a want of memory, where it
+-- received a bundle
+abbrev pub UnionAnswers : List ℕ → Result State Fault → Type 0
+UnionAnswers input (Ok replica) = union_in [] input ≡ Ok replica.held
+UnionAnswers input (Err Memory) = ReceivesOne [] input
+UnionAnswers input (Err (Clash id)) = union_in [] input ≡ Err (Clash id)
+UnionAnswers input (Err (Bundle fault)) = union_in [] input ≡ Err (Bundle fault)
+UnionAnswers input (Err other) = ⊥

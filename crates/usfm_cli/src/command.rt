@@ -1,4 +1,7 @@
 // What a project may be told to do.
+ghost use Rattle.std.specs.Prelude.{◌≡◌};
+ghost use Rattle.usfm_cli.specs.Commands.{only_tells};
+
 use op_core::OpId;
 use usfm_ref::{Book, Key};
 
@@ -31,4 +34,19 @@ pub enum Command<'a> {
     Export(Book),
     /// Tells the conflicts, and the operations that are awaited.
     Report,
+}
+
+impl Command<'_> {
+    // Whether it only tells, and changes nothing.
+    pub(crate) fn only_tells(&self) -> bool
+        ensures { result ≡ only_tells self.now }
+    {
+        match self {
+            Command::Import(_)
+            | Command::Edit { .. }
+            | Command::EditOver { .. }
+            | Command::Receive(_) => false,
+            Command::Shown(_, _) | Command::Send | Command::Export(_) | Command::Report => true,
+        }
+    }
 }

@@ -25,7 +25,8 @@ pub(crate) fn obey(
     replica: &mut Replica,
     command: &Command<'_>,
 ) -> Result<Vec<u8>, Fault>
-    ensures { commands.Answers (commands.outcome replica.old command.now) replica.new result }
+    ensures { commands.Answers (commands.is_late command.now)
+        (commands.outcome replica.old command.now) replica.new result }
 {
     match *command {
         Command::Import(file) => import(alloc, replica, file),
@@ -46,7 +47,8 @@ pub(crate) fn obey(
 
 // Takes in the file of a book.
 fn import(alloc: Global, replica: &mut Replica, file: &[u8]) -> Result<Vec<u8>, Fault>
-    ensures { commands.Answers (commands.import_done replica.old file.now) replica.new result }
+    ensures { commands.Answers commands.is_numbers_used_up
+        (commands.import_done replica.old file.now) replica.new result }
 {
     let added = replica.import(text_in(file)?)?;
     Ok(count_line(alloc, "added", added)?)
@@ -60,7 +62,8 @@ fn edit(
     key: Key,
     text: &[u8],
 ) -> Result<Vec<u8>, Fault>
-    ensures { commands.Answers (commands.edit_done replica.old (segment book key) text.now) replica.new result }
+    ensures { commands.Answers commands.no_fault
+        (commands.edit_done replica.old (segment book key) text.now) replica.new result }
 {
     let made = replica.edit(book, key, text_in(text)?)?;
     Ok(made_line(alloc, &made)?)
@@ -75,7 +78,8 @@ fn edit_over(
     text: &[u8],
     ids: &[OpId],
 ) -> Result<Vec<u8>, Fault>
-    ensures { commands.Answers (commands.edit_over_done replica.old (segment book key) text.now ids.now) replica.new result }
+    ensures { commands.Answers commands.no_fault
+        (commands.edit_over_done replica.old (segment book key) text.now ids.now) replica.new result }
 {
     let made = replica.edit_over(book, key, text_in(text)?, ids)?;
     Ok(made_line(alloc, &made)?)
@@ -83,7 +87,8 @@ fn edit_over(
 
 // Takes in a bundle.
 fn receive(alloc: Global, replica: &mut Replica, bytes: &[u8]) -> Result<Vec<u8>, Fault>
-    ensures { commands.Answers (commands.with_bundle replica.old (whole_at bytes.now)) replica.new result }
+    ensures { commands.Answers commands.is_clash
+        (commands.with_bundle replica.old (whole_at bytes.now)) replica.new result }
 {
     let bundle = decode_whole(alloc, bytes)?;
     let new = replica.receive(&bundle)?;

@@ -1,8 +1,8 @@
 // Commands over a project's file.
-ghost use Rattle.std.specs.Prelude.{◌≡◌, ◌≢◌, Ok, Err, IfOk, IfErr};
+ghost use Rattle.std.specs.Prelude.{◌≡◌, ◌≢◌, Ok, Err, IsTrue, IfOk, IfErr};
 ghost use Rattle.replica_state.specs.States.{State};
 ghost use Rattle.project_file.specs.Projects.{project_at};
-ghost use Rattle.usfm_cli.specs.Commands.{outcome};
+ghost use Rattle.usfm_cli.specs.Commands.{outcome, only_tells};
 ghost use Rattle.usfm_cli.specs.Faults.{of_loading};
 ghost use Rattle.usfm_cli.specs.Executing.{executed, file_or, file_after, state_or, state_after};
 
@@ -66,13 +66,19 @@ pub fn exec(alloc: Global, project: &[u8], command: &Command<'_>) -> Result<Outc
     ensures answer { result ≢ Err Fault.Memory → executed project.now command.now ≡ result }
     // A file that is no project is refused for that, whatever memory there is.
     ensures no_project { IfErr (project_at project.now) (λ fault. result ≡ Err (of_loading fault)) }
+    // A command that only tells gives the file back as it is.
+    ensures told { IfOk result (λ made. IsTrue (only_tells command.now) → made.project ≡ project.now) }
     // The file after it is that of the replica after the command's step.
     ensures after { IfOk result (λ made. (s : State) → project_at project.now ≡ Ok s
         → project_at made.project ≡ Ok (state_or s (outcome s command.now))) }
 {
     let mut replica = load(alloc, project)?;
     let output = obey(alloc, &mut replica, command)?;
-    let project = save(alloc, &replica)?;
+    let project = if command.only_tells() {
+        project.to_vec(alloc)?
+    } else {
+        save(alloc, &replica)?
+    };
     Ok(Outcome { project, output })
 }
 

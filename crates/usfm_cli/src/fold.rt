@@ -1,6 +1,6 @@
 // From a stream of bundles to a book.
-ghost use Rattle.std.specs.Prelude.{◌≡◌, [], OnOk};
-ghost use Rattle.usfm_cli.specs.Streams.{union_in, UnionAnswers};
+ghost use Rattle.std.specs.Prelude.{◌≡◌, OnOk};
+ghost use Rattle.usfm_cli.specs.Streams.{UnionAnswers};
 ghost use Rattle.usfm_cli.specs.Books.{WritesBook};
 ghost use Rattle.usfm_cli.specs.Folding.{FoldsStream, source_failures, sink_failures};
 
@@ -37,7 +37,8 @@ pub fn fold_stream<R: ByteSource, W: ByteSink>(
 ) -> Result<(), Fault>
     ensures folds { FoldsStream book (R.to_come source.old) (R.to_come source.new)
         (R.reads source.old) (R.reads source.new) (W.taken sink.old) (W.taken sink.new) result }
-    ensures cuts_back { OnOk result (WritesBook book (W.taken sink.old) (W.taken sink.new)) }
+    ensures cuts_back { OnOk result (WritesBook book (R.to_come source.old) (R.to_come source.new)
+        (W.taken sink.old) (W.taken sink.new)) }
     ensures read_failed { R.failures source.new ≡ source_failures result (R.failures source.old) }
     ensures write_failed { W.failures sink.new ≡ sink_failures result (W.failures sink.old) }
 {
@@ -50,7 +51,7 @@ pub fn fold_stream<R: ByteSource, W: ByteSink>(
 // A replica that received the bundles that the bytes spell, each before the next is read. It makes no
 // operation, so its name is never told.
 fn receive_all(alloc: Global, input: &[u8]) -> Result<Replica, Fault>
-    ensures { UnionAnswers (union_in [] input.now) result }
+    ensures { UnionAnswers input.now result }
 {
     let name = ReplicaName::read("fold").unwrap();
     let mut fold = Replica::new(alloc, name);

@@ -38,3 +38,9 @@ pub fn exports_are_leaves()
 pub fn same_operations_read_the_same()
     ensures { projects.SameOperationsReadTheSame }
 {}
+
+/// A project, after whatever commands, and a stream of bundles with the same operations write the same
+/// bytes of every book, or refuse it alike.
+pub fn projects_read_as_streams()
+    ensures { projects.ProjectsReadAsStreams }
+{}

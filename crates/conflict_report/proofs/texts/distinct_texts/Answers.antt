@@ -8,7 +8,7 @@ use Rattle.conflict_report.proofs.Latest.{IsWalked, now_of, walked_start, walked
 use Rattle.conflict_report.proofs.texts.distinct_texts.Goals as goal
 
 pub falling-init : goal.falling-init
-falling-init c = walked_start (shown c.args.replica.now.held (segment c.args.book c.args.key)) (now_of c.in_ok-shown.shown.items) (now_of c.new-distinct.result.items) c.in_ok-shown.ensures (ap now_of c.new-distinct.ensures.items)
+falling-init c = walked_start (shown c.args.replica.now.held (segment c.args.book c.args.key)) (now_of c.in_ok-shown.shown.items) (now_of c.new-distinct.result.items) c.in_ok-shown.ensures.ops (ap now_of c.new-distinct.ensures.items)
 
 pub falling-preserved : goal.falling-preserved
 falling-preserved c =

@@ -12,4 +12,4 @@ all_lines v xs ys n ops bytes e l same views =
 
 pub returns : goal.returns
 returns c =
-    all_lines (λ op. op.now) c.deref-op-items.result.now c.in_ok-shown.shown.items c.loop-op.op-index _ c.loop-op.bytes.items c.loop-op.invariant (omega (arith, c.deref-op-items.ensures.len)) c.deref-op-items.ensures.value c.in_ok-shown.ensures
+    all_lines (λ op. op.now) c.deref-op-items.result.now c.in_ok-shown.shown.items c.loop-op.op-index _ c.loop-op.bytes.items c.loop-op.invariant (omega (arith, c.deref-op-items.ensures.len)) c.deref-op-items.ensures.value c.in_ok-shown.ensures.ops

@@ -3,7 +3,8 @@ use Rattle.std.proofs.lemmas.Bool.{eqb-true}
 use Rattle.op_core.proofs.Fresh.{fresh_rises, fresh_apart}
 use Rattle.op_core.proofs.SideBySide.{from_empty}
 use Rattle.replica_state.specs.Steps.{with_ops}
-use Rattle.replica_state.proofs.Lacking.{all_joined, answered, not_refused, nothing_lacked}
+use Rattle.op_core.proofs.Fresh.{nothing_fresh}
+use Rattle.replica_state.proofs.Lacking.{all_joined, answered, not_refused}
 use Rattle.replica_state.proofs.replica.Replica.receive.Goals as goal
 
 pub returns-in_err-new-clause-held : goal.returns-in_err-new-clause-held
@@ -32,7 +33,7 @@ join_new-requires-clause-apart c = rw c.in_ok-new.ensures.ok (fresh_apart c.args
 pub returns-in_err-join_new-clause-held : goal.returns-in_err-join_new-clause-held
 returns-in_err-join_new-clause-held c =
     let some = false-eqb _ 0 c.if-is_empty.ensures in
-    λ h. absurd (some (c.in_ok-new.new.ok.0 ∙ ap length (c.in_ok-new.ensures.ok ∙ nothing_lacked c.args.self.now.held c.args.bundle.now h)))
+    λ h. absurd (some (c.in_ok-new.new.ok.0 ∙ ap length (c.in_ok-new.ensures.ok ∙ nothing_fresh c.args.self.now.held c.args.bundle.now h)))
 
 pub returns-clause-ok : goal.returns-clause-ok
 returns-clause-ok c = c.in_ok-join_new.ensures.ok ∙ all_joined c.args.self.now c.args.bundle.now c.in_ok-new.new.items c.in_ok-new.ensures.state c.in_ok-new.ensures.set c.in_ok-new.ensures.ok
@@ -44,4 +45,4 @@ returns-clause-step c = λ _. answered c.args.self.now c.join_new.new.self c.arg
     (c.in_ok-join_new.ensures.count ∙ ap length c.in_ok-new.ensures.ok)
 
 pub returns-clause-held : goal.returns-clause-held
-returns-clause-held c = λ h. ap Ok (c.in_ok-join_new.ensures.count ∙ ap length (c.in_ok-new.ensures.ok ∙ nothing_lacked c.args.self.now.held c.args.bundle.now h))
+returns-clause-held c = λ h. ap Ok (c.in_ok-join_new.ensures.count ∙ ap length (c.in_ok-new.ensures.ok ∙ nothing_fresh c.args.self.now.held c.args.bundle.now h))
