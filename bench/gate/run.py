@@ -1,0 +1,109 @@
+#!/usr/bin/env python3
+"""Runs the gate, and tells where its time goes: the processor seconds of each crate's proof, tests and edits.
+
+    bench/gate/run.py [WORD ..]      the gate under these words, such as: taskset -c 0,1
+
+Twice a second it looks at the processes of the prover and of what the gate runs besides, and adds up what
+each has used. The table that it prints at the end is the one of docs/GATE.md. What a process uses between the
+last look and its end is missing, less than half a second each. Nothing else should run meanwhile.
+"""
+import collections
+import os
+import pathlib
+import re
+import subprocess
+import sys
+import threading
+import time
+
+TOP = pathlib.Path(__file__).resolve().parent.parent.parent
+TICK = os.sysconf("SC_CLK_TCK")
+SCRIPTS = ("compile-fail", "refused_growths", "walkthrough", "program")
+
+
+def descendants(pid):
+    """All processes below one."""
+    children = collections.defaultdict(list)
+    for name in os.listdir("/proc"):
+        if name.isdigit():
+            try:
+                stat = pathlib.Path("/proc", name, "stat").read_text()
+            except OSError:
+                continue
+            children[int(stat.rpartition(")")[2].split()[1])].append(int(name))
+    found, left = [], [pid]
+    while left:
+        one = left.pop()
+        found += children[one]
+        left += children[one]
+    return found
+
+
+def part_of(pid, part):
+    """What a process works for: a crate and its proof, tests or edits; or one of the gate's scripts."""
+    command = pathlib.Path("/proc", str(pid), "cmdline").read_bytes().decode(errors="replace").split("\0")
+    folder = os.readlink(f"/proc/{pid}/cwd")
+    if part != "rt ci":
+        return part, "script"
+    if "check" not in command[:3] or "--crate-name" not in command:
+        return "the rest of rt ci", "script"
+    crate = command[command.index("--crate-name") + 1]
+    if "/rt-edit-" in folder:
+        return crate, "edits"
+    return crate, "tests" if "--test" in command else "proof"
+
+
+def main():
+    before = time.time()
+    gate = subprocess.Popen([*sys.argv[1:], str(TOP / ".ci" / "run")], stdout=subprocess.PIPE,
+                            stderr=subprocess.STDOUT, text=True, errors="replace")
+    lines, part, began = [], ["rt ci"], {"rt ci": before}
+
+    def read():
+        for line in gate.stdout:
+            lines.append(line)
+            print(line, end="", flush=True)
+            if re.match(r"== part: ", line):
+                part[0] = line.split(": ", 1)[1].strip()
+                began[part[0]] = time.time()
+
+    reader = threading.Thread(target=read)
+    reader.start()
+    used, works = {}, {}
+    while gate.poll() is None:
+        for pid in descendants(gate.pid):
+            try:
+                stat = pathlib.Path("/proc", str(pid), "stat").read_text().rpartition(")")[2].split()
+                key = (pid, stat[19])
+                if key not in works or works[key][0].startswith("the rest"):
+                    works[key] = part_of(pid, part[0])
+                used[key] = (int(stat[11]) + int(stat[12])) / TICK
+            except (OSError, ValueError):
+                continue
+        time.sleep(0.5)
+    reader.join()
+    took = time.time() - before
+    table = collections.Counter()
+    for key, seconds in used.items():
+        table[works[key]] += seconds
+    edits = collections.Counter(re.findall(r"^rt: must-fail (\w+)/", "".join(lines), re.M))
+    crates = sorted({crate for crate, kind in table if kind != "script"}, key=lambda it: -sum(
+        table[it, kind] for kind in ("proof", "tests", "edits")))
+    print("\n| Crate | Proof | Tests | Edits | Each edit |\n|---|---|---|---|---|")
+    for crate in crates:
+        each = table[crate, "edits"] / edits[crate] if edits[crate] else 0
+        print(f"| `{crate}` | {table[crate, 'proof']:.0f} s | {table[crate, 'tests']:.0f} s | "
+              f"{table[crate, 'edits']:.0f} s ({edits[crate]}) | {each:.0f} s |")
+    for kind in ("proof", "tests", "edits"):
+        print(f"{kind}: {sum(table[it, kind] for it in crates):.0f} s")
+    for (name, kind), seconds in sorted(table.items()):
+        if kind == "script":
+            print(f"{name}: {seconds:.0f} s of the processors")
+    ends = [*list(began.values())[1:], before + took]
+    for (name, start), end in zip(began.items(), ends):
+        print(f"{name}: {(end - start) / 60:.1f} minutes")
+    print(f"whole: {took / 60:.1f} minutes, {sum(used.values()) / 60:.0f} processor minutes")
+    return gate.returncode
+
+
+sys.exit(main())
