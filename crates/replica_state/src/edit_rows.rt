@@ -78,6 +78,7 @@ fn an_edit_over_given_ids(rt: HostRuntime) -> Result<(), Fail> {
         (2, "ana", one, None, "\\v 1 In\n"),
         (3, "ben", one, Some(2), "\\v 1 At\n"),
         (3, "ana", one, Some(2), "\\v 1 To\n"),
+        (3, "cy", one, Some(2), "\\v 1 On\n"),
     ];
     let mut ana = holding(alloc, "ana", &ops)?;
     let (two, three) = (op_id(2, "ana")?, op_id(3, "ana")?);
@@ -85,10 +86,15 @@ fn an_edit_over_given_ids(rt: HostRuntime) -> Result<(), Fail> {
     let made = ana.edit_over(mat, one, "\\v 1 As\n", &[three, three])?;
     assert_id(&rt, made, 4, "ana");
     let shown = ana.shown(alloc, mat, one)?;
-    assert_eq!(rt; shown.len(), 2);
+    assert_eq!(rt; shown.len(), 3);
     assert_id(&rt, shown[0].id(), 3, "ben");
-    assert_id(&rt, shown[1].id(), 4, "ana");
-    assert_picked(&rt, &ana, one, 4, "\\v 1 As\n")
+    assert_id(&rt, shown[1].id(), 3, "cy");
+    assert_id(&rt, shown[2].id(), 4, "ana");
+    drop(shown);
+    assert_picked(&rt, &ana, one, 4, "\\v 1 As\n")?;
+    assert_id(&rt, ana.edit(mat, one, "\\v 1 Is\n")?, 5, "ana");
+    assert_eq!(rt; ana.shown(alloc, mat, one)?.len(), 1);
+    Ok(())
 }
 
 #[test]

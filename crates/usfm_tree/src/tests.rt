@@ -210,5 +210,6 @@ fn an_empty_sheet_gives_leaves(rt: HostRuntime) -> Result<(), SheetFault> {
     };
     check_leaves(&rt, &tree, text, 7);
     assert_eq!(rt; tree.kids().len(), 7);
+    check_leaves(&rt, &read_tree(rt.alloc(), "")?, "", 0);
     Ok(())
 }

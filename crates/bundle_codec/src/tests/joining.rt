@@ -9,13 +9,16 @@ use std::test::Fail;
 const CLASHING: &[u8] =
     b"USFMSR1\n\0\0\0\0\0\0\0\x03\0\0\0\0\0\0\0\x01\x02cyMAT\0\x01\0\0\0\0\0\0\0\0\0\0\0\0\x01\0\0\0\0\0\0\0\x05\\c 1\n\0\0\0\0\0\0\0\x01\x03danMAT\0\x01\x01\0\x02\0\0\0\0\0\0\0\0\0\x01\0\0\0\0\0\0\0\x07\\v 2 b\n\0\0\0\0\0\0\0\x02\x03anaMAT\0\x01\x01\0\x01\0\0\0\0\0\0\0\0\0\x01\0\0\0\0\0\0\0\x08\\v 1 Xx\n";
 
+// The bundle of no operation.
+const EMPTY: &[u8] = b"USFMSR1\n\0\0\0\0\0\0\0\0";
+
 const CUT: JoinFault = JoinFault::Bundle(WholeFault::Bundle(BundleFault::Truncated));
 
 const TRAILING: JoinFault = JoinFault::Bundle(WholeFault::Trailing);
 
 #[test]
 fn sets_are_written(rt: HostRuntime) -> Result<(), Fail> {
-    for bytes in [B1.as_slice(), &Y, CLASHING, b"USFMSR1\n\0\0\0\0\0\0\0\0"] {
+    for bytes in [B1.as_slice(), &Y, CLASHING, EMPTY] {
         let set = decode_whole(rt.alloc(), bytes)?.to_set(rt.alloc())?;
         assert_eq!(rt; encode(rt.alloc(), &set)?.as_slice(), bytes);
     }
@@ -43,6 +46,7 @@ fn bundles_are_joined(rt: HostRuntime) -> Result<(), Fail> {
         (&B1, &Y, &both),
         (&Y, &B1, &both),
         (&both, &Y, &both),
+        (EMPTY, EMPTY, EMPTY),
     ] {
         let joined = join_bundles(rt.alloc(), first, second)?;
         assert_eq!(rt; joined.as_slice(), wanted);
