@@ -317,7 +317,7 @@ impl OpSet {
     fn push_unheld(&self, missing: &[OpId], ids: &mut Vec<OpId>) -> Result<(), AllocError>
         ensures ids { OnOk result ((q : Id) → list_any (same_id q) ids.new.items
             ≡ (list_any (same_id q) ids.old.items
-                || (list_any (same_id q) missing.now && not (lists.is_held self.now q)))) }
+            || (list_any (same_id q) missing.now && not (lists.is_held self.now q)))) }
         ensures one { OnErr result ((q : Id)
             × IsTrue (list_any (same_id q) missing.now && not (lists.is_held self.now q))) }
     {
