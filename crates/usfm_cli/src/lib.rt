@@ -27,7 +27,9 @@ pub use project_file::create;
 pub use reading::{MOST_BYTES, ReadFault, read_to_end};
 pub use source::{ByteSource, StdSource};
 pub use telling::fault_line;
+pub use usage::VERSION;
 pub use usfm_export::{
-    ByteSink, MOST_LINE_BYTES, ShortLine, StdSink, WriteFault, write_all, write_more, write_pieces,
+    ByteSink, MOST_LINE_BYTES, ShortLine as FaultLine, StdSink, WriteFault, write_all, write_more,
+    write_pieces,
 };
 pub use words::{Line, LineFault, read_words};

@@ -2,6 +2,9 @@
 use clap::{Arg, Command};
 use std::alloc::{AllocError, Global};
 
+/// The version of this workspace, which `usfm_team --version` prints. It stands here alone.
+pub const VERSION: &str = "0.1.0";
+
 // What an argument is called, and what is to be given for it.
 type Words<'a> = &'a [(&'static str, &'static str)];
 
@@ -19,22 +22,32 @@ const BOOK: (&str, &str) = (
 
 /// The program's subcommands and their words.
 pub(crate) fn program<'a>(alloc: Global) -> Result<Command<'a>, AllocError> {
-    Command::new(alloc, "usfm_team")
+    let program = Command::new(alloc, "usfm_team")
         .bin_name("usfm_team")?
         .no_binary_name(true)
+        .version(VERSION)
         .about("Keeps the Scripture project of a team that works offline.")
         .after_help(MORE)
-        .subcommand_required(true)
-        .subcommand(init(alloc)?)?
-        .subcommand(import(alloc)?)?
-        .subcommand(edit(alloc)?)?
-        .subcommand(edit_over(alloc)?)?
-        .subcommand(shown(alloc)?)?
-        .subcommand(receive(alloc)?)?
-        .subcommand(send(alloc)?)?
-        .subcommand(export(alloc)?)?
-        .subcommand(report(alloc)?)?
-        .subcommand(fold(alloc)?)
+        .subcommand_required(true);
+    let program = with(program, init(alloc))?;
+    let program = with(program, import(alloc))?;
+    let program = with(program, edit(alloc))?;
+    let program = with(program, edit_over(alloc))?;
+    let program = with(program, shown(alloc))?;
+    let program = with(program, receive(alloc))?;
+    let program = with(program, send(alloc))?;
+    let program = with(program, export(alloc))?;
+    let program = with(program, report(alloc))?;
+    with(program, fold(alloc))
+}
+
+// The program with one more subcommand. What it has by then stays out of the proof of `program`, which
+// would tell it once more at each of them.
+fn with<'a>(
+    program: Command<'a>,
+    made: Result<Command<'a>, AllocError>,
+) -> Result<Command<'a>, AllocError> {
+    program.subcommand(made?)
 }
 
 const MORE: &str = "\
@@ -44,8 +57,8 @@ Begin with:
 
 What is refused is told on standard error in one line, `fault NUMBER ..`, with status 1; the
 help of a subcommand lists its faults. A line that is no use of the program is told with status 2.
-A project is written to PROJECT.new and renamed. One of more than 268,435,456 bytes is written, and
-cannot be read again.";
+A project is written to PROJECT.new and renamed; where PROJECT is a link, so is the file that it leads
+to. One of more than 268,435,456 bytes is written, and cannot be read again.";
 
 // A subcommand with its words, each of them required.
 fn command<'a>(

@@ -64,7 +64,7 @@ pub enum Line {
 /// Why the words ask for nothing that is done.
 #[derive(Debug, Drop)]
 pub enum LineFault {
-    /// Help was asked for. It goes to standard output.
+    /// Help or the version was asked for. It goes to standard output.
     Help(String),
     /// The words are no line of the program: the message and the usage, for standard error.
     Usage(String),
@@ -102,7 +102,7 @@ impl From<IdFault> for LineFault {
 /// Tests alone show what it answers; no contract says it.
 ///
 /// # Errors
-/// - `Help` where `--help`, `-h` or `help` asks for it.
+/// - `Help` where `--help`, `-h` or `help` asks for it, or `--version` or `-V` for the version.
 /// - `Usage` where the words have the shape of no subcommand.
 /// - `Refused` with `Reference` (20, 21) where a book is no code or a reference is none, with `Naming`
 ///   (50, 52) where a name is no replica's or an id is none, with `Memory` (1) where a growth was

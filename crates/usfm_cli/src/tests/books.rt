@@ -1,78 +1,114 @@
 // Books out of a replica.
-use super::folding::{B1, CLASHING, FIRST};
+use super::folding::{folded, joined};
 use super::streams::{Refusal, ShortSink};
+use super::vectors::{AT_VERSE_1, B1, CLASHING, FIRST, ID_2, ONE};
+use crate::{Fault, fault_line};
 use bundle_codec::decode;
 use op_core::ReplicaName;
 use replica_state::Replica;
 use std::alloc::Global;
 use std::io::ErrorKind;
 use std::test::Fail;
-use usfm_export::{ExportFault, TextFault, book_text, write_book};
-use usfm_ref::{Book, Key, Place};
+use usfm_export::{book_text, write_book};
+use usfm_ref::Book;
 
-// A replica that received one bundle.
-fn received(alloc: Global, bytes: &[u8]) -> Result<Replica, Fail> {
+// A replica that received bundles.
+fn received(alloc: Global, bundles: &[&[u8]]) -> Result<Replica, Fail> {
     let mut replica = Replica::new(alloc, ReplicaName::read("eve")?);
-    let (bundle, _) = decode(alloc, bytes)?;
-    replica.receive(&bundle)?;
+    for bytes in bundles {
+        let (bundle, _) = decode(alloc, bytes)?;
+        replica.receive(&bundle)?;
+    }
     Ok(replica)
+}
+
+// The text of a book out of a replica that received bundles, or the line of the fault.
+fn given(alloc: Global, bundles: &[&[u8]], code: &str) -> Result<Vec<u8>, Fail> {
+    let book = Book::read(code)?;
+    let replica = received(alloc, bundles)?;
+    match book_text(alloc, &replica, book) {
+        Ok(text) => Ok(text),
+        Err(fault) => Ok(fault_line(&Fault::from(fault)).bytes().to_vec(alloc)?),
+    }
+}
+
+// What a sink with so much room took of the same, the line of the fault, and how often the sink failed.
+fn written(
+    alloc: Global,
+    bundles: &[&[u8]],
+    code: &str,
+    room: usize,
+) -> Result<(Vec<u8>, Vec<u8>, u64), Fail> {
+    let book = Book::read(code)?;
+    let replica = received(alloc, bundles)?;
+    let mut sink = ShortSink::new(alloc, 4, room, Refusal::Fails(ErrorKind::Other));
+    let line = match write_book(&replica, book, &mut sink) {
+        Ok(()) => Vec::new(alloc),
+        Err(fault) => fault_line(&Fault::from(fault)).bytes().to_vec(alloc)?,
+    };
+    Ok((sink.taken, line, sink.failures))
 }
 
 #[test]
 fn books_are_given(rt: HostRuntime) -> Result<(), Fail> {
-    let alloc = rt.alloc();
-    let mat = Book::read("MAT")?;
-    let replica = received(alloc, B1)?;
-    assert_eq!(rt; book_text(alloc, &replica, mat)?.as_slice(), FIRST);
-    let answer = book_text(alloc, &replica, Book::read("LUK")?);
-    assert!(rt; answer.err() == Some(TextFault::NoBook));
-    let with_head = received(alloc, CLASHING)?;
-    assert_eq!(rt;
-        book_text(alloc, &with_head, mat)?.as_slice(),
-        b"\\c 1\n\\v 1 Xx\n\\v 2 b\n".as_slice()
-    );
+    for (bundle, code, wanted) in [
+        (B1, "MAT", FIRST),
+        (B1, "LUK", b"fault 82\n"),
+        (CLASHING, "MAT", b"\\c 1\n\\v 1 Xx\n\\v 2 b\n"),
+    ] {
+        let text = given(rt.alloc(), &[bundle], code)?;
+        assert!(rt; text.as_slice() == wanted, "{code}");
+    }
     Ok(())
 }
 
 #[test]
 fn books_are_written(rt: HostRuntime) -> Result<(), Fail> {
-    let alloc = rt.alloc();
-    let mat = Book::read("MAT")?;
-    let replica = received(alloc, B1)?;
-    let mut failing = ShortSink::new(alloc, 4, 10, Refusal::Fails(ErrorKind::Other));
-    let answer = write_book(&replica, mat, &mut failing);
-    assert!(rt; answer == Err(ExportFault::WriteFailed { gone: 10 }));
-    assert_eq!(rt; failing.taken.as_slice(), FIRST.split_at(10).0);
-    assert_eq!(rt; failing.failures, 1);
-    let mut sink = ShortSink::new(alloc, 4, 21, Refusal::TakesNothing);
-    write_book(&replica, mat, &mut sink)?;
-    let answer = write_book(&replica, Book::read("LUK")?, &mut sink);
-    assert!(rt; answer == Err(ExportFault::NoBook));
-    assert_eq!(rt; sink.taken.as_slice(), FIRST);
-    assert_eq!(rt; sink.failures, 0);
+    for (code, room, front, fault, failed) in [
+        ("MAT", 21, FIRST, b"".as_slice(), 0),
+        ("MAT", 10, b"\\id MAT\n\\c", b"fault 90 10\n", 1),
+        ("LUK", 21, b"", b"fault 82\n", 0),
+    ] {
+        let (taken, line, failures) = written(rt.alloc(), &[B1], code, room)?;
+        assert!(rt; taken.as_slice() == front, "{code} with {room}");
+        assert!(rt; line.as_slice() == fault, "{code} with {room}");
+        assert_eq!(rt; failures, failed, "{code} with {room}");
+    }
     Ok(())
 }
 
+// 3 ana on MAT 1:1, naming 2 ana, with this text.
+fn bundle_of(alloc: Global, text: &[u8]) -> Result<Vec<u8>, Fail> {
+    let length = (text.len() as u64).to_be_bytes();
+    joined(
+        alloc,
+        &[
+            b"USFMSR1\n",
+            ONE,
+            b"\0\0\0\0\0\0\0\x03\x03ana",
+            AT_VERSE_1,
+            ONE,
+            ID_2,
+            b"\x01",
+            &length,
+            text,
+        ],
+    )
+}
+
+// A book of more than 10,000 bytes, out of a replica and folded.
 #[test]
-fn imports_come_out(rt: HostRuntime) -> Result<(), Fail> {
+fn long_books(rt: HostRuntime) -> Result<(), Fail> {
     let alloc = rt.alloc();
-    let mat = Book::read("MAT")?;
-    let mut ana = Replica::new(alloc, ReplicaName::read("ana")?);
-    let marked = "\u{FEFF}\\id MAT\r\n\\c 1\r\n\\v 1 a\r\n";
-    assert_eq!(rt; ana.import(marked)?, 3);
-    assert_eq!(rt; book_text(alloc, &ana, mat)?.as_slice(), marked.as_bytes());
-    assert_eq!(rt; ana.import(marked)?, 0);
-    let mut ben = Replica::new(alloc, ReplicaName::read("ben")?);
-    let file = "\\id MAT\n\\c 1\n\\v 1 In\n";
-    ben.import(file)?;
-    ben.edit(mat, Key::new(1, Place::Head).ok_or("no key")?, "")?;
-    assert_eq!(rt; book_text(alloc, &ben, mat)?.as_slice(), file.as_bytes());
-    assert_eq!(rt; ben.import(file)?, 0);
-    let without_verses = "\\id MAT\n\\c 1\n";
-    assert_eq!(rt; ben.import(without_verses)?, 2);
-    assert_eq!(rt;
-        book_text(alloc, &ben, mat)?.as_slice(),
-        without_verses.as_bytes()
-    );
+    let mut text = b"\\v 1 ".to_vec(alloc)?;
+    for _ in 0..10_000u16 {
+        text.push(b'a')?;
+    }
+    let long = bundle_of(alloc, &text)?;
+    let wanted = joined(alloc, &[b"\\id MAT\n\\c 1\n", &text])?;
+    let book = given(alloc, &[B1, &long], "MAT")?;
+    assert!(rt; book.as_slice() == wanted.as_slice());
+    let book = folded(alloc, &joined(alloc, &[B1, &long])?, "MAT")?;
+    assert!(rt; book.as_slice() == wanted.as_slice());
     Ok(())
 }

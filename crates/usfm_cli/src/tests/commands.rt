@@ -1,23 +1,62 @@
-// Plays of commands over projects.
-use super::folding::{AFTER, B1, CLASHING, NAMES_ITSELF, Y, Z};
-use super::player::{Player, says};
-use crate::{Command, Fault, exec};
-use std::process::Abort;
+// Plays of commands over projects, as tables.
+use super::player::Step::{
+    Again, Edit, Export, Import, Over, Pack, Receive, Report, Same, Send, Shown, Unpack,
+};
+use super::player::Who::{Ana, Ben};
+use super::player::{Player, Row, play};
+use super::vectors::{
+    AFTER, B1, CLASHING, FIRST, LAST_NUMBER, NAMES_ANOTHER, NAMES_ITSELF, NAMES_TWO, NOTHING, Y, Z,
+};
+use crate::{Command, create, exec, exec_each};
+use bundle_codec::join_bundles;
 use std::test::Fail;
+use usfm_ref::{Book, read_ref};
 
-// 3 ben on MAT 1:2, naming 2 ana, which is of MAT 1:1.
-const NAMES_ANOTHER: &[u8] =
-    b"USFMSR1\n\0\0\0\0\0\0\0\x01\0\0\0\0\0\0\0\x03\x03benMAT\0\x01\x01\0\x02\0\0\0\0\0\0\0\0\x01\0\0\0\0\0\0\0\x02\x03ana\x01\0\0\0\0\0\0\0\x07\\v 2 b\n";
-
-// 1000000000000000 zed on MAT 0.
-const LAST_NUMBER: &[u8] =
-    b"USFMSR1\n\0\0\0\0\0\0\0\x01\0\x03\x8d\x7e\xa4\xc6\x80\0\x03zedMAT\0\0\0\0\0\0\0\0\0\0\0\0\0\0\x01\0\0\0\0\0\0\0\x08\\id MAT\n";
-
-const FIRST_FILE: &str = "\\id MAT\n\\c 1\n\\v 1 In\n";
+// After B1, Y and Z in whatever order.
+const AFTER_THREE: &[Row<'static>] = &[
+    (Ana, Export("MAT"), AFTER),
+    (
+        Ana,
+        Shown("MAT 1:1"),
+        b"op 3 ana 8\n\\v 1 To\n\nop 3 ben 8\n\\v 1 At\n\n",
+    ),
+    (
+        Ana,
+        Report,
+        b"conflict MAT 1:1 2\ntext 3 ben 8\n\\v 1 At\n\ntext 3 ana 8\n\\v 1 To\n\n",
+    ),
+    (Ana, Pack, b""),
+    (Ben, Unpack, b"new 4\n"),
+    (
+        Ben,
+        Shown("MAT 1:1"),
+        b"op 3 ana 8\n\\v 1 To\n\nop 3 ben 8\n\\v 1 At\n\n",
+    ),
+    (
+        Ana,
+        Over("MAT 1:1", b"\\v 1 As\n", &["2:ana"]),
+        b"fault 83 2 ana\n",
+    ),
+    (
+        Ana,
+        Shown("MAT 1:1"),
+        b"op 3 ana 8\n\\v 1 To\n\nop 3 ben 8\n\\v 1 At\n\n",
+    ),
+    (
+        Ana,
+        Over("MAT 1:1", b"\\v 1 As\n", &["3:ana"]),
+        b"made 4 ana\n",
+    ),
+    (Ana, Export("MAT"), b"\\id MAT\n\\c 1\n\\v 1 As\n"),
+    (
+        Ana,
+        Shown("MAT 1:1"),
+        b"op 3 ben 8\n\\v 1 At\n\nop 4 ana 8\n\\v 1 As\n\n",
+    ),
+];
 
 #[test]
 fn any_order_reads_the_same(rt: HostRuntime) -> Result<(), Fail> {
-    let alloc = rt.alloc();
     for order in [
         [B1, Y, Z],
         [B1, Z, Y],
@@ -26,200 +65,312 @@ fn any_order_reads_the_same(rt: HostRuntime) -> Result<(), Fail> {
         [Z, B1, Y],
         [Z, Y, B1],
     ] {
-        let mut ana = Player::new(alloc, "ana")?;
-        for bundle in order {
-            ana.receive(bundle)?;
-        }
-        assert_eq!(rt; ana.export()?.as_slice(), AFTER);
-        let shown = "op 3 ana 8\n\\v 1 To\n\nop 3 ben 8\n\\v 1 At\n\n";
-        says(&rt, ana.shown("MAT 1:1"), shown)?;
-        let report = "conflict MAT 1:1 2\ntext 3 ben 8\n\\v 1 At\n\ntext 3 ana 8\n\\v 1 To\n\n";
-        says(&rt, ana.report(), report)?;
-        let all = ana.sent()?;
-        let mut ben = Player::new(alloc, "ben")?;
-        says(&rt, ben.receive(&all), "new 4\n")?;
-        says(&rt, ben.shown("MAT 1:1"), shown)?;
-        let unchanged = ana.file.clone()?;
-        says(
-            &rt,
-            ana.edit_over("MAT 1:1", "\\v 1 As\n", "2:ana"),
-            "fault 83 2 ana\n",
-        )?;
-        assert!(rt; ana.file.as_slice() == unchanged.as_slice());
-        says(
-            &rt,
-            ana.edit_over("MAT 1:1", "\\v 1 As\n", "3:ana"),
-            "made 4 ana\n",
-        )?;
-        says(&rt, ana.export(), "\\id MAT\n\\c 1\n\\v 1 As\n")?;
-        let shown = "op 3 ben 8\n\\v 1 At\n\nop 4 ana 8\n\\v 1 As\n\n";
-        says(&rt, ana.shown("MAT 1:1"), shown)?;
+        play(&rt, rt.alloc(), &order, AFTER_THREE)?;
+    }
+    Ok(())
+}
+
+// An import is what the file has, and edits after it.
+const IMPORTS: &[Row<'static>] = &[
+    (
+        Ana,
+        Import(b"\xEF\xBB\xBF\\id MAT\r\n\\c 1\r\n\\v 1 a\r\n"),
+        b"added 3\n",
+    ),
+    (
+        Ana,
+        Export("MAT"),
+        b"\xEF\xBB\xBF\\id MAT\r\n\\c 1\r\n\\v 1 a\r\n",
+    ),
+    (
+        Ana,
+        Import(b"\xEF\xBB\xBF\\id MAT\r\n\\c 1\r\n\\v 1 a\r\n"),
+        b"added 0\n",
+    ),
+    (Ben, Import(FIRST), b"added 3\n"),
+    (Ben, Edit("MAT 1", b""), b"made 4 ben\n"),
+    (Ben, Export("MAT"), FIRST),
+    (Ben, Import(FIRST), b"added 0\n"),
+    (Ben, Import(b"\\id MAT\n\\c 1\n"), b"added 2\n"),
+    (Ben, Export("MAT"), b"\\id MAT\n\\c 1\n"),
+];
+
+const EDITS: &[Row<'static>] = &[
+    (Ana, Receive(B1), b"new 2\n"),
+    (Ana, Edit("MAT 1:1", b"\\v 1 In\\"), b"made 3 ana\n"),
+    (Ana, Edit("MAT 1:2", b"\\v 2 b\n"), b"made 4 ana\n"),
+    (Ana, Export("MAT"), b"\\id MAT\n\\c 1\n\\v 1 In\\\\v 2 b\n"),
+    (Ana, Edit("MAT 1:1", b"\\v 1 a \\c 1"), b"made 5 ana\n"),
+];
+
+// Several texts of one verse, made by one project.
+const TEXTS: &[Row<'static>] = &[
+    (Ana, Receive(B1), b"new 2\n"),
+    (Ana, Over("MAT 1:1", b"\\v 1 b\n", &[]), b"made 3 ana\n"),
+    (Ana, Over("MAT 1:1", b"\\v 1 c\n", &[]), b"made 4 ana\n"),
+    (
+        Ana,
+        Report,
+        b"conflict MAT 1:1 3\ntext 4 ana 7\n\\v 1 c\n\ntext 3 ana 7\n\\v 1 b\n\ntext 2 ana 8\n\\v 1 In\n\n",
+    ),
+    (
+        Ana,
+        Over("MAT 1:1", b"\\v 1 d\n", &["4:ana", "2:ana", "4:ana"]),
+        b"made 5 ana\n",
+    ),
+    (
+        Ana,
+        Shown("MAT 1:1"),
+        b"op 3 ana 7\n\\v 1 b\n\nop 5 ana 7\n\\v 1 d\n\n",
+    ),
+    (Ana, Over("MAT 1:1", b"", &[]), b"made 6 ana\n"),
+    (Ana, Edit("MAT 1:1", b"\\v 1 e\n"), b"made 7 ana\n"),
+    (Ana, Shown("MAT 1:1"), b"op 7 ana 7\n\\v 1 e\n\n"),
+    (Ana, Report, b""),
+];
+
+const NAMES_OF_ANOTHER_SEGMENT: &[Row<'static>] = &[
+    (Ana, Receive(B1), b"new 2\n"),
+    (Ana, Export("MAT"), FIRST),
+    (Ana, Receive(NAMES_ANOTHER), b"new 1\n"),
+    (Ana, Export("MAT"), b"\\id MAT\n\\c 1\n\\v 1 In\n\\v 2 b\n"),
+    (Ana, Report, b""),
+];
+
+const AWAITED: &[Row<'static>] = &[
+    (Ana, Receive(Y), b"new 1\n"),
+    (Ana, Export("MAT"), b"\\c 1\n\\v 1 At\n"),
+    (Ana, Report, b"awaited 2 ana\n"),
+    (Ana, Receive(B1), b"new 2\n"),
+    (Ana, Report, b""),
+    (Ana, Export("MAT"), AFTER),
+    (Ana, Receive(B1), b"new 0\n"),
+    (Ana, Export("MAT"), AFTER),
+    (Ben, Receive(NAMES_TWO), b"new 1\n"),
+    (Ben, Report, b"awaited 1 cy\nawaited 2 ana\n"),
+    (Ben, Receive(B1), b"new 2\n"),
+    (Ben, Report, b"awaited 1 cy\n"),
+];
+
+// A project that holds nothing.
+const HOLDS_NOTHING: &[Row<'static>] = &[
+    (Ana, Shown("MAT 1:1"), b""),
+    (Ana, Send, NOTHING),
+    (Ana, Export("MAT"), b"fault 82\n"),
+    (Ana, Report, b""),
+    (Ana, Receive(NOTHING), b"new 0\n"),
+    (Ana, Edit("MAT 1:1", b"\\v 1 In\n"), b"fault 82\n"),
+    (Ana, Send, NOTHING),
+    (Ana, Edit("MAT 0", b"\\id MAT\n"), b"made 1 ana\n"),
+    (Ana, Export("MAT"), b"\\id MAT\n"),
+];
+
+// Both hold the same, edit one verse apart, and exchange what they have: the later of the two texts is
+// the empty one, or the other one.
+const EMPTIED_BY_ANA: &[Row<'static>] = &[
+    (Ana, Receive(B1), b"new 2\n"),
+    (Ben, Receive(B1), b"new 2\n"),
+    (Ana, Edit("MAT 1:1", b""), b"made 3 ana\n"),
+    (Ben, Edit("MAT 1:1", b"\\v 1 At\n"), b"made 3 ben\n"),
+    (Ana, Pack, b""),
+    (Ben, Pack, b""),
+    (Ana, Unpack, b"new 1\n"),
+    (Ben, Unpack, b"new 1\n"),
+    (Ana, Export("MAT"), AFTER),
+    (Ben, Export("MAT"), AFTER),
+    (
+        Ana,
+        Report,
+        b"conflict MAT 1:1 2\ntext 3 ben 8\n\\v 1 At\n\ntext 3 ana 0\n\n",
+    ),
+    (
+        Ben,
+        Report,
+        b"conflict MAT 1:1 2\ntext 3 ben 8\n\\v 1 At\n\ntext 3 ana 0\n\n",
+    ),
+];
+
+const EMPTIED_BY_BEN: &[Row<'static>] = &[
+    (Ana, Receive(B1), b"new 2\n"),
+    (Ben, Receive(B1), b"new 2\n"),
+    (Ana, Edit("MAT 1:1", b"\\v 1 At\n"), b"made 3 ana\n"),
+    (Ben, Edit("MAT 1:1", b""), b"made 3 ben\n"),
+    (Ana, Pack, b""),
+    (Ben, Pack, b""),
+    (Ana, Unpack, b"new 1\n"),
+    (Ben, Unpack, b"new 1\n"),
+    (Ana, Export("MAT"), b"\\id MAT\n"),
+    (Ben, Export("MAT"), b"\\id MAT\n"),
+    (
+        Ana,
+        Report,
+        b"conflict MAT 1:1 2\ntext 3 ben 0\n\ntext 3 ana 8\n\\v 1 At\n\n",
+    ),
+    (
+        Ben,
+        Report,
+        b"conflict MAT 1:1 2\ntext 3 ben 0\n\ntext 3 ana 8\n\\v 1 At\n\n",
+    ),
+];
+
+const SAME_BOOK_TWICE: &[Row<'static>] = &[
+    (Ana, Import(FIRST), b"added 3\n"),
+    (Ben, Import(FIRST), b"added 3\n"),
+    (Ana, Pack, b""),
+    (Ben, Pack, b""),
+    (Ana, Unpack, b"new 3\n"),
+    (Ben, Unpack, b"new 3\n"),
+    (Ana, Pack, b""),
+    (Ben, Same, b""),
+    (Ana, Report, b""),
+    (Ana, Edit("MAT 1:1", b"\\v 1 To\n"), b"made 4 ana\n"),
+    (Ben, Edit("MAT 1:1", b"\\v 1 At\n"), b"made 4 ben\n"),
+    (Ana, Pack, b""),
+    (Ben, Pack, b""),
+    (Ana, Unpack, b"new 1\n"),
+    (Ben, Unpack, b"new 1\n"),
+    (
+        Ana,
+        Shown("MAT 1:1"),
+        b"op 4 ana 8\n\\v 1 To\n\nop 4 ben 8\n\\v 1 At\n\n",
+    ),
+    (
+        Ben,
+        Shown("MAT 1:1"),
+        b"op 4 ana 8\n\\v 1 To\n\nop 4 ben 8\n\\v 1 At\n\n",
+    ),
+    (
+        Ana,
+        Report,
+        b"conflict MAT 1:1 2\ntext 4 ben 8\n\\v 1 At\n\ntext 4 ana 8\n\\v 1 To\n\n",
+    ),
+    (Ana, Import(b"\\id MAT\n\\c 1\n\\v 1 At\n"), b"added 0\n"),
+];
+
+const BRIDGE_AND_VERSE: &[Row<'static>] = &[
+    (
+        Ana,
+        Import(b"\\id MAT\n\\c 1\n\\v 3 x\n\\v 4 y\n"),
+        b"added 4\n",
+    ),
+    (Ana, Pack, b""),
+    (Ben, Unpack, b"new 4\n"),
+    (Ana, Edit("MAT 1:3", b"\\v 3 z\n"), b"made 5 ana\n"),
+    (Ben, Edit("MAT 1:3", b"\\v 3-4 xy\n"), b"made 5 ben\n"),
+    (Ana, Pack, b""),
+    (Ben, Pack, b""),
+    (Ana, Unpack, b"new 1\n"),
+    (Ben, Unpack, b"new 1\n"),
+    (
+        Ana,
+        Report,
+        b"conflict MAT 1:3 2\ntext 5 ben 10\n\\v 3-4 xy\n\ntext 5 ana 7\n\\v 3 z\n\n",
+    ),
+    (
+        Ben,
+        Report,
+        b"conflict MAT 1:3 2\ntext 5 ben 10\n\\v 3-4 xy\n\ntext 5 ana 7\n\\v 3 z\n\n",
+    ),
+    (Ana, Again, b"added 0\n"),
+    (
+        Ana,
+        Report,
+        b"conflict MAT 1:3 2\ntext 5 ben 10\n\\v 3-4 xy\n\ntext 5 ana 7\n\\v 3 z\n\n",
+    ),
+];
+
+// Each refusal of each command, with a greater one behind it where both hold.
+const REFUSALS: &[Row<'static>] = &[
+    (Ana, Receive(B1), b"new 2\n"),
+    (Ana, Import(b"a\xff"), b"fault 10 1\n"),
+    (Ana, Import(b"\\c 1"), b"fault 30\n"),
+    (Ana, Import(b"\\id mat"), b"fault 20\n"),
+    (Ana, Edit("MAT 1:1", b"\\v 2 \xff"), b"fault 10 5\n"),
+    (Ana, Edit("MAT 1:1", b"\\v 2 b"), b"fault 80\n"),
+    (Ana, Edit("MAT 1:1", b"\\v 1 a \\v 2 b"), b"fault 80\n"),
+    (Ana, Edit("MAT 1", b"\\c 2"), b"fault 80\n"),
+    (Ana, Edit("MAT 0", b""), b"fault 80\n"),
+    (Ana, Edit("LUK 1:1", b"\\v 2 a"), b"fault 80\n"),
+    (Ana, Edit("LUK 1:1", b"\\v 1 a"), b"fault 82\n"),
+    (Ana, Over("LUK 1:1", b"\xff", &["9:cy"]), b"fault 10 0\n"),
+    (Ana, Over("LUK 1:1", b"\\v 2 a", &["9:cy"]), b"fault 80\n"),
+    (Ana, Over("LUK 1:1", b"\\v 1 a", &["9:cy"]), b"fault 82\n"),
+    (
+        Ana,
+        Over("LUK 0", b"\\id LUK\n", &["2:ana"]),
+        b"fault 83 2 ana\n",
+    ),
+    (
+        Ana,
+        Over("MAT 1:1", b"\\v 1 a", &["1:ana"]),
+        b"fault 83 1 ana\n",
+    ),
+    (
+        Ana,
+        Over("MAT 1:1", b"\\v 1 a", &["2:ana", "9:cy", "8:cy"]),
+        b"fault 83 9 cy\n",
+    ),
+    (Ana, Receive(CLASHING), b"fault 51 2 ana\n"),
+    (Ana, Receive(NAMES_ITSELF), b"fault 65 1\n"),
+    (Ana, Export("LUK"), b"fault 82\n"),
+    (Ana, Send, B1),
+    (Ben, Receive(LAST_NUMBER), b"new 1\n"),
+    (Ben, Import(b"\\id MAT\n\\c 1\n"), b"fault 81\n"),
+    (Ben, Import(b"\\id MAT\n"), b"added 0\n"),
+    (Ben, Edit("MAT 1", b"\\c 2\n"), b"fault 80\n"),
+    (Ben, Edit("LUK 1", b"\\c 1\n"), b"fault 82\n"),
+    (Ben, Edit("MAT 1", b"\\c 1\n"), b"fault 81\n"),
+    (
+        Ben,
+        Over("MAT 0", b"\\id MAT\n", &["1:ana"]),
+        b"fault 83 1 ana\n",
+    ),
+    (
+        Ben,
+        Over("MAT 0", b"\\id MAT\n", &["1000000000000000:zed"]),
+        b"fault 81\n",
+    ),
+    (Ben, Send, LAST_NUMBER),
+];
+
+#[test]
+fn plays(rt: HostRuntime) -> Result<(), Fail> {
+    for rows in [
+        IMPORTS,
+        EDITS,
+        TEXTS,
+        NAMES_OF_ANOTHER_SEGMENT,
+        AWAITED,
+        HOLDS_NOTHING,
+        EMPTIED_BY_ANA,
+        EMPTIED_BY_BEN,
+        SAME_BOOK_TWICE,
+        BRIDGE_AND_VERSE,
+        REFUSALS,
+    ] {
+        play(&rt, rt.alloc(), &[], rows)?;
     }
     Ok(())
 }
 
 #[test]
-fn imports_and_edits(rt: HostRuntime) -> Result<(), Fail> {
+fn commands_one_after_another(rt: HostRuntime) -> Result<(), Fail> {
     let alloc = rt.alloc();
-    let mut ana = Player::new(alloc, "ana")?;
-    let marked = "\u{FEFF}\\id MAT\r\n\\c 1\r\n\\v 1 a\r\n";
-    says(&rt, ana.import(marked), "added 3\n")?;
-    says(&rt, ana.export(), marked)?;
-    let mut eve = Player::new(alloc, "eve")?;
-    says(&rt, eve.import(FIRST_FILE), "added 3\n")?;
-    says(&rt, eve.edit("MAT 1", ""), "made 4 eve\n")?;
-    says(&rt, eve.export(), FIRST_FILE)?;
-    says(&rt, eve.import(FIRST_FILE), "added 0\n")?;
-    says(&rt, eve.import("\\id MAT\n\\c 1\n"), "added 2\n")?;
-    says(&rt, eve.export(), "\\id MAT\n\\c 1\n")?;
-    says(&rt, eve.import("\\c 1"), "fault 30\n")?;
-    says(&rt, eve.import("\\id mat"), "fault 20\n")?;
-    says(&rt, eve.told(&Command::Import(b"a\xff")), "fault 10 1\n")
-}
-
-#[test]
-fn edits_that_fit(rt: HostRuntime) -> Result<(), Fail> {
-    let mut ana = Player::new(rt.alloc(), "ana")?;
-    says(&rt, ana.receive(B1), "new 2\n")?;
-    for (at, text) in [
-        ("MAT 1:1", "\\v 2 b"),
-        ("MAT 1:1", "\\v 1 a \\v 2 b"),
-        ("MAT 1", "\\c 2"),
-        ("MAT 0", ""),
-    ] {
-        says(&rt, ana.edit(at, text), "fault 80\n")?;
-    }
-    says(&rt, ana.edit("LUK 1:1", "\\v 1 a"), "fault 82\n")?;
-    says(&rt, ana.edit("MAT 1:1", "\\v 1 In\\"), "made 3 ana\n")?;
-    says(&rt, ana.edit("MAT 1:2", "\\v 2 b\n"), "made 4 ana\n")?;
-    says(&rt, ana.export(), "\\id MAT\n\\c 1\n\\v 1 In\\\\v 2 b\n")?;
-    says(&rt, ana.edit("MAT 1:1", "\\v 1 a \\c 1"), "made 5 ana\n")
-}
-
-#[test]
-fn names_of_another_segment(rt: HostRuntime) -> Result<(), Fail> {
-    let mut ana = Player::new(rt.alloc(), "ana")?;
-    says(&rt, ana.receive(B1), "new 2\n")?;
-    says(&rt, ana.export(), FIRST_FILE)?;
-    says(&rt, ana.receive(NAMES_ANOTHER), "new 1\n")?;
-    says(&rt, ana.export(), "\\id MAT\n\\c 1\n\\v 1 In\n\\v 2 b\n")?;
-    says(&rt, ana.report(), "")
-}
-
-#[test]
-fn no_number_is_left(rt: HostRuntime) -> Result<(), Fail> {
-    let mut ana = Player::new(rt.alloc(), "ana")?;
-    says(&rt, ana.receive(LAST_NUMBER), "new 1\n")?;
-    let before = ana.file.clone()?;
-    says(&rt, ana.edit("MAT 1", "\\c 1\n"), "fault 81\n")?;
-    says(&rt, ana.import("\\id MAT\n\\c 1\n"), "fault 81\n")?;
-    says(&rt, ana.import("\\id MAT\n"), "added 0\n")?;
-    assert!(rt; ana.file.as_slice() == before.as_slice());
+    let (book, key) = read_ref("MAT 1:1")?;
+    let text = b"\\v 2 b".as_slice();
+    let commands = [
+        Command::Receive(B1),
+        Command::Edit { book, key, text },
+        Command::Receive(Y),
+    ];
+    let begun = create(alloc, "ana")?;
+    assert!(rt; begun.as_slice() == b"USFMPJ1\n\x03anaUSFMSR1\n\0\0\0\0\0\0\0\0".as_slice());
+    let mut wanted = b"USFMPJ1\n\x03ana".to_vec(alloc)?;
+    wanted.extend_from_slice(&join_bundles(alloc, B1, Y)?)?;
+    let file = exec_each(alloc, &begun, &commands)?;
+    assert!(rt; file.as_slice() == wanted.as_slice());
+    let told = exec(alloc, &file, &Command::Export(Book::read("MAT")?))?;
+    assert!(rt; told.output() == AFTER);
+    assert!(rt; exec_each(alloc, &begun, &[])?.as_slice() == begun.as_slice());
     Ok(())
-}
-
-#[test]
-fn what_was_there_stays(rt: HostRuntime) -> Result<(), Fail> {
-    let mut ana = Player::new(rt.alloc(), "ana")?;
-    says(&rt, ana.receive(B1), "new 2\n")?;
-    let before = ana.file.clone()?;
-    says(&rt, ana.receive(CLASHING), "fault 51 2 ana\n")?;
-    says(&rt, ana.receive(NAMES_ITSELF), "fault 65 1\n")?;
-    assert!(rt; ana.file.as_slice() == before.as_slice());
-    let answer = exec(rt.alloc(), b"USFMPJ1\n\x04ana", &Command::Send);
-    assert!(rt; answer.err() == Some(Fault::BadProject));
-    let mut more = before.clone()?;
-    more.push(0)?;
-    let answer = exec(rt.alloc(), &more, &Command::Receive(CLASHING));
-    assert!(rt; answer.err() == Some(Fault::Trailing));
-    Ok(())
-}
-
-#[test]
-fn awaited_operations(rt: HostRuntime) -> Result<(), Fail> {
-    let mut ana = Player::new(rt.alloc(), "ana")?;
-    says(&rt, ana.receive(Y), "new 1\n")?;
-    says(&rt, ana.export(), "\\c 1\n\\v 1 At\n")?;
-    says(&rt, ana.report(), "awaited 2 ana\n")?;
-    says(&rt, ana.receive(B1), "new 2\n")?;
-    says(&rt, ana.report(), "")?;
-    assert_eq!(rt; ana.export()?.as_slice(), AFTER);
-    says(&rt, ana.receive(B1), "new 0\n")
-}
-
-// Both hold the same, edit one verse apart, and exchange what they have.
-#[test]
-fn two_edits_of_a_verse(rt: HostRuntime) -> Result<(), Fail> {
-    for (by_ana, by_ben, export, report) in [
-        (
-            "",
-            "\\v 1 At\n",
-            "\\id MAT\n\\c 1\n\\v 1 At\n",
-            "conflict MAT 1:1 2\ntext 3 ben 8\n\\v 1 At\n\ntext 3 ana 0\n\n",
-        ),
-        (
-            "\\v 1 At\n",
-            "",
-            "\\id MAT\n",
-            "conflict MAT 1:1 2\ntext 3 ben 0\n\ntext 3 ana 8\n\\v 1 At\n\n",
-        ),
-    ] {
-        let mut ana = Player::new(rt.alloc(), "ana")?;
-        let mut ben = Player::new(rt.alloc(), "ben")?;
-        ana.receive(B1)?;
-        ben.receive(B1)?;
-        says(&rt, ana.edit("MAT 1:1", by_ana), "made 3 ana\n")?;
-        says(&rt, ben.edit("MAT 1:1", by_ben), "made 3 ben\n")?;
-        exchange(&rt, &mut ana, &mut ben)?;
-        says(&rt, ana.export(), export)?;
-        says(&rt, ben.export(), export)?;
-        says(&rt, ana.report(), report)?;
-        says(&rt, ben.report(), report)?;
-    }
-    Ok(())
-}
-
-#[test]
-fn the_same_book_twice(rt: HostRuntime) -> Result<(), Fail> {
-    let mut ana = Player::new(rt.alloc(), "ana")?;
-    let mut ben = Player::new(rt.alloc(), "ben")?;
-    says(&rt, ana.import(FIRST_FILE), "added 3\n")?;
-    says(&rt, ben.import(FIRST_FILE), "added 3\n")?;
-    let (by_ana, by_ben) = (ana.sent()?, ben.sent()?);
-    says(&rt, ana.receive(&by_ben), "new 3\n")?;
-    says(&rt, ben.receive(&by_ana), "new 3\n")?;
-    assert!(rt; ana.sent()?.as_slice() == ben.sent()?.as_slice());
-    says(&rt, ana.report(), "")?;
-    says(&rt, ana.edit("MAT 1:1", "\\v 1 To\n"), "made 4 ana\n")?;
-    says(&rt, ben.edit("MAT 1:1", "\\v 1 At\n"), "made 4 ben\n")?;
-    exchange(&rt, &mut ana, &mut ben)?;
-    let shown = "op 4 ana 8\n\\v 1 To\n\nop 4 ben 8\n\\v 1 At\n\n";
-    says(&rt, ana.shown("MAT 1:1"), shown)?;
-    says(&rt, ben.shown("MAT 1:1"), shown)?;
-    says(&rt, ana.import("\\id MAT\n\\c 1\n\\v 1 At\n"), "added 0\n")
-}
-
-#[test]
-fn a_bridge_and_a_verse(rt: HostRuntime) -> Result<(), Fail> {
-    let mut ana = Player::new(rt.alloc(), "ana")?;
-    let mut ben = Player::new(rt.alloc(), "ben")?;
-    let file = "\\id MAT\n\\c 1\n\\v 3 x\n\\v 4 y\n";
-    says(&rt, ana.import(file), "added 4\n")?;
-    says(&rt, ben.receive(&ana.sent()?), "new 4\n")?;
-    says(&rt, ana.edit("MAT 1:3", "\\v 3 z\n"), "made 5 ana\n")?;
-    says(&rt, ben.edit("MAT 1:3", "\\v 3-4 xy\n"), "made 5 ben\n")?;
-    exchange(&rt, &mut ana, &mut ben)?;
-    let report = "conflict MAT 1:3 2\ntext 5 ben 10\n\\v 3-4 xy\n\ntext 5 ana 7\n\\v 3 z\n\n";
-    says(&rt, ana.report(), report)?;
-    says(&rt, ben.report(), report)?;
-    let own = ana.export()?;
-    says(&rt, ana.told(&Command::Import(&own)), "added 0\n")?;
-    says(&rt, ana.report(), report)
-}
-
-// Each receives all that the other has, of which one operation is new.
-fn exchange(rt: &impl Abort, ana: &mut Player, ben: &mut Player) -> Result<(), Fail> {
-    let (by_ana, by_ben) = (ana.sent()?, ben.sent()?);
-    says(rt, ana.receive(&by_ben), "new 1\n")?;
-    says(rt, ben.receive(&by_ana), "new 1\n")
 }

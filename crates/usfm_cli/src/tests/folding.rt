@@ -1,5 +1,10 @@
-// Streams of bundles folded into a book, and the lines of faults.
+// Streams of bundles folded into a book, bundles and projects that are none, and the lines of faults.
+use super::player::{Step, told_of};
 use super::streams::{Refusal, ShortSink, SlowSource, Zeros};
+use super::vectors::{
+    AFTER, AT_VERSE_1, B1, CLASHING, FIRST, FIRST_OP, FITS_ANOTHER, ID_2, NAMES_ITSELF, NONE,
+    NOTHING, ONE, TWO, Y, Z,
+};
 use crate::{Fault, MOST_BYTES, ReadFault, fault_line, fold_stream};
 use bundle_codec::join_bundles;
 use std::alloc::Global;
@@ -7,31 +12,11 @@ use std::io::ErrorKind;
 use std::test::Fail;
 use usfm_ref::Book;
 
-// 1 ana on MAT 0, `\id MAT␊`; 2 ana on MAT 1:1, `\v 1 In␊`.
-pub(crate) const B1: &[u8] =
-    b"USFMSR1\n\0\0\0\0\0\0\0\x02\0\0\0\0\0\0\0\x01\x03anaMAT\0\0\0\0\0\0\0\0\0\0\0\0\0\0\x01\0\0\0\0\0\0\0\x08\\id MAT\n\0\0\0\0\0\0\0\x02\x03anaMAT\0\x01\x01\0\x01\0\0\0\0\0\0\0\0\0\x01\0\0\0\0\0\0\0\x08\\v 1 In\n";
-// 3 ben on MAT 1:1, naming 2 ana, `\v 1 At␊`.
-pub(crate) const Y: &[u8] =
-    b"USFMSR1\n\0\0\0\0\0\0\0\x01\0\0\0\0\0\0\0\x03\x03benMAT\0\x01\x01\0\x01\0\0\0\0\0\0\0\0\x01\0\0\0\0\0\0\0\x02\x03ana\x01\0\0\0\0\0\0\0\x08\\v 1 At\n";
-// 3 ana on MAT 1:1, naming 2 ana, `\v 1 To␊`.
-pub(crate) const Z: &[u8] =
-    b"USFMSR1\n\0\0\0\0\0\0\0\x01\0\0\0\0\0\0\0\x03\x03anaMAT\0\x01\x01\0\x01\0\0\0\0\0\0\0\0\x01\0\0\0\0\0\0\0\x02\x03ana\x01\0\0\0\0\0\0\0\x08\\v 1 To\n";
-// 1 cy on MAT 1, `\c 1␊`; 1 dan on MAT 1:2, `\v 2 b␊`; 2 ana on MAT 1:1, `\v 1 Xx␊`.
-pub(crate) const CLASHING: &[u8] =
-    b"USFMSR1\n\0\0\0\0\0\0\0\x03\0\0\0\0\0\0\0\x01\x02cyMAT\0\x01\0\0\0\0\0\0\0\0\0\0\0\0\x01\0\0\0\0\0\0\0\x05\\c 1\n\0\0\0\0\0\0\0\x01\x03danMAT\0\x01\x01\0\x02\0\0\0\0\0\0\0\0\0\x01\0\0\0\0\0\0\0\x07\\v 2 b\n\0\0\0\0\0\0\0\x02\x03anaMAT\0\x01\x01\0\x01\0\0\0\0\0\0\0\0\0\x01\0\0\0\0\0\0\0\x08\\v 1 Xx\n";
-// 1 ana on MAT 0, naming itself.
-pub(crate) const NAMES_ITSELF: &[u8] =
-    b"USFMSR1\n\0\0\0\0\0\0\0\x01\0\0\0\0\0\0\0\x01\x03anaMAT\0\0\0\0\0\0\0\0\0\0\0\0\0\x01\0\0\0\0\0\0\0\x01\x03ana\x01\0\0\0\0\0\0\0\x08\\id MAT\n";
-
-// B1 with the text `\v 2 In␊` at MAT 1:1.
-const FITS_ANOTHER: &[u8] =
-    b"USFMSR1\n\0\0\0\0\0\0\0\x02\0\0\0\0\0\0\0\x01\x03anaMAT\0\0\0\0\0\0\0\0\0\0\0\0\0\0\x01\0\0\0\0\0\0\0\x08\\id MAT\n\0\0\0\0\0\0\0\x02\x03anaMAT\0\x01\x01\0\x01\0\0\0\0\0\0\0\0\0\x01\0\0\0\0\0\0\0\x08\\v 2 In\n";
-
-// Bundles one after another.
-fn stream(alloc: Global, bundles: &[&[u8]]) -> Result<Vec<u8>, Fail> {
+// Pieces of bytes one after another.
+pub(crate) fn joined(alloc: Global, pieces: &[&[u8]]) -> Result<Vec<u8>, Fail> {
     let mut bytes = Vec::new(alloc);
-    for bundle in bundles {
-        bytes.extend_from_slice(bundle)?;
+    for piece in pieces {
+        bytes.extend_from_slice(piece)?;
     }
     Ok(bytes)
 }
@@ -39,7 +24,7 @@ fn stream(alloc: Global, bundles: &[&[u8]]) -> Result<Vec<u8>, Fail> {
 // What is written for a book of the stream, or the line of the fault, with nothing written.
 pub(crate) fn folded(alloc: Global, input: &[u8], code: &str) -> Result<Vec<u8>, Fail> {
     let mut source = SlowSource::new(input, 4096);
-    let mut sink = ShortSink::new(alloc, 4096, 4096, Refusal::TakesNothing);
+    let mut sink = ShortSink::new(alloc, 4096, 65_536, Refusal::TakesNothing);
     match fold_stream(alloc, &mut source, &mut sink, Book::read(code)?) {
         Ok(()) => Ok(sink.taken),
         Err(fault) if sink.taken.is_empty() => Ok(fault_line(&fault).bytes().to_vec(alloc)?),
@@ -47,32 +32,33 @@ pub(crate) fn folded(alloc: Global, input: &[u8], code: &str) -> Result<Vec<u8>,
     }
 }
 
-pub(crate) const FIRST: &[u8] = b"\\id MAT\n\\c 1\n\\v 1 In\n";
+// A stream, a book's code, and what is written of it, or the line of the fault.
+type Stream<'a> = (&'a [&'a [u8]], &'a str, &'a [u8]);
 
-pub(crate) const AFTER: &[u8] = b"\\id MAT\n\\c 1\n\\v 1 At\n";
+const STREAMS: &[Stream<'static>] = &[
+    (&[], "MAT", b"fault 82\n"),
+    (&[B1], "MAT", FIRST),
+    (&[B1, B1], "MAT", FIRST),
+    (&[B1, Y, Z], "MAT", AFTER),
+    (&[B1, Z, Y], "MAT", AFTER),
+    (&[Y, B1, Z], "MAT", AFTER),
+    (&[Y, Z, B1], "MAT", AFTER),
+    (&[Z, B1, Y], "MAT", AFTER),
+    (&[Z, Y, B1], "MAT", AFTER),
+    (&[B1, CLASHING], "MAT", b"fault 51 2 ana\n"),
+    (&[B1, CLASHING, b"\0"], "MAT", b"fault 51 2 ana\n"),
+    (&[B1], "LUK", b"fault 82\n"),
+    (&[NAMES_ITSELF], "MAT", b"fault 65 1\n"),
+    (&[FITS_ANOTHER], "MAT", b"fault 68 2\n"),
+    (&[B1, b"\0"], "MAT", b"fault 60\n"),
+];
 
 #[test]
 fn bundles_are_folded(rt: HostRuntime) -> Result<(), Fail> {
     let alloc = rt.alloc();
-    for (bundles, code, wanted) in [
-        ([b"".as_slice()].as_slice(), "MAT", b"fault 82\n".as_slice()),
-        ([B1].as_slice(), "MAT", FIRST),
-        ([B1, B1].as_slice(), "MAT", FIRST),
-        ([B1, Y, Z].as_slice(), "MAT", AFTER),
-        ([B1, Z, Y].as_slice(), "MAT", AFTER),
-        ([Y, B1, Z].as_slice(), "MAT", AFTER),
-        ([Y, Z, B1].as_slice(), "MAT", AFTER),
-        ([Z, B1, Y].as_slice(), "MAT", AFTER),
-        ([Z, Y, B1].as_slice(), "MAT", AFTER),
-        ([B1, CLASHING].as_slice(), "MAT", b"fault 51 2 ana\n"),
-        ([B1].as_slice(), "LUK", b"fault 82\n"),
-        ([NAMES_ITSELF].as_slice(), "MAT", b"fault 65 1\n"),
-        ([FITS_ANOTHER].as_slice(), "MAT", b"fault 68 2\n"),
-        ([B1, b"\0"].as_slice(), "MAT", b"fault 60\n"),
-    ] {
-        let input = stream(alloc, bundles)?;
-        let answer = folded(alloc, &input, code)?;
-        assert_eq!(rt; answer.as_slice(), wanted, "{} bundles", bundles.len());
+    for (at, (bundles, code, wanted)) in STREAMS.iter().enumerate() {
+        let answer = folded(alloc, &joined(alloc, bundles)?, code)?;
+        assert!(rt; answer.as_slice() == *wanted, "row {at}");
     }
     Ok(())
 }
@@ -82,14 +68,14 @@ fn joined_bundles_are_folded(rt: HostRuntime) -> Result<(), Fail> {
     let alloc = rt.alloc();
     let both = join_bundles(alloc, Y, B1)?;
     let all = join_bundles(alloc, &both, Z)?;
-    assert_eq!(rt; folded(alloc, &all, "MAT")?.as_slice(), AFTER);
+    assert!(rt; folded(alloc, &all, "MAT")?.as_slice() == AFTER);
     Ok(())
 }
 
+// Each front of B1 twice.
 #[test]
 fn cut_streams(rt: HostRuntime) -> Result<(), Fail> {
-    let alloc = rt.alloc();
-    let twice = stream(alloc, &[B1, B1])?;
+    let twice = joined(rt.alloc(), &[B1, B1])?;
     assert_eq!(rt; twice.len(), 216);
     for length in 0..twice.len() {
         let wanted = match length {
@@ -98,8 +84,125 @@ fn cut_streams(rt: HostRuntime) -> Result<(), Fail> {
             _ => b"fault 61\n",
         };
         let (front, _) = twice.split_at(length);
-        let answer = folded(alloc, front, "MAT")?;
-        assert_eq!(rt; answer.as_slice(), wanted, "at {length}");
+        let told = folded(rt.alloc(), front, "MAT")?;
+        assert!(rt; told.as_slice() == wanted, "at {length}");
+    }
+    Ok(())
+}
+
+// Bytes, in pieces, that are no bundle, the line of the fault of them as a bundle that is received and
+// as that of a project, and what is written of them folded after B1.
+type Bad<'a> = (&'a [&'a [u8]], &'a [u8], &'a [u8]);
+
+const BAD_BUNDLES: &[Bad<'static>] = &[
+    (&[b"USFMSX1\n"], b"fault 60\n", b"fault 60\n"),
+    (&[], b"fault 61\n", FIRST),
+    (&[TWO, FIRST_OP], b"fault 61\n", b"fault 61\n"),
+    (
+        &[
+            TWO,
+            FIRST_OP,
+            ID_2,
+            AT_VERSE_1,
+            NONE,
+            b"\x01\0\0\0\0\0\0\0\x08\\v 1 I",
+        ],
+        b"fault 61\n",
+        b"fault 61\n",
+    ),
+    (&[TWO, FIRST_OP, FIRST_OP], b"fault 62 2\n", b"fault 62 2\n"),
+    (&[TWO, FIRST_OP, NONE], b"fault 63 2\n", b"fault 63 2\n"),
+    (
+        &[TWO, FIRST_OP, b"\0\0\0\0\0\0\0\x02\x03Ana"],
+        b"fault 63 2\n",
+        b"fault 63 2\n",
+    ),
+    (
+        &[TWO, FIRST_OP, ID_2, b"mat"],
+        b"fault 64 2\n",
+        b"fault 64 2\n",
+    ),
+    (
+        &[TWO, FIRST_OP, ID_2, b"MAT\x03\xe8"],
+        b"fault 64 2\n",
+        b"fault 64 2\n",
+    ),
+    (
+        &[TWO, FIRST_OP, ID_2, AT_VERSE_1, ONE, ID_2],
+        b"fault 65 2\n",
+        b"fault 65 2\n",
+    ),
+    (&[NAMES_ITSELF], b"fault 65 1\n", b"fault 65 1\n"),
+    (
+        &[TWO, FIRST_OP, ID_2, AT_VERSE_1, NONE, b"\x02"],
+        b"fault 66 2\n",
+        b"fault 66 2\n",
+    ),
+    (
+        &[
+            TWO,
+            FIRST_OP,
+            ID_2,
+            AT_VERSE_1,
+            NONE,
+            b"\x01\0\0\0\0\0\0\0\x01\xff",
+        ],
+        b"fault 67 2\n",
+        b"fault 67 2\n",
+    ),
+    (
+        &[
+            TWO,
+            FIRST_OP,
+            ID_2,
+            AT_VERSE_1,
+            NONE,
+            b"\x01\0\0\0\0\0\0\0\x06\\v 2 b",
+        ],
+        b"fault 68 2\n",
+        b"fault 68 2\n",
+    ),
+    (&[B1, b"\0"], b"fault 70\n", b"fault 60\n"),
+];
+
+#[test]
+fn bad_bundles_are_told(rt: HostRuntime) -> Result<(), Fail> {
+    let alloc = rt.alloc();
+    for (at, (pieces, wanted, written)) in BAD_BUNDLES.iter().enumerate() {
+        let bundle = joined(alloc, pieces)?;
+        let project = joined(alloc, &[BEGUN, NOTHING])?;
+        let told = told_of(&rt, alloc, project, &Step::Receive(&bundle))?;
+        assert!(rt; told.as_slice() == *wanted, "row {at} received");
+        let project = joined(alloc, &[BEGUN, &bundle])?;
+        let told = told_of(&rt, alloc, project, &Step::Import(b"\xff"))?;
+        assert!(rt; told.as_slice() == *wanted, "row {at} in a project");
+        let told = folded(alloc, &joined(alloc, &[B1, &bundle])?, "MAT")?;
+        assert!(rt; told.as_slice() == *written, "row {at} folded");
+    }
+    Ok(())
+}
+
+// How the file of ana's project begins.
+const BEGUN: &[u8] = b"USFMPJ1\n\x03ana";
+
+// Files, in two pieces, that are no project.
+const BAD_PROJECTS: &[(&[u8], &[u8])] = &[
+    (b"", b""),
+    (b"", NOTHING),
+    (b"USFMPJ1\n", b""),
+    (b"USFMPJ1\n\x04ana", b""),
+    (b"USFMPJ1\n\x04ana", B1),
+    (b"USFMPJ1\n\x03Ana", B1),
+    (b"USFMPJ2\n\x03ana", B1),
+    (b"USFMPJ2\n\x03ana", NAMES_ITSELF),
+];
+
+#[test]
+fn bad_projects_are_told(rt: HostRuntime) -> Result<(), Fail> {
+    for (at, (begun, bundle)) in BAD_PROJECTS.iter().enumerate() {
+        let project = joined(rt.alloc(), &[*begun, *bundle])?;
+        let told = told_of(&rt, rt.alloc(), project, &Step::Import(b"\xff"))?;
+        assert!(rt; told.as_slice() == b"fault 110\n".as_slice(), "row {at}");
     }
     Ok(())
 }
@@ -108,7 +211,7 @@ fn cut_streams(rt: HostRuntime) -> Result<(), Fail> {
 fn failing_streams(rt: HostRuntime) -> Result<(), Fail> {
     let alloc = rt.alloc();
     let mat = Book::read("MAT")?;
-    let input = stream(alloc, &[B1])?;
+    let input = joined(alloc, &[B1])?;
     let mut source = SlowSource::new(&input, 1);
     let mut sink = ShortSink::new(alloc, 1, 21, Refusal::TakesNothing);
     fold_stream(alloc, &mut source, &mut sink, mat)?;

@@ -1,83 +1,152 @@
 // The words of the command line.
-use crate::{Fault, Line, LineFault, read_words};
-use op_core::IdFault;
+use crate::{Line, LineFault, VERSION, fault_line, read_words};
+use op_core::OpId;
 use std::alloc::Global;
 use std::test::Fail;
-use usfm_ref::{Book, RefFault};
+use usfm_ref::{Book, Key, write_ref};
 
-// Reads the words of a text, which stand between its bars.
-fn read_barred(alloc: Global, text: &str) -> Result<Result<Line, LineFault>, Fail> {
+// What the words of a text ask for, which stand between its bars: the subcommand with each value after
+// what it is, or the line of the fault, or `usage`, or the text that was asked for.
+fn asked(alloc: Global, text: &str) -> Result<String, Fail> {
     let mut words = Vec::new(alloc);
-    for word in text.split('|') {
-        words.push(String::from_str(alloc, word)?)?;
+    if !text.is_empty() {
+        for word in text.split('|') {
+            words.push(String::from_str(alloc, word)?)?;
+        }
     }
-    Ok(read_words(alloc, &words))
+    match read_words(alloc, &words) {
+        Ok(line) => told(alloc, &line),
+        Err(LineFault::Help(text)) => Ok(text),
+        Err(LineFault::Usage(_)) => Ok(String::from_str(alloc, "usage")?),
+        Err(LineFault::Refused(fault)) => {
+            let line = fault_line(&fault);
+            Ok(String::from_str(alloc, str::from_utf8(line.bytes())?)?)
+        }
+    }
 }
 
-// Reads the words of a text, which stand between its spaces.
-fn read(alloc: Global, text: &str) -> Result<Result<Line, LineFault>, Fail> {
-    let mut words = Vec::new(alloc);
-    for word in text.split_ascii_whitespace() {
-        words.push(String::from_str(alloc, word)?)?;
-    }
-    Ok(read_words(alloc, &words))
+// The subcommand of a line with its values.
+fn told(alloc: Global, line: &Line) -> Result<String, Fail> {
+    Ok(match line {
+        Line::Init { project, name } => format!(in alloc; "init {project} as {}", name.text())?,
+        Line::Import { project, file } => format!(in alloc; "import {project} file {file}")?,
+        Line::Edit { project, book, key } => on(alloc, "edit", project, *book, *key, &[])?,
+        Line::EditOver {
+            project,
+            book,
+            key,
+            ids,
+        } => on(alloc, "edit-over", project, *book, *key, ids)?,
+        Line::Shown { project, book, key } => on(alloc, "shown", project, *book, *key, &[])?,
+        Line::Receive { project, bundle } => {
+            format!(in alloc; "receive {project} bundle {bundle}")?
+        }
+        Line::Send { project } => format!(in alloc; "send {project}")?,
+        Line::Export { project, book } => {
+            format!(in alloc; "export {project} book {}", str::from_utf8(&book.code())?)?
+        }
+        Line::Report { project } => format!(in alloc; "report {project}")?,
+        Line::Fold(book) => format!(in alloc; "fold {}", str::from_utf8(&book.code())?)?,
+    })
 }
+
+// A subcommand on a segment, with ids.
+fn on(
+    alloc: Global,
+    name: &str,
+    project: &str,
+    book: Book,
+    key: Key,
+    ids: &[OpId],
+) -> Result<String, Fail> {
+    let at = write_ref(alloc, book, key)?;
+    let mut text = format!(in alloc; "{name} {project} at {at}")?;
+    for id in ids {
+        text.push_str(format!(in alloc; ", {} of {}", id.number, id.name.text())?.as_str())?;
+    }
+    Ok(text)
+}
+
+const LINES: &[(&str, &str)] = &[
+    (
+        "init|ana.project|ana-maria",
+        "init ana.project as ana-maria",
+    ),
+    (
+        "init|--|-a.project|ana-maria",
+        "init -a.project as ana-maria",
+    ),
+    ("init|-|ana", "init - as ana"),
+    (
+        "import|ana.project|mat.usfm",
+        "import ana.project file mat.usfm",
+    ),
+    ("edit|ana.project|MAT 1:1", "edit ana.project at MAT 1:1"),
+    (
+        "edit-over|ana.project|MAT 0",
+        "edit-over ana.project at MAT 0",
+    ),
+    (
+        "edit-over|ana.project|MAT 1:1|3:ana|3:ben",
+        "edit-over ana.project at MAT 1:1, 3 of ana, 3 of ben",
+    ),
+    (
+        "edit-over|ana.project|LUK 2:3a|3:ana|4:ben|1:cy",
+        "edit-over ana.project at LUK 2:3a, 3 of ana, 4 of ben, 1 of cy",
+    ),
+    ("shown|ana.project|LUK 2", "shown ana.project at LUK 2"),
+    (
+        "receive|ana.project|ben.bundle",
+        "receive ana.project bundle ben.bundle",
+    ),
+    ("send|ana.project", "send ana.project"),
+    ("export|ana.project|LUK", "export ana.project book LUK"),
+    ("report|ana.project", "report ana.project"),
+    ("fold|MAT", "fold MAT"),
+    // The values, from left to right.
+    ("init|p|Ana", "fault 50\n"),
+    ("edit-over|p|mat 1:1|03:ana", "fault 20\n"),
+    ("edit-over|p|MAT 05|03:ana", "fault 21\n"),
+    ("edit-over|p|MAT 1:1|03:ana", "fault 52\n"),
+    ("edit-over|p|MAT 1:1|3:ana|4:ben|01:cy", "fault 52\n"),
+    ("edit|p|MAT", "fault 21\n"),
+    ("shown|p|MAT 1000", "fault 21\n"),
+    ("export|p|mat", "fault 20\n"),
+    ("fold|mat", "fault 20\n"),
+    // The shape goes before them.
+    ("", "usage"),
+    ("fold", "usage"),
+    ("fold|MAT|LUK", "usage"),
+    ("fold|mat|LUK", "usage"),
+    ("unfold|mat", "usage"),
+    ("fold|--loud|mat", "usage"),
+    ("init|p", "usage"),
+    ("init|-a.project|ana", "usage"),
+    ("import|p", "usage"),
+    ("edit|p", "usage"),
+    ("edit|p|MAT 1:1|3:ana", "usage"),
+    ("edit-over|p", "usage"),
+    ("shown|p|MAT 1:1|3:ana", "usage"),
+    ("receive|p", "usage"),
+    ("send|p|q", "usage"),
+    ("export|p", "usage"),
+    ("report", "usage"),
+    ("fold|--version", "usage"),
+];
 
 #[test]
 fn words_are_read(rt: HostRuntime) -> Result<(), Fail> {
     let alloc = rt.alloc();
-    let line = read(alloc, "fold MAT")?;
-    assert!(rt; matches!(&line, Ok(Line::Fold(book)) if *book == Book::read("MAT")?));
-    let bad = read(alloc, "fold mat")?;
-    assert!(rt;
-        matches!(
-            &bad,
-            Err(LineFault::Refused(Fault::Reference(RefFault::BadBook)))
-        )
-    );
-    for text in ["", "fold", "fold MAT LUK", "unfold mat", "fold --loud mat"] {
-        let answer = read(alloc, text)?;
-        assert!(rt; matches!(&answer, Err(LineFault::Usage(_))), "{text}");
+    for (text, wanted) in LINES {
+        assert_eq!(rt; asked(alloc, text)?.as_str(), *wanted, "{text}");
     }
-    for text in ["--help", "fold --help", "help"] {
-        let answer = read(alloc, text)?;
-        assert!(rt; matches!(&answer, Err(LineFault::Help(_))), "{text}");
+    for text in ["--help", "-h", "help", "fold|--help", "help|fold"] {
+        let help = asked(alloc, text)?;
+        assert!(rt; help.as_str().contains("Usage: usfm_team"), "{text}");
     }
-    Ok(())
-}
-
-#[test]
-fn words_of_projects(rt: HostRuntime) -> Result<(), Fail> {
-    let alloc = rt.alloc();
-    let line = read_barred(alloc, "edit-over|ana.project|MAT 1:1|3:ana|3:ben")?;
-    assert!(rt;
-        matches!(&line, Ok(Line::EditOver { project, book: _, key, ids })
-            if project.as_str() == "ana.project" && key.chapter == 1 && ids.len() == 2)
-    );
-    let none = read_barred(alloc, "edit-over|ana.project|MAT 0")?;
-    assert!(rt; matches!(&none, Ok(Line::EditOver { ids, .. }) if ids.is_empty()));
-    let dashed = read_barred(alloc, "init|--|-a.project|ana-maria")?;
-    assert!(rt;
-        matches!(&dashed, Ok(Line::Init { project, name })
-            if project.as_str() == "-a.project" && name.text() == "ana-maria")
-    );
-    for (text, fault) in [
-        ("init|p|Ana", Fault::Naming(IdFault::BadName)),
-        (
-            "edit-over|p|MAT 1:1|03:ana",
-            Fault::Naming(IdFault::BadOpId),
-        ),
-        (
-            "edit-over|p|MAT 05|03:ana",
-            Fault::Reference(RefFault::BadRef),
-        ),
-        ("export|p|mat", Fault::Reference(RefFault::BadBook)),
-    ] {
-        let answer = read_barred(alloc, text)?;
-        assert!(rt;
-            matches!(&answer, Err(LineFault::Refused(told)) if *told == fault),
-            "{text}"
-        );
+    let version = format!(in alloc; "usfm_team {VERSION}\n")?;
+    for text in ["--version", "-V"] {
+        assert_eq!(rt; asked(alloc, text)?.as_str(), version.as_str(), "{text}");
     }
     Ok(())
 }

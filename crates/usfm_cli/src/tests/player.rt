@@ -1,4 +1,4 @@
-// A project that is told commands, as the program tells them to it.
+// Projects that are told what a table says, row by row, as the program tells it to one.
 use crate::{Command, create, exec, fault_line};
 use op_core::OpId;
 use std::alloc::Global;
@@ -6,10 +6,42 @@ use std::process::Abort;
 use std::test::Fail;
 use usfm_ref::{Book, read_ref};
 
+// Whose project a row is told to.
+#[derive(Clone, Copy, Debug)]
+pub(crate) enum Who {
+    Ana,
+    Ben,
+}
+
+// What a project is told, with references, ids and codes as words.
+#[derive(Clone, Copy, Debug)]
+pub(crate) enum Step<'a> {
+    Import(&'a [u8]),
+    Edit(&'a str, &'a [u8]),
+    Over(&'a str, &'a [u8], &'a [&'a str]),
+    Receive(&'a [u8]),
+    Shown(&'a str),
+    Send,
+    Export(&'a str),
+    Report,
+    // Sends, and keeps the bundle for the other.
+    Pack,
+    // Receives what the other packed.
+    Unpack,
+    // Sends just what the other packed.
+    Same,
+    // Imports what it exports.
+    Again,
+}
+
+// A step, whose it is, and what it writes: its output, or the line of its fault.
+pub(crate) type Row<'a> = (Who, Step<'a>, &'a [u8]);
+
 #[derive(Drop)]
 pub(crate) struct Player {
     alloc: Global,
     pub(crate) file: Vec<u8>,
+    packed: Vec<u8>,
     // None: it is here for its type, without which the prover does not read how a command lends ids.
     ids: Vec<OpId>,
 }
@@ -19,6 +51,7 @@ impl Player {
         Ok(Player {
             alloc,
             file: create(alloc, name)?,
+            packed: Vec::new(alloc),
             ids: Vec::new(alloc),
         })
     }
@@ -34,53 +67,97 @@ impl Player {
         }
     }
 
-    pub(crate) fn import(&mut self, file: &str) -> Result<Vec<u8>, Fail> {
-        self.told(&Command::Import(file.as_bytes()))
+    // What a command that only tells writes, or the line of its fault: the file stays as it is.
+    fn asked(&mut self, rt: &impl Abort, command: &Command<'_>) -> Result<Vec<u8>, Fail> {
+        let before = self.file.clone()?;
+        let answer = self.told(command)?;
+        assert!(rt; self.file.as_slice() == before.as_slice());
+        Ok(answer)
     }
 
-    pub(crate) fn receive(&mut self, bundle: &[u8]) -> Result<Vec<u8>, Fail> {
-        self.told(&Command::Receive(bundle))
-    }
-
-    pub(crate) fn edit(&mut self, at: &str, text: &str) -> Result<Vec<u8>, Fail> {
+    fn edit_over(&mut self, at: &str, text: &[u8], words: &[&str]) -> Result<Vec<u8>, Fail> {
         let (book, key) = read_ref(at)?;
-        let text = text.as_bytes();
-        self.told(&Command::Edit { book, key, text })
-    }
-
-    pub(crate) fn edit_over(&mut self, at: &str, text: &str, id: &str) -> Result<Vec<u8>, Fail> {
-        let (book, key) = read_ref(at)?;
-        let text = text.as_bytes();
-        let ids = &[OpId::read(id)?];
-        let command = Command::EditOver {
+        let mut ids = Vec::new(self.alloc);
+        for word in words {
+            ids.push(OpId::read(*word)?)?;
+        }
+        self.told(&Command::EditOver {
             book,
             key,
             text,
-            ids,
-        };
-        self.told(&command)
+            ids: &ids,
+        })
     }
 
-    pub(crate) fn shown(&mut self, at: &str) -> Result<Vec<u8>, Fail> {
-        let (book, key) = read_ref(at)?;
-        self.told(&Command::Shown(book, key))
-    }
-
-    pub(crate) fn sent(&mut self) -> Result<Vec<u8>, Fail> {
-        self.told(&Command::Send)
-    }
-
-    pub(crate) fn report(&mut self) -> Result<Vec<u8>, Fail> {
-        self.told(&Command::Report)
-    }
-
-    pub(crate) fn export(&mut self) -> Result<Vec<u8>, Fail> {
-        self.told(&Command::Export(Book::read("MAT")?))
+    fn does(&mut self, rt: &impl Abort, step: &Step<'_>, other: &Player) -> Result<Vec<u8>, Fail> {
+        match *step {
+            Step::Import(file) => self.told(&Command::Import(file)),
+            Step::Edit(at, text) => {
+                let (book, key) = read_ref(at)?;
+                self.told(&Command::Edit { book, key, text })
+            }
+            Step::Over(at, text, words) => self.edit_over(at, text, words),
+            Step::Receive(bundle) => self.told(&Command::Receive(bundle)),
+            Step::Shown(at) => {
+                let (book, key) = read_ref(at)?;
+                self.asked(rt, &Command::Shown(book, key))
+            }
+            Step::Send => self.asked(rt, &Command::Send),
+            Step::Export(code) => self.asked(rt, &Command::Export(Book::read(code)?)),
+            Step::Report => self.asked(rt, &Command::Report),
+            Step::Pack => {
+                self.packed = self.asked(rt, &Command::Send)?;
+                Ok(Vec::new(self.alloc))
+            }
+            Step::Unpack => self.told(&Command::Receive(&other.packed)),
+            Step::Same => {
+                let own = self.asked(rt, &Command::Send)?;
+                assert!(rt; own.as_slice() == other.packed.as_slice());
+                Ok(Vec::new(self.alloc))
+            }
+            Step::Again => {
+                let own = self.asked(rt, &Command::Export(Book::read("MAT")?))?;
+                self.told(&Command::Import(&own))
+            }
+        }
     }
 }
 
-// That something told is a text.
-pub(crate) fn says(rt: &impl Abort, told: Result<Vec<u8>, Fail>, wanted: &str) -> Result<(), Fail> {
-    assert_eq!(rt; told?.as_slice(), wanted.as_bytes());
+// What a project of these bytes writes of a step.
+pub(crate) fn told_of(
+    rt: &impl Abort,
+    alloc: Global,
+    project: Vec<u8>,
+    step: &Step<'_>,
+) -> Result<Vec<u8>, Fail> {
+    let ben = Player::new(alloc, "ben")?;
+    let mut ana = Player {
+        alloc,
+        file: project,
+        packed: Vec::new(alloc),
+        ids: Vec::new(alloc),
+    };
+    ana.does(rt, step, &ben)
+}
+
+// That two projects, of ana, who first received these bundles, and of ben, write what the rows say.
+pub(crate) fn play(
+    rt: &impl Abort,
+    alloc: Global,
+    first: &[&[u8]],
+    rows: &[Row<'_>],
+) -> Result<(), Fail> {
+    let mut ana = Player::new(alloc, "ana")?;
+    let mut ben = Player::new(alloc, "ben")?;
+    for bundle in first {
+        ana.told(&Command::Receive(*bundle))?;
+    }
+    for (at, (who, step, wanted)) in rows.iter().enumerate() {
+        let answer = match *who {
+            Who::Ana => ana.does(rt, step, &ben)?,
+            Who::Ben => ben.does(rt, step, &ana)?,
+        };
+        assert!(rt; answer.as_slice() == *wanted, "row {at}");
+    }
     Ok(())
 }

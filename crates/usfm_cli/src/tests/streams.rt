@@ -131,19 +131,75 @@ impl ByteSink for ShortSink {
     }
 }
 
-/// A reader and writer of std that always fails.
+/// A reader and writer of std that counts its calls, moves at most `step` bytes a call, and fails at the
+/// call `fail_at`, counted from 1, alone.
 #[derive(Drop)]
-pub struct Broken;
+pub struct Counted<'a> {
+    rest: &'a [u8],
+    pub taken: Vec<u8>,
+    step: usize,
+    fail_at: u64,
+    kind: io::ErrorKind,
+    pub calls: u64,
+    // The reads that answered the end.
+    pub ends: u64,
+}
 
-impl Read for Broken {
-    fn read(&mut self, _buffer: &mut [u8]) -> io::Result<usize> {
-        Err(io::Error::from(io::ErrorKind::Interrupted))
+impl<'a> Counted<'a> {
+    pub fn new(alloc: Global, bytes: &'a [u8], step: usize) -> Self {
+        Self::failing(alloc, bytes, step, 0, io::ErrorKind::Other)
+    }
+
+    pub fn failing(
+        alloc: Global,
+        bytes: &'a [u8],
+        step: usize,
+        fail_at: u64,
+        kind: io::ErrorKind,
+    ) -> Self {
+        Counted {
+            rest: bytes,
+            taken: Vec::new(alloc),
+            step,
+            fail_at,
+            kind,
+            calls: 0,
+            ends: 0,
+        }
+    }
+
+    // Counts a call, and answers whether it fails.
+    fn fails(&mut self) -> bool {
+        self.calls = self.calls.saturating_add(1);
+        self.calls == self.fail_at
     }
 }
 
-impl Write for Broken {
-    fn write(&mut self, _piece: &[u8]) -> io::Result<usize> {
-        Err(io::Error::from(io::ErrorKind::Interrupted))
+impl Read for Counted<'_> {
+    fn read(&mut self, buffer: &mut [u8]) -> io::Result<usize> {
+        if self.fails() {
+            return Err(io::Error::from(self.kind));
+        }
+        let count = self.step.min(buffer.len()).min(self.rest.len());
+        if count == 0 {
+            self.ends = self.ends.saturating_add(1);
+        }
+        buffer[..count].copy_from_slice(&self.rest[..count]);
+        self.rest = &self.rest[count..];
+        Ok(count)
+    }
+}
+
+impl Write for Counted<'_> {
+    fn write(&mut self, piece: &[u8]) -> io::Result<usize> {
+        if self.fails() {
+            return Err(io::Error::from(self.kind));
+        }
+        let count = self.step.min(piece.len());
+        match self.taken.extend_from_slice(&piece[..count]) {
+            Ok(()) => Ok(count),
+            Err(_) => Err(io::Error::from(io::ErrorKind::OutOfMemory)),
+        }
     }
 
     fn flush(&mut self) -> io::Result<()> {

@@ -1,5 +1,6 @@
 // The trees of folded books.
-use super::folding::{B1, FIRST, folded};
+use super::folding::folded;
+use super::vectors::{B1, FIRST};
 use std::alloc::Global;
 use std::test::Fail;
 use sty_sheet::Sheet;

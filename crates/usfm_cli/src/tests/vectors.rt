@@ -1,0 +1,59 @@
+// Bundles, byte by byte, and what they make of a book.
+
+// 1 ana on MAT 0, `\id MAT␊`; 2 ana on MAT 1:1, `\v 1 In␊`.
+pub(crate) const B1: &[u8] =
+    b"USFMSR1\n\0\0\0\0\0\0\0\x02\0\0\0\0\0\0\0\x01\x03anaMAT\0\0\0\0\0\0\0\0\0\0\0\0\0\0\x01\0\0\0\0\0\0\0\x08\\id MAT\n\0\0\0\0\0\0\0\x02\x03anaMAT\0\x01\x01\0\x01\0\0\0\0\0\0\0\0\0\x01\0\0\0\0\0\0\0\x08\\v 1 In\n";
+
+// 3 ben on MAT 1:1, naming 2 ana, `\v 1 At␊`.
+pub(crate) const Y: &[u8] =
+    b"USFMSR1\n\0\0\0\0\0\0\0\x01\0\0\0\0\0\0\0\x03\x03benMAT\0\x01\x01\0\x01\0\0\0\0\0\0\0\0\x01\0\0\0\0\0\0\0\x02\x03ana\x01\0\0\0\0\0\0\0\x08\\v 1 At\n";
+
+// 3 ana on MAT 1:1, naming 2 ana, `\v 1 To␊`.
+pub(crate) const Z: &[u8] =
+    b"USFMSR1\n\0\0\0\0\0\0\0\x01\0\0\0\0\0\0\0\x03\x03anaMAT\0\x01\x01\0\x01\0\0\0\0\0\0\0\0\x01\0\0\0\0\0\0\0\x02\x03ana\x01\0\0\0\0\0\0\0\x08\\v 1 To\n";
+
+// 1 cy on MAT 1, `\c 1␊`; 1 dan on MAT 1:2, `\v 2 b␊`; 2 ana on MAT 1:1, `\v 1 Xx␊`.
+pub(crate) const CLASHING: &[u8] =
+    b"USFMSR1\n\0\0\0\0\0\0\0\x03\0\0\0\0\0\0\0\x01\x02cyMAT\0\x01\0\0\0\0\0\0\0\0\0\0\0\0\x01\0\0\0\0\0\0\0\x05\\c 1\n\0\0\0\0\0\0\0\x01\x03danMAT\0\x01\x01\0\x02\0\0\0\0\0\0\0\0\0\x01\0\0\0\0\0\0\0\x07\\v 2 b\n\0\0\0\0\0\0\0\x02\x03anaMAT\0\x01\x01\0\x01\0\0\0\0\0\0\0\0\0\x01\0\0\0\0\0\0\0\x08\\v 1 Xx\n";
+
+// 1 ana on MAT 0, naming itself.
+pub(crate) const NAMES_ITSELF: &[u8] =
+    b"USFMSR1\n\0\0\0\0\0\0\0\x01\0\0\0\0\0\0\0\x01\x03anaMAT\0\0\0\0\0\0\0\0\0\0\0\0\0\x01\0\0\0\0\0\0\0\x01\x03ana\x01\0\0\0\0\0\0\0\x08\\id MAT\n";
+
+// B1 with the text `\v 2 In␊` at MAT 1:1.
+pub(crate) const FITS_ANOTHER: &[u8] =
+    b"USFMSR1\n\0\0\0\0\0\0\0\x02\0\0\0\0\0\0\0\x01\x03anaMAT\0\0\0\0\0\0\0\0\0\0\0\0\0\0\x01\0\0\0\0\0\0\0\x08\\id MAT\n\0\0\0\0\0\0\0\x02\x03anaMAT\0\x01\x01\0\x01\0\0\0\0\0\0\0\0\0\x01\0\0\0\0\0\0\0\x08\\v 2 In\n";
+
+// 3 ben on MAT 1:2, naming 2 ana, which is of MAT 1:1.
+pub(crate) const NAMES_ANOTHER: &[u8] =
+    b"USFMSR1\n\0\0\0\0\0\0\0\x01\0\0\0\0\0\0\0\x03\x03benMAT\0\x01\x01\0\x02\0\0\0\0\0\0\0\0\x01\0\0\0\0\0\0\0\x02\x03ana\x01\0\0\0\0\0\0\0\x07\\v 2 b\n";
+
+// 3 ben on MAT 1:1, naming 1 cy and 2 ana, `\v 1 At␊`.
+pub(crate) const NAMES_TWO: &[u8] =
+    b"USFMSR1\n\0\0\0\0\0\0\0\x01\0\0\0\0\0\0\0\x03\x03benMAT\0\x01\x01\0\x01\0\0\0\0\0\0\0\0\x02\0\0\0\0\0\0\0\x01\x02cy\0\0\0\0\0\0\0\x02\x03ana\x01\0\0\0\0\0\0\0\x08\\v 1 At\n";
+
+// 1000000000000000 zed on MAT 0.
+pub(crate) const LAST_NUMBER: &[u8] =
+    b"USFMSR1\n\0\0\0\0\0\0\0\x01\0\x03\x8d\x7e\xa4\xc6\x80\0\x03zedMAT\0\0\0\0\0\0\0\0\0\0\0\0\0\0\x01\0\0\0\0\0\0\0\x08\\id MAT\n";
+
+// No operation.
+pub(crate) const NOTHING: &[u8] = b"USFMSR1\n\0\0\0\0\0\0\0\0";
+
+// The front of a bundle of two operations, the first one of B1, and parts of the second.
+pub(crate) const TWO: &[u8] = b"USFMSR1\n\0\0\0\0\0\0\0\x02";
+
+pub(crate) const FIRST_OP: &[u8] =
+    b"\0\0\0\0\0\0\0\x01\x03anaMAT\0\0\0\0\0\0\0\0\0\0\0\0\0\0\x01\0\0\0\0\0\0\0\x08\\id MAT\n";
+
+pub(crate) const ID_2: &[u8] = b"\0\0\0\0\0\0\0\x02\x03ana";
+
+pub(crate) const AT_VERSE_1: &[u8] = b"MAT\0\x01\x01\0\x01\0";
+
+pub(crate) const NONE: &[u8] = b"\0\0\0\0\0\0\0\0";
+
+pub(crate) const ONE: &[u8] = b"\0\0\0\0\0\0\0\x01";
+
+// The book of B1, and the one after Y.
+pub(crate) const FIRST: &[u8] = b"\\id MAT\n\\c 1\n\\v 1 In\n";
+
+pub(crate) const AFTER: &[u8] = b"\\id MAT\n\\c 1\n\\v 1 At\n";
