@@ -1,0 +1,6 @@
+pub mod Spots
+pub mod Scenes
+pub mod TreeConditions
+pub mod NumberConditions
+pub mod Keys
+pub mod Findings
