@@ -4,3 +4,5 @@ pub mod TreeConditions
 pub mod NumberConditions
 pub mod Keys
 pub mod Findings
+pub mod TreeViews
+pub mod Reading

@@ -3,7 +3,7 @@
 -- The codes and their conditions are this project's own rule. OccursUnder, with the word NEST, is Paratext's.
 use Rattle.sty_sheet.specs.declared.kind.StyleKind.{StyleKind}
 use Rattle.sty_sheet.specs.declared.kind.StyleKind.TheVariants as kinds
-use Rattle.std.specs.Prelude.{ℕ, nat_le, Bool, true, false, not, ◌&&◌, ◌||◌, List, [], ◌∷◌, length, codes, Option, None, Some, find, if◌then◌else◌}
+use Rattle.std.specs.Prelude.{ℕ, nat_le, ◌==◌, Bool, true, false, not, ◌&&◌, ◌||◌, List, [], ◌∷◌, length, codes, Option, None, Some, find, if◌then◌else◌}
 use Rattle.std.specs.Option.{is_some, option_map_or, option_map, option_to_list}
 use Rattle.std.specs.List.{list_any}
 use Rattle.std.specs.Str.{bytes_eq}
@@ -88,8 +88,7 @@ is_among names word = list_any (bytes_eq word) names
 
 -- there are words, and none of them is one that allows
 abbrev pub forbids : List (List ℕ) → List (List ℕ) → Bool
-forbids [] names = false
-forbids (w ∷ ws) names = not (list_any (is_among names) (w ∷ ws))
+forbids words names = not (length words == 0) && not (list_any (is_among names) words)
 
 abbrev pub is_restricted_kind : StyleKind → Bool
 is_restricted_kind kind = is_character_kind kind || is_note_kind kind

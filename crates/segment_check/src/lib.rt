@@ -9,7 +9,7 @@
 //! their conditions are this project's own rule.
 #![tactic(auto)]
 
-mod check;
+mod checker;
 mod code;
 mod finding;
 mod inside;
@@ -18,7 +18,7 @@ mod numbers;
 mod told;
 mod tree;
 
-pub use check::check;
+pub use checker::check;
 pub use code::Code;
 pub use finding::Finding;
 
