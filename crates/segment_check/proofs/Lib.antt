@@ -1,1 +1,3 @@
 pub mod TreeLemmas
+pub mod FoundLemmas
+pub mod WalkLemmas

@@ -6,3 +6,5 @@ pub mod Keys
 pub mod Findings
 pub mod TreeViews
 pub mod Reading
+pub mod Numbers
+pub mod WalkViews

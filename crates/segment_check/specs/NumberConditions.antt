@@ -2,9 +2,9 @@
 --
 -- USFM 3.0 has the numbers behind `\c` and `\v`, the bridge `\v 3-4` and the part `\v 3a`. What is wrong with a number is this
 -- project's own rule.
-use Rattle.std.specs.Prelude.{ℕ, nat_lt, ◌==◌, Bool, true, false, not, ◌&&◌, ◌||◌, List, [], ◌∷◌, codes, drop, Option, None, Some}
+use Rattle.std.specs.Prelude.{ℕ, nat_lt, ◌==◌, Bool, true, false, not, ◌&&◌, ◌||◌, List, [], ◌∷◌, codes, Option, None, Some}
 use Rattle.std.specs.Option.{is_some, option_map_or}
-use Rattle.std.specs.List.{list_any}
+use Rattle.std.specs.List.{list_any, slice_get}
 use Rattle.std.specs.Ordering.{is_lt}
 use Rattle.usfm_ref.specs.Keys.{place_cmp}
 use Rattle.usfm_ref.specs.Numbers.{chapter_in}
@@ -23,10 +23,9 @@ lacks_number m after =
 abbrev pub bad_number : Scene → Bool
 bad_number scene = lacks_number scene.here.parts scene.here.after
 
--- a hyphen stands at the front
-abbrev pub begins_hyphen : List ℕ → Bool
-begins_hyphen [] = false
-begins_hyphen (b ∷ rest) = b == 45
+-- a hyphen (45) stands at a place
+abbrev pub hyphen_at : List ℕ → ℕ → Bool
+hyphen_at text place = option_map_or (λ b. b == 45) (slice_get text place) false
 
 -- a verse comes before the last of its bridge
 abbrev pub bridges_forward : VerseMark → ℕ × Option ℕ → Bool
@@ -34,7 +33,7 @@ bridges_forward v last = is_lt (place_cmp (Verse v.number v.letter) (Verse last.
 
 -- a hyphen directly behind a verse's number without a bridge, or a bridge whose last verse is not after its first
 abbrev pub fails_bridge : List ℕ → VerseMark → Bool
-fails_bridge after v = option_map_or (λ last. not (bridges_forward v last)) v.last (begins_hyphen (drop v.length after))
+fails_bridge after v = option_map_or (λ last. not (bridges_forward v last)) v.last (hyphen_at after v.length)
 
 abbrev pub has_bad_bridge : MarkParts → List ℕ → Bool
 has_bad_bridge m after = option_map_or (fails_bridge after) (verse_behind m after) false

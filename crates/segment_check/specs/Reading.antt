@@ -4,9 +4,10 @@ use Rattle.std.specs.Option.{is_some, option_map_or}
 use Rattle.usfm_ref.specs.Keys.{KeyParts, book_head}
 use Rattle.usfm_ref.specs.declared.number.VerseMark.{VerseMark}
 use Rattle.usfm_token.specs.Tokens.{MarkParts, Lexeme, mark, words, mark_bytes, tokens_of}
-use Rattle.verse_cut.specs.Keys.{key_below, mark_key, text_after}
+use Rattle.verse_cut.specs.Keys.{key_below, text_after}
 use Rattle.segment_check.specs.Scenes.{verse_behind}
 use Rattle.segment_check.specs.NumberConditions.{lacks_number, has_bad_bridge, reaches}
+use Rattle.segment_check.specs.Numbers.{chapter_behind, key_by}
 use Rattle.segment_check.specs.Findings.{all_codes}
 use Rattle.segment_check.specs.declared.code.Code.{Code}
 use Rattle.segment_check.specs.declared.code.Code.TheVariants as code
@@ -77,7 +78,7 @@ reach_with reach (Some v) = further reach v.last
 
 abbrev pub held_at : State → ℕ → MarkParts → List ℕ → Held
 held_at st at m after =
-    let key = mark_key st.key.chapter m after in record {
+    let key = key_by st.key.chapter (chapter_behind m after) (verse_behind m after) in record {
       told = told_first at st.told;
       bad_number = lacks_number m after;
       bad_bridge = has_bad_bridge m after;
@@ -88,7 +89,7 @@ held_at st at m after =
 -- the state behind a mark
 abbrev pub behind : State → ℕ → MarkParts → List ℕ → State
 behind st at m after =
-    let key = mark_key st.key.chapter m after in record {
+    let key = key_by st.key.chapter (chapter_behind m after) (verse_behind m after) in record {
       key = key_then st.key key;
       reach = if is_above st.key key then reach_with st.reach (verse_behind m after) else st.reach;
       told = told_rest at st.told;
