@@ -1,3 +1,7 @@
 pub mod TreeLemmas
 pub mod FoundLemmas
 pub mod WalkLemmas
+pub mod Threads
+pub mod Openings
+pub mod Pieces
+pub mod FoundLaw

@@ -8,3 +8,4 @@ pub mod TreeViews
 pub mod Reading
 pub mod Numbers
 pub mod WalkViews
+pub mod Laws

@@ -13,6 +13,7 @@ mod checker;
 mod code;
 mod finding;
 mod inside;
+pub mod laws;
 mod marks;
 mod numbers;
 mod told;
