@@ -5,6 +5,9 @@ use Rattle.std.specs.List.{flat_map}
 use Rattle.sty_sheet.specs.Records.{Record}
 use Rattle.usfm_ref.specs.Keys.{KeyParts, book_head}
 use Rattle.usfm_token.specs.Tokens.{MarkParts, Lexeme, mark, words, mark_bytes, slice_of, tokens_of, AreLexemes}
+use Rattle.usfm_tree.specs.Forest.{Forest}
+use Rattle.usfm_tree.specs.Reading.{tree_of}
+use Rattle.usfm_tree.specs.SheetViews.{styles_in}
 use Rattle.usfm_token.proofs.Walk.{each-tokens_of, first_not_empty}
 use Rattle.verse_cut.specs.Keys.{key_below, text_after}
 use Rattle.verse_cut.specs.Marks.{Site, sites_from, chapter_in_force, keyed_behind}
@@ -17,7 +20,7 @@ use Rattle.segment_check.specs.Numbers.{chapter_behind, key_by}
 use Rattle.segment_check.specs.Findings.{all_codes, stands_at, holds_of, found_at, spots_of, findings}
 use Rattle.segment_check.specs.Laws.{FindingsAreRead}
 use Rattle.segment_check.specs.Reading.{State, key_then, told_first, told_rest, untold, held_at, behind, holds_in, findings_with, found_from, found_in, start_state}
-use Rattle.segment_check.specs.TreeViews.{told_of}
+use Rattle.segment_check.specs.TreeViews.{told_of, told_in}
 use Rattle.segment_check.specs.declared.code.Code.{Code}
 use Rattle.segment_check.specs.declared.code.Code.TheVariants as code
 use Rattle.segment_check.specs.declared.finding.Finding.{Finding}
@@ -145,3 +148,9 @@ module _ (sheet : List Record) (s : List ℕ) where
 pub findings_are_read : FindingsAreRead
 unfolding found_in findings scenes_of
 findings_are_read sheet s = found_is sheet s [] 0 (start_state (map (told_of sheet) (spots_of sheet s))) (spots_of sheet s) (tokens_of s) (each-tokens_of s) (knows_start sheet s)
+
+-- with what is told of the tree, a reading of the text finds its findings
+pub tree_findings : (sheet : List Record) (s : List ℕ) (f : Forest) (told : List Told) (list : List Finding) → f ≡ tree_of (styles_in sheet) s → told ≡ told_in sheet [] f → list ≡ found_in told s → list ≡ findings sheet s
+unfolding spots_of
+tree_findings sheet s f told list ef et h =
+    h ∙ ap (λ t. found_in t s) (et ∙ ap (told_in sheet []) ef) ∙ findings_are_read sheet s

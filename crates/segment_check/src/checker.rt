@@ -19,5 +19,6 @@ pub fn check(alloc: Global, text: &str, sheet: &Sheet<'_>) -> Result<Vec<Finding
 {
     let tree = Tree::read(alloc, text, sheet)?;
     let told = tell_tree(alloc, &tree, sheet)?;
-    find_marks(alloc, text, told.as_slice())
+    let findings = find_marks(alloc, text, told.as_slice())?;
+    Ok(findings)
 }
