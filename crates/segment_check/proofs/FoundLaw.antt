@@ -1,5 +1,5 @@
 -- The reading of the marks from the left gives the findings.
-use Rattle.std.proofs.Common.{◌≡◌, ℕ, ◌+◌, ◌<◌, ◌≤◌, Bool, true, false, cond, List, [], ◌∷◌, ◌++◌, length, map, Option, None, Some, sym, refl, ap, ◌∙◌, subst, arith}
+use Rattle.std.proofs.Common.{◌≡◌, ℕ, ◌+◌, ◌<◌, ◌≤◌, Bool, true, false, cond, List, [], ◌∷◌, ◌++◌, length, map, Option, sym, refl, ap, ◌∙◌, subst, arith}
 use Rattle.std.specs.Prelude.{filter, ◌==◌, ◌&&◌}
 use Rattle.std.specs.List.{flat_map}
 use Rattle.sty_sheet.specs.Records.{Record}
@@ -13,10 +13,9 @@ use Rattle.verse_cut.specs.Keys.{key_below, text_after}
 use Rattle.verse_cut.specs.Marks.{Site, sites_from, chapter_in_force, keyed_behind}
 use Rattle.verse_cut.specs.Pieces.{pieces_of}
 use Rattle.segment_check.specs.Spots.{Spot}
-use Rattle.segment_check.specs.Scenes.{Scene, scenes_behind, scenes_of, verse_behind}
+use Rattle.segment_check.specs.Scenes.{Scene, scenes_behind, scenes_of}
 use Rattle.segment_check.specs.Keys.{key_at}
 use Rattle.segment_check.specs.TreeConditions.{unknown_marker, stray_close, unclosed_char, unclosed_note, too_deep, not_under}
-use Rattle.segment_check.specs.Numbers.{chapter_behind, key_by}
 use Rattle.segment_check.specs.Findings.{all_codes, stands_at, holds_of, found_at, spots_of, findings}
 use Rattle.segment_check.specs.Laws.{FindingsAreRead}
 use Rattle.segment_check.specs.Reading.{State, key_then, told_first, told_rest, untold, held_at, behind, holds_in, findings_with, found_from, found_in, start_state}

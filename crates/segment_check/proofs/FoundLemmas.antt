@@ -1,5 +1,5 @@
 -- The findings at a mark, one code after the other.
-use Rattle.std.proofs.Common.{◌≡◌, ℕ, Bool, true, false, cond, List, [], ◌∷◌, ◌++◌, map, sym, refl, ap, ◌∙◌, append_assoc, append-nil}
+use Rattle.std.proofs.Common.{◌≡◌, ℕ, Bool, true, false, cond, List, [], ◌∷◌, ◌++◌, map, sym, ap, ◌∙◌, append_assoc, append-nil}
 use Rattle.std.specs.Prelude.{filter}
 use Rattle.usfm_ref.specs.Keys.{KeyParts}
 use Rattle.segment_check.specs.Reading.{holds_in, findings_with}

@@ -1,6 +1,6 @@
 -- The marks before a mark, by the state that a reading has there.
-use Rattle.std.proofs.Common.{◌≡◌, ℕ, ◌+◌, ◌<◌, ◌≤◌, max, Bool, true, false, not, cond, List, [], ◌∷◌, ◌++◌, length, codes, Option, None, Some, option_map, sym, refl, ap, ◌∙◌, subst, arith, append_assoc, append-nil, ◌&&◌, ◌||◌}
-use Rattle.std.specs.Prelude.{◌==◌, nat_lt, nat_le}
+use Rattle.std.proofs.Common.{◌≡◌, ℕ, ◌<◌, ◌≤◌, max, Bool, true, false, not, cond, List, [], ◌∷◌, ◌++◌, codes, Option, None, Some, option_map, sym, refl, ap, ◌∙◌, subst, arith, append_assoc, append-nil, ◌&&◌, ◌||◌}
+use Rattle.std.specs.Prelude.{◌==◌, nat_lt}
 use Rattle.std.specs.List.{list_any}
 use Rattle.std.specs.Option.{is_some, option_map_or}
 use Rattle.std.specs.Ordering.{is_lt}
@@ -19,7 +19,7 @@ use Rattle.verse_cut.specs.Keys.{key_below, verse_key, mark_key}
 use Rattle.verse_cut.specs.Marks.{Site, Keyed, chapter_number, greater_of, chapter_in_force, key_behind, with_key, keyed_behind, is_above_all, opens}
 use Rattle.verse_cut.proofs.KeyOrder.{below_trans, below_weak, key_below-is}
 use Rattle.verse_cut.proofs.MarkLaws.{chapter_after, above_in_force, below_in_force}
-use Rattle.segment_check.specs.Scenes.{Scene, scenes_behind, chapter_of, key_of, opens_piece, is_plain_mark, verse_behind, opened_verse}
+use Rattle.segment_check.specs.Scenes.{Scene, scenes_behind, chapter_of, key_of, opens_piece, verse_behind, opened_verse}
 use Rattle.segment_check.specs.NumberConditions.{is_after, reaches, bridge_reaches, overlaps_from, not_rising, overlap}
 use Rattle.segment_check.specs.Numbers.{chapter_behind, key_by}
 use Rattle.segment_check.specs.Reading.{Last, is_letter_within, is_within, further, any_reaches, is_above, key_then, reach_with}

@@ -7,7 +7,7 @@ use Rattle.usfm_ref.specs.Keys.{KeyParts, book_head}
 use Rattle.usfm_token.specs.Tokens.{Lexeme, slice_of, tokens_of}
 use Rattle.verse_cut.specs.Keys.{key_below}
 use Rattle.verse_cut.specs.Pieces.{Part, pieces_of}
-use Rattle.verse_cut.specs.Reading.{key_of, Later, goes_on, opens_at, cut_from, pieces_with, cut_of}
+use Rattle.verse_cut.specs.Reading.{key_of, goes_on, opens_at, cut_from, pieces_with, cut_of}
 use Rattle.verse_cut.proofs.MarkLaws.{cut_is_read}
 use Rattle.verse_cut.proofs.Quiet.{by_key}
 use Rattle.segment_check.specs.Keys.{holds, key_at}

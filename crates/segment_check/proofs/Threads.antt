@@ -1,7 +1,7 @@
 -- The marks of a tree, in the order of the tokens of its text.
-use Rattle.std.proofs.Common.{◌≡◌, ℕ, ◌+◌, ◌<◌, ◌≤◌, Bool, true, false, cond, List, [], ◌∷◌, ◌++◌, length, map, Option, None, Some, ◌⊎◌, ⊎_elim, inl, inr, sym, refl, ap, ◌∙◌, subst, arith, append_assoc, length-append}
+use Rattle.std.proofs.Common.{◌≡◌, ℕ, ◌+◌, ◌<◌, ◌≤◌, Bool, true, false, cond, List, [], ◌∷◌, ◌++◌, length, map, Option, None, Some, ◌⊎◌, ⊎_elim, inl, inr, sym, refl, ap, ◌∙◌, subst, arith, length-append}
 use Rattle.std.specs.Prelude.{◌==◌, ◌&&◌, ◌||◌, slice_index}
-use Rattle.std.specs.List.{flat_map, list_any}
+use Rattle.std.specs.List.{flat_map}
 use Rattle.std.proofs.lemmas.Bool.{eq-eqb}
 use Rattle.std.proofs.lemmas.Bool.Decides.{nat_tests}
 use Rattle.sty_sheet.specs.Records.{Record}

@@ -1,24 +1,24 @@
 -- What a tree tells of its marks, entry by entry.
 use Rattle.sty_sheet.specs.declared.kind.StyleKind.{StyleKind}
 use Rattle.sty_sheet.specs.declared.kind.StyleKind.TheVariants as kinds
-use Rattle.std.proofs.Common.{◌≡◌, ℕ, zero, suc, ◌+◌, ◌-◌, ◌<◌, ◌≤◌, Bool, true, false, cond, List, [], ◌∷◌, ◌++◌, length, map, take, drop, codes, Option, None, Some, sym, refl, ap, ◌∙◌, subst, arith, append_assoc, append-nil, length-append, get_or, add-one}
+use Rattle.std.proofs.Common.{◌≡◌, ℕ, zero, suc, ◌+◌, ◌-◌, ◌<◌, Bool, true, false, cond, List, [], ◌∷◌, ◌++◌, length, map, drop, codes, Option, None, Some, sym, refl, ap, ◌∙◌, subst, arith, append_assoc, append-nil, length-append, get_or, add-one}
 use Rattle.std.specs.Prelude.{◌==◌, nat_le, ◌&&◌, ◌||◌, not, find}
 use Rattle.std.specs.List.{list_any, slice_get}
-use Rattle.std.specs.Option.{is_some, option_map, option_map_or, option_to_list, unwrap_or}
+use Rattle.std.specs.Option.{is_some, option_map, option_map_or, option_to_list}
 use Rattle.std.proofs.Math.Seq.{drop-cons}
 use Rattle.std.proofs.lemmas.Bool.Decides.{nat_tests}
 use Rattle.sty_sheet.specs.Records.{Record}
-use Rattle.usfm_token.specs.Tokens.{MarkParts, mark, mark_bytes}
-use Rattle.usfm_tree.specs.Forest.{Forest, nothing, ◌then◌, kids_of, start_of, mark_of, close_of, leaves_of, close_leaves}
+use Rattle.usfm_token.specs.Tokens.{MarkParts, mark}
+use Rattle.usfm_tree.specs.Forest.{Forest, ◌then◌, kids_of, start_of, mark_of, close_of, leaves_of, close_leaves}
 use Rattle.usfm_tree.specs.Reading.{role, is_character_kind}
 use Rattle.usfm_tree.specs.SheetViews.{styles_in}
 use Rattle.usfm_tree.specs.Views.{view, forest_of, alone, node_step, parts_step, Parts}
 use Rattle.usfm_tree.specs.declared.node.Node.{Node}
 use Rattle.usfm_tree.specs.declared.node.Node.TheOpen.{Node-F, Text, Para, Char, Note, Milestone, Leaf}
 use Rattle.usfm_tree.specs.declared.node.Node.TheFolds.{fold_out-Node}
-use Rattle.segment_check.specs.Spots.{Around, Spot, spots}
+use Rattle.segment_check.specs.Spots.{Around, spots}
 use Rattle.segment_check.specs.TreeConditions.{holds_characters, allow, begins_node, is_restricted_kind, is_among, forbids, under_words}
-use Rattle.segment_check.specs.TreeViews.{told_of, told_in, Surroundings, direct_character, surroundings_of, entering, allowing, told_by, kind_here}
+use Rattle.segment_check.specs.TreeViews.{told_of, told_in, Surroundings, surroundings_of, entering, allowing, told_by, kind_here}
 use Rattle.segment_check.specs.declared.told.Told.{Told}
 
 -- ---- words

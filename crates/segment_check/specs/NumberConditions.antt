@@ -2,7 +2,7 @@
 --
 -- USFM 3.0 has the numbers behind `\c` and `\v`, the bridge `\v 3-4` and the part `\v 3a`. What is wrong with a number is this
 -- project's own rule.
-use Rattle.std.specs.Prelude.{ℕ, nat_lt, ◌==◌, Bool, true, false, not, ◌&&◌, ◌||◌, List, [], ◌∷◌, codes, Option, None, Some}
+use Rattle.std.specs.Prelude.{ℕ, nat_lt, ◌==◌, Bool, false, not, ◌&&◌, ◌||◌, List, [], codes, Option, None, Some}
 use Rattle.std.specs.Option.{is_some, option_map_or}
 use Rattle.std.specs.List.{list_any, slice_get}
 use Rattle.std.specs.Ordering.{is_lt}

@@ -1,4 +1,4 @@
-use Rattle.std.proofs.Common.{◌∙◌, ap, sym}
+use Rattle.std.proofs.Common.{◌∙◌, ap}
 use Rattle.sty_sheet.specs.Views.{records_of}
 use Rattle.usfm_tree.specs.TreeViews.{forest_in}
 use Rattle.segment_check.specs.Reading.{found_in}

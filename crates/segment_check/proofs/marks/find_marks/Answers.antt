@@ -1,4 +1,4 @@
-use Rattle.std.proofs.Common.{◌≡◌, ◌∙◌, ◌∷◌, [], ◌-◌, ap, sym, length}
+use Rattle.std.proofs.Common.{◌≡◌, ◌∙◌, ◌∷◌, ◌-◌, ap, sym, length}
 use Rattle.usfm_token.specs.Tokens.{mark, words, tokens_of}
 use Rattle.usfm_token.specs.View.{lexeme, mark_parts, rest_of}
 use Rattle.verse_cut.specs.Walks.{before}

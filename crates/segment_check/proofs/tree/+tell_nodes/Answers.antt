@@ -1,4 +1,4 @@
-use Rattle.std.proofs.Common.{◌≡◌, ◌∙◌, ◌∷◌, ◌++◌, [], ap, sym, refl, Some, None, arith, length, List, append-nil, Vec, Global}
+use Rattle.std.proofs.Common.{◌≡◌, ◌∙◌, ◌++◌, ap, sym, refl, arith, List, append-nil, Vec, Global}
 use Rattle.std.specs.Option.{option_map}
 use Rattle.sty_sheet.specs.Views.{records_of}
 use Rattle.usfm_token.specs.View.{mark_parts}

@@ -1,4 +1,4 @@
-use Rattle.std.proofs.Common.{◌≡◌, ◌++◌, ◌≤◌, List, length, drop}
+use Rattle.std.proofs.Common.{◌≡◌, ◌++◌, ◌≤◌, List, drop}
 use Rattle.sty_sheet.specs.Views.{records_of}
 use Rattle.usfm_tree.specs.Views.{forest_of}
 use Rattle.segment_check.specs.Spots.{Around}

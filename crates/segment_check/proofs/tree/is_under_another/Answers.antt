@@ -1,4 +1,4 @@
-use Rattle.std.proofs.Common.{◌≡◌, ◌∙◌, ap, sym, not, length}
+use Rattle.std.proofs.Common.{◌∙◌, ap, sym, not, length}
 use Rattle.std.specs.Prelude.{◌&&◌, ◌==◌}
 use Rattle.std.specs.List.{list_any}
 use Rattle.sty_sheet.specs.Views.{record_of}

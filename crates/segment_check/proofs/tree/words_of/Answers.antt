@@ -1,4 +1,4 @@
-use Rattle.std.proofs.Common.{◌≡◌, ◌∙◌, ap, sym, length, Some, None, rules}
+use Rattle.std.proofs.Common.{◌≡◌, ◌∙◌, ap, sym, length, rules}
 use Rattle.std.specs.List.{slice_get}
 use Rattle.std.specs.Option.{option_map}
 use Rattle.sty_sheet.specs.Views.{record_of}
