@@ -5,3 +5,4 @@ pub mod Threads
 pub mod Openings
 pub mod Pieces
 pub mod FoundLaw
+pub mod FindingLaws
