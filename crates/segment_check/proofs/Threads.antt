@@ -60,9 +60,13 @@ forest_thread around n (node k s b m ks c f) r =
     let inner = record { kind = k; name = m.name } ∷ around in
     let start = n + length (mark_bytes m) in
     let len : length b ≡ length (mark_bytes m) + (length (bytes_of ks) + length (close_bytes c)) = ap length r.1 ∙ length-append (mark_bytes m) (bytes_of ks ++ close_bytes c) ∙ ap (λ x. length (mark_bytes m) + x) (length-append (bytes_of ks) (close_bytes c)) in
-    inl (r.0, refl, thread-append start (leaves_of ks) (close_leaves c ++ leaves_of f) (spots inner ks) (spots around f)
-    (forest_thread inner start ks r.2)
-    (close_past (start + length (bytes_of ks)) c (leaves_of f) (spots around f) (thread_from _ _ (leaves_of f) (spots around f) (omega (arith, len)) (forest_thread around (n + length b) f r.3))))
+    inl (
+      r.0,
+      refl,
+      thread-append start (leaves_of ks) (close_leaves c ++ leaves_of f) (spots inner ks) (spots around f)
+          (forest_thread inner start ks r.2)
+          (close_past (start + length (bytes_of ks)) c (leaves_of f) (spots around f) (thread_from _ _ (leaves_of f) (spots around f) (omega (arith, len)) (forest_thread around (n + length b) f r.3))),
+    )
 
 pub tree_thread : (sheet : List Record) (s : List ℕ) → Thread 0 (map slice_of (tokens_of s)) (spots_of sheet s)
 unfolding spots_of

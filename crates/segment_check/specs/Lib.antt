@@ -9,3 +9,4 @@ pub mod Reading
 pub mod Numbers
 pub mod WalkViews
 pub mod Laws
+pub mod Codes

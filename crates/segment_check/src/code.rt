@@ -23,3 +23,26 @@ pub enum Code {
     /// A character or note node that stands where its style's OccursUnder does not allow it.
     NotUnder,
 }
+
+impl Code {
+    ghost use Rattle.std.specs.Prelude.{◌≡◌};
+    ghost use Rattle.segment_check.specs.Codes.{code_name};
+
+    /// The code's name, as `unknown-marker`.
+    pub fn name(self) -> &'static str
+        ensures { result.now ≡ code_name self }
+    {
+        match self {
+            Code::UnknownMarker => "unknown-marker",
+            Code::StrayClose => "stray-close",
+            Code::UnclosedChar => "unclosed-char",
+            Code::UnclosedNote => "unclosed-note",
+            Code::TooDeep => "too-deep",
+            Code::BadNumber => "bad-number",
+            Code::BadBridge => "bad-bridge",
+            Code::NotRising => "not-rising",
+            Code::Overlap => "overlap",
+            Code::NotUnder => "not-under",
+        }
+    }
+}

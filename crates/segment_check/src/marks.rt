@@ -126,13 +126,7 @@ fn key_then(key: Key, found: Option<Key>) -> Key
 {
     match found {
         None => key,
-        Some(found) => {
-            if key < found {
-                found
-            } else {
-                key
-            }
-        }
+        Some(found) => { if key < found { found } else { key } }
     }
 }
 
@@ -204,7 +198,13 @@ fn push_held(
     ensures { OnOk result (findings.new.items ≡ findings.old.items ++ findings_with held start key) }
 {
     let told = held.told;
-    push_if(findings, told.unknown_marker, Code::UnknownMarker, start, key)?;
+    push_if(
+        findings,
+        told.unknown_marker,
+        Code::UnknownMarker,
+        start,
+        key,
+    )?;
     push_if(findings, told.stray_close, Code::StrayClose, start, key)?;
     push_if(findings, told.unclosed_char, Code::UnclosedChar, start, key)?;
     push_if(findings, told.unclosed_note, Code::UnclosedNote, start, key)?;

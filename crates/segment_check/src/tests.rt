@@ -93,14 +93,22 @@ fn bridges_reach(rt: HostRuntime) -> Result<(), SheetFault> {
         &[(Code::Overlap, 23, verse(1, 4, Some(b'a')))],
     );
     let whole = find(rt.alloc(), "\\id MAT\n\\c 1\n\\v 3-4a x\n\\v 4 y\n")?;
-    check_found(&rt, whole.as_slice(), &[(Code::Overlap, 23, verse(1, 4, None))]);
+    check_found(
+        &rt,
+        whole.as_slice(),
+        &[(Code::Overlap, 23, verse(1, 4, None))],
+    );
     Ok(())
 }
 
 #[test]
 fn bridges_lead_on(rt: HostRuntime) -> Result<(), SheetFault> {
     let same = find(rt.alloc(), "\\id MAT\n\\c 1\n\\v 3-3 x\n")?;
-    check_found(&rt, same.as_slice(), &[(Code::BadBridge, 13, verse(1, 3, None))]);
+    check_found(
+        &rt,
+        same.as_slice(),
+        &[(Code::BadBridge, 13, verse(1, 3, None))],
+    );
     let part = find(rt.alloc(), "\\id MAT\n\\c 1\n\\v 3-3a x\n")?;
     check_found(&rt, part.as_slice(), &[]);
     Ok(())
@@ -112,9 +120,17 @@ fn numbers_rise(rt: HostRuntime) -> Result<(), SheetFault> {
         rt.alloc(),
         "\\id MAT\n\\c 1\n\\v 1 a \\v 3 b \\v 2 c \\v 4 d",
     )?;
-    check_found(&rt, verses.as_slice(), &[(Code::NotRising, 27, verse(1, 3, None))]);
+    check_found(
+        &rt,
+        verses.as_slice(),
+        &[(Code::NotRising, 27, verse(1, 3, None))],
+    );
     let chapters = find(rt.alloc(), "\\id MAT\n\\c 3\n\\v 5 a\n\\c 2\n\\v 6 b\n")?;
-    check_found(&rt, chapters.as_slice(), &[(Code::NotRising, 20, verse(3, 5, None))]);
+    check_found(
+        &rt,
+        chapters.as_slice(),
+        &[(Code::NotRising, 20, verse(3, 5, None))],
+    );
     let missing = find(rt.alloc(), "\\id MAT\n\\c 1\n\\v x\n\\v 2 y")?;
     check_found(
         &rt,
@@ -188,4 +204,11 @@ fn several_codes_at_one_mark(rt: HostRuntime) -> Result<(), SheetFault> {
         ],
     );
     Ok(())
+}
+
+#[test]
+fn codes_have_names(rt: HostRuntime) {
+    assert_eq!(rt; Code::UnknownMarker.name(), "unknown-marker");
+    assert_eq!(rt; Code::UnclosedChar.name(), "unclosed-char");
+    assert_eq!(rt; Code::NotUnder.name(), "not-under");
 }

@@ -150,15 +150,7 @@ fn tell_nodes<'a>(
         };
         let kind = kind_of(node);
         let is_closed = node.close().is_some();
-        told.push(tell_mark(
-            alloc,
-            sheet,
-            inside,
-            node.start(),
-            mark,
-            kind,
-            is_closed,
-        )?)?;
+        told.push(tell_mark(alloc, sheet, inside, node.start(), mark, kind, is_closed)?)?;
         if let Some(kind) = kind {
             tell_nodes(
                 alloc,
