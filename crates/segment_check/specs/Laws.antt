@@ -1,0 +1,51 @@
+-- What holds of the findings in all texts, by whatever records.
+use Rattle.std.specs.Prelude.{◌≡◌, ℕ, ◌<◌, ◌≤◌, List, ◌∷◌, ◌++◌, length, map}
+use Rattle.std.specs.List.{All, AllPairs}
+use Rattle.usfm_token.specs.Tokens.{Lexeme, joined, tokens_of}
+use Rattle.sty_sheet.specs.Records.{Record}
+use Rattle.segment_check.specs.Findings.{findings, spots_of}
+use Rattle.segment_check.specs.Reading.{found_in}
+use Rattle.segment_check.specs.TreeViews.{told_of}
+use Rattle.segment_check.specs.declared.code.Code.{Code}
+use Rattle.segment_check.specs.declared.code.Code.TheVariants as code
+
+-- the reading of the marks from the left, with what the tree tells of them, gives the findings
+abbrev pub FindingsAreRead : Type 0
+FindingsAreRead = (sheet : List Record) (s : List ℕ) → found_in (map (told_of sheet) (spots_of sheet s)) s ≡ findings sheet s
+
+-- the starts of findings never fall
+abbrev pub StartsNeverFall : Type 0
+StartsNeverFall = (sheet : List Record) (s : List ℕ) → AllPairs (λ a b. a.start ≤ b.start) (findings sheet s)
+
+-- the place of a code in the list of codes
+abbrev pub place_of : Code → ℕ
+place_of code.UnknownMarker = 0
+place_of code.StrayClose = 1
+place_of code.UnclosedChar = 2
+place_of code.UnclosedNote = 3
+place_of code.TooDeep = 4
+place_of code.BadNumber = 5
+place_of code.BadBridge = 6
+place_of code.NotRising = 7
+place_of code.Overlap = 8
+place_of code.NotUnder = 9
+
+-- at one start the codes rise
+abbrev pub CodesRise : Type 0
+CodesRise = (sheet : List Record) (s : List ℕ) → AllPairs (λ a b. a.start ≡ b.start → place_of a.code < place_of b.code) (findings sheet s)
+
+-- no two findings have one start and one code
+abbrev pub NoTwoAlike : Type 0
+NoTwoAlike = (sheet : List Record) (s : List ℕ) → AllPairs (λ a b. a.start ≡ b.start → a.code ≡ b.code → ⊥) (findings sheet s)
+
+-- A token of a text begins at a place: behind the tokens before it.
+pub record IsTokenStart (s : List ℕ) (at : ℕ) : Type 0 where
+  pub before : List Lexeme
+  pub token : Lexeme
+  pub after : List Lexeme
+  pub tokens_are : tokens_of s ≡ before ++ token ∷ after
+  pub start_is : at ≡ length (joined before)
+
+-- each finding starts where a token does
+abbrev pub StartsAreTokens : Type 0
+StartsAreTokens = (sheet : List Record) (s : List ℕ) → All (λ f. IsTokenStart s f.start) (findings sheet s)

@@ -1,0 +1,12 @@
+pub mod Spots
+pub mod Scenes
+pub mod TreeConditions
+pub mod NumberConditions
+pub mod Keys
+pub mod Findings
+pub mod TreeViews
+pub mod Reading
+pub mod Numbers
+pub mod WalkViews
+pub mod Laws
+pub mod Codes

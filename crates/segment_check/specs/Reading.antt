@@ -1,0 +1,126 @@
+-- The findings, as a reading of the marks from the left. A law says that they are the findings of the definition.
+use Rattle.std.specs.Prelude.{ℕ, ◌+◌, ◌==◌, nat_lt, nat_le, Bool, true, false, not, ◌&&◌, ◌||◌, List, [], ◌∷◌, ◌++◌, length, map, filter, Option, None, Some, if◌then◌else◌}
+use Rattle.std.specs.Option.{is_some, option_map_or}
+use Rattle.usfm_ref.specs.Keys.{KeyParts, book_head}
+use Rattle.usfm_ref.specs.declared.number.VerseMark.{VerseMark}
+use Rattle.usfm_token.specs.Tokens.{MarkParts, Lexeme, mark, words, mark_bytes, tokens_of}
+use Rattle.verse_cut.specs.Keys.{key_below, text_after}
+use Rattle.segment_check.specs.Scenes.{verse_behind}
+use Rattle.segment_check.specs.NumberConditions.{lacks_number, has_bad_bridge, reaches}
+use Rattle.segment_check.specs.Numbers.{chapter_behind, key_by}
+use Rattle.segment_check.specs.Findings.{all_codes}
+use Rattle.segment_check.specs.declared.code.Code.{Code}
+use Rattle.segment_check.specs.declared.code.Code.TheVariants as code
+use Rattle.segment_check.specs.declared.finding.Finding.{Finding}
+use Rattle.segment_check.specs.declared.marks.Held.{Held}
+use Rattle.segment_check.specs.declared.told.Told.{Told}
+
+-- the last verse of a bridge, with its letter
+abbrev pub Last : Type 0
+Last = ℕ × Option ℕ
+
+-- all that the first reaches is reached by the second
+abbrev pub is_letter_within : Option ℕ → Option ℕ → Bool
+is_letter_within last None = true
+is_letter_within None (Some b) = false
+is_letter_within (Some a) (Some b) = nat_le a b
+
+abbrev pub is_within : Last → Last → Bool
+is_within last other = nat_lt last.0 other.0 || (last.0 == other.0 && is_letter_within last.1 other.1)
+
+-- the one that reaches more
+abbrev pub further : Option Last → Option Last → Option Last
+further None last = last
+further (Some reach) None = Some reach
+further (Some reach) (Some last) = if is_within last reach then Some reach else Some last
+
+abbrev pub any_reaches : Option Last → VerseMark → Bool
+any_reaches reach v = option_map_or (λ last. reaches last v) reach false
+
+-- Where a reading stands: the key of the open piece; of the bridges of its chapter so far the last verse that reaches most; and
+-- what a tree tells of the marks that are left.
+pub record State : Type 0 where
+  pub key : KeyParts
+  pub reach : Option Last
+  pub told : List Told
+
+abbrev pub untold : ℕ → Told
+untold start = record {
+  start = start;
+  unknown_marker = false;
+  stray_close = false;
+  unclosed_char = false;
+  unclosed_note = false;
+  too_deep = false;
+  not_under = false;
+}
+
+-- what is told of the mark that begins at a place, and of those behind it
+abbrev pub told_first : ℕ → List Told → Told
+told_first at [] = untold at
+told_first at (t ∷ ts) = if t.start == at then t else untold at
+
+abbrev pub told_rest : ℕ → List Told → List Told
+told_rest at [] = []
+told_rest at (t ∷ ts) = if t.start == at then ts else t ∷ ts
+
+-- whether a key is above the open piece's
+abbrev pub is_above : KeyParts → Option KeyParts → Bool
+is_above key k = option_map_or (key_below key) k false
+
+abbrev pub key_then : KeyParts → Option KeyParts → KeyParts
+key_then key None = key
+key_then key (Some k) = if key_below key k then k else key
+
+abbrev pub reach_with : Option Last → Option VerseMark → Option Last
+reach_with reach None = None
+reach_with reach (Some v) = further reach v.last
+
+abbrev pub held_at : State → ℕ → MarkParts → List ℕ → Held
+held_at st at m after =
+    let key = key_by st.key.chapter (chapter_behind m after) (verse_behind m after) in record {
+      told = told_first at st.told;
+      bad_number = lacks_number m after;
+      bad_bridge = has_bad_bridge m after;
+      not_rising = is_some key && not (is_above st.key key);
+      overlap = is_above st.key key && option_map_or (any_reaches st.reach) (verse_behind m after) false;
+    }
+
+-- the state behind a mark
+abbrev pub behind : State → ℕ → MarkParts → List ℕ → State
+behind st at m after =
+    let key = key_by st.key.chapter (chapter_behind m after) (verse_behind m after) in record {
+      key = key_then st.key key;
+      reach = if is_above st.key key then reach_with st.reach (verse_behind m after) else st.reach;
+      told = told_rest at st.told;
+    }
+
+abbrev pub holds_in : Held → Code → Bool
+holds_in held code.UnknownMarker = held.told.unknown_marker
+holds_in held code.StrayClose = held.told.stray_close
+holds_in held code.UnclosedChar = held.told.unclosed_char
+holds_in held code.UnclosedNote = held.told.unclosed_note
+holds_in held code.TooDeep = held.told.too_deep
+holds_in held code.BadNumber = held.bad_number
+holds_in held code.BadBridge = held.bad_bridge
+holds_in held code.NotRising = held.not_rising
+holds_in held code.Overlap = held.overlap
+holds_in held code.NotUnder = held.told.not_under
+
+abbrev pub findings_with : Held → ℕ → KeyParts → List Finding
+findings_with held start key = map (λ c. record { code = c; start = start; key = key }) (filter (holds_in held) all_codes)
+
+-- what is found from a state on, at tokens from a place on
+abbrev pub found_from : State → ℕ → List Lexeme → List Finding
+found_from st at [] = []
+found_from st at (words t ∷ ts) = found_from st (at + length t) ts
+found_from st at (mark m ∷ ts) =
+    findings_with (held_at st at m (text_after ts)) at (behind st at m (text_after ts)).key
+    ++ found_from (behind st at m (text_after ts)) (at + length (mark_bytes m)) ts
+
+abbrev pub start_state : List Told → State
+start_state told = record { key = book_head; reach = None; told = told }
+
+-- what is found in a text, where a tree tells this of its marks
+unfoldable pub found_in : List Told → List ℕ → List Finding
+found_in told s = found_from (start_state told) 0 (tokens_of s)

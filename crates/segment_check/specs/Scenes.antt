@@ -1,0 +1,48 @@
+-- The marks of a text, each with all marks before it, and which of them open a piece of its cut.
+use Rattle.std.specs.Prelude.{ℕ, Bool, false, not, ◌||◌, ◌&&◌, List, [], ◌∷◌, ◌++◌, codes, Option, None, if◌then◌else◌}
+use Rattle.std.specs.Option.{option_map_or}
+use Rattle.std.specs.Str.{bytes_eq}
+use Rattle.usfm_ref.specs.Keys.{KeyParts}
+use Rattle.usfm_ref.specs.Numbers.{verse_in}
+use Rattle.usfm_ref.specs.declared.number.VerseMark.{VerseMark}
+use Rattle.usfm_token.specs.Tokens.{MarkParts, tokens_of}
+use Rattle.verse_cut.specs.Marks.{Site, sites_from, chapter_in_force, key_behind, keyed_behind, opens}
+
+-- a mark, and the marks before it
+pub record Scene : Type 0 where
+  pub before : List Site
+  pub here : Site
+
+-- marks that stand behind others, each with all before it
+abbrev pub scenes_behind : List Site → List Site → List Scene
+scenes_behind before [] = []
+scenes_behind before (s ∷ ss) = record { before = before; here = s } ∷ scenes_behind (before ++ s ∷ []) ss
+
+-- the marks of a text
+unfoldable pub scenes_of : List ℕ → List Scene
+scenes_of s = scenes_behind [] (sites_from 0 (tokens_of s))
+
+-- the greatest number of the chapter marks before
+abbrev pub chapter_of : Scene → ℕ
+chapter_of scene = chapter_in_force 0 scene.before
+
+-- its key, if it has one
+abbrev pub key_of : Scene → Option KeyParts
+key_of scene = key_behind 0 scene.before scene.here
+
+-- whether it opens a piece: its key is greater than the book head and than the key of every mark before it
+abbrev pub opens_piece : Scene → Bool
+opens_piece scene =
+    option_map_or (λ k. opens (keyed_behind 0 [] scene.before) (record { key = k; at = scene.here.at })) (key_of scene) false
+
+-- neither nested nor closing, and of this name
+abbrev pub is_plain_mark : List ℕ → MarkParts → Bool
+is_plain_mark name m = not (m.nested || m.closing) && bytes_eq m.name name
+
+-- the verse that stands behind a mark `\v`
+abbrev pub verse_behind : MarkParts → List ℕ → Option VerseMark
+verse_behind m after = if is_plain_mark (codes "v") m then verse_in after else None
+
+-- the verse of a mark `\v` that opens a piece
+abbrev pub opened_verse : Scene → Option VerseMark
+opened_verse scene = if opens_piece scene then verse_behind scene.here.parts scene.here.after else None

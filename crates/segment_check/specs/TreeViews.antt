@@ -1,0 +1,100 @@
+-- What a tree tells of its marks, as a walk from the root down sees it.
+use Rattle.sty_sheet.specs.declared.kind.StyleKind.{StyleKind}
+use Rattle.sty_sheet.specs.declared.kind.StyleKind.TheVariants as kinds
+use Rattle.std.specs.Prelude.{ℕ, ◌-◌, ◌==◌, Bool, true, false, not, ◌&&◌, List, [], ◌∷◌, length, map, codes, Option, None, Some, find, if◌then◌else◌}
+use Rattle.std.specs.Option.{is_some, option_map, option_map_or, option_to_list}
+use Rattle.std.specs.List.{list_any}
+use Rattle.sty_sheet.specs.Records.{Record, mark_style}
+use Rattle.usfm_token.specs.Tokens.{MarkParts, mark}
+use Rattle.usfm_tree.specs.Forest.{Forest, nothing, text, leaf, node}
+use Rattle.usfm_tree.specs.Reading.{role, is_character_kind, is_note_kind}
+use Rattle.usfm_tree.specs.SheetViews.{styles_in}
+use Rattle.segment_check.specs.Spots.{Around, Spot, spots}
+use Rattle.segment_check.specs.TreeConditions.{is_note, is_paragraph, holds_characters, unknown_marker, stray_close, unclosed_char, unclosed_note, begins_node, too_deep, under_words, forbids, is_restricted_kind, not_under}
+use Rattle.segment_check.specs.declared.inside.Inside.{Inside}
+use Rattle.segment_check.specs.declared.told.Told.{Told}
+
+-- what holds of a mark
+abbrev pub told_of : List Record → Spot → Told
+told_of sheet spot = record {
+  start = spot.start;
+  unknown_marker = unknown_marker sheet spot;
+  stray_close = stray_close spot;
+  unclosed_char = unclosed_char spot;
+  unclosed_note = unclosed_note spot;
+  too_deep = too_deep sheet spot;
+  not_under = not_under sheet spot;
+}
+
+abbrev pub told_in : List Record → List Around → Forest → List Told
+told_in sheet around f = map (told_of sheet) (spots around f)
+
+-- what nodes around decide
+pub record Surroundings : Type 0 where
+  pub in_note : Bool
+  pub room : ℕ
+  pub character : Option (List ℕ)
+  pub holder : Option (List ℕ)
+  pub paragraph : Option (List ℕ)
+
+abbrev pub direct_character : List Around → Option (List ℕ)
+direct_character [] = None
+direct_character (a ∷ around) = if is_character_kind a.kind then Some a.name else None
+
+abbrev pub surroundings_of : List Around → Surroundings
+surroundings_of around = record {
+  in_note = list_any is_note around;
+  room = 64 - length around;
+  character = direct_character around;
+  holder = option_map (λ a. a.name) (find holds_characters around);
+  paragraph = option_map (λ a. a.name) (find is_paragraph around);
+}
+
+abbrev pub inside_view : Inside → Surroundings
+inside_view i = record {
+  in_note = i.in_note;
+  room = i.room;
+  character = option_map (λ n. n.now) i.character;
+  holder = option_map (λ n. n.now) i.holder;
+  paragraph = option_map (λ n. n.now) i.paragraph;
+}
+
+-- the surroundings within one node more
+abbrev pub entering : StyleKind → List ℕ → Surroundings → Surroundings
+entering kinds.Paragraph name i = record { in_note = i.in_note; room = i.room - 1; character = None; holder = Some name; paragraph = Some name }
+entering kinds.Character name i = record { in_note = i.in_note; room = i.room - 1; character = Some name; holder = i.holder; paragraph = i.paragraph }
+entering kinds.Note name i = record { in_note = true; room = i.room - 1; character = None; holder = Some name; paragraph = i.paragraph }
+entering kinds.Milestone name i = record { in_note = i.in_note; room = i.room - 1; character = None; holder = i.holder; paragraph = i.paragraph }
+
+-- the words that allow a character node there
+abbrev pub allowing_character : Surroundings → List (List ℕ)
+allowing_character i = elim i.character [
+  | None ↦ option_to_list i.holder
+  | Some name ↦ name ∷ codes "NEST" ∷ []
+]
+
+-- and those that allow a node of a kind
+abbrev pub allowing : StyleKind → Surroundings → List (List ℕ)
+allowing kinds.Paragraph i = []
+allowing kinds.Character i = allowing_character i
+allowing kinds.Note i = option_to_list i.paragraph
+allowing kinds.Milestone i = []
+
+-- what holds of a mark, by what the nodes around decide
+abbrev pub told_by : List Record → Surroundings → ℕ → MarkParts → Option StyleKind → Bool → Told
+told_by sheet i start m kind is_closed = record {
+  start = start;
+  unknown_marker = not m.closing && not (is_some (mark_style sheet m.name));
+  stray_close = not (is_some kind) && m.closing;
+  unclosed_char = option_map_or is_character_kind kind false && not is_closed && not i.in_note;
+  unclosed_note = option_map_or is_note_kind kind false && not is_closed;
+  too_deep = not (is_some kind) && begins_node (role (styles_in sheet) (mark m)) && (i.room == 0);
+  not_under = option_map_or (λ k. is_restricted_kind k && forbids (under_words sheet m.name) (allowing k i)) kind false;
+}
+
+-- what the first entry begins, if it is a node
+abbrev pub kind_here : Forest → Option StyleKind
+kind_here nothing = None
+kind_here (text s t f) = None
+kind_here (leaf s m f) = None
+kind_here (node k s b m ks c f) = Some k

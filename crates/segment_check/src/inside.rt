@@ -1,0 +1,92 @@
+//! What stands around a place of a tree.
+
+ghost use Rattle.std.specs.Prelude.{◌≡◌};
+ghost use Rattle.std.specs.Option.{option_map, option_to_list};
+ghost use Rattle.segment_check.specs.TreeConditions.{is_among};
+
+use sty_sheet::StyleKind;
+
+// What the nodes around a mark decide: whether a note is among them, how many nodes may still stand one
+// in the other, the node directly around it if it is a character, and the nearest paragraph or note and
+// the nearest paragraph, each by its name.
+#[derive(Clone, Copy)]
+pub(crate) struct Inside<'a> {
+    pub(crate) in_note: bool,
+    pub(crate) room: usize,
+    pub(crate) character: Option<&'a str>,
+    pub(crate) holder: Option<&'a str>,
+    pub(crate) paragraph: Option<&'a str>,
+}
+
+impl<'a> Inside<'a> {
+    ghost use Rattle.std.specs.Prelude.{[]};
+    ghost use Rattle.segment_check.specs.TreeViews.{allowing_character, entering, inside_view, surroundings_of};
+
+    // Under the root, where 64 nodes may stand one in the other.
+    pub(crate) fn root() -> Self
+        ensures { inside_view result ≡ surroundings_of [] }
+    {
+        Inside {
+            in_note: false,
+            room: 64,
+            character: None,
+            holder: None,
+            paragraph: None,
+        }
+    }
+
+    // Within a node.
+    pub(crate) fn within(self, kind: StyleKind, name: &'a str) -> Self
+        ensures { inside_view result ≡ entering kind name.entry.now (inside_view self.entry) }
+    {
+        let inside = Inside {
+            room: self.room.saturating_sub(1),
+            character: None,
+            ..self
+        };
+        match kind {
+            StyleKind::Paragraph => Inside {
+                holder: Some(name),
+                paragraph: Some(name),
+                ..inside
+            },
+            StyleKind::Character => Inside {
+                character: Some(name),
+                ..inside
+            },
+            StyleKind::Note => Inside {
+                in_note: true,
+                holder: Some(name),
+                ..inside
+            },
+            StyleKind::Milestone => inside,
+        }
+    }
+
+    // Whether a word of OccursUnder allows a character node here.
+    pub(crate) fn allows_character(self, word: &str) -> bool
+        ensures { result ≡ is_among (allowing_character (inside_view self.entry)) word.now }
+    {
+        match self.character {
+            Some(name) => word == name || word == "NEST",
+            None => is_name(self.holder, word),
+        }
+    }
+
+    // Whether a word of OccursUnder allows a note here.
+    pub(crate) fn allows_note(self, word: &str) -> bool
+        ensures { result ≡ is_among (option_to_list (inside_view self.entry).paragraph) word.now }
+    {
+        is_name(self.paragraph, word)
+    }
+}
+
+// Whether there is a name, and the word is this name.
+fn is_name(name: Option<&str>, word: &str) -> bool
+    ensures { result ≡ is_among (option_to_list (option_map (λ n. n.now) name.entry)) word.now }
+{
+    match name {
+        None => false,
+        Some(name) => word == name,
+    }
+}

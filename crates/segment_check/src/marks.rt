@@ -1,0 +1,249 @@
+//! The findings at the marks of a text, from the left.
+
+ghost use Rattle.std.specs.Prelude.{◌≡◌, ◌++◌, ◌∷◌, [], List, IfOk, OnOk, false, if◌then◌else◌};
+ghost use Rattle.std.specs.Option.{option_map_or};
+ghost use Rattle.segment_check.specs.NumberConditions.{fails_bridge};
+ghost use Rattle.segment_check.specs.Reading as reading;
+ghost use Rattle.segment_check.specs.Reading.{findings_with, found_in};
+ghost use Rattle.usfm_token.specs.Tokens.{Lexeme};
+ghost use Rattle.usfm_token.specs.View.{mark_parts};
+ghost use Rattle.verse_cut.specs.Keys.{text_after};
+ghost use Rattle.verse_cut.specs.Walks.{IsFirst};
+
+use crate::code::Code;
+use crate::finding::Finding;
+use crate::numbers::{
+    chapter_behind, fails_bridge, further, key_of, lacks_number, reaches, verse_behind,
+};
+use crate::told::Told;
+use std::alloc::{AllocError, Global};
+use usfm_ref::{Key, Place, VerseMark};
+use usfm_token::{Mark, Token, TokenIter};
+
+// Which codes hold at a mark.
+#[derive(Clone, Copy)]
+struct Held {
+    told: Told,
+    bad_number: bool,
+    bad_bridge: bool,
+    not_rising: bool,
+    overlap: bool,
+}
+
+// Where a walk over the marks of a text stands: the key of the piece that is open, the last verse of its
+// chapter that a bridge reaches so far, and what the tree tells of the marks that are left.
+#[derive(Drop)]
+struct Walk<'t> {
+    key: Key,
+    reach: Option<(u16, Option<u8>)>,
+    told: &'t [Told],
+}
+
+fn untold(start: usize) -> Told
+    ensures { result ≡ reading.untold start }
+{
+    Told {
+        start,
+        unknown_marker: false,
+        stray_close: false,
+        unclosed_char: false,
+        unclosed_note: false,
+        too_deep: false,
+        not_under: false,
+    }
+}
+
+impl Walk<'_> {
+    ghost use Rattle.segment_check.specs.Reading.{behind, held_at, told_first, told_rest};
+    ghost use Rattle.segment_check.specs.WalkViews.{state_of};
+
+    // Takes what the tree tells of the mark that begins here.
+    fn take_told(&mut self, start: usize) -> Told
+        ensures first { result ≡ told_first start (state_of self.old).told }
+        ensures rest { state_of self.new ≡ record (state_of self.old) { told = told_rest start (state_of self.old).told } }
+    {
+        match self.told {
+            [told, rest @ ..] if told.start == start => {
+                self.told = rest;
+                *told
+            }
+            _ => untold(start),
+        }
+    }
+
+    // Takes a mark, and what stands behind it.
+    fn take(&mut self, start: usize, mark: Mark<'_>, after: &str) -> Held
+        ensures held { result ≡ held_at (state_of self.old) start (mark_parts mark.entry) after.now }
+        ensures behind { state_of self.new ≡ behind (state_of self.old) start (mark_parts mark.entry) after.now }
+    {
+        let told = self.take_told(start);
+        let verse = verse_behind(mark, after);
+        let key = key_of(self.key.chapter, chapter_behind(mark, after), verse);
+        let opens = is_above(self.key, key);
+        let held = Held {
+            told,
+            bad_number: lacks_number(mark, after),
+            bad_bridge: has_bad_bridge(verse, after),
+            not_rising: key.is_some() && !opens,
+            overlap: opens && overlaps(self.reach, verse),
+        };
+        if opens {
+            self.reach = reach_with(self.reach, verse);
+        }
+        self.key = key_then(self.key, key);
+        held
+    }
+
+    // Takes a mark, and puts what is found at it behind the other findings.
+    fn find(
+        &mut self,
+        findings: &mut Vec<Finding>,
+        start: usize,
+        mark: Mark<'_>,
+        after: &str,
+    ) -> Result<(), AllocError>
+        ensures found { OnOk result (findings.new.items ≡ findings.old.items ++ findings_with (held_at (state_of self.old) start (mark_parts mark.entry) after.now) start (behind (state_of self.old) start (mark_parts mark.entry) after.now).key) }
+        ensures behind { OnOk result (state_of self.new ≡ behind (state_of self.old) start (mark_parts mark.entry) after.now) }
+    {
+        let held = self.take(start, mark, after);
+        let key = self.key;
+        push_held(findings, held, start, key)
+    }
+}
+
+fn is_above(key: Key, found: Option<Key>) -> bool
+    ensures { result ≡ reading.is_above key found }
+{
+    match found {
+        None => false,
+        Some(found) => key < found,
+    }
+}
+
+// The key of the piece that is open behind a mark with this key.
+fn key_then(key: Key, found: Option<Key>) -> Key
+    ensures { result ≡ reading.key_then key found }
+{
+    match found {
+        None => key,
+        Some(found) => { if key < found { found } else { key } }
+    }
+}
+
+// Whether a bridge before it reaches a verse.
+fn overlaps(reach: Option<(u16, Option<u8>)>, verse: Option<VerseMark>) -> bool
+    ensures { result ≡ option_map_or (reading.any_reaches reach) verse false }
+{
+    match (verse, reach) {
+        (Some(verse), Some(reach)) => reaches(reach, verse),
+        _ => false,
+    }
+}
+
+// How far bridges reach behind a mark that opens a piece: its verse's bridge counts, and at the head of a
+// chapter none does.
+fn reach_with(
+    reach: Option<(u16, Option<u8>)>,
+    verse: Option<VerseMark>,
+) -> Option<(u16, Option<u8>)>
+    ensures { result ≡ reading.reach_with reach verse }
+{
+    match verse {
+        None => None,
+        Some(verse) => further(reach, verse.last),
+    }
+}
+
+fn has_bad_bridge(verse: Option<VerseMark>, after: &str) -> bool
+    ensures { result ≡ option_map_or (fails_bridge after.now) verse false }
+{
+    match verse {
+        None => false,
+        Some(verse) => fails_bridge(verse, after),
+    }
+}
+
+// The text in front, if it is one.
+fn text_of<'a>(next: Option<Token<'a>>) -> &'a str
+    ensures { (ts : List Lexeme) → IsFirst next.entry ts → result.now ≡ text_after ts }
+{
+    match next {
+        Some(Token::Text(text)) => text,
+        Some(Token::Mark(_)) | None => "",
+    }
+}
+
+fn push_if(
+    findings: &mut Vec<Finding>,
+    holds: bool,
+    code: Code,
+    start: usize,
+    key: Key,
+) -> Result<(), AllocError>
+    ensures { OnOk result (findings.new.items ≡ findings.old.items ++ (if holds then record { code = code; start = start; key = key } ∷ [] else [])) }
+{
+    if holds {
+        findings.push(Finding { code, start, key })?;
+    }
+    Ok(())
+}
+
+// The findings at a mark, in the order of the codes.
+fn push_held(
+    findings: &mut Vec<Finding>,
+    held: Held,
+    start: usize,
+    key: Key,
+) -> Result<(), AllocError>
+    ensures { OnOk result (findings.new.items ≡ findings.old.items ++ findings_with held start key) }
+{
+    let told = held.told;
+    push_if(
+        findings,
+        told.unknown_marker,
+        Code::UnknownMarker,
+        start,
+        key,
+    )?;
+    push_if(findings, told.stray_close, Code::StrayClose, start, key)?;
+    push_if(findings, told.unclosed_char, Code::UnclosedChar, start, key)?;
+    push_if(findings, told.unclosed_note, Code::UnclosedNote, start, key)?;
+    push_if(findings, told.too_deep, Code::TooDeep, start, key)?;
+    push_if(findings, held.bad_number, Code::BadNumber, start, key)?;
+    push_if(findings, held.bad_bridge, Code::BadBridge, start, key)?;
+    push_if(findings, held.not_rising, Code::NotRising, start, key)?;
+    push_if(findings, held.overlap, Code::Overlap, start, key)?;
+    push_if(findings, told.not_under, Code::NotUnder, start, key)?;
+    Ok(())
+}
+
+// The findings at the marks of a text, where the tree tells this of its marks.
+pub(crate) fn find_marks(
+    alloc: Global,
+    text: &str,
+    told: &[Told],
+) -> Result<Vec<Finding>, AllocError>
+    ensures { IfOk result (λ list. list.items ≡ found_in told.now text.now) }
+{
+    let mut findings = Vec::new(alloc);
+    let mut walk = Walk {
+        key: Key {
+            chapter: 0,
+            place: Place::Head,
+        },
+        reach: None,
+        told,
+    };
+    let mut tokens = TokenIter::new(text);
+    let mut at = text;
+    let mut next = tokens.next();
+    while let Some(token) = next {
+        let start = text.len() - at.len();
+        at = tokens.rest();
+        next = tokens.next();
+        if let Token::Mark(mark) = token {
+            walk.find(&mut findings, start, mark, text_of(next))?;
+        }
+    }
+    Ok(findings)
+}
