@@ -142,7 +142,7 @@ same_tied a b = texts_ties b a ∙ sym (tied_back name_cmp name_total b a (is_eq
 apart_name : (a b : List ℕ) → is_lt (name_cmp a b) ≡ true → same_bytes b a ≡ false
 apart_name a b h = same_tied a b ∙ ap is_eq (is_less _ h)
 
-above_covers_none : (id : Id) (s : List Known) → list_all (λ k. is_lt (name_cmp id.name k.name)) s ≡ true → covers s id ≡ false
+pub above_covers_none : (id : Id) (s : List Known) → list_all (λ k. is_lt (name_cmp id.name k.name)) s ≡ true → covers s id ≡ false
 above_covers_none id [] h = refl
 above_covers_none id (k ∷ s) h =
     let p = and_parts (is_lt (name_cmp id.name k.name)) (list_all (λ x. is_lt (name_cmp id.name x.name)) s) h in

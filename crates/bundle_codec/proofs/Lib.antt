@@ -18,3 +18,5 @@ pub mod Outside
 pub mod Lasts
 pub mod Holding
 pub mod SoFar
+pub mod Deltas
+pub mod OneSummary

@@ -7,3 +7,4 @@ pub mod Merging
 pub mod Summaries
 pub mod SummaryReading
 pub mod SummaryMaking
+pub mod SummaryLaws
