@@ -1,4 +1,4 @@
-use Rattle.std.proofs.Common.{◌≡◌, ◌≢◌, ℕ, List, [], Ok, Vec, Global, arith}
+use Rattle.std.proofs.Common.{◌≡◌, Ok, Vec, Global, arith}
 use Rattle.bundle_codec.specs.Summaries.{Known}
 use Rattle.bundle_codec.specs.SummaryReading.{summary_at}
 use Rattle.bundle_codec.proofs.SummaryLoops.{some_is}

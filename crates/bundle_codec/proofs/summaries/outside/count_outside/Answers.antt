@@ -1,5 +1,4 @@
 use Rattle.std.proofs.Common.{sym, ap, ◌∙◌}
-use Rattle.op_core.specs.Ids.{Id}
 use Rattle.bundle_codec.specs.Summaries.{covers}
 use Rattle.bundle_codec.proofs.Outside.{counted_some, counted_off}
 use Rattle.bundle_codec.proofs.summaries.outside.count_outside.Goals as goal

@@ -1,4 +1,4 @@
-use Rattle.std.proofs.Common.{◌≡◌, ℕ, List, Ok, Option, Some, None, Vec, Global, IfSome, subst, sym, arith}
+use Rattle.std.proofs.Common.{◌≡◌, Ok, Vec, Global, arith}
 use Rattle.std.specs.Option.{option_copied}
 use Rattle.bundle_codec.specs.declared.summaries.range.NumberRange.{NumberRange}
 use Rattle.bundle_codec.specs.SummaryReading.{ranges_at}

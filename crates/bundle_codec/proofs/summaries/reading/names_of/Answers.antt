@@ -1,11 +1,11 @@
-use Rattle.std.proofs.Common.{◌≡◌, ◌++◌, ◌∷◌, [], ◌-◌, ◌+◌, Ok, Some, None, Vec, Global, sym, ap, subst, ◌∙◌}
+use Rattle.std.proofs.Common.{◌≡◌, ◌++◌, ◌∷◌, [], ◌-◌, ◌+◌, Ok, Some, Vec, Global, subst}
 use Rattle.std.specs.Option.{IsSomeAnd, option_copied}
 use Rattle.std.proofs.lemmas.Result.{err_from_is_err_and}
 use Rattle.bundle_codec.specs.Reading.{many_at, after}
 use Rattle.bundle_codec.specs.Summaries.{Known}
 use Rattle.bundle_codec.specs.SummaryReading.{known_at, after_known, names_at}
 use Rattle.bundle_codec.proofs.Loops.{goes_on, fails, is_done}
-use Rattle.bundle_codec.proofs.SummaryLoops.{behind, kept_on, kept_done, if_some, kept_more, named_so, named_fails, name_kept}
+use Rattle.bundle_codec.proofs.SummaryLoops.{behind, kept_done, if_some, kept_more, named_so, named_fails, name_kept}
 use Rattle.bundle_codec.proofs.summaries.reading.names_of.Goals as goal
 
 pub returns-in_err-name-clause-rest : goal.returns-in_err-name-clause-rest

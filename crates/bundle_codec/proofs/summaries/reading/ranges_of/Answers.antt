@@ -1,4 +1,4 @@
-use Rattle.std.proofs.Common.{◌≡◌, ◌++◌, ◌∷◌, [], ◌-◌, ◌+◌, Ok, Some, None, Vec, Global, sym, ◌∙◌}
+use Rattle.std.proofs.Common.{◌≡◌, ◌++◌, ◌∷◌, [], ◌-◌, ◌+◌, Ok, Some, Vec, Global}
 use Rattle.std.proofs.lemmas.Result.{err_from_is_err_and}
 use Rattle.bundle_codec.specs.declared.summaries.range.NumberRange.{NumberRange}
 use Rattle.bundle_codec.specs.Reading.{many_at, after}
