@@ -10,3 +10,13 @@ pub mod Appended
 pub mod Wholes
 pub mod Merges
 pub mod Groupings
+pub mod SummaryReads
+pub mod SummaryLoops
+pub mod SummaryWholes
+pub mod Covered
+pub mod Outside
+pub mod Lasts
+pub mod Holding
+pub mod SoFar
+pub mod Deltas
+pub mod OneSummary

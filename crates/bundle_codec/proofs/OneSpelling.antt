@@ -18,7 +18,7 @@ use Rattle.bundle_codec.proofs.Spelled.{IsSpelled, operation_reads, bundle_reads
 
 -- ---- what a bundle of less than 2^64 bytes spells can be counted
 
-flat_map_long : {A : Type 0} (f : A → List ℕ) → ((x : A) → 1 ≤ length (f x)) → (xs : List A) → length xs ≤ length (flat_map f xs)
+pub flat_map_long : {A : Type 0} (f : A → List ℕ) → ((x : A) → 1 ≤ length (f x)) → (xs : List A) → length xs ≤ length (flat_map f xs)
 flat_map_long f some [] = omega arith
 flat_map_long f some (x ∷ xs) = omega (arith, ap length (flat_map-cons f x xs), length-append (f x) (flat_map f xs), some x, flat_map_long f some xs)
 

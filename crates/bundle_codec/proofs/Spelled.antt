@@ -25,7 +25,7 @@ use Rattle.bundle_codec.proofs.RisingIds.{Climbs, rises-from_climbs, climbs-from
 
 -- ---- an id
 
-name_length : (name : List ℕ) → is_name name ≡ true → is_name_length (length name) ≡ true
+pub name_length : (name : List ℕ) → is_name name ≡ true → is_name_length (length name) ≡ true
 name_length name h = (and_parts (is_name_length (length name)) (list_all is_name_char name) h).0
 
 pub number_below : (n : ℕ) → is_number n ≡ true → n < 2 ^ 64

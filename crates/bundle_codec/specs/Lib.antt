@@ -4,3 +4,7 @@ pub mod Views
 pub mod Laws
 pub mod Joining
 pub mod Merging
+pub mod Summaries
+pub mod SummaryReading
+pub mod SummaryMaking
+pub mod SummaryLaws

@@ -5,7 +5,7 @@ ghost use Rattle.bundle_codec.specs.Spelling.{bundle, magic};
 ghost use Rattle.bundle_codec.specs.Reading.{Gives, exactly_at, bundle_at};
 
 use crate::fault::BundleFault;
-use crate::fields::{u8_at, u64_at};
+use crate::fields::{exactly_of, u64_at};
 use crate::operation::after_operations;
 use crate::walk::BundleOps;
 use op_core::{OpSet, SetFault};
@@ -76,18 +76,11 @@ impl<'a> Bundle<'a> {
 pub(crate) static MAGIC: [u8; 8] = *b"USFMSR1\n";
 
 // The bytes after the magic.
+#[tactic(auto, unfolding(crate::specs::Spelling::magic))]
 fn after_magic(bytes: &[u8]) -> Result<&[u8], BundleFault>
     ensures { Gives (λ r. (tt, r.now)) result (exactly_at magic BundleFault.Magic bytes.now) }
 {
-    let mut rest = bytes;
-    for m in &MAGIC {
-        let (b, left) = u8_at(rest)?;
-        if b != *m {
-            return Err(BundleFault::Magic);
-        }
-        rest = left;
-    }
-    Ok(rest)
+    exactly_of(&MAGIC, BundleFault::Magic, bytes)
 }
 
 // Judges the bundle at the front, and gives the bytes after it too.

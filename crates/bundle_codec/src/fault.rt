@@ -1,6 +1,7 @@
 ghost use Rattle.std.specs.Prelude.{◌≡◌};
 ghost use Rattle.bundle_codec.specs.declared.fault.WholeFault.TheVariants as whole;
 ghost use Rattle.bundle_codec.specs.declared.fault.JoinFault.TheVariants as joining;
+ghost use Rattle.bundle_codec.specs.declared.fault.SummaryFault.TheVariants as summing;
 
 use op_core::OpId;
 use std::alloc::AllocError;
@@ -66,6 +67,17 @@ pub enum JoinFault {
     Clash(OpId),
 }
 
+/// Why bytes were not read as a summary.
+#[derive(Clone, Copy, Debug, PartialEq, Eq, Error)]
+pub enum SummaryFault {
+    /// A growth was refused.
+    #[error("out of memory")]
+    Memory,
+    /// The bytes are not one whole summary.
+    #[error("not a summary")]
+    BadSummary,
+}
+
 impl From<BundleFault> for WholeFault {
     ghost from_gives = { λ from fault. fault ≡ whole.Bundle from };
 
@@ -87,5 +99,13 @@ impl From<WholeFault> for JoinFault {
 
     fn from(fault: WholeFault) -> JoinFault {
         JoinFault::Bundle(fault)
+    }
+}
+
+impl From<AllocError> for SummaryFault {
+    ghost from_gives = { λ _ fault. fault ≡ summing.Memory };
+
+    fn from(_: AllocError) -> SummaryFault {
+        SummaryFault::Memory
     }
 }

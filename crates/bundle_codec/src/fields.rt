@@ -3,7 +3,7 @@
 ghost use Rattle.std.specs.Prelude.{MatchOption, true, false, ◌≡◌, Ok, Err, IsOk};
 ghost use Rattle.std.specs.Int.{w16, w64};
 ghost use Rattle.std.specs.Str.{is_utf8};
-ghost use Rattle.bundle_codec.specs.Reading.{Gives, any, number_at, byte_at, block_at};
+ghost use Rattle.bundle_codec.specs.Reading.{Gives, any, number_at, byte_at, block_at, exactly_at};
 
 use crate::fault::BundleFault;
 use usfm_token::read_text;
@@ -61,6 +61,25 @@ pub(crate) fn u8_in(bytes: &[u8]) -> (u8, &[u8])
 {
     let (front, rest) = bytes.split_at(1);
     (front[0], rest)
+}
+
+// The bytes after this text, with which they have to begin.
+pub(crate) fn exactly_of<'a>(
+    text: &[u8],
+    bad: BundleFault,
+    bytes: &'a [u8],
+) -> Result<&'a [u8], BundleFault>
+    ensures { Gives (λ r. (tt, r.now)) result (exactly_at text.now bad bytes.now) }
+{
+    let mut rest = bytes;
+    for m in text {
+        let (b, left) = u8_at(rest)?;
+        if b != *m {
+            return Err(bad);
+        }
+        rest = left;
+    }
+    Ok(rest)
 }
 
 pub(crate) fn block_of(n: u64, bytes: &[u8]) -> Result<(&[u8], &[u8]), BundleFault>

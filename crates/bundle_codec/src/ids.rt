@@ -89,7 +89,7 @@ fn all_name_bytes(bytes: &[u8]) -> bool
     bytes.iter().all(|c| is_name_byte(*c))
 }
 
-fn is_name(bytes: &[u8]) -> bool
+pub(crate) fn is_name(bytes: &[u8]) -> bool
     ensures { result ≡ is_name bytes.now }
 {
     let all = all_name_bytes(bytes);
@@ -133,12 +133,20 @@ pub(crate) fn made(id: &IdView<'_>) -> OpId
     requires { IsTrue (is_id (id_view id.now)) }
     ensures { result ≡ id_view id.now }
 {
-    // A name is ASCII, so it is text.
-    let name = unsafe { str::from_utf8_unchecked(id.name) };
     OpId {
         number: id.number,
-        name: ReplicaName::read(name).unwrap(),
+        name: made_name(id.name),
     }
+}
+
+// The name of these bytes as a value, without the bytes.
+pub(crate) fn made_name(bytes: &[u8]) -> ReplicaName
+    requires { IsTrue (is_name bytes.now) }
+    ensures { result ≡ bytes.now }
+{
+    // A name is ASCII, so it is text.
+    let text = unsafe { str::from_utf8_unchecked(bytes) };
+    ReplicaName::read(text).unwrap()
 }
 
 // How one id stands to another.

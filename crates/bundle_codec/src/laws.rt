@@ -1,6 +1,8 @@
 //! Laws of bundles, over the definitions alone. Each function does nothing: its contract is the law.
 ghost use Rattle.bundle_codec.specs.Laws as laws;
 
+pub mod summaries;
+
 /// One set has one spelling, and one spelling has one set, whatever follows it.
 pub fn one_spelling()
     ensures { laws.OneSpelling }

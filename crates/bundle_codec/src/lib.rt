@@ -10,15 +10,17 @@ mod keys;
 pub mod laws;
 mod merging;
 mod operation;
+mod summaries;
 mod view;
 mod walk;
 mod whole;
 mod writing;
 
 pub use bundle::{Bundle, decode};
-pub use fault::{BundleFault, JoinFault, WholeFault};
+pub use fault::{BundleFault, JoinFault, SummaryFault, WholeFault};
 pub use ids::ReplacedIds;
 pub use joining::join_bundles;
+pub use summaries::{Summary, encode_outside};
 pub use view::OpView;
 pub use walk::BundleOps;
 pub use whole::decode_whole;

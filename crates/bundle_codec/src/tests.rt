@@ -1,4 +1,5 @@
 mod joining;
+mod summaries;
 
 use super::*;
 use op_core::{Op, OpId};

@@ -47,7 +47,7 @@ pub(crate) fn push_front(bytes: &mut Vec<u8>, count: u64) -> Result<(), AllocErr
     bytes.extend_from_slice(&count.to_be_bytes())
 }
 
-fn push_operation(bytes: &mut Vec<u8>, op: &Op) -> Result<(), AllocError>
+pub(crate) fn push_operation(bytes: &mut Vec<u8>, op: &Op) -> Result<(), AllocError>
     ensures { IfOk result (λ _. bytes.new.items ≡ bytes.old.items ++ spelled.operation op.now) }
 {
     push_id(bytes, &op.id())?;

@@ -10,3 +10,4 @@ pub mod DueKeys
 pub mod ImportedTexts
 pub mod Exports
 pub mod OwnExports
+pub mod DeltasJoined

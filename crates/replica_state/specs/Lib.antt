@@ -6,3 +6,4 @@ pub mod Steps
 pub mod Runs
 pub mod Laws
 pub mod ImportLaws
+pub mod DeltaLaws

@@ -1,6 +1,7 @@
 //! Laws of replicas, over the definitions alone. Each function does nothing: its contract is the law.
 ghost use Rattle.replica_state.specs.Laws as laws;
 
+pub mod deltas;
 pub mod imports;
 
 /// Replicas that received bundles with the same operations together, in whatever order, grouping and

@@ -14,6 +14,8 @@ pub use fault::{EditFault, ImportFault, ReceiveFault};
 pub use replica::Replica;
 
 #[cfg(test)]
+mod delta_rows;
+#[cfg(test)]
 mod edit_rows;
 #[cfg(test)]
 mod receive_rows;

@@ -4,9 +4,10 @@ ghost use Rattle.op_core.specs.Lists as lists;
 ghost use Rattle.op_core.specs.Shown as texts;
 ghost use Rattle.bundle_codec.specs.Joining.{whole_at};
 ghost use Rattle.bundle_codec.specs.Spelling.{bundle};
+ghost use Rattle.bundle_codec.specs.Summaries.{IsSummaryOf, outside};
 ghost use Rattle.replica_state.specs.States.{IsState, begun};
 
-use bundle_codec::{encode, encode_after};
+use bundle_codec::{Summary, encode, encode_after, encode_outside};
 use op_core::{Books, Keys, Op, OpId, OpSet, Picked, ReplicaName};
 use std::alloc::{AllocError, Global};
 use std::marker::Model;
@@ -118,6 +119,28 @@ impl Replica {
         ensures { IfOk result (λ whole. whole.items ≡ bytes.items ++ bundle self.now.held) }
     {
         encode_after(bytes, &self.set)
+    }
+
+    /// The summary of the ids that the replica holds.
+    ///
+    /// # Errors
+    /// Want of memory alone.
+    pub fn summary(&self, alloc: Global) -> Result<Summary, AllocError>
+        ensures { IfOk result (λ s. IsSummaryOf self.now.held s) }
+    {
+        Summary::of(alloc, &self.set)
+    }
+
+    /// The bundle of the held operations whose ids lie outside a summary: what the copy with that
+    /// summary lacks. They are lent and written one by one; no second set is made.
+    ///
+    /// # Errors
+    /// Want of memory alone.
+    pub fn delta(&self, alloc: Global, summary: &Summary) -> Result<Vec<u8>, AllocError>
+        ensures spelled { IfOk result (λ bytes. bytes.items ≡ bundle (outside summary.now self.now.held)) }
+        ensures again { IfOk result (λ bytes. whole_at bytes.items ≡ Ok (outside summary.now self.now.held)) }
+    {
+        encode_outside(alloc, &self.set, summary)
     }
 
     /// How many comparisons the calls made that change the replica: each of two ids or of two segments

@@ -1,0 +1,107 @@
+-- Bytes that are one summary and nothing more.
+use Rattle.std.proofs.Common.{◌≡◌, ◌≢◌, ℕ, ◌+◌, ◌^◌, ◌<◌, ◌≤◌, true, false, eqb, List, [], ◌∷◌, ◌++◌, length, drop, get_or, Result, Ok, Err, refl, sym, ap, subst, ◌∙◌, append_assoc, arith}
+use Rattle.std.specs.Int.{w64, to_be_bytes}
+use Rattle.std.specs.List.{flat_map, AllByRecursion}
+use Rattle.std.proofs.lemmas.List.Concat.{flat_map-cons}
+use Rattle.std.proofs.lemmas.Bool.{eqb-true, false≢true}
+use Rattle.std.proofs.lemmas.List.{append-nil, length-append, drop_more}
+use Rattle.bundle_codec.specs.declared.fault.BundleFault.{BundleFault}
+use Rattle.bundle_codec.specs.declared.summaries.range.NumberRange.{NumberRange}
+use Rattle.bundle_codec.specs.Reading.{AreBytes, after}
+use Rattle.bundle_codec.specs.Summaries.{Known, IsSummary, SpellsSummary, summary_magic, range, known, summary}
+use Rattle.bundle_codec.specs.SummaryReading.{summary_at}
+use Rattle.bundle_codec.proofs.Readers.{ok_is}
+use Rattle.bundle_codec.proofs.OneSpelling.{flat_map_long}
+use Rattle.bundle_codec.proofs.SummaryReads.{RangesCounted, IsCountedSummary, summary_reads}
+
+-- ---- what a summary of less than 2^64 bytes spells can be counted
+
+range_some : (r : NumberRange) → 1 ≤ length (range r)
+range_some r = omega (arith, length-append (to_be_bytes w64 r.first) (to_be_bytes w64 r.last))
+
+known_length : (k : Known) → 1 + length (flat_map range k.ranges) ≤ length (known k)
+known_length k = omega (
+  arith,
+  length-append k.name (to_be_bytes w64 (length k.ranges) ++ flat_map range k.ranges),
+  length-append (to_be_bytes w64 (length k.ranges)) (flat_map range k.ranges),
+)
+
+known_some : (k : Known) → 1 ≤ length (known k)
+known_some k = omega (arith, known_length k)
+
+counted_each : (ks : List Known) → length (flat_map known ks) < 2 ^ 64 → RangesCounted ks
+counted_each [] h = tt
+counted_each (k ∷ ks) h =
+    let parts : length (flat_map known (k ∷ ks)) ≡ length (known k) + length (flat_map known ks) = ap length (flat_map-cons known k ks) ∙ length-append (known k) (flat_map known ks) in
+    (omega (arith, known_length k, flat_map_long range range_some k.ranges), counted_each ks (omega arith))
+
+pub counted-from_length : (s : List Known) → IsSummary s → length (summary s) < 2 ^ 64 → IsCountedSummary s
+unfolding summary
+counted-from_length s form h =
+    let parts = length-append summary_magic (to_be_bytes w64 (length s) ++ flat_map known s) in
+    let counted = length-append (to_be_bytes w64 (length s)) (flat_map known s) in
+    let many = flat_map_long known known_some s in
+    (form, (omega arith, counted_each s (omega arith)))
+
+-- ---- whole summaries
+
+pub is_nil : (xs : List ℕ) → true ≡ eqb (length xs) 0 → xs ≡ []
+is_nil [] e = refl
+is_nil (x ∷ xs) e = absurd (omega (arith, eqb-true (length (x ∷ xs)) 0 (sym e)))
+
+pub not_nil : (xs : List ℕ) → false ≡ eqb (length xs) 0 → xs ≢ []
+not_nil xs e h = absurd (false≢true (e ∙ ap (λ (ys : List ℕ). eqb (length ys) 0) h))
+
+pub is_read : (s : List Known) (rest : List ℕ) → IsSummary s → length (summary s ++ rest) < 2 ^ 64 → summary_at (summary s ++ rest) ≡ Ok (s, rest)
+is_read s rest form short = summary_reads.again s rest (counted-from_length s form (omega (arith, length-append (summary s) rest)))
+
+-- a summary is read to its end as what it spells
+pub spelled_read : (bytes : List ℕ) → length bytes < 2 ^ 64 → (h : SpellsSummary bytes) → summary_at bytes ≡ Ok (h.names, [])
+spelled_read bytes short h =
+    let alone : bytes ≡ summary h.names ++ [] = h.spelled ∙ sym (append-nil (summary h.names)) in
+    ap summary_at alone ∙ is_read h.names [] h.form (omega (arith, ap length alone))
+
+-- what is read to its end is a summary, which the bytes spell
+pub read_is : (bytes : List ℕ) → AreBytes bytes → (s : List Known) (rest : List ℕ) → rest ≡ [] → summary_at bytes ≡ Ok (s, rest) → IsSummary s × (bytes ≡ summary s)
+read_is bytes fits s rest none e =
+    let t = summary_reads.takes bytes s rest fits e in
+    (t.1.0, t.0.parts ∙ ap (λ (w : List ℕ). summary s ++ w) none ∙ append-nil (summary s))
+
+-- a reading that is at its end
+pub some_names : (bytes : List ℕ) → AreBytes bytes → (rest : List ℕ) → rest ≡ [] → after (summary_at bytes) ≡ Ok rest → SpellsSummary bytes
+some_names bytes fits rest none e = by (summary_at bytes) refl e
+  where
+    by : (r : Result (List Known × List ℕ) BundleFault) → summary_at bytes ≡ r → after r ≡ Ok rest → SpellsSummary bytes
+    by (Ok x) h a =
+        let t = read_is bytes fits x.0 x.1 (ok_is x.1 rest a ∙ none) h in
+        record { names = x.0; form = t.0; spelled = t.1 }
+    by (Err f) h a = absurd cc
+
+-- bytes that are refused are no summary
+pub none_refused : (bytes : List ℕ) → length bytes < 2 ^ 64 → (f : BundleFault) → after (summary_at bytes) ≡ Err f → SpellsSummary bytes → ⊥
+none_refused bytes short f e h = let read = ap after (spelled_read bytes short h) in absurd cc
+
+-- nor are those that go on
+pub none_followed : (bytes : List ℕ) → length bytes < 2 ^ 64 → (rest : List ℕ) → after (summary_at bytes) ≡ Ok rest → rest ≢ [] → SpellsSummary bytes → ⊥
+none_followed bytes short rest e some h = some (ok_is rest [] (sym e ∙ ap after (spelled_read bytes short h)))
+
+-- one summary has one spelling, and one spelling is of one summary
+pub one_summary : (a b : List Known) → IsSummary a → IsSummary b → length (summary a) < 2 ^ 64 → summary a ≡ summary b → a ≡ b
+one_summary a b f g short e =
+    let one = spelled_read (summary a) short (record { names = a; form = f; spelled = refl }) in
+    let other = spelled_read (summary a) short (record { names = b; form = g; spelled = e }) in
+    ap (λ (x : List Known × List ℕ). x.0) (ok_is (a, []) (b, []) (sym one ∙ other))
+
+-- the front with the count, and the names
+pub summary_fronted : (s : List Known) → (summary_magic ++ to_be_bytes w64 (length s)) ++ flat_map known s ≡ summary s
+unfolding summary
+summary_fronted s = append_assoc summary_magic (to_be_bytes w64 (length s)) (flat_map known s)
+
+-- bytes with one thing more of a list behind them
+pub pushed_on : {A : Type 0} (f : A → List ℕ) (xs : List A) (i : ℕ) (d : A) (bytes new whole : List ℕ) → i < length xs → new ≡ bytes ++ f (get_or xs i d)
+    → bytes ++ flat_map f (drop i xs) ≡ whole → new ++ flat_map f (drop (i + 1) xs) ≡ whole
+pushed_on f xs i d bytes new whole lt more so_far =
+    ap (λ (w : List ℕ). w ++ flat_map f (drop (i + 1) xs)) more
+    ∙ append_assoc bytes (f (get_or xs i d)) (flat_map f (drop (i + 1) xs))
+    ∙ ap (λ (w : List ℕ). bytes ++ w) (sym (ap (flat_map f) (drop_more xs i d lt) ∙ flat_map-cons f (get_or xs i d) (drop (i + 1) xs)))
+    ∙ so_far

@@ -1,0 +1,50 @@
+-- How the summary of a set is made by one walk over its ids, which rise.
+use Rattle.std.specs.Prelude.{◌≡◌, ◌≢◌, ℕ, suc, ◌==◌, false, List, [], ◌∷◌, map, Option, Some, None, Vec, IsTrue, option_map, if◌then◌else◌}
+use Rattle.std.specs.List.{list_all, AllByRecursion}
+use Rattle.std.specs.Option.{is_some, unwrap_or}
+use Rattle.std.specs.BTreeMap.{BTreeMap, get as value_at, IsOrdered}
+use Rattle.usfm_ref.specs.Books.{same_bytes}
+use Rattle.op_core.specs.Names.{name_cmp}
+use Rattle.op_core.specs.Ids.{Id}
+use Rattle.op_core.specs.Ops.{Operation}
+use Rattle.op_core.specs.Sets.{get}
+use Rattle.bundle_codec.specs.declared.summaries.range.NumberRange.{NumberRange}
+use Rattle.bundle_codec.specs.Summaries.{Known, is_range, are_apart, has_number}
+
+-- the ranges with one number more, which is greater than theirs
+abbrev pub with_last : List NumberRange → ℕ → List NumberRange
+with_last [] n = record { first = n; last = n } ∷ []
+with_last (r ∷ []) n =
+    if suc r.last == n then record { first = r.first; last = n } ∷ []
+    else r ∷ record { first = n; last = n } ∷ []
+with_last (r ∷ s ∷ rs) n = r ∷ with_last (s ∷ rs) n
+
+-- the ranges under a name
+abbrev pub under : {A : Type 0} → BTreeMap (List ℕ) (Vec NumberRange A) → List ℕ → Option (List NumberRange)
+under m q = option_map (λ v. v.items) (value_at name_cmp m q)
+
+-- a map with one id more
+abbrev pub HoldsMore : {A : Type 0} → Id → BTreeMap (List ℕ) (Vec NumberRange A) → BTreeMap (List ℕ) (Vec NumberRange A) → Type 0
+HoldsMore id m n =
+    (q : List ℕ) → under n q ≡ (if same_bytes q id.name then Some (with_last (unwrap_or (under m q) []) id.number) else under m q)
+
+-- ranges that a summary may have
+pub record AreRanges (ranges : List NumberRange) : Type 0 where
+  pub some : ranges ≢ []
+  pub each : IsTrue (list_all is_range ranges)
+  pub apart : IsTrue (are_apart ranges)
+
+-- the ranges of a name in a set, or that it has none
+abbrev pub AreUnder : List Operation → List ℕ → Option (List NumberRange) → Type 0
+AreUnder held q None = (n : ℕ) → is_some (get held (record { number = n; name = q })) ≡ false
+AreUnder held q (Some ranges) = AreRanges ranges × ((n : ℕ) → has_number ranges n ≡ is_some (get held (record { number = n; name = q })))
+
+-- a map holds the ranges of each name in a set
+pub record HoldsRanges {A : Type 0} (held : List Operation) (m : BTreeMap (List ℕ) (Vec NumberRange A)) : Type 0 where
+  pub ordered : IsOrdered name_cmp m
+  pub each : AllByRecursion (λ e. AreRanges e.1.items) m.entries
+  pub names : (q : List ℕ) → AreUnder held q (under m q)
+
+-- the names of a map with their ranges
+abbrev pub listed : {A : Type 0} → BTreeMap (List ℕ) (Vec NumberRange A) → List Known
+listed m = map (λ e. record { name = e.0; ranges = e.1.items }) m.entries

@@ -1,0 +1,68 @@
+-- Reading a summary from left to right. It has one fault, whichever field is cut or breaks its rule.
+use Rattle.std.specs.Prelude.{ℕ, suc, nat_le, nat_lt, ◌&&◌, Bool, true, List, Option, Some, None, Result, Ok, Err}
+use Rattle.std.specs.Int.{w64}
+use Rattle.std.specs.Ordering.{is_lt}
+use Rattle.op_core.specs.Names.{is_name, name_cmp}
+use Rattle.bundle_codec.specs.declared.fault.BundleFault.{BundleFault}
+use Rattle.bundle_codec.specs.declared.fault.BundleFault.TheVariants.{Truncated}
+use Rattle.bundle_codec.specs.declared.summaries.range.NumberRange.{NumberRange}
+use Rattle.bundle_codec.specs.Reading.{◌>>=◌, any, check, byte_at, block_at, number_at, exactly_at, many_at, is_name_length}
+use Rattle.bundle_codec.specs.Summaries.{Known, is_range, summary_magic}
+
+-- the one fault, in the words of fields
+abbrev pub bad : BundleFault
+bad = Truncated
+
+-- a range begins more than one above the end of the one before it, if there is one
+abbrev pub begins_after : Option ℕ → ℕ → Bool
+begins_after None n = true
+begins_after (Some last) n = nat_lt (suc last) n
+
+unfoldable pub range_at : Option ℕ → List ℕ → Result (NumberRange × List ℕ) BundleFault
+range_at before bytes = do
+  first ← number_at w64 any bad bytes
+  last ← number_at w64 any bad first.1
+  _ ← check (is_range (record { first = first.0; last = last.0 }) && begins_after before first.0) bad
+  Ok (record { first = first.0; last = last.0 }, last.1)
+
+abbrev pub after_range : Option ℕ → NumberRange → Option ℕ
+after_range before r = Some r.last
+
+abbrev pub ranges_at : ℕ → List ℕ → Result (List NumberRange × List ℕ) BundleFault
+ranges_at n bytes = many_at range_at after_range n None bytes
+
+-- a name comes after the one before it, if there is one
+abbrev pub name_after : Option (List ℕ) → List ℕ → Bool
+name_after None name = true
+name_after (Some before) name = is_lt (name_cmp before name)
+
+unfoldable pub name_at : Option (List ℕ) → List ℕ → Result (List ℕ × List ℕ) BundleFault
+name_at before bytes = do
+  len ← byte_at is_name_length bad bytes
+  name ← block_at len.0 is_name bad len.1
+  _ ← check (name_after before name.0) bad
+  Ok name
+
+unfoldable pub known_at : Option (List ℕ) → List ℕ → Result (Known × List ℕ) BundleFault
+known_at before bytes = do
+  name ← name_at before bytes
+  count ← number_at w64 (λ n. nat_le 1 n) bad name.1
+  ranges ← ranges_at count.0 count.1
+  Ok (record { name = name.0; ranges = ranges.0 }, ranges.1)
+
+-- its name, and the bytes after it
+abbrev pub name_read : Result (Known × List ℕ) BundleFault → Result (List ℕ × List ℕ) BundleFault
+name_read read = read >>= λ k. Ok (k.0.name, k.1)
+
+abbrev pub after_known : Option (List ℕ) → Known → Option (List ℕ)
+after_known before k = Some k.name
+
+abbrev pub names_at : ℕ → List ℕ → Result (List Known × List ℕ) BundleFault
+names_at n bytes = many_at known_at after_known n None bytes
+
+-- a summary at the front, and what follows it
+unfoldable pub summary_at : List ℕ → Result (List Known × List ℕ) BundleFault
+summary_at bytes = do
+  start ← exactly_at summary_magic bad bytes
+  count ← number_at w64 any bad start.1
+  names_at count.0 count.1

@@ -1,0 +1,23 @@
+//! Laws of summaries, over the definitions alone. Each function does nothing: its contract is the law.
+ghost use Rattle.bundle_codec.specs.SummaryLaws as laws;
+
+/// A set has one summary.
+pub fn one_summary_of_a_set()
+    ensures { laws.OneSummaryOfASet }
+{}
+
+/// One summary has one spelling, and one spelling is of one summary.
+pub fn one_spelling_of_a_summary()
+    ensures { laws.OneSpellingOfASummary }
+{}
+
+/// What a set has outside the summary of another one, joined to that one, gives the union of both,
+/// and never clashes.
+pub fn outside_gives_union()
+    ensures { laws.OutsideGivesUnion }
+{}
+
+/// Nothing of a set lies outside its own summary.
+pub fn nothing_outside_own()
+    ensures { laws.NothingOutsideOwn }
+{}

@@ -1,0 +1,111 @@
+// Summaries: which ids a copy holds, as ranges of numbers under names.
+ghost use Rattle.std.specs.Prelude.{◌≡◌, List, IfOk, IfErr};
+ghost use Rattle.op_core.specs.Sets.{IsOpSet};
+ghost use Rattle.bundle_codec.specs.Summaries as sums;
+
+mod making;
+mod name_ranges;
+mod outside;
+mod range;
+mod reading;
+mod writing;
+
+pub use outside::encode_outside;
+
+use crate::fault::SummaryFault;
+use making::{held_ranges, listed};
+use name_ranges::{NameRanges, find_name};
+use op_core::{OpId, OpSet};
+use range::has_number;
+use reading::summary_of;
+use std::alloc::{AllocError, Global};
+use std::marker::Model;
+use writing::{push_known, push_front};
+
+/// Which ids a copy holds: names, rising by their bytes, each with ranges of numbers, of which no two
+/// touch.
+#[derive(Debug, Drop)]
+pub struct Summary {
+    names: Vec<NameRanges>,
+}
+
+impl Model for Summary {
+    ghost use Rattle.std.specs.Prelude.{List};
+    ghost use Rattle.bundle_codec.specs.Summaries.{Known, IsSummary};
+
+    ghost Value = { List Known };
+
+    ghost view = { λ s. s.names.items };
+
+    ghost invariant = { λ s. IsSummary s.names.items };
+}
+
+impl Summary {
+    /// Reads a summary: the magic `USFMSS1` and a line feed, how many names, and for each name its
+    /// length in one byte, the name, how many ranges, and for each range its first and its last
+    /// number. Numbers are big-endian, of eight bytes.
+    ///
+    /// # Errors
+    /// - `BadSummary` exactly where the bytes are anything else, or break a rule: names are 1 to 32 of
+    ///   a to z, 0 to 9 and `-`, rise by their bytes and have at least one range; a range is from 1 to
+    ///   10^15, its first no greater than its last, and begins more than one above the end of the one
+    ///   before it; nothing follows.
+    /// - `Memory` where the bytes are a summary, and a growth was refused.
+    pub fn read(alloc: Global, bytes: &[u8]) -> Result<Summary, SummaryFault>
+        ensures form { IfOk result sums.IsSummary }
+        ensures spelled { IfOk result (λ s. bytes.now ≡ sums.summary s) }
+        ensures refused { IfErr result (λ fault. sums.RefusesSummary bytes.now fault) }
+    {
+        let Ok((names, rest)) = summary_of(alloc, bytes) else {
+            return Err(SummaryFault::BadSummary);
+        };
+        if !rest.is_empty() {
+            return Err(SummaryFault::BadSummary);
+        }
+        match names {
+            None => Err(SummaryFault::Memory),
+            Some(names) => Ok(Summary { names }),
+        }
+    }
+
+    /// The bytes that spell the summary, which `read` reads back.
+    ///
+    /// # Errors
+    /// Want of memory alone.
+    pub fn write(&self, alloc: Global) -> Result<Vec<u8>, AllocError>
+        ensures spelled { IfOk result (λ bytes. bytes.items ≡ sums.summary self.now) }
+        ensures form { sums.IsSummary self.now }
+    {
+        let mut bytes = Vec::new(alloc);
+        let names = self.names.as_slice();
+        push_front(&mut bytes, names.len() as u64)?;
+        for known in names {
+            push_known(&mut bytes, known)?;
+        }
+        Ok(bytes)
+    }
+
+    /// The summary of a set: for each name in an id of it, the longest ranges of held numbers. It is
+    /// made by one walk over the ids.
+    ///
+    /// # Errors
+    /// Want of memory alone.
+    pub fn of(alloc: Global, set: &OpSet) -> Result<Summary, AllocError>
+        ensures exact { IfOk result (λ s. sums.IsSummaryOf set.now s) }
+    {
+        let held = held_ranges(alloc, set)?;
+        let names = listed(alloc, held)?;
+        Ok(Summary { names })
+    }
+
+    /// Whether an id's number lies in a range of its name. Names and ranges are searched by halves, and
+    /// it takes no memory.
+    pub fn covers(&self, id: &OpId) -> bool
+        ensures { result ≡ sums.covers self.now id.now }
+    {
+        match find_name(&self.names, id.name) {
+            None => false,
+            Some(known) => has_number(known.ranges(), id.number),
+        }
+    }
+}

@@ -1,0 +1,21 @@
+-- Laws of deltas: what a replica holds outside the summary of another one.
+use Rattle.std.specs.Prelude.{◌≡◌, List, [], length, Ok}
+use Rattle.op_core.specs.Sets.{join}
+use Rattle.bundle_codec.specs.Summaries.{Known, IsSummaryOf, outside}
+use Rattle.replica_state.specs.States.{State, IsState}
+use Rattle.replica_state.specs.Receives.{lacked}
+use Rattle.replica_state.specs.Steps.{Receive, Received, step}
+
+-- A replica that receives another one's delta for its own summary holds the union of both sets, and never refuses it. It
+-- counts as new what it lacked.
+abbrev pub DeltasGiveUnion : Type 0
+DeltasGiveUnion =
+    (own other : State) (s : List Known) → IsState own → IsState other → IsSummaryOf own.held s →
+    step own (Receive (outside s other.held)) ≡ record {
+      after = record { name = own.name; held = join own.held other.held };
+      reply = Received (Ok (length (lacked own.held other.held)));
+    }
+
+-- The delta for one's own summary holds nothing.
+abbrev pub OwnDeltaIsEmpty : Type 0
+OwnDeltaIsEmpty = (own : State) (s : List Known) → IsState own → IsSummaryOf own.held s → outside s own.held ≡ []
