@@ -1,5 +1,5 @@
 -- Bytes that are one summary and nothing more.
-use Rattle.std.proofs.Common.{◌≡◌, ◌≢◌, ℕ, ◌+◌, ◌^◌, ◌<◌, ◌≤◌, true, false, eqb, List, [], ◌∷◌, ◌++◌, length, drop, get_or, Result, Ok, Err, refl, sym, ap, subst, ◌∙◌, append_assoc, arith}
+use Rattle.std.proofs.Common.{◌≡◌, ◌≢◌, ℕ, ◌+◌, ◌^◌, ◌<◌, ◌≤◌, true, false, eqb, List, [], ◌∷◌, ◌++◌, length, drop, get_or, Option, Some, None, IsSome, is_some, Result, Ok, Err, refl, sym, ap, subst, ◌∙◌, append_assoc, arith}
 use Rattle.std.specs.Int.{w64, to_be_bytes}
 use Rattle.std.specs.List.{flat_map, AllByRecursion}
 use Rattle.std.proofs.lemmas.List.Concat.{flat_map-cons}
@@ -9,7 +9,7 @@ use Rattle.bundle_codec.specs.declared.fault.BundleFault.{BundleFault}
 use Rattle.bundle_codec.specs.declared.summaries.range.NumberRange.{NumberRange}
 use Rattle.bundle_codec.specs.Reading.{AreBytes, after}
 use Rattle.bundle_codec.specs.Summaries.{Known, IsSummary, SpellsSummary, summary_magic, range, known, summary}
-use Rattle.bundle_codec.specs.SummaryReading.{summary_at}
+use Rattle.bundle_codec.specs.SummaryReading.{summary_at, nothing_behind, read_whole}
 use Rattle.bundle_codec.proofs.Readers.{ok_is}
 use Rattle.bundle_codec.proofs.OneSpelling.{flat_map_long}
 use Rattle.bundle_codec.proofs.SummaryReads.{RangesCounted, IsCountedSummary, summary_reads}
@@ -84,6 +84,27 @@ none_refused bytes short f e h = let read = ap after (spelled_read bytes short h
 -- nor are those that go on
 pub none_followed : (bytes : List ℕ) → length bytes < 2 ^ 64 → (rest : List ℕ) → after (summary_at bytes) ≡ Ok rest → rest ≢ [] → SpellsSummary bytes → ⊥
 none_followed bytes short rest e some h = some (ok_is rest [] (sym e ∙ ap after (spelled_read bytes short h)))
+
+-- ---- as a whole reading says it
+
+pub read_fails : (r : Result (List Known × List ℕ) BundleFault) (f : BundleFault) → after r ≡ Err f → read_whole r ≡ None
+read_fails (Ok x) f e = absurd cc
+read_fails (Err g) f e = refl
+
+behind_none : (names : List Known) (rest : List ℕ) → rest ≢ [] → nothing_behind names rest ≡ None
+behind_none names [] some = absurd (some refl)
+behind_none names (b ∷ rest) some = refl
+
+pub read_goes_on : (r : Result (List Known × List ℕ) BundleFault) (rest : List ℕ) → after r ≡ Ok rest → rest ≢ [] → read_whole r ≡ None
+read_goes_on (Ok x) rest e some = behind_none x.0 x.1 (λ none. some (sym (ok_is x.1 rest e) ∙ none))
+read_goes_on (Err g) rest e some = refl
+
+pub read_ends : (r : Result (List Known × List ℕ) BundleFault) (rest : List ℕ) → after r ≡ Ok rest → rest ≡ [] → IsSome (read_whole r)
+read_ends (Ok x) rest e none = ap (λ (w : List ℕ). is_some (nothing_behind x.0 w)) (ok_is x.1 rest e ∙ none)
+read_ends (Err g) rest e none = absurd cc
+
+pub read_gives : (r : Result (List Known × List ℕ) BundleFault) (s : List Known) (rest : List ℕ) → rest ≡ [] → r ≡ Ok (s, rest) → read_whole r ≡ Some s
+read_gives r s rest none e = ap read_whole e ∙ ap (nothing_behind s) none
 
 -- one summary has one spelling, and one spelling is of one summary
 pub one_summary : (a b : List Known) → IsSummary a → IsSummary b → length (summary a) < 2 ^ 64 → summary a ≡ summary b → a ≡ b

@@ -1,10 +1,12 @@
 -- Reading a summary from left to right. It has one fault, whichever field is cut or breaks its rule.
-use Rattle.std.specs.Prelude.{ℕ, suc, nat_le, nat_lt, ◌&&◌, Bool, true, List, Option, Some, None, Result, Ok, Err}
+use Rattle.std.specs.Prelude.{◌≡◌, ℕ, suc, nat_le, nat_lt, ◌&&◌, Bool, true, List, [], ◌∷◌, IsSome, Option, Some, None, Result, Ok, Err}
 use Rattle.std.specs.Int.{w64}
 use Rattle.std.specs.Ordering.{is_lt}
 use Rattle.op_core.specs.Names.{is_name, name_cmp}
 use Rattle.bundle_codec.specs.declared.fault.BundleFault.{BundleFault}
 use Rattle.bundle_codec.specs.declared.fault.BundleFault.TheVariants.{Truncated}
+use Rattle.bundle_codec.specs.declared.fault.SummaryFault.{SummaryFault}
+use Rattle.bundle_codec.specs.declared.fault.SummaryFault.TheVariants.{Memory, BadSummary}
 use Rattle.bundle_codec.specs.declared.summaries.range.NumberRange.{NumberRange}
 use Rattle.bundle_codec.specs.Reading.{◌>>=◌, any, check, byte_at, block_at, number_at, exactly_at, many_at, is_name_length}
 use Rattle.bundle_codec.specs.Summaries.{Known, is_range, summary_magic}
@@ -66,3 +68,22 @@ summary_at bytes = do
   start ← exactly_at summary_magic bad bytes
   count ← number_at w64 any bad start.1
   names_at count.0 count.1
+
+-- ---- whole summaries
+
+abbrev pub nothing_behind : List Known → List ℕ → Option (List Known)
+nothing_behind names [] = Some names
+nothing_behind names (b ∷ rest) = None
+
+abbrev pub read_whole : Result (List Known × List ℕ) BundleFault → Option (List Known)
+read_whole (Ok read) = nothing_behind read.0 read.1
+read_whole (Err fault) = None
+
+-- the summary that the bytes are, to their end
+abbrev pub read_summary : List ℕ → Option (List Known)
+read_summary bytes = read_whole (summary_at bytes)
+
+-- bytes are refused as bad exactly where they are no summary, and want of memory is told of a summary alone
+abbrev pub ReadFails : Option (List Known) → SummaryFault → Type 0
+ReadFails found Memory = IsSome found
+ReadFails found BadSummary = found ≡ None

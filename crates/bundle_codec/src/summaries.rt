@@ -1,7 +1,8 @@
 // Summaries: which ids a copy holds, as ranges of numbers under names.
-ghost use Rattle.std.specs.Prelude.{◌≡◌, List, IfOk, IfErr};
+ghost use Rattle.std.specs.Prelude.{◌≡◌, List, Some, IfOk, IfErr};
 ghost use Rattle.op_core.specs.Sets.{IsOpSet};
 ghost use Rattle.bundle_codec.specs.Summaries as sums;
+ghost use Rattle.bundle_codec.specs.SummaryReading.{read_summary, ReadFails};
 
 mod making;
 mod name_ranges;
@@ -55,6 +56,8 @@ impl Summary {
         ensures form { IfOk result sums.IsSummary }
         ensures spelled { IfOk result (λ s. bytes.now ≡ sums.summary s) }
         ensures refused { IfErr result (λ fault. sums.RefusesSummary bytes.now fault) }
+        ensures exact { IfOk result (λ s. read_summary bytes.now ≡ Some s) }
+        ensures none { IfErr result (λ fault. ReadFails (read_summary bytes.now) fault) }
     {
         let Ok((names, rest)) = summary_of(alloc, bytes) else {
             return Err(SummaryFault::BadSummary);
