@@ -65,7 +65,7 @@ held_below (p ∷ done) o rest id h s = by (same_id id p.id) refl (and_parts (li
     by false e q on = on q.1 (sym (ap (λ b. is_some (cond b (Some p) (get done id))) e) ∙ s)
 
 -- of one name, the id below has the smaller number
-below_strict : (n : ℕ) (id : Id) → id_below (record { number = n; name = id.name }) id ≡ true → n < id.number
+pub below_strict : (n : ℕ) (id : Id) → id_below (record { number = n; name = id.name }) id ≡ true → n < id.number
 below_strict n id h = elim (cases_lt n id.number) [
   | inl lt ↦ lt
   | inr le ↦
@@ -74,7 +74,7 @@ below_strict n id h = elim (cases_lt n id.number) [
       absurd (true≢false (sym same ∙ apart_below (record { number = n; name = id.name }) id h))
 ]
 
-abbrev id_of : ℕ → List ℕ → Id
+abbrev pub id_of : ℕ → List ℕ → Id
 id_of n q = record { number = n; name = q }
 
 or_later : (a b : Bool) → b ≡ true → (a || b) ≡ true

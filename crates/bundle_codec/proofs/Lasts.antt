@@ -11,7 +11,7 @@ use Rattle.bundle_codec.proofs.Covered.{lies_in, lies_yes, lies_not, lies_bounds
 pub range_from : (r : NumberRange) → 1 ≤ r.first → r.first ≤ r.last → r.last ≤ 1000000000000000 → is_range r ≡ true
 range_from r a b c = and_from _ _ (le-leb _ _ a) (and_from _ _ (le-leb _ _ b) (le-leb _ _ c))
 
-abbrev one_number : ℕ → NumberRange
+abbrev pub one_number : ℕ → NumberRange
 one_number n = record { first = n; last = n }
 
 abbrev longer_to : NumberRange → ℕ → NumberRange

@@ -95,6 +95,7 @@ impl Summary {
     /// Want of memory alone.
     pub fn of(alloc: Global, set: &OpSet) -> Result<Summary, AllocError>
         ensures exact { IfOk result (λ s. sums.IsSummaryOf set.now s) }
+        ensures value { IfOk result (λ s. s ≡ sums.summary_of set.now) }
     {
         let held = held_ranges(alloc, set)?;
         let names = listed(alloc, held)?;
