@@ -1,26 +1,24 @@
 -- A map from names to ranges, with the ids of a set added one after another.
-use Rattle.std.proofs.Common.{◌≡◌, ◌≢◌, ℕ, suc, ◌+◌, ◌<◌, ◌≤◌, Bool, true, false, cond, ◌&&◌, ◌||◌, eqb, leb, ltb, List, [], ◌∷◌, ◌++◌, length, Option, Some, None, Result, Ok, Err, Vec, option_map, refl, sym, ap, subst, ◌∙◌, arith, inl, inr}
-use Rattle.std.specs.declared.cmp.Ordering.{Ordering}
-use Rattle.std.specs.List.{list_all, list_any, AllByRecursion}
+use Rattle.std.proofs.Common.{◌≡◌, ℕ, ◌<◌, Bool, true, false, cond, ◌&&◌, ◌||◌, eqb, leb, List, [], ◌∷◌, ◌++◌, Option, Some, None, Result, Ok, Err, Vec, option_map, refl, sym, ap, subst, ◌∙◌, arith, inl, inr}
+use Rattle.std.specs.List.{list_all}
 use Rattle.std.specs.Option.{unwrap_or, is_some}
-use Rattle.std.specs.Ordering.{is_eq, is_lt, eq_by_cmp}
+use Rattle.std.specs.Ordering.{is_eq}
 use Rattle.std.specs.Result.{OnOk}
 use Rattle.std.specs.Map.{lookup}
 use Rattle.std.specs.BTreeMap.{BTreeMap, get as value_at, is_at}
-use Rattle.std.proofs.lemmas.Bool.{and_parts, and_from, ltb-true, lt-ltb, leb-true, eq-eqb, true≢false, cases_lt}
+use Rattle.std.proofs.lemmas.Bool.{and_parts, and_from, lt-ltb, leb-true, eq-eqb, true≢false, cases_lt}
 use Rattle.usfm_ref.specs.Books.{same_bytes}
 use Rattle.usfm_ref.proofs.Orders.{same_bytes-is, same_bytes-refl}
-use Rattle.usfm_ref.proofs.Sorted.{is_less}
 use Rattle.op_core.specs.Names.{name_cmp}
-use Rattle.op_core.specs.Ids.{Id, id_below, same_id, is_number, is_id}
+use Rattle.op_core.specs.Ids.{Id, id_below, same_id, is_number}
 use Rattle.op_core.specs.Equal.{id_from_same}
 use Rattle.op_core.specs.Ops.{Operation}
 use Rattle.op_core.proofs.NextIds.{below_number}
 use Rattle.op_core.proofs.Union.{apart_below}
 use Rattle.op_core.specs.Sets.{get, rises}
 use Rattle.bundle_codec.specs.declared.summaries.range.NumberRange.{NumberRange}
-use Rattle.bundle_codec.specs.Summaries.{is_range, are_apart, has_number}
-use Rattle.bundle_codec.specs.SummaryMaking.{with_last, under, HoldsMore, AreRanges, AreUnder}
+use Rattle.bundle_codec.specs.Summaries.{is_range, has_number}
+use Rattle.bundle_codec.specs.SummaryMaking.{with_last, under, HoldsMore, AreUnder}
 use Rattle.bundle_codec.proofs.Lasts.{AllBelow, last_has, last_ranges}
 use Rattle.bundle_codec.proofs.SummaryReads.{range_bounds}
 use Rattle.bundle_codec.proofs.Covered.{lies_in, lies_yes, same_tied}

@@ -1,7 +1,7 @@
 -- Ranges with one number more, which is greater than theirs.
-use Rattle.std.proofs.Common.{◌≡◌, ◌≢◌, ℕ, zero, suc, ◌+◌, ◌<◌, ◌≤◌, Bool, true, false, cond, ◌&&◌, ◌||◌, eqb, leb, ltb, List, [], ◌∷◌, ◌++◌, length, get_or, slice_set, refl, sym, ap, subst, ◌∙◌, arith, inl, inr}
-use Rattle.std.specs.List.{list_all, list_any}
-use Rattle.std.proofs.lemmas.Bool.{and_parts, and_from, leb-true, ltb-true, le-leb, lt-ltb, eqb-true, eq-eqb, ne_eqb, eqb-false, true≢false, cases_lt}
+use Rattle.std.proofs.Common.{◌≡◌, ◌≢◌, ℕ, zero, suc, ◌+◌, ◌<◌, ◌≤◌, Bool, true, false, cond, ◌||◌, eqb, ltb, List, [], ◌∷◌, ◌++◌, length, get_or, slice_set, refl, sym, ap, ◌∙◌, arith, inl, inr}
+use Rattle.std.specs.List.{list_all}
+use Rattle.std.proofs.lemmas.Bool.{and_parts, and_from, ltb-true, le-leb, lt-ltb, eqb-true, eq-eqb, ne_eqb, eqb-false, true≢false, cases_lt}
 use Rattle.bundle_codec.specs.declared.summaries.range.NumberRange.{NumberRange}
 use Rattle.bundle_codec.specs.Summaries.{is_range, are_apart, has_number}
 use Rattle.bundle_codec.specs.SummaryMaking.{with_last, AreRanges}
@@ -91,7 +91,7 @@ module _ (n : ℕ) (low : 1 ≤ n) (high : n ≤ 1000000000000000) where
   or_assoc false b c = refl
 
   not_over : {m : ℕ} (k : ℕ) → k ≤ n → (k ≡ n → ⊥) → suc m ≡ n → k ≤ m
-  not_over {m = m} k le ne e = elim (cases_lt m k) [ | inl lt ↦ absurd (ne (omega (arith, le, lt, e))) | inr more ↦ more ]
+  not_over {m = m} k le ne e = elim (cases_lt m k) [ inl lt ↦ absurd (ne (omega (arith, le, lt, e))) | inr more ↦ more ]
 
   or_right : (b : Bool) → (b || false) ≡ b
   or_right true = refl

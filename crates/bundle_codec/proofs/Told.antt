@@ -1,26 +1,26 @@
 -- The summary of a set as a function of it: for each name the ranges of its numbers.
-use Rattle.std.proofs.Common.{◌≡◌, ◌≢◌, ℕ, suc, ◌+◌, ◌<◌, ◌≤◌, Bool, true, false, cond, ◌&&◌, ◌||◌, eqb, leb, ltb, List, [], ◌∷◌, length, map, filter, Option, Some, None, is_eq, is_lt, option_map, refl, sym, ap, subst, ◌∙◌, arith, inl, inr}
+use Rattle.std.proofs.Common.{◌≡◌, ◌≢◌, ℕ, suc, ◌<◌, ◌≤◌, Bool, true, false, cond, ◌&&◌, ◌||◌, eqb, leb, ltb, List, [], ◌∷◌, map, filter, Some, is_eq, is_lt, refl, sym, ap, subst, ◌∙◌, arith, inl, inr}
 use Rattle.std.specs.declared.cmp.Ordering.{Ordering}
 use Rattle.std.specs.declared.cmp.Ordering.TheVariants.{Less, Equal, Greater}
-use Rattle.std.specs.List.{list_all, list_any, find, AllByRecursion}
+use Rattle.std.specs.List.{list_all, list_any, AllByRecursion}
 use Rattle.std.specs.Option.{is_some}
 use Rattle.std.specs.FinMap.Entries.{by_order}
-use Rattle.std.proofs.lemmas.Bool.{and_parts, and_from, leb-true, ltb-true, le-leb, lt-ltb, eqb-true, eqb-false, eq-eqb, true≢false, cases_lt}
+use Rattle.std.proofs.lemmas.Bool.{and_parts, and_from, leb-true, ltb-true, lt-ltb, eqb-true, eqb-false, true≢false, cases_lt}
 use Rattle.usfm_ref.specs.Books.{same_bytes}
 use Rattle.usfm_ref.specs.Rising.{rises_by, rising, with_item}
 use Rattle.usfm_ref.proofs.Orders.{same_bytes-is, same_bytes-refl}
 use Rattle.usfm_ref.proofs.Sorted.{rises-rising}
 use Rattle.op_core.specs.Names.{is_name, name_cmp}
-use Rattle.op_core.specs.Ids.{Id, id_below, same_id, is_number, is_id}
+use Rattle.op_core.specs.Ids.{Id, id_below, is_number}
 use Rattle.op_core.specs.Ops.{Operation, IsOperation}
 use Rattle.op_core.specs.Sets.{IsOpSet, get, rises}
 use Rattle.op_core.proofs.Union.{held_itself}
 use Rattle.bundle_codec.specs.declared.summaries.range.NumberRange.{NumberRange}
-use Rattle.bundle_codec.specs.Summaries.{Known, IsKnown, IsSummary, IsSummaryOf, is_range, are_apart, has_number, covers, numbers_of, with_first, ranges_of, summary_of}
+use Rattle.bundle_codec.specs.Summaries.{Known, IsKnown, IsSummaryOf, is_range, are_apart, has_number, covers, numbers_of, with_first, ranges_of, summary_of}
 use Rattle.bundle_codec.proofs.SummaryReads.{range_bounds, name_total}
 use Rattle.bundle_codec.proofs.Lasts.{range_from, one_number}
 use Rattle.bundle_codec.proofs.Holding.{below_strict, id_of}
-use Rattle.bundle_codec.proofs.Covered.{lies_in, lies_yes, lies_bounds, lies_not, same_tied, covers-found, under_name, found_has}
+use Rattle.bundle_codec.proofs.Covered.{lies_in, lies_yes, lies_bounds, lies_not, same_tied}
 use Rattle.bundle_codec.proofs.OneSummary.{same_summary}
 
 -- ---- ranges of rising numbers
@@ -56,7 +56,7 @@ lies_one n k = by (eqb k n) refl
     by false e = let other = eqb-false k n e in lies_not k (one_number n) (λ h. other (omega (arith, h.0, h.1)))
 
 over : (n k m : ℕ) → n ≤ k → (k ≡ n → ⊥) → suc n ≡ m → m ≤ k
-over n k m le ne e = elim (cases_lt n k) [ | inl lt ↦ omega (arith, lt, e) | inr more ↦ absurd (ne (omega (arith, le, more))) ]
+over n k m le ne e = elim (cases_lt n k) [ inl lt ↦ omega (arith, lt, e) | inr more ↦ absurd (ne (omega (arith, le, more))) ]
 
 -- one number before a range that it touches
 lies_longer : (n k : ℕ) (r : NumberRange) → is_range r ≡ true → suc n ≡ r.first → lies_in k (record { first = n; last = r.last }) ≡ (eqb k n || lies_in k r)
@@ -83,7 +83,7 @@ apart_from n r rs h lt ne behind =
     and_from _ _ (lt-ltb (suc n) r.first (gap n r.first (ltb-true _ _ lt) ne)) (from_more (suc n) (suc r.last) rs (omega (arith, ltb-true _ _ lt, b.1.0)) behind)
   where
     gap : (n m : ℕ) → n < m → (suc n ≡ m → ⊥) → suc n < m
-    gap n m lt ne = elim (cases_lt (suc n) m) [ | inl more ↦ more | inr le ↦ absurd (ne (omega (arith, lt, le))) ]
+    gap n m lt ne = elim (cases_lt (suc n) m) [ inl more ↦ more | inr le ↦ absurd (ne (omega (arith, lt, le))) ]
 
 number_bounds : (n : ℕ) → is_number n ≡ true → (1 ≤ n) × (n ≤ 1000000000000000)
 number_bounds n h = let p = and_parts (leb 1 n) (leb n 1000000000000000) h in (leb-true _ _ p.0, leb-true _ _ p.1)
@@ -256,10 +256,13 @@ module _ (held : List Operation) (set : IsOpSet held) where
 
   good_each : (ops : List Operation) → AllByRecursion IsOperation ops → AllByRecursion (λ o. get held o.id ≡ Some o) ops → AllByRecursion Good (map (λ (o : Operation). o.id.name) ops)
   good_each [] a h = tt
-  good_each (o ∷ ops) a h = (record {
-    name = (and_parts (is_number o.id.number) (is_name o.id.name) a.0.id).1;
-    some = λ none. true≢false (sym (ap is_some h.0) ∙ sym (among o.id.name o.id.number held) ∙ ap (list_any (eqb o.id.number)) none);
-  }, good_each ops a.1 h.1)
+  good_each (o ∷ ops) a h = (
+    record {
+      name = (and_parts (is_number o.id.number) (is_name o.id.name) a.0.id).1;
+      some = λ none. true≢false (sym (ap is_some h.0) ∙ sym (among o.id.name o.id.number held) ∙ ap (list_any (eqb o.id.number)) none);
+    },
+    good_each ops a.1 h.1,
+  )
 
   all_item : (k : List ℕ) (xs : List (List ℕ)) → Good k → AllByRecursion Good xs → AllByRecursion Good (with_item name_cmp k xs)
   all_item k [] g h = (g, tt)

@@ -1,5 +1,5 @@
 -- Laws of summaries and of what lies outside one.
-use Rattle.std.specs.Prelude.{◌≡◌, ◌<◌, ◌^◌, ℕ, List, [], length, None}
+use Rattle.std.specs.Prelude.{◌≡◌, ◌<◌, ◌^◌, List, [], length, None}
 use Rattle.op_core.specs.Ops.{Operation}
 use Rattle.op_core.specs.Sets.{IsOpSet, join, clash}
 use Rattle.bundle_codec.specs.Summaries.{Known, IsSummary, IsSummaryOf, summary_of, summary, outside}

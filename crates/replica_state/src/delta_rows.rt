@@ -44,11 +44,17 @@ fn fourth_of_five(rt: HostRuntime) -> Result<(), Fail> {
     let delta = ana.delta(alloc, &s1)?;
     assert!(rt; delta.as_slice() == FOURTH.as_slice());
     let whole = ana.summary(alloc)?.write(alloc)?;
-    assert_eq!(rt; whole.as_slice(), b"USFMSS1\n\0\0\0\0\0\0\0\x01\x03ana\0\0\0\0\0\0\0\x01\0\0\0\0\0\0\0\x01\0\0\0\0\0\0\0\x05");
+    assert_eq!(rt;
+        whole.as_slice(),
+        b"USFMSS1\n\0\0\0\0\0\0\0\x01\x03ana\0\0\0\0\0\0\0\x01\0\0\0\0\0\0\0\x01\0\0\0\0\0\0\0\x05"
+    );
     let mut ben = begun(alloc, "ben")?;
     assert_eq!(rt; received(alloc, &mut ben, &FOURTH)?, 1);
     let one = ben.summary(alloc)?.write(alloc)?;
-    assert_eq!(rt; one.as_slice(), b"USFMSS1\n\0\0\0\0\0\0\0\x01\x03ana\0\0\0\0\0\0\0\x01\0\0\0\0\0\0\0\x04\0\0\0\0\0\0\0\x04");
+    assert_eq!(rt;
+        one.as_slice(),
+        b"USFMSS1\n\0\0\0\0\0\0\0\x01\x03ana\0\0\0\0\0\0\0\x01\0\0\0\0\0\0\0\x04\0\0\0\0\0\0\0\x04"
+    );
     Ok(())
 }
 
