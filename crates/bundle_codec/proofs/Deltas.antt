@@ -1,9 +1,9 @@
 -- What lies outside the summary of a set is what the set does not hold.
-use Rattle.std.proofs.Common.{◌≡◌, Bool, true, false, not, cond, List, [], ◌∷◌, Option, Some, None, filter, is_none, refl, sym, ap, ◌∙◌}
+use Rattle.std.proofs.Common.{◌≡◌, Bool, not, cond, List, [], ◌∷◌, Option, Some, None, filter, is_none, refl, ap, ◌∙◌}
 use Rattle.std.specs.Option.{is_some, option_map}
 use Rattle.std.specs.List.{find, AllByRecursion}
 use Rattle.op_core.specs.Ops.{Operation}
-use Rattle.op_core.specs.Sets.{IsOpSet, get, join, clash, differs, rises}
+use Rattle.op_core.specs.Sets.{IsOpSet, get, join, clash, differs}
 use Rattle.op_core.specs.Index.{AreApart}
 use Rattle.op_core.proofs.Fresh.{fresh, fresh_apart, join_fresh}
 use Rattle.op_core.proofs.Union.{held_itself}
@@ -26,9 +26,10 @@ apart_none held (o ∷ new) h = ap (λ (r : Option Operation). cond (differs r o
 
 pub outside_union : (own other : List Operation) (s : List Known) → IsOpSet own → IsOpSet other → IsSummaryOf other s → (join other (outside s own) ≡ join other own) × (clash other (outside s own) ≡ None)
 outside_union own other s a b h =
-    let e = outside_fresh own other s h in
-    (ap (join other) e ∙ join_fresh other own b.rising a.rising,
-     ap (clash other) e ∙ ap (option_map (λ (o : Operation). o.id)) (apart_none other (fresh other own) (fresh_apart other own)))
+    let e = outside_fresh own other s h in (
+      ap (join other) e ∙ join_fresh other own b.rising a.rising,
+      ap (clash other) e ∙ ap (option_map (λ (o : Operation). o.id)) (apart_none other (fresh other own) (fresh_apart other own)),
+    )
 
 none_fresh : (held ops : List Operation) → AllByRecursion (λ o. get held o.id ≡ Some o) ops → fresh held ops ≡ []
 none_fresh held [] h = refl

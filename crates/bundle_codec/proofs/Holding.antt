@@ -1,26 +1,24 @@
 -- A map from names to ranges, with the ids of a set added one after another.
-use Rattle.std.proofs.Common.{◌≡◌, ◌≢◌, ℕ, suc, ◌+◌, ◌<◌, ◌≤◌, Bool, true, false, cond, ◌&&◌, ◌||◌, eqb, leb, ltb, List, [], ◌∷◌, ◌++◌, length, Option, Some, None, Result, Ok, Err, Vec, option_map, refl, sym, ap, subst, ◌∙◌, arith, inl, inr}
-use Rattle.std.specs.declared.cmp.Ordering.{Ordering}
-use Rattle.std.specs.List.{list_all, list_any, AllByRecursion}
+use Rattle.std.proofs.Common.{◌≡◌, ℕ, ◌<◌, Bool, true, false, cond, ◌&&◌, ◌||◌, eqb, leb, List, [], ◌∷◌, ◌++◌, Option, Some, None, Result, Ok, Err, Vec, option_map, refl, sym, ap, subst, ◌∙◌, arith, inl, inr}
+use Rattle.std.specs.List.{list_all}
 use Rattle.std.specs.Option.{unwrap_or, is_some}
-use Rattle.std.specs.Ordering.{is_eq, is_lt, eq_by_cmp}
+use Rattle.std.specs.Ordering.{is_eq}
 use Rattle.std.specs.Result.{OnOk}
 use Rattle.std.specs.Map.{lookup}
 use Rattle.std.specs.BTreeMap.{BTreeMap, get as value_at, is_at}
-use Rattle.std.proofs.lemmas.Bool.{and_parts, and_from, ltb-true, lt-ltb, leb-true, eq-eqb, true≢false, cases_lt}
+use Rattle.std.proofs.lemmas.Bool.{and_parts, and_from, lt-ltb, leb-true, eq-eqb, true≢false, cases_lt}
 use Rattle.usfm_ref.specs.Books.{same_bytes}
 use Rattle.usfm_ref.proofs.Orders.{same_bytes-is, same_bytes-refl}
-use Rattle.usfm_ref.proofs.Sorted.{is_less}
 use Rattle.op_core.specs.Names.{name_cmp}
-use Rattle.op_core.specs.Ids.{Id, id_below, same_id, is_number, is_id}
+use Rattle.op_core.specs.Ids.{Id, id_below, same_id, is_number}
 use Rattle.op_core.specs.Equal.{id_from_same}
 use Rattle.op_core.specs.Ops.{Operation}
 use Rattle.op_core.proofs.NextIds.{below_number}
 use Rattle.op_core.proofs.Union.{apart_below}
 use Rattle.op_core.specs.Sets.{get, rises}
 use Rattle.bundle_codec.specs.declared.summaries.range.NumberRange.{NumberRange}
-use Rattle.bundle_codec.specs.Summaries.{is_range, are_apart, has_number}
-use Rattle.bundle_codec.specs.SummaryMaking.{with_last, under, HoldsMore, AreRanges, AreUnder}
+use Rattle.bundle_codec.specs.Summaries.{is_range, has_number}
+use Rattle.bundle_codec.specs.SummaryMaking.{with_last, under, HoldsMore, AreUnder}
 use Rattle.bundle_codec.proofs.Lasts.{AllBelow, last_has, last_ranges}
 use Rattle.bundle_codec.proofs.SummaryReads.{range_bounds}
 use Rattle.bundle_codec.proofs.Covered.{lies_in, lies_yes, same_tied}
@@ -65,7 +63,7 @@ held_below (p ∷ done) o rest id h s = by (same_id id p.id) refl (and_parts (li
     by false e q on = on q.1 (sym (ap (λ b. is_some (cond b (Some p) (get done id))) e) ∙ s)
 
 -- of one name, the id below has the smaller number
-below_strict : (n : ℕ) (id : Id) → id_below (record { number = n; name = id.name }) id ≡ true → n < id.number
+pub below_strict : (n : ℕ) (id : Id) → id_below (record { number = n; name = id.name }) id ≡ true → n < id.number
 below_strict n id h = elim (cases_lt n id.number) [
   | inl lt ↦ lt
   | inr le ↦
@@ -74,7 +72,7 @@ below_strict n id h = elim (cases_lt n id.number) [
       absurd (true≢false (sym same ∙ apart_below (record { number = n; name = id.name }) id h))
 ]
 
-abbrev id_of : ℕ → List ℕ → Id
+abbrev pub id_of : ℕ → List ℕ → Id
 id_of n q = record { number = n; name = q }
 
 or_later : (a b : Bool) → b ≡ true → (a || b) ≡ true

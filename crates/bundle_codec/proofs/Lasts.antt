@@ -1,7 +1,7 @@
 -- Ranges with one number more, which is greater than theirs.
-use Rattle.std.proofs.Common.{◌≡◌, ◌≢◌, ℕ, zero, suc, ◌+◌, ◌<◌, ◌≤◌, Bool, true, false, cond, ◌&&◌, ◌||◌, eqb, leb, ltb, List, [], ◌∷◌, ◌++◌, length, get_or, slice_set, refl, sym, ap, subst, ◌∙◌, arith, inl, inr}
-use Rattle.std.specs.List.{list_all, list_any}
-use Rattle.std.proofs.lemmas.Bool.{and_parts, and_from, leb-true, ltb-true, le-leb, lt-ltb, eqb-true, eq-eqb, ne_eqb, eqb-false, true≢false, cases_lt}
+use Rattle.std.proofs.Common.{◌≡◌, ◌≢◌, ℕ, zero, suc, ◌+◌, ◌<◌, ◌≤◌, Bool, true, false, cond, ◌||◌, eqb, ltb, List, [], ◌∷◌, ◌++◌, length, get_or, slice_set, refl, sym, ap, ◌∙◌, arith, inl, inr}
+use Rattle.std.specs.List.{list_all}
+use Rattle.std.proofs.lemmas.Bool.{and_parts, and_from, ltb-true, le-leb, lt-ltb, eqb-true, eq-eqb, ne_eqb, eqb-false, true≢false, cases_lt}
 use Rattle.bundle_codec.specs.declared.summaries.range.NumberRange.{NumberRange}
 use Rattle.bundle_codec.specs.Summaries.{is_range, are_apart, has_number}
 use Rattle.bundle_codec.specs.SummaryMaking.{with_last, AreRanges}
@@ -11,7 +11,7 @@ use Rattle.bundle_codec.proofs.Covered.{lies_in, lies_yes, lies_not, lies_bounds
 pub range_from : (r : NumberRange) → 1 ≤ r.first → r.first ≤ r.last → r.last ≤ 1000000000000000 → is_range r ≡ true
 range_from r a b c = and_from _ _ (le-leb _ _ a) (and_from _ _ (le-leb _ _ b) (le-leb _ _ c))
 
-abbrev one_number : ℕ → NumberRange
+abbrev pub one_number : ℕ → NumberRange
 one_number n = record { first = n; last = n }
 
 abbrev longer_to : NumberRange → ℕ → NumberRange
@@ -91,7 +91,7 @@ module _ (n : ℕ) (low : 1 ≤ n) (high : n ≤ 1000000000000000) where
   or_assoc false b c = refl
 
   not_over : {m : ℕ} (k : ℕ) → k ≤ n → (k ≡ n → ⊥) → suc m ≡ n → k ≤ m
-  not_over {m = m} k le ne e = elim (cases_lt m k) [ | inl lt ↦ absurd (ne (omega (arith, le, lt, e))) | inr more ↦ more ]
+  not_over {m = m} k le ne e = elim (cases_lt m k) [ inl lt ↦ absurd (ne (omega (arith, le, lt, e))) | inr more ↦ more ]
 
   or_right : (b : Bool) → (b || false) ≡ b
   or_right true = refl

@@ -20,3 +20,4 @@ pub mod Holding
 pub mod SoFar
 pub mod Deltas
 pub mod OneSummary
+pub mod Told

@@ -1,19 +1,19 @@
 -- A set has one summary: two that cover the same ids are the same.
-use Rattle.std.proofs.Common.{◌≡◌, ◌≢◌, ℕ, suc, ◌+◌, ◌<◌, ◌≤◌, Bool, true, false, cond, ◌&&◌, ◌||◌, eqb, leb, ltb, List, [], ◌∷◌, refl, sym, ap, subst, ◌∙◌, arith, inl, inr}
+use Rattle.std.proofs.Common.{◌≡◌, ◌≢◌, ℕ, suc, ◌<◌, ◌≤◌, Bool, true, false, ◌&&◌, ◌||◌, ltb, List, [], ◌∷◌, refl, sym, ap, ◌∙◌, arith, inl, inr}
 use Rattle.std.specs.declared.cmp.Ordering.{Ordering}
 use Rattle.std.specs.declared.cmp.Ordering.TheVariants.{Less, Equal, Greater}
 use Rattle.std.specs.Ordering.{is_lt, is_eq}
-use Rattle.std.specs.List.{list_all, list_any, AllByRecursion}
-use Rattle.std.proofs.lemmas.Bool.{and_parts, and_from, ltb-true, lt-ltb, true≢false, cases_lt}
+use Rattle.std.specs.List.{list_all, AllByRecursion}
+use Rattle.std.proofs.lemmas.Bool.{and_parts, and_from, ltb-true, true≢false, cases_lt}
 use Rattle.usfm_ref.specs.Books.{same_bytes}
 use Rattle.usfm_ref.specs.Rising.{rises_by}
 use Rattle.usfm_ref.proofs.Orders.{same_bytes-is, same_bytes-refl}
-use Rattle.usfm_ref.proofs.Sorted.{is_less, back, above_trans}
+use Rattle.usfm_ref.proofs.Sorted.{back, above_trans}
 use Rattle.op_core.specs.Names.{name_cmp}
 use Rattle.op_core.specs.Ids.{Id}
 use Rattle.op_core.specs.Ops.{Operation}
 use Rattle.bundle_codec.specs.declared.summaries.range.NumberRange.{NumberRange}
-use Rattle.bundle_codec.specs.Summaries.{Known, IsKnown, IsSummary, IsSummaryOf, is_range, are_apart, has_number, covers}
+use Rattle.bundle_codec.specs.Summaries.{Known, IsKnown, IsSummaryOf, is_range, are_apart, has_number, covers}
 use Rattle.bundle_codec.proofs.SummaryReads.{range_bounds, name_total}
 use Rattle.bundle_codec.proofs.Covered.{lies_in, lies_yes, lies_bounds, lies_not, same_tied, above_covers_none}
 

@@ -1,9 +1,12 @@
 -- Laws of summaries and of what lies outside one.
-use Rattle.std.specs.Prelude.{◌≡◌, ◌<◌, ◌^◌, ℕ, List, [], length, None}
-use Rattle.op_core.specs.Ids.{Id}
+use Rattle.std.specs.Prelude.{◌≡◌, ◌<◌, ◌^◌, List, [], length, None}
 use Rattle.op_core.specs.Ops.{Operation}
 use Rattle.op_core.specs.Sets.{IsOpSet, join, clash}
-use Rattle.bundle_codec.specs.Summaries.{Known, IsSummary, IsSummaryOf, summary, outside}
+use Rattle.bundle_codec.specs.Summaries.{Known, IsSummary, IsSummaryOf, summary_of, summary, outside}
+
+-- the summary of a set covers exactly its ids, by ranges as long as can be
+abbrev pub SummaryCoversItsIds : Type 0
+SummaryCoversItsIds = (held : List Operation) → IsOpSet held → IsSummaryOf held (summary_of held)
 
 -- a set has one summary
 abbrev pub OneSummaryOfASet : Type 0

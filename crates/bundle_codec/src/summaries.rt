@@ -11,17 +11,16 @@ mod range;
 mod reading;
 mod writing;
 
-pub use outside::encode_outside;
-
 use crate::fault::SummaryFault;
 use making::{held_ranges, listed};
 use name_ranges::{NameRanges, find_name};
 use op_core::{OpId, OpSet};
+pub use outside::encode_outside;
 use range::has_number;
 use reading::summary_of;
 use std::alloc::{AllocError, Global};
 use std::marker::Model;
-use writing::{push_known, push_front};
+use writing::{push_front, push_known};
 
 /// Which ids a copy holds: names, rising by their bytes, each with ranges of numbers, of which no two
 /// touch.
@@ -95,6 +94,7 @@ impl Summary {
     /// Want of memory alone.
     pub fn of(alloc: Global, set: &OpSet) -> Result<Summary, AllocError>
         ensures exact { IfOk result (λ s. sums.IsSummaryOf set.now s) }
+        ensures value { IfOk result (λ s. s ≡ sums.summary_of set.now) }
     {
         let held = held_ranges(alloc, set)?;
         let names = listed(alloc, held)?;

@@ -1,8 +1,7 @@
 -- Receiving a delta for one's own summary.
-use Rattle.std.proofs.Common.{◌≡◌, Bool, true, false, cond, List, [], ◌∷◌, length, Ok, None, refl, sym, ap, ◌∙◌, filter, is_none}
+use Rattle.std.proofs.Common.{◌≡◌, Bool, true, false, cond, List, [], ◌∷◌, length, Ok, refl, sym, ap, ◌∙◌, filter, is_none}
 use Rattle.op_core.specs.Ops.{Operation}
 use Rattle.op_core.specs.Sets.{join, get}
-use Rattle.op_core.proofs.Fresh.{fresh}
 use Rattle.bundle_codec.specs.Summaries.{Known, IsSummaryOf, outside}
 use Rattle.bundle_codec.proofs.Deltas.{outside_fresh, outside_union}
 use Rattle.replica_state.specs.States.{State, IsState}

@@ -15,6 +15,18 @@ const S1: [u8; 60] =
 const FOURTH: [u8; 61] =
     *b"USFMSR1\n\0\0\0\0\0\0\0\x01\0\0\0\0\0\0\0\x04\x03anaMAT\0\x01\x01\0\x02\0\0\0\0\0\0\0\0\0\x01\0\0\0\0\0\0\0\x07\\v 2 b\n";
 
+const NO_NAMES: &[u8] = b"USFMSS1\n\0\0\0\0\0\0\0\0";
+
+const NO_OPERATION: &[u8] = b"USFMSR1\n\0\0\0\0\0\0\0\0";
+
+// ana, 1 to 5.
+const ONE_TO_FIVE: &[u8] =
+    b"USFMSS1\n\0\0\0\0\0\0\0\x01\x03ana\0\0\0\0\0\0\0\x01\0\0\0\0\0\0\0\x01\0\0\0\0\0\0\0\x05";
+
+// ana, 4 alone.
+const FOUR_ALONE: &[u8] =
+    b"USFMSS1\n\0\0\0\0\0\0\0\x01\x03ana\0\0\0\0\0\0\0\x01\0\0\0\0\0\0\0\x04\0\0\0\0\0\0\0\x04";
+
 fn begun(alloc: Global, name: &str) -> Result<Replica, Fail> {
     Ok(Replica::new(alloc, ReplicaName::read(name)?))
 }
@@ -36,19 +48,19 @@ fn fourth_of_five(rt: HostRuntime) -> Result<(), Fail> {
     let mut ana = begun(alloc, "ana")?;
     let s1 = Summary::read(alloc, &S1)?;
     let none = ana.summary(alloc)?.write(alloc)?;
-    assert_eq!(rt; none.as_slice(), b"USFMSS1\n\0\0\0\0\0\0\0\0");
+    assert_eq!(rt; none.as_slice(), NO_NAMES);
     let nothing = ana.delta(alloc, &s1)?;
-    assert_eq!(rt; nothing.as_slice(), b"USFMSR1\n\0\0\0\0\0\0\0\0");
+    assert_eq!(rt; nothing.as_slice(), NO_OPERATION);
     let added = ana.import("\\id MAT\n\\c 1\n\\v 1 a\n\\v 2 b\n\\v 3 c\n")?;
     assert_eq!(rt; added, 5);
     let delta = ana.delta(alloc, &s1)?;
     assert!(rt; delta.as_slice() == FOURTH.as_slice());
     let whole = ana.summary(alloc)?.write(alloc)?;
-    assert_eq!(rt; whole.as_slice(), b"USFMSS1\n\0\0\0\0\0\0\0\x01\x03ana\0\0\0\0\0\0\0\x01\0\0\0\0\0\0\0\x01\0\0\0\0\0\0\0\x05");
+    assert_eq!(rt; whole.as_slice(), ONE_TO_FIVE);
     let mut ben = begun(alloc, "ben")?;
     assert_eq!(rt; received(alloc, &mut ben, &FOURTH)?, 1);
     let one = ben.summary(alloc)?.write(alloc)?;
-    assert_eq!(rt; one.as_slice(), b"USFMSS1\n\0\0\0\0\0\0\0\x01\x03ana\0\0\0\0\0\0\0\x01\0\0\0\0\0\0\0\x04\0\0\0\0\0\0\0\x04");
+    assert_eq!(rt; one.as_slice(), FOUR_ALONE);
     Ok(())
 }
 

@@ -4,7 +4,7 @@ ghost use Rattle.op_core.specs.Lists as lists;
 ghost use Rattle.op_core.specs.Shown as texts;
 ghost use Rattle.bundle_codec.specs.Joining.{whole_at};
 ghost use Rattle.bundle_codec.specs.Spelling.{bundle};
-ghost use Rattle.bundle_codec.specs.Summaries.{IsSummaryOf, outside};
+ghost use Rattle.bundle_codec.specs.Summaries.{IsSummaryOf, summary_of, outside};
 ghost use Rattle.replica_state.specs.States.{IsState, begun};
 
 use bundle_codec::{Summary, encode, encode_after, encode_outside};
@@ -126,7 +126,8 @@ impl Replica {
     /// # Errors
     /// Want of memory alone.
     pub fn summary(&self, alloc: Global) -> Result<Summary, AllocError>
-        ensures { IfOk result (λ s. IsSummaryOf self.now.held s) }
+        ensures exact { IfOk result (λ s. IsSummaryOf self.now.held s) }
+        ensures value { IfOk result (λ s. s ≡ summary_of self.now.held) }
     {
         Summary::of(alloc, &self.set)
     }

@@ -1,6 +1,11 @@
 //! Laws of summaries, over the definitions alone. Each function does nothing: its contract is the law.
 ghost use Rattle.bundle_codec.specs.SummaryLaws as laws;
 
+/// The summary of a set covers exactly its ids, by ranges as long as can be.
+pub fn summary_covers_its_ids()
+    ensures { laws.SummaryCoversItsIds }
+{}
+
 /// A set has one summary.
 pub fn one_summary_of_a_set()
     ensures { laws.OneSummaryOfASet }

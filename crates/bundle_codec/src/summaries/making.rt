@@ -1,6 +1,7 @@
 // The summary of a set, made by one walk over its ids.
 ghost use Rattle.std.specs.Prelude.{◌≡◌, IfOk, OnOk};
 ghost use Rattle.std.specs.List.{AllByRecursion};
+ghost use Rattle.op_core.specs.Sets.{IsOpSet};
 ghost use Rattle.bundle_codec.specs.Summaries.{IsKnown};
 ghost use Rattle.bundle_codec.specs.SummaryMaking as making;
 
@@ -15,7 +16,8 @@ pub(crate) fn held_ranges(
     alloc: Global,
     set: &OpSet,
 ) -> Result<BTreeMap<ReplicaName, Vec<NumberRange>>, AllocError>
-    ensures { IfOk result (λ held. making.HoldsRanges set.now held) }
+    ensures ranges { IfOk result (λ held. making.HoldsRanges set.now held) }
+    ensures set { IsOpSet set.now }
 {
     let mut held = BTreeMap::new(alloc);
     for op in set.iter() {

@@ -68,10 +68,7 @@ fn ranges_of(
 
 // The name at the front, behind the one before it.
 #[tactic(auto, unfolding(crate::specs::SummaryReading::name_at))]
-fn name_of<'a>(
-    before: Option<&[u8]>,
-    bytes: &'a [u8],
-) -> Result<(&'a [u8], &'a [u8]), BundleFault>
+fn name_of<'a>(before: Option<&[u8]>, bytes: &'a [u8]) -> Result<(&'a [u8], &'a [u8]), BundleFault>
     ensures { Gives (λ x. (x.0.now, x.1.now)) result (reading.name_at (option_copied before.entry) bytes.now) }
 {
     let (len, rest) = u8_at(bytes)?;

@@ -14,14 +14,14 @@ returns-in_err-range-clause-rest c =
 
 pub loop-preserved : goal.loop-preserved
 loop-preserved c = (
-    goes_on range_at after_range c.args.count c.loop.counter c.loop.before c.loop.rest.now c.in_ok-range.range c.in_ok-range.left.now (after (ranges_at c.args.count c.args.bytes.now)) c.loop-test.true c.in_ok-range.ensures c.loop.invariant.0,
-    kept_more
-        (λ (v : Vec NumberRange Global). ranges_at c.args.count c.args.bytes.now ≡ behind v.items (many_at range_at after_range (c.args.count - c.loop.counter) c.loop.before c.loop.rest.now))
-        (λ (v : Vec NumberRange Global). ranges_at c.args.count c.args.bytes.now ≡ behind v.items (many_at range_at after_range (c.args.count - (c.loop.counter + 1)) (Some c.in_ok-range.range.last) c.in_ok-range.left.now))
-        (λ (old : Vec NumberRange Global) (new : Vec NumberRange Global). new.items ≡ old.items ++ c.in_ok-range.range ∷ [])
-        c.loop.kept c.with_range-kept.result
-        (λ old new p r. kept_on range_at after_range c.args.count c.loop.counter c.loop.before c.loop.rest.now c.in_ok-range.range c.in_ok-range.left.now old.items new.items (ranges_at c.args.count c.args.bytes.now) c.loop-test.true c.in_ok-range.ensures r p)
-        c.loop.invariant.1 c.with_range-kept.ensures,
+  goes_on range_at after_range c.args.count c.loop.counter c.loop.before c.loop.rest.now c.in_ok-range.range c.in_ok-range.left.now (after (ranges_at c.args.count c.args.bytes.now)) c.loop-test.true c.in_ok-range.ensures c.loop.invariant.0,
+  kept_more
+      (λ (v : Vec NumberRange Global). ranges_at c.args.count c.args.bytes.now ≡ behind v.items (many_at range_at after_range (c.args.count - c.loop.counter) c.loop.before c.loop.rest.now))
+      (λ (v : Vec NumberRange Global). ranges_at c.args.count c.args.bytes.now ≡ behind v.items (many_at range_at after_range (c.args.count - (c.loop.counter + 1)) (Some c.in_ok-range.range.last) c.in_ok-range.left.now))
+      (λ (old : Vec NumberRange Global) (new : Vec NumberRange Global). new.items ≡ old.items ++ c.in_ok-range.range ∷ [])
+      c.loop.kept c.with_range-kept.result
+      (λ old new p r. kept_on range_at after_range c.args.count c.loop.counter c.loop.before c.loop.rest.now c.in_ok-range.range c.in_ok-range.left.now old.items new.items (ranges_at c.args.count c.args.bytes.now) c.loop-test.true c.in_ok-range.ensures r p)
+      c.loop.invariant.1 c.with_range-kept.ensures,
 )
 
 pub returns-clause-rest : goal.returns-clause-rest
