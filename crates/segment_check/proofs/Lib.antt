@@ -6,3 +6,4 @@ pub mod Openings
 pub mod Pieces
 pub mod FoundLaw
 pub mod FindingLaws
+pub mod DepthLaw

@@ -1,7 +1,10 @@
 -- What holds of the findings in all texts, by whatever records.
-use Rattle.std.specs.Prelude.{◌≡◌, ℕ, ◌<◌, ◌≤◌, List, ◌∷◌, ◌++◌, length, map}
+use Rattle.std.specs.Prelude.{◌≡◌, ℕ, ◌<◌, ◌≤◌, List, ◌∷◌, ◌++◌, length, map, Option, None, true}
 use Rattle.std.specs.List.{All, AllPairs}
-use Rattle.usfm_token.specs.Tokens.{Lexeme, joined, tokens_of}
+use Rattle.usfm_token.specs.Tokens.{Lexeme, mark, joined, tokens_of}
+use Rattle.usfm_tree.specs.Reading.{role, most_open}
+use Rattle.usfm_tree.specs.SheetViews.{styles_in}
+use Rattle.segment_check.specs.TreeConditions.{begins_node}
 use Rattle.sty_sheet.specs.Records.{Record}
 use Rattle.segment_check.specs.Findings.{findings, spots_of}
 use Rattle.segment_check.specs.Reading.{found_in}
@@ -49,3 +52,7 @@ pub record IsTokenStart (s : List ℕ) (at : ℕ) : Type 0 where
 -- each finding starts where a token does
 abbrev pub StartsAreTokens : Type 0
 StartsAreTokens = (sheet : List Record) (s : List ℕ) → All (λ f. IsTokenStart s f.start) (findings sheet s)
+
+-- Each leaf of a tree whose mark begins a node stands within as many nodes as may stand one in the other: it was left out for depth.
+abbrev pub LeavesAreTooDeep : Type 0
+LeavesAreTooDeep = (sheet : List Record) (s : List ℕ) → All (λ x. x.node ≡ None → begins_node (role (styles_in sheet) (mark x.mark)) ≡ true → most_open ≤ length x.around) (spots_of sheet s)

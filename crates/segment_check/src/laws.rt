@@ -1,7 +1,7 @@
 //! What holds of the findings in all texts, by whatever style sheet. Each function does nothing: its
 //! contract is the law.
 
-ghost use Rattle.segment_check.specs.Laws.{CodesRise, FindingsAreRead, NoTwoAlike, StartsAreTokens, StartsNeverFall};
+ghost use Rattle.segment_check.specs.Laws.{CodesRise, FindingsAreRead, LeavesAreTooDeep, NoTwoAlike, StartsAreTokens, StartsNeverFall};
 
 /// The reading of the marks from the left, with what the tree tells of them, gives the findings.
 pub fn findings_are_read()
@@ -26,4 +26,9 @@ pub fn no_two_alike()
 /// Each finding starts where a token of the text does.
 pub fn starts_are_tokens()
     ensures { StartsAreTokens }
+{}
+
+/// Each leaf whose mark begins a node stands within 64 nodes: it was left out for its depth alone.
+pub fn leaves_are_too_deep()
+    ensures { LeavesAreTooDeep }
 {}
