@@ -1,0 +1,8 @@
+-- What an iterator over passages with their keys has left.
+use Rattle.std.specs.Prelude.{List, map}
+use Rattle.concordance.specs.Hits.{HitParts, keyed}
+use Rattle.concordance.specs.Views.{passages_view, pieces_left}
+use Rattle.concordance.specs.declared.keyed.Keyed.{Keyed}
+
+abbrev pub hits_left : Keyed → List HitParts
+hits_left k = map (keyed (pieces_left k.places)) (passages_view k.passages.now)

@@ -1,0 +1,98 @@
+-- The plain leaves as one reading of the tree, from the left, and what is left of the pieces on the way.
+use Rattle.std.specs.Prelude.{◌≡◌, ℕ, suc, ◌+◌, ◌^◌, ◌<◌, Bool, true, ◌==◌, nat_le, nat_lt, not, ◌&&◌, ◌||◌, List, [], ◌∷◌, ◌++◌, length, drop, Option, None, Some, is_some, if◌then◌else◌}
+use Rattle.std.specs.List.{list_any}
+use Rattle.sty_sheet.specs.Records.{Record}
+use Rattle.usfm_token.specs.Tokens.{MarkParts}
+use Rattle.usfm_tree.specs.Forest.{Forest, nothing, text, leaf, node, start_of, slice_here, kids_of, close_of}
+use Rattle.verse_cut.specs.Pieces.{Part, pieces_joined}
+use Rattle.concordance.specs.Passages.{Passage}
+use Rattle.concordance.specs.declared.plain.Shape.{Shape}
+use Rattle.concordance.specs.declared.plain.Shape.TheVariants as shapes
+use Rattle.concordance.specs.declared.plain.Surroundings.{Surroundings}
+use Rattle.concordance.specs.Plain.{Around, is_verse_text, is_aside, is_character_kind, in_closed_character, is_nothing, node_end, mark_at_end, number_length, without_attributes}
+
+-- what the nodes around a text say of it
+abbrev pub inside_of : List Record → List Around → Surroundings
+inside_of sheet around = record {
+  in_verse_text = list_any (is_verse_text sheet) around;
+  in_aside = list_any is_aside around;
+  in_closed = in_closed_character around;
+}
+
+-- and with one more around it
+abbrev pub within : List Record → Surroundings → Around → Surroundings
+within sheet i a = record {
+  in_verse_text = is_verse_text sheet a || i.in_verse_text;
+  in_aside = is_aside a || i.in_aside;
+  in_closed = is_character_kind a.kind && a.is_closed;
+}
+
+-- what is left of a text
+abbrev pub left_of : Surroundings → Option MarkParts → Bool → ℕ → List ℕ → Passage
+left_of i behind is_last start bytes =
+    let n = number_length behind bytes in
+    record { start = start + n; text = without_attributes (is_last && i.in_closed) (drop n bytes) }
+
+abbrev pub counts : Surroundings → Bool
+counts i = i.in_verse_text && not i.in_aside
+
+-- a text that counts, before the leaves after it
+abbrev pub with_text : Surroundings → Option MarkParts → Bool → ℕ → List ℕ → List Passage → List Passage
+with_text i behind is_last start bytes later = if counts i then left_of i behind is_last start bytes ∷ later else later
+
+-- the plain leaves of entries
+abbrev pub leaves_from : List Record → Surroundings → Option MarkParts → Forest → List Passage
+leaves_from sheet i behind nothing = []
+leaves_from sheet i behind (text s t f) = with_text i behind (is_nothing f) s t (leaves_from sheet i None f)
+leaves_from sheet i behind (leaf s m f) = leaves_from sheet i (Some m) f
+leaves_from sheet i behind (node k s b m ks c f) =
+    leaves_from sheet (within sheet i (record { kind = k; mark = m; is_closed = is_some c })) (Some m) ks
+    ++ leaves_from sheet i (node_end (mark_at_end (Some m) ks) c) f
+
+-- each text ends at a place that fits
+abbrev pub TextsFit : Forest → Type 0
+TextsFit nothing = Unit {0}
+TextsFit (text s t f) = (s + length t < 2 ^ 64) × TextsFit f
+TextsFit (leaf s m f) = TextsFit f
+TextsFit (node k s b m ks c f) = TextsFit ks × TextsFit f
+
+-- how many entries there are, with those inside others
+abbrev pub entry_count : Forest → ℕ
+entry_count nothing = 0
+entry_count (text s t f) = suc (entry_count f)
+entry_count (leaf s m f) = suc (entry_count f)
+entry_count (node k s b m ks c f) = suc (entry_count ks + entry_count f)
+
+-- a single entry is a text, a leaf, or a node of a kind
+abbrev pub HasShape : Shape → Forest → Type 0
+HasShape shapes.Text f = f ≡ text (start_of f) (slice_here f) nothing
+HasShape shapes.Leaf f = (m : MarkParts) × (f ≡ leaf (start_of f) m nothing)
+HasShape (shapes.Branch kind) f = (m : MarkParts) × (f ≡ node kind (start_of f) (slice_here f) m (kids_of f) (close_of f) nothing)
+
+-- ---- pieces
+
+-- where pieces begin, and where they end
+abbrev pub begin_of : List Part → ℕ
+begin_of [] = 0
+begin_of (p ∷ ps) = p.start
+
+abbrev pub end_of : List Part → ℕ
+end_of ps = begin_of ps + length (pieces_joined ps)
+
+-- each piece begins where the one before it ends, the first at a place
+abbrev pub are_neighbours : ℕ → List Part → Bool
+are_neighbours at [] = true
+are_neighbours at (p ∷ ps) = (p.start == at) && are_neighbours (at + length p.text) ps
+
+-- places that rise from one on, and lie before another
+abbrev pub rise_between : ℕ → ℕ → List Passage → Bool
+rise_between low end [] = true
+rise_between low end (p ∷ ps) = nat_le low p.start && (nat_lt p.start end && rise_between p.start end ps)
+
+-- pieces reach from the first of some passages to behind the last
+abbrev pub hold_all : List Part → List Passage → Bool
+hold_all ps passages = are_neighbours (begin_of ps) ps && rise_between (begin_of ps) (end_of ps) passages
+
+-- a passage ends at a place that fits
+abbrev pub EndsWithin : Passage → Type 0
+EndsWithin p = p.start + length p.text < 2 ^ 64

@@ -1,0 +1,34 @@
+-- What a contract sees of leaves, hits and words.
+use Rattle.std.specs.Prelude.{List, map, Option}
+use Rattle.std.specs.Option.{option_map}
+use Rattle.usfm_token.specs.Tokens.{MarkParts}
+use Rattle.usfm_token.specs.View.{mark_parts}
+use Rattle.verse_cut.specs.Pieces.{Part}
+use Rattle.verse_cut.specs.Views.{parts_of}
+use Rattle.concordance.specs.Passages as passages
+use Rattle.concordance.specs.declared.places.Places.{Places}
+use Rattle.concordance.specs.declared.plain.Gathering.{Gathering}
+use Rattle.concordance.specs.Hits.{HitParts}
+use Rattle.concordance.specs.declared.passage.Passage.{Passage}
+use Rattle.concordance.specs.declared.hit.Hit.{Hit}
+
+abbrev pub passage_view : Passage → passages.Passage
+passage_view p = record { start = p.start; text = p.text.now }
+
+abbrev pub passages_view : List Passage → List passages.Passage
+passages_view ps = map passage_view ps
+
+-- the mark directly before what comes next
+abbrev pub mark_behind : Gathering → Option MarkParts
+mark_behind g = option_map mark_parts g.behind
+
+-- the pieces from the one on that holds the place last asked for
+abbrev pub pieces_left : Places → List Part
+pieces_left p = parts_of p.pieces.now
+
+-- a hit: its key, its start in the text, and its bytes
+abbrev pub hit_view : Hit → HitParts
+hit_view h = record { key = h.key; start = h.start; text = h.text.now }
+
+abbrev pub hits_view : List Hit → List HitParts
+hits_view hs = map hit_view hs
