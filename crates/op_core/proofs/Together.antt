@@ -3,7 +3,7 @@ use Rattle.std.proofs.Common.{◌≡◌, List, [], ◌∷◌, Ok, ◌⊎◌, inl
 use Rattle.std.specs.List.{AllByRecursion, Contains}
 use Rattle.op_core.specs.Ops.{Operation}
 use Rattle.op_core.specs.Sets.{IsOpSet}
-use Rattle.op_core.specs.Laws.{Joining, AreSets, IsInOne, SameOperations, union_by, IsAmong, SameTogether}
+use Rattle.op_core.specs.Laws.{Joining, AreSets, IsInOne, union_by, IsAmong, SameTogether}
 use Rattle.op_core.specs.Laws.Joining.{Part, Joined}
 use Rattle.op_core.proofs.Joinings.{same_unions}
 

@@ -1,11 +1,10 @@
 -- The walk that copies the operations of a bundle which a set lacks.
-use Rattle.std.proofs.Common.{◌≡◌, ◌≢◌, ℕ, Bool, true, false, not, cond, List, [], ◌∷◌, ◌++◌, length, Option, Some, None, Ok, is_none, refl, sym, ap, ◌∙◌}
+use Rattle.std.proofs.Common.{◌≡◌, ◌≢◌, ℕ, true, false, not, List, [], ◌∷◌, ◌++◌, length, Option, Some, None, Ok, refl, sym, ap, ◌∙◌}
 use Rattle.std.specs.List.{find}
 use Rattle.std.specs.Option.{option_map}
 use Rattle.std.proofs.lemmas.Bool.{cond-true}
 use Rattle.op_core.specs.Ops.{Operation, same_op}
 use Rattle.op_core.specs.Sets.{IsOpSet, get, differs, clash, join, AreHeld}
-use Rattle.op_core.specs.Equal.{same_op-refl}
 use Rattle.op_core.proofs.Fresh.{join_fresh, nothing_fresh, held_without_clash}
 use Rattle.replica_state.specs.declared.fault.ReceiveFault.{ReceiveFault}
 use Rattle.replica_state.specs.declared.fault.ReceiveFault.TheVariants.{Memory, Clash}

@@ -1,5 +1,5 @@
 -- The order of findings, and where they start.
-use Rattle.std.proofs.Common.{◌≡◌, ℕ, zero, suc, ◌+◌, ◌<◌, ◌≤◌, Bool, true, false, List, [], ◌∷◌, ◌++◌, length, map, ◌⊎◌, ⊎_elim, inl, inr, sym, refl, ap, ◌∙◌, subst, arith, append_assoc, length-append}
+use Rattle.std.proofs.Common.{◌≡◌, ℕ, zero, suc, ◌+◌, ◌<◌, ◌≤◌, Bool, true, List, [], ◌∷◌, ◌++◌, length, map, ◌⊎◌, ⊎_elim, inl, inr, sym, refl, ap, ◌∙◌, subst, arith, append_assoc, length-append}
 use Rattle.std.specs.Prelude.{filter, nat_lt, ◌&&◌}
 use Rattle.std.specs.List.{All, AllPairs, flat_map, list_all}
 use Rattle.std.proofs.lemmas.Bool.{and_parts}
@@ -8,7 +8,6 @@ use Rattle.std.proofs.lemmas.List.Elements.{All-nil, All-head, All-tail, All-app
 use Rattle.std.proofs.lemmas.List.Kept.{AllPairs-filter}
 use Rattle.std.proofs.lemmas.List.Sums.{AllPass-from_list_all}
 use Rattle.sty_sheet.specs.Records.{Record}
-use Rattle.usfm_ref.specs.Keys.{KeyParts}
 use Rattle.usfm_token.specs.Tokens.{Lexeme, mark, words, mark_bytes, slice_of, joined, tokens_of, AreLexemes}
 use Rattle.usfm_token.proofs.Walk.{each-tokens_of, first_not_empty}
 use Rattle.verse_cut.specs.Keys.{text_after}

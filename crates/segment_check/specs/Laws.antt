@@ -1,5 +1,5 @@
 -- What holds of the findings in all texts, by whatever records.
-use Rattle.std.specs.Prelude.{◌≡◌, ℕ, ◌<◌, ◌≤◌, List, ◌∷◌, ◌++◌, length, map, Option, None, true}
+use Rattle.std.specs.Prelude.{◌≡◌, ℕ, ◌<◌, ◌≤◌, List, ◌∷◌, ◌++◌, length, map, None, true}
 use Rattle.std.specs.List.{All, AllPairs}
 use Rattle.usfm_token.specs.Tokens.{Lexeme, mark, joined, tokens_of}
 use Rattle.usfm_tree.specs.Reading.{role, most_open}

@@ -5,3 +5,4 @@ pub mod StreamLemmas
 pub mod BooksCutBack
 pub mod ReadTheSame
 pub mod Running
+pub mod Searched

@@ -1,5 +1,5 @@
 -- What a command does to a replica, and what it answers (this project's own rule, over the steps of a replica).
-use Rattle.std.specs.Prelude.{◌≡◌, ℕ, List, [], ◌∷◌, ◌++◌, length, codes, Result, Ok, Err, Vec, Bool, true, false, IsTrue, if◌then◌else◌}
+use Rattle.std.specs.Prelude.{◌≡◌, ℕ, List, [], ◌∷◌, ◌++◌, length, codes, Option, None, Some, Result, Ok, Err, Vec, Bool, true, false, IsTrue, if◌then◌else◌}
 use Rattle.std.specs.Fmt.{decimal}
 use Rattle.std.specs.List.{flat_map}
 use Rattle.std.specs.Str.{is_utf8}
@@ -15,12 +15,15 @@ use Rattle.bundle_codec.specs.Joining.{whole_at}
 use Rattle.replica_state.specs.States.{State}
 use Rattle.replica_state.specs.Steps as steps
 use Rattle.replica_state.specs.Steps.{Step, Reply, Received, Edited, Imported, step}
+use Rattle.bundle_codec.specs.Summaries.{Known, summary, summary_of, outside}
+use Rattle.bundle_codec.specs.SummaryReading.{read_summary}
 use Rattle.conflict_report.specs.Reports.{report}
 use Rattle.usfm_cli.specs.Faults.{of_receiving, of_edit, of_import, of_whole}
+use Rattle.usfm_cli.specs.Looking.{checked, searched, is_after_sheet}
 use Rattle.usfm_cli.specs.declared.command.Command.{Command}
-use Rattle.usfm_cli.specs.declared.command.Command.TheVariants.{Import, Edit, EditOver, Receive, Shown, Send, Export, Report}
+use Rattle.usfm_cli.specs.declared.command.Command.TheVariants.{Import, Edit, EditOver, Receive, Shown, Send, Export, Summary, Delta, Report, Check, Find}
 use Rattle.usfm_cli.specs.declared.fault.Fault.{Fault}
-use Rattle.usfm_cli.specs.declared.fault.Fault.TheVariants.{Memory, NotText, NoBook, Clash, NumbersUsedUp}
+use Rattle.usfm_cli.specs.declared.fault.Fault.TheVariants.{Memory, NotText, NoBook, BadSummary, Clash, NumbersUsedUp}
 
 -- the replica after a command, and what the command writes
 pub record Done : Type 0 where
@@ -83,6 +86,11 @@ shown_text held g = flat_map shown_line (shown held g)
 abbrev pub export_text : List Operation → List ℕ → Result (List ℕ) Fault
 export_text held book = if has_book held book then Ok (export held book) else Err NoBook
 
+-- the bundle of what lies outside a summary, or that there is no summary
+abbrev pub delta_for : List Operation → Option (List Known) → Result (List ℕ) Fault
+delta_for held (Some known) = Ok (bundle (outside known held))
+delta_for held None = Err BadSummary
+
 -- What a command does to a replica, or why it is refused. From `Shown` on they leave it as it is.
 abbrev pub outcome : State → Command → Result Done Fault
 outcome s (Import file) = import_done s file.now
@@ -92,7 +100,11 @@ outcome s (Receive bytes) = with_bundle s (whole_at bytes.now)
 outcome s (Shown book key) = done_if s (Ok (shown_text s.held (segment book key)))
 outcome s Send = done_if s (Ok (bundle s.held))
 outcome s (Export book) = done_if s (export_text s.held book)
+outcome s Summary = done_if s (Ok (summary (summary_of s.held)))
+outcome s (Delta bytes) = done_if s (delta_for s.held (read_summary bytes.now))
 outcome s Report = done_if s (Ok (report s.held))
+outcome s (Check book sheet) = done_if s (checked s.held book sheet.now)
+outcome s (Find book sheet needle) = done_if s (searched s.held book sheet.now needle.now)
 
 -- whether a command only tells, and changes no replica
 abbrev pub only_tells : Command → Bool
@@ -103,7 +115,11 @@ only_tells (Receive bytes) = false
 only_tells (Shown book key) = true
 only_tells Send = true
 only_tells (Export book) = true
+only_tells Summary = true
+only_tells (Delta summary) = true
 only_tells Report = true
+only_tells (Check book sheet) = true
+only_tells (Find book sheet needle) = true
 
 -- ---- refusals, and want of memory
 
@@ -119,7 +135,8 @@ is_numbers_used_up NumbersUsedUp = true
 is_numbers_used_up fault = false
 
 -- The refusals of a command that are found only with memory: a clash, since what a bundle brings is copied before all of it was
--- looked at, and that an import has no number left, since its edits are counted from its pieces.
+-- looked at; that an import has no number left, since its edits are counted from its pieces; and what comes after a sheet was
+-- read, a faulty line too.
 abbrev pub is_late : Command → Fault → Bool
 is_late (Import file) = is_numbers_used_up
 is_late (Edit book key text) = no_fault
@@ -128,12 +145,22 @@ is_late (Receive bytes) = is_clash
 is_late (Shown book key) = no_fault
 is_late Send = no_fault
 is_late (Export book) = no_fault
+is_late Summary = no_fault
+is_late (Delta summary) = no_fault
 is_late Report = no_fault
+is_late (Check book sheet) = is_after_sheet
+is_late (Find book sheet needle) = is_after_sheet
 
 -- memory may be wanted where nothing is refused, or what is refused is found so late
-abbrev pub MayWantMemory : (Fault → Bool) → Result Done Fault → Type 0
-MayWantMemory late (Ok d) = Unit {0}
+abbrev pub MayWantMemory : {T : Type 0} → (Fault → Bool) → Result T Fault → Type 0
+MayWantMemory late (Ok x) = Unit {0}
 MayWantMemory late (Err fault) = IsTrue (late fault)
+
+-- What is answered of what a command that only tells is to write: it, or the refusal; or that memory was wanted, where it may be.
+abbrev pub Gives : {A : Type 0} → (Fault → Bool) → Result (List ℕ) Fault → Result (Vec ℕ A) Fault → Type 0
+Gives late wanted (Ok output) = wanted ≡ Ok output.items
+Gives late wanted (Err Memory) = MayWantMemory late wanted
+Gives late wanted (Err fault) = wanted ≡ Err fault
 
 -- What is answered of what is wanted, where the replica is then so: what is written, or the refusal; or that memory was
 -- wanted, where it may be.

@@ -4,6 +4,12 @@ use Rattle.usfm_token.specs.declared.fault.TokenFault.{TokenFault}
 use Rattle.usfm_token.specs.declared.fault.TokenFault.TheVariants as token
 use Rattle.verse_cut.specs.declared.fault.BookFault.{BookFault}
 use Rattle.verse_cut.specs.declared.fault.BookFault.TheVariants as opening
+use Rattle.sty_sheet.specs.declared.fault.SheetFault.{SheetFault}
+use Rattle.sty_sheet.specs.declared.fault.SheetFault.TheVariants as sheet
+use Rattle.concordance.specs.declared.fault.FindFault.{FindFault}
+use Rattle.concordance.specs.declared.fault.FindFault.TheVariants as finding
+use Rattle.bundle_codec.specs.declared.fault.SummaryFault.{SummaryFault}
+use Rattle.bundle_codec.specs.declared.fault.SummaryFault.TheVariants as summing
 use Rattle.bundle_codec.specs.declared.fault.WholeFault.{WholeFault}
 use Rattle.bundle_codec.specs.declared.fault.WholeFault.TheVariants as whole
 use Rattle.replica_state.specs.declared.fault.ReceiveFault.{ReceiveFault}
@@ -24,7 +30,7 @@ use Rattle.project_file.specs.declared.fault.LoadFault.TheVariants as loading
 use Rattle.usfm_cli.specs.declared.reading.ReadFault.{ReadFault}
 use Rattle.usfm_cli.specs.declared.reading.ReadFault.TheVariants as reading
 use Rattle.usfm_cli.specs.declared.fault.Fault.{Fault}
-use Rattle.usfm_cli.specs.declared.fault.Fault.TheVariants.{Memory, NotText, Reference, NoId, Naming, Clash, Bundle, Trailing, BadSegment, NumbersUsedUp, NoBook, NotShown, WriteFailed, BadProject, ReadFailed, TooLong}
+use Rattle.usfm_cli.specs.declared.fault.Fault.TheVariants.{Memory, NotText, Reference, NoId, FieldBeforeMarker, EmptyMarker, BadStyleType, Naming, Clash, Bundle, Trailing, BadSummary, BadSegment, NumbersUsedUp, NoBook, NotShown, WriteFailed, EmptyNeedle, BadProject, ReadFailed, TooLong}
 
 abbrev pub of_text : TokenFault → Fault
 of_text (token.NotUtf8 valid) = NotText valid
@@ -52,6 +58,20 @@ abbrev pub of_import : ImportFault → Fault
 of_import importing.Memory = Memory
 of_import (importing.BadFile fault) = of_book fault
 of_import importing.NumbersUsedUp = NumbersUsedUp
+
+abbrev pub of_sheet : SheetFault → Fault
+of_sheet sheet.Memory = Memory
+of_sheet (sheet.FieldBeforeMarker line) = FieldBeforeMarker line
+of_sheet (sheet.EmptyMarker line) = EmptyMarker line
+of_sheet (sheet.BadStyleType line) = BadStyleType line
+
+abbrev pub of_summary : SummaryFault → Fault
+of_summary summing.Memory = Memory
+of_summary summing.BadSummary = BadSummary
+
+abbrev pub of_find : FindFault → Fault
+of_find finding.Memory = Memory
+of_find finding.EmptyNeedle = EmptyNeedle
 
 abbrev pub of_export : ExportFault → Fault
 of_export writing.NoBook = NoBook

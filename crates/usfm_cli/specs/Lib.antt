@@ -1,6 +1,7 @@
 pub mod Reading
 pub mod Faults
 pub mod Lines
+pub mod Looking
 pub mod Commands
 pub mod Executing
 pub mod ExecLaws

@@ -8,7 +8,7 @@ use Rattle.op_core.specs.declared.fault.IdFault.TheVariants.{BadName, BadOpId}
 use Rattle.bundle_codec.specs.declared.fault.BundleFault.{BundleFault}
 use Rattle.bundle_codec.specs.declared.fault.BundleFault.TheVariants.{Magic, Truncated, NotRising, BadId, BadKey, BadReplaced, BadTag, NotUtf8, BadText}
 use Rattle.usfm_cli.specs.declared.fault.Fault.{Fault}
-use Rattle.usfm_cli.specs.declared.fault.Fault.TheVariants.{Memory, NotText, Reference, NoId, Naming, Clash, Bundle, Trailing, BadSegment, NumbersUsedUp, NoBook, NotShown, WriteFailed, BadProject, ReadFailed, TooLong, FileFailed}
+use Rattle.usfm_cli.specs.declared.fault.Fault.TheVariants.{Memory, NotText, Reference, NoId, FieldBeforeMarker, EmptyMarker, BadStyleType, Naming, Clash, Bundle, Trailing, BadSummary, BadSegment, NumbersUsedUp, NoBook, NotShown, WriteFailed, EmptyNeedle, BadProject, ReadFailed, TooLong, FileFailed}
 
 abbrev pub bundle_number : BundleFault → ℕ
 bundle_number Magic = 60
@@ -39,24 +39,32 @@ fault_number (NotText valid) = 10
 fault_number (Reference BadBook) = 20
 fault_number (Reference BadRef) = 21
 fault_number NoId = 30
+fault_number (FieldBeforeMarker line) = 40
+fault_number (EmptyMarker line) = 41
+fault_number (BadStyleType line) = 42
 fault_number (Naming BadName) = 50
 fault_number (Clash id) = 51
 fault_number (Naming BadOpId) = 52
 fault_number (Bundle fault) = bundle_number fault
 fault_number Trailing = 70
+fault_number BadSummary = 71
 fault_number BadSegment = 80
 fault_number NumbersUsedUp = 81
 fault_number NoBook = 82
 fault_number (NotShown id) = 83
 fault_number (WriteFailed gone) = 90
+fault_number EmptyNeedle = 100
 fault_number BadProject = 110
 fault_number ReadFailed = 120
 fault_number TooLong = 121
 fault_number FileFailed = 130
 
--- an id by its number and its name, a count of bytes and the place of an operation in decimal
+-- an id by its number and its name, a count of bytes, a line and the place of an operation in decimal
 abbrev pub fault_details : Fault → List (List ℕ)
 fault_details (NotText valid) = decimal valid ∷ []
+fault_details (FieldBeforeMarker line) = decimal line ∷ []
+fault_details (EmptyMarker line) = decimal line ∷ []
+fault_details (BadStyleType line) = decimal line ∷ []
 fault_details (Clash id) = decimal id.number ∷ id.name ∷ []
 fault_details (NotShown id) = decimal id.number ∷ id.name ∷ []
 fault_details (Bundle fault) = bundle_details fault

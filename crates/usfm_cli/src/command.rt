@@ -32,8 +32,16 @@ pub enum Command<'a> {
     Send,
     /// Gives the text of a book.
     Export(Book),
+    /// Gives the summary of the operations that are held.
+    Summary,
+    /// Gives the bundle of the operations that lie outside a summary: what another copy lacks.
+    Delta(&'a [u8]),
     /// Tells the conflicts, and the operations that are awaited.
     Report,
+    /// Tells what is found in a book by a style sheet: for each finding `REF CODE START`.
+    Check(Book, &'a [u8]),
+    /// Finds a needle in a book by a style sheet: for each hit `REF START`.
+    Find(Book, &'a [u8], &'a str),
 }
 
 impl Command<'_> {
@@ -46,7 +54,14 @@ impl Command<'_> {
             | Command::Edit { .. }
             | Command::EditOver { .. }
             | Command::Receive(_) => false,
-            Command::Shown(_, _) | Command::Send | Command::Export(_) | Command::Report => true,
+            Command::Shown(_, _)
+            | Command::Send
+            | Command::Export(_)
+            | Command::Summary
+            | Command::Delta(_)
+            | Command::Report
+            | Command::Check(_, _)
+            | Command::Find(_, _, _) => true,
         }
     }
 }

@@ -6,11 +6,13 @@ ghost use Rattle.std.specs.Str.{is_utf8};
 ghost use Rattle.std.specs.Str.Lossy.{utf8_valid_len};
 ghost use Rattle.usfm_ref.specs.Segments.{segment};
 ghost use Rattle.bundle_codec.specs.Joining.{whole_at};
+ghost use Rattle.bundle_codec.specs.SummaryReading.{read_summary};
 ghost use Rattle.usfm_cli.specs.Commands as commands;
 
 use crate::command::Command;
 use crate::fault::Fault;
-use bundle_codec::decode_whole;
+use crate::looking::{check, find};
+use bundle_codec::{Summary, decode_whole};
 use conflict_report::report_text;
 use op_core::{Op, OpId};
 use replica_state::Replica;
@@ -41,7 +43,11 @@ pub(crate) fn obey(
         Command::Shown(book, key) => Ok(shown_lines(alloc, replica, book, key)?),
         Command::Send => Ok(replica.bundle(alloc)?),
         Command::Export(book) => Ok(book_text(alloc, replica, book)?),
+        Command::Summary => Ok(replica.summary(alloc)?.write(alloc)?),
+        Command::Delta(summary) => delta(alloc, replica, summary),
         Command::Report => Ok(report_text(alloc, replica)?),
+        Command::Check(book, sheet) => check(alloc, replica, book, sheet),
+        Command::Find(book, sheet, needle) => find(alloc, replica, book, sheet, needle),
     }
 }
 
@@ -95,6 +101,15 @@ fn receive(alloc: Global, replica: &mut Replica, bytes: &[u8]) -> Result<Vec<u8>
     Ok(count_line(alloc, "new", new)?)
 }
 
+// The bundle of what lies outside a summary.
+fn delta(alloc: Global, replica: &Replica, summary: &[u8]) -> Result<Vec<u8>, Fault>
+    ensures { commands.Gives commands.no_fault
+        (commands.delta_for replica.now.held (read_summary summary.now)) result }
+{
+    let summary = Summary::read(alloc, summary)?;
+    Ok(replica.delta(alloc, &summary)?)
+}
+
 // What a segment shows, operation by operation.
 fn shown_lines(
     alloc: Global,
@@ -141,7 +156,7 @@ fn made_line(alloc: Global, id: &OpId) -> Result<Vec<u8>, AllocError>
 }
 
 // The bytes as text.
-fn text_in(bytes: &[u8]) -> Result<&str, Fault>
+pub(crate) fn text_in(bytes: &[u8]) -> Result<&str, Fault>
     ensures ok { IfOk result (λ text. (is_utf8 bytes.now ≡ true) × (text.now ≡ bytes.now)) }
     ensures refused { IfErr result (λ fault.
         (is_utf8 bytes.now ≡ false) × (fault ≡ Fault.NotText (utf8_valid_len bytes.now))) }

@@ -3,11 +3,13 @@ ghost use Rattle.usfm_cli.specs.Faults as faults;
 ghost use Rattle.usfm_cli.specs.declared.fault.Fault.TheVariants.{Memory, Reference, Naming, Bundle, WriteFailed};
 
 use crate::ReadFault;
-use bundle_codec::{BundleFault, WholeFault};
+use bundle_codec::{BundleFault, SummaryFault, WholeFault};
+use concordance::FindFault;
 use op_core::{IdFault, OpId};
 use project_file::{CreateFault, LoadFault};
 use replica_state::{EditFault, ImportFault, ReceiveFault};
 use std::alloc::AllocError;
+use sty_sheet::SheetFault;
 use thiserror::Error;
 use usfm_export::{ExportFault, TextFault, WriteFault};
 use usfm_ref::RefFault;
@@ -30,6 +32,15 @@ pub enum Fault {
     /// 30: a file that does not begin with at most one U+FEFF, `\id` and a blank.
     #[error("the file does not begin with \\id and a blank")]
     NoId,
+    /// 40: a style sheet has a field before its first marker, in this line, counted from 1.
+    #[error("line {line}: a field before the first marker")]
+    FieldBeforeMarker { line: usize },
+    /// 41: a style sheet has a marker without a name in this line.
+    #[error("line {line}: a marker without a name")]
+    EmptyMarker { line: usize },
+    /// 42: a style sheet has an unknown style type in this line.
+    #[error("line {line}: an unknown style type")]
+    BadStyleType { line: usize },
     /// 50 and 52: a text that is no replica's name, or no operation's id.
     #[error("{0}")]
     Naming(IdFault),
@@ -42,6 +53,9 @@ pub enum Fault {
     /// 70: something follows a bundle.
     #[error("something follows the bundle")]
     Trailing,
+    /// 71: bytes that are no summary.
+    #[error("not a summary")]
+    BadSummary,
     /// 80: a text that does not fit its book and key.
     #[error("the text does not fit its book and key")]
     BadSegment,
@@ -57,6 +71,9 @@ pub enum Fault {
     /// 90: the writer failed after it had taken so many bytes.
     #[error("the writer failed after {gone} bytes")]
     WriteFailed { gone: u64 },
+    /// 100: the needle is empty.
+    #[error("the needle is empty")]
+    EmptyNeedle,
     /// 110: bytes that do not begin as a project does, with its name.
     #[error("not a project")]
     BadProject,
@@ -233,5 +250,40 @@ impl From<WriteFault> for Fault {
 
     fn from(fault: WriteFault) -> Self {
         Fault::WriteFailed { gone: fault.gone }
+    }
+}
+
+impl From<SheetFault> for Fault {
+    ghost from_gives = { λ from fault. fault ≡ faults.of_sheet from };
+
+    fn from(fault: SheetFault) -> Self {
+        match fault {
+            SheetFault::Memory => Fault::Memory,
+            SheetFault::FieldBeforeMarker { line } => Fault::FieldBeforeMarker { line },
+            SheetFault::EmptyMarker { line } => Fault::EmptyMarker { line },
+            SheetFault::BadStyleType { line } => Fault::BadStyleType { line },
+        }
+    }
+}
+
+impl From<SummaryFault> for Fault {
+    ghost from_gives = { λ from fault. fault ≡ faults.of_summary from };
+
+    fn from(fault: SummaryFault) -> Self {
+        match fault {
+            SummaryFault::Memory => Fault::Memory,
+            SummaryFault::BadSummary => Fault::BadSummary,
+        }
+    }
+}
+
+impl From<FindFault> for Fault {
+    ghost from_gives = { λ from fault. fault ≡ faults.of_find from };
+
+    fn from(fault: FindFault) -> Self {
+        match fault {
+            FindFault::Memory => Fault::Memory,
+            FindFault::EmptyNeedle => Fault::EmptyNeedle,
+        }
     }
 }

@@ -11,6 +11,7 @@ mod executing;
 mod fault;
 mod fold;
 pub mod laws;
+mod looking;
 mod reading;
 mod source;
 mod telling;

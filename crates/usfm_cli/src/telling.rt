@@ -12,7 +12,8 @@ use usfm_ref::RefFault;
 
 /// The line that tells of a fault: `fault`, its number, its details, each after one space, and a line
 /// feed. The details are an operation's id as its number and its name, the place of an operation in
-/// its bundle, counted from 1, the bytes gone out, or the length of the longest front that is text.
+/// its bundle or a line of a sheet, counted from 1, the bytes gone out, or the length of the longest
+/// front that is text.
 /// It takes no memory.
 pub fn fault_line(fault: &Fault) -> ShortLine
     ensures { result ≡ lines.fault_text fault.now }
@@ -20,6 +21,9 @@ pub fn fault_line(fault: &Fault) -> ShortLine
     let mut line = numbered(fault_number(fault));
     match fault {
         Fault::NotText { valid } => push_count(&mut line, *valid as u64),
+        Fault::FieldBeforeMarker { line: at }
+        | Fault::EmptyMarker { line: at }
+        | Fault::BadStyleType { line: at } => push_count(&mut line, *at as u64),
         Fault::Clash(id) => push_id(&mut line, id),
         Fault::NotShown(id) => push_id(&mut line, id),
         Fault::Bundle(fault) => push_place(&mut line, fault),
@@ -93,16 +97,21 @@ fn fault_number(fault: &Fault) -> u64
         Fault::Reference(RefFault::BadBook) => 20,
         Fault::Reference(RefFault::BadRef) => 21,
         Fault::NoId => 30,
+        Fault::FieldBeforeMarker { line: _ } => 40,
+        Fault::EmptyMarker { line: _ } => 41,
+        Fault::BadStyleType { line: _ } => 42,
         Fault::Naming(IdFault::BadName) => 50,
         Fault::Clash(_) => 51,
         Fault::Naming(IdFault::BadOpId) => 52,
         Fault::Bundle(fault) => bundle_number(fault),
         Fault::Trailing => 70,
+        Fault::BadSummary => 71,
         Fault::BadSegment => 80,
         Fault::NumbersUsedUp => 81,
         Fault::NoBook => 82,
         Fault::NotShown(_) => 83,
         Fault::WriteFailed { gone: _ } => 90,
+        Fault::EmptyNeedle => 100,
         Fault::BadProject => 110,
         Fault::ReadFailed => 120,
         Fault::TooLong => 121,

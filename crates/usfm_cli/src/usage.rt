@@ -20,6 +20,11 @@ const BOOK: (&str, &str) = (
     "The book's code: three of A to Z and 0 to 9, as MAT",
 );
 
+const SHEET: (&str, &str) = (
+    "SHEET",
+    "A style sheet in the manner of Paratext's usfm.sty",
+);
+
 /// The program's subcommands and their words.
 pub(crate) fn program<'a>(alloc: Global) -> Result<Command<'a>, AllocError> {
     let program = Command::new(alloc, "usfm_team")
@@ -37,7 +42,11 @@ pub(crate) fn program<'a>(alloc: Global) -> Result<Command<'a>, AllocError> {
     let program = with(program, receive(alloc))?;
     let program = with(program, send(alloc))?;
     let program = with(program, export(alloc))?;
+    let program = with(program, summary(alloc))?;
+    let program = with(program, delta(alloc))?;
     let program = with(program, report(alloc))?;
+    let program = with(program, check(alloc))?;
+    let program = with(program, find(alloc))?;
     with(program, fold(alloc))
 }
 
@@ -260,6 +269,103 @@ Faults:
   fault 82                 the project has no operation of the book
   fault 90 BYTES           writing failed after so many bytes
   fault 120, fault 121     the file was not read, or has more than 268,435,456 bytes";
+
+fn summary<'a>(alloc: Global) -> Result<Command<'a>, AllocError> {
+    command(
+        alloc,
+        "summary",
+        "Writes the summary of all operations of the project",
+        SUMMARY,
+        &[PROJECT],
+    )
+}
+
+const SUMMARY: &str = "\
+Whoever gets it can write what this project lacks: see `delta`.
+
+Example: usfm_team summary ben.project > ben.summary
+
+Faults:
+  fault 1                  out of memory
+  fault 60 to 70, 110      PROJECT is no project
+  fault 90 BYTES           writing failed after so many bytes
+  fault 120, fault 121     the file was not read, or has more than 268,435,456 bytes";
+
+fn delta<'a>(alloc: Global) -> Result<Command<'a>, AllocError> {
+    let summary = (
+        "SUMMARY",
+        "The summary of another project, as `summary` writes it",
+    );
+    command(
+        alloc,
+        "delta",
+        "Writes the bundle of the operations that another project lacks",
+        DELTA,
+        &[PROJECT, summary],
+    )
+}
+
+const DELTA: &str = "\
+The bundle has the operations that the summary does not cover. The other project takes it in with
+`receive`, and then has all that this one has.
+
+Example: usfm_team delta ana.project ben.summary > ana.bundle
+
+Faults:
+  fault 1                  out of memory
+  fault 60 to 70, 110      PROJECT is no project
+  fault 71                 SUMMARY is no summary
+  fault 90 BYTES           writing failed after so many bytes
+  fault 120, fault 121     a file was not read, or has more than 268,435,456 bytes";
+
+fn check<'a>(alloc: Global) -> Result<Command<'a>, AllocError> {
+    command(
+        alloc,
+        "check",
+        "Reports what is wrong with the marks and the numbers of a book",
+        CHECK,
+        &[PROJECT, BOOK, SHEET],
+    )
+}
+
+const CHECK: &str = "\
+Writes a line `REF CODE START` for each finding: its segment, what is found, and at which byte of the
+export. The codes: unknown-marker, stray-close, unclosed-char, unclosed-note, too-deep, bad-number,
+bad-bridge, not-rising, overlap, not-under.
+
+Example: usfm_team check ana.project MAT samples/small.sty
+
+Faults:
+  fault 1                  out of memory
+  fault 10 BYTES           SHEET is not UTF-8 after so many bytes
+  fault 20                 BOOK is no book's code
+  fault 40 LINE            SHEET has a field before its first marker
+  fault 41 LINE            SHEET has a marker without a name
+  fault 42 LINE            SHEET has an unknown style type
+  fault 60 to 70, 110      PROJECT is no project
+  fault 82                 the project has no operation of the book
+  fault 90 BYTES           writing failed after so many bytes
+  fault 120, fault 121     a file was not read, or has more than 268,435,456 bytes";
+
+fn find<'a>(alloc: Global) -> Result<Command<'a>, AllocError> {
+    let needle = ("NEEDLE", "What is looked for, byte for byte");
+    command(
+        alloc,
+        "find",
+        "Finds a text in the verses of a book",
+        FIND,
+        &[PROJECT, BOOK, SHEET, needle],
+    )
+}
+
+const FIND: &str = "\
+Looks in the text of paragraphs whose style has the text of verses, outside notes, attributes and
+verse numbers. Writes a line `REF START` for each hit: its segment, and at which byte of the export.
+
+Example: usfm_team find ana.project MAT samples/small.sty beginning
+
+Faults: those of `check`, and
+  fault 100                NEEDLE is empty";
 
 fn report<'a>(alloc: Global) -> Result<Command<'a>, AllocError> {
     command(

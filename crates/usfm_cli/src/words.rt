@@ -53,6 +53,28 @@ pub enum Line {
         project: String,
         book: Book,
     },
+    /// `summary PROJECT`: write the summary of what the project holds.
+    Summary {
+        project: String,
+    },
+    /// `delta PROJECT SUMMARY`: write the bundle of what lies outside a summary.
+    Delta {
+        project: String,
+        summary: String,
+    },
+    /// `check PROJECT BOOK SHEET`: tell what is found in a book by a style sheet.
+    Check {
+        project: String,
+        book: Book,
+        sheet: String,
+    },
+    /// `find PROJECT BOOK SHEET NEEDLE`: find a needle in a book by a style sheet.
+    Find {
+        project: String,
+        book: Book,
+        sheet: String,
+        needle: String,
+    },
     /// `report PROJECT`: tell the conflicts, and what is awaited.
     Report {
         project: String,
@@ -138,6 +160,24 @@ fn line_of(alloc: Global, name: &str, given: &ArgMatches<'_>) -> Result<Line, Li
         "export" => Ok(Line::Export {
             project: text(alloc, given, "PROJECT")?,
             book: Book::read(word(given, "BOOK"))?,
+        }),
+        "summary" => Ok(Line::Summary {
+            project: text(alloc, given, "PROJECT")?,
+        }),
+        "delta" => Ok(Line::Delta {
+            project: text(alloc, given, "PROJECT")?,
+            summary: text(alloc, given, "SUMMARY")?,
+        }),
+        "check" => Ok(Line::Check {
+            project: text(alloc, given, "PROJECT")?,
+            book: Book::read(word(given, "BOOK"))?,
+            sheet: text(alloc, given, "SHEET")?,
+        }),
+        "find" => Ok(Line::Find {
+            project: text(alloc, given, "PROJECT")?,
+            book: Book::read(word(given, "BOOK"))?,
+            sheet: text(alloc, given, "SHEET")?,
+            needle: text(alloc, given, "NEEDLE")?,
         }),
         "report" => Ok(Line::Report {
             project: text(alloc, given, "PROJECT")?,

@@ -86,7 +86,32 @@ fn run(rt: &HostRuntime, line: Line) -> Result<(), Fault> {
         Line::Shown { project, book, key } => ask(rt, &project, &Command::Shown(book, key)),
         Line::Send { project } => ask(rt, &project, &Command::Send),
         Line::Export { project, book } => ask(rt, &project, &Command::Export(book)),
+        Line::Summary { project } => ask(rt, &project, &Command::Summary),
+        Line::Delta { project, summary } => {
+            let bytes = read_file(rt, &project)?;
+            let summary = read_file(rt, &summary)?;
+            act(rt, &project, &bytes, &Command::Delta(&summary))
+        }
         Line::Report { project } => ask(rt, &project, &Command::Report),
+        Line::Check {
+            project,
+            book,
+            sheet,
+        } => {
+            let bytes = read_file(rt, &project)?;
+            let sheet = read_file(rt, &sheet)?;
+            act(rt, &project, &bytes, &Command::Check(book, &sheet))
+        }
+        Line::Find {
+            project,
+            book,
+            sheet,
+            needle,
+        } => {
+            let bytes = read_file(rt, &project)?;
+            let sheet = read_file(rt, &sheet)?;
+            act(rt, &project, &bytes, &Command::Find(book, &sheet, &needle))
+        }
         Line::Fold(book) => fold(rt, book),
     }
 }

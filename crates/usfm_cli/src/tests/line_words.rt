@@ -45,6 +45,30 @@ fn told(alloc: Global, line: &Line) -> Result<String, Fail> {
         Line::Export { project, book } => {
             format!(in alloc; "export {project} book {}", str::from_utf8(&book.code())?)?
         }
+        Line::Summary { project } => format!(in alloc; "summary {project}")?,
+        Line::Delta { project, summary } => {
+            format!(in alloc; "delta {project} summary {summary}")?
+        }
+        Line::Check {
+            project,
+            book,
+            sheet,
+        } => {
+            format!(in alloc;
+                "check {project} book {} sheet {sheet}",
+                str::from_utf8(&book.code())?
+            )?
+        }
+        Line::Find {
+            project,
+            book,
+            sheet,
+            needle,
+        } => {
+            let code = book.code();
+            let book = str::from_utf8(&code)?;
+            format!(in alloc; "find {project} book {book} sheet {sheet} needle {needle}")?
+        }
         Line::Report { project } => format!(in alloc; "report {project}")?,
         Line::Fold(book) => format!(in alloc; "fold {}", str::from_utf8(&book.code())?)?,
     })
@@ -101,7 +125,20 @@ const LINES: &[(&str, &str)] = &[
     ),
     ("send|ana.project", "send ana.project"),
     ("export|ana.project|LUK", "export ana.project book LUK"),
+    ("summary|ana.project", "summary ana.project"),
+    (
+        "delta|ana.project|ben.summary",
+        "delta ana.project summary ben.summary",
+    ),
     ("report|ana.project", "report ana.project"),
+    (
+        "find|ana.project|LUK|usfm.sty|the word",
+        "find ana.project book LUK sheet usfm.sty needle the word",
+    ),
+    (
+        "check|ana.project|LUK|usfm.sty",
+        "check ana.project book LUK sheet usfm.sty",
+    ),
     ("fold|MAT", "fold MAT"),
     // The values, from left to right.
     ("init|p|Ana", "fault 50\n"),

@@ -1,4 +1,5 @@
 // Projects that are told what a table says, row by row, as the program tells it to one.
+use super::trees::SHEET;
 use crate::{Command, create, exec, fault_line};
 use op_core::OpId;
 use std::alloc::Global;
@@ -23,9 +24,19 @@ pub(crate) enum Step<'a> {
     Shown(&'a str),
     Send,
     Export(&'a str),
+    Summary,
+    Delta(&'a [u8]),
     Report,
+    Check(&'a str, &'a [u8]),
+    // Checks by the sheet of the tests.
+    Checked(&'a str),
+    Find(&'a str, &'a [u8], &'a str),
+    // Finds by it.
+    Found(&'a str, &'a str),
     // Sends, and keeps the bundle for the other.
     Pack,
+    // Gives the delta for the other's summary, and keeps it for the other.
+    PackLacked,
     // Receives what the other packed.
     Unpack,
     // Sends just what the other packed.
@@ -104,9 +115,27 @@ impl Player {
             }
             Step::Send => self.asked(rt, &Command::Send),
             Step::Export(code) => self.asked(rt, &Command::Export(Book::read(code)?)),
+            Step::Summary => self.asked(rt, &Command::Summary),
+            Step::Delta(summary) => self.asked(rt, &Command::Delta(summary)),
             Step::Report => self.asked(rt, &Command::Report),
+            Step::Check(code, sheet) => self.asked(rt, &Command::Check(Book::read(code)?, sheet)),
+            Step::Find(code, sheet, needle) => {
+                self.asked(rt, &Command::Find(Book::read(code)?, sheet, needle))
+            }
+            Step::Found(code, needle) => {
+                let sheet = SHEET.as_bytes();
+                self.asked(rt, &Command::Find(Book::read(code)?, sheet, needle))
+            }
+            Step::Checked(code) => {
+                self.asked(rt, &Command::Check(Book::read(code)?, SHEET.as_bytes()))
+            }
             Step::Pack => {
                 self.packed = self.asked(rt, &Command::Send)?;
+                Ok(Vec::new(self.alloc))
+            }
+            Step::PackLacked => {
+                let held = exec(self.alloc, &other.file, &Command::Summary)?;
+                self.packed = self.asked(rt, &Command::Delta(held.output()))?;
                 Ok(Vec::new(self.alloc))
             }
             Step::Unpack => self.told(&Command::Receive(&other.packed)),

@@ -6,7 +6,7 @@ use std::test::Fail;
 use sty_sheet::Sheet;
 use usfm_tree::Tree;
 
-const SHEET: &str = "# sheet of the worked rows
+pub(crate) const SHEET: &str = "# sheet of the worked rows
 \\Marker id
 \\StyleType Paragraph
 \\Marker c

@@ -39,6 +39,14 @@ pub(crate) const LAST_NUMBER: &[u8] =
 // No operation.
 pub(crate) const NOTHING: &[u8] = b"USFMSR1\n\0\0\0\0\0\0\0\0";
 
+// The summary of ana, 1 to 3 and 5.
+pub(crate) const S1: &[u8] =
+    b"USFMSS1\n\0\0\0\0\0\0\0\x01\x03ana\0\0\0\0\0\0\0\x02\0\0\0\0\0\0\0\x01\0\0\0\0\0\0\0\x03\0\0\0\0\0\0\0\x05\0\0\0\0\0\0\0\x05";
+
+// 4 ana on MAT 1:2, `\v 2 b␊`.
+pub(crate) const FOURTH: &[u8] =
+    b"USFMSR1\n\0\0\0\0\0\0\0\x01\0\0\0\0\0\0\0\x04\x03anaMAT\0\x01\x01\0\x02\0\0\0\0\0\0\0\0\0\x01\0\0\0\0\0\0\0\x07\\v 2 b\n";
+
 // The front of a bundle of two operations, the first one of B1, and parts of the second.
 pub(crate) const TWO: &[u8] = b"USFMSR1\n\0\0\0\0\0\0\0\x02";
 

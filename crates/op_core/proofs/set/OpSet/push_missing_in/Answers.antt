@@ -1,6 +1,4 @@
-use Rattle.std.proofs.Common.{not, ap, List}
-use Rattle.op_core.specs.Ids.{Id, same_id}
-use Rattle.std.specs.List.{list_any}
+use Rattle.std.proofs.Common.{not}
 use Rattle.op_core.specs.Lists.{is_held}
 use Rattle.op_core.proofs.Awaited.{missed_at, on_err}
 use Rattle.op_core.proofs.set.OpSet.push_missing_in.Goals as goal

@@ -1,0 +1,38 @@
+-- What a search of a book by a sheet gives, once the sheet was read and the book has an operation.
+use Rattle.std.proofs.Common.{◌≡◌, ◌≢◌, ℕ, true, false, List, [], ◌∷◌, Result, Ok, Err, IsUtf8, refl, sym, ap, subst, ◌∙◌}
+use Rattle.std.specs.Str.{is_utf8}
+use Rattle.std.proofs.lemmas.Bool.{cond-true, false≢true}
+use Rattle.std.proofs.lemmas.Str.{is_utf8-from_IsUtf8}
+use Rattle.sty_sheet.specs.Records.{Record}
+use Rattle.sty_sheet.specs.Sheets.{sheet_of}
+use Rattle.op_core.specs.Ops.{Operation}
+use Rattle.op_core.specs.Export.{has_book, export}
+use Rattle.concordance.specs.Hits.{hits_of}
+use Rattle.concordance.specs.declared.fault.FindFault.{FindFault}
+use Rattle.concordance.specs.declared.fault.FindFault.TheVariants as finding
+use Rattle.usfm_cli.specs.Commands.{MayWantMemory, Gives}
+use Rattle.usfm_cli.specs.Faults.{of_find}
+use Rattle.usfm_cli.specs.Looking.{by_records, of_book_text, hit_lines, unless_empty, searched, is_after_sheet}
+use Rattle.usfm_cli.specs.declared.fault.Fault.{Fault}
+
+-- bytes that are text are told as text
+pub is_told_as_text : (bytes text : List ℕ) → bytes ≡ text → IsUtf8 text → is_utf8 bytes ≡ false → ⊥
+is_told_as_text bytes text e is refused = false≢true (sym refused ∙ ap is_utf8 e ∙ is_utf8-from_IsUtf8 text is)
+
+pub searched_is : (held : List Operation) (book sheet needle : List ℕ) (records : List Record) → is_utf8 sheet ≡ true → sheet_of sheet ≡ Ok records → has_book held book ≡ true → searched held book sheet needle ≡ unless_empty needle (Ok (hit_lines book (hits_of records (export held book) needle)))
+searched_is held book sheet needle records is read has =
+    let found = λ (r : List Record). of_book_text held book (λ text. unless_empty needle (Ok (hit_lines book (hits_of r text needle)))) in
+    cond-true _ _ _ is ∙ ap (λ r. by_records r found) read ∙ cond-true _ _ _ has
+
+pub some_needle : (needle : List ℕ) (found : Result (List ℕ) Fault) → needle ≢ [] → unless_empty needle found ≡ found
+some_needle [] found some = absurd (some refl)
+some_needle (b ∷ needle) found some = refl
+
+-- memory may be wanted of a search
+pub search_is_late : (needle found : List ℕ) → MayWantMemory is_after_sheet (unless_empty needle (Ok found))
+search_is_late [] found = refl
+search_is_late (b ∷ needle) found = tt
+
+pub search_refused : (A : Type 0) (needle found : List ℕ) (wanted : Result (List ℕ) Fault) (fault : FindFault) → wanted ≡ unless_empty needle (Ok found) → (fault ≡ finding.EmptyNeedle → needle ≡ []) → Gives {A = A} is_after_sheet wanted (Err (of_find fault))
+search_refused A needle found wanted finding.Memory e h = subst (MayWantMemory is_after_sheet) (sym e) (search_is_late needle found)
+search_refused A needle found wanted finding.EmptyNeedle e h = e ∙ ap (λ (n : List ℕ). unless_empty n (Ok found)) (h refl)

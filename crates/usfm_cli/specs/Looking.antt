@@ -1,0 +1,70 @@
+-- What commands tell of a book by a style sheet (this project's own rule): its findings, and the hits of a needle.
+use Rattle.std.specs.Prelude.{ℕ, Bool, true, false, List, [], ◌∷◌, ◌++◌, Result, Ok, Err, if◌then◌else◌}
+use Rattle.std.specs.Fmt.{decimal}
+use Rattle.std.specs.List.{flat_map}
+use Rattle.std.specs.Str.{is_utf8}
+use Rattle.std.specs.Str.Lossy.{utf8_valid_len}
+use Rattle.usfm_ref.specs.References.{ref_text}
+use Rattle.sty_sheet.specs.Records.{Record}
+use Rattle.sty_sheet.specs.Sheets.{sheet_of}
+use Rattle.sty_sheet.specs.declared.fault.SheetFault.{SheetFault}
+use Rattle.op_core.specs.Ops.{Operation}
+use Rattle.op_core.specs.Export.{has_book, export}
+use Rattle.segment_check.specs.Codes.{code_name}
+use Rattle.segment_check.specs.Findings.{findings}
+use Rattle.segment_check.specs.declared.finding.Finding.{Finding}
+use Rattle.concordance.specs.Hits.{HitParts, hits_of}
+use Rattle.usfm_cli.specs.Faults.{of_sheet}
+use Rattle.usfm_cli.specs.declared.fault.Fault.{Fault}
+use Rattle.usfm_cli.specs.declared.fault.Fault.TheVariants.{NotText, NoBook, EmptyNeedle}
+
+-- what is told by the records of a sheet, or the sheet's fault
+abbrev pub by_records : Result (List Record) SheetFault → (List Record → Result (List ℕ) Fault) → Result (List ℕ) Fault
+by_records (Ok records) next = next records
+by_records (Err fault) next = Err (of_sheet fault)
+
+-- what is told by the records of a sheet that is given as bytes, or why they are no sheet
+abbrev pub by_sheet : List ℕ → (List Record → Result (List ℕ) Fault) → Result (List ℕ) Fault
+by_sheet bytes next = if is_utf8 bytes then by_records (sheet_of bytes) next else Err (NotText (utf8_valid_len bytes))
+
+-- what is told of the export of a book, if it has an operation
+abbrev pub of_book_text : List Operation → List ℕ → (List ℕ → Result (List ℕ) Fault) → Result (List ℕ) Fault
+of_book_text held book next = if has_book held book then next (export held book) else Err NoBook
+
+-- ---- findings
+
+-- a finding: the reference of its key, its code and its start, as a line
+abbrev pub finding_line : List ℕ → Finding → List ℕ
+finding_line book f = ref_text book f.key ++ 32 ∷ code_name f.code ++ 32 ∷ decimal f.start ++ 10 ∷ []
+
+abbrev pub finding_lines : List ℕ → List Finding → List ℕ
+finding_lines book found = flat_map (finding_line book) found
+
+-- the findings in a book by a sheet, a line for each
+abbrev pub checked : List Operation → List ℕ → List ℕ → Result (List ℕ) Fault
+checked held book sheet =
+    by_sheet sheet (λ records. of_book_text held book (λ text. Ok (finding_lines book (findings records text))))
+
+-- ---- hits
+
+-- a hit: the reference of its key and its start, as a line
+abbrev pub hit_line : List ℕ → HitParts → List ℕ
+hit_line book h = ref_text book h.key ++ 32 ∷ decimal h.start ++ 10 ∷ []
+
+abbrev pub hit_lines : List ℕ → List HitParts → List ℕ
+hit_lines book hits = flat_map (hit_line book) hits
+
+-- what is found of a needle, unless it is empty
+abbrev pub unless_empty : List ℕ → Result (List ℕ) Fault → Result (List ℕ) Fault
+unless_empty [] found = Err EmptyNeedle
+unless_empty (b ∷ needle) found = found
+
+-- the hits of a needle in a book by a sheet, a line for each
+abbrev pub searched : List Operation → List ℕ → List ℕ → List ℕ → Result (List ℕ) Fault
+searched held book sheet needle =
+    by_sheet sheet (λ records. of_book_text held book (λ text. unless_empty needle (Ok (hit_lines book (hits_of records text needle)))))
+
+-- a refusal that is found after a sheet was read, which takes memory: all but that it is no text
+abbrev pub is_after_sheet : Fault → Bool
+is_after_sheet (NotText valid) = false
+is_after_sheet fault = true

@@ -1,0 +1,94 @@
+// What commands tell of a book by a style sheet.
+ghost use Rattle.std.specs.Prelude.{◌≡◌, ◌++◌, IfOk, OnOk};
+ghost use Rattle.concordance.specs.Views.{hit_view, hits_view};
+ghost use Rattle.usfm_cli.specs.Commands.{Gives};
+ghost use Rattle.usfm_cli.specs.Looking as looking;
+
+use crate::doing::text_in;
+use crate::fault::Fault;
+use concordance::Hit;
+use replica_state::Replica;
+use segment_check::Finding;
+use std::alloc::{AllocError, Global};
+use sty_sheet::Sheet;
+use usfm_export::book_text;
+use usfm_ref::{Book, write_ref};
+
+// The findings in a book, a line for each.
+pub(crate) fn check(
+    alloc: Global,
+    replica: &Replica,
+    book: Book,
+    sheet: &[u8],
+) -> Result<Vec<u8>, Fault>
+    ensures { Gives looking.is_after_sheet
+        (looking.checked replica.now.held book sheet.now) result }
+{
+    let sheet = Sheet::read(alloc, text_in(sheet)?)?;
+    let bytes = book_text(alloc, replica, book)?;
+    let found = segment_check::check(alloc, text_in(&bytes)?, &sheet)?;
+    Ok(finding_lines(alloc, book, &found)?)
+}
+
+// The hits of a needle in a book, a line for each.
+pub(crate) fn find(
+    alloc: Global,
+    replica: &Replica,
+    book: Book,
+    sheet: &[u8],
+    needle: &str,
+) -> Result<Vec<u8>, Fault>
+    ensures { Gives looking.is_after_sheet
+        (looking.searched replica.now.held book sheet.now needle.now) result }
+{
+    let sheet = Sheet::read(alloc, text_in(sheet)?)?;
+    let bytes = book_text(alloc, replica, book)?;
+    let hits = concordance::find(alloc, text_in(&bytes)?, &sheet, needle)?;
+    Ok(hit_lines(alloc, book, &hits)?)
+}
+
+fn finding_lines(alloc: Global, book: Book, found: &[Finding]) -> Result<Vec<u8>, AllocError>
+    ensures { IfOk result (λ bytes. bytes.items ≡ looking.finding_lines book found.now) }
+{
+    let mut bytes = Vec::new(alloc);
+    for finding in found {
+        push_finding(alloc, &mut bytes, book, finding)?;
+    }
+    Ok(bytes)
+}
+
+// Appends the line of a finding.
+fn push_finding(
+    alloc: Global,
+    bytes: &mut Vec<u8>,
+    book: Book,
+    finding: &Finding,
+) -> Result<(), AllocError>
+    ensures { OnOk result (bytes.new.items ≡ bytes.old.items ++ looking.finding_line book finding.now) }
+{
+    let place = write_ref(alloc, book, finding.key)?;
+    let name = finding.code.name();
+    let start = finding.start;
+    let line = format!(in alloc; "{place} {name} {start}\n")?;
+    bytes.extend_from_slice(line.as_bytes())
+}
+
+fn hit_lines(alloc: Global, book: Book, hits: &[Hit<'_>]) -> Result<Vec<u8>, AllocError>
+    ensures { IfOk result (λ bytes. bytes.items ≡ looking.hit_lines book (hits_view hits.now)) }
+{
+    let mut bytes = Vec::new(alloc);
+    for hit in hits {
+        push_hit(alloc, &mut bytes, book, hit)?;
+    }
+    Ok(bytes)
+}
+
+// Appends the line of a hit.
+fn push_hit(alloc: Global, bytes: &mut Vec<u8>, book: Book, hit: &Hit<'_>) -> Result<(), AllocError>
+    ensures { OnOk result (bytes.new.items ≡ bytes.old.items ++ looking.hit_line book (hit_view hit.now)) }
+{
+    let place = write_ref(alloc, book, hit.key)?;
+    let start = hit.start;
+    let line = format!(in alloc; "{place} {start}\n")?;
+    bytes.extend_from_slice(line.as_bytes())
+}
