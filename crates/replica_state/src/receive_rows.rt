@@ -145,23 +145,48 @@ fn empty_verse(alloc: Global, id: OpId, key: Key, over: &[OpId]) -> Result<Op, F
     ))
 }
 
-#[test]
-fn few_comparisons(rt: HostRuntime) -> Result<(), Fail> {
-    let alloc = rt.alloc();
-    let name = ReplicaName::read("ana")?;
+// A replica of ana's that received a number of 4,096 segments.
+fn many_segments(alloc: Global, name: ReplicaName) -> Result<Replica, Fail> {
     let mut many = OpSet::new(alloc);
     for i in 0..4096u16 {
         let id = OpId::new(i as u64 + 1, name).ok_or("no id")?;
         many.insert(empty_verse(alloc, id, verse(i / 64, i % 64)?, &[])?)?;
     }
-    let mut ana = begun(alloc, "ana")?;
-    assert_eq!(rt; received(alloc, &mut ana, &encode(alloc, &many)?)?, 4096);
-    let before = ana.compared();
+    let mut ana = Replica::new(alloc, name);
+    if received(alloc, &mut ana, &encode(alloc, &many)?)? != 4096 {
+        return Err(Fail::from("not all are new"));
+    }
+    Ok(ana)
+}
+
+// The bundle of one operation, 5000 ana on 31:15, that names 2000 ana of the same verse.
+fn one_over(alloc: Global, name: ReplicaName) -> Result<Vec<u8>, Fail> {
     let over = OpId::new(2000, name).ok_or("no id")?;
     let id = OpId::new(5000, name).ok_or("no id")?;
     let mut one = OpSet::new(alloc);
     one.insert(empty_verse(alloc, id, verse(31, 15)?, &[over])?)?;
-    assert_eq!(rt; received(alloc, &mut ana, &encode(alloc, &one)?)?, 1);
+    Ok(encode(alloc, &one)?)
+}
+
+#[test]
+fn few_comparisons(rt: HostRuntime) -> Result<(), Fail> {
+    let alloc = rt.alloc();
+    let name = ReplicaName::read("ana")?;
+    let mut ana = many_segments(alloc, name)?;
+    let before = ana.compared();
+    let bundle = one_over(alloc, name)?;
+    assert_eq!(rt; received(alloc, &mut ana, &bundle)?, 1);
+    let more = ana.compared().saturating_sub(before);
+    assert!(rt; 1 <= more && more <= 256, "{more} comparisons");
+    Ok(())
+}
+
+#[test]
+fn few_comparisons_of_an_edit(rt: HostRuntime) -> Result<(), Fail> {
+    let mut ana = many_segments(rt.alloc(), ReplicaName::read("ana")?)?;
+    let before = ana.compared();
+    let id = ana.edit(Book::read("MAT")?, verse(31, 15)?, "")?;
+    assert_id(&rt, id, 4097, "ana");
     let more = ana.compared().saturating_sub(before);
     assert!(rt; 1 <= more && more <= 256, "{more} comparisons");
     Ok(())
