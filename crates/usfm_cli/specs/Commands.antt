@@ -19,9 +19,9 @@ use Rattle.bundle_codec.specs.Summaries.{Known, summary, summary_of, outside}
 use Rattle.bundle_codec.specs.SummaryReading.{read_summary}
 use Rattle.conflict_report.specs.Reports.{report}
 use Rattle.usfm_cli.specs.Faults.{of_receiving, of_edit, of_import, of_whole}
-use Rattle.usfm_cli.specs.Looking.{checked, searched, is_after_sheet}
+use Rattle.usfm_cli.specs.Looking.{checked, searched, listed, is_after_sheet}
 use Rattle.usfm_cli.specs.declared.command.Command.{Command}
-use Rattle.usfm_cli.specs.declared.command.Command.TheVariants.{Import, Edit, EditOver, Receive, Shown, Send, Export, Summary, Delta, Report, Check, Find}
+use Rattle.usfm_cli.specs.declared.command.Command.TheVariants.{Import, Edit, EditOver, Receive, Shown, Send, Export, Summary, Delta, Report, Check, Find, Words}
 use Rattle.usfm_cli.specs.declared.fault.Fault.{Fault}
 use Rattle.usfm_cli.specs.declared.fault.Fault.TheVariants.{Memory, NotText, NoBook, BadSummary, Clash, NumbersUsedUp}
 
@@ -105,6 +105,7 @@ outcome s (Delta bytes) = done_if s (delta_for s.held (read_summary bytes.now))
 outcome s Report = done_if s (Ok (report s.held))
 outcome s (Check book sheet) = done_if s (checked s.held book sheet.now)
 outcome s (Find book sheet needle) = done_if s (searched s.held book sheet.now needle.now)
+outcome s (Words book sheet) = done_if s (listed s.held book sheet.now)
 
 -- whether a command only tells, and changes no replica
 abbrev pub only_tells : Command → Bool
@@ -120,6 +121,7 @@ only_tells (Delta summary) = true
 only_tells Report = true
 only_tells (Check book sheet) = true
 only_tells (Find book sheet needle) = true
+only_tells (Words book sheet) = true
 
 -- ---- refusals, and want of memory
 
@@ -150,6 +152,7 @@ is_late (Delta summary) = no_fault
 is_late Report = no_fault
 is_late (Check book sheet) = is_after_sheet
 is_late (Find book sheet needle) = is_after_sheet
+is_late (Words book sheet) = is_after_sheet
 
 -- memory may be wanted where nothing is refused, or what is refused is found so late
 abbrev pub MayWantMemory : {T : Type 0} → (Fault → Bool) → Result T Fault → Type 0

@@ -1,10 +1,10 @@
--- What commands tell of a book by a style sheet (this project's own rule): its findings, and the hits of a needle.
+-- What commands tell of a book by a style sheet (this project's own rule): its findings, the hits of a needle, and its words.
 use Rattle.std.specs.Prelude.{ℕ, Bool, true, false, List, [], ◌∷◌, ◌++◌, Result, Ok, Err, if◌then◌else◌}
 use Rattle.std.specs.Fmt.{decimal}
 use Rattle.std.specs.List.{flat_map}
 use Rattle.std.specs.Str.{is_utf8}
 use Rattle.std.specs.Str.Lossy.{utf8_valid_len}
-use Rattle.usfm_ref.specs.References.{ref_text}
+use Rattle.usfm_ref.specs.References.{key_text, ref_text}
 use Rattle.sty_sheet.specs.Records.{Record}
 use Rattle.sty_sheet.specs.Sheets.{sheet_of}
 use Rattle.sty_sheet.specs.declared.fault.SheetFault.{SheetFault}
@@ -14,6 +14,7 @@ use Rattle.segment_check.specs.Codes.{code_name}
 use Rattle.segment_check.specs.Findings.{findings}
 use Rattle.segment_check.specs.declared.finding.Finding.{Finding}
 use Rattle.concordance.specs.Hits.{HitParts, hits_of}
+use Rattle.concordance.specs.Words.{WordParts, words_of}
 use Rattle.usfm_cli.specs.Faults.{of_sheet}
 use Rattle.usfm_cli.specs.declared.fault.Fault.{Fault}
 use Rattle.usfm_cli.specs.declared.fault.Fault.TheVariants.{NotText, NoBook, EmptyNeedle}
@@ -63,6 +64,20 @@ unless_empty (b ∷ needle) found = found
 abbrev pub searched : List Operation → List ℕ → List ℕ → List ℕ → Result (List ℕ) Fault
 searched held book sheet needle =
     by_sheet sheet (λ records. of_book_text held book (λ text. unless_empty needle (Ok (hit_lines book (hits_of records text needle)))))
+
+-- ---- words
+
+-- a word: its form, and each of its keys after one space, as a line
+abbrev pub word_line : WordParts → List ℕ
+word_line w = w.form ++ flat_map (λ k. 32 ∷ key_text k) w.keys ++ 10 ∷ []
+
+abbrev pub word_lines : List WordParts → List ℕ
+word_lines words = flat_map word_line words
+
+-- the words of a book by a sheet, a line for each
+abbrev pub listed : List Operation → List ℕ → List ℕ → Result (List ℕ) Fault
+listed held book sheet =
+    by_sheet sheet (λ records. of_book_text held book (λ text. Ok (word_lines (words_of records text))))
 
 -- a refusal that is found after a sheet was read, which takes memory: all but that it is no text
 abbrev pub is_after_sheet : Fault → Bool

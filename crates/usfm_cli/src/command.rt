@@ -42,6 +42,8 @@ pub enum Command<'a> {
     Check(Book, &'a [u8]),
     /// Finds a needle in a book by a style sheet: for each hit `REF START`.
     Find(Book, &'a [u8], &'a str),
+    /// Lists the words of a book by a style sheet: for each the form, and its keys.
+    Words(Book, &'a [u8]),
 }
 
 impl Command<'_> {
@@ -61,7 +63,8 @@ impl Command<'_> {
             | Command::Delta(_)
             | Command::Report
             | Command::Check(_, _)
-            | Command::Find(_, _, _) => true,
+            | Command::Find(_, _, _)
+            | Command::Words(_, _) => true,
         }
     }
 }

@@ -11,7 +11,7 @@ ghost use Rattle.usfm_cli.specs.Commands as commands;
 
 use crate::command::Command;
 use crate::fault::Fault;
-use crate::looking::{check, find};
+use crate::looking::{check, find, words};
 use bundle_codec::{Summary, decode_whole};
 use conflict_report::report_text;
 use op_core::{Op, OpId};
@@ -48,6 +48,7 @@ pub(crate) fn obey(
         Command::Report => Ok(report_text(alloc, replica)?),
         Command::Check(book, sheet) => check(alloc, replica, book, sheet),
         Command::Find(book, sheet, needle) => find(alloc, replica, book, sheet, needle),
+        Command::Words(book, sheet) => words(alloc, replica, book, sheet),
     }
 }
 

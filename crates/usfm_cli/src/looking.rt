@@ -1,18 +1,20 @@
 // What commands tell of a book by a style sheet.
-ghost use Rattle.std.specs.Prelude.{◌≡◌, ◌++◌, IfOk, OnOk};
+ghost use Rattle.std.specs.Prelude.{◌≡◌, ◌∷◌, ◌++◌, IfOk, OnOk};
+ghost use Rattle.std.specs.List.{flat_map};
+ghost use Rattle.usfm_ref.specs.References.{key_text};
 ghost use Rattle.concordance.specs.Views.{hit_view, hits_view};
 ghost use Rattle.usfm_cli.specs.Commands.{Gives};
 ghost use Rattle.usfm_cli.specs.Looking as looking;
 
 use crate::doing::text_in;
 use crate::fault::Fault;
-use concordance::Hit;
+use concordance::{Hit, Word};
 use replica_state::Replica;
 use segment_check::Finding;
 use std::alloc::{AllocError, Global};
 use sty_sheet::Sheet;
 use usfm_export::book_text;
-use usfm_ref::{Book, write_ref};
+use usfm_ref::{Book, Key, write_key, write_ref};
 
 // The findings in a book, a line for each.
 pub(crate) fn check(
@@ -45,6 +47,22 @@ pub(crate) fn find(
     let bytes = book_text(alloc, replica, book)?;
     let hits = concordance::find(alloc, text_in(&bytes)?, &sheet, needle)?;
     Ok(hit_lines(alloc, book, &hits)?)
+}
+
+// The words of a book, a line for each.
+pub(crate) fn words(
+    alloc: Global,
+    replica: &Replica,
+    book: Book,
+    sheet: &[u8],
+) -> Result<Vec<u8>, Fault>
+    ensures { Gives looking.is_after_sheet
+        (looking.listed replica.now.held book sheet.now) result }
+{
+    let sheet = Sheet::read(alloc, text_in(sheet)?)?;
+    let bytes = book_text(alloc, replica, book)?;
+    let words = concordance::words(alloc, text_in(&bytes)?, &sheet)?;
+    Ok(word_lines(alloc, &words)?)
 }
 
 fn finding_lines(alloc: Global, book: Book, found: &[Finding]) -> Result<Vec<u8>, AllocError>
@@ -91,4 +109,40 @@ fn push_hit(alloc: Global, bytes: &mut Vec<u8>, book: Book, hit: &Hit<'_>) -> Re
     let start = hit.start;
     let line = format!(in alloc; "{place} {start}\n")?;
     bytes.extend_from_slice(line.as_bytes())
+}
+
+fn word_lines(alloc: Global, words: &[Word]) -> Result<Vec<u8>, AllocError>
+    ensures { IfOk result (λ bytes. bytes.items ≡ looking.word_lines words.now) }
+{
+    let mut bytes = Vec::new(alloc);
+    for word in words {
+        push_word(alloc, &mut bytes, word)?;
+    }
+    Ok(bytes)
+}
+
+// Appends the line of a word.
+fn push_word(alloc: Global, bytes: &mut Vec<u8>, word: &Word) -> Result<(), AllocError>
+    ensures { OnOk result (bytes.new.items ≡ bytes.old.items ++ looking.word_line word.now) }
+{
+    bytes.extend_from_slice(word.form().as_bytes())?;
+    push_keys(alloc, bytes, word.keys())?;
+    bytes.push(b'\n')
+}
+
+// Appends each key after a space.
+fn push_keys(alloc: Global, bytes: &mut Vec<u8>, keys: &[Key]) -> Result<(), AllocError>
+    ensures { OnOk result (bytes.new.items ≡ bytes.old.items ++ flat_map (λ k. 32 ∷ key_text k) keys.now) }
+{
+    for key in keys {
+        push_key(alloc, bytes, *key)?;
+    }
+    Ok(())
+}
+
+fn push_key(alloc: Global, bytes: &mut Vec<u8>, key: Key) -> Result<(), AllocError>
+    ensures { OnOk result (bytes.new.items ≡ bytes.old.items ++ 32 ∷ key_text key) }
+{
+    bytes.push(b' ')?;
+    bytes.extend_from_slice(write_key(alloc, key)?.as_bytes())
 }

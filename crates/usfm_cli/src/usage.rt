@@ -47,6 +47,7 @@ pub(crate) fn program<'a>(alloc: Global) -> Result<Command<'a>, AllocError> {
     let program = with(program, report(alloc))?;
     let program = with(program, check(alloc))?;
     let program = with(program, find(alloc))?;
+    let program = with(program, words(alloc))?;
     with(program, fold(alloc))
 }
 
@@ -366,6 +367,24 @@ Example: usfm_team find ana.project MAT samples/small.sty beginning
 
 Faults: those of `check`, and
   fault 100                NEEDLE is empty";
+
+fn words<'a>(alloc: Global) -> Result<Command<'a>, AllocError> {
+    command(
+        alloc,
+        "words",
+        "Lists the words in the verses of a book",
+        WORDS,
+        &[PROJECT, BOOK, SHEET],
+    )
+}
+
+const WORDS: &str = "\
+Writes a line for each word: the word in Unicode's Normalization Form C, and after it the segments where
+it stands, each after a space.
+
+Example: usfm_team words ana.project MAT samples/small.sty
+
+Faults: those of `check`";
 
 fn report<'a>(alloc: Global) -> Result<Command<'a>, AllocError> {
     command(

@@ -75,6 +75,12 @@ pub enum Line {
         sheet: String,
         needle: String,
     },
+    /// `words PROJECT BOOK SHEET`: list the words of a book by a style sheet.
+    Words {
+        project: String,
+        book: Book,
+        sheet: String,
+    },
     /// `report PROJECT`: tell the conflicts, and what is awaited.
     Report {
         project: String,
@@ -178,6 +184,11 @@ fn line_of(alloc: Global, name: &str, given: &ArgMatches<'_>) -> Result<Line, Li
             book: Book::read(word(given, "BOOK"))?,
             sheet: text(alloc, given, "SHEET")?,
             needle: text(alloc, given, "NEEDLE")?,
+        }),
+        "words" => Ok(Line::Words {
+            project: text(alloc, given, "PROJECT")?,
+            book: Book::read(word(given, "BOOK"))?,
+            sheet: text(alloc, given, "SHEET")?,
         }),
         "report" => Ok(Line::Report {
             project: text(alloc, given, "PROJECT")?,

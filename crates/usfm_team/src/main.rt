@@ -112,6 +112,15 @@ fn run(rt: &HostRuntime, line: Line) -> Result<(), Fault> {
             let sheet = read_file(rt, &sheet)?;
             act(rt, &project, &bytes, &Command::Find(book, &sheet, &needle))
         }
+        Line::Words {
+            project,
+            book,
+            sheet,
+        } => {
+            let bytes = read_file(rt, &project)?;
+            let sheet = read_file(rt, &sheet)?;
+            act(rt, &project, &bytes, &Command::Words(book, &sheet))
+        }
         Line::Fold(book) => fold(rt, book),
     }
 }

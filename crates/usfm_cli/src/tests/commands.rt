@@ -1,7 +1,7 @@
 // Plays of commands over projects, as tables.
 use super::player::Step::{
-    Again, Check, Checked, Delta, Edit, Export, Find, Found, Import, Over, Pack, PackLacked,
-    Receive, Report, Same, Send, Shown, Summary, Unpack,
+    Again, Check, Checked, Delta, Edit, Export, Find, Found, Import, Listed, Over, Pack,
+    PackLacked, Receive, Report, Same, Send, Shown, Summary, Unpack, Words,
 };
 use super::player::Who::{Ana, Ben};
 use super::player::{Player, Row, play};
@@ -381,6 +381,10 @@ const FINDS: &[Row<'static>] = &[
     (Ana, Found("MAT", "+"), b""),
     (Ana, Found("MAT", "1"), b""),
     (Ana, Found("MAT", ""), b"fault 100\n"),
+    (Ana, Listed("MAT"), b"In 1:1\ngnat 1:1\nthe 1:1\n"),
+    (Ana, Words("LUK", b"\xff"), b"fault 10 0\n"),
+    (Ana, Words("LUK", b"\\Marker"), b"fault 41 1\n"),
+    (Ana, Listed("LUK"), b"fault 82\n"),
     (Ana, Find("LUK", b"\xff", ""), b"fault 10 0\n"),
     (Ana, Find("LUK", b"\\Marker", ""), b"fault 41 1\n"),
     (Ana, Found("LUK", ""), b"fault 82\n"),

@@ -69,6 +69,15 @@ fn told(alloc: Global, line: &Line) -> Result<String, Fail> {
             let book = str::from_utf8(&code)?;
             format!(in alloc; "find {project} book {book} sheet {sheet} needle {needle}")?
         }
+        Line::Words {
+            project,
+            book,
+            sheet,
+        } => {
+            let code = book.code();
+            let book = str::from_utf8(&code)?;
+            format!(in alloc; "words {project} book {book} sheet {sheet}")?
+        }
         Line::Report { project } => format!(in alloc; "report {project}")?,
         Line::Fold(book) => format!(in alloc; "fold {}", str::from_utf8(&book.code())?)?,
     })
@@ -134,6 +143,10 @@ const LINES: &[(&str, &str)] = &[
     (
         "find|ana.project|LUK|usfm.sty|the word",
         "find ana.project book LUK sheet usfm.sty needle the word",
+    ),
+    (
+        "words|ana.project|LUK|usfm.sty",
+        "words ana.project book LUK sheet usfm.sty",
     ),
     (
         "check|ana.project|LUK|usfm.sty",

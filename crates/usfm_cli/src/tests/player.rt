@@ -33,6 +33,9 @@ pub(crate) enum Step<'a> {
     Find(&'a str, &'a [u8], &'a str),
     // Finds by it.
     Found(&'a str, &'a str),
+    Words(&'a str, &'a [u8]),
+    // Lists words by it.
+    Listed(&'a str),
     // Sends, and keeps the bundle for the other.
     Pack,
     // Gives the delta for the other's summary, and keeps it for the other.
@@ -125,6 +128,10 @@ impl Player {
             Step::Found(code, needle) => {
                 let sheet = SHEET.as_bytes();
                 self.asked(rt, &Command::Find(Book::read(code)?, sheet, needle))
+            }
+            Step::Words(code, sheet) => self.asked(rt, &Command::Words(Book::read(code)?, sheet)),
+            Step::Listed(code) => {
+                self.asked(rt, &Command::Words(Book::read(code)?, SHEET.as_bytes()))
             }
             Step::Checked(code) => {
                 self.asked(rt, &Command::Check(Book::read(code)?, SHEET.as_bytes()))
