@@ -5,3 +5,4 @@ pub mod Standing
 pub mod KeyedLemmas
 pub mod Occurring
 pub mod Holding
+pub mod RunLemmas

@@ -1,0 +1,8 @@
+use Rattle.std.proofs.Common.{◌≡◌, take}
+use Rattle.std.specs.List.{flat_map}
+use Rattle.concordance.specs.Views.{passages_view}
+use Rattle.concordance.specs.Words.{runs_in}
+use Rattle.concordance.proofs.runs.runs.Given as goal
+
+abbrev pub invariant-loop-passage : goal.invariant-loop-passage
+invariant-loop-passage l = passages_view l.found.items ≡ flat_map runs_in (passages_view (take l.passage-index l.passages))
