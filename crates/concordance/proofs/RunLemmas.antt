@@ -1,8 +1,9 @@
 -- Runs of word characters, read from the left.
-use Rattle.std.proofs.Common.{◌≡◌, ℕ, suc, ◌+◌, ◌<◌, ◌≤◌, Bool, true, false, cond, not, ◌&&◌, List, [], ◌∷◌, ◌++◌, length, take, refl, sym, ap, subst, ◌∙◌, arith, append_assoc, length-append}
+use Rattle.std.proofs.Common.{◌≡◌, ℕ, suc, ◌+◌, ◌-◌, ◌<◌, ◌≤◌, IsUtf8, Bool, true, false, cond, not, ◌&&◌, List, [], ◌∷◌, ◌++◌, length, take, refl, sym, ap, subst, ◌∙◌, arith, append_assoc, length-append}
 use mathlib.Core.Bool.{beq}
 use Rattle.std.specs.List.{prefix_len}
-use Rattle.std.proofs.lemmas.Str.{chars-nil}
+use Rattle.std.proofs.lemmas.Str.{chars-nil, encodes-chars, length-encode, len_utf8_bounds}
+use Rattle.std.proofs.Math.Seq.{take-append_seam}
 use Rattle.std.specs.Prelude.{chars, take_while, encode_utf8, encode_utf8_all}
 use Rattle.concordance.specs.Passages.{Passage}
 use Rattle.concordance.specs.Words.{is_word_char, runs_behind}
@@ -126,3 +127,43 @@ run_more n rest at later gap at_is run later_is some =
 pub no_more : (n : ℕ) (rest at : List ℕ) → chars at ≡ behind false (chars rest) → at ≡ [] → runs_behind false n (chars rest) ≡ []
 no_more n rest at at_is e =
     past_gap n (chars rest) ∙ ap (runs_behind false (n + length (front_bytes false (chars rest)))) (sym at_is ∙ ap chars e ∙ chars-nil)
+
+-- a run is not empty
+char_some : (c : ℕ) → 0 < length (encode_utf8 c)
+char_some c = let e = length-encode c in let b = (len_utf8_bounds c).0 in omega arith
+
+pub run_some : (cs ds : List ℕ) → behind false cs ≡ ds → 0 < length ds → 0 < length (front_bytes true ds)
+run_some [] ds e h = absurd (let l = ap length e in omega arith)
+run_some (c ∷ cs) ds e h = by (run_some cs ds) (is_word_char c) refl e
+  where
+    begins : (d : ℕ) (rest : List ℕ) → is_word_char d ≡ true → 0 < length (front_bytes true (d ∷ rest))
+    begins d rest w =
+        let l = ap length (bytes_more true d rest w) in
+        let m = length-append (encode_utf8 d) (front_bytes true rest) in
+        let s = char_some d in
+        omega arith
+
+    by : (behind false cs ≡ ds → 0 < length ds → 0 < length (front_bytes true ds)) → (b : Bool) → is_word_char c ≡ b → cond (not b) (behind false cs) (c ∷ cs) ≡ ds → 0 < length (front_bytes true ds)
+    by go true w e = subst (λ (l : List ℕ). 0 < length (front_bytes true l)) e (begins c cs w)
+    by go false w e = go e h
+
+-- text that is not empty has characters
+pub chars_some : (bs : List ℕ) → IsUtf8 bs → 0 < length bs → 0 < length (chars bs)
+chars_some bs u h = by (chars bs) refl
+  where
+    by : (cs : List ℕ) → chars bs ≡ cs → 0 < length (chars bs)
+    by [] e = absurd (let l = ap length (sym (encodes-chars bs u) ∙ ap encode_utf8_all e) in omega arith)
+    by (c ∷ cs) e = (let l = ap length e in omega arith)
+
+-- one run of a text that begins at a place, where so much of the text is left
+pub next_run : (s t : ℕ) (rest at later : List ℕ) → length rest ≤ t → rest ≡ front_bytes false (chars rest) ++ at → chars at ≡ behind false (chars rest) → at ≡ front_bytes true (chars at) ++ later → chars later ≡ behind true (chars at) → 0 < length (chars at)
+    → runs_behind false (s + (t - length rest)) (chars rest) ≡ (let run : Passage = record { start = s + (t - length at); text = take (length at - length later) at } in run) ∷ runs_behind false (s + (t - length later)) (chars later)
+next_run s t rest at later fits gap at_is run later_is some =
+    let l = ap length gap ∙ length-append (front_bytes false (chars rest)) at in
+    let m = ap length run ∙ length-append (front_bytes true (chars at)) later in
+    let start : s + (t - length rest) + length (front_bytes false (chars rest)) ≡ s + (t - length at) = omega arith in
+    let end : s + (t - length rest) + length (front_bytes false (chars rest)) + length (front_bytes true (chars at)) ≡ s + (t - length later) = omega arith in
+    let size : length at - length later ≡ length (front_bytes true (chars at)) = omega arith in
+    let bytes : front_bytes true (chars at) ≡ take (length at - length later) at = sym (ap (λ n. take n at) size ∙ ap (take (length (front_bytes true (chars at)))) run ∙ take-append_seam (front_bytes true (chars at)) later) in
+    run_more (s + (t - length rest)) rest at later gap at_is run later_is some
+    ∙ (λ i. (let one : Passage = record { start = start i; text = bytes i } in one) ∷ runs_behind false (end i) (chars later))
