@@ -6,3 +6,5 @@ pub mod KeyedLemmas
 pub mod Occurring
 pub mod Holding
 pub mod RunLemmas
+pub mod Once
+pub mod EntryLemmas
