@@ -8,3 +8,4 @@ pub mod Holding
 pub mod RunLemmas
 pub mod Once
 pub mod EntryLemmas
+pub mod WordLists
