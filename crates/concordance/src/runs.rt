@@ -1,6 +1,6 @@
 //! Runs of word characters.
 
-ghost use Rattle.std.specs.Prelude.{◌≡◌, ◌<◌, ◌+◌, ◌^◌, ◌++◌, length, chars, OnOk, IfOk};
+ghost use Rattle.std.specs.Prelude.{◌≡◌, ◌<◌, ◌+◌, ◌^◌, ◌++◌, length, chars, IsUtf8, OnOk, IfOk};
 ghost use Rattle.std.specs.List.{flat_map, All};
 ghost use Rattle.concordance.specs.Reading.{EndsWithin};
 ghost use Rattle.concordance.specs.RunReading.{behind, front_bytes};
@@ -47,7 +47,8 @@ fn behind_front(text: &str, is_word: bool) -> &str
 // Puts the runs in a passage behind others.
 fn push_runs<'a>(runs: &mut Vec<Passage<'a>>, passage: Passage<'a>) -> Result<(), AllocError>
     requires { passage.start + length passage.text.now < 2 ^ 64 }
-    ensures { OnOk result (passages_view runs.new.items ≡ passages_view runs.old.items ++ words.runs_in (passage_view passage.entry)) }
+    ensures utf8 { IsUtf8 passage.entry.text.now }
+    ensures runs { OnOk result (passages_view runs.new.items ≡ passages_view runs.old.items ++ words.runs_in (passage_view passage.entry)) }
 {
     let mut rest = passage.text;
     loop {

@@ -8,8 +8,8 @@ use Rattle.concordance.specs.Views.{passage_view, passages_view}
 use Rattle.concordance.proofs.RunLemmas.{no_more, run_some, chars_some, next_run}
 use Rattle.concordance.proofs.runs.push_runs.Goals as goal
 
-pub returns-then-is_empty : goal.returns-then-is_empty
-returns-then-is_empty c =
+pub returns-then-is_empty-clause-runs : goal.returns-then-is_empty-clause-runs
+returns-then-is_empty-clause-runs c =
     let n = c.args.passage.start + (length c.args.passage.text.now - length c.loop-at.rest.now) in
     let none = no_more n c.loop-at.rest.now c.behind_front-at.result.now c.behind_front-at.ensures.rest (nil_from_length _ (eqb-true _ _ (sym c.if-is_empty.ensures))) in
     sym (append-nil (passages_view c.loop-at.runs.items)) ∙ ap (λ l. passages_view c.loop-at.runs.items ++ l) (sym none) ∙ c.loop-at.invariant.1.runs
@@ -43,6 +43,7 @@ loop-at-preserved c =
         ∙ ap (λ (t : List ℕ). passages_view c.loop-at.runs.items ++ (let one : Passage = record { start = run.start; text = t } in one) ∷ []) c.split_at.ensures.front in (
       c.behind_front-rest.utf8,
       record {
+        whole = c.loop-at.invariant.1.whole;
         within = let w = c.loop-at.invariant.1.within in omega arith;
         runs =
             ap (λ l. l ++ later) told ∙ append_assoc (passages_view c.loop-at.runs.items) (run ∷ []) later
