@@ -9,3 +9,4 @@ pub mod RunLemmas
 pub mod Once
 pub mod EntryLemmas
 pub mod WordLists
+pub mod RunPlaces

@@ -9,10 +9,10 @@ use Rattle.concordance.specs.Passages.{Passage}
 use Rattle.concordance.specs.Words.{is_word_char, runs_behind}
 use Rattle.concordance.specs.RunReading.{is_like, behind, front_bytes}
 
-abbrev after : Bool → ℕ → ℕ → List ℕ → List Passage
+abbrev pub after : Bool → ℕ → ℕ → List ℕ → List Passage
 after b n c cs = runs_behind b (n + length (encode_utf8 c)) cs
 
-one_step : (w : Bool) (n c : ℕ) (cs : List ℕ) (b : Bool) → is_word_char c ≡ b → runs_behind w n (c ∷ cs) ≡ cond (b && not w) ((let run : Passage = record { start = n; text = encode_utf8_all (take_while is_word_char (c ∷ cs)) } in run) ∷ after b n c cs) (after b n c cs)
+pub one_step : (w : Bool) (n c : ℕ) (cs : List ℕ) (b : Bool) → is_word_char c ≡ b → runs_behind w n (c ∷ cs) ≡ cond (b && not w) ((let run : Passage = record { start = n; text = encode_utf8_all (take_while is_word_char (c ∷ cs)) } in run) ∷ after b n c cs) (after b n c cs)
 one_step w n c cs b e = ap (λ (k : Bool). cond (k && not w) ((let run : Passage = record { start = n; text = encode_utf8_all (take_while is_word_char (c ∷ cs)) } in run) ∷ after k n c cs) (after k n c cs)) e
 
 -- ---- what stands at the front of characters
@@ -129,7 +129,7 @@ no_more n rest at at_is e =
     past_gap n (chars rest) ∙ ap (runs_behind false (n + length (front_bytes false (chars rest)))) (sym at_is ∙ ap chars e ∙ chars-nil)
 
 -- a run is not empty
-char_some : (c : ℕ) → 0 < length (encode_utf8 c)
+pub char_some : (c : ℕ) → 0 < length (encode_utf8 c)
 char_some c = let e = length-encode c in let b = (len_utf8_bounds c).0 in omega arith
 
 pub run_some : (cs ds : List ℕ) → behind false cs ≡ ds → 0 < length ds → 0 < length (front_bytes true ds)

@@ -2,7 +2,7 @@
 
 ghost use Rattle.std.specs.Prelude.{◌≡◌, ◌<◌, ◌+◌, ◌^◌, ◌++◌, length, chars, IsUtf8, OnOk, IfOk};
 ghost use Rattle.std.specs.List.{flat_map, All};
-ghost use Rattle.concordance.specs.Reading.{EndsWithin};
+ghost use Rattle.concordance.specs.Reading.{EndsWithin, IsText};
 ghost use Rattle.concordance.specs.RunReading.{behind, front_bytes};
 ghost use Rattle.concordance.specs.Views.{passage_view, passages_view};
 ghost use Rattle.concordance.specs.Words as words;
@@ -69,7 +69,8 @@ pub(crate) fn runs<'a>(
     passages: &[Passage<'a>],
 ) -> Result<Vec<Passage<'a>>, AllocError>
     requires { All EndsWithin (passages_view passages.now) }
-    ensures { IfOk result (λ found. passages_view found.items ≡ flat_map words.runs_in (passages_view passages.now)) }
+    ensures text { IfOk result (λ _. All IsText (passages_view passages.now)) }
+    ensures runs { IfOk result (λ found. passages_view found.items ≡ flat_map words.runs_in (passages_view passages.now)) }
 {
     let mut found = Vec::new(alloc);
     for passage in passages {
