@@ -5,3 +5,8 @@ pub mod Standing
 pub mod KeyedLemmas
 pub mod Occurring
 pub mod Holding
+pub mod RunLemmas
+pub mod Once
+pub mod EntryLemmas
+pub mod WordLists
+pub mod RunPlaces

@@ -5,3 +5,7 @@ pub mod Hits
 pub mod Reading
 pub mod Views
 pub mod KeyedViews
+pub mod Words
+pub mod RunReading
+pub mod SpellingViews
+pub mod EntryViews

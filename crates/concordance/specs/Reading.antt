@@ -1,5 +1,5 @@
 -- The plain leaves as one reading of the tree, from the left, and what is left of the pieces on the way.
-use Rattle.std.specs.Prelude.{◌≡◌, ℕ, suc, ◌+◌, ◌^◌, ◌<◌, Bool, true, ◌==◌, nat_le, nat_lt, not, ◌&&◌, ◌||◌, List, [], ◌∷◌, ◌++◌, length, drop, Option, None, Some, is_some, if◌then◌else◌}
+use Rattle.std.specs.Prelude.{◌≡◌, ℕ, suc, ◌+◌, ◌^◌, ◌<◌, Bool, true, ◌==◌, nat_le, nat_lt, not, ◌&&◌, ◌||◌, List, [], ◌∷◌, ◌++◌, length, drop, Option, None, Some, is_some, IsUtf8, if◌then◌else◌}
 use Rattle.std.specs.List.{list_any}
 use Rattle.sty_sheet.specs.Records.{Record}
 use Rattle.usfm_token.specs.Tokens.{MarkParts}
@@ -96,3 +96,7 @@ hold_all ps passages = are_neighbours (begin_of ps) ps && rise_between (begin_of
 -- a passage ends at a place that fits
 abbrev pub EndsWithin : Passage → Type 0
 EndsWithin p = p.start + length p.text < 2 ^ 64
+
+-- a passage's bytes are text
+abbrev pub IsText : Passage → Type 0
+IsText p = IsUtf8 p.text

@@ -79,16 +79,29 @@ fn found(alloc: Global, text: &str, needle: &str) -> Result<String, TestFault> {
     Ok(told)
 }
 
+// The words by the sheet of the tests, each with its keys.
+fn listed(alloc: Global, text: &str) -> Result<String, TestFault> {
+    let sheet = Sheet::read(alloc, SHEET)?;
+    let mut told = String::new(alloc);
+    for word in &words(alloc, text, &sheet)? {
+        told.push_str(word.form())?;
+        for key in word.keys() {
+            told.push_str(" ")?;
+            told.push_str(write_key(alloc, *key)?.as_str())?;
+        }
+        told.push_str(";")?;
+    }
+    Ok(told)
+}
+
 #[test]
 fn finds_gnats(rt: HostRuntime) -> Result<(), TestFault> {
     let alloc = rt.alloc();
-    assert_eq!(rt;
-        found(alloc, GNAT, "gnat")?.as_str(),
-        "1:1 27 gnat;1:1 52 gnat;"
-    );
+    assert_eq!(rt; found(alloc, GNAT, "gnat")?.as_str(), "1:1 27 gnat;1:1 52 gnat;");
     assert_eq!(rt; found(alloc, GNAT, "lemma")?.as_str(), "");
     assert_eq!(rt; found(alloc, GNAT, "+")?.as_str(), "");
     assert_eq!(rt; found(alloc, GNAT, "1")?.as_str(), "");
+    assert_eq!(rt; listed(alloc, GNAT)?.as_str(), "In 1:1;gnat 1:1;the 1:1;");
     Ok(())
 }
 
@@ -113,6 +126,7 @@ fn passes_over_milestones(rt: HostRuntime) -> Result<(), TestFault> {
     let alloc = rt.alloc();
     let text = "\\p \\qt-s |who=\"Pilate\"\\*Are you\\qt-e\\*?";
     assert_eq!(rt; found(alloc, text, "Pilate")?.as_str(), "");
+    assert_eq!(rt; listed(alloc, text)?.as_str(), "Are 0;you 0;");
     Ok(())
 }
 
@@ -123,11 +137,17 @@ fn cuts_numbers_and_attributes_where_they_stand(rt: HostRuntime) -> Result<(), T
     assert_eq!(rt; found(alloc, "\\p\\+v 3", "3")?.as_str(), "0 6 3;");
     assert_eq!(rt; found(alloc, "\\p\\v* 3", "3")?.as_str(), "0 6 3;");
     assert_eq!(rt; found(alloc, "\\p \\w a|b", "b")?.as_str(), "0 8 b;");
-    assert_eq!(rt;
-        found(alloc, "\\p \\w a|b\\+nd c|d\\+nd*\\w*", "b")?.as_str(),
-        "0 8 b;"
-    );
+    assert_eq!(rt; found(alloc, "\\p \\w a|b\\+nd c|d\\+nd*\\w*", "b")?.as_str(), "0 8 b;");
     assert_eq!(rt; found(alloc, "\\p \\w a|b\\w*|c", "c")?.as_str(), "0 13 c;");
     assert_eq!(rt; found(alloc, "\\s a\\p a", "a")?.as_str(), "0 7 a;");
+    Ok(())
+}
+
+#[test]
+fn composes_words(rt: HostRuntime) -> Result<(), TestFault> {
+    let alloc = rt.alloc();
+    let text = "\\c 1\\p\\v 2 caf\u{e9} b\\v 3 cafe\u{301} \u{301}b B\\v 4 b1b";
+    let want = "B 1:3;b 1:2 1:4;caf\u{e9} 1:2 1:3;\u{301}b 1:3;";
+    assert_eq!(rt; listed(alloc, text)?.as_str(), want);
     Ok(())
 }

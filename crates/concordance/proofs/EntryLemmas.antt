@@ -1,0 +1,48 @@
+-- The order of spellings: it is total, and tells apart what differs; entries are tested for it.
+use Rattle.std.proofs.Common.{◌≡◌, ℕ, Bool, true, false, ◌&&◌, List, refl, sym, ap, subst, ◌∙◌}
+use Rattle.std.specs.declared.cmp.Ordering.{Ordering}
+use Rattle.std.specs.declared.cmp.Ordering.TheVariants.{Less, Equal, Greater}
+use Rattle.std.specs.Ordering.{ordering_then, is_eq}
+use Rattle.std.specs.Cmp.{IsTotalOrder, Equal-is, both_ways, tied_itself}
+use Rattle.std.specs.Cmp.Lexicographic.{nat_list_cmp_total, texts_ties}
+use Rattle.std.specs.FinMap.{slice_cmp-IsAntisymmetric, nat_cmp-IsAntisymmetric}
+use Rattle.std.specs.Str.{bytes_eq}
+use Rattle.std.proofs.lemmas.Cmp.{on_total, then_total}
+use Rattle.usfm_ref.specs.Keys.{KeyParts, key_cmp, same_key}
+use Rattle.usfm_ref.proofs.Orders.{key_total, key_exact, same_key-is, same_key-refl}
+use Rattle.concordance.specs.Words.{Spelling, form_cmp}
+use Rattle.concordance.specs.EntryViews.{spelling_cmp}
+
+pub form_total : IsTotalOrder form_cmp
+form_total = nat_list_cmp_total
+
+pub form_exact : (a b : List ℕ) → form_cmp a b ≡ Equal → a ≡ b
+form_exact a b h = slice_cmp-IsAntisymmetric nat_cmp-IsAntisymmetric a b h
+
+pub spelling_total : IsTotalOrder spelling_cmp
+spelling_total = then_total (on_total (λ (s : Spelling). s.form) form_total) (on_total (λ (s : Spelling). s.key) key_total)
+
+then_parts : (a b : Ordering) → ordering_then a b ≡ Equal → (a ≡ Equal) × (b ≡ Equal)
+then_parts Less b h = cc
+then_parts Equal b h = (refl, h)
+then_parts Greater b h = cc
+
+pub spelling_exact : (a b : Spelling) → spelling_cmp a b ≡ Equal → a ≡ b
+spelling_exact a b h =
+    let p = then_parts (form_cmp a.form b.form) (key_cmp a.key b.key) h in
+    λ i. record { form = form_exact a.form b.form p.0 i; key = key_exact a.key b.key p.1 i }
+
+-- ---- tests of equality
+
+same_key-cmp : (a b : KeyParts) → same_key a b ≡ is_eq (key_cmp a b)
+same_key-cmp a b = both_ways (same_key a b) (is_eq (key_cmp a b))
+    (λ h. subst (λ (c : KeyParts). is_eq (key_cmp a c) ≡ true) (same_key-is a b h) (ap is_eq (tied_itself key_total a)))
+    (λ h. subst (λ (c : KeyParts). same_key a c ≡ true) (key_exact a b ((Equal-is _).0 h)) (same_key-refl a))
+
+eq_then : (a b : Ordering) → is_eq (ordering_then a b) ≡ (is_eq a && is_eq b)
+eq_then Less b = refl
+eq_then Equal b = refl
+eq_then Greater b = refl
+
+pub spelling_tests : (a b : Spelling) → (bytes_eq a.form b.form && same_key a.key b.key) ≡ is_eq (spelling_cmp a b)
+spelling_tests a b = (λ i. texts_ties a.form b.form i && same_key-cmp a.key b.key i) ∙ sym (eq_then (form_cmp a.form b.form) (key_cmp a.key b.key))
