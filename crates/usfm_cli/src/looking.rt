@@ -127,7 +127,8 @@ fn push_word(alloc: Global, bytes: &mut Vec<u8>, word: &Word) -> Result<(), Allo
 {
     bytes.extend_from_slice(word.form().as_bytes())?;
     push_keys(alloc, bytes, word.keys())?;
-    bytes.push(b'\n')
+    bytes.push(b'\n')?;
+    Ok(())
 }
 
 // Appends each key after a space.
