@@ -1,12 +1,12 @@
 -- Items sorted and told once, seen by what contracts see of them, are the rising ones.
-use Rattle.std.proofs.Common.{◌≡◌, Bool, true, false, cond, ◌&&◌, ◌||◌, List, [], ◌∷◌, map, refl, sym, ap, subst, ◌∙◌}
+use Rattle.std.proofs.Common.{◌≡◌, Bool, true, false, cond, ◌||◌, List, [], ◌∷◌, map, refl, sym, ap, ◌∙◌}
 use Rattle.std.specs.declared.cmp.Ordering.{Ordering}
 use Rattle.std.specs.declared.cmp.Ordering.TheVariants.{Less, Equal}
 use Rattle.std.specs.Cmp.{IsTotalOrder, Equal-is}
 use Rattle.std.specs.List.{list_any, list_all, dedup, dedup_from, AllByRecursion}
 use Rattle.std.specs.List.Retain.{IsFiltered, DiffersFromLast}
 use Rattle.std.specs.List.Sorted.{IsSorted, IsStrictlySortedBy, IsPermutation}
-use Rattle.std.specs.Ordering.{is_eq, is_lt, eq_by_cmp}
+use Rattle.std.specs.Ordering.{is_eq, is_lt}
 use Rattle.std.proofs.lemmas.Bool.{and_from}
 use Rattle.std.proofs.lemmas.Cmp.{on_total}
 use Rattle.std.proofs.lemmas.List.Filters.{dedup_is}
@@ -62,8 +62,8 @@ module _ {X K : Type 0} (view : X → K) (cmp : K → K → Ordering) (o : IsTot
     sorted_once items sorted once p s f =
         ap (map view) (dedup_is eq sorted once f)
         ∙ same_tested cmp o exact (map view (dedup eq sorted)) (rising cmp (map view items))
-          (strict_rises (dedup eq sorted) (IsStrictlySortedBy-dedup (on_total view o) ties sorted s))
-          (rises-rising cmp o (map view items))
-          (λ q.
-              tested_seen q (dedup eq sorted) ∙ any_dedup q sorted ∙ sym (list_any-IsPermutation (λ x. is_eq (cmp q (view x))) items sorted p)
-              ∙ sym (tested_seen q items) ∙ sym (tested_rising cmp o exact q (map view items)))
+        (strict_rises (dedup eq sorted) (IsStrictlySortedBy-dedup (on_total view o) ties sorted s))
+        (rises-rising cmp o (map view items))
+        (λ q.
+        tested_seen q (dedup eq sorted) ∙ any_dedup q sorted ∙ sym (list_any-IsPermutation (λ x. is_eq (cmp q (view x))) items sorted p)
+        ∙ sym (tested_seen q items) ∙ sym (tested_rising cmp o exact q (map view items)))

@@ -1,11 +1,11 @@
 -- Where the runs of a text stand: apart within their passages, and none is empty.
-use Rattle.std.proofs.Common.{◌≡◌, ℕ, ◌+◌, ◌≤◌, ◌<◌, Bool, true, false, cond, not, ◌&&◌, List, [], ◌∷◌, ◌++◌, All, length, refl, sym, ap, subst, ◌∙◌, arith, append_assoc, append-nil, length-append}
+use Rattle.std.proofs.Common.{◌≡◌, ℕ, ◌+◌, Bool, true, false, List, [], ◌∷◌, ◌++◌, All, length, refl, sym, ap, subst, ◌∙◌, arith, append_assoc, append-nil, length-append}
 use Rattle.std.specs.List.{flat_map}
-use Rattle.std.specs.Prelude.{IsUtf8, chars, encode_utf8, encode_utf8_all, map}
+use Rattle.std.specs.Prelude.{chars, encode_utf8, encode_utf8_all, map}
 use Rattle.std.proofs.lemmas.List.Elements.{All-head, All-tail}
 use Rattle.std.proofs.lemmas.Str.{encodes-chars}
 use Rattle.sty_sheet.specs.Records.{Record}
-use Rattle.verse_cut.specs.Pieces.{Part, pieces_of}
+use Rattle.verse_cut.specs.Pieces.{Part}
 use Rattle.concordance.specs.Hits.{keyed}
 use Rattle.concordance.specs.Passages.{Passage}
 use Rattle.concordance.specs.Plain.{plain_leaves}
@@ -14,7 +14,7 @@ use Rattle.concordance.specs.RunReading.{is_like, behind, front_bytes}
 use Rattle.concordance.specs.SpellingViews.{spelled}
 use Rattle.concordance.specs.Words.{is_word_char, runs_behind, runs_in, spelling_at}
 use Rattle.concordance.proofs.Holding.{Filled, filled_each}
-use Rattle.concordance.proofs.RunLemmas.{after, one_step, char_some, bytes_more, bytes_none, behind_more, behind_none}
+use Rattle.concordance.proofs.RunLemmas.{one_step, char_some, bytes_more, bytes_none, behind_more, behind_none}
 use Rattle.concordance.proofs.Standing.{Stands, Apart, apart_from, apart_to, apart_append, stands_within, leaves_apart}
 
 abbrev bytes_at : ℕ → List ℕ → Passage
@@ -40,7 +40,7 @@ apart_behind : (s : List ℕ) (w : Bool) (n : ℕ) (cs : List ℕ) → Stands s 
 apart_behind s w n [] h = tt
 apart_behind s w n (c ∷ cs) h =
     let here : Stands s (bytes_at (n + length (encode_utf8 c)) (encode_utf8_all cs)) =
-        stands_within s (bytes_at n (encode_utf8_all (c ∷ cs))) (bytes_at (n + length (encode_utf8 c)) (encode_utf8_all cs)) (encode_utf8 c) [] h (ap (λ l. encode_utf8 c ++ l) (sym (append-nil (encode_utf8_all cs)))) refl in
+    stands_within s (bytes_at n (encode_utf8_all (c ∷ cs))) (bytes_at (n + length (encode_utf8 c)) (encode_utf8_all cs)) (encode_utf8 c) [] h (ap (λ l. encode_utf8 c ++ l) (sym (append-nil (encode_utf8_all cs)))) refl in
     by w (apart_behind s true (n + length (encode_utf8 c)) cs here) (apart_behind s false (n + length (encode_utf8 c)) cs here) (is_word_char c) refl
   where
     whole : length (encode_utf8_all (c ∷ cs)) ≡ length (encode_utf8 c) + length (encode_utf8_all cs)

@@ -1,10 +1,10 @@
 -- Words gathered from spellings: the spellings of the least form first, and whichever the spellings' order.
-use Rattle.std.proofs.Common.{◌≡◌, ℕ, suc, ◌+◌, ◌<◌, Bool, true, false, cond, ◌&&◌, ◌||◌, List, [], ◌∷◌, ◌++◌, length, take, drop, get_or, map, filter, append-nil, ◌⊎◌, inl, inr, refl, sym, ap, subst, ◌∙◌, arith}
+use Rattle.std.proofs.Common.{◌≡◌, ℕ, ◌<◌, Bool, true, false, cond, ◌&&◌, ◌||◌, List, [], ◌∷◌, ◌++◌, length, take, drop, get_or, map, filter, append-nil, ◌⊎◌, inl, inr, refl, sym, ap, subst, ◌∙◌, arith}
 use Rattle.std.specs.declared.cmp.Ordering.{Ordering}
 use Rattle.std.specs.declared.cmp.Ordering.TheVariants.{Less, Equal, Greater}
 use Rattle.std.specs.Ordering.{is_eq, is_lt, ordering_then}
-use Rattle.std.specs.Cmp.{IsTotalOrder, Equal-is, tied_itself}
-use Rattle.std.specs.Cmp.Lexicographic.{bytes_decides, texts_ties}
+use Rattle.std.specs.Cmp.{tied_itself}
+use Rattle.std.specs.Cmp.Lexicographic.{bytes_decides}
 use Rattle.std.specs.FinMap.Entries.{by_order}
 use Rattle.std.specs.List.{list_any, list_all, take_while}
 use Rattle.std.specs.Str.{bytes_eq}
@@ -18,7 +18,7 @@ use Rattle.usfm_ref.specs.Keys.{KeyParts, key_cmp}
 use Rattle.usfm_ref.specs.Rising.{rises_by, with_item, rising}
 use Rattle.usfm_ref.proofs.Members.{same_tested, tested_rising}
 use Rattle.usfm_ref.proofs.Orders.{key_total, key_exact}
-use Rattle.usfm_ref.proofs.Sorted.{rises-rising, is_less, Above, parts, first_above}
+use Rattle.usfm_ref.proofs.Sorted.{rises-rising, is_less, Above, parts}
 use Rattle.concordance.specs.EntryViews.{entry_view, entries_view, spelling_cmp}
 use Rattle.concordance.specs.Words.{Spelling, WordParts, form_cmp, keys_with, word_with, words_in}
 use Rattle.concordance.specs.declared.listing.Entry.{Entry}
@@ -98,9 +98,9 @@ forms_once ss =
     same_tested form_cmp form_total form_exact (rising form_cmp (map (λ s. s.form) once)) (rising form_cmp (map (λ s. s.form) ss))
     (rises-rising form_cmp form_total (map (λ s. s.form) once)) (rises-rising form_cmp form_total (map (λ s. s.form) ss))
     (λ f.
-        tested_rising form_cmp form_total form_exact f (map (λ s. s.form) once) ∙ any_forms f once
-        ∙ any_rising spelling_cmp spelling_exact (λ s. is_eq (form_cmp f s.form)) ss
-        ∙ sym (any_forms f ss) ∙ sym (tested_rising form_cmp form_total form_exact f (map (λ s. s.form) ss)))
+    tested_rising form_cmp form_total form_exact f (map (λ s. s.form) once) ∙ any_forms f once
+    ∙ any_rising spelling_cmp spelling_exact (λ s. is_eq (form_cmp f s.form)) ss
+    ∙ sym (any_forms f ss) ∙ sym (tested_rising form_cmp form_total form_exact f (map (λ s. s.form) ss)))
 
 keys_once : (f : List ℕ) (ss : List Spelling) → rising key_cmp (keys_with (rising spelling_cmp ss) f) ≡ rising key_cmp (keys_with ss f)
 keys_once f ss =
@@ -108,9 +108,9 @@ keys_once f ss =
     same_tested key_cmp key_total key_exact (rising key_cmp (keys_with once f)) (rising key_cmp (keys_with ss f))
     (rises-rising key_cmp key_total (keys_with once f)) (rises-rising key_cmp key_total (keys_with ss f))
     (λ k.
-        tested_rising key_cmp key_total key_exact k (keys_with once f) ∙ any_keys f k once
-        ∙ any_rising spelling_cmp spelling_exact (λ s. bytes_eq s.form f && is_eq (key_cmp k s.key)) ss
-        ∙ sym (any_keys f k ss) ∙ sym (tested_rising key_cmp key_total key_exact k (keys_with ss f)))
+    tested_rising key_cmp key_total key_exact k (keys_with once f) ∙ any_keys f k once
+    ∙ any_rising spelling_cmp spelling_exact (λ s. bytes_eq s.form f && is_eq (key_cmp k s.key)) ss
+    ∙ sym (any_keys f k ss) ∙ sym (tested_rising key_cmp key_total key_exact k (keys_with ss f)))
 
 pub words_once : (ss : List Spelling) → words_in (rising spelling_cmp ss) ≡ words_in ss
 words_once ss =
@@ -316,8 +316,8 @@ front_word x (y ∷ es) front back n some is len e d r =
     let over : list_all (is_over f) (entries_view dr) ≡ true = ap (λ l. list_all (is_over f) (entries_view l)) dr_is ∙ back_over f (entry_view y) es first p.0 p.1 in
     let r' : Rises (entries_view tw ++ entries_view dr) = subst Rises split r in (
       ap words_in split
-      ∙ words_split f (entries_view tw) (entries_view dr) (let l = length-map tw entry_view in omega arith) (front_has f (y ∷ es)) over (rises_front (entries_view tw) (entries_view dr) r')
-      ∙ (λ i. (let word : WordParts = record { form = f; keys = (keys_seen tw ∙ ap (map (λ e. e.key)) (sym front_is)) i } in word) ∷ words_in (entries_view (sym back_is i))),
+          ∙ words_split f (entries_view tw) (entries_view dr) (let l = length-map tw entry_view in omega arith) (front_has f (y ∷ es)) over (rises_front (entries_view tw) (entries_view dr) r')
+          ∙ (λ i. (let word : WordParts = record { form = f; keys = (keys_seen tw ∙ ap (map (λ e. e.key)) (sym front_is)) i } in word) ∷ words_in (entries_view (sym back_is i))),
       subst (λ l. Rises (entries_view l)) (sym back_is) (rises_back (entries_view tw) (entries_view dr) r'),
       omega arith,
     )

@@ -1,5 +1,5 @@
 -- The runs of word characters as a reading from the left.
-use Rattle.std.specs.Prelude.{ℕ, Bool, true, false, not, List, [], ◌∷◌, take_while, if◌then◌else◌, chars, encode_utf8_all}
+use Rattle.std.specs.Prelude.{ℕ, Bool, true, false, not, List, [], ◌∷◌, take_while, if◌then◌else◌, encode_utf8_all}
 use Rattle.concordance.specs.Words.{is_word_char}
 
 -- a word character, or another

@@ -105,7 +105,10 @@ fn front_len(form: &str, entries: &[Entry<'_>]) -> usize
     ensures value { result ≡ length (take_while (λ e. bytes_eq e.form.now form.now) entries.now) }
     ensures within { result ≤ length entries.now }
 {
-    entries.iter().take_while(|entry| entry.form == form).count()
+    entries
+        .iter()
+        .take_while(|entry| entry.form == form)
+        .count()
 }
 
 // A word for each form of rising entries.

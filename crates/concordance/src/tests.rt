@@ -97,7 +97,10 @@ fn listed(alloc: Global, text: &str) -> Result<String, TestFault> {
 #[test]
 fn finds_gnats(rt: HostRuntime) -> Result<(), TestFault> {
     let alloc = rt.alloc();
-    assert_eq!(rt; found(alloc, GNAT, "gnat")?.as_str(), "1:1 27 gnat;1:1 52 gnat;");
+    assert_eq!(rt;
+        found(alloc, GNAT, "gnat")?.as_str(),
+        "1:1 27 gnat;1:1 52 gnat;"
+    );
     assert_eq!(rt; found(alloc, GNAT, "lemma")?.as_str(), "");
     assert_eq!(rt; found(alloc, GNAT, "+")?.as_str(), "");
     assert_eq!(rt; found(alloc, GNAT, "1")?.as_str(), "");
@@ -137,7 +140,10 @@ fn cuts_numbers_and_attributes_where_they_stand(rt: HostRuntime) -> Result<(), T
     assert_eq!(rt; found(alloc, "\\p\\+v 3", "3")?.as_str(), "0 6 3;");
     assert_eq!(rt; found(alloc, "\\p\\v* 3", "3")?.as_str(), "0 6 3;");
     assert_eq!(rt; found(alloc, "\\p \\w a|b", "b")?.as_str(), "0 8 b;");
-    assert_eq!(rt; found(alloc, "\\p \\w a|b\\+nd c|d\\+nd*\\w*", "b")?.as_str(), "0 8 b;");
+    assert_eq!(rt;
+        found(alloc, "\\p \\w a|b\\+nd c|d\\+nd*\\w*", "b")?.as_str(),
+        "0 8 b;"
+    );
     assert_eq!(rt; found(alloc, "\\p \\w a|b\\w*|c", "c")?.as_str(), "0 13 c;");
     assert_eq!(rt; found(alloc, "\\s a\\p a", "a")?.as_str(), "0 7 a;");
     Ok(())

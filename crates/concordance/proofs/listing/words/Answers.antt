@@ -4,10 +4,8 @@ use Rattle.std.specs.Prelude.{IfOk}
 use Rattle.sty_sheet.specs.Views.{records_of}
 use Rattle.usfm_ref.specs.Rising.{rises_by}
 use Rattle.usfm_ref.proofs.Sorted.{rises-rising}
-use Rattle.verse_cut.specs.Pieces.{pieces_of}
 use Rattle.verse_cut.specs.Views.{parts_of}
 use Rattle.concordance.specs.EntryViews.{entries_view, spelling_cmp}
-use Rattle.concordance.specs.Hits.{keyed}
 use Rattle.concordance.specs.Plain.{plain_leaves}
 use Rattle.concordance.specs.Reading.{EndsWithin, IsText, hold_all}
 use Rattle.concordance.specs.SpellingViews.{spelled, spellings_view}
@@ -49,9 +47,9 @@ unfolding words_of
 returns c =
     let at = (goal.at.returns c).After-deref-3 in
     let told : words_in (entries_view c.deref-5.result.now) ≡ words_of (records_of c.args.sheet.now) c.args.text.now =
-        ap (λ es. words_in (entries_view es)) c.deref-5.ensures.value ∙ ap words_in c.in_ok-entries.ensures
-        ∙ words_once (spellings_view c.deref-4.result.now)
-        ∙ ap words_in
-          (ap spellings_view c.deref-4.ensures.value ∙ c.in_ok-spellings.ensures ∙ ap (map spelled) c.new.ensures ∙ runs_spelled (parts_of c.deref-3.result.now) (passages_view c.deref-2.result.now)
-          ∙ (λ i. map (spelling_at ((ap parts_of c.deref-3.ensures.value ∙ c.in_ok-pieces.ensures.value) i)) (found at i))) in
+    ap (λ es. words_in (entries_view es)) c.deref-5.ensures.value ∙ ap words_in c.in_ok-entries.ensures
+    ∙ words_once (spellings_view c.deref-4.result.now)
+    ∙ ap words_in
+    (ap spellings_view c.deref-4.ensures.value ∙ c.in_ok-spellings.ensures ∙ ap (map spelled) c.new.ensures ∙ runs_spelled (parts_of c.deref-3.result.now) (passages_view c.deref-2.result.now)
+    ∙ (λ i. map (spelling_at ((ap parts_of c.deref-3.ensures.value ∙ c.in_ok-pieces.ensures.value) i)) (found at i))) in
     subst (λ (ws : List WordParts). IfOk c.gathered.result (λ words. words.items ≡ ws)) told c.gathered.ensures

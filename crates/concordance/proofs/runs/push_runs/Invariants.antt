@@ -12,7 +12,7 @@ invariant-loop-at l =
       whole : IsUtf8 l.passage.text.now;
       within : length l.rest ≤ length l.passage.text.now;
       runs : passages_view l.runs.items ++ runs_behind false (l.passage.start + (length l.passage.text.now - length l.rest)) (chars l.rest)
-      ≡ passages_view l.initial.runs.items ++ runs_in (passage_view l.passage);
+          ≡ passages_view l.initial.runs.items ++ runs_in (passage_view l.passage);
     })
 
 abbrev pub decreases-loop-at : goal.decreases-loop-at
