@@ -27,6 +27,8 @@ const ONE_TO_FIVE: &[u8] =
 const FOUR_ALONE: &[u8] =
     b"USFMSS1\n\0\0\0\0\0\0\0\x01\x03ana\0\0\0\0\0\0\0\x01\0\0\0\0\0\0\0\x04\0\0\0\0\0\0\0\x04";
 
+const BOOK: &str = "\\id MAT\n\\c 1\n\\v 1 In\n";
+
 fn begun(alloc: Global, name: &str) -> Result<Replica, Fail> {
     Ok(Replica::new(alloc, ReplicaName::read(name)?))
 }
@@ -71,9 +73,8 @@ fn edits_exchanged(rt: HostRuntime) -> Result<(), Fail> {
     let mat = Book::read("MAT")?;
     let mut ana = begun(alloc, "ana")?;
     let mut ben = begun(alloc, "ben")?;
-    for replica in [&mut ana, &mut ben] {
-        assert_eq!(rt; replica.import("\\id MAT\n\\c 1\n\\v 1 In\n")?, 3);
-    }
+    assert_eq!(rt; ana.import(BOOK)?, 3);
+    assert_eq!(rt; ben.import(BOOK)?, 3);
     assert_eq!(rt; sent(alloc, &ana, &mut ben)?, 3);
     assert_eq!(rt; sent(alloc, &ben, &mut ana)?, 3);
     assert_eq!(rt; ana.edit(mat, verse(1, 1)?, "\\v 1 To\n")?.number, 4);
