@@ -10,3 +10,4 @@ pub mod Once
 pub mod EntryLemmas
 pub mod WordLists
 pub mod RunPlaces
+pub mod RunLaws

@@ -17,13 +17,13 @@ one_step w n c cs b e = ap (λ (k : Bool). cond (k && not w) ((let run : Passage
 
 -- ---- what stands at the front of characters
 
-front_more : (w : Bool) (c : ℕ) (cs : List ℕ) → is_like w c ≡ true → take_while (is_like w) (c ∷ cs) ≡ c ∷ take_while (is_like w) cs
+pub front_more : (w : Bool) (c : ℕ) (cs : List ℕ) → is_like w c ≡ true → take_while (is_like w) (c ∷ cs) ≡ c ∷ take_while (is_like w) cs
 front_more w c cs e =
     let n = prefix_len (is_like w) cs in
     let one : 1 + n ≡ suc n = omega arith in
     ap (λ (b : Bool). take (cond b (1 + n) 0) (c ∷ cs)) e ∙ ap (λ k. take k (c ∷ cs)) one
 
-front_none : (w : Bool) (c : ℕ) (cs : List ℕ) → is_like w c ≡ false → take_while (is_like w) (c ∷ cs) ≡ []
+pub front_none : (w : Bool) (c : ℕ) (cs : List ℕ) → is_like w c ≡ false → take_while (is_like w) (c ∷ cs) ≡ []
 front_none w c cs e = ap (λ (b : Bool). take (cond b (1 + prefix_len (is_like w) cs) 0) (c ∷ cs)) e
 
 pub behind_more : (w : Bool) (c : ℕ) (cs : List ℕ) → is_like w c ≡ true → behind w (c ∷ cs) ≡ behind w cs

@@ -9,3 +9,4 @@ pub mod Words
 pub mod RunReading
 pub mod SpellingViews
 pub mod EntryViews
+pub mod Laws

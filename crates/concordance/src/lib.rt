@@ -14,6 +14,7 @@ mod fault;
 mod finding;
 mod hit;
 mod keyed;
+pub mod laws;
 mod listing;
 mod passage;
 mod places;
