@@ -11,3 +11,4 @@ pub mod EntryLemmas
 pub mod WordLists
 pub mod RunPlaces
 pub mod RunLaws
+pub mod Absent

@@ -34,7 +34,7 @@ module _ (s needle : List ℕ) (some : 0 < length needle) (p : Passage) (stands 
   abbrev place : ℕ → Passage
   place at = record { start = p.start + at; text = needle }
 
-  stands_at : (at : ℕ) → OccursAt p.text needle at → Stands s (place at)
+  pub stands_at : (at : ℕ) → OccursAt p.text needle at → Stands s (place at)
   stands_at at h =
       let low = h.fits in
       stands_within s p (place at) (take at p.text) (drop (at + length needle) p.text) stands

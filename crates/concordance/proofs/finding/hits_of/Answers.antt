@@ -1,4 +1,4 @@
-use Rattle.std.proofs.Common.{◌≡◌, ◌∙◌, ap, sym, subst, arith, All, map, length}
+use Rattle.std.proofs.Common.{◌≡◌, ◌∙◌, refl, ap, sym, subst, arith, All, map, length}
 use Rattle.std.specs.List.{flat_map}
 use Rattle.std.proofs.lemmas.Iterator.Consumers.{YieldsList-from_first, map_from_collect}
 use Rattle.sty_sheet.specs.Views.{records_of}
@@ -9,6 +9,7 @@ use Rattle.concordance.specs.Plain.{plain_leaves}
 use Rattle.concordance.specs.Reading.{EndsWithin, hold_all}
 use Rattle.concordance.specs.Views.{passages_view, hit_view}
 use Rattle.concordance.proofs.Holding.{all_fit, pieces_hold, found_apart, found_filled}
+use Rattle.concordance.proofs.Absent.{no_hits}
 use Rattle.concordance.proofs.Standing.{leaves_apart}
 use Rattle.concordance.proofs.finding.hits_of.Goals.{After-deref-3}
 use Rattle.concordance.proofs.finding.hits_of.Goals as goal
@@ -23,14 +24,19 @@ found c =
     ap passages_view c.deref-2.ensures.value ∙ c.in_ok-found.ensures
     ∙ ap (flat_map (occurrences c.args.needle.now)) (ap passages_view c.deref.ensures.value ∙ c.in_ok-leaves.ensures)
 
-pub new-requires : goal.new-requires
-new-requires c =
+pub new-requires-2 : goal.new-requires-2
+new-requires-2 c =
     let sheet = records_of c.args.sheet.now in
     (λ i. hold_all (parts_of (c.deref-3.ensures.value i)) (found c i))
     ∙ pieces_hold c.args.text.now (parts_of c.in_ok-pieces.pieces.items) _ c.in_ok-pieces.ensures.cut (found_apart sheet c.args.text.now c.args.needle.now c.requires.some) (found_filled sheet c.args.text.now c.args.needle.now c.requires.some)
 
-pub returns : goal.returns
+pub returns-then-not-occurs-clause-hits : goal.returns-then-not-occurs-clause-hits
+returns-then-not-occurs-clause-hits c =
+    ap (map hit_view) c.new.ensures.items
+    ∙ no_hits c.args.text.now c.args.needle.now c.requires.some (c.if-not-occurs.ensures.no refl) (records_of c.args.sheet.now)
+
+pub returns-clause-hits : goal.returns-clause-hits
 unfolding hits_of
-returns c = record {
-  hits = map_from_collect _ c.collect.ensures.ran (YieldsList-from_first hit_view hits_left _ (c.new.ensures ∙ (λ i. map (keyed ((ap parts_of c.deref-3.ensures.value ∙ c.in_ok-pieces.ensures.value) i)) (found (goal.at.returns c).After-deref-3 i))));
-}
+returns-clause-hits c =
+    map_from_collect _ c.collect.ensures.ran (YieldsList-from_first hit_view hits_left _ (c.new-2.ensures
+    ∙ (λ i. map (keyed ((ap parts_of c.deref-3.ensures.value ∙ c.in_ok-pieces.ensures.value) i)) (found (goal.at.returns-clause-hits c).After-deref-3 i))))
