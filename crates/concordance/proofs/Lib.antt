@@ -11,4 +11,5 @@ pub mod EntryLemmas
 pub mod WordLists
 pub mod RunPlaces
 pub mod RunLaws
+pub mod Letters
 pub mod Absent

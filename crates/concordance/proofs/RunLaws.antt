@@ -1,5 +1,5 @@
 -- The runs of a passage are its longest ones, and each word character lies in one.
-use Rattle.std.proofs.Common.{◌≡◌, ℕ, ◌+◌, ◌<◌, ◌≤◌, Bool, true, false, cond, not, ◌&&◌, List, [], ◌∷◌, ◌++◌, All, length, get_or, count_by, refl, sym, ap, ◌∙◌, arith, append_assoc, append-nil, length-append, ltb-true, lt-ltb}
+use Rattle.std.proofs.Common.{◌≡◌, ℕ, ◌+◌, ◌<◌, Bool, true, false, cond, not, ◌&&◌, List, [], ◌∷◌, ◌++◌, All, length, get_or, count_by, refl, sym, ap, ◌∙◌, arith, append_assoc, append-nil, length-append, ltb-true, lt-ltb}
 use Rattle.std.specs.Prelude.{nat_le, nat_lt, chars, encode_utf8, encode_utf8_all, take_while}
 use Rattle.std.specs.List.{list_all}
 use Rattle.std.specs.Cmp.{both_ways}
@@ -11,7 +11,7 @@ use Rattle.std.proofs.lemmas.Str.{encodes-append}
 use Rattle.concordance.specs.Laws.{IsLongestRun, RunsAreLongest, WordCharactersAreInOneRun, lies_in}
 use Rattle.concordance.specs.Passages.{Passage}
 use Rattle.concordance.specs.RunReading.{is_like, behind, front_bytes}
-use Rattle.concordance.specs.Words.{is_word_char, runs_behind, runs_in}
+use Rattle.concordance.specs.Words.{is_word_char, runs_behind}
 use Rattle.concordance.proofs.RunLemmas.{after, front_more, front_none, behind_more, behind_none, bytes_more, bytes_none, char_some}
 
 -- ---- the word characters at the front

@@ -11,10 +11,14 @@ use crate::passage::Passage;
 use std::alloc::{AllocError, Global};
 use unicode::properties::{GeneralCategory, is_alphabetic};
 
-// Whether a character is alphabetic, or a mark that combines with others.
+// Whether a character is alphabetic, or a mark that combines with others. ASCII's letters are asked
+// first, since most texts have few others and the tables take longer.
 fn is_word_char(c: char) -> bool
     ensures { result ≡ words.is_word_char c }
 {
+    if c.is_ascii() {
+        return c.is_ascii_alphabetic();
+    }
     is_alphabetic(c) || is_combining(GeneralCategory::for_char(c))
 }
 
@@ -48,7 +52,8 @@ fn behind_front(text: &str, is_word: bool) -> &str
 fn push_runs<'a>(runs: &mut Vec<Passage<'a>>, passage: Passage<'a>) -> Result<(), AllocError>
     requires { passage.start + length passage.text.now < 2 ^ 64 }
     ensures utf8 { IsUtf8 passage.entry.text.now }
-    ensures runs { OnOk result (passages_view runs.new.items ≡ passages_view runs.old.items ++ words.runs_in (passage_view passage.entry)) }
+    ensures runs { OnOk result (passages_view runs.new.items
+        ≡ passages_view runs.old.items ++ words.runs_in (passage_view passage.entry)) }
 {
     let mut rest = passage.text;
     loop {
@@ -70,7 +75,8 @@ pub(crate) fn runs<'a>(
 ) -> Result<Vec<Passage<'a>>, AllocError>
     requires { All EndsWithin (passages_view passages.now) }
     ensures text { IfOk result (λ _. All IsText (passages_view passages.now)) }
-    ensures runs { IfOk result (λ found. passages_view found.items ≡ flat_map words.runs_in (passages_view passages.now)) }
+    ensures runs { IfOk result (λ found. passages_view found.items
+        ≡ flat_map words.runs_in (passages_view passages.now)) }
 {
     let mut found = Vec::new(alloc);
     for passage in passages {
