@@ -24,7 +24,8 @@ impl<'p, 'a> Keyed<'p, 'a> {
 
     pub(crate) fn new(passages: &'p [Passage<'a>], pieces: &'p [Piece<'a>]) -> Self
         requires { IsTrue (hold_all (parts_of pieces.now) (passages_view passages.now)) }
-        ensures { hits_left result ≡ map (keyed (parts_of pieces.now)) (passages_view passages.now) }
+        ensures { hits_left result
+            ≡ map (keyed (parts_of pieces.now)) (passages_view passages.now) }
     {
         Keyed {
             passages,

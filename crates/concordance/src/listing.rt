@@ -67,7 +67,8 @@ impl<'f> Entry<'f> {
 
 // The entries of spellings, in their order.
 fn collected<'f>(alloc: Global, spellings: &'f [Spelling<'_>]) -> Result<Vec<Entry<'f>>, AllocError>
-    ensures { IfOk result (λ entries. entries_view entries.items ≡ spellings_view spellings.now) }
+    ensures { IfOk result (λ entries.
+        entries_view entries.items ≡ spellings_view spellings.now) }
 {
     spellings
         .iter()
@@ -77,7 +78,8 @@ fn collected<'f>(alloc: Global, spellings: &'f [Spelling<'_>]) -> Result<Vec<Ent
 
 // The entries of spellings, rising, each once.
 fn entries<'f>(alloc: Global, spellings: &'f [Spelling<'_>]) -> Result<Vec<Entry<'f>>, AllocError>
-    ensures { IfOk result (λ entries. entries_view entries.items ≡ rising spelling_cmp (spellings_view spellings.now)) }
+    ensures { IfOk result (λ entries.
+        entries_view entries.items ≡ rising spelling_cmp (spellings_view spellings.now)) }
 {
     let mut entries = collected(alloc, spellings)?;
     entries.sort_unstable();
@@ -102,7 +104,8 @@ fn word_of(alloc: Global, form: &str, entries: &[Entry<'_>]) -> Result<Word, All
 
 // How many entries at the front have the form.
 fn front_len(form: &str, entries: &[Entry<'_>]) -> usize
-    ensures value { result ≡ length (take_while (λ e. bytes_eq e.form.now form.now) entries.now) }
+    ensures value { result
+        ≡ length (take_while (λ e. bytes_eq e.form.now form.now) entries.now) }
     ensures within { result ≤ length entries.now }
 {
     entries
@@ -128,16 +131,17 @@ fn gathered(alloc: Global, entries: &[Entry<'_>]) -> Result<Vec<Word>, AllocErro
     Ok(words)
 }
 
-/// The words of a book, by a style sheet: each form once, rising by its bytes, with the keys at which
-/// it stands, rising, each once.
+/// The words of a book, by a style sheet: each form once, rising by its bytes, with the keys at
+/// which it stands, rising, each once.
 ///
-/// A word is a longest run of characters in one plain leaf that are alphabetic or combining marks, in
-/// Normalization Form C. Runs are found before that form is taken.
+/// A word is a longest run of characters in one plain leaf that are alphabetic or combining marks,
+/// in Normalization Form C. Runs are found before that form is taken.
 ///
 /// # Errors
 /// `AllocError` where there is no memory for them.
 pub fn words(alloc: Global, text: &str, sheet: &Sheet<'_>) -> Result<Vec<Word>, AllocError>
-    ensures { IfOk result (λ words. words.items ≡ spec.words_of (records_of sheet.now) text.now) }
+    ensures { IfOk result (λ words.
+        words.items ≡ spec.words_of (records_of sheet.now) text.now) }
 {
     let leaves = plain_leaves(alloc, text, sheet)?;
     let runs = runs(alloc, &leaves)?;

@@ -24,14 +24,17 @@ impl<'p, 'a> Places<'p, 'a> {
 
     // The key of the piece that holds a place, which is no smaller than the one asked for before.
     pub(crate) fn key_at(&mut self, at: usize) -> Key
-        requires neighbours { IsTrue (are_neighbours (begin_of (pieces_left self.old)) (pieces_left self.old)) }
+        requires neighbours { IsTrue
+            (are_neighbours (begin_of (pieces_left self.old)) (pieces_left self.old)) }
         requires begun { begin_of (pieces_left self.old) ≤ at }
         requires within { at < end_of (pieces_left self.old) }
         ensures value { result ≡ key_at (pieces_left self.old) at }
-        ensures neighbours { IsTrue (are_neighbours (begin_of (pieces_left self.new)) (pieces_left self.new)) }
+        ensures neighbours { IsTrue
+            (are_neighbours (begin_of (pieces_left self.new)) (pieces_left self.new)) }
         ensures begun { begin_of (pieces_left self.new) ≤ at }
         ensures end { end_of (pieces_left self.new) ≡ end_of (pieces_left self.old) }
-        ensures same { (n : ℕ) → at ≤ n → key_at (pieces_left self.new) n ≡ key_at (pieces_left self.old) n }
+        ensures same { (n : ℕ) → at ≤ n
+            → key_at (pieces_left self.new) n ≡ key_at (pieces_left self.old) n }
     {
         while let [_, next, ..] = self.pieces {
             if at < next.start {

@@ -1,6 +1,7 @@
 //! The plain leaves of a text, gathered from its tree.
 
-ghost use Rattle.std.specs.Prelude.{◌≡◌, ◌≤◌, ◌<◌, ◌+◌, ◌^◌, ◌++◌, [], Some, None, length, OnOk, IfOk, Bool};
+ghost use Rattle.std.specs.Prelude.{◌≡◌, ◌≤◌, ◌<◌, ◌+◌, ◌^◌, ◌++◌, [], Some, None};
+ghost use Rattle.std.specs.Prelude.{length, OnOk, IfOk, Bool};
 ghost use Rattle.std.specs.List.{before_first};
 ghost use Rattle.std.specs.Option.{option_map};
 ghost use Rattle.std.specs.Str.{IsCharBoundary};
@@ -96,7 +97,9 @@ fn within(
     mark: Option<Mark<'_>>,
     is_closed: bool,
 ) -> Surroundings
-    ensures { (m : MarkParts) → option_map mark_parts mark.entry ≡ Some m → result ≡ reading.within (records_of sheet.now) surroundings (record { kind = kind; mark = m; is_closed = is_closed }) }
+    ensures { (m : MarkParts) → option_map mark_parts mark.entry ≡ Some m
+        → result ≡ reading.within (records_of sheet.now) surroundings
+        (record { kind = kind; mark = m; is_closed = is_closed }) }
 {
     let is_verse_text = kind == StyleKind::Paragraph && has_verse_text(sheet, mark);
     Surroundings {
@@ -114,7 +117,8 @@ fn is_aside(kind: StyleKind) -> bool
 
 // Whether the style of a mark has the text of verses.
 fn has_verse_text(sheet: &Sheet<'_>, mark: Option<Mark<'_>>) -> bool
-    ensures { (m : MarkParts) → option_map mark_parts mark.entry ≡ Some m → result ≡ plain.has_verse_text (records_of sheet.now) m.name }
+    ensures { (m : MarkParts) → option_map mark_parts mark.entry ≡ Some m
+        → result ≡ plain.has_verse_text (records_of sheet.now) m.name }
 {
     match mark {
         None => false,
@@ -135,7 +139,10 @@ impl<'a> Gathering<'a> {
         is_last: bool,
     ) -> Result<(), AllocError>
         requires { start + length text.now < 2 ^ 64 }
-        ensures leaves { OnOk result (passages_view self.new.leaves.items ≡ passages_view self.old.leaves.items ++ reading.with_text surroundings (mark_behind self.old) is_last start text.entry.now []) }
+        ensures leaves { OnOk result (passages_view self.new.leaves.items
+            ≡ passages_view self.old.leaves.items
+            ++ reading.with_text surroundings (mark_behind self.old) is_last start
+            text.entry.now []) }
         ensures behind { OnOk result (mark_behind self.new ≡ None) }
     {
         if surroundings.in_verse_text && !surroundings.in_aside {
@@ -163,8 +170,12 @@ impl<'a> Gathering<'a> {
         nodes: &[Node<'a>],
     ) -> Result<(), AllocError>
         requires { TextsFit (forest_of nodes.now) }
-        ensures leaves { OnOk result (passages_view self.new.leaves.items ≡ passages_view self.old.leaves.items ++ reading.leaves_from (records_of sheet.now) surroundings (mark_behind self.old) (forest_of nodes.now)) }
-        ensures behind { OnOk result (mark_behind self.new ≡ plain.mark_at_end (mark_behind self.old) (forest_of nodes.now)) }
+        ensures leaves { OnOk result (passages_view self.new.leaves.items
+            ≡ passages_view self.old.leaves.items
+            ++ reading.leaves_from (records_of sheet.now) surroundings (mark_behind self.old)
+            (forest_of nodes.now)) }
+        ensures behind { OnOk result (mark_behind self.new
+            ≡ plain.mark_at_end (mark_behind self.old) (forest_of nodes.now)) }
     {
         for (index, node) in nodes.iter().enumerate() {
             match shape_of(node) {
@@ -200,7 +211,8 @@ pub(crate) fn plain_leaves<'a>(
     text: &'a str,
     sheet: &Sheet<'_>,
 ) -> Result<Vec<Passage<'a>>, AllocError>
-    ensures { IfOk result (λ leaves. passages_view leaves.items ≡ plain.plain_leaves (records_of sheet.now) text.now) }
+    ensures { IfOk result (λ leaves.
+        passages_view leaves.items ≡ plain.plain_leaves (records_of sheet.now) text.now) }
 {
     let tree = Tree::read(alloc, text, sheet)?;
     let mut gathering = Gathering {

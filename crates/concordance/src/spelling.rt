@@ -49,7 +49,8 @@ pub(crate) fn spellings<'a>(
     alloc: Global,
     runs: Keyed<'_, 'a>,
 ) -> Result<Vec<Spelling<'a>>, AllocError>
-    ensures { IfOk result (λ spellings. spellings_view spellings.items ≡ map spelled (hits_left runs.entry)) }
+    ensures { IfOk result (λ spellings.
+        spellings_view spellings.items ≡ map spelled (hits_left runs.entry)) }
 {
     let mut spellings = Vec::new(alloc);
     for run in runs {
