@@ -1,0 +1,108 @@
+#!/usr/bin/env bash
+# Times the proved search in a book (bench.rt.txt) against a plain search in Rust with std alone (plain.rs), both
+# built for the processor that Rattle builds for, over a sheet and generated psalters of a size and of ten times the
+# size: for needles that stand in most lines, in some verses, in few, in attributes alone, and nowhere.
+# Needs rt, rustc and awk, and takes some minutes.
+#
+# The two are run turn about, and of each the least time of a round counts; how the time grows is told by
+# processes of one round. The exit status is 1 where the two find different hits, the proved search takes
+# more than 1.5 times as long, or ten times the text more than 12 times as long.
+#
+# usage: run.sh [BYTES] [TURNS]
+set -euo pipefail
+here=$(cd "$(dirname "$0")" && pwd)
+top=$(cd "$here/../.." && pwd)
+bytes=${1:-250000}
+turns=${2:-8}
+rounds=20
+crates='usfm_ref usfm_token sty_sheet verse_cut usfm_tree concordance'
+work=$(mktemp -d)
+trap 'rm -rf "$work"' EXIT
+
+# A sheet of the markers of the texts.
+make_sheet() {
+    awk '
+        function record(marker, closer, kind, type) {
+            printf "\\Marker %s\n", marker
+            if (closer != "") printf "\\Endmarker %s\n", closer
+            printf "\\StyleType %s\n", kind
+            if (type != "") printf "\\TextType %s\n", type
+        }
+        BEGIN {
+            split("id c s d", heads)
+            for (i = 1; i <= 4; i++) record(heads[i], "", "Paragraph", "Other")
+            split("p q1 q2", lines)
+            for (i = 1; i <= 3; i++) record(lines[i], "", "Paragraph", "VerseText")
+            record("v", "", "Character", "VerseNumber")
+            split("w nd ft", characters)
+            for (i = 1; i <= 3; i++) record(characters[i], characters[i] "*", "Character", "")
+            record("f", "f*", "Note", "")
+            record("qt-s", "qt-e", "Milestone", "")
+        }'
+}
+
+echo "building"
+make_sheet >"$work/sheet"
+for size in "$bytes" "$((10 * bytes))"; do
+    awk -v size="$size" -f "$here/../psalter.awk" >"$work/psalter.$size"
+done
+rustc -C opt-level=3 -C target-cpu=x86-64-v2 -C codegen-units=1 --edition 2021 -o "$work/plain" "$here/plain.rs"
+
+git -C "$work" init -q
+program=$work/crates/find_bench
+mkdir -p "$program/src"
+for crate in $crates; do
+    mkdir -p "$work/crates/$crate"
+    # What was proved comes along, so that it is not proved again.
+    for part in src specs proofs out; do
+        [ ! -d "$top/crates/$crate/$part" ] || cp -a "$top/crates/$crate/$part" "$work/crates/$crate/"
+    done
+done
+cp "$here/bench.rt.txt" "$program/src/main.rt"
+{
+    grep -E "^(${crates// /|}):" "$top/crates.txt"
+    echo "find_bench: usfm_ref sty_sheet concordance anyhow"
+} >"$work/crates.txt"
+if ! (cd "$program" && rt run -- "$work/sheet" "$work/psalter.$bytes" LORD 1) >"$work/log" 2>&1; then
+    tail -n 30 "$work/log"
+    exit 1
+fi
+
+# The least time in a file of outputs.
+least() { cut -d' ' -f1 "$1" | sort -n | head -n 1; }
+
+# What most lines have, what some verses have, what few have, what attributes alone have, and what stands nowhere.
+status=0
+for needle in e LORD lázét lemma Selah; do
+    for size in "$bytes" "$((10 * bytes))"; do
+        file=$work/psalter.$size
+        out=$work/$needle.$size
+        for _ in $(seq "$turns"); do
+            "$work/plain" "$work/sheet" "$file" "$needle" "$rounds" >>"$out.plain"
+            "$program/out/find_bench" "$work/sheet" "$file" "$needle" "$rounds" >>"$out.proved"
+        done
+        if [ "$(cut -d' ' -f2- "$out".{plain,proved} | sort -u | wc -l)" != 1 ]; then
+            echo "$needle: the two find different hits"
+            cut -d' ' -f2- "$out".{plain,proved} | sort -u
+            status=1
+        fi
+        awk -v needle="$needle" -v size="$(wc -c <"$file")" -v plain="$(least "$out.plain")" \
+            -v hits="$(head -n 1 "$out.plain" | cut -d' ' -f2)" -v proved="$(least "$out.proved")" 'BEGIN {
+                printf "%s: %d bytes, %d hits, plain %d us, proved %d us, ratio %.2f\n",
+                    needle, size, hits, plain / 1000, proved / 1000, proved / plain
+                exit proved > 1.5 * plain
+            }' || status=1
+    done
+    # Each process searches once here, so that neither size finds memory that an earlier round has taken.
+    for size in "$bytes" "$((10 * bytes))"; do
+        for _ in $(seq "$((2 * turns))"); do
+            "$program/out/find_bench" "$work/sheet" "$work/psalter.$size" "$needle" 1 >>"$work/$needle.$size.once"
+        done
+    done
+    awk -v needle="$needle" -v small="$(least "$work/$needle.$bytes.once")" \
+        -v large="$(least "$work/$needle.$((10 * bytes)).once")" 'BEGIN {
+            printf "%s: ten times the text takes %.1f times as long\n", needle, large / small
+            exit large > 12 * small
+        }' || status=1
+done
+exit "$status"
