@@ -4,19 +4,19 @@
 # the size: prose, words each in a pair of marks, and prose with faults. Needs rt, rustc and awk, and takes a
 # few minutes.
 #
+# A last text has one mark alone, of a style with as many bytes of words in OccursUnder.
+#
 # The two are run turn about, and of each the least time of a round counts; how the time grows is told by
 # processes of one round. The exit status is 1 where the two find different things, the proved check takes
-# more than 1.5 times as long, or ten times the text more than 12 times as long.
+# more than 1.5 times as long, or ten times the text or the words more than 12 times as long.
 #
 # usage: run.sh [BYTES] [TURNS]
 set -euo pipefail
 here=$(cd "$(dirname "$0")" && pwd)
-top=$(cd "$here/../.." && pwd)
+. "$here/../head.sh"
 bytes=${1:-250000}
 turns=${2:-8}
 rounds=20
-work=$(mktemp -d)
-trap 'rm -rf "$work"' EXIT
 
 # A sheet of the markers of the texts.
 make_sheet() {
@@ -39,6 +39,16 @@ make_sheet() {
         }'
 }
 
+# The sheet with one record more, whose OccursUnder has so many bytes of words, none of which allows the node.
+with_words() {
+    cat "$work/sheet"
+    awk -v size="$1" 'BEGIN {
+        printf "\\Marker em\n\\Endmarker em*\n\\OccursUnder"
+        for (n = 0; n < size; n += 3) printf " zz"
+        printf "\n\\StyleType Character\n"
+    }'
+}
+
 # The text with some marks unknown, numbers lost, bridges and closing marks lost.
 with_faults() {
     awk '{
@@ -51,8 +61,6 @@ with_faults() {
     }'
 }
 
-make_text() { awk -v kind="$1" -v size="$2" -f "$here/../book.awk"; }
-
 echo "building"
 make_sheet >"$work/sheet"
 for size in "$bytes" "$((10 * bytes))"; do
@@ -60,60 +68,56 @@ for size in "$bytes" "$((10 * bytes))"; do
     make_text marks "$size" >"$work/marks.$size"
     with_faults <"$work/prose.$size" >"$work/faults.$size"
 done
-rustc -C opt-level=3 -C target-cpu=x86-64-v2 -C codegen-units=1 -o "$work/plain" "$here/plain.rs"
-
-git -C "$work" init -q
-program=$work/crates/check_bench
-mkdir -p "$program/src"
-for crate in usfm_ref usfm_token sty_sheet verse_cut usfm_tree segment_check; do
-    mkdir -p "$work/crates/$crate"
-    for part in src specs proofs; do
-        cp -r "$top/crates/$crate/$part" "$work/crates/$crate/"
-    done
-done
-cp "$here/bench.rt.txt" "$program/src/main.rt"
-{
-    grep -E '^(usfm_ref|usfm_token|sty_sheet|verse_cut|usfm_tree|segment_check):' "$top/crates.txt"
-    echo "check_bench: usfm_ref sty_sheet segment_check anyhow"
-} >"$work/crates.txt"
-if ! (cd "$program" && rt run -- "$work/sheet" "$work/prose.$bytes" 1) >"$work/log" 2>&1; then
-    tail -n 30 "$work/log"
-    exit 1
-fi
-
-# The least time in a file of outputs.
-least() { cut -d' ' -f1 "$1" | sort -n | head -n 1; }
+for size in "$bytes" "$((10 * bytes))"; do with_words "$size" >"$work/words.$size"; done
+printf '\\p \\em a\\em*' >"$work/one"
+build_plain
+build_proved check_bench "usfm_ref usfm_token sty_sheet verse_cut usfm_tree segment_check" \
+    "usfm_ref sty_sheet segment_check anyhow" "$work/sheet" "$work/prose.$bytes" 1
 
 status=0
-for text in prose marks faults; do
-    for size in "$bytes" "$((10 * bytes))"; do
-        file=$work/$text.$size
-        for _ in $(seq "$turns"); do
-            "$work/plain" "$work/sheet" "$file" "$rounds" >>"$file.plain"
-            "$program/out/check_bench" "$work/sheet" "$file" "$rounds" >>"$file.proved"
-        done
-        if [ "$(cut -d' ' -f2- "$file".{plain,proved} | sort -u | wc -l)" != 1 ]; then
-            echo "$text: the two find different things"
-            cut -d' ' -f2- "$file".{plain,proved} | sort -u
-            status=1
-        fi
-        awk -v text="$text" -v size="$(wc -c <"$file")" -v plain="$(least "$file.plain")" \
-            -v proved="$(least "$file.proved")" 'BEGIN {
-                printf "%s: %d bytes, plain %d us, proved %d us, ratio %.2f\n",
-                    text, size, plain / 1000, proved / 1000, proved / plain
-                exit proved > 1.5 * plain
-            }' || status=1
+
+# The two over a sheet and a text, turn about: what they find, and how long they take.
+compare() {
+    local name=$1 sheet=$2 text=$3
+    for _ in $(seq "$turns"); do
+        "$plain" "$sheet" "$text" "$rounds" >>"$work/$name.plain"
+        "$proved" "$sheet" "$text" "$rounds" >>"$work/$name.proved"
     done
-    # Each process checks once here, so that neither size finds memory that an earlier round has taken.
-    for size in "$bytes" "$((10 * bytes))"; do
-        for _ in $(seq "$((2 * turns))"); do
-            "$program/out/check_bench" "$work/sheet" "$work/$text.$size" 1 >>"$work/$text.$size.once"
-        done
-    done
-    awk -v text="$text" -v small="$(least "$work/$text.$bytes.once")" \
-        -v large="$(least "$work/$text.$((10 * bytes)).once")" 'BEGIN {
-            printf "%s: ten times the text takes %.1f times as long\n", text, large / small
+    if [ "$(cut -d' ' -f2- "$work/$name".{plain,proved} | sort -u | wc -l)" != 1 ]; then
+        echo "$name: the two find different things"
+        cut -d' ' -f2- "$work/$name".{plain,proved} | sort -u
+        status=1
+    fi
+    awk -v name="$name" -v plain="$(least "$work/$name.plain")" -v proved="$(least "$work/$name.proved")" 'BEGIN {
+        printf "%s bytes: plain %d us, proved %d us, ratio %.2f\n", name, plain / 1000, proved / 1000, proved / plain
+        exit proved > 1.5 * plain
+    }' || status=1
+}
+
+# The time of one check by each of so many processes: no size finds memory that an earlier round has taken.
+check_once() {
+    for _ in $(seq "$((2 * turns))"); do "$proved" "$1" "$2" 1 >>"$work/$3.once"; done
+}
+
+# How the time grows from one size to the next.
+tell_growth() {
+    awk -v name="$1" -v small="$(least "$work/$1.$bytes.once")" \
+        -v large="$(least "$work/$1.$((10 * bytes)).once")" 'BEGIN {
+            printf "%s: ten times the bytes take %.1f times as long\n", name, large / small
             exit large > 12 * small
         }' || status=1
+}
+
+for text in prose marks faults; do
+    for size in "$bytes" "$((10 * bytes))"; do
+        compare "$text.$size" "$work/sheet" "$work/$text.$size"
+        check_once "$work/sheet" "$work/$text.$size" "$text.$size"
+    done
+    tell_growth "$text"
 done
+for size in "$bytes" "$((10 * bytes))"; do
+    compare "words.$size" "$work/words.$size" "$work/one"
+    check_once "$work/words.$size" "$work/one" "words.$size"
+done
+tell_growth words
 exit "$status"

@@ -10,40 +10,18 @@
 # usage: run.sh [OPERATIONS] [TURNS]
 set -euo pipefail
 here=$(cd "$(dirname "$0")" && pwd)
-top=$(cd "$here/../.." && pwd)
+. "$here/../head.sh"
 count=${1:-100000}
 turns=${2:-5}
 rounds=5
-crates='usfm_ref usfm_token verse_cut op_core'
-work=$(mktemp -d)
-trap 'rm -rf "$work"' EXIT
 
 echo "building"
-rustc -C opt-level=3 -C target-cpu=x86-64-v2 -C codegen-units=1 --edition 2021 -o "$work/plain" "$here/plain.rs"
-git -C "$work" init -q
-program=$work/crates/index_bench
-mkdir -p "$program/src"
-for crate in $crates; do
-    mkdir -p "$work/crates/$crate"
-    for part in src specs proofs; do
-        if [ -e "$top/crates/$crate/$part" ]; then
-            cp -r "$top/crates/$crate/$part" "$work/crates/$crate/"
-        fi
-    done
-done
-cp "$here/bench.rt.txt" "$program/src/main.rt"
-{
-    grep -E "^(${crates// /|}):" "$top/crates.txt"
-    echo "index_bench: usfm_ref verse_cut op_core anyhow"
-} >"$work/crates.txt"
-if ! (cd "$program" && rt run -- 1000 1) >"$work/log" 2>&1; then
-    tail -n 30 "$work/log"
-    exit 1
-fi
+build_plain --edition 2021
+build_proved index_bench "usfm_ref usfm_token verse_cut op_core" "usfm_ref verse_cut op_core anyhow" 1000 1
 
 for _ in $(seq "$turns"); do
-    "$work/plain" "$count" "$rounds" >>"$work/plain.out"
-    "$program/out/index_bench" "$count" "$rounds" >>"$work/proved.out"
+    "$plain" "$count" "$rounds" >>"$work/plain.out"
+    "$proved" "$count" "$rounds" >>"$work/proved.out"
 done
 if [ "$(grep -hv inserts "$work"/{plain,proved}.out | sort -u | wc -l)" != 1 ]; then
     echo "the two show different ids"

@@ -9,44 +9,22 @@
 # usage: run.sh [BYTES] [TURNS]
 set -euo pipefail
 here=$(cd "$(dirname "$0")" && pwd)
-top=$(cd "$here/../.." && pwd)
+. "$here/../head.sh"
 bytes=${1:-8000000}
 turns=${2:-12}
 rounds=20
-work=$(mktemp -d)
-trap 'rm -rf "$work"' EXIT
-
-make_text() { awk -v kind="$1" -v size="$bytes" -f "$here/../book.awk"; }
 
 echo "building"
-make_text prose >"$work/prose"
-make_text marks >"$work/marks"
-rustc -C opt-level=3 -C target-cpu=x86-64-v2 -C codegen-units=1 -o "$work/plain" "$here/plain.rs"
-
-git -C "$work" init -q
-program=$work/crates/token_bench
-mkdir -p "$work/crates/usfm_token" "$program/src"
-for part in src specs proofs; do
-    cp -r "$top/crates/usfm_token/$part" "$work/crates/usfm_token/"
-done
-cp "$here/bench.rt.txt" "$program/src/main.rt"
-{
-    grep '^usfm_token:' "$top/crates.txt"
-    echo "token_bench: usfm_token anyhow"
-} >"$work/crates.txt"
-if ! (cd "$program" && rt run -- "$work/prose" 1) >"$work/log" 2>&1; then
-    tail -n 30 "$work/log"
-    exit 1
-fi
-
-# The least time that is in a file of outputs, in nanoseconds.
-least() { cut -d' ' -f1 "$1" | sort -n | head -n 1; }
+make_text prose "$bytes" >"$work/prose"
+make_text marks "$bytes" >"$work/marks"
+build_plain
+build_proved token_bench usfm_token "usfm_token anyhow" "$work/prose" 1
 
 status=0
 for text in prose marks; do
     for _ in $(seq "$turns"); do
-        "$work/plain" "$work/$text" "$rounds" >>"$work/$text.plain"
-        "$program/out/token_bench" "$work/$text" "$rounds" >>"$work/$text.proved"
+        "$plain" "$work/$text" "$rounds" >>"$work/$text.plain"
+        "$proved" "$work/$text" "$rounds" >>"$work/$text.proved"
     done
     if [ "$(cut -d' ' -f2- "$work/$text".{plain,proved} | sort -u | wc -l)" != 1 ]; then
         echo "$text: the two count different tokens"

@@ -11,12 +11,10 @@
 # usage: run.sh [BYTES] [TURNS]
 set -euo pipefail
 here=$(cd "$(dirname "$0")" && pwd)
-top=$(cd "$here/../.." && pwd)
+. "$here/../head.sh"
 bytes=${1:-2000000}
 turns=${2:-8}
 rounds=20
-work=$(mktemp -d)
-trap 'rm -rf "$work"' EXIT
 
 # A sheet in the manner of usfm.sty: the markers of the texts and others, each with a record of 14 lines.
 make_sheet() {
@@ -41,41 +39,18 @@ make_sheet() {
         }'
 }
 
-make_text() { awk -v kind="$1" -v size="$bytes" -f "$here/../book.awk"; }
-
 echo "building"
 make_sheet >"$work/sheet"
-make_text prose >"$work/prose"
-make_text marks >"$work/marks"
-rustc -C opt-level=3 -C target-cpu=x86-64-v2 -C codegen-units=1 -o "$work/plain" "$here/plain.rs"
-
-git -C "$work" init -q
-program=$work/crates/tree_bench
-mkdir -p "$program/src"
-for crate in usfm_token sty_sheet usfm_tree; do
-    mkdir -p "$work/crates/$crate"
-    for part in src specs proofs; do
-        cp -r "$top/crates/$crate/$part" "$work/crates/$crate/"
-    done
-done
-cp "$here/bench.rt.txt" "$program/src/main.rt"
-{
-    grep -E '^(usfm_token|sty_sheet|usfm_tree):' "$top/crates.txt"
-    echo "tree_bench: sty_sheet usfm_tree anyhow"
-} >"$work/crates.txt"
-if ! (cd "$program" && rt run -- "$work/sheet" "$work/prose" 1) >"$work/log" 2>&1; then
-    tail -n 30 "$work/log"
-    exit 1
-fi
-
-# The least number that is in a column of a file of outputs.
-least() { cut -d' ' -f"$2" "$1" | sort -n | head -n 1; }
+make_text prose "$bytes" >"$work/prose"
+make_text marks "$bytes" >"$work/marks"
+build_plain
+build_proved tree_bench "usfm_token sty_sheet usfm_tree" "sty_sheet usfm_tree anyhow" "$work/sheet" "$work/prose" 1
 
 status=0
 for text in prose marks; do
     for _ in $(seq "$turns"); do
-        "$work/plain" "$work/sheet" "$work/$text" "$rounds" >>"$work/$text.plain"
-        "$program/out/tree_bench" "$work/sheet" "$work/$text" "$rounds" >>"$work/$text.proved"
+        "$plain" "$work/sheet" "$work/$text" "$rounds" >>"$work/$text.plain"
+        "$proved" "$work/sheet" "$work/$text" "$rounds" >>"$work/$text.proved"
     done
     if [ "$(cut -d' ' -f3- "$work/$text".{plain,proved} | sort -u | wc -l)" != 1 ]; then
         echo "$text: the two find different trees"

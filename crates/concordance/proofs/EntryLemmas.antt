@@ -1,15 +1,15 @@
 -- The order of spellings: it is total, and tells apart what differs; entries are tested for it.
-use Rattle.std.proofs.Common.{◌≡◌, ℕ, true, ◌&&◌, List, refl, sym, ap, subst, ◌∙◌}
+use Rattle.std.proofs.Common.{◌≡◌, ℕ, ◌&&◌, List, refl, sym, ◌∙◌}
 use Rattle.std.specs.declared.cmp.Ordering.{Ordering}
 use Rattle.std.specs.declared.cmp.Ordering.TheVariants.{Less, Equal, Greater}
 use Rattle.std.specs.Ordering.{ordering_then, is_eq}
-use Rattle.std.specs.Cmp.{IsTotalOrder, Equal-is, both_ways, tied_itself}
+use Rattle.std.specs.Cmp.{IsTotalOrder}
 use Rattle.std.specs.Cmp.Lexicographic.{nat_list_cmp_total, texts_ties}
 use Rattle.std.specs.FinMap.{slice_cmp-IsAntisymmetric, nat_cmp-IsAntisymmetric}
 use Rattle.std.specs.Str.{bytes_eq}
 use Rattle.std.proofs.lemmas.Cmp.{on_total, then_total}
 use Rattle.usfm_ref.specs.Keys.{KeyParts, key_cmp, same_key}
-use Rattle.usfm_ref.proofs.Orders.{key_total, key_exact, same_key-is, same_key-refl}
+use Rattle.usfm_ref.proofs.Orders.{key_total, key_exact, same_key-cmp}
 use Rattle.concordance.specs.Words.{Spelling, form_cmp}
 use Rattle.concordance.specs.EntryViews.{spelling_cmp}
 
@@ -33,11 +33,6 @@ spelling_exact a b h =
     λ i. record { form = form_exact a.form b.form p.0 i; key = key_exact a.key b.key p.1 i }
 
 -- ---- tests of equality
-
-same_key-cmp : (a b : KeyParts) → same_key a b ≡ is_eq (key_cmp a b)
-same_key-cmp a b = both_ways (same_key a b) (is_eq (key_cmp a b))
-    (λ h. subst (λ (c : KeyParts). is_eq (key_cmp a c) ≡ true) (same_key-is a b h) (ap is_eq (tied_itself key_total a)))
-    (λ h. subst (λ (c : KeyParts). same_key a c ≡ true) (key_exact a b ((Equal-is _).0 h)) (same_key-refl a))
 
 eq_then : (a b : Ordering) → is_eq (ordering_then a b) ≡ (is_eq a && is_eq b)
 eq_then Less b = refl

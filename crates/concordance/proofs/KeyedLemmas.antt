@@ -5,7 +5,7 @@ use Rattle.std.proofs.lemmas.Bool.{and_parts}
 use Rattle.std.proofs.lemmas.Bool.Decides.{nat_tests}
 use Rattle.usfm_ref.specs.Keys.{KeyParts}
 use Rattle.verse_cut.specs.Pieces.{Part}
-use Rattle.concordance.specs.Keys.{key_at}
+use Rattle.verse_cut.specs.Places.{key_at}
 use Rattle.concordance.specs.Hits.{HitParts, keyed}
 use Rattle.concordance.specs.Passages.{Passage}
 use Rattle.concordance.specs.Reading.{begin_of, end_of, are_neighbours, rise_between, hold_all}

@@ -6,7 +6,6 @@ pub mod KeyedLemmas
 pub mod Occurring
 pub mod Holding
 pub mod RunLemmas
-pub mod Once
 pub mod EntryLemmas
 pub mod WordLists
 pub mod RunPlaces

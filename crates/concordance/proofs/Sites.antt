@@ -4,11 +4,12 @@ use Rattle.std.proofs.Common.{◌≡◌, ℕ, ◌+◌, ◌^◌, ◌<◌, Bool, t
 use Rattle.std.specs.Prelude.{is_some}
 use Rattle.sty_sheet.specs.Records.{Record}
 use Rattle.usfm_token.specs.Tokens.{MarkParts, mark_bytes}
+use Rattle.usfm_tree.specs.Around.{Around}
 use Rattle.usfm_tree.specs.Forest.{Forest, nothing, text, leaf, node, bytes_of, span_bytes, close_bytes}
 use Rattle.usfm_tree.specs.Places.{Runs}
 use Rattle.usfm_tree.proofs.SpanLemmas.{span_is, bytes_then}
 use Rattle.concordance.specs.Passages.{Passage}
-use Rattle.concordance.specs.Plain.{Around, Site, is_nothing, node_end, mark_at_end, sites_in, is_plain, trimmed}
+use Rattle.concordance.specs.Plain.{Site, is_nothing, node_end, mark_at_end, sites_in, is_plain, trimmed}
 use Rattle.concordance.specs.Reading.{inside_of, left_of, counts, leaves_from, TextsFit}
 
 abbrev plain_of : List Record → List Site → List Passage

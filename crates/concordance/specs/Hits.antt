@@ -5,7 +5,7 @@ use Rattle.memchr.specs.Find.{matches}
 use Rattle.sty_sheet.specs.Records.{Record}
 use Rattle.usfm_ref.specs.Keys.{KeyParts}
 use Rattle.verse_cut.specs.Pieces.{Part, pieces_of}
-use Rattle.concordance.specs.Keys.{key_at}
+use Rattle.verse_cut.specs.Places.{key_at}
 use Rattle.concordance.specs.Passages.{Passage}
 use Rattle.concordance.specs.Plain.{plain_leaves}
 

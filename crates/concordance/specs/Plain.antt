@@ -14,18 +14,13 @@ use Rattle.sty_sheet.specs.Records.{Record, mark_style}
 use Rattle.usfm_ref.specs.Numbers.{verse_in}
 use Rattle.usfm_ref.specs.declared.number.VerseMark.{VerseMark}
 use Rattle.usfm_token.specs.Tokens.{MarkParts, mark_bytes}
+use Rattle.usfm_tree.specs.Around.{Around}
 use Rattle.usfm_tree.specs.Forest.{Forest, nothing, text, leaf, node}
-use Rattle.usfm_tree.specs.Reading.{tree_of}
+use Rattle.usfm_tree.specs.Reading.{is_character_kind, is_paragraph_kind, tree_of}
 use Rattle.usfm_tree.specs.SheetViews.{styles_in}
 use Rattle.concordance.specs.Passages.{Passage}
 
 -- ---- the texts of a tree
-
--- a node around a text: its kind, its mark, and whether it ends with a closing mark of its own
-pub record Around : Type 0 where
-  pub kind : StyleKind
-  pub mark : MarkParts
-  pub is_closed : Bool
 
 -- A text of a tree: where it begins and its bytes; the nodes around it, the innermost first; the mark directly before it, if one
 -- stands there; and whether it is the last kid of the innermost node.
@@ -66,12 +61,6 @@ sites_in around behind (node k s b m ks c f) =
 
 -- ---- which of them count
 
-abbrev pub is_paragraph_kind : StyleKind → Bool
-is_paragraph_kind kinds.Paragraph = true
-is_paragraph_kind kinds.Character = false
-is_paragraph_kind kinds.Note = false
-is_paragraph_kind kinds.Milestone = false
-
 abbrev pub is_aside_kind : StyleKind → Bool
 is_aside_kind kinds.Paragraph = false
 is_aside_kind kinds.Character = false
@@ -105,12 +94,6 @@ verse_length (Some v) = v.length
 abbrev pub number_length : Option MarkParts → List ℕ → ℕ
 number_length None bytes = 0
 number_length (Some m) bytes = if bytes_eq (mark_bytes m) (codes "\\v") then verse_length (verse_in bytes) else 0
-
-abbrev pub is_character_kind : StyleKind → Bool
-is_character_kind kinds.Paragraph = false
-is_character_kind kinds.Character = true
-is_character_kind kinds.Note = false
-is_character_kind kinds.Milestone = false
 
 -- the innermost node is a character node that ends with its closing mark
 abbrev pub in_closed_character : List Around → Bool

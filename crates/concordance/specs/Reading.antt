@@ -3,13 +3,15 @@ use Rattle.std.specs.Prelude.{◌≡◌, ℕ, suc, ◌+◌, ◌^◌, ◌<◌, Bo
 use Rattle.std.specs.List.{list_any}
 use Rattle.sty_sheet.specs.Records.{Record}
 use Rattle.usfm_token.specs.Tokens.{MarkParts}
+use Rattle.usfm_tree.specs.Around.{Around}
 use Rattle.usfm_tree.specs.Forest.{Forest, nothing, text, leaf, node, start_of, slice_here, kids_of, close_of}
+use Rattle.usfm_tree.specs.Reading.{is_character_kind}
 use Rattle.verse_cut.specs.Pieces.{Part, pieces_joined}
 use Rattle.concordance.specs.Passages.{Passage}
 use Rattle.concordance.specs.declared.plain.Shape.{Shape}
 use Rattle.concordance.specs.declared.plain.Shape.TheVariants as shapes
 use Rattle.concordance.specs.declared.plain.Surroundings.{Surroundings}
-use Rattle.concordance.specs.Plain.{Around, is_verse_text, is_aside, is_character_kind, in_closed_character, is_nothing, node_end, mark_at_end, number_length, without_attributes}
+use Rattle.concordance.specs.Plain.{is_verse_text, is_aside, in_closed_character, is_nothing, node_end, mark_at_end, number_length, without_attributes}
 
 -- what the nodes around a text say of it
 abbrev pub inside_of : List Record → List Around → Surroundings

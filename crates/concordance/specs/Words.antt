@@ -15,7 +15,7 @@ use Rattle.unicode_normalization.specs.Forms.{nfc}
 use Rattle.usfm_ref.specs.Keys.{KeyParts, key_cmp}
 use Rattle.usfm_ref.specs.Rising.{rising}
 use Rattle.verse_cut.specs.Pieces.{Part, pieces_of}
-use Rattle.concordance.specs.Keys.{key_at}
+use Rattle.verse_cut.specs.Places.{key_at}
 use Rattle.concordance.specs.Passages.{Passage}
 use Rattle.concordance.specs.Plain.{plain_leaves}
 

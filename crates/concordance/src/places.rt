@@ -1,7 +1,7 @@
 //! The keys of rising places.
 
 ghost use Rattle.std.specs.Prelude.{◌≡◌, ℕ, ◌<◌, ◌≤◌, IsTrue};
-ghost use Rattle.concordance.specs.Keys.{key_at};
+ghost use Rattle.verse_cut.specs.Places.{key_at};
 ghost use Rattle.concordance.specs.Reading.{are_neighbours, begin_of, end_of};
 ghost use Rattle.concordance.specs.Views.{pieces_left};
 ghost use Rattle.verse_cut.specs.Views.{parts_of};

@@ -14,7 +14,7 @@ use Rattle.verse_cut.specs.Keys.{text_after}
 use Rattle.verse_cut.specs.Marks.{Site, sites_from}
 use Rattle.verse_cut.specs.Pieces.{pieces_of}
 use Rattle.segment_check.specs.Scenes.{Scene, scenes_behind, scenes_of}
-use Rattle.segment_check.specs.Keys.{key_at}
+use Rattle.verse_cut.specs.Places.{key_at}
 use Rattle.segment_check.specs.Findings.{all_codes, holds_of, found_at, spots_of, findings}
 use Rattle.segment_check.specs.Laws.{place_of, IsTokenStart, StartsNeverFall, CodesRise, NoTwoAlike, StartsAreTokens}
 use Rattle.segment_check.specs.declared.code.Code.{Code}
@@ -47,7 +47,8 @@ module _ {X : Type 0} (R : X → X → Type 0) where
 pairs_map : {X Y : Type 0} (R : Y → Y → Type 0) (f : X → Y) (xs : List X) → AllPairs (λ x y. R (f x) (f y)) xs → AllPairs R (map f xs)
 pairs_map R f [] h = pairs_nil R
 pairs_map R f (x ∷ xs) h =
-    pairs_cons R (f x) (map f xs) (All-map (R (f x)) f xs (pairs_head (λ x y. R (f x) (f y)) x xs h)) (pairs_map R f xs (pairs_tail (λ x y. R (f x) (f y)) x xs h))
+    pairs_cons R (f x) (map f xs) (All-map (R (f x)) f xs (pairs_head (λ x y. R (f x) (f y)) x xs h))
+    (pairs_map R f xs (pairs_tail (λ x y. R (f x) (f y)) x xs h))
 
 -- ---- codes
 
@@ -62,7 +63,8 @@ codes_pairs : (cs : List Code) → rises cs ≡ true → AllPairs Below cs
 codes_pairs [] h = pairs_nil Below
 codes_pairs (c ∷ cs) h =
     let p = and_parts (list_all (λ d. nat_lt (place_of c) (place_of d)) cs) (rises cs) h in
-    pairs_cons Below c cs (λ k d q. below _ _ (AllPass-from_list_all (λ d. nat_lt (place_of c) (place_of d)) cs p.0 k d q)) (codes_pairs cs p.1)
+    pairs_cons Below c cs (λ k d q. below _ _ (AllPass-from_list_all (λ d. nat_lt (place_of c) (place_of d)) cs p.0 k d q))
+    (codes_pairs cs p.1)
   where
     below : (a b : ℕ) → nat_lt a b ≡ true → a < b
     below a b h = grind (arith, nat_tests)
@@ -81,12 +83,17 @@ module _ (sheet : List Record) (s : List ℕ) where
   tell scene c = record { code = c; start = scene.here.at; key = key_at (pieces_of s) scene.here.at }
 
   own : (scene : Scene) → All (λ f. f.start ≡ scene.here.at) (found scene)
-  own scene = All-map (λ f. f.start ≡ scene.here.at) (tell scene) (filter (holds_of sheet (spots_of sheet s) scene) all_codes) (λ k d q. refl)
+  own scene =
+      All-map (λ f. f.start ≡ scene.here.at) (tell scene) (filter (holds_of sheet (spots_of sheet s) scene) all_codes) (λ k d q. refl)
 
   ordered : (scene : Scene) → AllPairs Before (found scene)
   ordered scene =
       pairs_map Before (tell scene) (filter (holds_of sheet (spots_of sheet s) scene) all_codes)
-      (λ i j d p q. inr (refl, AllPairs-filter Below (holds_of sheet (spots_of sheet s) scene) all_codes (codes_pairs all_codes refl) i j d p q))
+      (λ i j d p q. inr (
+        refl,
+        AllPairs-filter Below (holds_of sheet (spots_of sheet s) scene) all_codes
+            (codes_pairs all_codes refl) i j d p q,
+      ))
 
   abbrev rest : List Site → ℕ → List Lexeme → List Finding
   rest before at ts = flat_map found (scenes_behind before (sites_from at ts))
@@ -96,7 +103,8 @@ module _ (sheet : List Record) (s : List ℕ) where
   later before at (words t ∷ ts) = λ k d q. let h = later before (at + length t) ts k d q in omega (arith, h)
   later before at (mark m ∷ ts) =
       let site : Site = record { at = at; parts = m; after = text_after ts } in
-      All-append (λ f. at ≤ f.start) (found (record { before = before; here = site })) (rest (before ++ site ∷ []) (at + length (mark_bytes m)) ts)
+      All-append (λ f. at ≤ f.start) (found (record { before = before; here = site }))
+      (rest (before ++ site ∷ []) (at + length (mark_bytes m)) ts)
       (λ k d q. let h = own (record { before = before; here = site }) k d q in omega (arith, h))
       (λ k d q. let h = later (before ++ site ∷ []) (at + length (mark_bytes m)) ts k d q in omega (arith, h))
 
@@ -107,7 +115,8 @@ module _ (sheet : List Record) (s : List ℕ) where
       let site : Site = record { at = at; parts = m; after = text_after ts } in
       let scene : Scene = record { before = before; here = site } in
       let some : 0 < length (mark_bytes m) = first_not_empty (mark m) ts each in
-      pairs_append Before (found scene) (rest (before ++ site ∷ []) (at + length (mark_bytes m)) ts) (ordered scene) (pairs (before ++ site ∷ []) (at + length (mark_bytes m)) ts each.2)
+      pairs_append Before (found scene) (rest (before ++ site ∷ []) (at + length (mark_bytes m)) ts) (ordered scene)
+      (pairs (before ++ site ∷ []) (at + length (mark_bytes m)) ts each.2)
       (λ k d q k' d' q'.
       let a = own scene k d q in
       let b = later (before ++ site ∷ []) (at + length (mark_bytes m)) ts k' d' q' in
@@ -121,17 +130,20 @@ module _ (sheet : List Record) (s : List ℕ) where
       let c = joined-snoc ts t in
       omega (arith, a, b, c)
 
-  starts : (before : List Site) (pre : List Lexeme) (at : ℕ) (ts : List Lexeme) → tokens_of s ≡ pre ++ ts → at ≡ length (joined pre) → All (λ f. IsTokenStart s f.start) (rest before at ts)
+  starts : (before : List Site) (pre : List Lexeme) (at : ℕ) (ts : List Lexeme) → tokens_of s ≡ pre ++ ts → at ≡ length (joined pre)
+      → All (λ f. IsTokenStart s f.start) (rest before at ts)
   starts before pre at [] is place = All-nil (λ f. IsTokenStart s f.start)
   starts before pre at (words t ∷ ts) is place =
-      starts before (pre ++ words t ∷ []) (at + length t) ts (is ∙ sym (append_assoc pre (words t ∷ []) ts)) (ap (λ n. n + length t) place ∙ sym (joined-snoc pre (words t)))
+      starts before (pre ++ words t ∷ []) (at + length t) ts (is ∙ sym (append_assoc pre (words t ∷ []) ts))
+      (ap (λ n. n + length t) place ∙ sym (joined-snoc pre (words t)))
   starts before pre at (mark m ∷ ts) is place =
       let site : Site = record { at = at; parts = m; after = text_after ts } in
       let scene : Scene = record { before = before; here = site } in
       let here : IsTokenStart s at = record { before = pre; token = mark m; after = ts; tokens_are = is; start_is = place } in
       All-append (λ f. IsTokenStart s f.start) (found scene) (rest (before ++ site ∷ []) (at + length (mark_bytes m)) ts)
       (λ k d q. subst (IsTokenStart s) (sym (own scene k d q)) here)
-      (starts (before ++ site ∷ []) (pre ++ mark m ∷ []) (at + length (mark_bytes m)) ts (is ∙ sym (append_assoc pre (mark m ∷ []) ts)) (ap (λ n. n + length (mark_bytes m)) place ∙ sym (joined-snoc pre (mark m))))
+      (starts (before ++ site ∷ []) (pre ++ mark m ∷ []) (at + length (mark_bytes m)) ts (is ∙ sym (append_assoc pre (mark m ∷ []) ts))
+      (ap (λ n. n + length (mark_bytes m)) place ∙ sym (joined-snoc pre (mark m))))
 
 in_order : (sheet : List Record) (s : List ℕ) → AllPairs Before (findings sheet s)
 unfolding findings scenes_of

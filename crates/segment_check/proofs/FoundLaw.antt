@@ -12,9 +12,10 @@ use Rattle.usfm_token.proofs.Walk.{each-tokens_of, first_not_empty}
 use Rattle.verse_cut.specs.Keys.{key_below, text_after}
 use Rattle.verse_cut.specs.Marks.{Site, sites_from, chapter_in_force, keyed_behind}
 use Rattle.verse_cut.specs.Pieces.{pieces_of}
+use Rattle.verse_cut.proofs.MarkLaws.{IsGreatest}
 use Rattle.segment_check.specs.Spots.{Spot}
 use Rattle.segment_check.specs.Scenes.{Scene, scenes_behind, scenes_of}
-use Rattle.segment_check.specs.Keys.{key_at}
+use Rattle.verse_cut.specs.Places.{key_at}
 use Rattle.segment_check.specs.TreeConditions.{unknown_marker, stray_close, unclosed_char, unclosed_note, too_deep, not_under}
 use Rattle.segment_check.specs.Findings.{all_codes, stands_at, holds_of, found_at, spots_of, findings}
 use Rattle.segment_check.specs.Laws.{FindingsAreRead}
@@ -25,7 +26,7 @@ use Rattle.segment_check.specs.declared.code.Code.TheVariants as code
 use Rattle.segment_check.specs.declared.finding.Finding.{Finding}
 use Rattle.segment_check.specs.declared.told.Told.{Told}
 use Rattle.segment_check.proofs.Threads.{Thread, left_behind, Passes, passes, text_thread, tree_thread}
-use Rattle.segment_check.proofs.Openings.{mark_key-by, IsGreatest, Reaching, force_then, great_then, reaching_then, not_rising_is, overlap_is}
+use Rattle.segment_check.proofs.Openings.{mark_key-by, Reaching, force_then, great_then, reaching_then, not_rising_is, overlap_is}
 use Rattle.segment_check.proofs.Pieces.{Cuts, cuts_start, cuts_later, cuts_then, key_here}
 
 filter_same : (p q : Code → Bool) → ((c : Code) → p c ≡ q c) → (cs : List Code) → filter p cs ≡ filter q cs
@@ -50,7 +51,8 @@ module _ (sheet : List Record) (s : List ℕ) where
     cuts : Cuts (pieces_of s) st.key at at ts
 
   -- a text tells nothing
-  knows_text : (before : List Site) (at : ℕ) (st : State) (left : List Spot) (t : List ℕ) (ts : List Lexeme) → AreLexemes (words t ∷ ts) → Knows before at st left (words t ∷ ts) → Knows before (at + length t) st left ts
+  knows_text : (before : List Site) (at : ℕ) (st : State) (left : List Spot) (t : List ℕ) (ts : List Lexeme) → AreLexemes (words t ∷ ts)
+      → Knows before at st left (words t ∷ ts) → Knows before (at + length t) st left ts
   knows_text before at st left t ts each k = record {
     force = k.force;
     great = k.great;
@@ -58,10 +60,13 @@ module _ (sheet : List Record) (s : List ℕ) where
     told = k.told;
     thread = text_thread at t (map slice_of ts) left each.0 k.thread;
     same = λ p test h. k.same p test (omega arith);
-    cuts = cuts_later (pieces_of s) st.key at (at + length t) (at + length t) ts (omega arith) (cuts_then (pieces_of s) st.key at (words t) ts k.cuts);
+    cuts =
+        cuts_later (pieces_of s) st.key at (at + length t) (at + length t) ts (omega arith)
+        (cuts_then (pieces_of s) st.key at (words t) ts k.cuts);
   }
 
-  module _ (before : List Site) (at : ℕ) (st : State) (left : List Spot) (m : MarkParts) (ts : List Lexeme) (each : AreLexemes (mark m ∷ ts)) (k : Knows before at st left (mark m ∷ ts)) where
+  module _ (before : List Site) (at : ℕ) (st : State) (left : List Spot) (m : MarkParts) (ts : List Lexeme)
+      (each : AreLexemes (mark m ∷ ts)) (k : Knows before at st left (mark m ∷ ts)) where
     abbrev site : Site
     site = record { at = at; parts = m; after = text_after ts }
 
@@ -94,8 +99,10 @@ module _ (sheet : List Record) (s : List ℕ) where
     }
 
     -- what is told of the mark is what its tree tells there
-    told_here : (test : Spot → Bool) (field : Told → Bool) → ((x : Spot) → field (told_of sheet x) ≡ test x) → field (untold at) ≡ false → field (told_first at st.told) ≡ stands_at tree at test
-    told_here test field is none = ap (λ l. field (told_first at l)) k.told ∙ pass.first test field is none ∙ sym (k.same at test (omega arith))
+    told_here : (test : Spot → Bool) (field : Told → Bool) → ((x : Spot) → field (told_of sheet x) ≡ test x) → field (untold at) ≡ false
+        → field (told_first at st.told) ≡ stands_at tree at test
+    told_here test field is none =
+        ap (λ l. field (told_first at l)) k.told ∙ pass.first test field is none ∙ sym (k.same at test (omega arith))
 
     holds_is : (c : Code) → holds_in (held_at st at m (text_after ts)) c ≡ holds_of sheet tree scene c
     holds_is code.UnknownMarker = told_here (unknown_marker sheet) (λ t. t.unknown_marker) (λ x. refl) refl
@@ -113,17 +120,22 @@ module _ (sheet : List Record) (s : List ℕ) where
     key_is = key_here (pieces_of s) on.key at (at + length (mark_bytes m)) ts (let n = some in omega (arith, n)) cut_on
 
     found_here : findings_with (held_at st at m (text_after ts)) at on.key ≡ found scene
-    found_here = λ i. map (λ c. record { code = c; start = at; key = sym key_is i }) (filter_same (holds_in (held_at st at m (text_after ts))) (holds_of sheet tree scene) holds_is all_codes i)
+    found_here =
+        λ i. map (λ c. record { code = c; start = at; key = sym key_is i })
+        (filter_same (holds_in (held_at st at m (text_after ts))) (holds_of sheet tree scene) holds_is all_codes i)
 
-  found_is : (before : List Site) (at : ℕ) (st : State) (left : List Spot) (ts : List Lexeme) → AreLexemes ts → Knows before at st left ts → found_from st at ts ≡ flat_map found (scenes_behind before (sites_from at ts))
+  found_is : (before : List Site) (at : ℕ) (st : State) (left : List Spot) (ts : List Lexeme) → AreLexemes ts → Knows before at st left ts
+      → found_from st at ts ≡ flat_map found (scenes_behind before (sites_from at ts))
   found_is before at st left [] each k = refl
-  found_is before at st left (words t ∷ ts) each k = found_is before (at + length t) st left ts each.2 (knows_text before at st left t ts each k)
+  found_is before at st left (words t ∷ ts) each k =
+      found_is before (at + length t) st left ts each.2 (knows_text before at st left t ts each k)
   found_is before at st left (mark m ∷ ts) each k =
       let site : Site = record { at = at; parts = m; after = text_after ts } in
       let on = behind st at m (text_after ts) in
       let next = at + length (mark_bytes m) in
       ap (λ l. l ++ found_from on next ts) (found_here before at st left m ts each k)
-      ∙ ap (λ l. found (record { before = before; here = site }) ++ l) (found_is (before ++ site ∷ []) next on (left_behind at left) ts each.2 (knows_mark before at st left m ts each k))
+      ∙ ap (λ l. found (record { before = before; here = site }) ++ l)
+      (found_is (before ++ site ∷ []) next on (left_behind at left) ts each.2 (knows_mark before at st left m ts each k))
 
   and_true : (b : Bool) → b && true ≡ b
   and_true true = refl
@@ -146,10 +158,13 @@ module _ (sheet : List Record) (s : List ℕ) where
 
 pub findings_are_read : FindingsAreRead
 unfolding found_in findings scenes_of
-findings_are_read sheet s = found_is sheet s [] 0 (start_state (map (told_of sheet) (spots_of sheet s))) (spots_of sheet s) (tokens_of s) (each-tokens_of s) (knows_start sheet s)
+findings_are_read sheet s =
+    found_is sheet s [] 0 (start_state (map (told_of sheet) (spots_of sheet s))) (spots_of sheet s) (tokens_of s) (each-tokens_of s)
+    (knows_start sheet s)
 
 -- with what is told of the tree, a reading of the text finds its findings
-pub tree_findings : (sheet : List Record) (s : List ℕ) (f : Forest) (told : List Told) (list : List Finding) → f ≡ tree_of (styles_in sheet) s → told ≡ told_in sheet [] f → list ≡ found_in told s → list ≡ findings sheet s
+pub tree_findings : (sheet : List Record) (s : List ℕ) (f : Forest) (told : List Told) (list : List Finding)
+    → f ≡ tree_of (styles_in sheet) s → told ≡ told_in sheet [] f → list ≡ found_in told s → list ≡ findings sheet s
 unfolding spots_of
 tree_findings sheet s f told list ef et h =
     h ∙ ap (λ t. found_in t s) (et ∙ ap (told_in sheet []) ef) ∙ findings_are_read sheet s

@@ -10,7 +10,7 @@ use Rattle.verse_cut.specs.Pieces.{Part, pieces_of}
 use Rattle.verse_cut.specs.Reading.{key_of, goes_on, opens_at, cut_from, pieces_with, cut_of}
 use Rattle.verse_cut.proofs.MarkLaws.{cut_is_read}
 use Rattle.verse_cut.proofs.Quiet.{by_key}
-use Rattle.segment_check.specs.Keys.{holds, key_at}
+use Rattle.verse_cut.specs.Places.{holds, key_at}
 use Rattle.segment_check.specs.Reading.{key_then}
 
 -- From a place on all pieces are held like the open one and the later ones: at the next token, the open piece has a key, and
@@ -32,7 +32,8 @@ cuts_start s = record {
   finds = λ p h. ap (find (holds p)) (sym (cut_is_read s));
 }
 
-pub cuts_later : (all : List Part) (key : KeyParts) (from to next : ℕ) (ts : List Lexeme) → from ≤ to → Cuts all key from next ts → Cuts all key to next ts
+pub cuts_later : (all : List Part) (key : KeyParts) (from to next : ℕ) (ts : List Lexeme) → from ≤ to → Cuts all key from next ts
+    → Cuts all key to next ts
 cuts_later all key from to next ts h c = record {
   start = c.start;
   sofar = c.sofar;
@@ -42,7 +43,8 @@ cuts_later all key from to next ts h c = record {
 }
 
 -- a place behind a piece is not held by it
-not_held : (key : KeyParts) (start p : ℕ) (text : List ℕ) → start + length text ≤ p → holds p (record { key = key; start = start; text = text }) ≡ false
+not_held : (key : KeyParts) (start p : ℕ) (text : List ℕ) → start + length text ≤ p
+    → holds p (record { key = key; start = start; text = text }) ≡ false
 not_held key start p text h = by (nat_le start p)
   where
     far : nat_lt p (start + length text) ≡ false
@@ -59,16 +61,20 @@ module _ (all : List Part) (g : KeyParts) (at : ℕ) (t : Lexeme) (ts : List Lex
   abbrev FindsBy : Option KeyParts → Type 0
   FindsBy o = (p : ℕ) → at ≤ p → find (holds p) all ≡ find (holds p) (pieces_with g c.start c.sofar (by_key g at (slice_of t) next ts o))
 
-  stays : ((p : ℕ) → at ≤ p → find (holds p) all ≡ find (holds p) (pieces_with g c.start c.sofar (goes_on (slice_of t) (cut_from g next ts)))) → Cuts all g at next ts
+  stays : ((p : ℕ) → at ≤ p → find (holds p) all ≡ find (holds p)
+      (pieces_with g c.start c.sofar (goes_on (slice_of t) (cut_from g next ts)))) → Cuts all g at next ts
   stays f = record {
     start = c.start;
     sofar = c.sofar ++ slice_of t;
     begun = c.begun;
     here = let e = c.here in omega (arith, e, length-append c.sofar (slice_of t));
-    finds = λ p h. f p h ∙ ap (λ (x : List ℕ). find (holds p) (record { key = g; start = c.start; text = x } ∷ (cut_from g next ts).1)) (sym (append_assoc c.sofar (slice_of t) (cut_from g next ts).0));
+    finds =
+        λ p h. f p h ∙ ap (λ (x : List ℕ). find (holds p) (record { key = g; start = c.start; text = x } ∷ (cut_from g next ts).1))
+        (sym (append_assoc c.sofar (slice_of t) (cut_from g next ts).0));
   }
 
-  begins : (q : KeyParts) → ((p : ℕ) → at ≤ p → find (holds p) all ≡ find (holds p) (pieces_with g c.start c.sofar (opens_at q at (slice_of t) (cut_from q next ts)))) → Cuts all q at next ts
+  begins : (q : KeyParts) → ((p : ℕ) → at ≤ p → find (holds p) all
+      ≡ find (holds p) (pieces_with g c.start c.sofar (opens_at q at (slice_of t) (cut_from q next ts)))) → Cuts all q at next ts
   begins q f = record {
     start = at;
     sofar = slice_of t;
@@ -76,7 +82,8 @@ module _ (all : List Part) (g : KeyParts) (at : ℕ) (t : Lexeme) (ts : List Lex
     here = refl;
     finds = λ p h.
         f p h
-        ∙ ap (λ b. cond b (Some (record { key = g; start = c.start; text = c.sofar ++ [] })) (find (holds p) (pieces_with q at (slice_of t) (cut_from q next ts))))
+        ∙ ap (λ b. cond b (Some (record { key = g; start = c.start; text = c.sofar ++ [] }))
+        (find (holds p) (pieces_with q at (slice_of t) (cut_from q next ts))))
         (not_held g c.start p (c.sofar ++ []) (let e = c.here in let l = ap length (append-nil c.sofar) in omega (arith, e, l)));
   }
 
@@ -87,24 +94,31 @@ module _ (all : List Part) (g : KeyParts) (at : ℕ) (t : Lexeme) (ts : List Lex
       by : (b : Bool) → key_below g q ≡ b → Cuts all (cond (key_below g q) q g) at next ts
       by true e =
           let F : Bool → Type 0 = λ b. Cuts all (cond b q g) at next ts in
-          subst F (sym e) (begins q (λ p h. f p h ∙ ap (λ b. find (holds p) (pieces_with g c.start c.sofar (cond b (opens_at q at (slice_of t) (cut_from q next ts)) (goes_on (slice_of t) (cut_from g next ts))))) e))
+          subst F (sym e) (begins q (λ p h. f p h ∙ ap (λ b. find (holds p)
+          (pieces_with g c.start c.sofar (cond b (opens_at q at (slice_of t) (cut_from q next ts))
+          (goes_on (slice_of t) (cut_from g next ts))))) e))
       by false e =
           let F : Bool → Type 0 = λ b. Cuts all (cond b q g) at next ts in
-          subst F (sym e) (stays (λ p h. f p h ∙ ap (λ b. find (holds p) (pieces_with g c.start c.sofar (cond b (opens_at q at (slice_of t) (cut_from q next ts)) (goes_on (slice_of t) (cut_from g next ts))))) e))
+          subst F (sym e) (stays (λ p h. f p h ∙ ap (λ b. find (holds p)
+          (pieces_with g c.start c.sofar (cond b (opens_at q at (slice_of t) (cut_from q next ts))
+          (goes_on (slice_of t) (cut_from g next ts))))) e))
 
   -- one token
   pub cuts_then : Cuts all (key_then g (key_of g.chapter t ts)) at next ts
   cuts_then = by_option (key_of g.chapter t ts) c.finds
 
 -- the open piece holds the token before the next
-pub key_here : (all : List Part) (key : KeyParts) (at next : ℕ) (ts : List Lexeme) → at < next → Cuts all key at next ts → key_at all at ≡ key
+pub key_here : (all : List Part) (key : KeyParts) (at next : ℕ) (ts : List Lexeme) → at < next → Cuts all key at next ts
+    → key_at all at ≡ key
 key_here all key at next ts h c =
     let rest = cut_from key next ts in
     let held_by : Part = record { key = key; start = c.start; text = c.sofar ++ rest.0 } in
     let low : nat_le c.start at ≡ true = is_low c.start at c.begun in
-    let high : nat_lt at (c.start + length (c.sofar ++ rest.0)) ≡ true = is_high at (c.start + length (c.sofar ++ rest.0)) (let e = c.here in omega (arith, e, length-append c.sofar rest.0)) in
+    let high : nat_lt at (c.start + length (c.sofar ++ rest.0))
+    ≡ true = is_high at (c.start + length (c.sofar ++ rest.0)) (let e = c.here in omega (arith, e, length-append c.sofar rest.0)) in
     let held : holds at held_by ≡ true = ap (λ b. b && nat_lt at (c.start + length (c.sofar ++ rest.0))) low ∙ high in
-    ap (λ o. option_map_or (λ (p : Part). p.key) o book_head) (c.finds at (omega arith) ∙ ap (λ b. cond b (Some held_by) (find (holds at) rest.1)) held)
+    ap (λ o. option_map_or (λ (p : Part). p.key) o book_head)
+    (c.finds at (omega arith) ∙ ap (λ b. cond b (Some held_by) (find (holds at) rest.1)) held)
   where
     is_low : (a b : ℕ) → a ≤ b → nat_le a b ≡ true
     is_low a b h = grind (arith, nat_tests)

@@ -2,17 +2,19 @@
 use Rattle.std.proofs.Common.{◌≡◌, ℕ, ◌+◌, ◌<◌, ◌≤◌, Bool, true, false, cond, List, [], ◌∷◌, ◌++◌, length, map, Option, None, Some, ◌⊎◌, ⊎_elim, inl, inr, sym, refl, ap, ◌∙◌, subst, arith, length-append}
 use Rattle.std.specs.Prelude.{◌==◌, ◌&&◌, ◌||◌, slice_index}
 use Rattle.std.specs.List.{flat_map}
+use Rattle.std.specs.Option.{is_some}
 use Rattle.std.proofs.lemmas.Bool.{eq-eqb}
 use Rattle.std.proofs.lemmas.Bool.Decides.{nat_tests}
 use Rattle.sty_sheet.specs.Records.{Record}
 use Rattle.usfm_token.specs.Tokens.{MarkParts, IsText, mark_bytes, slice_of, tokens_of}
+use Rattle.usfm_tree.specs.Around.{Around}
 use Rattle.usfm_tree.specs.Forest.{Forest, nothing, text, leaf, node, leaves_of, bytes_of, close_leaves, close_bytes}
 use Rattle.usfm_tree.specs.Places.{Runs}
 use Rattle.usfm_tree.specs.Reading.{tree_of}
 use Rattle.usfm_tree.specs.SheetViews.{styles_in}
 use Rattle.usfm_tree.proofs.LeavesLemmas.{tree_leaves}
 use Rattle.usfm_tree.proofs.PlaceLemmas.{tree_runs}
-use Rattle.segment_check.specs.Spots.{Around, Spot, spots}
+use Rattle.segment_check.specs.Spots.{Spot, spots}
 use Rattle.segment_check.specs.Findings.{stands_at, spots_of}
 use Rattle.segment_check.specs.Reading.{told_first, told_rest, untold}
 use Rattle.segment_check.specs.TreeViews.{told_of}
@@ -39,16 +41,20 @@ thread_past n l ls (x ∷ xs) h = inr h
 abbrev size : List (List ℕ) → ℕ
 size ls = length (flat_map (λ l. l) ls)
 
-thread-append : (n : ℕ) (ls ms : List (List ℕ)) (xs ys : List Spot) → Thread n ls xs → Thread (n + size ls) ms ys → Thread n (ls ++ ms) (xs ++ ys)
+thread-append : (n : ℕ) (ls ms : List (List ℕ)) (xs ys : List Spot) → Thread n ls xs → Thread (n + size ls) ms ys
+    → Thread n (ls ++ ms) (xs ++ ys)
 thread-append n [] ms [] ys h k = thread_from (n + 0) n ms ys (omega arith) k
 thread-append n [] ms (x ∷ xs) ys h k = absurd h
 thread-append n (l ∷ ls) ms [] ys h k =
-    thread_past n l (ls ++ ms) ys (thread-append (n + length l) ls ms [] ys (thread_none (n + length l) ls) (thread_from _ _ ms ys (omega (arith, length-append l (flat_map (λ x. x) ls))) k))
+    thread_past n l (ls ++ ms) ys (thread-append (n + length l) ls ms [] ys (thread_none (n + length l) ls)
+    (thread_from _ _ ms ys (omega (arith, length-append l (flat_map (λ x. x) ls))) k))
 thread-append n (l ∷ ls) ms (x ∷ xs) ys h k =
     let on : Thread (n + length l + size ls) ms ys = thread_from _ _ ms ys (omega (arith, length-append l (flat_map (λ x. x) ls))) k in
-    ⊎_elim (λ a. inl (a.0, a.1, thread-append (n + length l) ls ms xs ys a.2 on)) (λ b. inr (thread-append (n + length l) ls ms (x ∷ xs) ys b on)) h
+    ⊎_elim (λ a. inl (a.0, a.1, thread-append (n + length l) ls ms xs ys a.2 on))
+    (λ b. inr (thread-append (n + length l) ls ms (x ∷ xs) ys b on)) h
 
-close_past : (n : ℕ) (c : Option MarkParts) (ls : List (List ℕ)) (xs : List Spot) → Thread (n + length (close_bytes c)) ls xs → Thread n (close_leaves c ++ ls) xs
+close_past : (n : ℕ) (c : Option MarkParts) (ls : List (List ℕ)) (xs : List Spot) → Thread (n + length (close_bytes c)) ls xs
+    → Thread n (close_leaves c ++ ls) xs
 close_past n None ls xs h = thread_from (n + 0) n ls xs (omega arith) h
 close_past n (Some m) ls xs h = thread_past n (mark_bytes m) ls xs h
 
@@ -57,15 +63,18 @@ forest_thread around n nothing r = tt
 forest_thread around n (text s t f) r = thread_past n t (leaves_of f) (spots around f) (forest_thread around (n + length t) f r.1)
 forest_thread around n (leaf s m f) r = inl (r.0, refl, forest_thread around (n + length (mark_bytes m)) f r.1)
 forest_thread around n (node k s b m ks c f) r =
-    let inner = record { kind = k; name = m.name } ∷ around in
+    let inner = record { kind = k; mark = m; is_closed = is_some c } ∷ around in
     let start = n + length (mark_bytes m) in
-    let len : length b ≡ length (mark_bytes m) + (length (bytes_of ks) + length (close_bytes c)) = ap length r.1 ∙ length-append (mark_bytes m) (bytes_of ks ++ close_bytes c) ∙ ap (λ x. length (mark_bytes m) + x) (length-append (bytes_of ks) (close_bytes c)) in
+    let len : length b ≡ length (mark_bytes m) + (length (bytes_of ks) + length (close_bytes c)) = ap length r.1
+    ∙ length-append (mark_bytes m) (bytes_of ks ++ close_bytes c)
+    ∙ ap (λ x. length (mark_bytes m) + x) (length-append (bytes_of ks) (close_bytes c)) in
     inl (
       r.0,
       refl,
       thread-append start (leaves_of ks) (close_leaves c ++ leaves_of f) (spots inner ks) (spots around f)
           (forest_thread inner start ks r.2)
-          (close_past (start + length (bytes_of ks)) c (leaves_of f) (spots around f) (thread_from _ _ (leaves_of f) (spots around f) (omega (arith, len)) (forest_thread around (n + length b) f r.3))),
+          (close_past (start + length (bytes_of ks)) c (leaves_of f) (spots around f)
+          (thread_from _ _ (leaves_of f) (spots around f) (omega (arith, len)) (forest_thread around (n + length b) f r.3))),
     )
 
 pub tree_thread : (sheet : List Record) (s : List ℕ) → Thread 0 (map slice_of (tokens_of s)) (spots_of sheet s)
@@ -83,7 +92,8 @@ is_at : (a b : ℕ) → a ≡ b → (a == b) ≡ true
 is_at a b h = eq-eqb a b h
 
 -- nothing stands before where the leaves begin
-pub thread_beyond : (n p : ℕ) (ls : List (List ℕ)) (xs : List Spot) (test : Spot → Bool) → p < n → Thread n ls xs → stands_at xs p test ≡ false
+pub thread_beyond : (n p : ℕ) (ls : List (List ℕ)) (xs : List Spot) (test : Spot → Bool) → p < n → Thread n ls xs
+    → stands_at xs p test ≡ false
 thread_beyond n p [] [] test h t = refl
 thread_beyond n p [] (x ∷ xs) test h t = absurd t
 thread_beyond n p (l ∷ ls) [] test h t = refl
@@ -100,7 +110,8 @@ left_behind at (x ∷ xs) = cond (x.start == at) xs (x ∷ xs)
 
 thread_start : (n : ℕ) (ls : List (List ℕ)) (x : Spot) (xs : List Spot) → Thread n ls (x ∷ xs) → n ≤ x.start
 thread_start n [] x xs t = absurd t
-thread_start n (l ∷ ls) x xs t = ⊎_elim (λ a. let e = a.0 in omega (arith, e)) (λ b. let e = thread_start (n + length l) ls x xs b in omega (arith, e)) t
+thread_start n (l ∷ ls) x xs t =
+    ⊎_elim (λ a. let e = a.0 in omega (arith, e)) (λ b. let e = thread_start (n + length l) ls x xs b in omega (arith, e)) t
 
 -- What one leaf does: the marks behind it stand behind it, those at later places are the same, and what is told in front is told of
 -- the mark there.
@@ -108,13 +119,15 @@ pub record Passes (sheet : List Record) (at : ℕ) (l : List ℕ) (ls : List (Li
   pub thread : Thread (at + length l) ls (left_behind at xs)
   pub later : (p : ℕ) (test : Spot → Bool) → at < p → stands_at xs p test ≡ stands_at (left_behind at xs) p test
   pub rest : told_rest at (map (told_of sheet) xs) ≡ map (told_of sheet) (left_behind at xs)
-  pub first : (test : Spot → Bool) (field : Told → Bool) → ((x : Spot) → field (told_of sheet x) ≡ test x) → field (untold at) ≡ false → field (told_first at (map (told_of sheet) xs)) ≡ stands_at xs at test
+  pub first : (test : Spot → Bool) (field : Told → Bool) → ((x : Spot) → field (told_of sheet x) ≡ test x) → field (untold at) ≡ false
+      → field (told_first at (map (told_of sheet) xs)) ≡ stands_at xs at test
 
 or_false : (b : Bool) → b ≡ b || false
 or_false true = refl
 or_false false = refl
 
-pub passes : (sheet : List Record) (at : ℕ) (l : List ℕ) (ls : List (List ℕ)) (xs : List Spot) → 0 < length l → Thread at (l ∷ ls) xs → Passes sheet at l ls xs
+pub passes : (sheet : List Record) (at : ℕ) (l : List ℕ) (ls : List (List ℕ)) (xs : List Spot) → 0 < length l → Thread at (l ∷ ls) xs
+    → Passes sheet at l ls xs
 passes sheet at l ls [] some t = record {
   thread = thread_none (at + length l) ls;
   later = λ p test h. refl;
@@ -130,7 +143,9 @@ passes sheet at l ls (x ∷ xs) some t = ⊎_elim (λ a. here a.0 a.2) (λ b. be
           later = λ p test q.
               ap (λ b. (b && test x) || stands_at xs p test) (not_same x.start p (omega (arith, e)))
               ∙ ap (λ ys. stands_at ys p test) (sym (ap (λ b. cond b xs (x ∷ xs)) is));
-          rest = ap (λ b. cond b (map (told_of sheet) xs) (told_of sheet x ∷ map (told_of sheet) xs)) is ∙ ap (λ b. map (told_of sheet) (cond b xs (x ∷ xs))) (sym is);
+          rest =
+              ap (λ b. cond b (map (told_of sheet) xs) (told_of sheet x ∷ map (told_of sheet) xs)) is
+              ∙ ap (λ b. map (told_of sheet) (cond b xs (x ∷ xs))) (sym is);
           first = λ test field same none.
               ap (λ b. field (cond b (told_of sheet x) (untold at))) is ∙ same x ∙ or_false (test x)
               ∙ ap (λ r. test x || r) (sym (thread_beyond (at + length l) at ls xs test (omega arith) h))
@@ -146,14 +161,17 @@ passes sheet at l ls (x ∷ xs) some t = ⊎_elim (λ a. here a.0 a.2) (λ b. be
         let is : (x.start == at) ≡ false = not_at at x.start (omega (arith, far)) in record {
           thread = let F : List Spot → Type 0 = λ ys. Thread (at + length l) ls ys in subst F (sym (ap (λ b. cond b xs (x ∷ xs)) is)) h;
           later = λ p test q. ap (λ ys. stands_at ys p test) (sym (ap (λ b. cond b xs (x ∷ xs)) is));
-          rest = ap (λ b. cond b (map (told_of sheet) xs) (told_of sheet x ∷ map (told_of sheet) xs)) is ∙ ap (λ b. map (told_of sheet) (cond b xs (x ∷ xs))) (sym is);
+          rest =
+              ap (λ b. cond b (map (told_of sheet) xs) (told_of sheet x ∷ map (told_of sheet) xs)) is
+              ∙ ap (λ b. map (told_of sheet) (cond b xs (x ∷ xs))) (sym is);
           first = λ test field same none.
               ap (λ b. field (cond b (told_of sheet x) (untold at))) is ∙ none
               ∙ sym (thread_beyond (at + length l) at ls (x ∷ xs) test (omega arith) h);
         }
 
 -- no mark stands at a text
-pub text_thread : (at : ℕ) (t : List ℕ) (ls : List (List ℕ)) (xs : List Spot) → IsText t → Thread at (t ∷ ls) xs → Thread (at + length t) ls xs
+pub text_thread : (at : ℕ) (t : List ℕ) (ls : List (List ℕ)) (xs : List Spot) → IsText t → Thread at (t ∷ ls) xs
+    → Thread (at + length t) ls xs
 text_thread at t ls [] is h = thread_none (at + length t) ls
 text_thread at t ls (x ∷ xs) is h =
     ⊎_elim (λ a. absurd (is.1 0 is.0 (ap (λ b. slice_index b 0) a.1))) (λ b. b) h

@@ -12,7 +12,8 @@ use Rattle.segment_check.specs.declared.finding.Finding.{Finding}
 use Rattle.segment_check.specs.declared.told.Told.{Told}
 
 -- where the token behind the first begins
-pub next_place : (n : ℕ) (at rest : List ℕ) (t : Lexeme) → tokens_of at ≡ t ∷ tokens_of rest → length at ≤ n → n - length at + length (slice_of t) ≡ n - length rest
+pub next_place : (n : ℕ) (at rest : List ℕ) (t : Lexeme) → tokens_of at ≡ t ∷ tokens_of rest → length at ≤ n
+    → n - length at + length (slice_of t) ≡ n - length rest
 next_place n at rest t front within =
     let len : length at ≡ length (slice_of t) + length rest = ap length (token_front at rest t front) ∙ length-append (slice_of t) rest in
     omega (arith, len)
@@ -22,7 +23,8 @@ still_within n at rest t front within =
     let len : length at ≡ length (slice_of t) + length rest = ap length (token_front at rest t front) ∙ length-append (slice_of t) rest in
     omega (arith, len)
 
-pub ahead_is : (next : Option Token) (old new : List ℕ) → MatchOption next ((tokens_of old ≡ []) × (tokens_of new ≡ [])) (λ t. tokens_of old ≡ lexeme t ∷ tokens_of new) → tokens_of old ≡ before next (tokens_of new)
+pub ahead_is : (next : Option Token) (old new : List ℕ) → MatchOption next ((tokens_of old ≡ []) × (tokens_of new ≡ []))
+    (λ t. tokens_of old ≡ lexeme t ∷ tokens_of new) → tokens_of old ≡ before next (tokens_of new)
 ahead_is None old new h = h.0
 ahead_is (Some t) old new h = h
 
@@ -33,7 +35,10 @@ first_before (Some t) ts = refl
 pub first_is : (next : Option Token) (ts us : List Lexeme) → ts ≡ before next us → IsFirst next ts
 first_is next ts us e = subst (IsFirst next) (sym e) (first_before next us)
 
-pub mark_step : (st new : State) (n n' : ℕ) (m : MarkParts) (after : List ℕ) (ts all : List Lexeme) (found more whole : List Finding) → all ≡ mark m ∷ ts → after ≡ text_after ts → n + length (mark_bytes m) ≡ n' → new ≡ behind st n m after → more ≡ found ++ findings_with (held_at st n m after) n (behind st n m after).key → found ++ found_from st n all ≡ whole → more ++ found_from new n' ts ≡ whole
+pub mark_step : (st new : State) (n n' : ℕ) (m : MarkParts) (after : List ℕ) (ts all : List Lexeme) (found more whole : List Finding)
+    → all ≡ mark m ∷ ts → after ≡ text_after ts → n + length (mark_bytes m) ≡ n' → new ≡ behind st n m after
+    → more ≡ found ++ findings_with (held_at st n m after) n (behind st n m after).key → found ++ found_from st n all ≡ whole
+    → more ++ found_from new n' ts ≡ whole
 mark_step st new n n' m after ts all found more whole front is place state add h =
     let on : List ℕ → List Finding = λ a. findings_with (held_at st n m a) n (behind st n m a).key in
     ap (λ l. l ++ found_from new n' ts) add
@@ -44,11 +49,13 @@ mark_step st new n n' m after ts all found more whole front is place state add h
     ∙ ap (λ l. found ++ found_from st n l) (sym front)
     ∙ h
 
-pub text_step : (st : State) (n n' : ℕ) (t : List ℕ) (ts all : List Lexeme) (found whole : List Finding) → all ≡ words t ∷ ts → n + length t ≡ n' → found ++ found_from st n all ≡ whole → found ++ found_from st n' ts ≡ whole
+pub text_step : (st : State) (n n' : ℕ) (t : List ℕ) (ts all : List Lexeme) (found whole : List Finding) → all ≡ words t ∷ ts
+    → n + length t ≡ n' → found ++ found_from st n all ≡ whole → found ++ found_from st n' ts ≡ whole
 text_step st n n' t ts all found whole front place h =
     ap (λ k. found ++ found_from st k ts) (sym place) ∙ ap (λ l. found ++ found_from st n l) (sym front) ∙ h
 
-pub end_step : (st : State) (n : ℕ) (all : List Lexeme) (found whole : List Finding) → all ≡ [] → found ++ found_from st n all ≡ whole → found ≡ whole
+pub end_step : (st : State) (n : ℕ) (all : List Lexeme) (found whole : List Finding) → all ≡ [] → found ++ found_from st n all ≡ whole
+    → found ≡ whole
 end_step st n all found whole none h = sym (append-nil found) ∙ ap (λ l. found ++ found_from st n l) (sym none) ∙ h
 
 pub found_in-from : (told : List Told) (s : List ℕ) → found_in told s ≡ found_from (start_state told) 0 (tokens_of s)

@@ -7,7 +7,7 @@ use Rattle.usfm_tree.specs.SheetViews.{styles_in}
 use Rattle.verse_cut.specs.Pieces.{Part, pieces_of}
 use Rattle.segment_check.specs.Spots.{Spot, spots}
 use Rattle.segment_check.specs.Scenes.{Scene, scenes_of}
-use Rattle.segment_check.specs.Keys.{key_at}
+use Rattle.verse_cut.specs.Places.{key_at}
 use Rattle.segment_check.specs.TreeConditions.{unknown_marker, stray_close, unclosed_char, unclosed_note, too_deep, not_under}
 use Rattle.segment_check.specs.NumberConditions.{bad_number, bad_bridge, not_rising, overlap}
 use Rattle.segment_check.specs.declared.code.Code.{Code}
@@ -17,8 +17,8 @@ use Rattle.segment_check.specs.declared.finding.Finding.{Finding}
 -- the codes, in the order in which those of one mark are told
 abbrev pub all_codes : List Code
 all_codes =
-    code.UnknownMarker ∷ code.StrayClose ∷ code.UnclosedChar ∷ code.UnclosedNote ∷ code.TooDeep ∷ code.BadNumber ∷ code.BadBridge
-    ∷ code.NotRising ∷ code.Overlap ∷ code.NotUnder ∷ []
+    code.UnknownMarker ∷ code.StrayClose ∷ code.UnclosedChar ∷ code.UnclosedNote ∷ code.TooDeep
+    ∷ code.BadNumber ∷ code.BadBridge ∷ code.NotRising ∷ code.Overlap ∷ code.NotUnder ∷ []
 
 -- the mark of a tree that begins at a place passes a test
 abbrev pub stands_at : List Spot → ℕ → (Spot → Bool) → Bool

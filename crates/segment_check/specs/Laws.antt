@@ -1,11 +1,11 @@
 -- What holds of the findings in all texts, by whatever records.
 use Rattle.std.specs.Prelude.{◌≡◌, ℕ, ◌<◌, ◌≤◌, List, ◌∷◌, ◌++◌, length, map, None, true}
 use Rattle.std.specs.List.{All, AllPairs}
-use Rattle.usfm_token.specs.Tokens.{Lexeme, mark, joined, tokens_of}
-use Rattle.usfm_tree.specs.Reading.{role, most_open}
-use Rattle.usfm_tree.specs.SheetViews.{styles_in}
-use Rattle.segment_check.specs.TreeConditions.{begins_node}
+use Rattle.usfm_token.specs.Tokens.{Lexeme, joined, tokens_of}
+use Rattle.usfm_tree.specs.Reading.{most_open}
+use Rattle.segment_check.specs.TreeConditions.{may_begin}
 use Rattle.sty_sheet.specs.Records.{Record}
+use Rattle.segment_check.specs.Spots.{Spot}
 use Rattle.segment_check.specs.Findings.{findings, spots_of}
 use Rattle.segment_check.specs.Reading.{found_in}
 use Rattle.segment_check.specs.TreeViews.{told_of}
@@ -14,11 +14,15 @@ use Rattle.segment_check.specs.declared.code.Code.TheVariants as code
 
 -- the reading of the marks from the left, with what the tree tells of them, gives the findings
 abbrev pub FindingsAreRead : Type 0
-FindingsAreRead = (sheet : List Record) (s : List ℕ) → found_in (map (told_of sheet) (spots_of sheet s)) s ≡ findings sheet s
+FindingsAreRead =
+    (sheet : List Record) (s : List ℕ)
+    → found_in (map (told_of sheet) (spots_of sheet s)) s ≡ findings sheet s
 
 -- the starts of findings never fall
 abbrev pub StartsNeverFall : Type 0
-StartsNeverFall = (sheet : List Record) (s : List ℕ) → AllPairs (λ a b. a.start ≤ b.start) (findings sheet s)
+StartsNeverFall =
+    (sheet : List Record) (s : List ℕ)
+    → AllPairs (λ a b. a.start ≤ b.start) (findings sheet s)
 
 -- the place of a code in the list of codes
 abbrev pub place_of : Code → ℕ
@@ -35,11 +39,15 @@ place_of code.NotUnder = 9
 
 -- at one start the codes rise
 abbrev pub CodesRise : Type 0
-CodesRise = (sheet : List Record) (s : List ℕ) → AllPairs (λ a b. a.start ≡ b.start → place_of a.code < place_of b.code) (findings sheet s)
+CodesRise =
+    (sheet : List Record) (s : List ℕ)
+    → AllPairs (λ a b. a.start ≡ b.start → place_of a.code < place_of b.code) (findings sheet s)
 
 -- no two findings have one start and one code
 abbrev pub NoTwoAlike : Type 0
-NoTwoAlike = (sheet : List Record) (s : List ℕ) → AllPairs (λ a b. a.start ≡ b.start → a.code ≡ b.code → ⊥) (findings sheet s)
+NoTwoAlike =
+    (sheet : List Record) (s : List ℕ)
+    → AllPairs (λ a b. a.start ≡ b.start → a.code ≡ b.code → ⊥) (findings sheet s)
 
 -- A token of a text begins at a place: behind the tokens before it.
 pub record IsTokenStart (s : List ℕ) (at : ℕ) : Type 0 where
@@ -51,8 +59,16 @@ pub record IsTokenStart (s : List ℕ) (at : ℕ) : Type 0 where
 
 -- each finding starts where a token does
 abbrev pub StartsAreTokens : Type 0
-StartsAreTokens = (sheet : List Record) (s : List ℕ) → All (λ f. IsTokenStart s f.start) (findings sheet s)
+StartsAreTokens =
+    (sheet : List Record) (s : List ℕ)
+    → All (λ f. IsTokenStart s f.start) (findings sheet s)
 
--- Each leaf of a tree whose mark begins a node stands within as many nodes as may stand one in the other: it was left out for depth.
+-- a leaf whose mark begins a node stands within as many nodes as may stand one in the other
+abbrev pub IsLeftOutForDepth : List Record → Spot → Type 0
+IsLeftOutForDepth sheet x =
+    x.node ≡ None → may_begin sheet x.mark ≡ true → most_open ≤ length x.around
+
+-- each leaf of a tree that might have begun a node was left out for its depth
 abbrev pub LeavesAreTooDeep : Type 0
-LeavesAreTooDeep = (sheet : List Record) (s : List ℕ) → All (λ x. x.node ≡ None → begins_node (role (styles_in sheet) (mark x.mark)) ≡ true → most_open ≤ length x.around) (spots_of sheet s)
+LeavesAreTooDeep =
+    (sheet : List Record) (s : List ℕ) → All (IsLeftOutForDepth sheet) (spots_of sheet s)

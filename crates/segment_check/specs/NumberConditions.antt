@@ -33,7 +33,8 @@ bridges_forward v last = is_lt (place_cmp (Verse v.number v.letter) (Verse last.
 
 -- a hyphen directly behind a verse's number without a bridge, or a bridge whose last verse is not after its first
 abbrev pub fails_bridge : List ℕ → VerseMark → Bool
-fails_bridge after v = option_map_or (λ last. not (bridges_forward v last)) v.last (hyphen_at after v.length)
+fails_bridge after v =
+    option_map_or (λ last. not (bridges_forward v last)) v.last (hyphen_at after v.length)
 
 abbrev pub has_bad_bridge : MarkParts → List ℕ → Bool
 has_bad_bridge m after = option_map_or (fails_bridge after) (verse_behind m after) false
@@ -63,9 +64,14 @@ bridge_reaches e v = option_map_or (λ last. reaches last v) e.last false
 -- a mark that opens a piece at a verse of the chapter, with a bridge that reaches a verse
 abbrev pub overlaps_from : ℕ → VerseMark → Scene → Bool
 overlaps_from chapter v earlier =
-    chapter_of earlier == chapter && option_map_or (λ e. bridge_reaches e v) (opened_verse earlier) false
+    chapter_of earlier == chapter
+    && option_map_or (λ e. bridge_reaches e v) (opened_verse earlier) false
+
+-- a mark of its chapter before it opens a piece with such a bridge
+abbrev pub is_reached : Scene → VerseMark → Bool
+is_reached scene v =
+    list_any (overlaps_from (chapter_of scene) v) (scenes_behind [] scene.before)
 
 -- `overlap`: a verse's mark that opens a piece, behind one of its chapter that opens a piece and whose bridge reaches it
 abbrev pub overlap : Scene → Bool
-overlap scene =
-    option_map_or (λ v. list_any (overlaps_from (chapter_of scene) v) (scenes_behind [] scene.before)) (opened_verse scene) false
+overlap scene = option_map_or (is_reached scene) (opened_verse scene) false

@@ -26,7 +26,8 @@ is_letter_within None (Some b) = false
 is_letter_within (Some a) (Some b) = nat_le a b
 
 abbrev pub is_within : Last → Last → Bool
-is_within last other = nat_lt last.0 other.0 || (last.0 == other.0 && is_letter_within last.1 other.1)
+is_within last other =
+    nat_lt last.0 other.0 || (last.0 == other.0 && is_letter_within last.1 other.1)
 
 -- the one that reaches more
 abbrev pub further : Option Last → Option Last → Option Last
@@ -83,7 +84,8 @@ held_at st at m after =
       bad_number = lacks_number m after;
       bad_bridge = has_bad_bridge m after;
       not_rising = is_some key && not (is_above st.key key);
-      overlap = is_above st.key key && option_map_or (any_reaches st.reach) (verse_behind m after) false;
+      overlap =
+          is_above st.key key && option_map_or (any_reaches st.reach) (verse_behind m after) false;
     }
 
 -- the state behind a mark
@@ -108,14 +110,24 @@ holds_in held code.Overlap = held.overlap
 holds_in held code.NotUnder = held.told.not_under
 
 abbrev pub findings_with : Held → ℕ → KeyParts → List Finding
-findings_with held start key = map (λ c. record { code = c; start = start; key = key }) (filter (holds_in held) all_codes)
+findings_with held start key =
+    map (λ c. record { code = c; start = start; key = key }) (filter (holds_in held) all_codes)
+
+-- what is found for one code, where it holds
+abbrev pub finding_if : Bool → Code → ℕ → KeyParts → List Finding
+finding_if holds c start key =
+    if holds then record { code = c; start = start; key = key } ∷ [] else []
+
+-- what is found at a mark from a state on
+abbrev pub found_with : State → ℕ → MarkParts → List ℕ → List Finding
+found_with st at m after = findings_with (held_at st at m after) at (behind st at m after).key
 
 -- what is found from a state on, at tokens from a place on
 abbrev pub found_from : State → ℕ → List Lexeme → List Finding
 found_from st at [] = []
 found_from st at (words t ∷ ts) = found_from st (at + length t) ts
 found_from st at (mark m ∷ ts) =
-    findings_with (held_at st at m (text_after ts)) at (behind st at m (text_after ts)).key
+    found_with st at m (text_after ts)
     ++ found_from (behind st at m (text_after ts)) (at + length (mark_bytes m)) ts
 
 abbrev pub start_state : List Told → State

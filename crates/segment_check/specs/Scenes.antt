@@ -16,7 +16,8 @@ pub record Scene : Type 0 where
 -- marks that stand behind others, each with all before it
 abbrev pub scenes_behind : List Site → List Site → List Scene
 scenes_behind before [] = []
-scenes_behind before (s ∷ ss) = record { before = before; here = s } ∷ scenes_behind (before ++ s ∷ []) ss
+scenes_behind before (s ∷ ss) =
+    record { before = before; here = s } ∷ scenes_behind (before ++ s ∷ []) ss
 
 -- the marks of a text
 unfoldable pub scenes_of : List ℕ → List Scene
@@ -30,10 +31,13 @@ chapter_of scene = chapter_in_force 0 scene.before
 abbrev pub key_of : Scene → Option KeyParts
 key_of scene = key_behind 0 scene.before scene.here
 
--- whether it opens a piece: its key is greater than the book head and than the key of every mark before it
+-- whether it would open a piece by a key: one greater than the book head and than the key of every mark before it
+abbrev pub opens_by : Scene → KeyParts → Bool
+opens_by scene k = opens (keyed_behind 0 [] scene.before) (record { key = k; at = scene.here.at })
+
+-- whether it opens a piece
 abbrev pub opens_piece : Scene → Bool
-opens_piece scene =
-    option_map_or (λ k. opens (keyed_behind 0 [] scene.before) (record { key = k; at = scene.here.at })) (key_of scene) false
+opens_piece scene = option_map_or (opens_by scene) (key_of scene) false
 
 -- neither nested nor closing, and of this name
 abbrev pub is_plain_mark : List ℕ → MarkParts → Bool
@@ -45,4 +49,5 @@ verse_behind m after = if is_plain_mark (codes "v") m then verse_in after else N
 
 -- the verse of a mark `\v` that opens a piece
 abbrev pub opened_verse : Scene → Option VerseMark
-opened_verse scene = if opens_piece scene then verse_behind scene.here.parts scene.here.after else None
+opened_verse scene =
+    if opens_piece scene then verse_behind scene.here.parts scene.here.after else None

@@ -3,12 +3,8 @@ use Rattle.sty_sheet.specs.declared.kind.StyleKind.{StyleKind}
 use Rattle.std.specs.Prelude.{ℕ, Bool, false, List, [], ◌∷◌, ◌++◌, Option, None, Some}
 use Rattle.std.specs.Option.{is_some}
 use Rattle.usfm_token.specs.Tokens.{MarkParts}
+use Rattle.usfm_tree.specs.Around.{Around}
 use Rattle.usfm_tree.specs.Forest.{Forest, nothing, text, leaf, node}
-
--- a node around a mark: its kind, and the name of its mark
-pub record Around : Type 0 where
-  pub kind : StyleKind
-  pub name : List ℕ
 
 -- A mark of a tree: where it begins; the kind of the node that it begins, or none where it is a leaf; whether that node ends with
 -- a closing mark; and the nodes around it, the innermost first.
@@ -27,4 +23,4 @@ spots around (leaf s m f) =
     record { start = s; mark = m; node = None; is_closed = false; around = around } ∷ spots around f
 spots around (node k s b m ks c f) =
     record { start = s; mark = m; node = Some k; is_closed = is_some c; around = around }
-    ∷ (spots (record { kind = k; name = m.name } ∷ around) ks ++ spots around f)
+    ∷ (spots (record { kind = k; mark = m; is_closed = is_some c } ∷ around) ks ++ spots around f)

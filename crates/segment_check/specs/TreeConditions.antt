@@ -3,21 +3,16 @@
 -- The codes and their conditions are this project's own rule. OccursUnder, with the word NEST, is Paratext's.
 use Rattle.sty_sheet.specs.declared.kind.StyleKind.{StyleKind}
 use Rattle.sty_sheet.specs.declared.kind.StyleKind.TheVariants as kinds
-use Rattle.std.specs.Prelude.{ℕ, nat_le, ◌==◌, Bool, true, false, not, ◌&&◌, ◌||◌, List, [], ◌∷◌, length, codes, find, if◌then◌else◌}
+use Rattle.std.specs.Prelude.{ℕ, nat_le, ◌==◌, Bool, true, false, not, ◌&&◌, ◌||◌, List, [], ◌∷◌, length, codes, Option, find, if◌then◌else◌}
 use Rattle.std.specs.Option.{is_some, option_map_or, option_map, option_to_list}
 use Rattle.std.specs.List.{list_any}
 use Rattle.std.specs.Str.{bytes_eq}
 use Rattle.sty_sheet.specs.Records.{Record, mark_style}
-use Rattle.usfm_token.specs.Tokens.{mark}
-use Rattle.usfm_tree.specs.Reading.{Role, plain, alone, spans, opens, closes, role, is_character_kind, is_note_kind, most_open}
+use Rattle.usfm_token.specs.Tokens.{MarkParts, mark}
+use Rattle.usfm_tree.specs.Around.{Around}
+use Rattle.usfm_tree.specs.Reading.{Role, plain, alone, spans, opens, closes, role, is_paragraph_kind, is_character_kind, is_note_kind, most_open}
 use Rattle.usfm_tree.specs.SheetViews.{styles_in}
-use Rattle.segment_check.specs.Spots.{Around, Spot}
-
-abbrev pub is_paragraph_kind : StyleKind → Bool
-is_paragraph_kind kinds.Paragraph = true
-is_paragraph_kind kinds.Character = false
-is_paragraph_kind kinds.Note = false
-is_paragraph_kind kinds.Milestone = false
+use Rattle.segment_check.specs.Spots.{Spot}
 
 abbrev pub is_note : Around → Bool
 is_note a = is_note_kind a.kind
@@ -39,7 +34,8 @@ stray_close spot = not (is_some spot.node) && spot.mark.closing
 
 -- `unclosed-char`: a character node without a closing mark, outside notes
 abbrev pub unclosed_char : Spot → Bool
-unclosed_char spot = begins is_character_kind spot && not spot.is_closed && not (list_any is_note spot.around)
+unclosed_char spot =
+    begins is_character_kind spot && not spot.is_closed && not (list_any is_note spot.around)
 
 -- `unclosed-note`: a note node without a closing mark
 abbrev pub unclosed_note : Spot → Bool
@@ -53,18 +49,26 @@ begins_node (spans m) = true
 begins_node (opens kind closer m) = true
 begins_node (closes m) = false
 
+-- by its record a mark begins a node, where there is room for it
+abbrev pub may_begin : List Record → MarkParts → Bool
+may_begin sheet m = begins_node (role (styles_in sheet) (mark m))
+
 -- `too-deep`: a leaf whose mark begins a node, which would stand deeper than the greatest depth
 abbrev pub too_deep : List Record → Spot → Bool
 too_deep sheet spot =
-    not (is_some spot.node) && begins_node (role (styles_in sheet) (mark spot.mark)) && nat_le most_open (length spot.around)
+    not (is_some spot.node) && may_begin sheet spot.mark && nat_le most_open (length spot.around)
 
--- the words of OccursUnder of a mark's record
+-- the words of OccursUnder of a record, if there is one
+abbrev pub under_in : Option Record → List (List ℕ)
+under_in style = option_map_or (λ r. r.under) style []
+
+-- and those of a mark's record
 abbrev pub under_words : List Record → List ℕ → List (List ℕ)
-under_words sheet name = option_map_or (λ r. r.under) (mark_style sheet name) []
+under_words sheet name = under_in (mark_style sheet name)
 
 -- the name of the nearest of the nodes around that passes
 abbrev pub nearest : (Around → Bool) → List Around → List (List ℕ)
-nearest test around = option_to_list (option_map (λ a. a.name) (find test around))
+nearest test around = option_to_list (option_map (λ a. a.mark.name) (find test around))
 
 abbrev pub holds_characters : Around → Bool
 holds_characters a = is_paragraph a || is_note a
@@ -74,7 +78,8 @@ holds_characters a = is_paragraph a || is_note a
 abbrev pub allow_character : List Around → List (List ℕ)
 allow_character [] = []
 allow_character (a ∷ around) =
-    if is_character_kind a.kind then a.name ∷ codes "NEST" ∷ [] else nearest holds_characters (a ∷ around)
+    if is_character_kind a.kind then a.mark.name ∷ codes "NEST" ∷ []
+    else nearest holds_characters (a ∷ around)
 
 -- Words that allow a node of a kind: a note is allowed by the name of the nearest paragraph around it.
 abbrev pub allow : StyleKind → List Around → List (List ℕ)
@@ -93,7 +98,11 @@ forbids words names = not (length words == 0) && not (list_any (is_among names) 
 abbrev pub is_restricted_kind : StyleKind → Bool
 is_restricted_kind kind = is_character_kind kind || is_note_kind kind
 
+-- a character or note node with these words, none of which allows it where these nodes are around
+abbrev pub is_forbidden : List (List ℕ) → List Around → StyleKind → Bool
+is_forbidden words around kind = is_restricted_kind kind && forbids words (allow kind around)
+
 -- `not-under`: a character or note node whose OccursUnder has words, none of which allows it
 abbrev pub not_under : List Record → Spot → Bool
 not_under sheet spot =
-    option_map_or (λ k. is_restricted_kind k && forbids (under_words sheet spot.mark.name) (allow k spot.around)) spot.node false
+    option_map_or (is_forbidden (under_words sheet spot.mark.name) spot.around) spot.node false

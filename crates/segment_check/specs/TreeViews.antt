@@ -1,16 +1,16 @@
 -- What a tree tells of its marks, as a walk from the root down sees it.
 use Rattle.sty_sheet.specs.declared.kind.StyleKind.{StyleKind}
 use Rattle.sty_sheet.specs.declared.kind.StyleKind.TheVariants as kinds
-use Rattle.std.specs.Prelude.{ℕ, ◌-◌, ◌==◌, Bool, true, false, not, ◌&&◌, List, [], ◌∷◌, length, map, codes, Option, None, Some, find, if◌then◌else◌}
+use Rattle.std.specs.Prelude.{◌≡◌, ℕ, ◌-◌, ◌==◌, Bool, true, false, not, ◌&&◌, List, [], ◌∷◌, ◌++◌, length, map, codes, Option, None, Some, find, if◌then◌else◌}
 use Rattle.std.specs.Option.{is_some, option_map, option_map_or, option_to_list}
 use Rattle.std.specs.List.{list_any}
 use Rattle.sty_sheet.specs.Records.{Record, mark_style}
-use Rattle.usfm_token.specs.Tokens.{MarkParts, mark}
+use Rattle.usfm_token.specs.Tokens.{MarkParts}
+use Rattle.usfm_tree.specs.Around.{Around}
 use Rattle.usfm_tree.specs.Forest.{Forest, nothing, text, leaf, node}
-use Rattle.usfm_tree.specs.Reading.{role, is_character_kind, is_note_kind}
-use Rattle.usfm_tree.specs.SheetViews.{styles_in}
-use Rattle.segment_check.specs.Spots.{Around, Spot, spots}
-use Rattle.segment_check.specs.TreeConditions.{is_note, is_paragraph, holds_characters, unknown_marker, stray_close, unclosed_char, unclosed_note, begins_node, too_deep, under_words, forbids, is_restricted_kind, not_under}
+use Rattle.usfm_tree.specs.Reading.{is_character_kind, is_note_kind}
+use Rattle.segment_check.specs.Spots.{Spot, spots}
+use Rattle.segment_check.specs.TreeConditions.{is_note, is_paragraph, holds_characters, unknown_marker, stray_close, unclosed_char, unclosed_note, may_begin, too_deep, under_words, forbids, is_restricted_kind, not_under}
 use Rattle.segment_check.specs.declared.inside.Inside.{Inside}
 use Rattle.segment_check.specs.declared.told.Told.{Told}
 
@@ -29,6 +29,10 @@ told_of sheet spot = record {
 abbrev pub told_in : List Record → List Around → Forest → List Told
 told_in sheet around f = map (told_of sheet) (spots around f)
 
+-- and of all marks of a tree
+abbrev pub told_under : List Record → Forest → List Told
+told_under sheet tree = told_in sheet [] tree
+
 -- what nodes around decide
 pub record Surroundings : Type 0 where
   pub in_note : Bool
@@ -39,15 +43,15 @@ pub record Surroundings : Type 0 where
 
 abbrev pub direct_character : List Around → Option (List ℕ)
 direct_character [] = None
-direct_character (a ∷ around) = if is_character_kind a.kind then Some a.name else None
+direct_character (a ∷ around) = if is_character_kind a.kind then Some a.mark.name else None
 
 abbrev pub surroundings_of : List Around → Surroundings
 surroundings_of around = record {
   in_note = list_any is_note around;
   room = 64 - length around;
   character = direct_character around;
-  holder = option_map (λ a. a.name) (find holds_characters around);
-  paragraph = option_map (λ a. a.name) (find is_paragraph around);
+  holder = option_map (λ a. a.mark.name) (find holds_characters around);
+  paragraph = option_map (λ a. a.mark.name) (find is_paragraph around);
 }
 
 abbrev pub inside_view : Inside → Surroundings
@@ -61,10 +65,12 @@ inside_view i = record {
 
 -- the surroundings within one node more
 abbrev pub entering : StyleKind → List ℕ → Surroundings → Surroundings
-entering kinds.Paragraph name i = record { in_note = i.in_note; room = i.room - 1; character = None; holder = Some name; paragraph = Some name }
-entering kinds.Character name i = record { in_note = i.in_note; room = i.room - 1; character = Some name; holder = i.holder; paragraph = i.paragraph }
-entering kinds.Note name i = record { in_note = true; room = i.room - 1; character = None; holder = Some name; paragraph = i.paragraph }
-entering kinds.Milestone name i = record { in_note = i.in_note; room = i.room - 1; character = None; holder = i.holder; paragraph = i.paragraph }
+entering kinds.Paragraph name i =
+    record i { room = i.room - 1; character = None; holder = Some name; paragraph = Some name }
+entering kinds.Character name i = record i { room = i.room - 1; character = Some name }
+entering kinds.Note name i =
+    record i { in_note = true; room = i.room - 1; character = None; holder = Some name }
+entering kinds.Milestone name i = record i { room = i.room - 1; character = None }
 
 -- the words that allow a character node there
 abbrev pub allowing_character : Surroundings → List (List ℕ)
@@ -80,6 +86,10 @@ allowing kinds.Character i = allowing_character i
 allowing kinds.Note i = option_to_list i.paragraph
 allowing kinds.Milestone i = []
 
+-- a character or note node with these words of OccursUnder, none of which allows it there
+abbrev pub is_misplaced : List (List ℕ) → Surroundings → StyleKind → Bool
+is_misplaced words i kind = is_restricted_kind kind && forbids words (allowing kind i)
+
 -- what holds of a mark, by what the nodes around decide
 abbrev pub told_by : List Record → Surroundings → ℕ → MarkParts → Option StyleKind → Bool → Told
 told_by sheet i start m kind is_closed = record {
@@ -88,9 +98,14 @@ told_by sheet i start m kind is_closed = record {
   stray_close = not (is_some kind) && m.closing;
   unclosed_char = option_map_or is_character_kind kind false && not is_closed && not i.in_note;
   unclosed_note = option_map_or is_note_kind kind false && not is_closed;
-  too_deep = not (is_some kind) && begins_node (role (styles_in sheet) (mark m)) && (i.room == 0);
-  not_under = option_map_or (λ k. is_restricted_kind k && forbids (under_words sheet m.name) (allowing k i)) kind false;
+  too_deep = not (is_some kind) && may_begin sheet m && (i.room == 0);
+  not_under = option_map_or (is_misplaced (under_words sheet m.name) i) kind false;
 }
+
+-- within nodes that decide this, the marks of entries are told behind what was told before
+abbrev pub Tells : List Record → Surroundings → Forest → List Told → List Told → Type 0
+Tells sheet i f old new =
+    (around : List Around) → i ≡ surroundings_of around → new ≡ old ++ told_in sheet around f
 
 -- what the first entry begins, if it is a node
 abbrev pub kind_here : Forest → Option StyleKind

@@ -9,7 +9,8 @@ use std::alloc::{AllocError, Global};
 use sty_sheet::Sheet;
 use usfm_tree::Tree;
 
-/// The findings in a book by a style sheet, by their starts, and at one start in the order of the codes.
+/// The findings in a book by a style sheet, by their starts, and at one start in the order of the
+/// codes.
 ///
 /// # Errors
 ///

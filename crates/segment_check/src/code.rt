@@ -13,8 +13,8 @@ pub enum Code {
     TooDeep,
     /// A mark `\c` or `\v`, neither nested nor closing, without a number.
     BadNumber,
-    /// A verse with a hyphen behind its number and no bridge, or whose bridge does not lead to a later
-    /// verse.
+    /// A verse with a hyphen behind its number and no bridge, or whose bridge does not lead to a
+    /// later verse.
     BadBridge,
     /// A mark with a key that opens no piece of the book.
     NotRising,

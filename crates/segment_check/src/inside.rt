@@ -6,9 +6,9 @@ ghost use Rattle.segment_check.specs.TreeConditions.{is_among};
 
 use sty_sheet::StyleKind;
 
-// What the nodes around a mark decide: whether a note is among them, how many nodes may still stand one
-// in the other, the node directly around it if it is a character, and the nearest paragraph or note and
-// the nearest paragraph, each by its name.
+// What the nodes around a mark decide: whether a note is among them, how many nodes may still stand
+// one in the other, the node directly around it if it is a character, and the nearest paragraph or
+// note and the nearest paragraph, each by its name.
 #[derive(Clone, Copy)]
 pub(crate) struct Inside<'a> {
     pub(crate) in_note: bool,

@@ -1,5 +1,5 @@
-//! What holds of the findings in all texts, by whatever style sheet. Each function does nothing: its
-//! contract is the law.
+//! What holds of the findings in all texts, by whatever style sheet. Each function does nothing:
+//! its contract is the law.
 
 ghost use Rattle.segment_check.specs.Laws.{CodesRise, FindingsAreRead, LeavesAreTooDeep, NoTwoAlike, StartsAreTokens, StartsNeverFall};
 

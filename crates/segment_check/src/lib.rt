@@ -5,8 +5,8 @@
 //! verses whose numbers are missing, do not rise or overlap. Each finding has the start of its mark
 //! and the key of the piece of the book that holds it.
 //!
-//! The marks and numbers are USFM 3.0's, and OccursUnder with its word NEST is Paratext's. The codes and
-//! their conditions are this project's own rule.
+//! The marks and numbers are USFM 3.0's, and OccursUnder with its word NEST is Paratext's. The
+//! codes and their conditions are this project's own rule.
 #![tactic(auto)]
 
 mod checker;

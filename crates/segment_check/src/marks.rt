@@ -1,10 +1,10 @@
 //! The findings at the marks of a text, from the left.
 
-ghost use Rattle.std.specs.Prelude.{◌≡◌, ◌++◌, ◌∷◌, [], List, IfOk, OnOk, false, if◌then◌else◌};
+ghost use Rattle.std.specs.Prelude.{◌≡◌, ◌++◌, List, IfOk, OnOk, false};
 ghost use Rattle.std.specs.Option.{option_map_or};
 ghost use Rattle.segment_check.specs.NumberConditions.{fails_bridge};
 ghost use Rattle.segment_check.specs.Reading as reading;
-ghost use Rattle.segment_check.specs.Reading.{findings_with, found_in};
+ghost use Rattle.segment_check.specs.Reading.{finding_if, findings_with, found_in};
 ghost use Rattle.usfm_token.specs.Tokens.{Lexeme};
 ghost use Rattle.usfm_token.specs.View.{mark_parts};
 ghost use Rattle.verse_cut.specs.Keys.{text_after};
@@ -30,8 +30,8 @@ struct Held {
     overlap: bool,
 }
 
-// Where a walk over the marks of a text stands: the key of the piece that is open, the last verse of its
-// chapter that a bridge reaches so far, and what the tree tells of the marks that are left.
+// Where a walk over the marks of a text stands: the key of the piece that is open, the last verse
+// of its chapter that a bridge reaches so far, and what the tree tells of the marks that are left.
 #[derive(Drop)]
 struct Walk<'t> {
     key: Key,
@@ -54,13 +54,14 @@ fn untold(start: usize) -> Told
 }
 
 impl Walk<'_> {
-    ghost use Rattle.segment_check.specs.Reading.{behind, held_at, told_first, told_rest};
+    ghost use Rattle.segment_check.specs.Reading.{behind, found_with, held_at, told_first, told_rest};
     ghost use Rattle.segment_check.specs.WalkViews.{state_of};
 
     // Takes what the tree tells of the mark that begins here.
     fn take_told(&mut self, start: usize) -> Told
         ensures first { result ≡ told_first start (state_of self.old).told }
-        ensures rest { state_of self.new ≡ record (state_of self.old) { told = told_rest start (state_of self.old).told } }
+        ensures rest { let st = state_of self.old in
+            state_of self.new ≡ record st { told = told_rest start st.told } }
     {
         match self.told {
             [told, rest @ ..] if told.start == start => {
@@ -73,8 +74,10 @@ impl Walk<'_> {
 
     // Takes a mark, and what stands behind it.
     fn take(&mut self, start: usize, mark: Mark<'_>, after: &str) -> Held
-        ensures held { result ≡ held_at (state_of self.old) start (mark_parts mark.entry) after.now }
-        ensures behind { state_of self.new ≡ behind (state_of self.old) start (mark_parts mark.entry) after.now }
+        ensures held { let st = state_of self.old in
+            result ≡ held_at st start (mark_parts mark.entry) after.now }
+        ensures behind { let st = state_of self.old in
+            state_of self.new ≡ behind st start (mark_parts mark.entry) after.now }
     {
         let told = self.take_told(start);
         let verse = verse_behind(mark, after);
@@ -102,8 +105,11 @@ impl Walk<'_> {
         mark: Mark<'_>,
         after: &str,
     ) -> Result<(), AllocError>
-        ensures found { OnOk result (findings.new.items ≡ findings.old.items ++ findings_with (held_at (state_of self.old) start (mark_parts mark.entry) after.now) start (behind (state_of self.old) start (mark_parts mark.entry) after.now).key) }
-        ensures behind { OnOk result (state_of self.new ≡ behind (state_of self.old) start (mark_parts mark.entry) after.now) }
+        ensures found { let st = state_of self.old in
+            let found = found_with st start (mark_parts mark.entry) after.now in
+            OnOk result (findings.new.items ≡ findings.old.items ++ found) }
+        ensures behind { let st = state_of self.old in
+            OnOk result (state_of self.new ≡ behind st start (mark_parts mark.entry) after.now) }
     {
         let held = self.take(start, mark, after);
         let key = self.key;
@@ -140,8 +146,8 @@ fn overlaps(reach: Option<(u16, Option<u8>)>, verse: Option<VerseMark>) -> bool
     }
 }
 
-// How far bridges reach behind a mark that opens a piece: its verse's bridge counts, and at the head of a
-// chapter none does.
+// How far bridges reach behind a mark that opens a piece: its verse's bridge counts, and at the
+// head of a chapter none does.
 fn reach_with(
     reach: Option<(u16, Option<u8>)>,
     verse: Option<VerseMark>,
@@ -180,7 +186,8 @@ fn push_if(
     start: usize,
     key: Key,
 ) -> Result<(), AllocError>
-    ensures { OnOk result (findings.new.items ≡ findings.old.items ++ (if holds then record { code = code; start = start; key = key } ∷ [] else [])) }
+    ensures { let found = finding_if holds code start key in
+        OnOk result (findings.new.items ≡ findings.old.items ++ found) }
 {
     if holds {
         findings.push(Finding { code, start, key })?;
@@ -195,7 +202,8 @@ fn push_held(
     start: usize,
     key: Key,
 ) -> Result<(), AllocError>
-    ensures { OnOk result (findings.new.items ≡ findings.old.items ++ findings_with held start key) }
+    ensures { let found = findings_with held start key in
+        OnOk result (findings.new.items ≡ findings.old.items ++ found) }
 {
     let told = held.told;
     push_if(

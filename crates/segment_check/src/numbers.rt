@@ -86,7 +86,7 @@ fn has_hyphen(text: &str, place: usize) -> bool
     text.as_bytes().get(place) == Some(&b'-')
 }
 
-// Whether a hyphen follows a verse's number without a bridge, or its bridge does not lead to a later
+// Whether a hyphen follows a verse's number and no bridge, or its bridge does not lead to a later
 // verse.
 pub(crate) fn fails_bridge(verse: VerseMark, after: &str) -> bool
     ensures { result ≡ conditions.fails_bridge after.now verse }

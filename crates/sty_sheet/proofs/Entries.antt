@@ -34,42 +34,52 @@ head_is : (x y : List ℕ) (xs ys : List (List ℕ)) → x ∷ xs ≡ y ∷ ys �
 unfolding first
 head_is x y xs ys h = ap first h
 
-puts_by : (b : Bool) (e : Bor (List ℕ) × Style) (v : Style) (es fs : Entries) (rs : List Record) → records fs ≡ rs → records (cond b ((e.0, v) ∷ es) (e ∷ fs)) ≡ cond b (record_of v ∷ records es) (record_of e.1 ∷ rs)
+puts_by : (b : Bool) (e : Bor (List ℕ) × Style) (v : Style) (es fs : Entries) (rs : List Record) → records fs ≡ rs
+    → records (cond b ((e.0, v) ∷ es) (e ∷ fs)) ≡ cond b (record_of v ∷ records es) (record_of e.1 ∷ rs)
 puts_by true e v es fs rs h = refl
 puts_by false e v es fs rs h = ap (λ l. record_of e.1 ∷ l) h
 
-pub puts : (es : Entries) (k : Bor (List ℕ)) (v : Style) → k.now ≡ v.marker.now → texts es ≡ markers es → records (insert_entry key_eq es k v) ≡ put (records es) (record_of v)
+pub puts : (es : Entries) (k : Bor (List ℕ)) (v : Style) → k.now ≡ v.marker.now → texts es ≡ markers es
+    → records (insert_entry key_eq es k v) ≡ put (records es) (record_of v)
 puts [] k v h keyed = refl
 puts (e ∷ es) k v h keyed =
     puts_by (bytes_eq k.now e.0.now) e v es (insert_entry key_eq es k v) _ (puts es k v h (ap (drop 1) keyed))
-    ∙ (λ i. cond (bytes_eq (h i) (head_is _ _ (texts es) (markers es) keyed i)) (record_of v ∷ records es) (record_of e.1 ∷ put (records es) (record_of v)))
+    ∙ (λ i. cond (bytes_eq (h i) (head_is _ _ (texts es) (markers es) keyed i)) (record_of v ∷ records es)
+    (record_of e.1 ∷ put (records es) (record_of v)))
 
-keys_by : (b : Bool) (e : Bor (List ℕ) × Style) (v : Style) (es fs : Entries) → (b ≡ true → e.0.now ≡ v.marker.now) → e.0.now ≡ e.1.marker.now → texts es ≡ markers es → texts fs ≡ markers fs → texts (cond b ((e.0, v) ∷ es) (e ∷ fs)) ≡ markers (cond b ((e.0, v) ∷ es) (e ∷ fs))
+keys_by : (b : Bool) (e : Bor (List ℕ) × Style) (v : Style) (es fs : Entries) → (b ≡ true → e.0.now ≡ v.marker.now)
+    → e.0.now ≡ e.1.marker.now → texts es ≡ markers es → texts fs ≡ markers fs
+    → texts (cond b ((e.0, v) ∷ es) (e ∷ fs)) ≡ markers (cond b ((e.0, v) ∷ es) (e ∷ fs))
 keys_by true e v es fs same head tail other = λ i. same refl i ∷ tail i
 keys_by false e v es fs same head tail other = λ i. head i ∷ other i
 
-pub keyed_after : (es : Entries) (k : Bor (List ℕ)) (v : Style) → k.now ≡ v.marker.now → texts es ≡ markers es → texts (insert_entry key_eq es k v) ≡ markers (insert_entry key_eq es k v)
+pub keyed_after : (es : Entries) (k : Bor (List ℕ)) (v : Style) → k.now ≡ v.marker.now → texts es ≡ markers es
+    → texts (insert_entry key_eq es k v) ≡ markers (insert_entry key_eq es k v)
 keyed_after [] k v h keyed = ap (λ x. x ∷ []) h
 keyed_after (e ∷ es) k v h keyed =
     keys_by (bytes_eq k.now e.0.now) e v es (insert_entry key_eq es k v)
     (λ is. sym ((bytes_eq-Decides k.now e.0.now).0 is) ∙ h)
     (head_is _ _ (texts es) (markers es) keyed) (ap (drop 1) keyed) (keyed_after es k v h (ap (drop 1) keyed))
 
-found_by : (b : Bool) (e : Style) (o : Option Style) (rs : Option Record) → option_map record_of o ≡ rs → option_map record_of (cond b (Some e) o) ≡ cond b (Some (record_of e)) rs
+found_by : (b : Bool) (e : Style) (o : Option Style) (rs : Option Record) → option_map record_of o ≡ rs
+    → option_map record_of (cond b (Some e) o) ≡ cond b (Some (record_of e)) rs
 found_by true e o rs h = refl
 found_by false e o rs h = h
 
-pub finds : (es : Entries) (name : List ℕ) → texts es ≡ markers es → option_map record_of (lookup (λ k. bytes_eq name k.now) es) ≡ named name (records es)
+pub finds : (es : Entries) (name : List ℕ) → texts es ≡ markers es
+    → option_map record_of (lookup (λ k. bytes_eq name k.now) es) ≡ named name (records es)
 finds [] name keyed = refl
 finds (e ∷ es) name keyed =
     found_by (bytes_eq name e.0.now) e.1 _ _ (finds es name (ap (drop 1) keyed))
     ∙ (λ i. cond (bytes_eq name (head_is _ _ (texts es) (markers es) keyed i)) (Some (record_of e.1)) (named name (records es)))
 
 -- after an insertion, or where memory was refused
-pub keyed_result : {A B : Type 0} (r : Result A B) (es fs : Entries) (k : Bor (List ℕ)) (v : Style) → k.now ≡ v.marker.now → texts es ≡ markers es → OnOk r (fs ≡ insert_entry key_eq es k v) → OnErr r (fs ≡ es) → texts fs ≡ markers fs
+pub keyed_result : {A B : Type 0} (r : Result A B) (es fs : Entries) (k : Bor (List ℕ)) (v : Style) → k.now ≡ v.marker.now
+    → texts es ≡ markers es → OnOk r (fs ≡ insert_entry key_eq es k v) → OnErr r (fs ≡ es) → texts fs ≡ markers fs
 keyed_result (Ok a) es fs k v h keyed ok err = subst (λ l. texts l ≡ markers l) (sym ok) (keyed_after es k v h keyed)
 keyed_result (Err b) es fs k v h keyed ok err = subst (λ l. texts l ≡ markers l) (sym err) keyed
 
-pub copied : (o : Option (Bor Style)) (p : Option Style) → option_map (λ s. s.now) o ≡ p → option_map (λ s. record_of s.now) o ≡ option_map record_of p
+pub copied : (o : Option (Bor Style)) (p : Option Style) → option_map (λ s. s.now) o ≡ p
+    → option_map (λ s. record_of s.now) o ≡ option_map record_of p
 copied None p h = ap (option_map record_of) h
 copied (Some x) p h = ap (option_map record_of) h

@@ -13,7 +13,8 @@ feff_by bs false = omega arith
 pub feff_le : (bs : List ℕ) → length (behind_feff bs) ≤ length bs
 feff_le bs = feff_by bs (begins (239 ∷ 187 ∷ 191 ∷ []) bs)
 
-pub next_line : (ls : List (List ℕ)) (s t : Lines) (x : Bor (List ℕ)) → AlwaysYields lines_steps (λ y. y.now) s ls → lines_steps s (Some x) t → (rest : List (List ℕ)) × (ls ≡ x.now ∷ rest) × AlwaysYields lines_steps (λ y. y.now) t rest
+pub next_line : (ls : List (List ℕ)) (s t : Lines) (x : Bor (List ℕ)) → AlwaysYields lines_steps (λ y. y.now) s ls
+    → lines_steps s (Some x) t → (rest : List (List ℕ)) × (ls ≡ x.now ∷ rest) × AlwaysYields lines_steps (λ y. y.now) t rest
 next_line [] s t x yields steps = absurd (yields x t steps)
 next_line (y ∷ ys) s t x yields steps = (ys, (λ i. sym ((yields.1 x t steps).0) i ∷ ys), (yields.1 x t steps).1)
 

@@ -16,7 +16,8 @@ pub or_assoc : {A : Type 0} (o p q : Option A) → option_or (option_or o p) q �
 or_assoc None p q = refl
 or_assoc (Some x) p q = refl
 
-latest_push : (read : Field → Option (List ℕ)) (fs : List Field) (f : Field) → latest read (fs ++ (f ∷ [])) ≡ option_or (read f) (latest read fs)
+latest_push : (read : Field → Option (List ℕ)) (fs : List Field) (f : Field)
+    → latest read (fs ++ (f ∷ [])) ≡ option_or (read f) (latest read fs)
 latest_push read [] f = or_none (read f)
 latest_push read (g ∷ fs) f = ap (λ o. option_or o (read g)) (latest_push read fs f) ∙ or_assoc (read f) (latest read fs) (read g)
 
@@ -62,7 +63,9 @@ record_push m fs f =
 
 fields_from : (m : List ℕ) (before fs : List Field) → fold (λ r f. with_field f r) (record_with m before) fs ≡ record_with m (before ++ fs)
 fields_from m before [] = ap (record_with m) (sym (append-nil before))
-fields_from m before (f ∷ fs) = ap (λ r. fold (λ r f. with_field f r) r fs) (sym (record_push m before f)) ∙ fields_from m (before ++ (f ∷ [])) fs ∙ ap (record_with m) (append_assoc before (f ∷ []) fs)
+fields_from m before (f ∷ fs) =
+    ap (λ r. fold (λ r f. with_field f r) r fs) (sym (record_push m before f)) ∙ fields_from m (before ++ (f ∷ [])) fs
+    ∙ ap (record_with m) (append_assoc before (f ∷ []) fs)
 
 pub takes_all : (m : List ℕ) (fs : List Field) → fold (λ r f. with_field f r) (record_with m []) fs ≡ record_with m fs
 takes_all m fs = fields_from m [] fs

@@ -33,7 +33,8 @@ own_more f fs h = take_while-cons (λ f. not (is_marker f)) f fs ∙ ap (λ t. c
 own_none : (value : List ℕ) (fs : List Field) → own_fields (marker value ∷ fs) ≡ []
 own_none value fs = take_while-cons (λ f. not (is_marker f)) (marker value) fs
 
-begun_more : (r : Record) (f : Field) (fs : List Field) → is_marker f ≡ false → fold (λ r f. with_field f r) r (own_fields (f ∷ fs)) ≡ fold (λ r f. with_field f r) (with_field f r) (own_fields fs)
+begun_more : (r : Record) (f : Field) (fs : List Field) → is_marker f ≡ false
+    → fold (λ r f. with_field f r) r (own_fields (f ∷ fs)) ≡ fold (λ r f. with_field f r) (with_field f r) (own_fields fs)
 begun_more r f fs h = ap (fold (λ r f. with_field f r) r) (own_more f fs h)
 
 -- the records, those that are whole before those to come
@@ -47,7 +48,8 @@ begins_record value fs = ap (λ r. r ∷ all_records fs) (sym (takes_all (first_
 whole_of : Reading → List Record
 whole_of s = s.whole
 
-step_total : (rs : List Record) (o : Option Record) (f : Field) (fs : List Field) → total (record { whole = rs; begun = o }) (f ∷ fs) ≡ total (after (record { whole = rs; begun = o }) f) fs
+step_total : (rs : List Record) (o : Option Record) (f : Field) (fs : List Field)
+    → total (record { whole = rs; begun = o }) (f ∷ fs) ≡ total (after (record { whole = rs; begun = o }) f) fs
 unfolding total ahead
 step_total rs None passed fs = refl
 step_total rs None (occurs_under value) fs = refl
@@ -63,9 +65,11 @@ step_total rs (Some r) (name value) fs = ap (λ q. fold put rs (q ∷ all_record
 step_total rs (Some r) (style_type value) fs = ap (λ q. fold put rs (q ∷ all_records fs)) (begun_more r (style_type value) fs refl)
 step_total rs (Some r) (text_type value) fs = ap (λ q. fold put rs (q ∷ all_records fs)) (begun_more r (text_type value) fs refl)
 step_total rs (Some r) (marker value) fs =
-    ap (λ own. fold put rs (fold (λ r f. with_field f r) r own ∷ all_records (marker value ∷ fs))) (own_none value fs) ∙ ap (fold put (put rs r)) (begins_record value fs)
+    ap (λ own. fold put rs (fold (λ r f. with_field f r) r own ∷ all_records (marker value ∷ fs))) (own_none value fs)
+    ∙ ap (fold put (put rs r)) (begins_record value fs)
 
-step_seen : (rs : List Record) (o : Option Record) (f : Field) → is_some (after (record { whole = rs; begun = o }) f).begun ≡ (is_some o || is_marker f)
+step_seen : (rs : List Record) (o : Option Record) (f : Field)
+    → is_some (after (record { whole = rs; begun = o }) f).begun ≡ (is_some o || is_marker f)
 step_seen rs None passed = refl
 step_seen rs None (occurs_under value) = refl
 step_seen rs None (endmarker value) = refl
@@ -81,15 +85,19 @@ step_seen rs (Some r) (style_type value) = refl
 step_seen rs (Some r) (text_type value) = refl
 step_seen rs (Some r) (marker value) = refl
 
-pub goes_on : (s : Reading) (n : ℕ) (f : Field) (fs : List Field) → field_fault (is_some s.begun) (n + 1) f ≡ None → resume s n (f ∷ fs) ≡ resume (after s f) (n + 1) fs
+pub goes_on : (s : Reading) (n : ℕ) (f : Field) (fs : List Field) → field_fault (is_some s.begun) (n + 1) f ≡ None
+    → resume s n (f ∷ fs) ≡ resume (after s f) (n + 1) fs
 unfolding resume total
 goes_on s n f fs h =
     ap (λ o. faulty_or (option_or o (first_fault (is_some s.begun || is_marker f) (n + 1 + 1) fs)) (total s (f ∷ fs))) h
     ∙ (λ i. faulty_or (first_fault (sym (step_seen s.whole s.begun f) i) (n + 1 + 1) fs) (step_total s.whole s.begun f fs i))
 
-pub stops : (s : Reading) (n : ℕ) (f : Field) (fs : List Field) (fault : SheetFault) → field_fault (is_some s.begun) (n + 1) f ≡ Some fault → resume s n (f ∷ fs) ≡ Err fault
+pub stops : (s : Reading) (n : ℕ) (f : Field) (fs : List Field) (fault : SheetFault) → field_fault (is_some s.begun) (n + 1) f ≡ Some fault
+    → resume s n (f ∷ fs) ≡ Err fault
 unfolding resume faulty_or
-stops s n f fs fault h = ap (λ o. faulty_or (option_or o (first_fault (is_some s.begun || is_marker f) (n + 1 + 1) fs)) (fold put s.whole (ahead s.begun (f ∷ fs)))) h
+stops s n f fs fault h =
+    ap (λ o. faulty_or (option_or o (first_fault (is_some s.begun || is_marker f) (n + 1 + 1) fs))
+    (fold put s.whole (ahead s.begun (f ∷ fs)))) h
 
 ends_by : (rs : List Record) (o : Option Record) → fold put rs (ahead o []) ≡ finished (record { whole = rs; begun = o })
 unfolding ahead
@@ -112,13 +120,17 @@ starts text = starts_by (first_fault false 1 (fields_of text)) (fields_of text)
 -- One line more, where result is what the definition gives.
 
 pub takes_line : (s t : Reading) (n : ℕ) (f g : Field) (fs gs : List Field) (sheet : Result (List Record) SheetFault)
-    → gs ≡ g ∷ fs → f ≡ g → field_fault (is_some s.begun) (n + 1) f ≡ None → t ≡ after s f → resume s n gs ≡ sheet → resume t (n + 1) fs ≡ sheet
+    → gs ≡ g ∷ fs → f ≡ g → field_fault (is_some s.begun) (n + 1) f ≡ None → t ≡ after s f → resume s n gs ≡ sheet
+    → resume t (n + 1) fs ≡ sheet
 takes_line s t n f g fs gs sheet line same due on reads =
     ap (λ s. resume s (n + 1) fs) on ∙ sym (goes_on s n f fs due) ∙ ap (λ h. resume s n (h ∷ fs)) same ∙ ap (resume s n) (sym line) ∙ reads
 
 pub refuses_line : (s : Reading) (n : ℕ) (f g : Field) (fs gs : List Field) (sheet : Result (List Record) SheetFault) (fault : SheetFault)
     → gs ≡ g ∷ fs → f ≡ g → Tells (Err fault) (field_fault (is_some s.begun) (n + 1) f) → resume s n gs ≡ sheet → Gives (Err fault) sheet
 refuses_line s n f g fs gs sheet Memory line same due reads = tt
-refuses_line s n f g fs gs sheet (FieldBeforeMarker m) line same due reads = sym reads ∙ ap (resume s n) line ∙ ap (λ h. resume s n (h ∷ fs)) (sym same) ∙ stops s n f fs _ due
-refuses_line s n f g fs gs sheet (EmptyMarker m) line same due reads = sym reads ∙ ap (resume s n) line ∙ ap (λ h. resume s n (h ∷ fs)) (sym same) ∙ stops s n f fs _ due
-refuses_line s n f g fs gs sheet (BadStyleType m) line same due reads = sym reads ∙ ap (resume s n) line ∙ ap (λ h. resume s n (h ∷ fs)) (sym same) ∙ stops s n f fs _ due
+refuses_line s n f g fs gs sheet (FieldBeforeMarker m) line same due reads =
+    sym reads ∙ ap (resume s n) line ∙ ap (λ h. resume s n (h ∷ fs)) (sym same) ∙ stops s n f fs _ due
+refuses_line s n f g fs gs sheet (EmptyMarker m) line same due reads =
+    sym reads ∙ ap (resume s n) line ∙ ap (λ h. resume s n (h ∷ fs)) (sym same) ∙ stops s n f fs _ due
+refuses_line s n f g fs gs sheet (BadStyleType m) line same due reads =
+    sym reads ∙ ap (resume s n) line ∙ ap (λ h. resume s n (h ∷ fs)) (sym same) ∙ stops s n f fs _ due

@@ -33,7 +33,8 @@ no_memory true n (style_type value) h = by (kind_named value) h
     by (Some kind) h = cc h
 no_memory seen n (text_type value) h = not_misplaced seen n h
 
-pub tells_due : (seen : Bool) (n : ℕ) (f : Field) (fault : SheetFault) → field_fault seen n f ≡ Some fault → Tells (Err fault) (field_fault seen n f)
+pub tells_due : (seen : Bool) (n : ℕ) (f : Field) (fault : SheetFault) → field_fault seen n f ≡ Some fault
+    → Tells (Err fault) (field_fault seen n f)
 tells_due seen n f Memory h = absurd (no_memory seen n f h)
 tells_due seen n f (FieldBeforeMarker m) h = h
 tells_due seen n f (EmptyMarker m) h = h

@@ -38,7 +38,8 @@ pub boundary_before_blank : (bs : List ℕ) → IsCharBoundary bs (prefix_len no
 boundary_before_blank bs =
     ⊎_elim
     (λ within. IsCharBoundary-before_ascii bs _ within (blank_ascii _ (not_not _ (prefix_len_stops not_blank bs 0 within))))
-    (λ past. let low : prefix_len not_blank bs ≤ length bs = prefix_len-le-length _ bs in let end : length bs ≡ prefix_len not_blank bs = omega arith in subst (IsCharBoundary bs) end (IsCharBoundary-end bs))
+    (λ past. let low : prefix_len not_blank bs ≤ length bs = prefix_len-le-length _ bs in let end : length bs
+    ≡ prefix_len not_blank bs = omega arith in subst (IsCharBoundary bs) end (IsCharBoundary-end bs))
     (order (prefix_len not_blank bs) (length bs))
 
 pub boundary_before_end : (bs : List ℕ) → IsCharBoundary bs (length bs - suffix_len is_blank bs)
@@ -49,7 +50,8 @@ boundary_before_end bs =
     (λ some.
     let passes : is_blank (get_or (reverse bs) (n - 1) 0) ≡ true = prefix_len_passes is_blank (reverse bs) (n - 1) 0 (omega arith) in
     let place : length bs - 1 - (n - 1) ≡ length bs - n = omega arith in
-    let at : get_or (reverse bs) (n - 1) 0 ≡ get_or bs (length bs - n) 0 = get_or-reverse bs (n - 1) 0 (omega arith) ∙ ap (λ k. get_or bs k 0) place in
+    let at : get_or (reverse bs) (n - 1) 0 ≡ get_or bs (length bs - n) 0 = get_or-reverse bs (n - 1) 0 (omega arith)
+    ∙ ap (λ k. get_or bs k 0) place in
     IsCharBoundary-before_ascii bs (length bs - n) (omega arith) (blank_ascii _ (ap is_blank (sym at) ∙ passes)))
     (λ none. let end : length bs ≡ length bs - n = omega arith in subst (IsCharBoundary bs) end (IsCharBoundary-end bs))
     (order 0 n)
@@ -66,17 +68,21 @@ comment_le : (may : Bool) (bs : List ℕ) → comment_at may bs ≤ length bs
 comment_le may [] = omega arith
 comment_le may (b ∷ bs) = le_by b bs (comment_at (is_blank b) bs) (may && b == 35) (comment_le (is_blank b) bs)
 
-stops_by : (b : ℕ) (bs : List ℕ) (n : ℕ) (t : Bool) → (t ≡ true → b ≡ 35) → (n < length bs → get_or bs n 0 ≡ 35) → cond t 0 (suc n) < length (b ∷ bs) → get_or (b ∷ bs) (cond t 0 (suc n)) 0 ≡ 35
+stops_by : (b : ℕ) (bs : List ℕ) (n : ℕ) (t : Bool) → (t ≡ true → b ≡ 35) → (n < length bs → get_or bs n 0 ≡ 35)
+    → cond t 0 (suc n) < length (b ∷ bs) → get_or (b ∷ bs) (cond t 0 (suc n)) 0 ≡ 35
 stops_by b bs n true is rest h = is refl
 stops_by b bs n false is rest h = rest (omega arith)
 
 comment_stops : (may : Bool) (bs : List ℕ) → comment_at may bs < length bs → get_or bs (comment_at may bs) 0 ≡ 35
 comment_stops may [] h = absurd (omega arith)
-comment_stops may (b ∷ bs) h = stops_by b bs (comment_at (is_blank b) bs) (may && b == 35) (λ t. eqb-true b 35 (both_true may (b == 35) t)) (comment_stops (is_blank b) bs) h
+comment_stops may (b ∷ bs) h =
+    stops_by b bs (comment_at (is_blank b) bs) (may && b == 35) (λ t. eqb-true b 35 (both_true may (b == 35) t))
+    (comment_stops (is_blank b) bs) h
 
 pub boundary_before_comment : (bs : List ℕ) → IsCharBoundary bs (comment_at true bs)
 boundary_before_comment bs =
     ⊎_elim
     (λ within. IsCharBoundary-before_ascii bs _ within (let is = comment_stops true bs within in omega arith))
-    (λ past. let low = comment_le true bs in let end : length bs ≡ comment_at true bs = omega arith in subst (IsCharBoundary bs) end (IsCharBoundary-end bs))
+    (λ past. let low = comment_le true bs in let end : length bs
+    ≡ comment_at true bs = omega arith in subst (IsCharBoundary bs) end (IsCharBoundary-end bs))
     (order (comment_at true bs) (length bs))

@@ -22,10 +22,13 @@ tails [] = []
 tails (c ∷ cs) = slice_split is_blank cs
 
 parts_by : (b : ℕ) (bs : List ℕ) (t : Bool) → slice_split is_blank bs ≡ first_word bs ∷ tails (behind_word bs)
-    → cond t ([] ∷ slice_split is_blank bs) (onto_first b (slice_split is_blank bs)) ≡ take (cond (not t) (1 + prefix_len not_blank bs) 0) (b ∷ bs) ∷ tails (drop (cond (not t) (1 + prefix_len not_blank bs) 0) (b ∷ bs))
+    → cond t ([] ∷ slice_split is_blank bs) (onto_first b (slice_split is_blank bs))
+    ≡ take (cond (not t) (1 + prefix_len not_blank bs) 0) (b ∷ bs) ∷ tails (drop (cond (not t) (1 + prefix_len not_blank bs) 0) (b ∷ bs))
 unfolding tails
 parts_by b bs true rest = refl
-parts_by b bs false rest = ap (onto_first b) rest ∙ (λ i. sym (take_more (prefix_len not_blank bs) b bs) i ∷ tails (sym (drop_more (prefix_len not_blank bs) b bs) i))
+parts_by b bs false rest =
+    ap (onto_first b) rest ∙ (λ i. sym (take_more (prefix_len not_blank bs) b bs) i
+    ∷ tails (sym (drop_more (prefix_len not_blank bs) b bs) i))
 
 parts_are : (bs : List ℕ) → slice_split is_blank bs ≡ first_word bs ∷ tails (behind_word bs)
 unfolding tails
@@ -33,10 +36,13 @@ parts_are [] = refl
 parts_are (b ∷ bs) = parts_by b bs (is_blank b) (parts_are bs)
 
 tails_by : (b : ℕ) (bs : List ℕ) (t : Bool) → is_blank b ≡ t → filter is_filled (tails (behind_word bs)) ≡ words_of (behind_word bs)
-    → filter is_filled (tails (drop (cond (not t) (1 + prefix_len not_blank bs) 0) (b ∷ bs))) ≡ words_of (drop (cond (not t) (1 + prefix_len not_blank bs) 0) (b ∷ bs))
+    → filter is_filled (tails (drop (cond (not t) (1 + prefix_len not_blank bs) 0) (b ∷ bs)))
+    ≡ words_of (drop (cond (not t) (1 + prefix_len not_blank bs) 0) (b ∷ bs))
 unfolding tails words_of
 tails_by b bs true is rest = sym (blank_first b bs is)
-tails_by b bs false is rest = ap (λ l. filter is_filled (tails l)) (drop_more (prefix_len not_blank bs) b bs) ∙ rest ∙ ap words_of (sym (drop_more (prefix_len not_blank bs) b bs))
+tails_by b bs false is rest =
+    ap (λ l. filter is_filled (tails l)) (drop_more (prefix_len not_blank bs) b bs) ∙ rest
+    ∙ ap words_of (sym (drop_more (prefix_len not_blank bs) b bs))
 
 tails_are : (bs : List ℕ) → filter is_filled (tails (behind_word bs)) ≡ words_of (behind_word bs)
 unfolding tails words_of
@@ -47,7 +53,8 @@ filled : (word : List ℕ) → 0 < length word → is_filled word ≡ true
 filled [] h = absurd (omega arith)
 filled (b ∷ bs) h = refl
 
-behind_by : (b : ℕ) (bs : List ℕ) (t : Bool) → is_blank b ≡ t → words_of (behind_blanks bs) ≡ words_of bs → words_of (drop (cond t (1 + prefix_len is_blank bs) 0) (b ∷ bs)) ≡ words_of (b ∷ bs)
+behind_by : (b : ℕ) (bs : List ℕ) (t : Bool) → is_blank b ≡ t → words_of (behind_blanks bs) ≡ words_of bs
+    → words_of (drop (cond t (1 + prefix_len is_blank bs) 0) (b ∷ bs)) ≡ words_of (b ∷ bs)
 behind_by b bs true is rest = ap words_of (drop_more (prefix_len is_blank bs) b bs) ∙ rest ∙ sym (blank_first b bs is)
 behind_by b bs false is rest = refl
 
@@ -59,16 +66,21 @@ words_behind (b ∷ bs) = behind_by b bs (is_blank b) refl (words_behind bs)
 first_is : (bs : List ℕ) → 0 < length (first_word bs) → words_of bs ≡ first_word bs ∷ words_of (behind_word bs)
 unfolding words_of
 first_is bs h =
-    ap (filter is_filled) (parts_are bs) ∙ ap (λ t. cond t (first_word bs ∷ filter is_filled (tails (behind_word bs))) (filter is_filled (tails (behind_word bs)))) (filled (first_word bs) h)
+    ap (filter is_filled) (parts_are bs) ∙ ap (λ t. cond t (first_word bs ∷ filter is_filled (tails (behind_word bs)))
+    (filter is_filled (tails (behind_word bs)))) (filled (first_word bs) h)
     ∙ ap (λ ws. first_word bs ∷ ws) (tails_are bs)
 
-pub next_is : (bs : List ℕ) → 0 < length (first_word (behind_blanks bs)) → words_of bs ≡ first_word (behind_blanks bs) ∷ words_of (behind_word (behind_blanks bs))
+pub next_is : (bs : List ℕ) → 0 < length (first_word (behind_blanks bs))
+    → words_of bs ≡ first_word (behind_blanks bs) ∷ words_of (behind_word (behind_blanks bs))
 next_is bs h = sym (words_behind bs) ∙ first_is (behind_blanks bs) h
 
-none_by : (b : ℕ) (bs : List ℕ) (t : Bool) → is_blank b ≡ t → (length (first_word (behind_blanks bs)) ≡ 0 → words_of bs ≡ []) → length (first_word (drop (cond t (1 + prefix_len is_blank bs) 0) (b ∷ bs))) ≡ 0 → words_of (b ∷ bs) ≡ []
-none_by b bs true is rest h = blank_first b bs is ∙ rest (ap (λ l. length (first_word l)) (sym (drop_more (prefix_len is_blank bs) b bs)) ∙ h)
+none_by : (b : ℕ) (bs : List ℕ) (t : Bool) → is_blank b ≡ t → (length (first_word (behind_blanks bs)) ≡ 0 → words_of bs ≡ [])
+    → length (first_word (drop (cond t (1 + prefix_len is_blank bs) 0) (b ∷ bs))) ≡ 0 → words_of (b ∷ bs) ≡ []
+none_by b bs true is rest h =
+    blank_first b bs is ∙ rest (ap (λ l. length (first_word l)) (sym (drop_more (prefix_len is_blank bs) b bs)) ∙ h)
 none_by b bs false is rest h =
-    let word : first_word (b ∷ bs) ≡ b ∷ first_word bs = ap (λ t. take (cond (not t) (1 + prefix_len not_blank bs) 0) (b ∷ bs)) is ∙ take_more (prefix_len not_blank bs) b bs in
+    let word : first_word (b ∷ bs) ≡ b ∷ first_word bs = ap (λ t. take (cond (not t) (1 + prefix_len not_blank bs) 0) (b ∷ bs)) is
+    ∙ take_more (prefix_len not_blank bs) b bs in
     absurd (omega (arith, ap length word))
 
 -- or there is none

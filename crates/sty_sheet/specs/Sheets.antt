@@ -33,7 +33,8 @@ field_fault seen n (text_type value) = misplaced seen n
 -- the first fault, where the lines are counted from n on
 abbrev pub first_fault : Bool → ℕ → List Field → Option SheetFault
 first_fault seen n [] = None
-first_fault seen n (f ∷ fs) = option_or (field_fault seen n f) (first_fault (seen || is_marker f) (n + 1) fs)
+first_fault seen n (f ∷ fs) =
+    option_or (field_fault seen n f) (first_fault (seen || is_marker f) (n + 1) fs)
 
 -- ---- records
 

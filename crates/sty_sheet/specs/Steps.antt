@@ -1,5 +1,5 @@
 -- What a reader of a sheet has after so many lines: the records that are whole, and the one that it is reading.
-use Rattle.std.specs.Prelude.{◌≡◌, List, [], ◌∷◌, Option, None, Some, if◌then◌else◌, codes, Result, Ok, Err}
+use Rattle.std.specs.Prelude.{◌≡◌, ℕ, List, [], ◌∷◌, Option, None, Some, if◌then◌else◌, codes, Result, Ok, Err}
 use Rattle.std.specs.Option.{option_map}
 use Rattle.std.specs.Str.{bytes_eq}
 use Rattle.sty_sheet.specs.Lines.{first_word}
@@ -44,9 +44,13 @@ finished s = put_begun s.whole s.begun
 abbrev pub extended : Reading → Field → Reading
 extended s f = record { whole = s.whole; begun = option_map (with_field f) s.begun }
 
+-- the record that was read is whole, and one of a marker begins
+abbrev pub began : List ℕ → Reading → Reading
+began m s = record { whole = finished s; begun = Some (record_with m []) }
+
 -- after one more field, which is no fault
 abbrev pub after : Reading → Field → Reading
-after s (marker value) = record { whole = finished s; begun = Some (record_with (first_word value) []) }
+after s (marker value) = began (first_word value) s
 after s passed = s
 after s (occurs_under value) = extended s (occurs_under value)
 after s (endmarker value) = extended s (endmarker value)

@@ -65,7 +65,7 @@ impl<'s> Reader<'s> {
     ghost use Rattle.std.specs.Prelude.{[], None, Some, Ok, Err, OnOk, OnErr, is_some};
     ghost use Rattle.sty_sheet.specs.Lines.{first_word};
     ghost use Rattle.sty_sheet.specs.Sheets.{record_with};
-    ghost use Rattle.sty_sheet.specs.Steps.{reading_of, after, extended, finished, Tells};
+    ghost use Rattle.sty_sheet.specs.Steps.{reading_of, after, began, extended, finished, Tells};
     ghost use Rattle.sty_sheet.specs.Views.{records_of, Gives};
 
     pub(crate) fn new(alloc: Global) -> Reader<'s>
@@ -79,8 +79,10 @@ impl<'s> Reader<'s> {
 
     // Takes the field of a line.
     pub(crate) fn take(&mut self, field: Field<'s>, line: usize) -> Result<(), SheetFault>
-        ensures reads { OnOk result (reading_of self.new ≡ after (reading_of self.old) (field_view field.entry)) }
-        ensures fault { Tells result (field_fault (is_some (reading_of self.old).begun) line (field_view field.entry)) }
+        ensures reads { let later = after (reading_of self.old) (field_view field.entry) in
+            OnOk result (reading_of self.new ≡ later) }
+        ensures fault { let seen = is_some (reading_of self.old).begun in
+            Tells result (field_fault seen line (field_view field.entry)) }
     {
         match field_fault(self.begun.is_some(), line, field) {
             Some(fault) => Err(fault),
@@ -97,7 +99,8 @@ impl<'s> Reader<'s> {
     }
 
     fn add(&mut self, field: Field<'s>) -> Result<(), SheetFault>
-        ensures reads { OnOk result (reading_of self.new ≡ after (reading_of self.old) (field_view field.entry)) }
+        ensures reads { let later = after (reading_of self.old) (field_view field.entry) in
+            OnOk result (reading_of self.new ≡ later) }
         ensures memory { OnErr result (result ≡ Err SheetFault.Memory) }
     {
         match field {
@@ -123,7 +126,8 @@ impl<'s> Reader<'s> {
     }
 
     fn begin(&mut self, marker: &'s str) -> Result<(), SheetFault>
-        ensures reads { OnOk result (reading_of self.new ≡ record { whole = finished (reading_of self.old); begun = Some (record_with marker.entry.now []) }) }
+        ensures reads { let later = began marker.entry.now (reading_of self.old) in
+            OnOk result (reading_of self.new ≡ later) }
         ensures memory { OnErr result (result ≡ Err SheetFault.Memory) }
     {
         self.put_begun()?;

@@ -23,7 +23,7 @@ impl<'s> Sheet<'s> {
     ghost use Rattle.sty_sheet.specs.Records.{named, mark_style, closes_milestone};
     ghost use Rattle.sty_sheet.specs.Sheets.{sheet_of};
     ghost use Rattle.sty_sheet.specs.Steps.{put};
-    ghost use Rattle.sty_sheet.specs.Views.{record_of, records_of, records_left, Gives};
+    ghost use Rattle.sty_sheet.specs.Views.{closes, record_of, records_of, records_left, Gives};
 
     /// The records of a sheet's text.
     ///
@@ -35,8 +35,8 @@ impl<'s> Sheet<'s> {
     ///
     /// # Errors
     ///
-    /// The fault of the first faulty line, and on one line `FieldBeforeMarker` before `BadStyleType`.
-    /// `Memory` where a growth was refused.
+    /// The fault of the first faulty line, and on one line `FieldBeforeMarker` before
+    /// `BadStyleType`. `Memory` where a growth was refused.
     pub fn read(alloc: Global, text: &'s str) -> Result<Sheet<'s>, SheetFault>
         ensures { Gives result (sheet_of text.now) }
     {
@@ -57,10 +57,11 @@ impl<'s> Sheet<'s> {
     }
 
     /// The record of a mark's name. If none has it, and the name is not empty, the first milestone
-    /// whose closing name it is: the marks that end a milestone have no record of their own. It takes
-    /// no memory.
+    /// whose closing name it is: the marks that end a milestone have no record of their own. It
+    /// takes no memory.
     pub fn style_of(&self, name: &str) -> Option<&Style<'s>>
-        ensures { option_map (λ s. record_of s.now) result ≡ mark_style (records_of self.now) name.now }
+        ensures { let found = option_map (λ s. record_of s.now) result in
+            found ≡ mark_style (records_of self.now) name.now }
     {
         match self.style(name) {
             Some(style) => Some(style),
@@ -94,7 +95,8 @@ impl<'s> Sheet<'s> {
 
     // Puts a record behind the others, or in the place of the one of its marker.
     pub(crate) fn put(&mut self, style: Style<'s>) -> Result<(), SheetFault>
-        ensures puts { OnOk result (records_of self.new ≡ put (records_of self.old) (record_of style.entry)) }
+        ensures puts { let later = put (records_of self.old) (record_of style.entry) in
+            OnOk result (records_of self.new ≡ later) }
         ensures memory { OnErr result (result ≡ Err SheetFault.Memory) }
     {
         self.styles.insert(style.marker(), style)?;
@@ -103,13 +105,15 @@ impl<'s> Sheet<'s> {
 
     // The first milestone that a mark of this name closes.
     fn milestone(&self, name: &str) -> Option<&Style<'s>>
-        ensures { option_map (λ s. record_of s.now) result ≡ find (closes_milestone name.now) (records_of self.now) }
+        ensures { let found = option_map (λ s. record_of s.now) result in
+            found ≡ find (closes_milestone name.now) (records_of self.now) }
     {
         self.find_milestone(name)
     }
 
     fn find_milestone(&self, name: &str) -> Option<&Style<'s>>
-        ensures { option_map (λ s. record_of s.now) result ≡ option_map record_of (find (λ s. closes_milestone name.now (record_of s)) (values self.now.styles)) }
+        ensures { let found = option_map (λ s. record_of s.now) result in
+            found ≡ option_map record_of (find (closes name.now) (values self.now.styles)) }
     {
         self.styles
             .values()

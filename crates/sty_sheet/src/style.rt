@@ -4,10 +4,11 @@ ghost use Rattle.sty_sheet.specs.FieldViews.{field_view};
 ghost use Rattle.sty_sheet.specs.Records.{closes_milestone};
 ghost use Rattle.sty_sheet.specs.Sheets.{record_with};
 ghost use Rattle.sty_sheet.specs.Steps.{with_field};
-ghost use Rattle.sty_sheet.specs.Views.{record_of};
+ghost use Rattle.sty_sheet.specs.Views.{record_of, words_left};
 
 use crate::field::Field;
 use crate::kind::StyleKind;
+use crate::under::UnderWords;
 use crate::words::{closing_name, is_word, kind_named, word_at};
 
 /// The record of a marker. Its texts are slices of the sheet's text.
@@ -36,16 +37,23 @@ impl<'s> Style<'s> {
         self.name
     }
 
-    /// The name of the mark that closes it: the field Endmarker without a last `*`, and `None` where
-    /// nothing is left or there is no such field.
+    /// The name of the mark that closes it: the field Endmarker without a last `*`, and `None`
+    /// where nothing is left or there is no such field.
     pub fn closer(&self) -> Option<&'s str>
         ensures { option_map (λ n. n.now) result ≡ (record_of self.now).closer }
     {
         self.closer
     }
 
+    /// The words of the field OccursUnder, in order. Blanks divide the words. It takes no memory.
+    pub fn under_words(&self) -> UnderWords<'s>
+        ensures { words_left result ≡ (record_of self.now).under }
+    {
+        UnderWords { rest: self.under }
+    }
+
     /// The word at a place of the field OccursUnder, counted from 0, and `None` behind the last.
-    /// Blanks divide the words.
+    /// It passes over the words before it: whoever needs them all takes `under_words`.
     pub fn under(&self, place: usize) -> Option<&'s str>
         ensures { option_map (λ w. w.now) result ≡ slice_get (record_of self.now).under place }
     {

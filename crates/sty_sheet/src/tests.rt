@@ -66,6 +66,15 @@ fn reads_records(rt: HostRuntime) -> Result<(), SheetFault> {
     Ok(())
 }
 
+// That the field OccursUnder of a style has these words, in this order.
+fn check_words(rt: &impl Abort, style: &Style<'_>, words: &[&str]) {
+    let mut under = style.under_words();
+    for word in words {
+        assert_eq!(rt; under.next(), Some(*word));
+    }
+    assert!(rt; under.next().is_none());
+}
+
 #[test]
 fn reads_fields(rt: HostRuntime) -> Result<(), SheetFault> {
     let text =
@@ -79,10 +88,12 @@ fn reads_fields(rt: HostRuntime) -> Result<(), SheetFault> {
         assert_eq!(rt; add.under(0), Some("p"));
         assert_eq!(rt; add.under(2), Some("NEST"));
         assert_eq!(rt; add.under(3), None);
+        check_words(&rt, add, &["p", "q1", "NEST"]);
         assert_eq!(rt; x.closer(), None);
         assert_eq!(rt; x.kind(), None);
         assert!(rt; !x.verse_text());
         assert_eq!(rt; x.under(0), None);
+        check_words(&rt, x, &[]);
     } else {
         panic!(rt; "two records");
     }

@@ -63,8 +63,9 @@ pub(crate) fn split_word(text: &str) -> (&str, &str)
 }
 
 // The first of the words that blanks divide, and what follows it.
-fn next_word(text: &str) -> Option<(&str, &str)>
-    ensures { MatchOption result (words_of text.now ≡ []) (λ p. words_of text.now ≡ p.0.now ∷ words_of p.1.now) }
+pub(crate) fn next_word(text: &str) -> Option<(&str, &str)>
+    ensures { let words = words_of text.now in
+        MatchOption result (words ≡ []) (λ p. words ≡ p.0.now ∷ words_of p.1.now) }
 {
     let (word, rest) = split_word(behind_blanks(text));
     if word.is_empty() {

@@ -4,6 +4,7 @@ pub mod Sorted
 pub mod Placed
 pub mod Ranks
 pub mod Members
+pub mod Once
 pub mod Runs
 pub mod Readings
 pub mod Spellings

@@ -132,6 +132,12 @@ same_segment-is a b h =
 pub same_segment-refl : (a : Segment) → same_segment a a ≡ true
 same_segment-refl a = and_from _ _ (same_bytes-refl a.book) (same_key-refl a.key)
 
+-- keys are equal where their order does not tell them apart
+pub same_key-cmp : (a b : KeyParts) → same_key a b ≡ is_eq (key_cmp a b)
+same_key-cmp a b = both_ways (same_key a b) (is_eq (key_cmp a b))
+    (λ h. subst (λ (c : KeyParts). is_eq (key_cmp a c) ≡ true) (same_key-is a b h) (ap is_eq (tied_itself key_total a)))
+    (λ h. subst (λ (c : KeyParts). same_key a c ≡ true) (key_exact a b ((Equal-is _).0 h)) (same_key-refl a))
+
 -- segments are equal where their order does not tell them apart
 pub same_segment-cmp : (a b : Segment) → same_segment a b ≡ is_eq (segment_cmp a b)
 same_segment-cmp a b = both_ways (same_segment a b) (is_eq (segment_cmp a b))

@@ -1,3 +1,4 @@
+pub mod Around
 pub mod Forest
 pub mod Laws
 pub mod LeavesViews

@@ -75,6 +75,12 @@ pub record Open : Type 0 where
   pub nested : Bool
   pub closer : Option (List ℕ)
 
+abbrev pub is_paragraph_kind : StyleKind → Bool
+is_paragraph_kind kinds.Paragraph = true
+is_paragraph_kind kinds.Character = false
+is_paragraph_kind kinds.Note = false
+is_paragraph_kind kinds.Milestone = false
+
 abbrev pub is_character_kind : StyleKind → Bool
 is_character_kind kinds.Paragraph = false
 is_character_kind kinds.Character = true

@@ -29,12 +29,14 @@ greater_comm None b n = refl
 greater_comm (Some x) None n = refl
 greater_comm (Some x) (Some y) n = omega arith
 
-in_force-snoc : (c : ℕ) (before : List Site) (s : Site) → chapter_in_force c (before ++ s ∷ []) ≡ greater_of (chapter_number s) (chapter_in_force c before)
+-- with one mark more behind the others
+pub in_force-snoc : (c : ℕ) (before : List Site) (s : Site) → chapter_in_force c (before ++ s ∷ []) ≡ greater_of (chapter_number s) (chapter_in_force c before)
 in_force-snoc c [] s = refl
 in_force-snoc c (b ∷ before) s =
     ap (greater_of (chapter_number b)) (in_force-snoc c before s) ∙ greater_comm (chapter_number b) (chapter_number s) (chapter_in_force c before)
 
-number_step : (c : ℕ) (e f g : Bool) (n : Option ℕ) (v : Option VerseMark) → greater_of (cond e None (cond f n None)) c ≡ chapter_after c (cond e None (cond f (option_map chapter_head n) (cond g (option_map (verse_key c) v) None)))
+-- the chapter in force behind a mark, by its key
+pub number_step : (c : ℕ) (e f g : Bool) (n : Option ℕ) (v : Option VerseMark) → greater_of (cond e None (cond f n None)) c ≡ chapter_after c (cond e None (cond f (option_map chapter_head n) (cond g (option_map (verse_key c) v) None)))
 number_step c true f g n v = refl
 number_step c false true g None v = refl
 number_step c false true g (Some n) v = refl
@@ -72,7 +74,7 @@ rising g [] = []
 rising g (m ∷ ms) = cond (key_below g m.key) (m ∷ rising m.key ms) (rising g ms)
 
 -- g is the greatest of the book head and the keys of some marks
-abbrev IsGreatest : KeyParts → List Keyed → Type 0
+abbrev pub IsGreatest : KeyParts → List Keyed → Type 0
 IsGreatest g before = (k : KeyParts) → key_below book_head k && is_above_all k before ≡ key_below g k
 
 and_true : (b : Bool) → b && true ≡ b
@@ -83,20 +85,22 @@ and_assoc : (x y z : Bool) → x && (y && z) ≡ (x && y) && z
 and_assoc true y z = refl
 and_assoc false y z = refl
 
-above-snoc : (k : KeyParts) (before : List Keyed) (m : Keyed) → is_above_all k (before ++ m ∷ []) ≡ is_above_all k before && key_below m.key k
+-- with one key more behind the others
+pub above-snoc : (k : KeyParts) (before : List Keyed) (m : Keyed) → is_above_all k (before ++ m ∷ []) ≡ is_above_all k before && key_below m.key k
 above-snoc k [] m = and_true (key_below m.key k)
 above-snoc k (b ∷ before) m = ap (λ x. key_below b.key k && x) (above-snoc k before m) ∙ and_assoc (key_below b.key k) _ _
 
-greatest-more : (g : KeyParts) (before : List Keyed) (m : Keyed) (k : KeyParts) → IsGreatest g before → key_below book_head k && is_above_all k (before ++ m ∷ []) ≡ key_below g k && key_below m.key k
+pub greatest-more : (g : KeyParts) (before : List Keyed) (m : Keyed) (k : KeyParts) → IsGreatest g before → key_below book_head k && is_above_all k (before ++ m ∷ []) ≡ key_below g k && key_below m.key k
 greatest-more g before m k h =
     ap (λ x. key_below book_head k && x) (above-snoc k before m) ∙ and_assoc (key_below book_head k) (is_above_all k before) (key_below m.key k) ∙ ap (λ x. x && key_below m.key k) (h k)
 
-both_second : (x y : Bool) → (y ≡ true → x ≡ true) → x && y ≡ y
+-- where one test follows from the other, both are the other
+pub both_second : (x y : Bool) → (y ≡ true → x ≡ true) → x && y ≡ y
 both_second true y h = refl
 both_second false true h = h refl
 both_second false false h = refl
 
-both_first : (x y : Bool) → (x ≡ true → y ≡ true) → x && y ≡ x
+pub both_first : (x y : Bool) → (x ≡ true → y ≡ true) → x && y ≡ x
 both_first true y h = h refl
 both_first false y h = refl
 

@@ -1,6 +1,7 @@
 pub mod Keys
 pub mod Marks
 pub mod Pieces
+pub mod Places
 pub mod Fits
 pub mod Reading
 pub mod Walks

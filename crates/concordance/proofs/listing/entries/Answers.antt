@@ -9,7 +9,7 @@ use Rattle.concordance.specs.EntryViews.{entry_view, spelling_cmp}
 use Rattle.concordance.specs.declared.listing.Entry.{Entry}
 use Rattle.concordance.specs.contracts.listing.EntryOrd.TheImpl as ord
 use Rattle.concordance.specs.contracts.listing.EntryPartialEq.TheImpl as equal
-use Rattle.concordance.proofs.Once.{sorted_once}
+use Rattle.usfm_ref.proofs.Once.{sorted_once}
 use Rattle.concordance.proofs.EntryLemmas.{spelling_total, spelling_exact, spelling_tests}
 use Rattle.concordance.proofs.listing.entries.Goals as goal
 

@@ -13,5 +13,6 @@ pub returns-else-is_empty : goal.returns-else-is_empty
 returns-else-is_empty c =
     let word = c.split_word.ensures.word ∙ ap first_word c.behind_blanks.ensures in
     let rest = c.split_word.ensures.rest ∙ ap behind_word c.behind_blanks.ensures in
-    let some : 0 < length (first_word (behind_blanks c.args.text.now)) = omega (arith, ap length (sym word), false-eqb _ 0 c.if-is_empty.ensures) in
+    let some : 0 < length (first_word (behind_blanks c.args.text.now)) = omega
+    (arith, ap length (sym word), false-eqb _ 0 c.if-is_empty.ensures) in
     next_is c.args.text.now some ∙ (λ i. sym word i ∷ words_of (sym rest i))

@@ -1,5 +1,5 @@
 use Rattle.std.proofs.Common.{◌≡◌, ℕ, ◌≤◌, IsTrue, length}
-use Rattle.concordance.specs.Keys.{key_at}
+use Rattle.verse_cut.specs.Places.{key_at}
 use Rattle.concordance.specs.Reading.{are_neighbours, begin_of, end_of}
 use Rattle.concordance.specs.Views.{pieces_left}
 use Rattle.concordance.proofs.places.Places.key_at.Given as goal

@@ -8,4 +8,7 @@ use Rattle.sty_sheet.proofs.Telling.{tells_due, is_some_map}
 use Rattle.sty_sheet.proofs.reader.Reader.take.Goals as goal
 
 pub returns-in-Some-clause-fault : goal.returns-in-Some-clause-fault
-returns-in-Some-clause-fault c = tells_due (is_some (reading_of c.args.self.now).begun) c.args.line (field_view c.args.field) c.in-Some.fault (ap (λ seen. field_fault seen c.args.line (field_view c.args.field)) (is_some_map record_of c.args.self.now.begun ∙ sym c.is_some.ensures) ∙ sym c.field_fault.ensures ∙ c.in-Some.is)
+returns-in-Some-clause-fault c =
+    tells_due (is_some (reading_of c.args.self.now).begun) c.args.line (field_view c.args.field) c.in-Some.fault
+    (ap (λ seen. field_fault seen c.args.line (field_view c.args.field))
+    (is_some_map record_of c.args.self.now.begun ∙ sym c.is_some.ensures) ∙ sym c.field_fault.ensures ∙ c.in-Some.is)

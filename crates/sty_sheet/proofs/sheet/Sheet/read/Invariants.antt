@@ -8,4 +8,7 @@ use Rattle.sty_sheet.proofs.Resume.{resume}
 use Rattle.sty_sheet.proofs.sheet.Sheet.read.Given as goal
 
 abbrev pub invariant-loop-line : goal.invariant-loop-line
-invariant-loop-line l = (ls : List (List ℕ)) × AlwaysYields lines_steps (λ x. x.now) l.line-iterator ls × (l.number + length (lines_rest l.line-iterator) ≤ length l.text) × (resume (reading_of l.reader) l.number (map field_of ls) ≡ sheet_of l.text)
+invariant-loop-line l =
+    (ls : List (List ℕ)) × AlwaysYields lines_steps (λ x. x.now) l.line-iterator ls
+    × (l.number + length (lines_rest l.line-iterator) ≤ length l.text)
+    × (resume (reading_of l.reader) l.number (map field_of ls) ≡ sheet_of l.text)
