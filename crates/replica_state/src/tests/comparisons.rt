@@ -1,5 +1,5 @@
 // How many comparisons an operation costs a replica of many segments.
-use super::player::{op_of, received};
+use super::player::{begun, op_of, received};
 use crate::Replica;
 use bundle_codec::encode;
 use op_core::{OpId, OpSet, ReplicaName};
@@ -21,15 +21,33 @@ fn verse(chapter: u16, number: u16) -> Result<(Book, Key), Fail> {
     Ok((Book::read("MAT")?, key))
 }
 
-// A replica of ana's that received 4,096 operations, each of a segment of its own.
-fn many_segments(alloc: Global) -> Result<Replica, Fail> {
+// Adds an empty text of a verse, over these ids.
+fn insert(
+    alloc: Global,
+    set: &mut OpSet,
+    number: u64,
+    at: (Book, Key),
+    over: &[OpId],
+) -> Result<(), Fail> {
+    let op = op_of(alloc, id_of(number)?, at, over, "")?;
+    set.insert(op)?;
+    Ok(())
+}
+
+// 4,096 operations, each of a segment of its own.
+fn segments(alloc: Global) -> Result<OpSet, Fail> {
     let mut many = OpSet::new(alloc);
     for i in 0..4096u16 {
-        let id = id_of(u64::from(i) + 1)?;
-        many.insert(op_of(alloc, id, verse(i / 64, i % 64)?, &[], "")?)?;
+        let at = verse(i / 64, i % 64)?;
+        insert(alloc, &mut many, u64::from(i) + 1, at, &[])?;
     }
-    let mut ana = Replica::new(alloc, ReplicaName::read("ana")?);
-    let bytes = encode(alloc, &many)?;
+    Ok(many)
+}
+
+// A replica of ana's that received them.
+fn many_segments(alloc: Global) -> Result<Replica, Fail> {
+    let bytes = encode(alloc, &segments(alloc)?)?;
+    let mut ana = begun(alloc, "ana")?;
     if received(alloc, &mut ana, &bytes)? != 4096 {
         return Err(Fail::from("not all are new"));
     }
@@ -39,7 +57,7 @@ fn many_segments(alloc: Global) -> Result<Replica, Fail> {
 // The bundle of one operation, 5000 ana on 31:15, that names 2000 ana of the same verse.
 fn one_over(alloc: Global) -> Result<Vec<u8>, Fail> {
     let mut one = OpSet::new(alloc);
-    one.insert(op_of(alloc, id_of(5000)?, verse(31, 15)?, &[id_of(2000)?], "")?)?;
+    insert(alloc, &mut one, 5000, verse(31, 15)?, &[id_of(2000)?])?;
     Ok(encode(alloc, &one)?)
 }
 

@@ -194,20 +194,28 @@ fn are_keys(replica: &Replica, code: &str, wanted: &[&str]) -> Result<bool, Fail
     Ok(keys.next().is_none())
 }
 
+fn is_op(op: &Op, id: &str, text: &str) -> Result<bool, Fail> {
+    Ok(op.id() == OpId::read(id)? && op.text() == text)
+}
+
+fn are_ops(ops: &[&Op], wanted: &[(&str, &str)]) -> Result<bool, Fail> {
+    for (op, (id, text)) in ops.iter().zip(wanted) {
+        if !is_op(op, *id, *text)? {
+            return Ok(false);
+        }
+    }
+    Ok(ops.len() == wanted.len())
+}
+
 fn shows(alloc: Global, own: &Replica, at: &str, wanted: &[(&str, &str)]) -> Result<bool, Fail> {
     let (book, key) = read_ref(at)?;
-    let shown = own.shown(alloc, book, key)?;
-    let mut same = shown.len() == wanted.len();
-    for (op, (id, text)) in shown.iter().zip(wanted) {
-        same = same && op.id() == OpId::read(*id)? && op.text() == *text;
-    }
-    Ok(same)
+    are_ops(&own.shown(alloc, book, key)?, wanted)
 }
 
 fn picks(replica: &Replica, at: &str, id: &str, text: &str) -> Result<bool, Fail> {
     let (book, key) = read_ref(at)?;
     match replica.pick(book, key) {
-        Picked::Held(op) => Ok(op.id() == OpId::read(id)? && op.text() == text),
+        Picked::Held(op) => is_op(op, id, text),
         _ => Ok(false),
     }
 }
@@ -258,6 +266,26 @@ fn tells(alloc: Global, own: &Replica, other: &Replica, step: &Step<'_>) -> Resu
     }
 }
 
+fn receive_all(alloc: Global, replica: &mut Replica, bundles: &[&[u8]]) -> Result<(), Fail> {
+    for bundle in bundles {
+        received(alloc, replica, *bundle)?;
+    }
+    Ok(())
+}
+
+fn answers(
+    alloc: Global,
+    ana: &mut Replica,
+    ben: &mut Replica,
+    row: &Row<'_>,
+) -> Result<bool, Fail> {
+    let (who, step) = row;
+    match *who {
+        Who::Ana => does(alloc, ana, ben, step),
+        Who::Ben => does(alloc, ben, ana, step),
+    }
+}
+
 // That two replicas, of ana, who first received these bundles, and of ben, answer what the rows say.
 pub(crate) fn play(
     rt: &impl Abort,
@@ -267,15 +295,9 @@ pub(crate) fn play(
 ) -> Result<(), Fail> {
     let mut ana = begun(alloc, "ana")?;
     let mut ben = begun(alloc, "ben")?;
-    for bundle in first {
-        received(alloc, &mut ana, *bundle)?;
-    }
-    for (at, (who, step)) in rows.iter().enumerate() {
-        let is_right = match *who {
-            Who::Ana => does(alloc, &mut ana, &ben, step)?,
-            Who::Ben => does(alloc, &mut ben, &ana, step)?,
-        };
-        assert!(rt; is_right, "row {at}");
+    receive_all(alloc, &mut ana, first)?;
+    for (at, row) in rows.iter().enumerate() {
+        assert!(rt; answers(alloc, &mut ana, &mut ben, row)?, "row {at}");
     }
     Ok(())
 }
