@@ -38,22 +38,37 @@ fn something_follows(rt: HostRuntime) -> Result<(), Fail> {
     Ok(())
 }
 
-fn joins(alloc: Global, first: &[u8], second: &[u8], wanted: &[u8]) -> Result<bool, Fail> {
-    let joined = join_bundles(alloc, first, second)?;
-    Ok(joined.as_slice() == wanted)
+// Whether the first two of each row join to the third.
+fn all_join(alloc: Global, rows: &[[&[u8]; 3]]) -> Result<bool, Fail> {
+    for row in rows {
+        let joined = join_bundles(alloc, row[0], row[1])?;
+        if joined.as_slice() != row[2] {
+            return Ok(false);
+        }
+    }
+    Ok(true)
+}
+
+// B1 and Y in one bundle.
+fn b1_and_y(alloc: Global) -> Result<Vec<u8>, Fail> {
+    let mut both = changed(alloc, B1, 15, &[3])?;
+    both.extend_from_slice(Y.split_at(16).1)?;
+    Ok(both)
 }
 
 #[test]
 fn bundles_are_joined(rt: HostRuntime) -> Result<(), Fail> {
     let alloc = rt.alloc();
-    let mut both = changed(alloc, B1, 15, &[3])?;
-    both.extend_from_slice(Y.split_at(16).1)?;
+    let both = b1_and_y(alloc)?;
     assert_eq!(rt; both.len(), 166);
-    assert!(rt; joins(alloc, B1, B1, B1)?);
-    assert!(rt; joins(alloc, B1, Y, &both)?);
-    assert!(rt; joins(alloc, Y, B1, &both)?);
-    assert!(rt; joins(alloc, &both, Y, &both)?);
-    assert!(rt; joins(alloc, EMPTY, EMPTY, EMPTY)?);
+    let rows = [
+        [B1.as_slice(), B1, B1],
+        [B1, Y, &both],
+        [Y, B1, &both],
+        [&both, Y, &both],
+        [EMPTY, EMPTY, EMPTY],
+    ];
+    assert!(rt; all_join(alloc, &rows)?);
     Ok(())
 }
 

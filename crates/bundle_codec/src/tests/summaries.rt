@@ -34,17 +34,22 @@ const VERSES: [(&[u8], &[u8]); 5] = [
     (b"\0\x01\x01\0\x03\0", b"\\v 3 c\n"),
 ];
 
+fn push_verse(bytes: &mut Vec<u8>, number: u8, key: &[u8], text: &[u8]) -> Result<(), Fail> {
+    bytes.extend_from_slice(&[0, 0, 0, 0, 0, 0, 0, number])?;
+    bytes.extend_from_slice(b"\x03anaMAT")?;
+    bytes.extend_from_slice(key)?;
+    bytes.extend_from_slice(b"\0\0\0\0\0\0\0\0\x01")?;
+    bytes.extend_from_slice(&(text.len() as u64).to_be_bytes())?;
+    bytes.extend_from_slice(text)?;
+    Ok(())
+}
+
 fn verses(alloc: Global) -> Result<OpSet, Fail> {
     let mut bytes = b"USFMSR1\n\0\0\0\0\0\0\0\x05".to_vec(alloc)?;
     let mut number = 0u8;
     for (key, text) in &VERSES {
         number = number.wrapping_add(1);
-        bytes.extend_from_slice(&[0, 0, 0, 0, 0, 0, 0, number])?;
-        bytes.extend_from_slice(b"\x03anaMAT")?;
-        bytes.extend_from_slice(key)?;
-        bytes.extend_from_slice(b"\0\0\0\0\0\0\0\0\x01")?;
-        bytes.extend_from_slice(&(text.len() as u64).to_be_bytes())?;
-        bytes.extend_from_slice(text)?;
+        push_verse(&mut bytes, number, key, text)?;
     }
     Ok(decode_whole(alloc, &bytes)?.to_set(alloc)?)
 }
@@ -152,30 +157,47 @@ fn names_that_do_not_rise(rt: HostRuntime) -> Result<(), Fail> {
     Ok(())
 }
 
-fn summary_of(alloc: Global, set: &OpSet) -> Result<Vec<u8>, Fail> {
-    Ok(Summary::of(alloc, set)?.write(alloc)?)
+fn has_summary(alloc: Global, set: &OpSet, wanted: &[u8]) -> Result<bool, Fail> {
+    let summary = Summary::of(alloc, set)?;
+    Ok(summary.write(alloc)?.as_slice() == wanted)
 }
 
 #[test]
 fn summaries_of_sets(rt: HostRuntime) -> Result<(), Fail> {
     let alloc = rt.alloc();
-    assert!(rt; summary_of(alloc, &verses(alloc)?)?.as_slice() == S5.as_slice());
+    assert!(rt; has_summary(alloc, &verses(alloc)?, S5)?);
+    assert!(rt; has_summary(alloc, &OpSet::new(alloc), NO_NAMES)?);
     let fourth = decode_whole(alloc, FOURTH)?.to_set(alloc)?;
-    assert!(rt; summary_of(alloc, &fourth)?.as_slice() == S4);
-    assert!(rt; summary_of(alloc, &OpSet::new(alloc))?.as_slice() == NO_NAMES);
+    assert!(rt; has_summary(alloc, &fourth, S4)?);
     Ok(())
+}
+
+fn is_outside(alloc: Global, summary: &Summary, wanted: &[u8]) -> Result<bool, Fail> {
+    let set = verses(alloc)?;
+    Ok(encode_outside(alloc, &set, summary)?.as_slice() == wanted)
 }
 
 #[test]
 fn what_lies_outside(rt: HostRuntime) -> Result<(), Fail> {
-    let alloc = rt.alloc();
-    let set = verses(alloc)?;
-    let summary = Summary::read(alloc, S1)?;
-    assert!(rt; encode_outside(alloc, &set, &summary)?.as_slice() == FOURTH);
-    let own = Summary::of(alloc, &set)?;
+    let summary = Summary::read(rt.alloc(), S1)?;
+    assert!(rt; is_outside(rt.alloc(), &summary, FOURTH)?);
+    Ok(())
+}
+
+fn covers_all(summary: &Summary, set: &OpSet) -> bool {
     for op in set.iter() {
-        assert!(rt; own.covers(&op.id()));
+        if !summary.covers(&op.id()) {
+            return false;
+        }
     }
-    assert!(rt; encode_outside(alloc, &set, &own)?.as_slice() == NO_OPERATION);
+    true
+}
+
+#[test]
+fn nothing_lies_outside_its_own(rt: HostRuntime) -> Result<(), Fail> {
+    let set = verses(rt.alloc())?;
+    let own = Summary::of(rt.alloc(), &set)?;
+    assert!(rt; covers_all(&own, &set));
+    assert!(rt; is_outside(rt.alloc(), &own, NO_OPERATION)?);
     Ok(())
 }
