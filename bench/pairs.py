@@ -21,8 +21,9 @@ def lines_of(crate):
     return [line for line in lines if line.split(":")[0] in wanted]
 
 
-def build(work, folder, crate, words):
-    """Builds FOLDER/bench.rt.txt over the crate by `rt run`, with these words, and FOLDER/plain.rs by `rustc -O`."""
+def build(work, folder, crate, words, beside=()):
+    """Builds FOLDER/bench.rt.txt over the crate, and what it names beside it, by `rt run`, with these words, and
+    FOLDER/plain.rs by `rustc -O`."""
     subprocess.run(["git", "-C", work, "init", "-q"], check=True)
     name = os.path.basename(folder) + "_bench"
     lines = lines_of(crate)
@@ -33,7 +34,7 @@ def build(work, folder, crate, words):
     os.makedirs(os.path.join(program, "src"))
     shutil.copy(os.path.join(folder, "bench.rt.txt"), os.path.join(program, "src/main.rt"))
     with open(os.path.join(work, "crates.txt"), "w") as out:
-        out.writelines(lines + ["%s: %s anyhow\n" % (name, crate)])
+        out.writelines(lines + ["%s: %s anyhow\n" % (name, " ".join([crate, *beside]))])
     ran = subprocess.run(["rt", "run", "--", *words], cwd=program, stdout=subprocess.PIPE, stderr=subprocess.STDOUT, text=True)
     if ran.returncode:
         sys.exit("\n".join(ran.stdout.splitlines()[-30:]))
@@ -74,3 +75,17 @@ def turn_about(programs, words, turns):
     if any(told != answers[0] for told in answers):
         sys.exit("the two programs answer differently")
     return least, answers[0]
+
+
+def compare_jobs(programs, jobs, turns=7):
+    """Tells the least time and the peak memory of both programs for each job, which has a label and its words. Answers
+    whether the proved one takes at most 1.5 times as long in each."""
+    held = True
+    for label, words in jobs:
+        least, _ = turn_about(programs, words, turns)
+        peaks = [once(program, words)[2] for program in programs]
+        ratio = least[0] / least[1]
+        print("%-18s proved %9.3f ms %7d KB   plain %9.3f ms %7d KB   time %.2f   memory %.2f"
+              % (label, least[0] / 1e6, peaks[0], least[1] / 1e6, peaks[1], ratio, peaks[0] / peaks[1]))
+        held = held and ratio <= 1.5
+    return held

@@ -33,33 +33,42 @@ lies_not n r out = by (lies_in n r) refl
     by true e = absurd (out (lies_bounds n r e))
     by false e = refl
 
-pub any_at : {A : Type 0} (p : A → Bool) (xs : List A) (k : ℕ) (x : A) → k < length xs → x ≡ get_or xs k x → p x ≡ true → list_any p xs ≡ true
+pub any_at : {A : Type 0} (p : A → Bool) (xs : List A) (k : ℕ) (x : A) → k < length xs → x ≡ get_or xs k x → p x ≡ true
+    → list_any p xs ≡ true
 any_at p [] k x lt e h = absurd (omega (arith, lt))
 any_at p (y ∷ ys) zero x lt e h = rw (sym (ap p e) ∙ h) refl
-any_at p (y ∷ ys) (suc k) x lt e h = let rest = any_at p ys k x (omega (arith, lt)) e h in elim (p y) as (λ b. (b || list_any p ys) ≡ true) [ true ↦ refl | false ↦ rest ]
+any_at p (y ∷ ys) (suc k) x lt e h =
+    let rest = any_at p ys k x (omega (arith, lt)) e h in elim (p y) as (λ b. (b || list_any p ys) ≡ true) [ true ↦ refl | false ↦ rest ]
 
-pub any_none : {A : Type 0} (p : A → Bool) (xs : List A) → ((k : ℕ) (d : A) → k < length xs → p (get_or xs k d) ≡ false) → list_any p xs ≡ false
+pub any_none : {A : Type 0} (p : A → Bool) (xs : List A) → ((k : ℕ) (d : A) → k < length xs → p (get_or xs k d) ≡ false)
+    → list_any p xs ≡ false
 any_none p [] h = refl
 any_none p (x ∷ xs) h = rw (h 0 x (omega arith)) (any_none p xs (λ k d lt. h (suc k) d (omega (arith, lt))))
 
-range_at_place : (rs : List NumberRange) (k : ℕ) (d : NumberRange) → list_all is_range rs ≡ true → k < length rs → is_range (get_or rs k d) ≡ true
+range_at_place : (rs : List NumberRange) (k : ℕ) (d : NumberRange) → list_all is_range rs ≡ true → k < length rs
+    → is_range (get_or rs k d) ≡ true
 range_at_place [] k d h lt = absurd (omega (arith, lt))
 range_at_place (r ∷ rs) zero d h lt = (and_parts (is_range r) (list_all is_range rs) h).0
 range_at_place (r ∷ rs) (suc k) d h lt = range_at_place rs k d (and_parts (is_range r) (list_all is_range rs) h).1 (omega (arith, lt))
 
-above_at : (n : ℕ) (rs : List NumberRange) (k : ℕ) (d : NumberRange) → list_all (λ (s : NumberRange). ltb (suc n) s.first) rs ≡ true → k < length rs → suc n < (get_or rs k d).first
+above_at : (n : ℕ) (rs : List NumberRange) (k : ℕ) (d : NumberRange) → list_all (λ (s : NumberRange). ltb (suc n) s.first) rs ≡ true
+    → k < length rs → suc n < (get_or rs k d).first
 above_at n [] k d h lt = absurd (omega (arith, lt))
-above_at n (r ∷ rs) zero d h lt = ltb-true _ _ (and_parts (ltb (suc n) r.first) (list_all (λ (s : NumberRange). ltb (suc n) s.first) rs) h).0
-above_at n (r ∷ rs) (suc k) d h lt = above_at n rs k d (and_parts (ltb (suc n) r.first) (list_all (λ (s : NumberRange). ltb (suc n) s.first) rs) h).1 (omega (arith, lt))
+above_at n (r ∷ rs) zero d h lt =
+    ltb-true _ _ (and_parts (ltb (suc n) r.first) (list_all (λ (s : NumberRange). ltb (suc n) s.first) rs) h).0
+above_at n (r ∷ rs) (suc k) d h lt =
+    above_at n rs k d (and_parts (ltb (suc n) r.first) (list_all (λ (s : NumberRange). ltb (suc n) s.first) rs) h).1 (omega (arith, lt))
 
 -- an earlier range ends before a later one begins
-apart_at : (rs : List NumberRange) (k j : ℕ) (d e : NumberRange) → are_apart rs ≡ true → k < j → j < length rs → (get_or rs k d).last < (get_or rs j e).first
+apart_at : (rs : List NumberRange) (k j : ℕ) (d e : NumberRange) → are_apart rs ≡ true → k < j → j < length rs
+    → (get_or rs k d).last < (get_or rs j e).first
 apart_at [] k j d e h lt l = absurd (omega (arith, l))
 apart_at (r ∷ rs) k zero d e h lt l = absurd (omega (arith, lt))
 apart_at (r ∷ rs) zero (suc j) d e h lt l =
     let p = and_parts (list_all (λ (s : NumberRange). ltb (suc r.last) s.first) rs) (are_apart rs) h in
     omega (arith, above_at r.last rs j e p.0 (omega (arith, l)))
-apart_at (r ∷ rs) (suc k) (suc j) d e h lt l = apart_at rs k j d e (and_parts (list_all (λ (s : NumberRange). ltb (suc r.last) s.first) rs) (are_apart rs) h).1 (omega (arith, lt)) (omega (arith, l))
+apart_at (r ∷ rs) (suc k) (suc j) d e h lt l = apart_at rs k j d e
+    (and_parts (list_all (λ (s : NumberRange). ltb (suc r.last) s.first) rs) (are_apart rs) h).1 (omega (arith, lt)) (omega (arith, l))
 
 -- the number lies in no range before `low` or from `high` on
 pub record Between (n : ℕ) (rs : List NumberRange) (low high : ℕ) : Type 0 where
@@ -70,9 +79,16 @@ pub record Between (n : ℕ) (rs : List NumberRange) (low high : ℕ) : Type 0 w
 
 module _ (n : ℕ) (rs : List NumberRange) where
   pub between_all : Between n rs 0 (length rs)
-  between_all = record { ordered = omega arith; within = omega arith; below = λ k d lt. absurd (omega (arith, lt)); above = λ k d le lt. absurd (omega (arith, le, lt)) }
+  between_all =
+      record {
+        ordered = omega arith;
+        within = omega arith;
+        below = λ k d lt. absurd (omega (arith, lt));
+        above = λ k d le lt. absurd (omega (arith, le, lt));
+      }
 
-  module _ (each : list_all is_range rs ≡ true) (apart : are_apart rs ≡ true) (low high middle : ℕ) (d0 : NumberRange) (b : Between n rs low high) (le : low ≤ middle) (lt : middle < high) where
+  module _ (each : list_all is_range rs ≡ true) (apart : are_apart rs ≡ true) (low high middle : ℕ) (d0 : NumberRange)
+      (b : Between n rs low high) (le : low ≤ middle) (lt : middle < high) where
     abbrev r : NumberRange
     r = get_or rs middle d0
 
@@ -91,7 +107,8 @@ module _ (n : ℕ) (rs : List NumberRange) where
             omega (arith, p, q.1.0, same, over)
         | inr more ↦
             let here : middle ≡ k = omega (arith, m, more) in
-            let same : r.last ≡ (get_or rs k d).last = ap (λ (x : NumberRange). x.last) (is ∙ get_or_default rs middle r d (omega (arith, lt, b.within)) ∙ ap (λ j. get_or rs j d) here) in
+            let same : r.last ≡ (get_or rs k d).last = ap (λ (x : NumberRange). x.last)
+            (is ∙ get_or_default rs middle r d (omega (arith, lt, b.within)) ∙ ap (λ j. get_or rs j d) here) in
             omega (arith, same, over)
       ];
       above = b.above;
@@ -110,7 +127,8 @@ module _ (n : ℕ) (rs : List NumberRange) where
             omega (arith, p, q.1.0, same, under)
         | inr less ↦
             let here : middle ≡ k = omega (arith, m, less) in
-            let same : r.first ≡ (get_or rs k d).first = ap (λ (x : NumberRange). x.first) (is ∙ get_or_default rs middle r d (omega (arith, lt, b.within)) ∙ ap (λ j. get_or rs j d) here) in
+            let same : r.first ≡ (get_or rs k d).first = ap (λ (x : NumberRange). x.first)
+            (is ∙ get_or_default rs middle r d (omega (arith, lt, b.within)) ∙ ap (λ j. get_or rs j d) here) in
             omega (arith, same, under)
       ];
     }
@@ -148,19 +166,27 @@ above_covers_none id (k ∷ s) h =
     let p = and_parts (is_lt (name_cmp id.name k.name)) (list_all (λ x. is_lt (name_cmp id.name x.name)) s) h in
     rw (apart_name id.name k.name p.0) (above_covers_none id s p.1)
 
-pub covers-found : (id : Id) (s : List Known) → rises_by name_cmp (λ (k : Known). k.name) s ≡ true → covers s id ≡ found_has (under_name id.name s) id.number
+pub covers-found : (id : Id) (s : List Known) → rises_by name_cmp (λ (k : Known). k.name) s ≡ true
+    → covers s id ≡ found_has (under_name id.name s) id.number
 covers-found id [] h = refl
 covers-found id (k ∷ s) h =
     let p = and_parts (list_all (λ (x : Known). is_lt (name_cmp k.name x.name)) s) (rises_by name_cmp (λ (x : Known). x.name) s) h in
     by (is_eq (name_cmp id.name k.name)) refl p (λ h. covers-found id s h)
   where
-    by : (b : Bool) → is_eq (name_cmp id.name k.name) ≡ b → (list_all (λ (x : Known). is_lt (name_cmp k.name x.name)) s ≡ true) × (rises_by name_cmp (λ (x : Known). x.name) s ≡ true) → (rises_by name_cmp (λ (x : Known). x.name) s ≡ true → covers s id ≡ found_has (under_name id.name s) id.number) → covers (k ∷ s) id ≡ found_has (under_name id.name (k ∷ s)) id.number
+    by : (b : Bool) → is_eq (name_cmp id.name k.name) ≡ b
+        → (list_all (λ (x : Known). is_lt (name_cmp k.name x.name)) s ≡ true) × (rises_by name_cmp (λ (x : Known). x.name) s ≡ true)
+        → (rises_by name_cmp (λ (x : Known). x.name) s ≡ true → covers s id ≡ found_has (under_name id.name s) id.number)
+        → covers (k ∷ s) id ≡ found_has (under_name id.name (k ∷ s)) id.number
     by true e p on =
         let same : k.name ≡ id.name = same_bytes-is k.name id.name (same_tied id.name k.name ∙ e) in
-        let none : covers s id ≡ false = above_covers_none id s (subst (λ (q : List ℕ). list_all (λ (x : Known). is_lt (name_cmp q x.name)) s ≡ true) same p.0) in
+        let none : covers s id ≡ false =
+        above_covers_none id s (subst (λ (q : List ℕ). list_all (λ (x : Known). is_lt (name_cmp q x.name)) s ≡ true) same p.0) in
         rw (same_tied id.name k.name ∙ e, e, none) (or_right_false (has_number k.ranges id.number))
     by false e p on = rw (same_tied id.name k.name ∙ e, e) (on p.1)
 
-pub covered_is : (id : Id) (name : List ℕ) (number : ℕ) (s names : List Known) (one : Option Known) → rises_by name_cmp (λ (k : Known). k.name) names ≡ true → names ≡ s → ◌≡◌ {A = Id} (record { number = number; name = name }) id → one ≡ under_name name names → covers s id ≡ found_has one number
+pub covered_is : (id : Id) (name : List ℕ) (number : ℕ) (s names : List Known) (one : Option Known)
+    → rises_by name_cmp (λ (k : Known). k.name) names ≡ true → names ≡ s → ◌≡◌ {A = Id} (record { number = number; name = name }) id
+    → one ≡ under_name name names → covers s id ≡ found_has one number
 covered_is id name number s names one h e f g =
-    (λ j. covers (sym e j) (sym f j)) ∙ covers-found (record { number = number; name = name }) names h ∙ ap (λ o. found_has o number) (sym g)
+    (λ j. covers (sym e j) (sym f j)) ∙ covers-found (record { number = number; name = name }) names h
+    ∙ ap (λ o. found_has o number) (sym g)

@@ -23,7 +23,8 @@ module _ (bad : BundleFault) (bytes : List ℕ) (fine : AreBytes bytes) (h : IsO
   p = place_front.first
 
   kind_spelled : byte_at any Truncated bytes ≡ Ok (kind_of p, (to_be_bytes w16 (verse_of p) ++ (letter_of p ∷ [])) ++ place_front.left)
-  kind_spelled = at_front (byte_reads any Truncated) (kind_of p) ((to_be_bytes w16 (verse_of p) ++ (letter_of p ∷ [])) ++ place_front.left) bytes
+  kind_spelled =
+      at_front (byte_reads any Truncated) (kind_of p) ((to_be_bytes w16 (verse_of p) ++ (letter_of p ∷ [])) ++ place_front.left) bytes
       (place_front.parts ∙ ap (λ (w : List ℕ). w ++ place_front.left) (sym (place_spelled p)))
       refl
 
@@ -33,7 +34,8 @@ module _ (bad : BundleFault) (bytes : List ℕ) (fine : AreBytes bytes) (h : IsO
   module _ (kind : ℕ) (rest : List ℕ) (one : byte_at any Truncated bytes ≡ Ok (kind, rest)) where
     verse_spelled : number_at w16 any Truncated rest ≡ Ok (verse_of p, (letter_of p ∷ []) ++ place_front.left)
     verse_spelled = at_front (number_reads w16 (2 ^ 16) wide16 any Truncated) (verse_of p) ((letter_of p ∷ []) ++ place_front.left) rest
-        (same_rest (byte_at any Truncated bytes) _ _ _ _ kind_spelled one ∙ append_assoc (to_be_bytes w16 (verse_of p)) (letter_of p ∷ []) place_front.left)
+        (same_rest (byte_at any Truncated bytes) _ _ _ _ kind_spelled one
+        ∙ append_assoc (to_be_bytes w16 (verse_of p)) (letter_of p ∷ []) place_front.left)
         ((place_from p place_front.fits).1.0.0, refl)
 
     pub place_verse : IsOk (number_at w16 any Truncated rest)
@@ -41,7 +43,8 @@ module _ (bad : BundleFault) (bytes : List ℕ) (fine : AreBytes bytes) (h : IsO
 
     module _ (verse : ℕ) (rest2 : List ℕ) (two : number_at w16 any Truncated rest ≡ Ok (verse, rest2)) where
       letter_spelled : byte_at any Truncated rest2 ≡ Ok (letter_of p, place_front.left)
-      letter_spelled = at_front (byte_reads any Truncated) (letter_of p) place_front.left rest2 (same_rest (number_at w16 any Truncated rest) _ _ _ _ verse_spelled two) refl
+      letter_spelled = at_front (byte_reads any Truncated) (letter_of p) place_front.left rest2
+          (same_rest (number_at w16 any Truncated rest) _ _ _ _ verse_spelled two) refl
 
       pub place_letter : IsOk (byte_at any Truncated rest2)
       place_letter = is_ok (byte_at any Truncated rest2) _ letter_spelled
@@ -54,7 +57,8 @@ module _ (bad : BundleFault) (bytes : List ℕ) (fine : AreBytes bytes) (h : IsO
             (sym (same_value (byte_at any Truncated rest2) _ _ _ _ letter_spelled three) j))
 
         place_is : place_at bad bytes ≡ Ok (place_of kind verse letter, rest3)
-        place_is = place_front.is_read ∙ (λ j. Ok (same_place j, sym (same_rest (byte_at any Truncated rest2) _ _ _ _ letter_spelled three) j))
+        place_is =
+            place_front.is_read ∙ (λ j. Ok (same_place j, sym (same_rest (byte_at any Truncated rest2) _ _ _ _ letter_spelled three) j))
 
         pub is_head : kind ≡ 0 → place_at bad bytes ≡ Ok (Head, rest3)
         is_head e = place_is ∙ ap (λ (k : ℕ). Ok (place_of k verse letter, rest3)) e
@@ -100,7 +104,8 @@ module _ (bad : BundleFault) (bytes : List ℕ) (fine : AreBytes bytes) (h : IsO
     pub key_place : IsOk (place_at bad rest)
     key_place = is_ok (place_at bad rest) _ place_is_spelled
 
-    pub key_is : (q : Place) (rest2 : List ℕ) → place_at bad rest ≡ Ok (q, rest2) → key_at bad bytes ≡ Ok (record { chapter = chapter; place = q }, rest2)
+    pub key_is : (q : Place) (rest2 : List ℕ) → place_at bad rest ≡ Ok (q, rest2)
+        → key_at bad bytes ≡ Ok (record { chapter = chapter; place = q }, rest2)
     key_is q rest2 two =
         let same : key_front.first ≡ record { chapter = chapter; place = q } = λ j. record {
           chapter = sym (same_value (number_at w16 any Truncated bytes) _ _ _ _ chapter_spelled one) j;
@@ -118,7 +123,8 @@ module _ (bytes : List ℕ) (fine : AreBytes bytes) (h : IsOk (body_at 0 bytes))
   text = body_front.first
 
   tag_spelled : byte_at any Truncated bytes ≡ Ok (1, (to_be_bytes w64 (length text) ++ text) ++ body_front.left)
-  tag_spelled = at_front (byte_reads any Truncated) 1 ((to_be_bytes w64 (length text) ++ text) ++ body_front.left) bytes body_front.parts refl
+  tag_spelled =
+      at_front (byte_reads any Truncated) 1 ((to_be_bytes w64 (length text) ++ text) ++ body_front.left) bytes body_front.parts refl
 
   pub body_tag : IsOk (byte_at any Truncated bytes)
   body_tag = is_ok (byte_at any Truncated bytes) _ tag_spelled
@@ -126,7 +132,8 @@ module _ (bytes : List ℕ) (fine : AreBytes bytes) (h : IsOk (body_at 0 bytes))
   module _ (tag : ℕ) (rest : List ℕ) (one : byte_at any Truncated bytes ≡ Ok (tag, rest)) where
     text_length_spelled : number_at w64 any Truncated rest ≡ Ok (length text, text ++ body_front.left)
     text_length_spelled = at_front (number_reads w64 (2 ^ 64) wide64 any Truncated) (length text) (text ++ body_front.left) rest
-        (same_rest (byte_at any Truncated bytes) _ _ _ _ tag_spelled one ∙ append_assoc (to_be_bytes w64 (length text)) text body_front.left)
+        (same_rest (byte_at any Truncated bytes) _ _ _ _ tag_spelled one
+        ∙ append_assoc (to_be_bytes w64 (length text)) text body_front.left)
         (body_front.fits, refl)
 
     pub body_length : IsOk (number_at w64 any Truncated rest)

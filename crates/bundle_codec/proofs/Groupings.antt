@@ -62,27 +62,44 @@ module _ (a b c : List Operation) (ha : IsOpSet a) (hb : IsOpSet b) (hc : IsOpSe
   refused_right id None (Some j) h = tt
   refused_right id None None h = absurd (h refl refl)
 
-  alike : (p q r s : Option Id) → clash a b ≡ p → clash (join a b) c ≡ q → clash b c ≡ r → clash a (join b c) ≡ s → AnswerAlike (left_of p q) (right_of r s)
-  alike (Some id) q r s ep eq er es = refused_right id r s (λ e f. some_none id (sym ep ∙ first_two_agree a b c ha.rising hb.rising hc.rising (er ∙ e) (es ∙ f)))
-  alike None (Some id) r s ep eq er es = refused_right id r s (λ e f. some_none id (sym eq ∙ last_agrees a b c ha.rising hb.rising hc.rising (er ∙ e) (es ∙ f)))
+  alike : (p q r s : Option Id) → clash a b ≡ p → clash (join a b) c ≡ q → clash b c ≡ r → clash a (join b c) ≡ s
+      → AnswerAlike (left_of p q) (right_of r s)
+  alike (Some id) q r s ep eq er es =
+      refused_right id r s (λ e f. some_none id (sym ep ∙ first_two_agree a b c ha.rising hb.rising hc.rising (er ∙ e) (es ∙ f)))
+  alike None (Some id) r s ep eq er es =
+      refused_right id r s (λ e f. some_none id (sym eq ∙ last_agrees a b c ha.rising hb.rising hc.rising (er ∙ e) (es ∙ f)))
   alike None None (Some id) s ep eq er es = some_none id (sym er ∙ last_two_agree a b c ha.rising hb.rising hc.rising ep eq)
   alike None None None (Some id) ep eq er es = some_none id (sym es ∙ first_agrees a b c ha.rising hb.rising hc.rising ep eq)
   alike None None None None ep eq er es = ap bundle (join_assoc a b c ha.rising hb.rising hc.rising)
 
 module _ (x y z : List ℕ) (a : IsBundle x) (b : IsBundle y) (c : IsBundle z) where
-  grouped_left : IsHeld (bundles_joined x y) → then_joined (bundles_joined x y) (λ made. bundles_joined made z) ≡ left_of a.ops b.ops c.ops a.set b.set c.set (clash a.ops b.ops) (clash (join a.ops b.ops) c.ops)
-  grouped_left held = ap (λ r. then_joined r (λ made. bundles_joined made z)) (joined_is x y a b) ∙ by (clash a.ops b.ops) (subst IsHeld (joined_is x y a b) held)
+  grouped_left : IsHeld (bundles_joined x y)
+      → then_joined (bundles_joined x y) (λ made. bundles_joined made z)
+      ≡ left_of a.ops b.ops c.ops a.set b.set c.set (clash a.ops b.ops) (clash (join a.ops b.ops) c.ops)
+  grouped_left held = ap (λ r. then_joined r (λ made. bundles_joined made z)) (joined_is x y a b)
+      ∙ by (clash a.ops b.ops) (subst IsHeld (joined_is x y a b) held)
     where
-      by : (p : Option Id) → IsHeld (union_or_clash a.ops b.ops p) → then_joined (union_or_clash a.ops b.ops p) (λ made. bundles_joined made z) ≡ left_of a.ops b.ops c.ops a.set b.set c.set p (clash (join a.ops b.ops) c.ops)
-      by None short = joined_is (bundle (join a.ops b.ops)) z (record { ops = join a.ops b.ops; set = IsOpSet-join a.ops b.ops a.set b.set; spelled = refl; short = short }) c
+      by : (p : Option Id) → IsHeld (union_or_clash a.ops b.ops p)
+          → then_joined (union_or_clash a.ops b.ops p) (λ made. bundles_joined made z)
+          ≡ left_of a.ops b.ops c.ops a.set b.set c.set p (clash (join a.ops b.ops) c.ops)
+      by None short = joined_is (bundle (join a.ops b.ops)) z
+          (record { ops = join a.ops b.ops; set = IsOpSet-join a.ops b.ops a.set b.set; spelled = refl; short = short }) c
       by (Some id) short = refl
 
-  grouped_right : IsHeld (bundles_joined y z) → then_joined (bundles_joined y z) (λ made. bundles_joined x made) ≡ right_of a.ops b.ops c.ops a.set b.set c.set (clash b.ops c.ops) (clash a.ops (join b.ops c.ops))
-  grouped_right held = ap (λ r. then_joined r (λ made. bundles_joined x made)) (joined_is y z b c) ∙ by (clash b.ops c.ops) (subst IsHeld (joined_is y z b c) held)
+  grouped_right : IsHeld (bundles_joined y z)
+      → then_joined (bundles_joined y z) (λ made. bundles_joined x made)
+      ≡ right_of a.ops b.ops c.ops a.set b.set c.set (clash b.ops c.ops) (clash a.ops (join b.ops c.ops))
+  grouped_right held = ap (λ r. then_joined r (λ made. bundles_joined x made)) (joined_is y z b c)
+      ∙ by (clash b.ops c.ops) (subst IsHeld (joined_is y z b c) held)
     where
-      by : (p : Option Id) → IsHeld (union_or_clash b.ops c.ops p) → then_joined (union_or_clash b.ops c.ops p) (λ made. bundles_joined x made) ≡ right_of a.ops b.ops c.ops a.set b.set c.set p (clash a.ops (join b.ops c.ops))
-      by None short = joined_is x (bundle (join b.ops c.ops)) a (record { ops = join b.ops c.ops; set = IsOpSet-join b.ops c.ops b.set c.set; spelled = refl; short = short })
+      by : (p : Option Id) → IsHeld (union_or_clash b.ops c.ops p)
+          → then_joined (union_or_clash b.ops c.ops p) (λ made. bundles_joined x made)
+          ≡ right_of a.ops b.ops c.ops a.set b.set c.set p (clash a.ops (join b.ops c.ops))
+      by None short = joined_is x (bundle (join b.ops c.ops)) a
+          (record { ops = join b.ops c.ops; set = IsOpSet-join b.ops c.ops b.set c.set; spelled = refl; short = short })
       by (Some id) short = refl
 
-  pub associates : IsHeld (bundles_joined x y) → IsHeld (bundles_joined y z) → AnswerAlike (then_joined (bundles_joined x y) (λ made. bundles_joined made z)) (then_joined (bundles_joined y z) (λ made. bundles_joined x made))
+  pub associates : IsHeld (bundles_joined x y) → IsHeld (bundles_joined y z)
+      → AnswerAlike (then_joined (bundles_joined x y) (λ made. bundles_joined made z))
+      (then_joined (bundles_joined y z) (λ made. bundles_joined x made))
   associates one other = rw (grouped_left one, grouped_right other) (alike a.ops b.ops c.ops a.set b.set c.set _ _ _ _ refl refl refl refl)

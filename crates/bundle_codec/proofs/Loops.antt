@@ -11,15 +11,18 @@ after_cons : {A : Type 0} (x : A) (r : Result (List A × List ℕ) BundleFault) 
 after_cons x (Ok o) = refl
 after_cons x (Err f) = refl
 
-pub goes_on : {A S : Type 0} (one : S → Reader A) (next : S → A → S) (n i : ℕ) (s : S) (bytes : List ℕ) (x : A) (left : List ℕ) (total : Result (List ℕ) BundleFault) → i < n → one s bytes ≡ Ok (x, left)
+pub goes_on : {A S : Type 0} (one : S → Reader A) (next : S → A → S) (n i : ℕ) (s : S) (bytes : List ℕ) (x : A) (left : List ℕ)
+    (total : Result (List ℕ) BundleFault) → i < n → one s bytes ≡ Ok (x, left)
     → after (many_at one next (n - i) s bytes) ≡ total → after (many_at one next (n - (i + 1)) (next s x) left) ≡ total
 unfolding many_at
 goes_on one next n i s bytes x left total lt h so_far =
     let k : n - i ≡ suc (n - (i + 1)) = omega arith in
-    let at : after (many_at one next (n - i) s bytes) ≡ after (many_at one next (n - (i + 1)) (next s x) left) = rw (k, h) (after_cons x (many_at one next (n - (i + 1)) (next s x) left)) in
+    let at : after (many_at one next (n - i) s bytes) ≡ after (many_at one next (n - (i + 1)) (next s x) left) =
+    rw (k, h) (after_cons x (many_at one next (n - (i + 1)) (next s x) left)) in
     sym at ∙ so_far
 
-pub fails : {A S : Type 0} (one : S → Reader A) (next : S → A → S) (n i : ℕ) (s : S) (bytes : List ℕ) (f : BundleFault) (total : Result (List ℕ) BundleFault) → i < n → one s bytes ≡ Err f
+pub fails : {A S : Type 0} (one : S → Reader A) (next : S → A → S) (n i : ℕ) (s : S) (bytes : List ℕ) (f : BundleFault)
+    (total : Result (List ℕ) BundleFault) → i < n → one s bytes ≡ Err f
     → after (many_at one next (n - i) s bytes) ≡ total → total ≡ Err f
 unfolding many_at
 fails one next n i s bytes f total lt h so_far =
@@ -27,7 +30,8 @@ fails one next n i s bytes f total lt h so_far =
     let at : after (many_at one next (n - i) s bytes) ≡ Err f = rw (k, h) refl in
     sym so_far ∙ at
 
-pub is_done : {A S : Type 0} (one : S → Reader A) (next : S → A → S) (n i : ℕ) (s : S) (bytes : List ℕ) (total : Result (List ℕ) BundleFault) → n ≤ i
+pub is_done : {A S : Type 0} (one : S → Reader A) (next : S → A → S) (n i : ℕ) (s : S) (bytes : List ℕ)
+    (total : Result (List ℕ) BundleFault) → n ≤ i
     → after (many_at one next (n - i) s bytes) ≡ total → total ≡ Ok bytes
 unfolding many_at
 is_done one next n i s bytes total le so_far =
@@ -45,26 +49,33 @@ no_byte : (bytes : List ℕ) (f : BundleFault) → byte_at any Truncated bytes �
 no_byte [] f e = (refl, cc)
 no_byte (c ∷ bytes) f e = absurd cc
 
-pub same_byte : (text : List ℕ) (bad : BundleFault) (i : ℕ) (bytes : List ℕ) (b : ℕ) (left : List ℕ) (total : Result (Unit {0} × List ℕ) BundleFault) → i < length text → byte_at any Truncated bytes ≡ Ok (b, left) → b ≡ get_or text i 0
+pub same_byte : (text : List ℕ) (bad : BundleFault) (i : ℕ) (bytes : List ℕ) (b : ℕ) (left : List ℕ)
+    (total : Result (Unit {0} × List ℕ) BundleFault) → i < length text → byte_at any Truncated bytes ≡ Ok (b, left) → b ≡ get_or text i 0
     → exactly_at (drop i text) bad bytes ≡ total → exactly_at (drop (i + 1) text) bad left ≡ total
 same_byte text bad i bytes b left total lt front e so_far =
-    let at : exactly_at (drop i text) bad bytes ≡ exactly_at (drop (i + 1) text) bad left = rw (drop_more text i 0 lt, one_byte bytes b left front) (rw (eq-eqb b (get_or text i 0) e) refl) in
+    let at : exactly_at (drop i text) bad bytes ≡ exactly_at (drop (i + 1) text) bad left =
+    rw (drop_more text i 0 lt, one_byte bytes b left front) (rw (eq-eqb b (get_or text i 0) e) refl) in
     sym at ∙ so_far
 
-pub other_byte : (text : List ℕ) (bad : BundleFault) (i : ℕ) (bytes : List ℕ) (b : ℕ) (left : List ℕ) (total : Result (Unit {0} × List ℕ) BundleFault) → i < length text → byte_at any Truncated bytes ≡ Ok (b, left) → (b ≡ get_or text i 0 → ⊥)
+pub other_byte : (text : List ℕ) (bad : BundleFault) (i : ℕ) (bytes : List ℕ) (b : ℕ) (left : List ℕ)
+    (total : Result (Unit {0} × List ℕ) BundleFault) → i < length text → byte_at any Truncated bytes ≡ Ok (b, left)
+    → (b ≡ get_or text i 0 → ⊥)
     → exactly_at (drop i text) bad bytes ≡ total → total ≡ Err bad
 other_byte text bad i bytes b left total lt front ne so_far =
-    let at : exactly_at (drop i text) bad bytes ≡ Err bad = rw (drop_more text i 0 lt, one_byte bytes b left front) (rw (ne_eqb b (get_or text i 0) ne) refl) in
+    let at : exactly_at (drop i text) bad bytes ≡ Err bad =
+    rw (drop_more text i 0 lt, one_byte bytes b left front) (rw (ne_eqb b (get_or text i 0) ne) refl) in
     sym so_far ∙ at
 
-pub cut_byte : (text : List ℕ) (bad : BundleFault) (i : ℕ) (bytes : List ℕ) (f : BundleFault) (total : Result (Unit {0} × List ℕ) BundleFault) → i < length text → byte_at any Truncated bytes ≡ Err f
+pub cut_byte : (text : List ℕ) (bad : BundleFault) (i : ℕ) (bytes : List ℕ) (f : BundleFault)
+    (total : Result (Unit {0} × List ℕ) BundleFault) → i < length text → byte_at any Truncated bytes ≡ Err f
     → exactly_at (drop i text) bad bytes ≡ total → total ≡ Err f
 cut_byte text bad i bytes f total lt front so_far =
     let n = no_byte bytes f front in
     let at : exactly_at (drop i text) bad bytes ≡ Err f = rw (drop_more text i 0 lt, n.0, n.1) refl in
     sym so_far ∙ at
 
-pub all_bytes : (text : List ℕ) (bad : BundleFault) (i : ℕ) (left : List ℕ) (total : Result (Unit {0} × List ℕ) BundleFault) → length text ≤ i
+pub all_bytes : (text : List ℕ) (bad : BundleFault) (i : ℕ) (left : List ℕ) (total : Result (Unit {0} × List ℕ) BundleFault)
+    → length text ≤ i
     → exactly_at (drop i text) bad left ≡ total → total ≡ Ok (tt, left)
 all_bytes text bad i left total le so_far =
     let at : exactly_at (drop i text) bad left ≡ Ok (tt, left) = rw (drop_all i text le) refl in

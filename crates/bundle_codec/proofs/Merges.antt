@@ -19,7 +19,8 @@ parted x p xs ps ops e f = let h : p ∷ ps ≡ x ∷ xs = sym f ∙ e in (cc h,
 
 -- a walk that goes past the first of some operations is not at its end
 module _ (ops rest : List Operation) (x : Operation) (xs : List Operation) (e : ops ≡ x ∷ xs) where
-  pub passed : (r : Option (Bor (List ℕ))) (Q : Option (Bor (List ℕ)) → Type 0) → GoesPast ops rest r → ((b : Bor (List ℕ)) → b.now ≡ operation x → rest ≡ xs → Q (Some b)) → Q r
+  pub passed : (r : Option (Bor (List ℕ))) (Q : Option (Bor (List ℕ)) → Type 0) → GoesPast ops rest r
+      → ((b : Bor (List ℕ)) → b.now ≡ operation x → rest ≡ xs → Q (Some b)) → Q r
   passed None Q g f = absurd (never (sym e ∙ g.0))
     where
       never : x ∷ xs ≡ [] → ⊥
@@ -27,7 +28,8 @@ module _ (ops rest : List Operation) (x : Operation) (xs : List Operation) (e : 
   passed (Some b) Q g f = let p = parted x g.first xs rest ops e g.parts in f b (g.spelled ∙ ap operation p.0) p.1
 
 -- where the walk on the other side is at its end
-pub steps_alone : (xs ys xs' : List Operation) (r : Option (Bor (List ℕ))) → ys ≡ [] → rises xs ≡ true → rises ys ≡ true → GoesPast xs xs' r → Steps xs ys xs' ys r
+pub steps_alone : (xs ys xs' : List Operation) (r : Option (Bor (List ℕ))) → ys ≡ [] → rises xs ≡ true → rises ys ≡ true → GoesPast xs xs' r
+    → Steps xs ys xs' ys r
 steps_alone xs ys xs' None e hx hy g = (g.0, e)
 steps_alone xs ys xs' (Some b) e hx hy g = record {
   first = g.first;
@@ -39,7 +41,8 @@ steps_alone xs ys xs' (Some b) e hx hy g = record {
   fewer = omega (arith, ap length g.parts);
 }
 
-pub steps_other : (xs ys ys' : List Operation) (r : Option (Bor (List ℕ))) → xs ≡ [] → rises xs ≡ true → rises ys ≡ true → GoesPast ys ys' r → Steps xs ys xs ys' r
+pub steps_other : (xs ys ys' : List Operation) (r : Option (Bor (List ℕ))) → xs ≡ [] → rises xs ≡ true → rises ys ≡ true → GoesPast ys ys' r
+    → Steps xs ys xs ys' r
 steps_other xs ys ys' None e hx hy g = (e, g.0)
 steps_other xs ys ys' (Some b) e hx hy g =
     let h : rises (g.first ∷ ys') ≡ true = ap rises (sym g.parts) ∙ hy in
@@ -48,16 +51,19 @@ steps_other xs ys ys' (Some b) e hx hy g =
       first = g.first;
       spelled = g.spelled;
       union =
-          (λ i. join (e i) (g.parts i)) ∙ join_none (g.first ∷ ys') h ∙ ap (λ (zs : List Operation). g.first ∷ zs) (sym (join_none ys' rest))
+          (λ i. join (e i) (g.parts i)) ∙ join_none (g.first ∷ ys') h
+          ∙ ap (λ (zs : List Operation). g.first ∷ zs) (sym (join_none ys' rest))
           ∙ ap (λ (zs : List Operation). g.first ∷ join zs ys') (sym e);
-      same_clash = ap (λ (zs : List Operation). clash zs ys') e ∙ clash_none ys' ∙ sym (ap (λ (zs : List Operation). clash zs ys) e ∙ clash_none ys);
+      same_clash =
+          ap (λ (zs : List Operation). clash zs ys') e ∙ clash_none ys' ∙ sym (ap (λ (zs : List Operation). clash zs ys) e ∙ clash_none ys);
       left = hx;
       right = rest;
       fewer = omega (arith, ap length g.parts);
     }
 
 -- where both walks have an operation at hand
-module _ (xs ys ps qs : List Operation) (x y : Operation) (ex : xs ≡ x ∷ ps) (ey : ys ≡ y ∷ qs) (hx : rises xs ≡ true) (hy : rises ys ≡ true) where
+module _ (xs ys ps qs : List Operation) (x y : Operation) (ex : xs ≡ x ∷ ps) (ey : ys ≡ y ∷ qs) (hx : rises xs ≡ true)
+    (hy : rises ys ≡ true) where
   rx : rises (x ∷ ps) ≡ true
   rx = ap rises (sym ex) ∙ hx
 
@@ -75,7 +81,8 @@ module _ (xs ys ps qs : List Operation) (x y : Operation) (ex : xs ≡ x ∷ ps)
     fewer = omega (arith, ap length ex, ap length f);
   })
 
-  pub steps_greater : (ys' : List Operation) (r : Option (Bor (List ℕ))) → id_cmp x.id y.id ≡ Greater → GoesPast ys ys' r → Steps xs ys xs ys' r
+  pub steps_greater : (ys' : List Operation) (r : Option (Bor (List ℕ))) → id_cmp x.id y.id ≡ Greater → GoesPast ys ys' r
+      → Steps xs ys xs ys' r
   steps_greater ys' r e g = passed ys ys' y qs ey r (Steps xs ys xs ys') g (λ b t f. record {
     first = y;
     spelled = t;
@@ -86,16 +93,18 @@ module _ (xs ys ps qs : List Operation) (x y : Operation) (ex : xs ≡ x ∷ ps)
     fewer = omega (arith, ap length ey, ap length f);
   })
 
-  pub steps_tied : (xs' ys' : List Operation) (r s : Option (Bor (List ℕ))) → id_cmp x.id y.id ≡ Equal → same_op x y ≡ true → GoesPast ys ys' s → GoesPast xs xs' r → Steps xs ys xs' ys' r
-  steps_tied xs' ys' r s e same h g = passed ys ys' y qs ey s (λ _. Steps xs ys xs' ys' r) h (λ _ _ k. passed xs xs' x ps ex r (Steps xs ys xs' ys') g (λ b t f. record {
-    first = x;
-    spelled = t;
-    union = (λ i. join (ex i) (ey i)) ∙ join_tied x y ps qs rx ry e ∙ (λ i. x ∷ join (sym f i) (sym k i));
-    same_clash = (λ i. clash (f i) (k i)) ∙ clash_equal x y ps qs rx ry e same ∙ (λ i. clash (sym ex i) (sym ey i));
-    left = ap rises f ∙ (rises_parts x ps rx).1;
-    right = ap rises k ∙ (rises_parts y qs ry).1;
-    fewer = omega (arith, ap length ex, ap length f, ap length ey, ap length k);
-  }))
+  pub steps_tied : (xs' ys' : List Operation) (r s : Option (Bor (List ℕ))) → id_cmp x.id y.id ≡ Equal → same_op x y ≡ true
+      → GoesPast ys ys' s → GoesPast xs xs' r → Steps xs ys xs' ys' r
+  steps_tied xs' ys' r s e same h g =
+      passed ys ys' y qs ey s (λ _. Steps xs ys xs' ys' r) h (λ _ _ k. passed xs xs' x ps ex r (Steps xs ys xs' ys') g (λ b t f. record {
+        first = x;
+        spelled = t;
+        union = (λ i. join (ex i) (ey i)) ∙ join_tied x y ps qs rx ry e ∙ (λ i. x ∷ join (sym f i) (sym k i));
+        same_clash = (λ i. clash (f i) (k i)) ∙ clash_equal x y ps qs rx ry e same ∙ (λ i. clash (sym ex i) (sym ey i));
+        left = ap rises f ∙ (rises_parts x ps rx).1;
+        right = ap rises k ∙ (rises_parts y qs ry).1;
+        fewer = omega (arith, ap length ex, ap length f, ap length ey, ap length k);
+      }))
 
   pub clashes : id_cmp x.id y.id ≡ Equal → same_op x y ≡ false → clash xs ys ≡ Some x.id
   clashes e other = (λ i. clash (ex i) (ey i)) ∙ sym (clash_here x y ps qs rx ry e other)
@@ -114,9 +123,11 @@ pub record Kept (a b : List Operation) (front bytes : List ℕ) (count : ℕ) (x
   pub right : rises ys ≡ true
 
 pub begins : (a b : List Operation) (front : List ℕ) → rises a ≡ true → rises b ≡ true → Kept a b front front 0 a b
-begins a b front ha hb = record { done = []; text = sym (append-nil front); counted = refl; fits = omega arith; union = refl; same_clash = refl; left = ha; right = hb }
+begins a b front ha hb = record
+    { done = []; text = sym (append-nil front); counted = refl; fits = omega arith; union = refl; same_clash = refl; left = ha; right = hb }
 
-pub goes_on : (a b : List Operation) (front bytes more : List ℕ) (count : ℕ) (xs ys xs' ys' : List Operation) → Kept a b front bytes count xs ys → Leaves xs ys more xs' ys' → Kept a b front (bytes ++ more) (count + 1) xs' ys'
+pub goes_on : (a b : List Operation) (front bytes more : List ℕ) (count : ℕ) (xs ys xs' ys' : List Operation)
+    → Kept a b front bytes count xs ys → Leaves xs ys more xs' ys' → Kept a b front (bytes ++ more) (count + 1) xs' ys'
 goes_on a b front bytes more count xs ys xs' ys' k l = record {
   done = k.done ++ l.first ∷ [];
   text = (λ i. k.text i ++ l.spelled i) ∙ flat_map_more operation front k.done l.first;

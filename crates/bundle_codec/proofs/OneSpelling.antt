@@ -20,7 +20,8 @@ use Rattle.bundle_codec.proofs.Spelled.{IsSpelled, operation_reads, bundle_reads
 
 pub flat_map_long : {A : Type 0} (f : A → List ℕ) → ((x : A) → 1 ≤ length (f x)) → (xs : List A) → length xs ≤ length (flat_map f xs)
 flat_map_long f some [] = omega arith
-flat_map_long f some (x ∷ xs) = omega (arith, ap length (flat_map-cons f x xs), length-append (f x) (flat_map f xs), some x, flat_map_long f some xs)
+flat_map_long f some (x ∷ xs) =
+    omega (arith, ap length (flat_map-cons f x xs), length-append (f x) (flat_map f xs), some x, flat_map_long f some xs)
 
 id_some : (i : Id) → 1 ≤ length (id i)
 id_some i = omega (arith, length-append (to_be_bytes w64 i.number) (length i.name ∷ i.name))
@@ -50,7 +51,8 @@ IsCounted-from_length o h =
 counted_each : (ops : List Operation) → length (flat_map operation ops) < 2 ^ 64 → AllByRecursion IsCounted ops
 counted_each [] h = tt
 counted_each (o ∷ ops) h =
-    let parts : length (flat_map operation (o ∷ ops)) ≡ length (operation o) + length (flat_map operation ops) = ap length (flat_map-cons operation o ops) ∙ length-append (operation o) (flat_map operation ops) in
+    let parts : length (flat_map operation (o ∷ ops)) ≡ length (operation o) + length (flat_map operation ops) =
+    ap length (flat_map-cons operation o ops) ∙ length-append (operation o) (flat_map operation ops) in
     (IsCounted-from_length o (omega arith), counted_each ops (omega arith))
 
 pub AreCounted-from_length : (ops : List Operation) → length (bundle ops) < 2 ^ 64 → AreCounted ops
@@ -68,7 +70,8 @@ nil_at_end [] b e = e
 nil_at_end (x ∷ a) b e = absurd cc
 
 -- one set has one spelling, and one spelling has one set, whatever follows it
-pub one_spelling : (a b : List Operation) (rest others : List ℕ) → IsSpelled a → IsSpelled b → bundle a ++ rest ≡ bundle b ++ others → (a ≡ b) × (rest ≡ others)
+pub one_spelling : (a b : List Operation) (rest others : List ℕ) → IsSpelled a → IsSpelled b → bundle a ++ rest ≡ bundle b ++ others
+    → (a ≡ b) × (rest ≡ others)
 one_spelling a b rest others f g e =
     let p = ok_is (a, rest) (b, others) (sym (bundle_reads.again a rest f) ∙ ap bundle_at e ∙ bundle_reads.again b others g) in
     (ap (λ (x : List Operation × List ℕ). x.0) p, ap (λ (x : List Operation × List ℕ). x.1) p)
@@ -82,15 +85,19 @@ same_operation o p f g short e =
     ap (λ (x : Operation × List ℕ). x.0) (ok_is (o, []) (p, []) (sym one ∙ ap (λ (w : List ℕ). operation_at 0 None (w ++ [])) e ∙ other))
 
 -- the test of their spellings is the test of the operations
-pub same_spellings : (o p : Operation) → IsOperation o → IsOperation p → length (operation o) < 2 ^ 64 → same_bytes (operation o) (operation p) ≡ same_op o p
+pub same_spellings : (o p : Operation) → IsOperation o → IsOperation p → length (operation o) < 2 ^ 64
+    → same_bytes (operation o) (operation p) ≡ same_op o p
 same_spellings o p f g short = both_ways (same_bytes (operation o) (operation p)) (same_op o p)
-    (λ h. subst (λ (q : Operation). same_op o q ≡ true) (same_operation o p f g short (same_bytes-is (operation o) (operation p) h)) (same_op-refl o))
+    (λ h. subst (λ (q : Operation). same_op o q ≡ true) (same_operation o p f g short (same_bytes-is (operation o) (operation p) h))
+    (same_op-refl o))
     (λ h. subst (λ (q : Operation). same_bytes (operation o) (operation q) ≡ true) (same_op-is o p h) (same_bytes-refl (operation o)))
 
 -- a proper front of a bundle is cut
-pub front_is_cut : (ops : List Operation) (front more : List ℕ) → IsSpelled ops → bundle ops ≡ front ++ more → more ≢ [] → bundle_at front ≡ Err Truncated
+pub front_is_cut : (ops : List Operation) (front more : List ℕ) → IsSpelled ops → bundle ops ≡ front ++ more → more ≢ []
+    → bundle_at front ≡ Err Truncated
 front_is_cut ops front more f e some =
-    let read : bundle_at (front ++ more) ≡ Ok (ops, []) = ap bundle_at (sym e ∙ sym (append-nil (bundle ops))) ∙ bundle_reads.again ops [] f in
+    let read : bundle_at (front ++ more) ≡ Ok (ops, []) =
+    ap bundle_at (sym e ∙ sym (append-nil (bundle ops))) ∙ bundle_reads.again ops [] f in
     elim (bundle_reads.cut front more ops [] read) [
       | inl short ↦ short
       | inr on ↦ absurd (some (nil_at_end on.0 more (sym on.2)))

@@ -42,11 +42,14 @@ record Right (rs : List NumberRange) : Type 0 where
   apart : are_apart rs ≡ true
 
 -- what lies in ranges that begin more than one above a number is above it so
-from_above : (m : ℕ) (rs : List NumberRange) (n : ℕ) → list_all (λ (r : NumberRange). ltb (suc m) r.first) rs ≡ true → has_number rs n ≡ true → suc m < n
+from_above : (m : ℕ) (rs : List NumberRange) (n : ℕ) → list_all (λ (r : NumberRange). ltb (suc m) r.first) rs ≡ true
+    → has_number rs n ≡ true → suc m < n
 from_above m [] n h e = absurd (true≢false (sym e))
-from_above m (r ∷ rs) n h e = by (lies_in n r) refl (and_parts (ltb (suc m) r.first) (list_all (λ (x : NumberRange). ltb (suc m) x.first) rs) h) (λ a b. from_above m rs n a b)
+from_above m (r ∷ rs) n h e = by (lies_in n r) refl
+    (and_parts (ltb (suc m) r.first) (list_all (λ (x : NumberRange). ltb (suc m) x.first) rs) h) (λ a b. from_above m rs n a b)
   where
-    by : (b : Bool) → lies_in n r ≡ b → (ltb (suc m) r.first ≡ true) × (list_all (λ (x : NumberRange). ltb (suc m) x.first) rs ≡ true) → (list_all (λ (x : NumberRange). ltb (suc m) x.first) rs ≡ true → has_number rs n ≡ true → suc m < n) → suc m < n
+    by : (b : Bool) → lies_in n r ≡ b → (ltb (suc m) r.first ≡ true) × (list_all (λ (x : NumberRange). ltb (suc m) x.first) rs ≡ true)
+        → (list_all (λ (x : NumberRange). ltb (suc m) x.first) rs ≡ true → has_number rs n ≡ true → suc m < n) → suc m < n
     by true f p on = omega (arith, ltb-true _ _ p.0, (lies_bounds n r f).0)
     by false f p on = on p.1 (in_rest (lies_in n r) (has_number rs n) f e)
 
@@ -86,10 +89,13 @@ module _ (r : NumberRange) (rs : List NumberRange) (right : Right (r ∷ rs)) wh
   rest_under : (n : ℕ) → n ≤ r.last → has_number rs n ≡ false
   rest_under n under = not_true (has_number rs n) (λ e. omega (arith, from_above r.last rs n behind_first e, under))
 
-last_no_more : (r s : NumberRange) (rs ss : List NumberRange) → Right (r ∷ rs) → Right (s ∷ ss) → r.first ≡ s.first → ((n : ℕ) → has_number (r ∷ rs) n ≡ has_number (s ∷ ss) n) → s.last ≤ r.last
+last_no_more : (r s : NumberRange) (rs ss : List NumberRange) → Right (r ∷ rs) → Right (s ∷ ss) → r.first ≡ s.first
+    → ((n : ℕ) → has_number (r ∷ rs) n ≡ has_number (s ∷ ss) n) → s.last ≤ r.last
 last_no_more r s rs ss a b f same = elim (cases_lt r.last s.last) [
   | inl lt ↦
-      let inside : has_number (s ∷ ss) (suc r.last) ≡ true = or_first (lies_in (suc r.last) s) (has_number ss (suc r.last)) (lies_yes (suc r.last) s (omega (arith, f, (first_right r rs a).1.0)) lt) in
+      let inside : has_number (s ∷ ss) (suc r.last)
+      ≡ true = or_first (lies_in (suc r.last) s) (has_number ss (suc r.last))
+      (lies_yes (suc r.last) s (omega (arith, f, (first_right r rs a).1.0)) lt) in
       absurd (ends_so r rs a (suc r.last) (omega arith) (omega arith) (same (suc r.last) ∙ inside))
   | inr le ↦ le
 ]
@@ -99,7 +105,13 @@ same_ranges [] [] a b same = refl
 same_ranges [] (s ∷ ss) a b same = absurd (true≢false (sym (has_first s ss b) ∙ sym (same s.first)))
 same_ranges (r ∷ rs) [] a b same = absurd (true≢false (sym (has_first r rs a) ∙ same r.first))
 same_ranges (r ∷ rs) (s ∷ ss) a b same =
-    let f : r.first ≡ s.first = omega (arith, first_least s ss b r.first (sym (same r.first) ∙ has_first r rs a), first_least r rs a s.first (same s.first ∙ has_first s ss b)) in
+    let f : r.first ≡ s.first =
+    omega (
+      arith,
+      first_least s ss b r.first (sym (same r.first) ∙ has_first r rs a),
+      first_least r rs a s.first
+          (same s.first ∙ has_first s ss b),
+    ) in
     let l : r.last ≡ s.last = omega (arith, last_no_more r s rs ss a b f same, last_no_more s r ss rs b a (sym f) (λ n. sym (same n))) in
     let rest = same_ranges rs ss (rest_right r rs a) (rest_right s ss b) (λ n. elim (cases_lt r.last n) [
       | inl lt ↦ sym (rest_over r rs a n lt) ∙ same n ∙ rest_over s ss b n (omega (arith, lt, l))
@@ -120,16 +132,19 @@ AllAfter q ks = list_all (λ (k : Known). is_lt (name_cmp q k.name)) ks ≡ true
 
 module _ (k : Known) (ks : List Known) (rises : Rises (k ∷ ks)) where
   after_first : AllAfter k.name ks
-  after_first = (and_parts (list_all (λ (x : Known). is_lt (name_cmp k.name x.name)) ks) (rises_by name_cmp (λ (x : Known). x.name) ks) rises).0
+  after_first =
+      (and_parts (list_all (λ (x : Known). is_lt (name_cmp k.name x.name)) ks) (rises_by name_cmp (λ (x : Known). x.name) ks) rises).0
 
   rest_rises : Rises ks
-  rest_rises = (and_parts (list_all (λ (x : Known). is_lt (name_cmp k.name x.name)) ks) (rises_by name_cmp (λ (x : Known). x.name) ks) rises).1
+  rest_rises =
+      (and_parts (list_all (λ (x : Known). is_lt (name_cmp k.name x.name)) ks) (rises_by name_cmp (λ (x : Known). x.name) ks) rises).1
 
   rest_none : (n : ℕ) → covers ks (id_of n k.name) ≡ false
   rest_none n = above_covers_none (id_of n k.name) ks after_first
 
   head_covers : (n : ℕ) → covers (k ∷ ks) (id_of n k.name) ≡ has_number k.ranges n
-  head_covers n = or_none (same_bytes k.name k.name && has_number k.ranges n) (covers ks (id_of n k.name)) (rest_none n) ∙ ap (λ b. b && has_number k.ranges n) (same_bytes-refl k.name)
+  head_covers n = or_none (same_bytes k.name k.name && has_number k.ranges n) (covers ks (id_of n k.name)) (rest_none n)
+      ∙ ap (λ b. b && has_number k.ranges n) (same_bytes-refl k.name)
 
   others_cover : (id : Id) → same_bytes k.name id.name ≡ false → covers (k ∷ ks) id ≡ covers ks id
   others_cover id e = ap (λ b. (b && has_number k.ranges id.number) || covers ks id) e
@@ -142,10 +157,12 @@ some_number [] some a = absurd (some refl)
 some_number (r ∷ rs) some a = (r.first, has_first r rs a)
 
 -- the first name is covered, and so no name of the other summary's alone comes after it
-not_less : (k j : Known) (ks js : List Known) → IsKnown k → Rises (k ∷ ks) → Rises (j ∷ js) → ((id : Id) → covers (k ∷ ks) id ≡ covers (j ∷ js) id) → name_cmp k.name j.name ≡ Less → ⊥
+not_less : (k j : Known) (ks js : List Known) → IsKnown k → Rises (k ∷ ks) → Rises (j ∷ js)
+    → ((id : Id) → covers (k ∷ ks) id ≡ covers (j ∷ js) id) → name_cmp k.name j.name ≡ Less → ⊥
 not_less k j ks js h a b same less =
     let n = some_number k.ranges h.some (right_of k h) in
-    let all : AllAfter k.name (j ∷ js) = and_from _ _ (ap is_lt less) (above_trans name_cmp name_total (λ (x : Known). x.name) k.name j.name js less (after_first j js b)) in
+    let all : AllAfter k.name (j ∷ js) =
+    and_from _ _ (ap is_lt less) (above_trans name_cmp name_total (λ (x : Known). x.name) k.name j.name js less (after_first j js b)) in
     true≢false (sym n.1 ∙ sym (head_covers k ks a n.0) ∙ same (id_of n.0 k.name) ∙ above_covers_none (id_of n.0 k.name) (j ∷ js) all)
 
 covered_first : (k : Known) (ks : List Known) → IsKnown k → Rises (k ∷ ks) → ((id : Id) → covers (k ∷ ks) id ≡ false) → ⊥
@@ -153,30 +170,38 @@ covered_first k ks h a none =
     let n = some_number k.ranges h.some (right_of k h) in
     true≢false (sym n.1 ∙ sym (head_covers k ks a n.0) ∙ none (id_of n.0 k.name))
 
-first_name : (k j : Known) (ks js : List Known) → IsKnown k → IsKnown j → Rises (k ∷ ks) → Rises (j ∷ js) → ((id : Id) → covers (k ∷ ks) id ≡ covers (j ∷ js) id) → k.name ≡ j.name
+first_name : (k j : Known) (ks js : List Known) → IsKnown k → IsKnown j → Rises (k ∷ ks) → Rises (j ∷ js)
+    → ((id : Id) → covers (k ∷ ks) id ≡ covers (j ∷ js) id) → k.name ≡ j.name
 first_name k j ks js h g a b same = by (name_cmp k.name j.name) refl
   where
     by : (o : Ordering) → name_cmp k.name j.name ≡ o → k.name ≡ j.name
     by Less e = absurd (not_less k j ks js h a b same e)
     by Equal e = sym (same_bytes-is j.name k.name (same_tied k.name j.name ∙ ap is_eq e))
-    by Greater e = absurd (not_less j k js ks g b a (λ id. sym (same id)) (back name_cmp name_total (λ (x : List ℕ). x) k.name j.name Greater e))
+    by Greater e =
+        absurd (not_less j k js ks g b a (λ id. sym (same id)) (back name_cmp name_total (λ (x : List ℕ). x) k.name j.name Greater e))
 
-same_names : (ks js : List Known) → AllByRecursion IsKnown ks → AllByRecursion IsKnown js → Rises ks → Rises js → ((id : Id) → covers ks id ≡ covers js id) → ks ≡ js
+same_names : (ks js : List Known) → AllByRecursion IsKnown ks → AllByRecursion IsKnown js → Rises ks → Rises js
+    → ((id : Id) → covers ks id ≡ covers js id) → ks ≡ js
 same_names [] [] h g a b same = refl
 same_names [] (j ∷ js) h g a b same = absurd (covered_first j js g.0 b (λ id. sym (same id)))
 same_names (k ∷ ks) [] h g a b same = absurd (covered_first k ks h.0 a same)
 same_names (k ∷ ks) (j ∷ js) h g a b same =
     let name = first_name k j ks js h.0 g.0 a b same in
-    let ranges = same_ranges k.ranges j.ranges (right_of k h.0) (right_of j g.0) (λ n. sym (head_covers k ks a n) ∙ same (id_of n k.name) ∙ ap (λ (q : List ℕ). covers (j ∷ js) (id_of n q)) name ∙ head_covers j js b n) in
-    let rest = same_names ks js h.1 g.1 (rest_rises k ks a) (rest_rises j js b) (λ id. tails k j ks js a b same name id (same_bytes k.name id.name) refl) in
+    let ranges = same_ranges k.ranges j.ranges (right_of k h.0) (right_of j g.0)
+    (λ n. sym (head_covers k ks a n) ∙ same (id_of n k.name) ∙ ap (λ (q : List ℕ). covers (j ∷ js) (id_of n q)) name
+    ∙ head_covers j js b n) in
+    let rest = same_names ks js h.1 g.1 (rest_rises k ks a) (rest_rises j js b)
+    (λ id. tails k j ks js a b same name id (same_bytes k.name id.name) refl) in
     λ i. record { name = name i; ranges = ranges i } ∷ rest i
   where
-    tails : (k j : Known) (ks js : List Known) → Rises (k ∷ ks) → Rises (j ∷ js) → ((id : Id) → covers (k ∷ ks) id ≡ covers (j ∷ js) id) → k.name ≡ j.name → (id : Id) (t : Bool) → same_bytes k.name id.name ≡ t → covers ks id ≡ covers js id
+    tails : (k j : Known) (ks js : List Known) → Rises (k ∷ ks) → Rises (j ∷ js) → ((id : Id) → covers (k ∷ ks) id ≡ covers (j ∷ js) id)
+        → k.name ≡ j.name → (id : Id) (t : Bool) → same_bytes k.name id.name ≡ t → covers ks id ≡ covers js id
     tails k j ks js a b same name id true e =
         let is = same_bytes-is k.name id.name e in
         ap (λ (q : List ℕ). covers ks (id_of id.number q)) (sym is) ∙ rest_none k ks a id.number
         ∙ sym (ap (λ (q : List ℕ). covers js (id_of id.number q)) (sym is ∙ name) ∙ rest_none j js b id.number)
-    tails k j ks js a b same name id false e = sym (others_cover k ks a id e) ∙ same id ∙ others_cover j js b id (ap (λ (q : List ℕ). same_bytes q id.name) (sym name) ∙ e)
+    tails k j ks js a b same name id false e =
+        sym (others_cover k ks a id e) ∙ same id ∙ others_cover j js b id (ap (λ (q : List ℕ). same_bytes q id.name) (sym name) ∙ e)
 
 pub same_summary : (held : List Operation) (a b : List Known) → IsSummaryOf held a → IsSummaryOf held b → a ≡ b
 same_summary held a b f g = same_names a b f.form.each g.form.each f.form.rising g.form.rising (λ id. f.exactly id ∙ sym (g.exactly id))

@@ -10,7 +10,8 @@ use Rattle.bundle_codec.specs.Summaries.{Known, covers, outside}
 
 all_filter : {A : Type 0} (P : A → Type 0) (p : A → Bool) (xs : List A) → AllByRecursion P xs → AllByRecursion P (filter p xs)
 all_filter P p [] h = tt
-all_filter P p (x ∷ xs) h = let rest = all_filter P p xs h.1 in elim (p x) as (λ b. AllByRecursion P (cond b (x ∷ filter p xs) (filter p xs))) [ true ↦ (h.0, rest) | false ↦ rest ]
+all_filter P p (x ∷ xs) h = let rest = all_filter P p xs h.1 in
+    elim (p x) as (λ b. AllByRecursion P (cond b (x ∷ filter p xs) (filter p xs))) [ true ↦ (h.0, rest) | false ↦ rest ]
 
 pub outside_set : (s : List Known) (held : List Operation) → IsOpSet held → IsOpSet (outside s held)
 outside_set s held set = record {
@@ -27,10 +28,13 @@ module _ (s : List Known) (o : Operation) (rest : List Operation) where
 
 pub outside_fewer : (s : List Known) (held : List Operation) → length (outside s held) ≤ length held
 outside_fewer s [] = omega arith
-outside_fewer s (o ∷ held) = let rest = outside_fewer s held in elim (covers s o.id) as (λ b. length (cond (not b) (o ∷ outside s held) (outside s held)) ≤ length (o ∷ held)) [ true ↦ omega (arith, rest) | false ↦ omega (arith, rest) ]
+outside_fewer s (o ∷ held) = let rest = outside_fewer s held in
+    elim (covers s o.id) as (λ b. length (cond (not b) (o ∷ outside s held) (outside s held)) ≤ length (o ∷ held))
+    [ true ↦ omega (arith, rest) | false ↦ omega (arith, rest) ]
 
 -- a covered operation is counted off
-module _ (s : List Known) (o : Operation) (rest it all : List Operation) (n : ℕ) (parts : it ≡ o ∷ rest) (in_it : covers s o.id ≡ true) (so_far : n + length (outside s it) ≡ length (outside s all) + length it) where
+module _ (s : List Known) (o : Operation) (rest it all : List Operation) (n : ℕ) (parts : it ≡ o ∷ rest) (in_it : covers s o.id ≡ true)
+    (so_far : n + length (outside s it) ≡ length (outside s all) + length it) where
   same : length (outside s it) ≡ length (outside s rest)
   same = ap (λ (ops : List Operation). length (outside s ops)) parts ∙ ap length (outside_in s o rest in_it)
 

@@ -48,7 +48,8 @@ abbrev pub Cut : {A : Type 0} → Reader A → List ℕ → List ℕ → A → L
 Cut read a b x rest = (read a ≡ Err Truncated) ⊎ ((r : List ℕ) × (read a ≡ Ok (x, r)) × (rest ≡ r ++ b))
 
 -- a cut front is cut for what reads on, too
-cut_then : {A C : Type 0} (first : Reader A) (then : A → Reader C) (a b : List ℕ) (x : A) (mid : List ℕ) (c : C) (rest : List ℕ) → Cut first a b x mid → ((left : List ℕ) → mid ≡ left ++ b → Cut (then x) left b c rest)
+cut_then : {A C : Type 0} (first : Reader A) (then : A → Reader C) (a b : List ℕ) (x : A) (mid : List ℕ) (c : C) (rest : List ℕ)
+    → Cut first a b x mid → ((left : List ℕ) → mid ≡ left ++ b → Cut (then x) left b c rest)
     → Cut (λ bytes. first bytes >>= λ y. then y.0 y.1) a b c rest
 cut_then first then a b x mid c rest one on =
     elim one [
@@ -62,7 +63,8 @@ cut_then first then a b x mid c rest one on =
     ]
 
 -- and for what is made of the value
-cut_made : {A C : Type 0} (read : Reader A) (make : A → C) (a b : List ℕ) (x : A) (rest : List ℕ) → Cut read a b x rest → Cut (λ bytes. read bytes >>= λ y. Ok (make y.0, y.1)) a b (make x) rest
+cut_made : {A C : Type 0} (read : Reader A) (make : A → C) (a b : List ℕ) (x : A) (rest : List ℕ) → Cut read a b x rest
+    → Cut (λ bytes. read bytes >>= λ y. Ok (make y.0, y.1)) a b (make x) rest
 cut_made read make a b x rest one =
     elim one [
       | inl short ↦ inl (ap (λ r. r >>= λ y. Ok (make y.0, y.1)) short)
@@ -70,7 +72,8 @@ cut_made read make a b x rest one =
     ]
 
 -- a reader of the same value and the same rest
-cut_as : {A : Type 0} (read : Reader A) (a b : List ℕ) (x y : A) (mid rest : List ℕ) → ◌≡◌ {A = A × List ℕ} (x, mid) (y, rest) → Cut read a b x mid → Cut read a b y rest
+cut_as : {A : Type 0} (read : Reader A) (a b : List ℕ) (x y : A) (mid rest : List ℕ) → ◌≡◌ {A = A × List ℕ} (x, mid) (y, rest)
+    → Cut read a b x mid → Cut read a b y rest
 cut_as read a b x y mid rest e one = subst (λ (p : _ × List ℕ). Cut read a b p.0 p.1) e one
 
 -- a reader of what is spelled so and fits
@@ -80,16 +83,19 @@ pub record Reads {A : Type 0} (read : Reader A) (spell : A → List ℕ) (Fits :
   pub cut : (a b : List ℕ) (x : A) (rest : List ℕ) → read (a ++ b) ≡ Ok (x, rest) → Cut read a b x rest
 
 -- the value of a step that did not fail
-pub bind_ok : {A B : Type 0} (r : Result A BundleFault) (f : A → Result B BundleFault) (y : B) → (r >>= f) ≡ Ok y → (x : A) × (r ≡ Ok x) × (f x ≡ Ok y)
+pub bind_ok : {A B : Type 0} (r : Result A BundleFault) (f : A → Result B BundleFault) (y : B) → (r >>= f) ≡ Ok y
+    → (x : A) × (r ≡ Ok x) × (f x ≡ Ok y)
 bind_ok (Ok x) f y e = (x, refl, e)
 bind_ok (Err d) f y e = absurd cc
 
 -- a test that failed goes elsewhere
-pub not_first : {A : Type 0} (b : Bool) (d : BundleFault) (x : Result A BundleFault) (y : A) → cond b (Err d) x ≡ Ok y → (b ≡ false) × (x ≡ Ok y)
+pub not_first : {A : Type 0} (b : Bool) (d : BundleFault) (x : Result A BundleFault) (y : A) → cond b (Err d) x ≡ Ok y
+    → (b ≡ false) × (x ≡ Ok y)
 not_first true d x y e = absurd cc
 not_first false d x y e = (refl, e)
 
-pub passed : {A : Type 0} (b : Bool) (d : BundleFault) (x : Result A BundleFault) (y : A) → cond b x (Err d) ≡ Ok y → (b ≡ true) × (x ≡ Ok y)
+pub passed : {A : Type 0} (b : Bool) (d : BundleFault) (x : Result A BundleFault) (y : A) → cond b x (Err d) ≡ Ok y
+    → (b ≡ true) × (x ≡ Ok y)
 passed true d x y e = (refl, e)
 passed false d x y e = absurd cc
 
@@ -102,24 +108,28 @@ ok_is x y e = cc
 -- ---- one reader after another
 
 -- The first field is a part of the value; the rest of the reader may depend on it.
-pub step : {A C : Type 0} {first : Reader A} {spell : A → List ℕ} {Fits : A → Type 0} {then : A → Reader C} {spell_rest : C → List ℕ} {FitsRest : A → C → Type 0} (part : C → A)
+pub step : {A C : Type 0} {first : Reader A} {spell : A → List ℕ} {Fits : A → Type 0} {then : A → Reader C} {spell_rest : C → List ℕ}
+    {FitsRest : A → C → Type 0} (part : C → A)
     → Reads first spell Fits → ((x : A) → Reads (then x) spell_rest (FitsRest x)) → ((x : A) (c : C) → Fits x → FitsRest x c → part c ≡ x)
     → Reads (λ bytes. first bytes >>= λ x. then x.0 x.1) (λ c. spell (part c) ++ spell_rest c) (λ c. Fits (part c) × FitsRest (part c) c)
-step {first = first} {spell = spell} {Fits = Fits} {then = then} {spell_rest = spell_rest} {FitsRest = FitsRest} part one others is_part = record {
-  takes = λ bytes c rest fits e.
-      let a = bind_ok (first bytes) (λ x. then x.0 x.1) (c, rest) e in
-      let s = one.takes bytes a.0.0 a.0.1 fits a.1 in
-      let t = (others a.0.0).takes a.0.1 c rest s.0.rest_fits a.2 in
-      let same = is_part a.0.0 c s.1 t.1 in
-      subst (λ (x : _). Takes bytes (spell x ++ spell_rest c) rest × (Fits x × FitsRest x c)) (sym same) (takes_then bytes (spell a.0.0) a.0.1 (spell_rest c) rest s.0 t.0, (s.1, t.1));
-  again = λ c rest fits.
-      ap (λ (w : List ℕ). first w >>= λ x. then x.0 x.1) (append_assoc (spell (part c)) (spell_rest c) rest)
-      ∙ ap (λ r. r >>= λ x. then x.0 x.1) (one.again (part c) (spell_rest c ++ rest) fits.0)
-      ∙ (others (part c)).again c rest fits.1;
-  cut = λ a b c rest e.
-      let f = bind_ok (first (a ++ b)) (λ x. then x.0 x.1) (c, rest) e in
-      cut_then first then a b f.0.0 f.0.1 c rest (one.cut a b f.0.0 f.0.1 f.1) (λ left same. (others f.0.0).cut left b c rest (ap (then f.0.0) (sym same) ∙ f.2));
-}
+step {first = first} {spell = spell} {Fits = Fits} {then = then} {spell_rest = spell_rest} {FitsRest = FitsRest} part one others is_part =
+    record {
+      takes = λ bytes c rest fits e.
+          let a = bind_ok (first bytes) (λ x. then x.0 x.1) (c, rest) e in
+          let s = one.takes bytes a.0.0 a.0.1 fits a.1 in
+          let t = (others a.0.0).takes a.0.1 c rest s.0.rest_fits a.2 in
+          let same = is_part a.0.0 c s.1 t.1 in
+          subst (λ (x : _). Takes bytes (spell x ++ spell_rest c) rest × (Fits x × FitsRest x c)) (sym same)
+          (takes_then bytes (spell a.0.0) a.0.1 (spell_rest c) rest s.0 t.0, (s.1, t.1));
+      again = λ c rest fits.
+          ap (λ (w : List ℕ). first w >>= λ x. then x.0 x.1) (append_assoc (spell (part c)) (spell_rest c) rest)
+          ∙ ap (λ r. r >>= λ x. then x.0 x.1) (one.again (part c) (spell_rest c ++ rest) fits.0)
+          ∙ (others (part c)).again c rest fits.1;
+      cut = λ a b c rest e.
+          let f = bind_ok (first (a ++ b)) (λ x. then x.0 x.1) (c, rest) e in
+          cut_then first then a b f.0.0 f.0.1 c rest (one.cut a b f.0.0 f.0.1 f.1)
+          (λ left same. (others f.0.0).cut left b c rest (ap (then f.0.0) (sym same) ∙ f.2));
+    }
 
 -- nothing is left to read
 pub ends : {C : Type 0} (made : C) → Reads (λ bytes. Ok (made, bytes)) (λ c. []) (λ c. made ≡ c)
@@ -135,7 +145,8 @@ ends made = record {
 }
 
 -- a test between two fields
-pub checked : {C : Type 0} {then : Reader C} {spell : C → List ℕ} {Fits : C → Type 0} (holds : Bool) (bad : BundleFault) → Reads then spell Fits
+pub checked : {C : Type 0} {then : Reader C} {spell : C → List ℕ} {Fits : C → Type 0} (holds : Bool) (bad : BundleFault)
+    → Reads then spell Fits
     → Reads (λ bytes. check holds bad >>= λ _. then bytes) spell (λ c. (holds ≡ true) × Fits c)
 checked true bad reads = record {
   takes = λ bytes c rest fits e. let t = reads.takes bytes c rest fits e in (t.0, (refl, t.1));
@@ -149,7 +160,8 @@ checked false bad reads = record {
 }
 
 -- the same in other words
-pub reads_as : {C : Type 0} {read : Reader C} {spell : C → List ℕ} {Fits : C → Type 0} (spell' : C → List ℕ) (Fits' : C → Type 0) → Reads read spell Fits
+pub reads_as : {C : Type 0} {read : Reader C} {spell : C → List ℕ} {Fits : C → Type 0} (spell' : C → List ℕ) (Fits' : C → Type 0)
+    → Reads read spell Fits
     → ((c : C) → Fits c → Fits' c) → ((c : C) → Fits' c → Fits c) → ((c : C) → Fits' c → spell c ≡ spell' c) → Reads read spell' Fits'
 reads_as {read = read} {spell = spell} spell' Fits' reads to from same = record {
   takes = λ bytes c rest fits e.
@@ -162,14 +174,17 @@ reads_as {read = read} {spell = spell} spell' Fits' reads to from same = record 
 
 -- ---- fields
 
-takes_byte : (rule : ℕ → Bool) (bad : BundleFault) (bytes : List ℕ) (x : ℕ) (rest : List ℕ) → AreBytes bytes → byte_at rule bad bytes ≡ Ok (x, rest) → Takes bytes (x ∷ []) rest × (rule x ≡ true)
+takes_byte : (rule : ℕ → Bool) (bad : BundleFault) (bytes : List ℕ) (x : ℕ) (rest : List ℕ) → AreBytes bytes
+    → byte_at rule bad bytes ≡ Ok (x, rest) → Takes bytes (x ∷ []) rest × (rule x ≡ true)
 takes_byte rule bad [] x rest fits e = absurd cc
 takes_byte rule bad (b ∷ bytes) x rest fits e =
     let p = passed (rule b) bad (Ok (b, bytes)) (x, rest) e in
     let q = ok_is (b, bytes) (x, rest) p.1 in
-    subst (λ (y : ℕ × List ℕ). Takes (b ∷ bytes) (y.0 ∷ []) y.1 × (rule y.0 ≡ true)) q (record { parts = refl; rest_fits = AreBytes-rest b bytes fits }, p.0)
+    subst (λ (y : ℕ × List ℕ). Takes (b ∷ bytes) (y.0 ∷ []) y.1 × (rule y.0 ≡ true)) q
+    (record { parts = refl; rest_fits = AreBytes-rest b bytes fits }, p.0)
 
-cut_byte : (rule : ℕ → Bool) (bad : BundleFault) (a b : List ℕ) (x : ℕ) (rest : List ℕ) → byte_at rule bad (a ++ b) ≡ Ok (x, rest) → Cut (byte_at rule bad) a b x rest
+cut_byte : (rule : ℕ → Bool) (bad : BundleFault) (a b : List ℕ) (x : ℕ) (rest : List ℕ) → byte_at rule bad (a ++ b) ≡ Ok (x, rest)
+    → Cut (byte_at rule bad) a b x rest
 cut_byte rule bad [] b x rest e = inl refl
 cut_byte rule bad (c ∷ a) b x rest e =
     let p = passed (rule c) bad (Ok (c, a ++ b)) (x, rest) e in
@@ -183,14 +198,16 @@ byte_reads rule bad = record {
   cut = cut_byte rule bad;
 }
 
-pub block_reads : (n : ℕ) (rule : List ℕ → Bool) (bad : BundleFault) → Reads (block_at n rule bad) (λ b. b) (λ b. (length b ≡ n) × (rule b ≡ true))
+pub block_reads : (n : ℕ) (rule : List ℕ → Bool) (bad : BundleFault)
+    → Reads (block_at n rule bad) (λ b. b) (λ b. (length b ≡ n) × (rule b ≡ true))
 block_reads n rule bad = record {
   takes = λ bytes x rest fits e.
       let g = not_first (ltb (length bytes) n) Truncated _ (x, rest) e in
       let long : n ≤ length bytes = ltb-false _ _ g.0 in
       let p = passed (rule (take n bytes)) bad (Ok (take n bytes, drop n bytes)) (x, rest) g.1 in
       let q = ok_is (take n bytes, drop n bytes) (x, rest) p.1 in
-      subst (λ (y : List ℕ × List ℕ). Takes bytes y.0 y.1 × ((length y.0 ≡ n) × (rule y.0 ≡ true))) q (record { parts = sym (take-append-drop n bytes); rest_fits = AreBytes-drop n bytes fits }, (length-take-le n bytes long, p.0));
+      subst (λ (y : List ℕ × List ℕ). Takes bytes y.0 y.1 × ((length y.0 ≡ n) × (rule y.0 ≡ true))) q
+      (record { parts = sym (take-append-drop n bytes); rest_fits = AreBytes-drop n bytes fits }, (length-take-le n bytes long, p.0));
   again = λ x rest fits.
       let long : ltb (length (x ++ rest)) n ≡ false = le-ltb _ _ (omega (arith, length-append x rest, fits.0)) in
       rw (long, take_at x rest n fits.0, drop_at x rest n fits.0, fits.1) refl;
@@ -235,45 +252,59 @@ wide64 = record {
 abbrev number_of : Width → (ℕ → Bool) → BundleFault → Reader ℕ
 number_of w rule bad bytes = block_at (byte_len w) (λ b. rule (from_be_bytes w b)) bad bytes >>= λ b. Ok (from_be_bytes w b.0, b.1)
 
-two_tests : {A B : Type 0} (short holds : Bool) (c d : BundleFault) (x : A) (f : A → Result B BundleFault) → cond short (Err c) (cond holds (f x) (Err d)) ≡ (cond short (Err c) (cond holds (Ok x) (Err d)) >>= f)
+two_tests : {A B : Type 0} (short holds : Bool) (c d : BundleFault) (x : A) (f : A → Result B BundleFault)
+    → cond short (Err c) (cond holds (f x) (Err d)) ≡ (cond short (Err c) (cond holds (Ok x) (Err d)) >>= f)
 two_tests true holds c d x f = refl
 two_tests false true c d x f = refl
 two_tests false false c d x f = refl
 
 number-block : (w : Width) (rule : ℕ → Bool) (bad : BundleFault) (bytes : List ℕ) → number_at w rule bad bytes ≡ number_of w rule bad bytes
-number-block w rule bad bytes = two_tests (ltb (length bytes) (byte_len w)) (rule (from_be_bytes w (take (byte_len w) bytes))) Truncated bad (take (byte_len w) bytes, drop (byte_len w) bytes) (λ b. Ok (from_be_bytes w b.0, b.1))
+number-block w rule bad bytes = two_tests (ltb (length bytes) (byte_len w)) (rule (from_be_bytes w (take (byte_len w) bytes))) Truncated bad
+    (take (byte_len w) bytes, drop (byte_len w) bytes) (λ b. Ok (from_be_bytes w b.0, b.1))
 
 abbrev rule_of : Width → (ℕ → Bool) → List ℕ → Bool
 rule_of w rule b = rule (from_be_bytes w b)
 
 AreBytes-front : (bytes front rest : List ℕ) → AreBytes bytes → bytes ≡ front ++ rest → AreBytes front
-AreBytes-front bytes front rest fits e = subst AreBytes (ap (take (length front)) e ∙ take_at front rest (length front) refl) (AreBytes-take (length front) bytes fits)
+AreBytes-front bytes front rest fits e =
+    subst AreBytes (ap (take (length front)) e ∙ take_at front rest (length front) refl) (AreBytes-take (length front) bytes fits)
 
-cut_number : (w : Width) (rule : ℕ → Bool) (bad : BundleFault) (a b : List ℕ) (n : ℕ) (rest : List ℕ) → Cut (number_of w rule bad) a b n rest → Cut (number_at w rule bad) a b n rest
-cut_number w rule bad a b n rest one = subst (λ (r : Result (ℕ × List ℕ) BundleFault). (r ≡ Err Truncated) ⊎ ((l : List ℕ) × (r ≡ Ok (n, l)) × (rest ≡ l ++ b))) (sym (number-block w rule bad a)) one
+cut_number : (w : Width) (rule : ℕ → Bool) (bad : BundleFault) (a b : List ℕ) (n : ℕ) (rest : List ℕ)
+    → Cut (number_of w rule bad) a b n rest → Cut (number_at w rule bad) a b n rest
+cut_number w rule bad a b n rest one = subst
+    (λ (r : Result (ℕ × List ℕ) BundleFault). (r ≡ Err Truncated) ⊎ ((l : List ℕ) × (r ≡ Ok (n, l)) × (rest ≡ l ++ b)))
+    (sym (number-block w rule bad a)) one
 
-pub number_reads : (w : Width) (limit : ℕ) (wide : IsWide w limit) (rule : ℕ → Bool) (bad : BundleFault) → Reads (number_at w rule bad) (to_be_bytes w) (λ n. (n < limit) × (rule n ≡ true))
+pub number_reads : (w : Width) (limit : ℕ) (wide : IsWide w limit) (rule : ℕ → Bool) (bad : BundleFault)
+    → Reads (number_at w rule bad) (to_be_bytes w) (λ n. (n < limit) × (rule n ≡ true))
 number_reads w limit wide rule bad = record {
   takes = λ bytes n rest fits e.
-      let a = bind_ok (block_at (byte_len w) (rule_of w rule) bad bytes) (λ b. Ok (from_be_bytes w b.0, b.1)) (n, rest) (sym (number-block w rule bad bytes) ∙ e) in
+      let a = bind_ok (block_at (byte_len w) (rule_of w rule) bad bytes) (λ b. Ok (from_be_bytes w b.0, b.1)) (n, rest)
+      (sym (number-block w rule bad bytes) ∙ e) in
       let t = (block_reads (byte_len w) (rule_of w rule) bad).takes bytes a.0.0 a.0.1 fits a.1 in
       let q = ok_is (from_be_bytes w a.0.0, a.0.1) (n, rest) a.2 in
       let fine : AreBytes a.0.0 = AreBytes-front bytes a.0.0 a.0.1 fits t.0.parts in
       let text : to_be_bytes w (from_be_bytes w a.0.0) ≡ a.0.0 = wide.back a.0.0 t.1.0 fine in
-      subst (λ (y : ℕ × List ℕ). Takes bytes (to_be_bytes w y.0) y.1 × ((y.0 < limit) × (rule y.0 ≡ true))) q
-      (record { parts = t.0.parts ∙ ap (λ (v : List ℕ). v ++ a.0.1) (sym text); rest_fits = t.0.rest_fits }, (wide.below a.0.0 fine, t.1.1));
+      subst (λ (y : ℕ × List ℕ). Takes bytes (to_be_bytes w y.0) y.1 × ((y.0 < limit) × (rule y.0 ≡ true))) q (
+        record { parts = t.0.parts ∙ ap (λ (v : List ℕ). v ++ a.0.1) (sym text); rest_fits = t.0.rest_fits },
+        (wide.below a.0.0 fine, t.1.1),
+      );
   again = λ n rest fits.
       let back = wide.again n fits.0 in
       let one = (block_reads (byte_len w) (rule_of w rule) bad).again (to_be_bytes w n) rest (wide.len n, ap rule back ∙ fits.1) in
-      number-block w rule bad (to_be_bytes w n ++ rest) ∙ ap (λ r. r >>= λ b. Ok (from_be_bytes w b.0, b.1)) one ∙ ap (λ m. Ok (m, rest)) back;
+      number-block w rule bad (to_be_bytes w n ++ rest) ∙ ap (λ r. r >>= λ b. Ok (from_be_bytes w b.0, b.1)) one
+      ∙ ap (λ m. Ok (m, rest)) back;
   cut = λ a b n rest e.
-      let f = bind_ok (block_at (byte_len w) (rule_of w rule) bad (a ++ b)) (λ b. Ok (from_be_bytes w b.0, b.1)) (n, rest) (sym (number-block w rule bad (a ++ b)) ∙ e) in
+      let f = bind_ok (block_at (byte_len w) (rule_of w rule) bad (a ++ b)) (λ b. Ok (from_be_bytes w b.0, b.1)) (n, rest)
+      (sym (number-block w rule bad (a ++ b)) ∙ e) in
       let q = ok_is (from_be_bytes w f.0.0, f.0.1) (n, rest) f.2 in
-      let one = cut_made (block_at (byte_len w) (rule_of w rule) bad) (from_be_bytes w) a b f.0.0 f.0.1 ((block_reads (byte_len w) (rule_of w rule) bad).cut a b f.0.0 f.0.1 f.1) in
+      let one = cut_made (block_at (byte_len w) (rule_of w rule) bad) (from_be_bytes w) a b f.0.0 f.0.1
+      ((block_reads (byte_len w) (rule_of w rule) bad).cut a b f.0.0 f.0.1 f.1) in
       cut_number w rule bad a b n rest (cut_as (number_of w rule bad) a b (from_be_bytes w f.0.0) n f.0.1 rest q one);
 }
 
-takes_exactly : (text : List ℕ) (bad : BundleFault) (bytes : List ℕ) (x : Unit {0}) (rest : List ℕ) → AreBytes bytes → exactly_at text bad bytes ≡ Ok (x, rest) → Takes bytes text rest
+takes_exactly : (text : List ℕ) (bad : BundleFault) (bytes : List ℕ) (x : Unit {0}) (rest : List ℕ) → AreBytes bytes
+    → exactly_at text bad bytes ≡ Ok (x, rest) → Takes bytes text rest
 takes_exactly [] bad bytes x rest fits e =
     let is : bytes ≡ rest = ap (λ (p : Unit {0} × List ℕ). p.1) (ok_is (tt, bytes) (x, rest) e) in
     record { parts = is; rest_fits = subst AreBytes is fits }
@@ -287,7 +318,8 @@ exactly_again : (text : List ℕ) (bad : BundleFault) (rest : List ℕ) → exac
 exactly_again [] bad rest = refl
 exactly_again (m ∷ text) bad rest = rw (eq-eqb m m refl) (exactly_again text bad rest)
 
-cut_exactly : (text : List ℕ) (bad : BundleFault) (a b : List ℕ) (x : Unit {0}) (rest : List ℕ) → exactly_at text bad (a ++ b) ≡ Ok (x, rest) → Cut (exactly_at text bad) a b x rest
+cut_exactly : (text : List ℕ) (bad : BundleFault) (a b : List ℕ) (x : Unit {0}) (rest : List ℕ)
+    → exactly_at text bad (a ++ b) ≡ Ok (x, rest) → Cut (exactly_at text bad) a b x rest
 cut_exactly [] bad a b x rest e = inr (a, refl, sym (ap (λ (p : Unit {0} × List ℕ). p.1) (ok_is (tt, a ++ b) (x, rest) e)))
 cut_exactly (m ∷ text) bad [] b x rest e = inl refl
 cut_exactly (m ∷ text) bad (c ∷ a) b x rest e =
@@ -307,31 +339,37 @@ exactly_reads text bad = record {
 
 -- ---- many values
 
-module _ {A S : Type 0} (one : S → Reader A) (next : S → A → S) (spell : A → List ℕ) (Fits : S → A → Type 0) (each : (s : S) → Reads (one s) spell (Fits s)) where
+module _ {A S : Type 0} (one : S → Reader A) (next : S → A → S) (spell : A → List ℕ) (Fits : S → A → Type 0)
+    (each : (s : S) → Reads (one s) spell (Fits s)) where
   -- the values after the first one
   abbrev others : ℕ → S → A → Reader (List A)
   others n s x bytes = many_at one next n (next s x) bytes >>= λ o. Ok (x ∷ o.0, o.1)
 
-  many_again : (n : ℕ) (s : S) (xs : List A) (rest : List ℕ) → (length xs ≡ n) × Each Fits next s xs → many_at one next n s (flat_map spell xs ++ rest) ≡ Ok (xs, rest)
+  many_again : (n : ℕ) (s : S) (xs : List A) (rest : List ℕ) → (length xs ≡ n) × Each Fits next s xs
+      → many_at one next n s (flat_map spell xs ++ rest) ≡ Ok (xs, rest)
   unfolding many_at
   many_again zero s [] rest h = refl
   many_again zero s (x ∷ xs) rest h = absurd (omega (arith, h.0))
   many_again (suc n) s [] rest h = absurd (omega (arith, h.0))
   many_again (suc n) s (x ∷ xs) rest h =
-      let regrouped : flat_map spell (x ∷ xs) ++ rest ≡ spell x ++ (flat_map spell xs ++ rest) = ap (λ (w : List ℕ). w ++ rest) (flat_map-cons spell x xs) ∙ append_assoc (spell x) (flat_map spell xs) rest in
+      let regrouped : flat_map spell (x ∷ xs) ++ rest ≡ spell x ++ (flat_map spell xs ++ rest) =
+      ap (λ (w : List ℕ). w ++ rest) (flat_map-cons spell x xs) ∙ append_assoc (spell x) (flat_map spell xs) rest in
       ap (many_at one next (suc n) s) regrouped
       ∙ ap (λ r. r >>= λ f. others n s f.0 f.1) ((each s).again x (flat_map spell xs ++ rest) h.1.0)
       ∙ ap (λ r. r >>= λ o. Ok (x ∷ o.0, o.1)) (many_again n (next s x) xs rest (omega (arith, h.0), h.1.1))
 
-  takes_more : (bytes : List ℕ) (x : A) (mid : List ℕ) (xs : List A) (rest : List ℕ) → Takes bytes (spell x) mid → Takes mid (flat_map spell xs) rest → Takes bytes (flat_map spell (x ∷ xs)) rest
+  takes_more : (bytes : List ℕ) (x : A) (mid : List ℕ) (xs : List A) (rest : List ℕ) → Takes bytes (spell x) mid
+      → Takes mid (flat_map spell xs) rest → Takes bytes (flat_map spell (x ∷ xs)) rest
   takes_more bytes x mid xs rest s t =
-      subst (λ (w : List ℕ). Takes bytes w rest) (sym (flat_map-cons spell x xs)) (takes_then bytes (spell x) mid (flat_map spell xs) rest s t)
+      subst (λ (w : List ℕ). Takes bytes w rest) (sym (flat_map-cons spell x xs))
+      (takes_then bytes (spell x) mid (flat_map spell xs) rest s t)
 
   pub many_reads : (n : ℕ) (s : S) → Reads (many_at one next n s) (flat_map spell) (λ xs. (length xs ≡ n) × Each Fits next s xs)
   unfolding many_at
   many_reads zero s = record {
     takes = λ bytes xs rest fits e.
-        subst (λ (y : List A × List ℕ). Takes bytes (flat_map spell y.0) y.1 × ((length y.0 ≡ 0) × Each Fits next s y.0)) (ok_is ([], bytes) (xs, rest) e)
+        subst (λ (y : List A × List ℕ). Takes bytes (flat_map spell y.0) y.1 × ((length y.0 ≡ 0) × Each Fits next s y.0))
+        (ok_is ([], bytes) (xs, rest) e)
         (record { parts = refl; rest_fits = fits }, (refl, tt));
     again = many_again zero s;
     cut = λ a b xs rest e. cut_as (many_at one next zero s) a b [] xs (a ++ b) rest (ok_is ([], a ++ b) (xs, rest) e) (inr (a, refl, refl));
@@ -342,7 +380,8 @@ module _ {A S : Type 0} (one : S → Reader A) (next : S → A → S) (spell : A
         let g = bind_ok (many_at one next n (next s f.0.0) f.0.1) (λ o. Ok (f.0.0 ∷ o.0, o.1)) (xs, rest) f.2 in
         let t = (each s).takes bytes f.0.0 f.0.1 fits f.1 in
         let u = (many_reads n (next s f.0.0)).takes f.0.1 g.0.0 g.0.1 t.0.rest_fits g.1 in
-        subst (λ (y : List A × List ℕ). Takes bytes (flat_map spell y.0) y.1 × ((length y.0 ≡ suc n) × Each Fits next s y.0)) (ok_is (f.0.0 ∷ g.0.0, g.0.1) (xs, rest) g.2)
+        subst (λ (y : List A × List ℕ). Takes bytes (flat_map spell y.0) y.1 × ((length y.0 ≡ suc n) × Each Fits next s y.0))
+        (ok_is (f.0.0 ∷ g.0.0, g.0.1) (xs, rest) g.2)
         (takes_more bytes f.0.0 f.0.1 g.0.0 g.0.1 t.0 u.0, (ap suc u.1.0, (t.1, u.1.1)));
     again = many_again (suc n) s;
     cut = λ a b xs rest e.
@@ -350,5 +389,6 @@ module _ {A S : Type 0} (one : S → Reader A) (next : S → A → S) (spell : A
         let g = bind_ok (many_at one next n (next s f.0.0) f.0.1) (λ o. Ok (f.0.0 ∷ o.0, o.1)) (xs, rest) f.2 in
         cut_as (many_at one next (suc n) s) a b (f.0.0 ∷ g.0.0) xs g.0.1 rest (ok_is (f.0.0 ∷ g.0.0, g.0.1) (xs, rest) g.2)
         (cut_then (one s) (others n s) a b f.0.0 f.0.1 (f.0.0 ∷ g.0.0) g.0.1 ((each s).cut a b f.0.0 f.0.1 f.1) (λ left same.
-        cut_made (many_at one next n (next s f.0.0)) (λ (o : List A). f.0.0 ∷ o) left b g.0.0 g.0.1 ((many_reads n (next s f.0.0)).cut left b g.0.0 g.0.1 (ap (many_at one next n (next s f.0.0)) (sym same) ∙ g.1))));
+        cut_made (many_at one next n (next s f.0.0)) (λ (o : List A). f.0.0 ∷ o) left b g.0.0 g.0.1
+        ((many_reads n (next s f.0.0)).cut left b g.0.0 g.0.1 (ap (many_at one next n (next s f.0.0)) (sym same) ∙ g.1))));
   }

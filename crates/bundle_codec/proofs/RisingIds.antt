@@ -22,7 +22,8 @@ module _ {X : Type 0} (key : X → Id) where
   rises-from_climbs before [] c = refl
   rises-from_climbs before (x ∷ xs) c = and_from _ _ (above_all (key x) xs c.1) (rises-from_climbs (Some (key x)) xs c.1)
 
-  climbs_above : (id : Id) (xs : List X) → list_all (λ y. id_below id (key y)) xs ≡ true → rises_by id_cmp key xs ≡ true → Climbs (Some id) xs
+  climbs_above : (id : Id) (xs : List X) → list_all (λ y. id_below id (key y)) xs ≡ true → rises_by id_cmp key xs ≡ true
+      → Climbs (Some id) xs
   climbs_above id [] a r = tt
   climbs_above id (x ∷ xs) a r =
       let p = and_parts (list_all (λ y. id_below (key x) (key y)) xs) (rises_by id_cmp key xs) r in

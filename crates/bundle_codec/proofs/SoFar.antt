@@ -29,9 +29,15 @@ pub record SoFar {A : Type 0} (all rest : List Operation) (m : BTreeMap (List �
   pub names : (q : List ℕ) → AreUnder done q (under m q)
 
 pub so_far_none : {A : Type 0} (all : List Operation) (m : BTreeMap (List ℕ) (Vec NumberRange A)) → m.entries ≡ [] → SoFar all all m
-so_far_none all m none = record { done = []; parts = refl; names = λ q. subst (λ es. AreUnder [] q (option_map (λ v. v.items) (lookup (is_at (name_cmp q)) es))) (sym none) (λ n. refl) }
+so_far_none all m none = record {
+  done = [];
+  parts = refl;
+  names = λ q. subst (λ es. AreUnder [] q (option_map (λ v. v.items) (lookup (is_at (name_cmp q)) es)))
+      (sym none) (λ n. refl);
+}
 
-pub so_far_more : {A : Type 0} (all it rest : List Operation) (o : Operation) (id : Id) (m n : BTreeMap (List ℕ) (Vec NumberRange A)) → rises all ≡ true → it ≡ o ∷ rest → id ≡ o.id → is_number o.id.number ≡ true → HoldsMore id m n → SoFar all it m → SoFar all rest n
+pub so_far_more : {A : Type 0} (all it rest : List Operation) (o : Operation) (id : Id) (m n : BTreeMap (List ℕ) (Vec NumberRange A))
+    → rises all ≡ true → it ≡ o ∷ rest → id ≡ o.id → is_number o.id.number ≡ true → HoldsMore id m n → SoFar all it m → SoFar all rest n
 so_far_more all it rest o id m n rising next same num more s =
     let whole : s.done ++ o ∷ rest ≡ all = ap (λ (w : List Operation). s.done ++ w) (sym next) ∙ s.parts in
     record {
@@ -40,17 +46,23 @@ so_far_more all it rest o id m n rising next same num more s =
       names = names_step s.done o rest (ap rises whole ∙ rising) m n num (subst (λ (i : Id). HoldsMore i m n) same more) s.names;
     }
 
-pub so_far_all : {A : Type 0} (all it : List Operation) (m : BTreeMap (List ℕ) (Vec NumberRange A)) → it ≡ [] → SoFar all it m → (q : List ℕ) → AreUnder all q (under m q)
-so_far_all all it m end s q = subst (λ (w : List Operation). AreUnder w q (under m q)) (sym (append-nil s.done) ∙ ap (λ (w : List Operation). s.done ++ w) (sym end) ∙ s.parts) (s.names q)
+pub so_far_all : {A : Type 0} (all it : List Operation) (m : BTreeMap (List ℕ) (Vec NumberRange A)) → it ≡ [] → SoFar all it m
+    → (q : List ℕ) → AreUnder all q (under m q)
+so_far_all all it m end s q = subst (λ (w : List Operation). AreUnder w q (under m q))
+    (sym (append-nil s.done) ∙ ap (λ (w : List Operation). s.done ++ w) (sym end) ∙ s.parts) (s.names q)
 
 -- ---- what the map has at its names
 
 module _ {V : Type 0} where
-  lower : (e : List ℕ × V) (es xs : List (List ℕ × V)) → AllByRecursion (λ y. name_cmp e.0 y ≡ Less) (keys_of xs) → AllByRecursion (λ x. lookup (is_at (name_cmp x.0)) es ≡ Some x.1) xs → AllByRecursion (λ x. lookup (is_at (name_cmp x.0)) (e ∷ es) ≡ Some x.1) xs
+  lower : (e : List ℕ × V) (es xs : List (List ℕ × V)) → AllByRecursion (λ y. name_cmp e.0 y ≡ Less) (keys_of xs)
+      → AllByRecursion (λ x. lookup (is_at (name_cmp x.0)) es ≡ Some x.1) xs
+      → AllByRecursion (λ x. lookup (is_at (name_cmp x.0)) (e ∷ es) ≡ Some x.1) xs
   lower e es [] b h = tt
-  lower e es (x ∷ xs) b h = (cond-false _ _ _ (ap is_eq (back name_cmp name_total (λ (k : List ℕ). k) e.0 x.0 Less b.0)) ∙ h.0, lower e es xs b.1 h.1)
+  lower e es (x ∷ xs) b h =
+      (cond-false _ _ _ (ap is_eq (back name_cmp name_total (λ (k : List ℕ). k) e.0 x.0 Less b.0)) ∙ h.0, lower e es xs b.1 h.1)
 
-  pub each_at_name : (es : List (List ℕ × V)) → IsStrictlySortedBy name_cmp (keys_of es) → AllByRecursion (λ x. lookup (is_at (name_cmp x.0)) es ≡ Some x.1) es
+  pub each_at_name : (es : List (List ℕ × V)) → IsStrictlySortedBy name_cmp (keys_of es)
+      → AllByRecursion (λ x. lookup (is_at (name_cmp x.0)) es ≡ Some x.1) es
   unfolding IsStrictlySortedBy
   each_at_name [] s = tt
   each_at_name (e ∷ es) s = (cond-true _ _ _ (ap is_eq (tied_itself name_total e.0)), lower e es es s.0 (each_at_name es s.1))
@@ -59,7 +71,8 @@ abbrev has_under : Option (List NumberRange) → ℕ → Bool
 has_under None n = false
 has_under (Some rs) n = has_number rs n
 
-has_held : (all : List Operation) (q : List ℕ) (n : ℕ) (u : Option (List NumberRange)) → AreUnder all q u → has_under u n ≡ is_some (get all (record { number = n; name = q }))
+has_held : (all : List Operation) (q : List ℕ) (n : ℕ) (u : Option (List NumberRange)) → AreUnder all q u
+    → has_under u n ≡ is_some (get all (record { number = n; name = q }))
 has_held all q n None h = sym (h n)
 has_held all q n (Some rs) h = h.1 n
 
@@ -67,27 +80,39 @@ module _ {A : Type 0} where
   abbrev pub known_of : List ℕ × Vec NumberRange A → Known
   known_of e = record { name = e.0; ranges = e.1.items }
 
-  ranges_at_each : (all : List Operation) (m : BTreeMap (List ℕ) (Vec NumberRange A)) (es : List (List ℕ × Vec NumberRange A)) → ((q : List ℕ) → AreUnder all q (under m q)) → AllByRecursion (λ x. lookup (is_at (name_cmp x.0)) m.entries ≡ Some x.1) es → AllByRecursion (λ e. AreRanges e.1.items) es
+  ranges_at_each : (all : List Operation) (m : BTreeMap (List ℕ) (Vec NumberRange A)) (es : List (List ℕ × Vec NumberRange A))
+      → ((q : List ℕ) → AreUnder all q (under m q)) → AllByRecursion (λ x. lookup (is_at (name_cmp x.0)) m.entries ≡ Some x.1) es
+      → AllByRecursion (λ e. AreRanges e.1.items) es
   ranges_at_each all m [] names h = tt
-  ranges_at_each all m (e ∷ es) names h = ((subst (AreUnder all e.0) (ap (option_map (λ v. v.items)) h.0) (names e.0)).0, ranges_at_each all m es names h.1)
+  ranges_at_each all m (e ∷ es) names h =
+      ((subst (AreUnder all e.0) (ap (option_map (λ v. v.items)) h.0) (names e.0)).0, ranges_at_each all m es names h.1)
 
-  pub holds_ranges : (all : List Operation) (m : BTreeMap (List ℕ) (Vec NumberRange A)) → IsOrdered name_cmp m → ((q : List ℕ) → AreUnder all q (under m q)) → HoldsRanges all m
-  holds_ranges all m ordered names = record { ordered = ordered; each = ranges_at_each all m m.entries names (each_at_name m.entries ordered); names = names }
+  pub holds_ranges : (all : List Operation) (m : BTreeMap (List ℕ) (Vec NumberRange A)) → IsOrdered name_cmp m
+      → ((q : List ℕ) → AreUnder all q (under m q)) → HoldsRanges all m
+  holds_ranges all m ordered names =
+      record { ordered = ordered; each = ranges_at_each all m m.entries names (each_at_name m.entries ordered); names = names }
 
-  less_all : (name : List ℕ) (es : List (List ℕ × Vec NumberRange A)) → AllByRecursion (λ y. name_cmp name y ≡ Less) (keys_of es) → list_all (λ (k : Known). is_lt (name_cmp name k.name)) (map known_of es) ≡ true
+  less_all : (name : List ℕ) (es : List (List ℕ × Vec NumberRange A)) → AllByRecursion (λ y. name_cmp name y ≡ Less) (keys_of es)
+      → list_all (λ (k : Known). is_lt (name_cmp name k.name)) (map known_of es) ≡ true
   less_all name [] h = refl
   less_all name (e ∷ es) h = and_from _ _ (ap is_lt h.0) (less_all name es h.1)
 
-  pub rises_listed : (es : List (List ℕ × Vec NumberRange A)) → IsStrictlySortedBy name_cmp (keys_of es) → rises_by name_cmp (λ (k : Known). k.name) (map known_of es) ≡ true
+  pub rises_listed : (es : List (List ℕ × Vec NumberRange A)) → IsStrictlySortedBy name_cmp (keys_of es)
+      → rises_by name_cmp (λ (k : Known). k.name) (map known_of es) ≡ true
   unfolding IsStrictlySortedBy
   rises_listed [] s = refl
   rises_listed (e ∷ es) s = and_from _ _ (less_all e.0 es s.0) (rises_listed es s.1)
 
-  found_listed : (q : List ℕ) (n : ℕ) (es : List (List ℕ × Vec NumberRange A)) → found_has (under_name q (map known_of es)) n ≡ has_under (option_map (λ v. v.items) (lookup (is_at (name_cmp q)) es)) n
+  found_listed : (q : List ℕ) (n : ℕ) (es : List (List ℕ × Vec NumberRange A))
+      → found_has (under_name q (map known_of es)) n ≡ has_under (option_map (λ v. v.items) (lookup (is_at (name_cmp q)) es)) n
   found_listed q n [] = refl
-  found_listed q n (e ∷ es) = let rest = found_listed q n es in elim (is_eq (name_cmp q e.0)) as (λ b. found_has (cond b (Some (known_of e)) (under_name q (map known_of es))) n ≡ has_under (option_map (λ v. v.items) (cond b (Some e.1) (lookup (is_at (name_cmp q)) es))) n) [ true ↦ refl | false ↦ rest ]
+  found_listed q n (e ∷ es) = let rest = found_listed q n es in
+      elim (is_eq (name_cmp q e.0)) as
+      (λ b. found_has (cond b (Some (known_of e)) (under_name q (map known_of es))) n
+      ≡ has_under (option_map (λ v. v.items) (cond b (Some e.1) (lookup (is_at (name_cmp q)) es))) n) [ true ↦ refl | false ↦ rest ]
 
-  pub is_summary_of : (all : List Operation) (m : BTreeMap (List ℕ) (Vec NumberRange A)) (s : List Known) → s ≡ listed m → AllByRecursion IsKnown s → HoldsRanges all m → IsSummaryOf all s
+  pub is_summary_of : (all : List Operation) (m : BTreeMap (List ℕ) (Vec NumberRange A)) (s : List Known) → s ≡ listed m
+      → AllByRecursion IsKnown s → HoldsRanges all m → IsSummaryOf all s
   is_summary_of all m s e valid h = record {
     form = record { rising = ap (rises_by name_cmp (λ (k : Known). k.name)) e ∙ rises_listed m.entries h.ordered; each = valid };
     exactly = λ id.
@@ -103,16 +128,23 @@ all_push : {X : Type 0} (P : X → Type 0) (xs : List X) (x : X) → AllByRecurs
 all_push P [] x h p = (p, tt)
 all_push P (y ∷ xs) x h p = (h.0, all_push P xs x h.1 p)
 
-pub record Walked {A : Type 0} (m : BTreeMap (List ℕ) (Vec NumberRange A)) (it : List (List ℕ × Vec NumberRange A)) (names : List Known) : Type 0 where
+pub record Walked {A : Type 0} (m : BTreeMap (List ℕ) (Vec NumberRange A)) (it : List (List ℕ × Vec NumberRange A))
+    (names : List Known) : Type 0 where
   pub parts : names ++ map known_of it ≡ listed m
   pub valid : AllByRecursion IsKnown names
   pub right : AllByRecursion (λ e. AreRanges e.1.items) it
 
 module _ {A : Type 0} (m : BTreeMap (List ℕ) (Vec NumberRange A)) where
-  pub walked_none : (it : List (List ℕ × Vec NumberRange A)) (names : List Known) → it ≡ m.entries → names ≡ [] → AllByRecursion (λ e. AreRanges e.1.items) m.entries → Walked m it names
-  walked_none it names e none h = record { parts = (λ i. none i ++ map known_of (e i)); valid = subst (AllByRecursion IsKnown) (sym none) tt; right = subst (AllByRecursion (λ (x : List ℕ × Vec NumberRange A). AreRanges x.1.items)) (sym e) h }
+  pub walked_none : (it : List (List ℕ × Vec NumberRange A)) (names : List Known) → it ≡ m.entries → names ≡ []
+      → AllByRecursion (λ e. AreRanges e.1.items) m.entries → Walked m it names
+  walked_none it names e none h = record {
+    parts = (λ i. none i ++ map known_of (e i));
+    valid = subst (AllByRecursion IsKnown) (sym none) tt;
+    right = subst (AllByRecursion (λ (x : List ℕ × Vec NumberRange A). AreRanges x.1.items)) (sym e) h;
+  }
 
-  module _ (it rest : List (List ℕ × Vec NumberRange A)) (e : List ℕ × Vec NumberRange A) (names : List Known) (next : it ≡ e ∷ rest) (w : Walked m it names) where
+  module _ (it rest : List (List ℕ × Vec NumberRange A)) (e : List ℕ × Vec NumberRange A) (names : List Known) (next : it ≡ e ∷ rest)
+      (w : Walked m it names) where
     both : AreRanges e.1.items × AllByRecursion (λ (x : List ℕ × Vec NumberRange A). AreRanges x.1.items) rest
     both = subst (AllByRecursion (λ (x : List ℕ × Vec NumberRange A). AreRanges x.1.items)) next w.right
 
@@ -121,7 +153,8 @@ module _ {A : Type 0} (m : BTreeMap (List ℕ) (Vec NumberRange A)) where
 
     pub walked_more : (k : Known) (new : List Known) → new ≡ names ++ k ∷ [] → k ≡ known_of e → IsKnown k → Walked m rest new
     walked_more k new more is valid = record {
-      parts = ap (λ (ks : List Known). ks ++ map known_of rest) more ∙ append_assoc names (k ∷ []) (map known_of rest) ∙ ap (λ (x : Known). names ++ x ∷ map known_of rest) is ∙ ap (λ es. names ++ map known_of es) (sym next) ∙ w.parts;
+      parts = ap (λ (ks : List Known). ks ++ map known_of rest) more ∙ append_assoc names (k ∷ []) (map known_of rest)
+          ∙ ap (λ (x : Known). names ++ x ∷ map known_of rest) is ∙ ap (λ es. names ++ map known_of es) (sym next) ∙ w.parts;
       valid = subst (AllByRecursion IsKnown) (sym more) (all_push IsKnown names k w.valid valid);
       right = both.1;
     }

@@ -68,17 +68,21 @@ AreNamed own named = (length named < 2 ^ 64) × ((list_all is_id named ≡ true)
 
 each_climbs : (own : Id) (before : Option Id) (named : List Id) → Each (IsNamed own) after_id before named → Climbs (λ i. i) before named
 each_climbs own before [] e = tt
-each_climbs own before (i ∷ named) e = ((and_parts (comes_after before i) (ltb i.number own.number) e.0.1).0, each_climbs own (Some i) named e.1)
+each_climbs own before (i ∷ named) e =
+    ((and_parts (comes_after before i) (ltb i.number own.number) e.0.1).0, each_climbs own (Some i) named e.1)
 
 each_is_id : (own : Id) (before : Option Id) (named : List Id) → Each (IsNamed own) after_id before named → list_all is_id named ≡ true
 each_is_id own before [] e = refl
 each_is_id own before (i ∷ named) e = and_from _ _ e.0.0 (each_is_id own (Some i) named e.1)
 
-each_falls : (own : Id) (before : Option Id) (named : List Id) → Each (IsNamed own) after_id before named → list_all (λ (n : Id). ltb n.number own.number) named ≡ true
+each_falls : (own : Id) (before : Option Id) (named : List Id) → Each (IsNamed own) after_id before named
+    → list_all (λ (n : Id). ltb n.number own.number) named ≡ true
 each_falls own before [] e = refl
-each_falls own before (i ∷ named) e = and_from _ _ (and_parts (comes_after before i) (ltb i.number own.number) e.0.1).1 (each_falls own (Some i) named e.1)
+each_falls own before (i ∷ named) e =
+    and_from _ _ (and_parts (comes_after before i) (ltb i.number own.number) e.0.1).1 (each_falls own (Some i) named e.1)
 
-each_named : (own : Id) (before : Option Id) (named : List Id) → list_all is_id named ≡ true → Climbs (λ i. i) before named → list_all (λ (n : Id). ltb n.number own.number) named ≡ true → Each (IsNamed own) after_id before named
+each_named : (own : Id) (before : Option Id) (named : List Id) → list_all is_id named ≡ true → Climbs (λ i. i) before named
+    → list_all (λ (n : Id). ltb n.number own.number) named ≡ true → Each (IsNamed own) after_id before named
 each_named own before [] a c b = tt
 each_named own before (i ∷ named) a c b =
     let p = and_parts (is_id i) (list_all is_id named) a in
@@ -92,7 +96,14 @@ replaced_reads bad own =
     (step (λ (named : List Id). length named) (number_reads w64 (2 ^ 64) wide64 any Truncated) (λ count.
     many_reads (named_at bad own) after_id id (IsNamed own) (named_reads bad own) count None)
     (λ count named _ f. f.0))
-    (λ named f. (f.0.0, (each_is_id own None named f.1.1, and_from _ _ (rises-from_climbs (λ i. i) None named (each_climbs own None named f.1.1)) (each_falls own None named f.1.1))))
+    (λ named f. (
+      f.0.0,
+      (
+        each_is_id own None named f.1.1,
+        and_from _ _
+            (rises-from_climbs (λ i. i) None named (each_climbs own None named f.1.1)) (each_falls own None named f.1.1),
+      ),
+    ))
     (λ named f. let p = and_parts _ (list_all (λ (n : Id). ltb n.number own.number) named) f.1.1 in
     ((f.0, refl), (refl, each_named own None named f.1.0 (climbs-from_rises (λ i. i) named p.0) p.1)))
     (λ named f. refl)
@@ -137,7 +148,9 @@ place_letter (suc k) v (suc l) p h e = ap letter_of (sym e)
 
 -- what the three bytes and the place that is made of them say of each other
 abbrev pub IsRead : Place → Type 0
-IsRead p = (leb (kind_of p) 1 ≡ true) × (((verse_of p < 2 ^ 16) × (is_verse (kind_of p) (verse_of p) ≡ true)) × ((is_letter_byte (kind_of p) (letter_of p) ≡ true) × (place_of (kind_of p) (verse_of p) (letter_of p) ≡ p)))
+IsRead p = (leb (kind_of p) 1 ≡ true)
+    × (((verse_of p < 2 ^ 16) × (is_verse (kind_of p) (verse_of p) ≡ true))
+    × ((is_letter_byte (kind_of p) (letter_of p) ≡ true) × (place_of (kind_of p) (verse_of p) (letter_of p) ≡ p)))
 
 lettered : (n c : ℕ) → is_letter_byte 1 c ≡ true → place_of 1 n c ≡ Verse n (Some c) → is_letter (Some c) ≡ true
 lettered n zero h e = absurd cc
@@ -240,7 +253,8 @@ operation_reads k before =
     (step (λ (o : Operation). o.segment.book) (block_reads 3 is_book_code (BadKey k)) (λ book.
     step (λ (o : Operation). o.segment.key) (key_reads (BadKey k)) (λ key.
     step (λ (o : Operation). o.replaced) (replaced_reads (BadReplaced k) i) (λ replaced.
-    step (λ (o : Operation). o.text) (body_reads k) (λ text. checked (is_utf8 text) (NotUtf8 k) (checked (text_fits book key text) (BadText k)
+    step (λ (o : Operation). o.text) (body_reads k)
+    (λ text. checked (is_utf8 text) (NotUtf8 k) (checked (text_fits book key text) (BadText k)
     (ends (record { id = i; segment = segment book key; replaced = replaced; text = text }))))
     (λ text o _ f. ap (λ (x : Operation). x.text) (sym f.1.1)))
     (λ replaced o _ f. ap (λ (x : Operation). x.replaced) (sym f.1.1.1)))
@@ -263,8 +277,16 @@ operation_reads k before =
     ))
     (λ o f.
     let fits = f.1.0 in
-    let segment = and_parts (is_book_code o.segment.book) (is_key o.segment.key.chapter o.segment.key.place) fits.segment in
-    (fits.id, (f.0, ((code_length o.segment.book segment.0, segment.0), (segment.1, ((f.1.1.replaced, (fits.ids, fits.falls)), (f.1.1.text, (is_utf8-from_IsUtf8 o.text fits.text, (fits.fits, refl)))))))))
+    let segment = and_parts (is_book_code o.segment.book) (is_key o.segment.key.chapter o.segment.key.place) fits.segment in (
+      fits.id,
+      (
+        f.0,
+        (
+          (code_length o.segment.book segment.0, segment.0),
+          (segment.1, ((f.1.1.replaced, (fits.ids, fits.falls)), (f.1.1.text, (is_utf8-from_IsUtf8 o.text fits.text, (fits.fits, refl))))),
+        ),
+      ),
+    ))
     (λ o f. ap (λ (w : List ℕ). id o.id ++ (o.segment.book ++ (key o.segment.key ++ (ids o.replaced ++ w)))) (append-nil (body o.text)))
 
 -- ---- a bundle
@@ -273,15 +295,18 @@ operation_reads k before =
 abbrev pub FollowsAt : ℕ × Option Id → Operation → Type 0
 FollowsAt s o = Follows s.1 o
 
-each_climbs_ops : (k : ℕ) (before : Option Id) (ops : List Operation) → Each FollowsAt after_operation (k, before) ops → Climbs (λ o. o.id) before ops
+each_climbs_ops : (k : ℕ) (before : Option Id) (ops : List Operation) → Each FollowsAt after_operation (k, before) ops
+    → Climbs (λ o. o.id) before ops
 each_climbs_ops k before [] e = tt
 each_climbs_ops k before (o ∷ ops) e = (e.0.0, each_climbs_ops (k + 1) (Some o.id) ops e.1)
 
-each_fits : (k : ℕ) (before : Option Id) (ops : List Operation) → Each FollowsAt after_operation (k, before) ops → AllByRecursion IsOperation ops × AllByRecursion IsCounted ops
+each_fits : (k : ℕ) (before : Option Id) (ops : List Operation) → Each FollowsAt after_operation (k, before) ops
+    → AllByRecursion IsOperation ops × AllByRecursion IsCounted ops
 each_fits k before [] e = (tt, tt)
 each_fits k before (o ∷ ops) e = let p = each_fits (k + 1) (Some o.id) ops e.1 in ((e.0.1.0, p.0), (e.0.1.1, p.1))
 
-pub each_follows : (k : ℕ) (before : Option Id) (ops : List Operation) → Climbs (λ o. o.id) before ops → AllByRecursion IsOperation ops → AllByRecursion IsCounted ops → Each FollowsAt after_operation (k, before) ops
+pub each_follows : (k : ℕ) (before : Option Id) (ops : List Operation) → Climbs (λ o. o.id) before ops → AllByRecursion IsOperation ops
+    → AllByRecursion IsCounted ops → Each FollowsAt after_operation (k, before) ops
 each_follows k before [] c a b = tt
 each_follows k before (o ∷ ops) c a b = ((c.0, (a.0, b.0)), each_follows (k + 1) (Some o.id) ops c.1 a.1 b.1)
 
@@ -301,7 +326,10 @@ bundle_reads =
     many_reads (λ s. operation_at s.0 s.1) after_operation operation FollowsAt (λ s. operation_reads s.0 s.1) count (1, None))
     (λ count ops _ f. f.0))
     (λ _ ops _ f. refl))
-    (λ ops f. let p = each_fits 1 None ops f.1.1.1 in
-    (record { rising = rises-from_climbs (λ o. o.id) None ops (each_climbs_ops 1 None ops f.1.1.1); each = p.0 }, record { count = f.1.0.0; each = p.1 }))
+    (λ ops f. let p = each_fits 1 None ops f.1.1.1 in (
+      record { rising = rises-from_climbs (λ o. o.id) None ops (each_climbs_ops 1 None ops f.1.1.1); each = p.0 },
+      record
+          { count = f.1.0.0; each = p.1 },
+    ))
     (λ ops f. (tt, ((f.1.count, refl), (refl, operations_follow ops f))))
     (λ ops f. refl)

@@ -32,19 +32,23 @@ pub record Front {A : Type 0} (read : Reader A) (spell : A → List ℕ) (Fits :
   pub parts : bytes ≡ spell first ++ left
   pub fits : Fits first
 
-pub front : {A : Type 0} {read : Reader A} {spell : A → List ℕ} {Fits : A → Type 0} → Reads read spell Fits → (bytes : List ℕ) → AreBytes bytes → IsOk (read bytes) → Front read spell Fits bytes
+pub front : {A : Type 0} {read : Reader A} {spell : A → List ℕ} {Fits : A → Type 0} → Reads read spell Fits → (bytes : List ℕ)
+    → AreBytes bytes → IsOk (read bytes) → Front read spell Fits bytes
 front {read = read} {spell = spell} {Fits = Fits} reads bytes fine h = by (read bytes) refl h
   where
     by : (r : Result _ BundleFault) → read bytes ≡ r → IsOk r → Front read spell Fits bytes
-    by (Ok x) e h = let t = reads.takes bytes x.0 x.1 fine e in record { first = x.0; left = x.1; is_read = e; parts = t.0.parts; fits = t.1 }
+    by (Ok x) e h =
+        let t = reads.takes bytes x.0 x.1 fine e in record { first = x.0; left = x.1; is_read = e; parts = t.0.parts; fits = t.1 }
     by (Err f) e h = absurd cc
 
 -- what is spelled at the front is read
-pub at_front : {A : Type 0} {read : Reader A} {spell : A → List ℕ} {Fits : A → Type 0} → Reads read spell Fits → (x : A) (left bytes : List ℕ) → bytes ≡ spell x ++ left → Fits x → read bytes ≡ Ok (x, left)
+pub at_front : {A : Type 0} {read : Reader A} {spell : A → List ℕ} {Fits : A → Type 0} → Reads read spell Fits
+    → (x : A) (left bytes : List ℕ) → bytes ≡ spell x ++ left → Fits x → read bytes ≡ Ok (x, left)
 at_front {read = read} reads x left bytes e fits = ap read e ∙ reads.again x left fits
 
 -- a reading has one answer
-module _ {A : Type 0} (r : Result (A × List ℕ) BundleFault) (x y : A) (left rest : List ℕ) (e : r ≡ Ok (x, left)) (f : r ≡ Ok (y, rest)) where
+module _ {A : Type 0} (r : Result (A × List ℕ) BundleFault) (x y : A) (left rest : List ℕ) (e : r ≡ Ok (x, left))
+    (f : r ≡ Ok (y, rest)) where
   pub same_value : y ≡ x
   same_value = ap (λ (p : A × List ℕ). p.0) (ok_is (y, rest) (x, left) (sym f ∙ e))
 
@@ -60,7 +64,8 @@ module _ (bytes : List ℕ) (fine : AreBytes bytes) (h : IsOk (id_at Truncated b
   id_fits : is_id id_front.first ≡ true
   id_fits = id_front.fits
 
-  number_spelled : number_at w64 any Truncated bytes ≡ Ok (id_front.first.number, (length id_front.first.name ∷ id_front.first.name) ++ id_front.left)
+  number_spelled : number_at w64 any Truncated bytes
+      ≡ Ok (id_front.first.number, (length id_front.first.name ∷ id_front.first.name) ++ id_front.left)
   number_spelled =
       let i = id_front.first in
       at_front (number_reads w64 (2 ^ 64) wide64 any Truncated) i.number ((length i.name ∷ i.name) ++ id_front.left) bytes
@@ -118,7 +123,8 @@ bind_first : {A B : Type 0} (r : Result A BundleFault) (f : A → Result B Bundl
 bind_first (Ok x) f h = refl
 bind_first (Err e) f h = absurd cc
 
-found_cons : {A : Type 0} (x : A) (r : Result (List A × List ℕ) BundleFault) → IsOk r → found (r >>= λ others. Ok (x ∷ others.0, others.1)) ≡ x ∷ found r
+found_cons : {A : Type 0} (x : A) (r : Result (List A × List ℕ) BundleFault) → IsOk r
+    → found (r >>= λ others. Ok (x ∷ others.0, others.1)) ≡ x ∷ found r
 found_cons x (Ok others) h = refl
 found_cons x (Err e) h = absurd cc
 
@@ -144,14 +150,18 @@ module _ {A : Type 0} (one : Reader A) where
 
     module _ (x : A) (rest : List ℕ) (e : one bytes ≡ Ok (x, rest)) where
       pub each_rest : IsOk (each_at one (n - 1) rest)
-      each_rest = bind_first (each_at one (n - 1) rest) (λ others. Ok (x ∷ others.0, others.1)) (subst (λ (r : Result _ BundleFault). IsOk (r >>= others_after (n - 1))) e first_ok)
+      each_rest = bind_first (each_at one (n - 1) rest) (λ others. Ok (x ∷ others.0, others.1))
+          (subst (λ (r : Result _ BundleFault). IsOk (r >>= others_after (n - 1))) e first_ok)
 
       pub each_next : found (each_at one n bytes) ≡ x ∷ found (each_at one (n - 1) rest)
-      each_next = ap found (counted n bytes some ∙ ap (λ r. r >>= others_after (n - 1)) e) ∙ found_cons x (each_at one (n - 1) rest) each_rest
+      each_next =
+          ap found (counted n bytes some ∙ ap (λ r. r >>= others_after (n - 1)) e) ∙ found_cons x (each_at one (n - 1) rest) each_rest
 
   -- a loop over some values, after i of them
-  pub loop_one : (n i : ℕ) (bytes : List ℕ) (total : Result (List ℕ) BundleFault) → i < n → IsOk total → after (each_at one (n - i) bytes) ≡ total → IsOk (one bytes)
-  loop_one n i bytes total lt h so_far = each_one (n - i) bytes (omega arith) (ok_after (each_at one (n - i) bytes) (subst IsOk (sym so_far) h))
+  pub loop_one : (n i : ℕ) (bytes : List ℕ) (total : Result (List ℕ) BundleFault) → i < n → IsOk total
+      → after (each_at one (n - i) bytes) ≡ total → IsOk (one bytes)
+  loop_one n i bytes total lt h so_far =
+      each_one (n - i) bytes (omega arith) (ok_after (each_at one (n - i) bytes) (subst IsOk (sym so_far) h))
 
 -- ---- replaced ids
 
@@ -210,7 +220,9 @@ module _ (bytes : List ℕ) (fine : AreBytes bytes) (h : IsOk (operation_at 0 No
   segment_fits = and_parts (is_book_code o.segment.book) (is_key o.segment.key.chapter o.segment.key.place) op_front.fits.1.0.segment
 
   id_spelled : id_at Truncated bytes ≡ Ok (o.id, after_id)
-  id_spelled = at_front (id_reads Truncated) o.id after_id bytes (op_front.parts ∙ append_assoc (id o.id) (o.segment.book ++ (key o.segment.key ++ (ids o.replaced ++ body o.text))) op_front.left) op_front.fits.1.0.id
+  id_spelled = at_front (id_reads Truncated) o.id after_id bytes
+      (op_front.parts ∙ append_assoc (id o.id) (o.segment.book ++ (key o.segment.key ++ (ids o.replaced ++ body o.text))) op_front.left)
+      op_front.fits.1.0.id
 
   pub op_id : IsOk (id_at Truncated bytes)
   op_id = is_ok (id_at Truncated bytes) _ id_spelled
@@ -218,7 +230,8 @@ module _ (bytes : List ℕ) (fine : AreBytes bytes) (h : IsOk (operation_at 0 No
   module _ (i : Id) (rest1 : List ℕ) (one : id_at Truncated bytes ≡ Ok (i, rest1)) where
     code_spelled : block_at 3 any Truncated rest1 ≡ Ok (o.segment.book, after_code)
     code_spelled = at_front (block_reads 3 any Truncated) o.segment.book after_code rest1
-        (same_rest (id_at Truncated bytes) _ _ _ _ id_spelled one ∙ append_assoc o.segment.book (key o.segment.key ++ (ids o.replaced ++ body o.text)) op_front.left)
+        (same_rest (id_at Truncated bytes) _ _ _ _ id_spelled one
+        ∙ append_assoc o.segment.book (key o.segment.key ++ (ids o.replaced ++ body o.text)) op_front.left)
         (code_length o.segment.book segment_fits.0, refl)
 
     pub op_code : IsOk (block_at 3 any Truncated rest1)
@@ -227,7 +240,8 @@ module _ (bytes : List ℕ) (fine : AreBytes bytes) (h : IsOk (operation_at 0 No
     module _ (code rest2 : List ℕ) (two : block_at 3 any Truncated rest1 ≡ Ok (code, rest2)) where
       key_spelled : key_at (BadKey 0) rest2 ≡ Ok (o.segment.key, after_key)
       key_spelled = at_front (key_reads (BadKey 0)) o.segment.key after_key rest2
-          (same_rest (block_at 3 any Truncated rest1) _ _ _ _ code_spelled two ∙ append_assoc (key o.segment.key) (ids o.replaced ++ body o.text) op_front.left)
+          (same_rest (block_at 3 any Truncated rest1) _ _ _ _ code_spelled two
+          ∙ append_assoc (key o.segment.key) (ids o.replaced ++ body o.text) op_front.left)
           segment_fits.1
 
       pub op_key : IsOk (key_at (BadKey 0) rest2)
@@ -244,7 +258,8 @@ module _ (bytes : List ℕ) (fine : AreBytes bytes) (h : IsOk (operation_at 0 No
 
         module _ (named : List Id) (rest4 : List ℕ) (four : ids_at rest3 ≡ Ok (named, rest4)) where
           body_spelled : body_at 0 rest4 ≡ Ok (o.text, op_front.left)
-          body_spelled = at_front (body_reads 0) o.text op_front.left rest4 (same_rest (ids_at rest3) _ _ _ _ ids_spelled four) op_front.fits.1.1.text
+          body_spelled =
+              at_front (body_reads 0) o.text op_front.left rest4 (same_rest (ids_at rest3) _ _ _ _ ids_spelled four) op_front.fits.1.1.text
 
           pub op_body : IsOk (body_at 0 rest4)
           op_body = is_ok (body_at 0 rest4) _ body_spelled
@@ -259,7 +274,8 @@ module _ (bytes : List ℕ) (fine : AreBytes bytes) (h : IsOk (operation_at 0 No
             o_same : o ≡ record { id = i; segment = segment code k; replaced = named; text = text }
             o_same = λ j. record {
               id = sym (same_value (id_at Truncated bytes) _ _ _ _ id_spelled one) j;
-              segment = segment (sym (same_value (block_at 3 any Truncated rest1) _ _ _ _ code_spelled two) j) (sym (same_value (key_at (BadKey 0) rest2) _ _ _ _ key_spelled three) j);
+              segment = segment (sym (same_value (block_at 3 any Truncated rest1) _ _ _ _ code_spelled two) j)
+                  (sym (same_value (key_at (BadKey 0) rest2) _ _ _ _ key_spelled three) j);
               replaced = sym (same_value (ids_at rest3) _ _ _ _ ids_spelled four) j;
               text = text_same j;
             }

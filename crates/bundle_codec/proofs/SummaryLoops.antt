@@ -12,7 +12,8 @@ use Rattle.bundle_codec.proofs.Readers.{Reader, ok_is}
 abbrev pub behind : {A : Type 0} → List A → Result (List A × List ℕ) BundleFault → Result (List A × List ℕ) BundleFault
 behind kept read = read >>= λ others. Ok (kept ++ others.0, others.1)
 
-behind_one : {A : Type 0} (kept : List A) (x : A) (r : Result (List A × List ℕ) BundleFault) → behind kept (r >>= λ o. Ok (x ∷ o.0, o.1)) ≡ behind (kept ++ x ∷ []) r
+behind_one : {A : Type 0} (kept : List A) (x : A) (r : Result (List A × List ℕ) BundleFault)
+    → behind kept (r >>= λ o. Ok (x ∷ o.0, o.1)) ≡ behind (kept ++ x ∷ []) r
 behind_one kept x (Ok o) = ap (λ xs. Ok (xs, o.1)) (sym (append_assoc kept (x ∷ []) o.0))
 behind_one kept x (Err f) = refl
 
@@ -20,15 +21,18 @@ pub behind_none : {A : Type 0} (r : Result (List A × List ℕ) BundleFault) →
 behind_none (Ok o) = refl
 behind_none (Err f) = refl
 
-pub kept_on : {A S : Type 0} (one : S → Reader A) (next : S → A → S) (n i : ℕ) (s : S) (bytes : List ℕ) (x : A) (left : List ℕ) (kept now : List A) (total : Result (List A × List ℕ) BundleFault) → i < n → one s bytes ≡ Ok (x, left) → now ≡ kept ++ x ∷ []
+pub kept_on : {A S : Type 0} (one : S → Reader A) (next : S → A → S) (n i : ℕ) (s : S) (bytes : List ℕ) (x : A) (left : List ℕ)
+    (kept now : List A) (total : Result (List A × List ℕ) BundleFault) → i < n → one s bytes ≡ Ok (x, left) → now ≡ kept ++ x ∷ []
     → total ≡ behind kept (many_at one next (n - i) s bytes) → total ≡ behind now (many_at one next (n - (i + 1)) (next s x) left)
 unfolding many_at
 kept_on one next n i s bytes x left kept now total lt h more so_far =
     let k : n - i ≡ suc (n - (i + 1)) = omega arith in
-    let at : behind kept (many_at one next (n - i) s bytes) ≡ behind (kept ++ x ∷ []) (many_at one next (n - (i + 1)) (next s x) left) = rw (k, h) (behind_one kept x (many_at one next (n - (i + 1)) (next s x) left)) in
+    let at : behind kept (many_at one next (n - i) s bytes) ≡ behind (kept ++ x ∷ []) (many_at one next (n - (i + 1)) (next s x) left) =
+    rw (k, h) (behind_one kept x (many_at one next (n - (i + 1)) (next s x) left)) in
     so_far ∙ at ∙ ap (λ xs. behind xs (many_at one next (n - (i + 1)) (next s x) left)) (sym more)
 
-pub kept_done : {A S : Type 0} (one : S → Reader A) (next : S → A → S) (n i : ℕ) (s : S) (bytes : List ℕ) (kept : List A) (total : Result (List A × List ℕ) BundleFault) → n ≤ i
+pub kept_done : {A S : Type 0} (one : S → Reader A) (next : S → A → S) (n i : ℕ) (s : S) (bytes : List ℕ) (kept : List A)
+    (total : Result (List A × List ℕ) BundleFault) → n ≤ i
     → total ≡ behind kept (many_at one next (n - i) s bytes) → total ≡ Ok (kept, bytes)
 unfolding many_at
 kept_done one next n i s bytes kept total le so_far =
@@ -45,7 +49,8 @@ pub some_is : {A : Type 0} (P : A → Type 0) (o : Option A) (x : A) → o ≡ S
 some_is P o x e h = subst (λ (r : Option _). IfSome r P) e h
 
 -- what is kept after one thing more, if it was kept before
-pub kept_more : {A : Type 0} (P Q : A → Type 0) (R : A → A → Type 0) (before after : Option A) → ((old new : A) → P old → R old new → Q new) → IfSome before P → IfSome after (λ new. IsSomeAnd before (λ old. R old new)) → IfSome after Q
+pub kept_more : {A : Type 0} (P Q : A → Type 0) (R : A → A → Type 0) (before after : Option A) → ((old new : A) → P old → R old new → Q new)
+    → IfSome before P → IfSome after (λ new. IsSomeAnd before (λ old. R old new)) → IfSome after Q
 kept_more P Q R before None f p r = tt
 kept_more P Q R None (Some new) f p r = absurd r
 kept_more P Q R (Some old) (Some new) f p r = f old new p r
@@ -60,7 +65,11 @@ pub record NamedSo (read : Result (Known × List ℕ) BundleFault) (name left : 
 pub named_so : (read : Result (Known × List ℕ) BundleFault) (name left : List ℕ) → name_read read ≡ Ok (name, left) → NamedSo read name left
 named_so (Ok k) name left e =
     let p = ok_is (k.0.name, k.1) (name, left) e in
-    record { one = k.0; is_read = ap (λ (w : List ℕ). Ok (k.0, w)) (ap (λ (q : List ℕ × List ℕ). q.1) p); named = ap (λ (q : List ℕ × List ℕ). q.0) p }
+    record {
+      one = k.0;
+      is_read = ap (λ (w : List ℕ). Ok (k.0, w)) (ap (λ (q : List ℕ × List ℕ). q.1) p);
+      named = ap (λ (q : List ℕ × List ℕ). q.0) p;
+    }
 named_so (Err f) name left e = absurd cc
 
 pub named_fails : (read : Result (Known × List ℕ) BundleFault) (f : BundleFault) → name_read read ≡ Err f → read ≡ Err f
@@ -68,9 +77,11 @@ named_fails (Ok k) f e = absurd cc
 named_fails (Err g) f e = cc
 
 -- one name more, if it was kept with its ranges
-pub name_kept : (count i : ℕ) (before : Option (List ℕ)) (rest name left : List ℕ) (one : Option Known) (old new : List Known) (total : Result (List Known × List ℕ) BundleFault) → i < count → name_read (known_at before rest) ≡ Ok (name, left)
+pub name_kept : (count i : ℕ) (before : Option (List ℕ)) (rest name left : List ℕ) (one : Option Known) (old new : List Known)
+    (total : Result (List Known × List ℕ) BundleFault) → i < count → name_read (known_at before rest) ≡ Ok (name, left)
     → IfSome one (λ k. known_at before rest ≡ Ok (k, left)) → IsSomeAnd one (λ k. new ≡ old ++ k ∷ [])
-    → total ≡ behind old (many_at known_at after_known (count - i) before rest) → total ≡ behind new (many_at known_at after_known (count - (i + 1)) (Some name) left)
+    → total ≡ behind old (many_at known_at after_known (count - i) before rest)
+    → total ≡ behind new (many_at known_at after_known (count - (i + 1)) (Some name) left)
 name_kept count i before rest name left None old new total lt e kept more so_far = absurd more
 name_kept count i before rest name left (Some k) old new total lt e kept more so_far =
     let same : k.name ≡ name = ap (λ (p : List ℕ × List ℕ). p.0) (ok_is (k.name, left) (name, left) (sym (ap name_read kept) ∙ e)) in

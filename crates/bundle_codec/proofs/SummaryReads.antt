@@ -53,27 +53,31 @@ range_reads before =
 
 -- ---- ranges that follow one another do not touch
 
-all_more : (n m : ℕ) (rs : List NumberRange) → n ≤ m → list_all (λ (s : NumberRange). ltb (suc m) s.first) rs ≡ true → list_all (λ (s : NumberRange). ltb (suc n) s.first) rs ≡ true
+all_more : (n m : ℕ) (rs : List NumberRange) → n ≤ m → list_all (λ (s : NumberRange). ltb (suc m) s.first) rs ≡ true
+    → list_all (λ (s : NumberRange). ltb (suc n) s.first) rs ≡ true
 all_more n m [] le h = refl
 all_more n m (r ∷ rs) le h =
     let p = and_parts (ltb (suc m) r.first) (list_all (λ (s : NumberRange). ltb (suc m) s.first) rs) h in
     and_from _ _ (lt-ltb (suc n) r.first (omega (arith, ltb-true _ _ p.0))) (all_more n m rs le p.1)
 
-follow_above : (n : ℕ) (rs : List NumberRange) → Each RangeFollows after_range (Some n) rs → list_all (λ (s : NumberRange). ltb (suc n) s.first) rs ≡ true
+follow_above : (n : ℕ) (rs : List NumberRange) → Each RangeFollows after_range (Some n) rs
+    → list_all (λ (s : NumberRange). ltb (suc n) s.first) rs ≡ true
 follow_above n [] e = refl
 follow_above n (r ∷ rs) e =
     let p = and_parts (is_range r) (begins_after (Some n) r.first) e.0 in
     let b = range_bounds r p.0 in
     and_from _ _ p.1 (all_more n r.last rs (omega (arith, b.1.0, ltb-true _ _ p.1)) (follow_above r.last rs e.1))
 
-pub ranges-from_each : (before : Option ℕ) (rs : List NumberRange) → Each RangeFollows after_range before rs → (list_all is_range rs ≡ true) × (are_apart rs ≡ true)
+pub ranges-from_each : (before : Option ℕ) (rs : List NumberRange) → Each RangeFollows after_range before rs
+    → (list_all is_range rs ≡ true) × (are_apart rs ≡ true)
 ranges-from_each before [] e = (refl, refl)
 ranges-from_each before (r ∷ rs) e =
     let p = and_parts (is_range r) (begins_after before r.first) e.0 in
     let q = ranges-from_each (Some r.last) rs e.1 in
     (and_from _ _ p.0 q.0, and_from _ _ (follow_above r.last rs e.1) q.1)
 
-each_above : (n : ℕ) (rs : List NumberRange) → list_all is_range rs ≡ true → are_apart rs ≡ true → list_all (λ (s : NumberRange). ltb (suc n) s.first) rs ≡ true → Each RangeFollows after_range (Some n) rs
+each_above : (n : ℕ) (rs : List NumberRange) → list_all is_range rs ≡ true → are_apart rs ≡ true
+    → list_all (λ (s : NumberRange). ltb (suc n) s.first) rs ≡ true → Each RangeFollows after_range (Some n) rs
 each_above n [] a b c = tt
 each_above n (r ∷ rs) a b c =
     let p = and_parts (is_range r) (list_all is_range rs) a in
@@ -110,7 +114,8 @@ name_reads before =
     (λ n f. ap (λ (w : List ℕ). length n ∷ w) (append-nil n))
 
 abbrev pub KnownFollows : Option (List ℕ) → Known → Type 0
-KnownFollows before k = NameFollows before k.name × (((length k.ranges < 2 ^ 64) × (leb 1 (length k.ranges) ≡ true)) × Each RangeFollows after_range None k.ranges)
+KnownFollows before k = NameFollows before k.name
+    × (((length k.ranges < 2 ^ 64) × (leb 1 (length k.ranges) ≡ true)) × Each RangeFollows after_range None k.ranges)
 
 pub known_reads : (before : Option (List ℕ)) → Reads (known_at before) known (KnownFollows before)
 unfolding known_at
@@ -125,16 +130,22 @@ known_reads before =
     (λ name k _ f. ap (λ (x : Known). x.name) (sym f.1.1)))
     (λ k f. (f.0, (f.1.0, f.1.1.0.1)))
     (λ k f. (f.0, (f.1.0, ((refl, f.1.1), refl))))
-    (λ k f. ap (λ (w : List ℕ). (length k.name ∷ k.name) ++ (to_be_bytes w64 (length k.ranges) ++ w)) (append-nil (flat_map range k.ranges)))
+    (λ k f. ap (λ (w : List ℕ). (length k.name ∷ k.name) ++ (to_be_bytes w64 (length k.ranges) ++ w))
+    (append-nil (flat_map range k.ranges)))
 
-pub name_is_read : (before : Option (List ℕ)) (bytes name rest : List ℕ) → AreBytes bytes → name_at before bytes ≡ Ok (name, rest) → is_name name ≡ true
+pub name_is_read : (before : Option (List ℕ)) (bytes name rest : List ℕ) → AreBytes bytes → name_at before bytes ≡ Ok (name, rest)
+    → is_name name ≡ true
 name_is_read before bytes name rest fits one = ((name_reads before).takes bytes name rest fits one).1.0
 
 -- what a name with its ranges was read as
-module _ (before : Option (List ℕ)) (bytes name mid : List ℕ) (count : ℕ) (more : List ℕ) (ranges : List NumberRange) (rest : List ℕ) (fits : AreBytes bytes)
-    (one : name_at before bytes ≡ Ok (name, mid)) (two : number_at w64 any bad mid ≡ Ok (count, more)) (three : ranges_at count more ≡ Ok (ranges, rest)) where
+module _ (before : Option (List ℕ)) (bytes name mid : List ℕ) (count : ℕ) (more : List ℕ) (ranges : List NumberRange) (rest : List ℕ)
+    (fits : AreBytes bytes)
+    (one : name_at before bytes ≡ Ok (name, mid)) (two : number_at w64 any bad mid ≡ Ok (count, more))
+    (three : ranges_at count more ≡ Ok (ranges, rest)) where
   more_fits : AreBytes more
-  more_fits = ((number_reads w64 (2 ^ 64) wide64 any bad).takes mid count more ((name_reads before).takes bytes name mid fits one).0.rest_fits two).0.rest_fits
+  more_fits =
+      ((number_reads w64 (2 ^ 64) wide64 any bad).takes mid count more
+      ((name_reads before).takes bytes name mid fits one).0.rest_fits two).0.rest_fits
 
   ranges_read : (length ranges ≡ count) × Each RangeFollows after_range None ranges
   ranges_read = ((many_reads range_at after_range range RangeFollows range_reads count None).takes more ranges rest more_fits three).1
@@ -150,9 +161,11 @@ module _ (before : Option (List ℕ)) (bytes name mid : List ℕ) (count : ℕ) 
 
 -- ---- names that follow one another rise
 
-names_above : (name : List ℕ) (ks : List Known) → Each KnownFollows after_known (Some name) ks → list_all (λ (k : Known). is_lt (name_cmp name k.name)) ks ≡ true
+names_above : (name : List ℕ) (ks : List Known) → Each KnownFollows after_known (Some name) ks
+    → list_all (λ (k : Known). is_lt (name_cmp name k.name)) ks ≡ true
 names_above name [] e = refl
-names_above name (k ∷ ks) e = and_from _ _ e.0.0.1 (above_trans name_cmp name_total (λ (x : Known). x.name) name k.name ks (is_less _ e.0.0.1) (names_above k.name ks e.1))
+names_above name (k ∷ ks) e = and_from _ _ e.0.0.1
+    (above_trans name_cmp name_total (λ (x : Known). x.name) name k.name ks (is_less _ e.0.0.1) (names_above k.name ks e.1))
 
 some_ranges : (rs : List NumberRange) → leb 1 (length rs) ≡ true → rs ≢ []
 some_ranges rs h none = absurd (omega (arith, leb-true _ _ h, ap length none))
@@ -170,25 +183,31 @@ known-from_follows before k f =
 abbrev pub RangesCounted : List Known → Type 0
 RangesCounted ks = AllByRecursion (λ (k : Known). length k.ranges < 2 ^ 64) ks
 
-rises-from_each : (before : Option (List ℕ)) (ks : List Known) → Each KnownFollows after_known before ks → rises_by name_cmp (λ (k : Known). k.name) ks ≡ true
+rises-from_each : (before : Option (List ℕ)) (ks : List Known) → Each KnownFollows after_known before ks
+    → rises_by name_cmp (λ (k : Known). k.name) ks ≡ true
 rises-from_each before [] e = refl
 rises-from_each before (k ∷ ks) e = and_from _ _ (names_above k.name ks e.1) (rises-from_each (Some k.name) ks e.1)
 
-each_known : (before : Option (List ℕ)) (ks : List Known) → Each KnownFollows after_known before ks → AllByRecursion IsKnown ks × RangesCounted ks
+each_known : (before : Option (List ℕ)) (ks : List Known) → Each KnownFollows after_known before ks
+    → AllByRecursion IsKnown ks × RangesCounted ks
 each_known before [] e = (tt, tt)
 each_known before (k ∷ ks) e = let p = each_known (Some k.name) ks e.1 in ((known-from_follows before k e.0, p.0), (e.0.1.0.0, p.1))
 
-known_follows : (before : Option (List ℕ)) (k : Known) → IsKnown k → length k.ranges < 2 ^ 64 → name_after before k.name ≡ true → KnownFollows before k
+known_follows : (before : Option (List ℕ)) (k : Known) → IsKnown k → length k.ranges < 2 ^ 64 → name_after before k.name ≡ true
+    → KnownFollows before k
 known_follows before k h short a = ((h.name, a), ((short, counted_some k.ranges h.some), each-from_ranges k.ranges h.each h.apart))
 
-each_after : (name : List ℕ) (ks : List Known) → AllByRecursion IsKnown ks → RangesCounted ks → rises_by name_cmp (λ (k : Known). k.name) ks ≡ true → list_all (λ (k : Known). is_lt (name_cmp name k.name)) ks ≡ true → Each KnownFollows after_known (Some name) ks
+each_after : (name : List ℕ) (ks : List Known) → AllByRecursion IsKnown ks → RangesCounted ks
+    → rises_by name_cmp (λ (k : Known). k.name) ks ≡ true → list_all (λ (k : Known). is_lt (name_cmp name k.name)) ks ≡ true
+    → Each KnownFollows after_known (Some name) ks
 each_after name [] a c r b = tt
 each_after name (k ∷ ks) a c r b =
     let p = and_parts (list_all (λ (x : Known). is_lt (name_cmp k.name x.name)) ks) (rises_by name_cmp (λ (x : Known). x.name) ks) r in
     let q = and_parts (is_lt (name_cmp name k.name)) (list_all (λ (x : Known). is_lt (name_cmp name x.name)) ks) b in
     (known_follows (Some name) k a.0 c.0 q.0, each_after k.name ks a.1 c.1 p.1 p.0)
 
-each-from_names : (ks : List Known) → AllByRecursion IsKnown ks → RangesCounted ks → rises_by name_cmp (λ (k : Known). k.name) ks ≡ true → Each KnownFollows after_known None ks
+each-from_names : (ks : List Known) → AllByRecursion IsKnown ks → RangesCounted ks → rises_by name_cmp (λ (k : Known). k.name) ks ≡ true
+    → Each KnownFollows after_known None ks
 each-from_names [] a c r = tt
 each-from_names (k ∷ ks) a c r =
     let p = and_parts (list_all (λ (x : Known). is_lt (name_cmp k.name x.name)) ks) (rises_by name_cmp (λ (x : Known). x.name) ks) r in

@@ -32,7 +32,8 @@ known_some k = omega (arith, known_length k)
 counted_each : (ks : List Known) → length (flat_map known ks) < 2 ^ 64 → RangesCounted ks
 counted_each [] h = tt
 counted_each (k ∷ ks) h =
-    let parts : length (flat_map known (k ∷ ks)) ≡ length (known k) + length (flat_map known ks) = ap length (flat_map-cons known k ks) ∙ length-append (known k) (flat_map known ks) in
+    let parts : length (flat_map known (k ∷ ks)) ≡ length (known k) + length (flat_map known ks) =
+    ap length (flat_map-cons known k ks) ∙ length-append (known k) (flat_map known ks) in
     (omega (arith, known_length k, flat_map_long range range_some k.ranges), counted_each ks (omega arith))
 
 pub counted-from_length : (s : List Known) → IsSummary s → length (summary s) < 2 ^ 64 → IsCountedSummary s
@@ -52,7 +53,8 @@ is_nil (x ∷ xs) e = absurd (omega (arith, eqb-true (length (x ∷ xs)) 0 (sym 
 pub not_nil : (xs : List ℕ) → false ≡ eqb (length xs) 0 → xs ≢ []
 not_nil xs e h = absurd (false≢true (e ∙ ap (λ (ys : List ℕ). eqb (length ys) 0) h))
 
-pub is_read : (s : List Known) (rest : List ℕ) → IsSummary s → length (summary s ++ rest) < 2 ^ 64 → summary_at (summary s ++ rest) ≡ Ok (s, rest)
+pub is_read : (s : List Known) (rest : List ℕ) → IsSummary s → length (summary s ++ rest) < 2 ^ 64
+    → summary_at (summary s ++ rest) ≡ Ok (s, rest)
 is_read s rest form short = summary_reads.again s rest (counted-from_length s form (omega (arith, length-append (summary s) rest)))
 
 -- a summary is read to its end as what it spells
@@ -62,7 +64,8 @@ spelled_read bytes short h =
     ap summary_at alone ∙ is_read h.names [] h.form (omega (arith, ap length alone))
 
 -- what is read to its end is a summary, which the bytes spell
-pub read_is : (bytes : List ℕ) → AreBytes bytes → (s : List Known) (rest : List ℕ) → rest ≡ [] → summary_at bytes ≡ Ok (s, rest) → IsSummary s × (bytes ≡ summary s)
+pub read_is : (bytes : List ℕ) → AreBytes bytes → (s : List Known) (rest : List ℕ) → rest ≡ [] → summary_at bytes ≡ Ok (s, rest)
+    → IsSummary s × (bytes ≡ summary s)
 read_is bytes fits s rest none e =
     let t = summary_reads.takes bytes s rest fits e in
     (t.1.0, t.0.parts ∙ ap (λ (w : List ℕ). summary s ++ w) none ∙ append-nil (summary s))
@@ -82,7 +85,8 @@ pub none_refused : (bytes : List ℕ) → length bytes < 2 ^ 64 → (f : BundleF
 none_refused bytes short f e h = let read = ap after (spelled_read bytes short h) in absurd cc
 
 -- nor are those that go on
-pub none_followed : (bytes : List ℕ) → length bytes < 2 ^ 64 → (rest : List ℕ) → after (summary_at bytes) ≡ Ok rest → rest ≢ [] → SpellsSummary bytes → ⊥
+pub none_followed : (bytes : List ℕ) → length bytes < 2 ^ 64 → (rest : List ℕ) → after (summary_at bytes) ≡ Ok rest → rest ≢ []
+    → SpellsSummary bytes → ⊥
 none_followed bytes short rest e some h = some (ok_is rest [] (sym e ∙ ap after (spelled_read bytes short h)))
 
 -- ---- as a whole reading says it
@@ -103,7 +107,8 @@ pub read_ends : (r : Result (List Known × List ℕ) BundleFault) (rest : List �
 read_ends (Ok x) rest e none = ap (λ (w : List ℕ). is_some (nothing_behind x.0 w)) (ok_is x.1 rest e ∙ none)
 read_ends (Err g) rest e none = absurd cc
 
-pub read_gives : (r : Result (List Known × List ℕ) BundleFault) (s : List Known) (rest : List ℕ) → rest ≡ [] → r ≡ Ok (s, rest) → read_whole r ≡ Some s
+pub read_gives : (r : Result (List Known × List ℕ) BundleFault) (s : List Known) (rest : List ℕ) → rest ≡ [] → r ≡ Ok (s, rest)
+    → read_whole r ≡ Some s
 read_gives r s rest none e = ap read_whole e ∙ ap (nothing_behind s) none
 
 -- one summary has one spelling, and one spelling is of one summary
@@ -119,7 +124,8 @@ unfolding summary
 summary_fronted s = append_assoc summary_magic (to_be_bytes w64 (length s)) (flat_map known s)
 
 -- bytes with one thing more of a list behind them
-pub pushed_on : {A : Type 0} (f : A → List ℕ) (xs : List A) (i : ℕ) (d : A) (bytes new whole : List ℕ) → i < length xs → new ≡ bytes ++ f (get_or xs i d)
+pub pushed_on : {A : Type 0} (f : A → List ℕ) (xs : List A) (i : ℕ) (d : A) (bytes new whole : List ℕ) → i < length xs
+    → new ≡ bytes ++ f (get_or xs i d)
     → bytes ++ flat_map f (drop i xs) ≡ whole → new ++ flat_map f (drop (i + 1) xs) ≡ whole
 pushed_on f xs i d bytes new whole lt more so_far =
     ap (λ (w : List ℕ). w ++ flat_map f (drop (i + 1) xs)) more

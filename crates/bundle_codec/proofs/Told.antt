@@ -59,11 +59,14 @@ over : (n k m : ℕ) → n ≤ k → (k ≡ n → ⊥) → suc n ≡ m → m ≤
 over n k m le ne e = elim (cases_lt n k) [ inl lt ↦ omega (arith, lt, e) | inr more ↦ absurd (ne (omega (arith, le, more))) ]
 
 -- one number before a range that it touches
-lies_longer : (n k : ℕ) (r : NumberRange) → is_range r ≡ true → suc n ≡ r.first → lies_in k (record { first = n; last = r.last }) ≡ (eqb k n || lies_in k r)
+lies_longer : (n k : ℕ) (r : NumberRange) → is_range r ≡ true → suc n ≡ r.first
+    → lies_in k (record { first = n; last = r.last }) ≡ (eqb k n || lies_in k r)
 lies_longer n k r h e = by (eqb k n) (lies_in k r) (range_bounds r h) refl refl
   where
-    by : (c d : Bool) → (1 ≤ r.first) × ((r.first ≤ r.last) × (r.last ≤ 1000000000000000)) → eqb k n ≡ c → lies_in k r ≡ d → lies_in k (record { first = n; last = r.last }) ≡ (c || d)
-    by true d o g f = let same = eqb-true k n g in lies_yes k (record { first = n; last = r.last }) (omega (arith, same)) (omega (arith, same, e, o.1.0))
+    by : (c d : Bool) → (1 ≤ r.first) × ((r.first ≤ r.last) × (r.last ≤ 1000000000000000)) → eqb k n ≡ c → lies_in k r ≡ d
+        → lies_in k (record { first = n; last = r.last }) ≡ (c || d)
+    by true d o g f =
+        let same = eqb-true k n g in lies_yes k (record { first = n; last = r.last }) (omega (arith, same)) (omega (arith, same, e, o.1.0))
     by false true o g f = let p = lies_bounds k r f in lies_yes k (record { first = n; last = r.last }) (omega (arith, p.0, e)) p.1
     by false false o g f =
         let other = eqb-false k n g in
@@ -76,11 +79,13 @@ from_more n m (r ∷ rs) le h =
     and_from _ _ (lt-ltb n r.first (omega (arith, le, ltb-true _ _ p.0))) (from_more n m rs le p.1)
 
 -- ranges behind the first are more than one above a number that the first does not touch
-apart_from : (n : ℕ) (r : NumberRange) (rs : List NumberRange) → is_range r ≡ true → ltb n r.first ≡ true → (suc n ≡ r.first → ⊥) → list_all (λ (s : NumberRange). ltb (suc r.last) s.first) rs ≡ true
+apart_from : (n : ℕ) (r : NumberRange) (rs : List NumberRange) → is_range r ≡ true → ltb n r.first ≡ true → (suc n ≡ r.first → ⊥)
+    → list_all (λ (s : NumberRange). ltb (suc r.last) s.first) rs ≡ true
     → list_all (λ (s : NumberRange). ltb (suc n) s.first) (r ∷ rs) ≡ true
 apart_from n r rs h lt ne behind =
     let b = range_bounds r h in
-    and_from _ _ (lt-ltb (suc n) r.first (gap n r.first (ltb-true _ _ lt) ne)) (from_more (suc n) (suc r.last) rs (omega (arith, ltb-true _ _ lt, b.1.0)) behind)
+    and_from _ _ (lt-ltb (suc n) r.first (gap n r.first (ltb-true _ _ lt) ne))
+    (from_more (suc n) (suc r.last) rs (omega (arith, ltb-true _ _ lt, b.1.0)) behind)
   where
     gap : (n m : ℕ) → n < m → (suc n ≡ m → ⊥) → suc n < m
     gap n m lt ne = elim (cases_lt (suc n) m) [ inl more ↦ more | inr le ↦ absurd (ne (omega (arith, lt, le))) ]
@@ -112,7 +117,8 @@ made_first n ns (r ∷ rs) num over m = by (eqb (suc n) r.first) refl
           from = λ k h.
               let p = and_parts (ltb k n) (list_all (λ x. ltb k x) ns) h in
               and_from _ _ p.0 (and_parts (ltb k r.first) (list_all (λ (x : NumberRange). ltb k x.first) rs) (m.from k p.1)).1;
-          has = λ k. ap (λ b. b || has_number rs k) (lies_longer n k r f.0 touch) ∙ or_assoc (eqb k n) (lies_in k r) (has_number rs k) ∙ ap (λ b. eqb k n || b) (m.has k);
+          has = λ k. ap (λ b. b || has_number rs k) (lies_longer n k r f.0 touch) ∙ or_assoc (eqb k n) (lies_in k r) (has_number rs k)
+              ∙ ap (λ b. eqb k n || b) (m.has k);
         }
     by false e =
         let b = number_bounds n num in
@@ -145,22 +151,41 @@ ranges_some (n ∷ ns) some = with_first_some n (ranges_of ns)
 
 -- ---- the numbers of a name
 
-numbers_over : (n : ℕ) (q : List ℕ) (ops : List Operation) → list_all (λ (p : Operation). id_below (id_of n q) p.id) ops ≡ true → Over n (numbers_of ops q)
+numbers_over : (n : ℕ) (q : List ℕ) (ops : List Operation) → list_all (λ (p : Operation). id_below (id_of n q) p.id) ops ≡ true
+    → Over n (numbers_of ops q)
 numbers_over n q [] h = refl
-numbers_over n q (o ∷ ops) h = by (same_bytes o.id.name q) refl (and_parts (id_below (id_of n q) o.id) (list_all (λ (p : Operation). id_below (id_of n q) p.id) ops) h) (λ a. numbers_over n q ops a)
+numbers_over n q (o ∷ ops) h = by (same_bytes o.id.name q) refl
+    (and_parts (id_below (id_of n q) o.id) (list_all (λ (p : Operation). id_below (id_of n q) p.id) ops) h) (λ a. numbers_over n q ops a)
   where
-    by : (b : Bool) → same_bytes o.id.name q ≡ b → (id_below (id_of n q) o.id ≡ true) × (list_all (λ (p : Operation). id_below (id_of n q) p.id) ops ≡ true) → (list_all (λ (p : Operation). id_below (id_of n q) p.id) ops ≡ true → Over n (numbers_of ops q)) → Over n (map (λ (x : Operation). x.id.number) (cond b (o ∷ filter (λ (x : Operation). same_bytes x.id.name q) ops) (filter (λ (x : Operation). same_bytes x.id.name q) ops)))
+    by : (b : Bool) → same_bytes o.id.name q ≡ b
+        → (id_below (id_of n q) o.id ≡ true) × (list_all (λ (p : Operation). id_below (id_of n q) p.id) ops ≡ true)
+        → (list_all (λ (p : Operation). id_below (id_of n q) p.id) ops ≡ true → Over n (numbers_of ops q))
+        → Over n (map (λ (x : Operation). x.id.number) (cond b (o ∷ filter (λ (x : Operation). same_bytes x.id.name q) ops)
+        (filter (λ (x : Operation). same_bytes x.id.name q) ops)))
     by true e p on =
-        let below : id_below (id_of n o.id.name) o.id ≡ true = subst (λ (w : List ℕ). id_below (id_of n w) o.id ≡ true) (sym (same_bytes-is o.id.name q e)) p.0 in
+        let below : id_below (id_of n o.id.name) o.id ≡ true =
+        subst (λ (w : List ℕ). id_below (id_of n w) o.id ≡ true) (sym (same_bytes-is o.id.name q e)) p.0 in
         and_from _ _ (lt-ltb n o.id.number (below_strict n o.id below)) (on p.1)
     by false e p on = on p.1
 
 are_numbers : (q : List ℕ) (ops : List Operation) → rises ops ≡ true → AllByRecursion IsOperation ops → AreNumbers (numbers_of ops q)
 are_numbers q [] h a = tt
-are_numbers q (o ∷ ops) h a = by (same_bytes o.id.name q) refl (and_parts (list_all (λ (x : Operation). id_below o.id x.id) ops) (rises ops) h) (λ r. are_numbers q ops r a.1)
+are_numbers q (o ∷ ops) h a = by (same_bytes o.id.name q) refl
+    (and_parts (list_all (λ (x : Operation). id_below o.id x.id) ops) (rises ops) h) (λ r. are_numbers q ops r a.1)
   where
-    by : (b : Bool) → same_bytes o.id.name q ≡ b → (list_all (λ (x : Operation). id_below o.id x.id) ops ≡ true) × (rises ops ≡ true) → (rises ops ≡ true → AreNumbers (numbers_of ops q)) → AreNumbers (map (λ (x : Operation). x.id.number) (cond b (o ∷ filter (λ (x : Operation). same_bytes x.id.name q) ops) (filter (λ (x : Operation). same_bytes x.id.name q) ops)))
-    by true e p on = ((and_parts (is_number o.id.number) (is_name o.id.name) a.0.id).0, (numbers_over o.id.number q ops (subst (λ (w : List ℕ). list_all (λ (x : Operation). id_below (id_of o.id.number w) x.id) ops ≡ true) (same_bytes-is o.id.name q e) p.0), on p.1))
+    by : (b : Bool) → same_bytes o.id.name q ≡ b → (list_all (λ (x : Operation). id_below o.id x.id) ops ≡ true) × (rises ops ≡ true)
+        → (rises ops ≡ true → AreNumbers (numbers_of ops q))
+        → AreNumbers (map (λ (x : Operation). x.id.number) (cond b (o ∷ filter (λ (x : Operation). same_bytes x.id.name q) ops)
+        (filter (λ (x : Operation). same_bytes x.id.name q) ops)))
+    by true e p on = (
+      (and_parts (is_number o.id.number) (is_name o.id.name) a.0.id).0,
+      (
+        numbers_over o.id.number q ops
+            (subst (λ (w : List ℕ). list_all (λ (x : Operation). id_below (id_of o.id.number w) x.id) ops ≡ true)
+            (same_bytes-is o.id.name q e) p.0),
+        on p.1,
+      ),
+    )
     by false e p on = on p.1
 
 same_back : (a b : List ℕ) → same_bytes a b ≡ same_bytes b a
@@ -177,8 +202,11 @@ among : (q : List ℕ) (k : ℕ) (ops : List Operation) → list_any (eqb k) (nu
 among q k [] = refl
 among q k (o ∷ ops) = by (same_bytes o.id.name q) (eqb k o.id.number) refl refl (among q k ops)
   where
-    by : (b c : Bool) → same_bytes o.id.name q ≡ b → eqb k o.id.number ≡ c → list_any (eqb k) (numbers_of ops q) ≡ is_some (get ops (id_of k q))
-        → list_any (eqb k) (map (λ (x : Operation). x.id.number) (cond b (o ∷ filter (λ (x : Operation). same_bytes x.id.name q) ops) (filter (λ (x : Operation). same_bytes x.id.name q) ops))) ≡ is_some (cond (eqb k o.id.number && same_bytes q o.id.name) (Some o) (get ops (id_of k q)))
+    by : (b c : Bool) → same_bytes o.id.name q ≡ b → eqb k o.id.number ≡ c
+        → list_any (eqb k) (numbers_of ops q) ≡ is_some (get ops (id_of k q))
+        → list_any (eqb k) (map (λ (x : Operation). x.id.number)
+        (cond b (o ∷ filter (λ (x : Operation). same_bytes x.id.name q) ops) (filter (λ (x : Operation). same_bytes x.id.name q) ops)))
+        ≡ is_some (cond (eqb k o.id.number && same_bytes q o.id.name) (Some o) (get ops (id_of k q)))
     by true true e f rest = rw (f, same_back q o.id.name ∙ e) refl
     by true false e f rest = rw f rest
     by false true e f rest = rw (f, same_back q o.id.name ∙ e) rest
@@ -202,7 +230,8 @@ module _ (q : List ℕ) where
   any_item k [] h = ap (λ b. b || false) h
   any_item k (x ∷ xs) h = by (name_cmp k x) refl (any_item k xs h)
     where
-      by : (o : Ordering) → name_cmp k x ≡ o → list_any is_q (with_item name_cmp k xs) ≡ true → list_any is_q (by_order o (k ∷ x ∷ xs) (x ∷ xs) (x ∷ with_item name_cmp k xs)) ≡ true
+      by : (o : Ordering) → name_cmp k x ≡ o → list_any is_q (with_item name_cmp k xs) ≡ true
+          → list_any is_q (by_order o (k ∷ x ∷ xs) (x ∷ xs) (x ∷ with_item name_cmp k xs)) ≡ true
       by Less e rest = ap (λ b. b || list_any is_q (x ∷ xs)) h
       by Equal e rest =
           let same : x ≡ k = same_bytes-is x k (same_tied k x ∙ ap is_eq e) in
@@ -213,11 +242,13 @@ module _ (q : List ℕ) where
   any_items k [] h = absurd (true≢false (sym h))
   any_items k (x ∷ xs) h = by (name_cmp k x) refl (λ e. any_items k xs e)
     where
-      on : (b : Bool) → is_q x ≡ b → (list_any is_q xs ≡ true → list_any is_q (with_item name_cmp k xs) ≡ true) → (is_q x || list_any is_q (with_item name_cmp k xs)) ≡ true
+      on : (b : Bool) → is_q x ≡ b → (list_any is_q xs ≡ true → list_any is_q (with_item name_cmp k xs) ≡ true)
+          → (is_q x || list_any is_q (with_item name_cmp k xs)) ≡ true
       on true e rest = ap (λ b. b || list_any is_q (with_item name_cmp k xs)) e
       on false e rest = ap (λ b. b || list_any is_q (with_item name_cmp k xs)) e ∙ rest (sym (ap (λ b. b || list_any is_q xs) e) ∙ h)
 
-      by : (o : Ordering) → name_cmp k x ≡ o → (list_any is_q xs ≡ true → list_any is_q (with_item name_cmp k xs) ≡ true) → list_any is_q (by_order o (k ∷ x ∷ xs) (x ∷ xs) (x ∷ with_item name_cmp k xs)) ≡ true
+      by : (o : Ordering) → name_cmp k x ≡ o → (list_any is_q xs ≡ true → list_any is_q (with_item name_cmp k xs) ≡ true)
+          → list_any is_q (by_order o (k ∷ x ∷ xs) (x ∷ xs) (x ∷ with_item name_cmp k xs)) ≡ true
       by Less e rest = ap (λ b. is_q k || b) h ∙ or_true (is_q k)
       by Equal e rest = h
       by Greater e rest = on (is_q x) refl rest
@@ -226,18 +257,24 @@ module _ (q : List ℕ) where
   any_rising [] h = h
   any_rising (x ∷ xs) h = by (is_q x) refl (λ e. any_rising xs e)
     where
-      by : (b : Bool) → is_q x ≡ b → (list_any is_q xs ≡ true → list_any is_q (rising name_cmp xs) ≡ true) → list_any is_q (with_item name_cmp x (rising name_cmp xs)) ≡ true
+      by : (b : Bool) → is_q x ≡ b → (list_any is_q xs ≡ true → list_any is_q (rising name_cmp xs) ≡ true)
+          → list_any is_q (with_item name_cmp x (rising name_cmp xs)) ≡ true
       by true e rest = any_item x (rising name_cmp xs) e
       by false e rest = any_items x (rising name_cmp xs) (rest (sym (ap (λ b. b || list_any is_q xs) e) ∙ h))
 
-  named_held : (n : ℕ) (ops : List Operation) → is_some (get ops (id_of n q)) ≡ true → list_any is_q (map (λ (o : Operation). o.id.name) ops) ≡ true
+  named_held : (n : ℕ) (ops : List Operation) → is_some (get ops (id_of n q)) ≡ true
+      → list_any is_q (map (λ (o : Operation). o.id.name) ops) ≡ true
   named_held n [] h = absurd (true≢false (sym h))
   named_held n (o ∷ ops) h = by (eqb n o.id.number) (same_bytes q o.id.name) refl refl (λ e. named_held n ops e)
     where
-      by : (b c : Bool) → eqb n o.id.number ≡ b → same_bytes q o.id.name ≡ c → (is_some (get ops (id_of n q)) ≡ true → list_any is_q (map (λ (x : Operation). x.id.name) ops) ≡ true) → (is_q o.id.name || list_any is_q (map (λ (x : Operation). x.id.name) ops)) ≡ true
+      by : (b c : Bool) → eqb n o.id.number ≡ b → same_bytes q o.id.name ≡ c
+          → (is_some (get ops (id_of n q)) ≡ true → list_any is_q (map (λ (x : Operation). x.id.name) ops) ≡ true)
+          → (is_q o.id.name || list_any is_q (map (λ (x : Operation). x.id.name) ops)) ≡ true
       by true true e f rest = ap (λ b. b || list_any is_q (map (λ (x : Operation). x.id.name) ops)) (same_back o.id.name q ∙ f)
-      by true false e f rest = ap (λ b. is_q o.id.name || b) (rest (sym (λ i. is_some (cond (e i && f i) (Some o) (get ops (id_of n q)))) ∙ h)) ∙ or_true (is_q o.id.name)
-      by false c e f rest = ap (λ b. is_q o.id.name || b) (rest (sym (λ i. is_some (cond (e i && same_bytes q o.id.name) (Some o) (get ops (id_of n q)))) ∙ h)) ∙ or_true (is_q o.id.name)
+      by true false e f rest = ap (λ b. is_q o.id.name || b)
+          (rest (sym (λ i. is_some (cond (e i && f i) (Some o) (get ops (id_of n q)))) ∙ h)) ∙ or_true (is_q o.id.name)
+      by false c e f rest = ap (λ b. is_q o.id.name || b)
+          (rest (sym (λ i. is_some (cond (e i && same_bytes q o.id.name) (Some o) (get ops (id_of n q)))) ∙ h)) ∙ or_true (is_q o.id.name)
 
 module _ (held : List Operation) (set : IsOpSet held) where
   abbrev told : List ℕ → Known
@@ -254,7 +291,8 @@ module _ (held : List Operation) (set : IsOpSet held) where
   good_known : (q : List ℕ) → Good q → IsKnown (told q)
   good_known q g = record { name = g.name; some = ranges_some (numbers_of held q) g.some; each = (right q).each; apart = (right q).apart }
 
-  good_each : (ops : List Operation) → AllByRecursion IsOperation ops → AllByRecursion (λ o. get held o.id ≡ Some o) ops → AllByRecursion Good (map (λ (o : Operation). o.id.name) ops)
+  good_each : (ops : List Operation) → AllByRecursion IsOperation ops → AllByRecursion (λ o. get held o.id ≡ Some o) ops
+      → AllByRecursion Good (map (λ (o : Operation). o.id.name) ops)
   good_each [] a h = tt
   good_each (o ∷ ops) a h = (
     record {
@@ -268,7 +306,8 @@ module _ (held : List Operation) (set : IsOpSet held) where
   all_item k [] g h = (g, tt)
   all_item k (x ∷ xs) g h = by (name_cmp k x) (all_item k xs g h.1)
     where
-      by : (o : Ordering) → AllByRecursion Good (with_item name_cmp k xs) → AllByRecursion Good (by_order o (k ∷ x ∷ xs) (x ∷ xs) (x ∷ with_item name_cmp k xs))
+      by : (o : Ordering) → AllByRecursion Good (with_item name_cmp k xs)
+          → AllByRecursion Good (by_order o (k ∷ x ∷ xs) (x ∷ xs) (x ∷ with_item name_cmp k xs))
       by Less rest = (g, h)
       by Equal rest = h
       by Greater rest = (h.0, rest)
@@ -281,45 +320,62 @@ module _ (held : List Operation) (set : IsOpSet held) where
   each_known [] h = tt
   each_known (x ∷ xs) h = (good_known x h.0, each_known xs h.1)
 
-  below_told : (q : List ℕ) (xs : List (List ℕ)) → list_all (λ x. is_lt (name_cmp q x)) xs ≡ true → list_all (λ (k : Known). is_lt (name_cmp q k.name)) (map told xs) ≡ true
+  below_told : (q : List ℕ) (xs : List (List ℕ)) → list_all (λ x. is_lt (name_cmp q x)) xs ≡ true
+      → list_all (λ (k : Known). is_lt (name_cmp q k.name)) (map told xs) ≡ true
   below_told q [] h = refl
-  below_told q (x ∷ xs) h = let p = and_parts (is_lt (name_cmp q x)) (list_all (λ y. is_lt (name_cmp q y)) xs) h in and_from _ _ p.0 (below_told q xs p.1)
+  below_told q (x ∷ xs) h =
+      let p = and_parts (is_lt (name_cmp q x)) (list_all (λ y. is_lt (name_cmp q y)) xs) h in and_from _ _ p.0 (below_told q xs p.1)
 
   rises_told : (xs : List (List ℕ)) → rises_by name_cmp (λ x. x) xs ≡ true → rises_by name_cmp (λ (k : Known). k.name) (map told xs) ≡ true
   rises_told [] h = refl
-  rises_told (x ∷ xs) h = let p = and_parts (list_all (λ y. is_lt (name_cmp x y)) xs) (rises_by name_cmp (λ y. y) xs) h in and_from _ _ (below_told x xs p.0) (rises_told xs p.1)
+  rises_told (x ∷ xs) h = let p = and_parts (list_all (λ y. is_lt (name_cmp x y)) xs) (rises_by name_cmp (λ y. y) xs) h in
+      and_from _ _ (below_told x xs p.0) (rises_told xs p.1)
 
-  covers_told : (id : Id) (xs : List (List ℕ)) → covers (map told xs) id ≡ (list_any (is_q id.name) xs && has_number (ranges_of (numbers_of held id.name)) id.number)
+  covers_told : (id : Id) (xs : List (List ℕ))
+      → covers (map told xs) id ≡ (list_any (is_q id.name) xs && has_number (ranges_of (numbers_of held id.name)) id.number)
   covers_told id [] = refl
-  covers_told id (x ∷ xs) = by (same_bytes x id.name) refl (has_number (ranges_of (numbers_of held id.name)) id.number) refl (covers_told id xs)
+  covers_told id (x ∷ xs) =
+      by (same_bytes x id.name) refl (has_number (ranges_of (numbers_of held id.name)) id.number) refl (covers_told id xs)
     where
       by : (b : Bool) → same_bytes x id.name ≡ b → (c : Bool) → has_number (ranges_of (numbers_of held id.name)) id.number ≡ c
           → covers (map told xs) id ≡ (list_any (is_q id.name) xs && has_number (ranges_of (numbers_of held id.name)) id.number)
-          → ((same_bytes x id.name && has_number (ranges_of (numbers_of held x)) id.number) || covers (map told xs) id) ≡ ((same_bytes x id.name || list_any (is_q id.name) xs) && has_number (ranges_of (numbers_of held id.name)) id.number)
+          → ((same_bytes x id.name && has_number (ranges_of (numbers_of held x)) id.number) || covers (map told xs) id)
+          ≡ ((same_bytes x id.name || list_any (is_q id.name) xs) && has_number (ranges_of (numbers_of held id.name)) id.number)
       by true e true f rest =
-          let here : has_number (ranges_of (numbers_of held x)) id.number ≡ true = ap (λ (w : List ℕ). has_number (ranges_of (numbers_of held w)) id.number) (same_bytes-is x id.name e) ∙ f in
+          let here : has_number (ranges_of (numbers_of held x)) id.number ≡ true =
+          ap (λ (w : List ℕ). has_number (ranges_of (numbers_of held w)) id.number) (same_bytes-is x id.name e) ∙ f in
           rw (e, here, f) refl
       by true e false f rest =
-          let here : has_number (ranges_of (numbers_of held x)) id.number ≡ false = ap (λ (w : List ℕ). has_number (ranges_of (numbers_of held w)) id.number) (same_bytes-is x id.name e) ∙ f in
-          let none : covers (map told xs) id ≡ false = rest ∙ ap (λ b. list_any (is_q id.name) xs && b) f ∙ and_none (list_any (is_q id.name) xs) in
+          let here : has_number (ranges_of (numbers_of held x)) id.number ≡ false =
+          ap (λ (w : List ℕ). has_number (ranges_of (numbers_of held w)) id.number) (same_bytes-is x id.name e) ∙ f in
+          let none : covers (map told xs) id ≡ false =
+          rest ∙ ap (λ b. list_any (is_q id.name) xs && b) f ∙ and_none (list_any (is_q id.name) xs) in
           rw (e, here, f, none) refl
-      by false e c f rest = ap (λ b. (b && has_number (ranges_of (numbers_of held x)) id.number) || covers (map told xs) id) e ∙ rest ∙ ap (λ b. (b || list_any (is_q id.name) xs) && has_number (ranges_of (numbers_of held id.name)) id.number) (sym e)
+      by false e c f rest = ap (λ b. (b && has_number (ranges_of (numbers_of held x)) id.number) || covers (map told xs) id) e ∙ rest
+          ∙ ap (λ b. (b || list_any (is_q id.name) xs) && has_number (ranges_of (numbers_of held id.name)) id.number) (sym e)
 
   exactly_told : (id : Id) → covers (summary_of held) id ≡ is_some (get held id)
   exactly_told id =
       covers_told id (rising name_cmp (map (λ (o : Operation). o.id.name) held))
-      ∙ ap (λ b. list_any (is_q id.name) (rising name_cmp (map (λ (o : Operation). o.id.name) held)) && b) ((right id.name).has id.number ∙ among id.name id.number held)
+      ∙ ap (λ b. list_any (is_q id.name) (rising name_cmp (map (λ (o : Operation). o.id.name) held)) && b)
+      ((right id.name).has id.number ∙ among id.name id.number held)
       ∙ by (is_some (get held id)) refl
     where
-      by : (b : Bool) → is_some (get held id) ≡ b → (list_any (is_q id.name) (rising name_cmp (map (λ (o : Operation). o.id.name) held)) && is_some (get held id)) ≡ is_some (get held id)
-      by true e = ap (λ b. b && is_some (get held id)) (any_rising id.name (map (λ (o : Operation). o.id.name) held) (named_held id.name id.number held e))
-      by false e = ap (λ b. list_any (is_q id.name) (rising name_cmp (map (λ (o : Operation). o.id.name) held)) && b) e ∙ and_none (list_any (is_q id.name) (rising name_cmp (map (λ (o : Operation). o.id.name) held))) ∙ sym e
+      by : (b : Bool) → is_some (get held id) ≡ b
+          → (list_any (is_q id.name) (rising name_cmp (map (λ (o : Operation). o.id.name) held)) && is_some (get held id))
+          ≡ is_some (get held id)
+      by true e = ap (λ b. b && is_some (get held id))
+          (any_rising id.name (map (λ (o : Operation). o.id.name) held) (named_held id.name id.number held e))
+      by false e = ap (λ b. list_any (is_q id.name) (rising name_cmp (map (λ (o : Operation). o.id.name) held)) && b) e
+          ∙ and_none (list_any (is_q id.name) (rising name_cmp (map (λ (o : Operation). o.id.name) held))) ∙ sym e
 
   pub summary_of_is : IsSummaryOf held (summary_of held)
   summary_of_is = record {
     form = record {
-      rising = rises_told (rising name_cmp (map (λ (o : Operation). o.id.name) held)) (rises-rising name_cmp name_total (map (λ (o : Operation). o.id.name) held));
-      each = each_known (rising name_cmp (map (λ (o : Operation). o.id.name) held)) (all_rising (map (λ (o : Operation). o.id.name) held) (good_each held set.each (held_itself held set.rising)));
+      rising = rises_told (rising name_cmp (map (λ (o : Operation). o.id.name) held))
+          (rises-rising name_cmp name_total (map (λ (o : Operation). o.id.name) held));
+      each = each_known (rising name_cmp (map (λ (o : Operation). o.id.name) held))
+          (all_rising (map (λ (o : Operation). o.id.name) held) (good_each held set.each (held_itself held set.rising)));
     };
     exactly = exactly_told;
   }

@@ -22,7 +22,8 @@ pub some_left : (bytes : List ℕ) (n : ℕ) → n < length bytes → drop n byt
 some_left bytes n less none = absurd (omega (arith, ap length none, length-drop n bytes))
 
 -- what is spelled at the front of bytes that a slice can have is read
-pub is_read : (ops : List Operation) (rest : List ℕ) → IsOpSet ops → length (bundle ops ++ rest) < 2 ^ 64 → bundle_at (bundle ops ++ rest) ≡ Ok (ops, rest)
+pub is_read : (ops : List Operation) (rest : List ℕ) → IsOpSet ops → length (bundle ops ++ rest) < 2 ^ 64
+    → bundle_at (bundle ops ++ rest) ≡ Ok (ops, rest)
 is_read ops rest set short = bundle_reads.again ops rest (set, AreCounted-from_length ops (omega (arith, length-append (bundle ops) rest)))
 
 pub is_trailing : (bytes : List ℕ) → length bytes < 2 ^ 64 → IsFollowed bytes → whole_at bytes ≡ Err Trailing
@@ -46,7 +47,8 @@ nothing_left ops held (b ∷ rest) e = cc e
 pub whole_is : (bytes : List ℕ) (held : List Operation) → AreBytes bytes → whole_at bytes ≡ Ok held → IsOpSet held × (bytes ≡ bundle held)
 whole_is bytes held fits e = by (bundle_at bytes) refl e
   where
-    by : (r : Result (List Operation × List ℕ) BundleFault) → bundle_at bytes ≡ r → whole_if r ≡ Ok held → IsOpSet held × (bytes ≡ bundle held)
+    by : (r : Result (List Operation × List ℕ) BundleFault) → bundle_at bytes ≡ r → whole_if r ≡ Ok held
+        → IsOpSet held × (bytes ≡ bundle held)
     by (Err fault) f e = cc e
     by (Ok read) f e =
         let none = nothing_left read.0 held read.1 e in
@@ -70,8 +72,12 @@ module _ (ops : List Operation) (n : ℕ) (bytes : List ℕ) (e : bytes ≡ (mag
 
   magic_is : take 8 bytes ≡ magic
   unfolding magic
-  magic_is = ap (take 8) (e ∙ append_assoc magic (to_be_bytes w64 n) (flat_map operation ops)) ∙ take_at magic (to_be_bytes w64 n ++ flat_map operation ops) 8 refl
+  magic_is = ap (take 8) (e ∙ append_assoc magic (to_be_bytes w64 n) (flat_map operation ops))
+      ∙ take_at magic (to_be_bytes w64 n ++ flat_map operation ops) 8 refl
 
-  pub counted : (count : ℕ) (made : List ℕ) → count ≡ length ops → made ≡ take 8 bytes ++ (to_be_bytes w64 count ++ drop 16 bytes) → made ≡ bundle ops
+  pub counted : (count : ℕ) (made : List ℕ) → count ≡ length ops → made ≡ take 8 bytes ++ (to_be_bytes w64 count ++ drop 16 bytes)
+      → made ≡ bundle ops
   unfolding bundle
-  counted count made k h = h ∙ (λ i. magic_is i ++ (to_be_bytes w64 (k i) ++ (ap (drop 16) e ∙ drop_at (magic ++ to_be_bytes w64 n) (flat_map operation ops) 16 (front_length n)) i))
+  counted count made k h =
+      h ∙ (λ i. magic_is i ++ (to_be_bytes w64 (k i) ++ (ap (drop 16) e
+      ∙ drop_at (magic ++ to_be_bytes w64 n) (flat_map operation ops) 16 (front_length n)) i))

@@ -17,7 +17,8 @@ abbrev pub nothing_after : List Operation → List ℕ → Result (List Operatio
 nothing_after ops [] = Ok ops
 nothing_after ops (b ∷ rest) = Err whole.Trailing
 
-abbrev pub whole_if : Result (List Operation × List ℕ) BundleFault → Result (List Operation) WholeFault
+abbrev pub whole_if : Result (List Operation × List ℕ) BundleFault
+    → Result (List Operation) WholeFault
 whole_if (Ok read) = nothing_after read.0 read.1
 whole_if (Err fault) = Err (whole.Bundle fault)
 
@@ -48,7 +49,8 @@ union_or_clash a b None = Ok (bundle (join a b))
 union_or_clash a b (Some id) = Err (Clash id)
 
 -- what two readings give: the refusal of the first, else that of the second, else the bundle of the union
-abbrev pub of_both : Result (List Operation) WholeFault → Result (List Operation) WholeFault → Result (List ℕ) JoinFault
+abbrev pub of_both : Result (List Operation) WholeFault → Result (List Operation) WholeFault
+    → Result (List ℕ) JoinFault
 of_both (Err fault) second = Err (Bundle fault)
 of_both (Ok a) (Err fault) = Err (Bundle fault)
 of_both (Ok a) (Ok b) = union_or_clash a b (clash a b)

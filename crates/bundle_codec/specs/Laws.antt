@@ -12,7 +12,8 @@ use Rattle.bundle_codec.specs.Joining.{bundles_joined, IsBundle}
 -- one set has one spelling, and one spelling has one set, whatever follows it
 abbrev pub OneSpelling : Type 0
 OneSpelling =
-    (a b : List Operation) (rest others : List ℕ) → IsOpSet a → IsOpSet b → AreCounted a → AreCounted b →
+    (a b : List Operation) (rest others : List ℕ) →
+    IsOpSet a → IsOpSet b → AreCounted a → AreCounted b →
     bundle a ++ rest ≡ bundle b ++ others → (a ≡ b) × (rest ≡ others)
 
 -- no proper front of a bundle is a bundle
@@ -38,7 +39,8 @@ abbrev pub BundleWithItself : Type 0
 BundleWithItself = (x : List ℕ) → IsBundle x → bundles_joined x x ≡ Ok x
 
 -- a joining that goes on with what another one made
-abbrev pub then_joined : Result (List ℕ) JoinFault → (List ℕ → Result (List ℕ) JoinFault) → Result (List ℕ) JoinFault
+abbrev pub then_joined : Result (List ℕ) JoinFault → (List ℕ → Result (List ℕ) JoinFault)
+    → Result (List ℕ) JoinFault
 then_joined (Ok made) others = others made
 then_joined (Err fault) others = Err fault
 
@@ -56,5 +58,8 @@ IsHeld (Err fault) = Unit {0}
 -- Both groupings of three bundles give the same bytes, and one is refused with a clash exactly where the other is.
 abbrev pub BundlesAssociate : Type 0
 BundlesAssociate =
-    (x y z : List ℕ) → IsBundle x → IsBundle y → IsBundle z → IsHeld (bundles_joined x y) → IsHeld (bundles_joined y z) →
-    AnswerAlike (then_joined (bundles_joined x y) (λ made. bundles_joined made z)) (then_joined (bundles_joined y z) (λ made. bundles_joined x made))
+    (x y z : List ℕ) → IsBundle x → IsBundle y → IsBundle z →
+    IsHeld (bundles_joined x y) → IsHeld (bundles_joined y z) →
+    AnswerAlike
+    (then_joined (bundles_joined x y) (λ made. bundles_joined made z))
+    (then_joined (bundles_joined y z) (λ made. bundles_joined x made))

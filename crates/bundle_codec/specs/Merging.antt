@@ -26,7 +26,8 @@ GoesPast ops rest (Some bytes) = Passes ops bytes.now rest
 
 -- A step of a joining takes the first operation of the union, which the bytes spell, and leaves what is still to be
 -- joined.
-pub record Leaves (xs ys : List Operation) (bytes : List ℕ) (xs' ys' : List Operation) : Type 0 where
+pub record Leaves (xs ys : List Operation) (bytes : List ℕ)
+    (xs' ys' : List Operation) : Type 0 where
   pub first : Operation
   pub spelled : bytes ≡ operation first
   pub union : join xs ys ≡ first ∷ join xs' ys'
@@ -36,7 +37,8 @@ pub record Leaves (xs ys : List Operation) (bytes : List ℕ) (xs' ys' : List Op
   pub fewer : length xs' + length ys' < length xs + length ys
 
 -- ... or there is nothing to join
-abbrev pub Steps : List Operation → List Operation → List Operation → List Operation → Option (Bor (List ℕ)) → Type 0
+abbrev pub Steps : List Operation → List Operation → List Operation → List Operation
+    → Option (Bor (List ℕ)) → Type 0
 Steps xs ys xs' ys' None = (xs ≡ []) × (ys ≡ [])
 Steps xs ys xs' ys' (Some bytes) = Leaves xs ys bytes.now xs' ys'
 

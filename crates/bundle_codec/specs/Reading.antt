@@ -19,7 +19,8 @@ use Rattle.bundle_codec.specs.Spelling.{magic}
 
 -- the next step of a reading, if the ones before it did not fail
 infixl 10 ◌>>=◌
-abbrev pub ◌>>=◌ : {A B : Type 0} → Result A BundleFault → (A → Result B BundleFault) → Result B BundleFault
+abbrev pub ◌>>=◌ : {A B : Type 0} → Result A BundleFault → (A → Result B BundleFault)
+    → Result B BundleFault
 (Ok x) >>= f = f x
 (Err e) >>= f = Err e
 
@@ -42,7 +43,8 @@ abbrev pub byte_at : (ℕ → Bool) → BundleFault → List ℕ → Result (ℕ
 byte_at rule bad [] = Err Truncated
 byte_at rule bad (b ∷ rest) = if rule b then Ok (b, rest) else Err bad
 
-abbrev pub block_at : ℕ → (List ℕ → Bool) → BundleFault → List ℕ → Result (List ℕ × List ℕ) BundleFault
+abbrev pub block_at : ℕ → (List ℕ → Bool) → BundleFault → List ℕ
+    → Result (List ℕ × List ℕ) BundleFault
 block_at n rule bad bytes =
     if nat_lt (length bytes) n then Err Truncated
     else if rule (take n bytes) then Ok (take n bytes, drop n bytes) else Err bad
@@ -50,7 +52,9 @@ block_at n rule bad bytes =
 abbrev pub number_at : Width → (ℕ → Bool) → BundleFault → List ℕ → Result (ℕ × List ℕ) BundleFault
 number_at w rule bad bytes =
     if nat_lt (length bytes) (byte_len w) then Err Truncated
-    else if rule (from_be_bytes w (take (byte_len w) bytes)) then Ok (from_be_bytes w (take (byte_len w) bytes), drop (byte_len w) bytes) else Err bad
+    else if rule (from_be_bytes w (take (byte_len w) bytes))
+    then Ok (from_be_bytes w (take (byte_len w) bytes), drop (byte_len w) bytes)
+    else Err bad
 
 -- these bytes, one by one
 abbrev pub exactly_at : List ℕ → BundleFault → List ℕ → Result (Unit {0} × List ℕ) BundleFault
@@ -59,7 +63,8 @@ exactly_at (m ∷ ms) bad [] = Err Truncated
 exactly_at (m ∷ ms) bad (b ∷ bytes) = if b == m then exactly_at ms bad bytes else Err bad
 
 -- n values one after the other; what may come next depends on those before
-unfoldable pub many_at : {A S : Type 0} → (S → List ℕ → Result (A × List ℕ) BundleFault) → (S → A → S) → ℕ → S → List ℕ → Result (List A × List ℕ) BundleFault
+unfoldable pub many_at : {A S : Type 0} → (S → List ℕ → Result (A × List ℕ) BundleFault)
+    → (S → A → S) → ℕ → S → List ℕ → Result (List A × List ℕ) BundleFault
 many_at one next zero s bytes = Ok ([], bytes)
 many_at one next (suc n) s bytes = do
   first ← one s bytes
@@ -151,7 +156,15 @@ operation_at k before bytes = do
   text ← body_at k replaced.1
   _ ← judge_text k text.0
   _ ← check (text_fits book.0 key.0 text.0) (BadText k)
-  Ok (record { id = id.0; segment = segment book.0 key.0; replaced = replaced.0; text = text.0 }, text.1)
+  Ok (
+    record {
+      id = id.0;
+      segment = segment book.0 key.0;
+      replaced = replaced.0;
+      text = text.0;
+    },
+    text.1,
+  )
 
 -- the place of the operation that comes next, and the id before it
 abbrev pub after_operation : ℕ × Option Id → Operation → ℕ × Option Id

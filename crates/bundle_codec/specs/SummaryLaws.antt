@@ -10,18 +10,24 @@ SummaryCoversItsIds = (held : List Operation) → IsOpSet held → IsSummaryOf h
 
 -- a set has one summary
 abbrev pub OneSummaryOfASet : Type 0
-OneSummaryOfASet = (held : List Operation) (a b : List Known) → IsSummaryOf held a → IsSummaryOf held b → a ≡ b
+OneSummaryOfASet =
+    (held : List Operation) (a b : List Known) → IsSummaryOf held a → IsSummaryOf held b → a ≡ b
 
 -- one summary has one spelling, and one spelling is of one summary
 abbrev pub OneSpellingOfASummary : Type 0
-OneSpellingOfASummary = (a b : List Known) → IsSummary a → IsSummary b → length (summary a) < 2 ^ 64 → summary a ≡ summary b → a ≡ b
+OneSpellingOfASummary =
+    (a b : List Known) → IsSummary a → IsSummary b → length (summary a) < 2 ^ 64 →
+    summary a ≡ summary b → a ≡ b
 
 -- What a set has outside the summary of another one, joined to that one, gives the union of both, and never clashes.
 abbrev pub OutsideGivesUnion : Type 0
 OutsideGivesUnion =
-    (own other : List Operation) (s : List Known) → IsOpSet own → IsOpSet other → IsSummaryOf other s →
+    (own other : List Operation) (s : List Known) →
+    IsOpSet own → IsOpSet other → IsSummaryOf other s →
     (join other (outside s own) ≡ join other own) × (clash other (outside s own) ≡ None)
 
 -- nothing of a set lies outside its own summary
 abbrev pub NothingOutsideOwn : Type 0
-NothingOutsideOwn = (held : List Operation) (s : List Known) → IsOpSet held → IsSummaryOf held s → outside s held ≡ []
+NothingOutsideOwn =
+    (held : List Operation) (s : List Known) → IsOpSet held → IsSummaryOf held s
+    → outside s held ≡ []

@@ -20,13 +20,18 @@ with_last (r ∷ []) n =
 with_last (r ∷ s ∷ rs) n = r ∷ with_last (s ∷ rs) n
 
 -- the ranges under a name
-abbrev pub under : {A : Type 0} → BTreeMap (List ℕ) (Vec NumberRange A) → List ℕ → Option (List NumberRange)
+abbrev pub under : {A : Type 0} → BTreeMap (List ℕ) (Vec NumberRange A) → List ℕ
+    → Option (List NumberRange)
 under m q = option_map (λ v. v.items) (value_at name_cmp m q)
 
 -- a map with one id more
-abbrev pub HoldsMore : {A : Type 0} → Id → BTreeMap (List ℕ) (Vec NumberRange A) → BTreeMap (List ℕ) (Vec NumberRange A) → Type 0
+abbrev pub HoldsMore : {A : Type 0} → Id → BTreeMap (List ℕ) (Vec NumberRange A)
+    → BTreeMap (List ℕ) (Vec NumberRange A) → Type 0
 HoldsMore id m n =
-    (q : List ℕ) → under n q ≡ (if same_bytes q id.name then Some (with_last (unwrap_or (under m q) []) id.number) else under m q)
+    (q : List ℕ) → under n q
+    ≡ (if same_bytes q id.name
+    then Some (with_last (unwrap_or (under m q) []) id.number)
+    else under m q)
 
 -- ranges that a summary may have
 pub record AreRanges (ranges : List NumberRange) : Type 0 where
@@ -37,10 +42,13 @@ pub record AreRanges (ranges : List NumberRange) : Type 0 where
 -- the ranges of a name in a set, or that it has none
 abbrev pub AreUnder : List Operation → List ℕ → Option (List NumberRange) → Type 0
 AreUnder held q None = (n : ℕ) → is_some (get held (record { number = n; name = q })) ≡ false
-AreUnder held q (Some ranges) = AreRanges ranges × ((n : ℕ) → has_number ranges n ≡ is_some (get held (record { number = n; name = q })))
+AreUnder held q (Some ranges) =
+    AreRanges ranges
+    × ((n : ℕ) → has_number ranges n ≡ is_some (get held (record { number = n; name = q })))
 
 -- a map holds the ranges of each name in a set
-pub record HoldsRanges {A : Type 0} (held : List Operation) (m : BTreeMap (List ℕ) (Vec NumberRange A)) : Type 0 where
+pub record HoldsRanges {A : Type 0} (held : List Operation)
+    (m : BTreeMap (List ℕ) (Vec NumberRange A)) : Type 0 where
   pub ordered : IsOrdered name_cmp m
   pub each : AllByRecursion (λ e. AreRanges e.1.items) m.entries
   pub names : (q : List ℕ) → AreUnder held q (under m q)

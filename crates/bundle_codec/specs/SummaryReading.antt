@@ -1,5 +1,6 @@
 -- Reading a summary from left to right. It has one fault, whichever field is cut or breaks its rule.
-use Rattle.std.specs.Prelude.{◌≡◌, ℕ, suc, nat_le, nat_lt, ◌&&◌, Bool, true, List, [], ◌∷◌, IsSome, Option, Some, None, Result, Ok, Err}
+use Rattle.std.specs.Prelude.{◌≡◌, ℕ, suc, nat_le, nat_lt, ◌&&◌, Bool, true, List, [], ◌∷◌, IsSome, IfSome, Option, Some, None, Result, Ok, Err, Vec}
+use Rattle.std.specs.Borrow.{Bor}
 use Rattle.std.specs.Int.{w64}
 use Rattle.std.specs.Ordering.{is_lt}
 use Rattle.op_core.specs.Names.{is_name, name_cmp}
@@ -24,7 +25,8 @@ unfoldable pub range_at : Option ℕ → List ℕ → Result (NumberRange × Lis
 range_at before bytes = do
   first ← number_at w64 any bad bytes
   last ← number_at w64 any bad first.1
-  _ ← check (is_range (record { first = first.0; last = last.0 }) && begins_after before first.0) bad
+  _ ← check (is_range (record { first = first.0; last = last.0 }) && begins_after before first.0)
+      bad
   Ok (record { first = first.0; last = last.0 }, last.1)
 
 abbrev pub after_range : Option ℕ → NumberRange → Option ℕ
@@ -61,6 +63,11 @@ after_known before k = Some k.name
 
 abbrev pub names_at : ℕ → List ℕ → Result (List Known × List ℕ) BundleFault
 names_at n bytes = many_at known_at after_known n None bytes
+
+-- where memory was there to keep what is read, it is what the bytes spell, and the bytes after it are left
+abbrev pub Keeps : {X A : Type 0} → Result (List X × List ℕ) BundleFault →
+    Option (Vec X A) × Bor (List ℕ) → Type 0
+Keeps read x = IfSome x.0 (λ v. read ≡ Ok (v.items, x.1.now))
 
 -- a summary at the front, and what follows it
 unfoldable pub summary_at : List ℕ → Result (List Known × List ℕ) BundleFault

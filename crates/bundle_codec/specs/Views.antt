@@ -16,7 +16,8 @@ use Rattle.bundle_codec.specs.Spelling.{operation}
 use Rattle.bundle_codec.specs.Reading.{◌>>=◌, any, number_at, many_at, id_at, operation_at}
 
 -- n values one after the other, each as if it stood alone
-abbrev pub each_at : {A : Type 0} → (List ℕ → Result (A × List ℕ) BundleFault) → ℕ → List ℕ → Result (List A × List ℕ) BundleFault
+abbrev pub each_at : {A : Type 0} → (List ℕ → Result (A × List ℕ) BundleFault) → ℕ → List ℕ
+    → Result (List A × List ℕ) BundleFault
 each_at one n bytes = many_at {S = Unit {0}} (λ _. one) (λ s _. s) n tt bytes
 
 -- what was read, where reading did not fail

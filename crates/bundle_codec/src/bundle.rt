@@ -108,7 +108,8 @@ pub fn decode(_alloc: Global, bytes: &[u8]) -> Result<(Bundle<'_>, usize), Bundl
     ensures set { IfOk result (λ x. IsOpSet x.0) }
     ensures spelled { IfOk result (λ x. take x.1 bytes.now ≡ bundle x.0) }
     // What is spelled so is read, whatever follows.
-    ensures only { (ops : List Operation) (rest : List ℕ) → IsOpSet ops → bytes.now ≡ bundle ops ++ rest
+    ensures only { (ops : List Operation) (rest : List ℕ) →
+        IsOpSet ops → bytes.now ≡ bundle ops ++ rest
         → IsOkAnd result (λ x. x.0 ≡ ops) }
     // How many bytes it takes.
     ensures length { IfOk result (λ x. x.1 ≡ length (bundle x.0)) }

@@ -9,7 +9,8 @@ use crate::fault::BundleFault;
 use usfm_token::read_text;
 
 pub(crate) fn u64_at(bytes: &[u8]) -> Result<(u64, &[u8]), BundleFault>
-    ensures { Gives (λ x. (x.0, x.1.now)) result (number_at w64 any BundleFault.Truncated bytes.now) }
+    ensures { Gives (λ x. (x.0, x.1.now)) result
+        (number_at w64 any BundleFault.Truncated bytes.now) }
 {
     if bytes.len() < 8 {
         return Err(BundleFault::Truncated);
@@ -29,7 +30,8 @@ pub(crate) fn u64_in(bytes: &[u8]) -> (u64, &[u8])
 }
 
 pub(crate) fn u16_at(bytes: &[u8]) -> Result<(u16, &[u8]), BundleFault>
-    ensures { Gives (λ x. (x.0, x.1.now)) result (number_at w16 any BundleFault.Truncated bytes.now) }
+    ensures { Gives (λ x. (x.0, x.1.now)) result
+        (number_at w16 any BundleFault.Truncated bytes.now) }
 {
     if bytes.len() < 2 {
         return Err(BundleFault::Truncated);
@@ -83,7 +85,8 @@ pub(crate) fn exactly_of<'a>(
 }
 
 pub(crate) fn block_of(n: u64, bytes: &[u8]) -> Result<(&[u8], &[u8]), BundleFault>
-    ensures { Gives (λ x. (x.0.now, x.1.now)) result (block_at n any BundleFault.Truncated bytes.now) }
+    ensures { Gives (λ x. (x.0.now, x.1.now)) result
+        (block_at n any BundleFault.Truncated bytes.now) }
 {
     let n = n as usize;
     if bytes.len() < n {
@@ -101,7 +104,8 @@ pub(crate) fn block_in(n: u64, bytes: &[u8]) -> (&[u8], &[u8])
 
 // The bytes as text, if they are UTF-8. Nothing else judges UTF-8.
 pub(crate) fn text_of(bytes: &[u8]) -> Option<&str>
-    ensures { MatchOption result (is_utf8 bytes.now ≡ false) (λ s. (s.now ≡ bytes.now) × (is_utf8 bytes.now ≡ true)) }
+    ensures { MatchOption result (is_utf8 bytes.now ≡ false)
+        (λ s. (s.now ≡ bytes.now) × (is_utf8 bytes.now ≡ true)) }
 {
     read_text(bytes).ok()
 }

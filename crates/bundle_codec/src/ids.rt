@@ -176,7 +176,8 @@ fn named_of<'a>(
     before: &Option<IdView<'_>>,
     bytes: &'a [u8],
 ) -> Result<(IdView<'a>, &'a [u8]), BundleFault>
-    ensures { Gives (λ x. (id_view x.0, x.1.now)) result (named_at bad (id_view own.now) (option_map id_view before.now) bytes.now) }
+    ensures { Gives (λ x. (id_view x.0, x.1.now)) result
+        (named_at bad (id_view own.now) (option_map id_view before.now) bytes.now) }
 {
     let (id, rest) = id_of(bad, bytes)?;
     if !comes_after(before, &id) || id.number >= own.number {
@@ -192,7 +193,8 @@ fn after_ids<'a>(
     count: u64,
     bytes: &'a [u8],
 ) -> Result<&'a [u8], BundleFault>
-    ensures { Gives (λ r. r.now) result (after (many_at (named_at bad (id_view own.now)) after_id count None bytes.now)) }
+    ensures { Gives (λ r. r.now) result
+        (after (many_at (named_at bad (id_view own.now)) after_id count None bytes.now)) }
 {
     let mut before = None;
     let mut rest = bytes;
@@ -224,7 +226,8 @@ pub(crate) fn replaced_of<'a>(
     own: &IdView<'_>,
     bytes: &'a [u8],
 ) -> Result<(IdList<'a>, &'a [u8]), BundleFault>
-    ensures { Gives (λ x. (ids_view x.0, x.1.now)) result (replaced_at bad (id_view own.now) bytes.now) }
+    ensures { Gives (λ x. (ids_view x.0, x.1.now)) result
+        (replaced_at bad (id_view own.now) bytes.now) }
 {
     let (count, ids) = u64_at(bytes)?;
     let rest = after_ids(bad, own, count, ids)?;

@@ -21,7 +21,8 @@ use std::alloc::Global;
 /// - `Clash` with the least id under which the two have operations that are not equal.
 /// - `Memory` where a growth was refused.
 pub fn join_bundles(alloc: Global, first: &[u8], second: &[u8]) -> Result<Vec<u8>, JoinFault>
-    ensures joined { IfOk result (λ bytes. joining.bundles_joined first.now second.now ≡ Ok bytes.items) }
+    ensures joined { IfOk result (λ bytes.
+        joining.bundles_joined first.now second.now ≡ Ok bytes.items) }
     ensures bundle { IfOk result (λ bytes. joining.IsBundle bytes.items) }
     ensures refused { IfErr result (joining.RefusesJoin first.now second.now) }
 {
@@ -37,7 +38,8 @@ pub fn join_bundles(alloc: Global, first: &[u8], second: &[u8]) -> Result<Vec<u8
 // Writes the count of a bundle over the one that stands in its bytes.
 fn set_count(bytes: &mut Vec<u8>, count: u64)
     requires { 16 ≤ vec_len bytes.old }
-    ensures { bytes.new.items ≡ take 8 bytes.old.items ++ (to_be_bytes w64 count ++ drop 16 bytes.old.items) }
+    ensures { bytes.new.items
+        ≡ take 8 bytes.old.items ++ (to_be_bytes w64 count ++ drop 16 bytes.old.items) }
 {
     bytes[8..16].copy_from_slice(&count.to_be_bytes());
 }

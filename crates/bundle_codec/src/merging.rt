@@ -39,7 +39,8 @@ impl<'a> Walk<'a> {
 
     // The next operation.
     fn first(&self) -> Option<&OpView<'a>>
-        ensures { MatchOption result (self.now ≡ []) (λ o. (rest : List Operation) × (self.now ≡ o.now ∷ rest)) }
+        ensures { MatchOption result (self.now ≡ [])
+            (λ o. (rest : List Operation) × (self.now ≡ o.now ∷ rest)) }
     {
         self.next.as_ref()
     }
@@ -87,7 +88,8 @@ pub(crate) fn push_union<'a>(
 ) -> Result<u64, JoinFault>
     requires left { IsTrue (sets.rises left) }
     requires right { IsTrue (sets.rises right) }
-    ensures pushed { IfOk result (λ _. bytes.new.items ≡ bytes.old.items ++ flat_map operation (sets.join left.entry right.entry)) }
+    ensures pushed { let union = sets.join left.entry right.entry in
+        IfOk result (λ _. bytes.new.items ≡ bytes.old.items ++ flat_map operation union) }
     ensures count { IfOk result (λ count. count ≡ length (sets.join left.entry right.entry)) }
     ensures agrees { IfOk result (λ _. sets.clash left.entry right.entry ≡ None) }
     ensures refused { IfErr result (merging.RefusesUnion (sets.clash left.entry right.entry)) }

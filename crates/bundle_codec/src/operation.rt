@@ -56,7 +56,8 @@ fn fields_of<'a>(
     before: &Option<IdView<'_>>,
     bytes: &'a [u8],
 ) -> Result<(OpFields<'a>, &'a [u8]), BundleFault>
-    ensures { Gives (λ x. (op_view x.0, x.1.now)) result (operation_at place (option_map id_view before.now) bytes.now) }
+    ensures { Gives (λ x. (op_view x.0, x.1.now)) result
+        (operation_at place (option_map id_view before.now) bytes.now) }
 {
     let (id, rest) = id_of(BundleFault::BadId(place), bytes)?;
     if !comes_after(before, &id) {

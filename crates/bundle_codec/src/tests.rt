@@ -2,23 +2,22 @@ mod joining;
 mod summaries;
 
 use super::*;
-use op_core::{Op, OpId};
+use op_core::{Op, OpId, OpSet};
 use std::alloc::{AllocError, Global};
-use std::process::Abort;
 use std::test::Fail;
 use usfm_ref::{Key, Place};
 
 // 1 ana on MAT 0, and 2 ana on MAT 1:1; neither names anything.
-const B1: [u8; 108] =
-    *b"USFMSR1\n\0\0\0\0\0\0\0\x02\0\0\0\0\0\0\0\x01\x03anaMAT\0\0\0\0\0\0\0\0\0\0\0\0\0\0\x01\0\0\0\0\0\0\0\x08\\id MAT\n\0\0\0\0\0\0\0\x02\x03anaMAT\0\x01\x01\0\x01\0\0\0\0\0\0\0\0\0\x01\0\0\0\0\0\0\0\x08\\v 1 In\n";
+const B1: &[u8; 108] =
+    b"USFMSR1\n\0\0\0\0\0\0\0\x02\0\0\0\0\0\0\0\x01\x03anaMAT\0\0\0\0\0\0\0\0\0\0\0\0\0\0\x01\0\0\0\0\0\0\0\x08\\id MAT\n\0\0\0\0\0\0\0\x02\x03anaMAT\0\x01\x01\0\x01\0\0\0\0\0\0\0\0\0\x01\0\0\0\0\0\0\0\x08\\v 1 In\n";
 
 // 3 ben on MAT 1:1, naming 2 ana.
-const Y: [u8; 74] =
-    *b"USFMSR1\n\0\0\0\0\0\0\0\x01\0\0\0\0\0\0\0\x03\x03benMAT\0\x01\x01\0\x01\0\0\0\0\0\0\0\0\x01\0\0\0\0\0\0\0\x02\x03ana\x01\0\0\0\0\0\0\0\x08\\v 1 At\n";
+const Y: &[u8; 74] =
+    b"USFMSR1\n\0\0\0\0\0\0\0\x01\0\0\0\0\0\0\0\x03\x03benMAT\0\x01\x01\0\x01\0\0\0\0\0\0\0\0\x01\0\0\0\0\0\0\0\x02\x03ana\x01\0\0\0\0\0\0\0\x08\\v 1 At\n";
 
 // 3 ana on MAT 1:1, naming 2 ana.
-const Z: [u8; 74] =
-    *b"USFMSR1\n\0\0\0\0\0\0\0\x01\0\0\0\0\0\0\0\x03\x03anaMAT\0\x01\x01\0\x01\0\0\0\0\0\0\0\0\x01\0\0\0\0\0\0\0\x02\x03ana\x01\0\0\0\0\0\0\0\x08\\v 1 To\n";
+const Z: &[u8; 74] =
+    b"USFMSR1\n\0\0\0\0\0\0\0\x01\0\0\0\0\0\0\0\x03\x03anaMAT\0\x01\x01\0\x01\0\0\0\0\0\0\0\0\x01\0\0\0\0\0\0\0\x02\x03ana\x01\0\0\0\0\0\0\0\x08\\v 1 To\n";
 
 const VERSE: Place = Place::Verse {
     number: 1,
@@ -38,32 +37,35 @@ const AT: Parts<'static> = ((3, "ben"), 1, VERSE, Some((2, "ana")), "\\v 1 At\n"
 
 const TO: Parts<'static> = ((3, "ana"), 1, VERSE, Some((2, "ana")), "\\v 1 To\n");
 
-fn assert_id(rt: &impl Abort, id: OpId, want: Id<'_>) {
-    assert_eq!(rt; id.number, want.0);
-    assert_eq!(rt; id.name.text(), want.1);
+fn is_id(id: OpId, want: Id<'_>) -> bool {
+    id.number == want.0 && id.name.text() == want.1
 }
 
-fn assert_view(rt: &impl Abort, view: &OpView<'_>, want: &Parts<'_>) {
-    let (id, chapter, place, replaced, text) = *want;
-    assert_id(rt, view.id(), id);
-    assert_eq!(rt; view.book().code(), *b"MAT");
-    assert!(rt; Some(view.key()) == Key::new(chapter, place));
-    let mut left = replaced;
-    for named in view.replaced() {
-        assert_id(rt, named, left.expect(rt, "one more id"));
-        left = None;
+// Whether the ids are the one that is wanted, or none where none is.
+fn are_named(mut named: ReplacedIds<'_>, want: Option<Id<'_>>) -> bool {
+    match (named.next(), want) {
+        (None, None) => true,
+        (Some(id), Some(want)) => is_id(id, want) && named.next().is_none(),
+        _ => false,
     }
-    assert!(rt; left.is_none());
-    assert_eq!(rt; view.text(), text);
 }
 
-fn assert_op(rt: &impl Abort, op: &Op, want: &Parts<'_>) {
+fn is_view(view: &OpView<'_>, want: &Parts<'_>) -> bool {
     let (id, chapter, place, replaced, text) = *want;
-    assert_id(rt, op.id(), id);
-    assert_eq!(rt; op.book().code(), *b"MAT");
-    assert!(rt; Some(op.key()) == Key::new(chapter, place));
-    assert_eq!(rt; op.replaced().len(), if replaced.is_some() { 1 } else { 0 });
-    assert_eq!(rt; op.text(), text);
+    is_id(view.id(), id)
+        && view.book().code() == *b"MAT"
+        && Some(view.key()) == Key::new(chapter, place)
+        && are_named(view.replaced(), replaced)
+        && view.text() == text
+}
+
+fn is_op(op: &Op, want: &Parts<'_>) -> bool {
+    let (id, chapter, place, replaced, text) = *want;
+    is_id(op.id(), id)
+        && op.book().code() == *b"MAT"
+        && Some(op.key()) == Key::new(chapter, place)
+        && op.replaced().len() == if replaced.is_some() { 1 } else { 0 }
+        && op.text() == text
 }
 
 // The bytes with others written over them from a place on.
@@ -85,28 +87,22 @@ fn naming(alloc: Global, named: &[Id<'_>]) -> Result<Vec<u8>, AllocError> {
         made.push((name.len() & 255) as u8)?;
         made.extend_from_slice(name.as_bytes())?;
     }
-    made.extend_from_slice(&Y[57..])?;
+    made.extend_from_slice(Y.split_at(57).1)?;
     Ok(made)
 }
 
-// The bundle of these bytes, whatever follows them, has these operations.
-fn assert_bundle(
-    rt: &impl Abort,
-    alloc: Global,
-    bytes: &[u8],
-    want: &[Parts<'_>],
-) -> Result<(), Fail> {
+// Whether the bundle of these bytes, whatever follows them, has these operations.
+fn is_bundle(alloc: Global, bytes: &[u8], want: &[Parts<'_>]) -> Result<bool, Fail> {
     let mut longer = bytes.to_vec(alloc)?;
     longer.push(0)?;
     let (bundle, read) = decode(alloc, &longer)?;
-    assert_eq!(rt; read, bytes.len());
-    assert_eq!(rt; bundle.len(), want.len() as u64);
-    assert_eq!(rt; bundle.is_empty(), want.is_empty());
+    let mut same = read == bytes.len()
+        && bundle.len() == want.len() as u64
+        && bundle.is_empty() == want.is_empty();
     for (view, parts) in bundle.ops().zip(want) {
-        assert_view(rt, &view, parts);
-        assert_op(rt, &view.to_op(alloc)?, parts);
+        same = same && is_view(&view, parts) && is_op(&view.to_op(alloc)?, parts);
     }
-    Ok(())
+    Ok(same)
 }
 
 // What a view lends outlives the view and the bundle.
@@ -116,20 +112,30 @@ fn first_text(alloc: Global, bytes: &[u8]) -> Result<&str, Fail> {
     Ok(view.text())
 }
 
+fn fault_of(alloc: Global, bytes: &[u8]) -> Option<BundleFault> {
+    decode(alloc, bytes).err()
+}
+
+const VECTORS: &[(&[u8], &[Parts<'static>])] = &[
+    (B1, &[ID, IN]),
+    (Y, &[AT]),
+    (Z, &[TO]),
+    (b"USFMSR1\n\0\0\0\0\0\0\0\0", &[]),
+];
+
 #[test]
 fn vectors(rt: HostRuntime) -> Result<(), Fail> {
-    assert_bundle(&rt, rt.alloc(), &B1, &[ID, IN])?;
-    assert_bundle(&rt, rt.alloc(), &Y, &[AT])?;
-    assert_bundle(&rt, rt.alloc(), &Z, &[TO])?;
-    assert_bundle(&rt, rt.alloc(), b"USFMSR1\n\0\0\0\0\0\0\0\0", &[])?;
-    assert_eq!(rt; decode(rt.alloc(), &B1)?.1, 108);
-    assert_eq!(rt; first_text(rt.alloc(), &Y)?, "\\v 1 At\n");
+    for (bytes, ops) in VECTORS {
+        assert!(rt; is_bundle(rt.alloc(), bytes, ops)?, "{} bytes", bytes.len());
+    }
+    assert_eq!(rt; decode(rt.alloc(), B1)?.1, 108);
+    assert_eq!(rt; first_text(rt.alloc(), Y)?, "\\v 1 At\n");
     Ok(())
 }
 
 #[test]
 fn spelled_bytes(rt: HostRuntime) -> Result<(), Fail> {
-    let (bundle, _) = decode(rt.alloc(), &B1)?;
+    let (bundle, _) = decode(rt.alloc(), B1)?;
     let mut bytes = B1[..16].to_vec(rt.alloc())?;
     for view in bundle.ops() {
         bytes.extend_from_slice(view.spelled())?;
@@ -138,108 +144,126 @@ fn spelled_bytes(rt: HostRuntime) -> Result<(), Fail> {
     Ok(())
 }
 
+fn is_set(set: &OpSet, want: &[Parts<'_>]) -> bool {
+    for (op, parts) in set.iter().zip(want) {
+        if !is_op(op, parts) {
+            return false;
+        }
+    }
+    set.len() == want.len()
+}
+
 #[test]
 fn set(rt: HostRuntime) -> Result<(), Fail> {
-    let (bundle, _) = decode(rt.alloc(), &B1)?;
+    let (bundle, _) = decode(rt.alloc(), B1)?;
     let set = bundle.to_set(rt.alloc())?;
-    assert_eq!(rt; set.len(), 2);
-    for (op, parts) in set.iter().zip(&[ID, IN]) {
-        assert_op(&rt, op, parts);
-    }
+    assert!(rt; is_set(&set, &[ID, IN]));
     Ok(())
 }
+
+const FRONTS: &[(&[u8], BundleFault)] = &[
+    (b"USFMSR", BundleFault::Truncated),
+    (b"USFMSR1", BundleFault::Truncated),
+    (b"USFMX", BundleFault::Magic),
+    (b"USFMSR2", BundleFault::Magic),
+];
 
 #[test]
 fn every_front_is_cut(rt: HostRuntime) {
     for n in 0..108usize {
-        let fault = decode(rt.alloc(), &B1[..n]).err();
-        assert_eq!(rt; fault, Some(BundleFault::Truncated), "{n}");
+        let fault = fault_of(rt.alloc(), &B1[..n]);
+        assert!(rt; fault == Some(BundleFault::Truncated), "{n}");
     }
-    for (bytes, fault) in [
-        (b"USFMSR".as_slice(), BundleFault::Truncated),
-        (b"USFMSR1", BundleFault::Truncated),
-        (b"USFMX", BundleFault::Magic),
-        (b"USFMSR2", BundleFault::Magic),
-    ] {
-        assert_eq!(rt; decode(rt.alloc(), bytes).err(), Some(fault));
+    for (bytes, fault) in FRONTS {
+        assert!(rt;
+            fault_of(rt.alloc(), bytes) == Some(*fault),
+            "{} bytes",
+            bytes.len()
+        );
     }
 }
+
+// What is written over B1 from a place on, and how many bytes are read of it then, or the fault.
+const CHANGES: &[(usize, &[u8], Result<usize, BundleFault>)] = &[
+    (0, &[0x54], Err(BundleFault::Magic)),
+    (8, &[0xff; 8], Err(BundleFault::Truncated)),
+    (15, &[3], Err(BundleFault::Truncated)),
+    (15, &[1], Ok(62)),
+    (23, &[0], Err(BundleFault::BadId(1))),
+    (24, &[0], Err(BundleFault::BadId(1))),
+    (24, &[0x21], Err(BundleFault::BadId(1))),
+    (25, &[0x41], Err(BundleFault::BadId(1))),
+    (28, &[0x6d], Err(BundleFault::BadKey(1))),
+    (33, &[2], Err(BundleFault::BadKey(1))),
+    (35, &[1], Err(BundleFault::BadKey(1))),
+    (36, b"a", Err(BundleFault::BadKey(1))),
+    (37, &[0x7f], Err(BundleFault::BadReplaced(1))),
+    (45, &[2], Err(BundleFault::BadTag(1))),
+    (45, &[0], Err(BundleFault::BadTag(1))),
+    (46, &[0xff], Err(BundleFault::Truncated)),
+    (53, &[9], Err(BundleFault::BadId(2))),
+    (54, &[0xff], Err(BundleFault::NotUtf8(1))),
+    (69, &[1], Err(BundleFault::NotRising(2))),
+    // 10^15, and one more
+    (62, &[0, 3, 0x8d, 0x7e, 0xa4, 0xc6, 0x80, 0], Ok(108)),
+    (
+        62,
+        &[0, 3, 0x8d, 0x7e, 0xa4, 0xc6, 0x80, 1],
+        Err(BundleFault::BadId(2)),
+    ),
+    // 999 and 1000
+    (77, &[3, 0xe7], Ok(108)),
+    (77, &[3, 0xe8], Err(BundleFault::BadKey(2))),
+    (80, &[3, 0xe7], Err(BundleFault::BadText(2))),
+    (80, &[3, 0xe8], Err(BundleFault::BadKey(2))),
+    (82, b"z", Err(BundleFault::BadText(2))),
+    (82, &[0x41], Err(BundleFault::BadKey(2))),
+    (82, b"{", Err(BundleFault::BadKey(2))),
+    (99, &[9], Err(BundleFault::Truncated)),
+    (58, b"X", Err(BundleFault::BadText(1))),
+    (103, b"2", Err(BundleFault::BadText(2))),
+    (103, &[0xff], Err(BundleFault::NotUtf8(2))),
+];
 
 #[test]
 fn bytes_are_changed(rt: HostRuntime) -> Result<(), Fail> {
-    let table: [(usize, &[u8], Result<usize, BundleFault>); 32] = [
-        (0, &[0x54], Err(BundleFault::Magic)),
-        (8, &[0xff; 8], Err(BundleFault::Truncated)),
-        (15, &[3], Err(BundleFault::Truncated)),
-        (15, &[1], Ok(62)),
-        (23, &[0], Err(BundleFault::BadId(1))),
-        (24, &[0], Err(BundleFault::BadId(1))),
-        (24, &[0x21], Err(BundleFault::BadId(1))),
-        (25, &[0x41], Err(BundleFault::BadId(1))),
-        (28, &[0x6d], Err(BundleFault::BadKey(1))),
-        (33, &[2], Err(BundleFault::BadKey(1))),
-        (35, &[1], Err(BundleFault::BadKey(1))),
-        (36, b"a", Err(BundleFault::BadKey(1))),
-        (37, &[0x7f], Err(BundleFault::BadReplaced(1))),
-        (45, &[2], Err(BundleFault::BadTag(1))),
-        (45, &[0], Err(BundleFault::BadTag(1))),
-        (46, &[0xff], Err(BundleFault::Truncated)),
-        (53, &[9], Err(BundleFault::BadId(2))),
-        (54, &[0xff], Err(BundleFault::NotUtf8(1))),
-        (69, &[1], Err(BundleFault::NotRising(2))),
-        // 10^15, and one more
-        (62, &[0, 3, 0x8d, 0x7e, 0xa4, 0xc6, 0x80, 0], Ok(108)),
-        (
-            62,
-            &[0, 3, 0x8d, 0x7e, 0xa4, 0xc6, 0x80, 1],
-            Err(BundleFault::BadId(2)),
-        ),
-        // 999 and 1000
-        (77, &[3, 0xe7], Ok(108)),
-        (77, &[3, 0xe8], Err(BundleFault::BadKey(2))),
-        (80, &[3, 0xe7], Err(BundleFault::BadText(2))),
-        (80, &[3, 0xe8], Err(BundleFault::BadKey(2))),
-        (82, b"z", Err(BundleFault::BadText(2))),
-        (82, &[0x41], Err(BundleFault::BadKey(2))),
-        (82, b"{", Err(BundleFault::BadKey(2))),
-        (99, &[9], Err(BundleFault::Truncated)),
-        (58, b"X", Err(BundleFault::BadText(1))),
-        (103, b"2", Err(BundleFault::BadText(2))),
-        (103, &[0xff], Err(BundleFault::NotUtf8(2))),
-    ];
-    for (at, with, want) in table {
-        let bytes = changed(rt.alloc(), &B1, at, with)?;
+    for (at, with, want) in CHANGES {
+        let bytes = changed(rt.alloc(), B1, *at, with)?;
         let read = decode(rt.alloc(), &bytes).map(|found| found.1);
-        assert_eq!(rt; read, want, "{at}");
+        assert!(rt; read == *want, "{at}");
     }
     Ok(())
 }
 
+const BAD: Option<BundleFault> = Some(BundleFault::BadReplaced(1));
+
+const NAMED: &[(&[Id<'static>], Option<BundleFault>)] = &[
+    (&[(1, "ben"), (2, "ana"), (2, "ben")], None),
+    (&[(2, "ana"), (1, "ana")], BAD),
+    (&[(2, "ben"), (2, "ana")], BAD),
+    (&[(2, "ana"), (2, "ana")], BAD),
+    (&[(3, "ana")], BAD),
+    (&[(3, "ben")], BAD),
+    (&[(0, "ana")], BAD),
+    (&[(2, "Ana")], BAD),
+    (&[(2, "")], BAD),
+];
+
 #[test]
 fn named_ids(rt: HostRuntime) -> Result<(), Fail> {
-    let bad = Some(BundleFault::BadReplaced(1));
-    let table: [(&[Id<'static>], Option<BundleFault>); 9] = [
-        (&[(1, "ben"), (2, "ana"), (2, "ben")], None),
-        (&[(2, "ana"), (1, "ana")], bad),
-        (&[(2, "ben"), (2, "ana")], bad),
-        (&[(2, "ana"), (2, "ana")], bad),
-        (&[(3, "ana")], bad),
-        (&[(3, "ben")], bad),
-        (&[(0, "ana")], bad),
-        (&[(2, "Ana")], bad),
-        (&[(2, "")], bad),
-    ];
-    for (named, want) in table {
+    for (row, (named, want)) in NAMED.iter().enumerate() {
         let bytes = naming(rt.alloc(), named)?;
-        assert_eq!(rt; decode(rt.alloc(), &bytes).err(), want, "{named:?}");
+        assert!(rt; fault_of(rt.alloc(), &bytes) == *want, "row {row}");
     }
-    // The operation's own number is told once the name was read.
-    let mut own = Y;
-    own[52] = 3;
-    assert_eq!(rt;
-        decode(rt.alloc(), &own[..56]).err(),
-        Some(BundleFault::Truncated)
-    );
-    assert_eq!(rt; decode(rt.alloc(), &own[..57]).err(), bad);
     Ok(())
+}
+
+// The operation's own number is told once the name was read.
+#[test]
+fn own_number_is_named(rt: HostRuntime) {
+    let mut own = *Y;
+    own[52] = 3;
+    let cut = fault_of(rt.alloc(), &own[..56]);
+    assert!(rt; cut == Some(BundleFault::Truncated));
+    assert!(rt; fault_of(rt.alloc(), &own[..57]) == BAD);
 }

@@ -25,7 +25,9 @@ pub fn decode_whole(alloc: Global, bytes: &[u8]) -> Result<Bundle<'_>, WholeFaul
     ensures followed { IfErr result (λ fault. fault ≡ WholeFault.Trailing → IsFollowed bytes.now) }
     ensures trailing { IsFollowed bytes.now → result ≡ Err WholeFault.Trailing }
     // Which fault it is.
-    ensures exact { MatchResult result (λ ops. whole_at bytes.now ≡ Ok ops) (λ fault. whole_at bytes.now ≡ Err fault) }
+    ensures exact { MatchResult result
+        (λ ops. whole_at bytes.now ≡ Ok ops)
+        (λ fault. whole_at bytes.now ≡ Err fault) }
 {
     let (bundle, length) = decode(alloc, bytes)?;
     if length < bytes.len() {

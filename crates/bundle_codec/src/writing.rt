@@ -41,7 +41,8 @@ pub fn encode_after(mut bytes: Vec<u8>, set: &OpSet) -> Result<Vec<u8>, AllocErr
 // Appends the magic and the count, with which a bundle begins.
 #[tactic(auto, unfolding(crate::specs::Spelling::magic))]
 pub(crate) fn push_front(bytes: &mut Vec<u8>, count: u64) -> Result<(), AllocError>
-    ensures { IfOk result (λ _. bytes.new.items ≡ bytes.old.items ++ (spelled.magic ++ to_be_bytes w64 count)) }
+    ensures { let front = spelled.magic ++ to_be_bytes w64 count in
+        IfOk result (λ _. bytes.new.items ≡ bytes.old.items ++ front) }
 {
     bytes.extend_from_slice(&MAGIC)?;
     bytes.extend_from_slice(&count.to_be_bytes())

@@ -46,11 +46,15 @@ and_none true b h = h
 and_none false b h = refl
 
 -- nothing names an id where no operation that does is left
-any_none : (g : Segment) (id : Id) (ops : List Operation) → filter (λ o. in_segment g o && names o id) ops ≡ [] → is_replaced ops g id ≡ false
+any_none : (g : Segment) (id : Id) (ops : List Operation) → filter (λ o. in_segment g o && names o id) ops ≡ []
+    → is_replaced ops g id ≡ false
 any_none g id [] e = refl
 any_none g id (o ∷ ops) e = by (λ f. any_none g id ops f) (in_segment g o && names o id) refl e
   where
-    by : (filter (λ o. in_segment g o && names o id) ops ≡ [] → is_replaced ops g id ≡ false) → (b : Bool) → (in_segment g o && names o id) ≡ b → cond b (o ∷ filter (λ o. in_segment g o && names o id) ops) (filter (λ o. in_segment g o && names o id) ops) ≡ [] → ((in_segment g o && names o id) || is_replaced ops g id) ≡ false
+    by : (filter (λ o. in_segment g o && names o id) ops ≡ [] → is_replaced ops g id ≡ false) → (b : Bool)
+        → (in_segment g o && names o id) ≡ b
+        → cond b (o ∷ filter (λ o. in_segment g o && names o id) ops) (filter (λ o. in_segment g o && names o id) ops) ≡ []
+        → ((in_segment g o && names o id) || is_replaced ops g id) ≡ false
     by rest true f e = absurd (cc)
     by rest false f e = ap (λ b. b || is_replaced ops g id) f ∙ rest e
 
@@ -60,32 +64,42 @@ module _ (s : State) (state : IsState s) (book : List ℕ) (pieces : List Part) 
 
   -- ---- the edits stand behind
 
-  rises_behind : (ops : List Operation) (n : ℕ) (keys : List KeyParts) → rises ops ≡ true → greatest_number ops < n → rises (ops ++ edits n keys) ≡ true
+  rises_behind : (ops : List Operation) (n : ℕ) (keys : List KeyParts) → rises ops ≡ true → greatest_number ops < n
+      → rises (ops ++ edits n keys) ≡ true
   rises_behind [] n keys h l = edits_rise s book pieces n keys
   rises_behind (o ∷ ops) n keys h l =
       let p = rises_parts o ops h in
-      and_from _ _ (list_all-append (λ (q : Operation). id_below o.id q.id) ops (edits n keys) ∙ and_from _ _ p.0 (numbers_above s book pieces o.id n keys (omega arith)))
+      and_from _ _ (list_all-append (λ (q : Operation). id_below o.id q.id) ops (edits n keys)
+      ∙ and_from _ _ p.0 (numbers_above s book pieces o.id n keys (omega arith)))
       (rises_behind ops n keys p.1 (omega arith))
 
   pub joined_behind : (keys : List KeyParts) → join s.held (edits (next_number s.held) keys) ≡ s.held ++ edits (next_number s.held) keys
   joined_behind keys =
       let new = edits (next_number s.held) keys in
       same_gets _ _ (rises-join s.held new state.set.rising) (rises_behind s.held (next_number s.held) keys state.set.rising (omega arith))
-      (λ q. get-join s.held new q state.set.rising (edits_rise s book pieces (next_number s.held) keys) ∙ sym (find-append (λ (o : Operation). same_id q o.id) s.held new))
+      (λ q. get-join s.held new q state.set.rising (edits_rise s book pieces (next_number s.held) keys)
+      ∙ sym (find-append (λ (o : Operation). same_id q o.id) s.held new))
 
   -- ---- nothing names an id beyond
 
-  held_names_none : (g : Segment) (id : Id) (ops : List Operation) → AllByRecursion IsOperation ops → greatest_number ops < id.number → is_replaced ops g id ≡ false
+  held_names_none : (g : Segment) (id : Id) (ops : List Operation) → AllByRecursion IsOperation ops → greatest_number ops < id.number
+      → is_replaced ops g id ≡ false
   held_names_none g id [] all l = refl
   held_names_none g id (o ∷ ops) all l =
-      (λ i. and_none (in_segment g o) (names o id) (names_none o id all.0 (omega arith)) i || held_names_none g id ops all.1 (omega arith) i)
+      (λ i. and_none (in_segment g o) (names o id) (names_none o id all.0 (omega arith)) i
+      || held_names_none g id ops all.1 (omega arith) i)
 
-  edits_name_none : (g : Segment) (id : Id) (n : ℕ) (keys : List KeyParts) → greatest_number s.held < id.number → is_replaced (edits n keys) g id ≡ false
+  edits_name_none : (g : Segment) (id : Id) (n : ℕ) (keys : List KeyParts) → greatest_number s.held < id.number
+      → is_replaced (edits n keys) g id ≡ false
   edits_name_none g id n [] l = refl
   edits_name_none g id n (k ∷ keys) l =
       let at = segment book k in
-      let below : list_all (λ (i : Id). nat_lt i.number id.number) (shown_ids s.held at) ≡ true = (and_parts (ids_rise (shown_ids s.held at)) (list_all (λ (i : Id). nat_lt i.number id.number) (shown_ids s.held at)) (shown_fall s.held at id state.set.rising l)).1 in
-      (λ i. and_none (in_segment g (edit_at s book pieces n k)) (list_any (same_id id) (shown_ids s.held at)) (not_named id.number id (shown_ids s.held at) below (omega arith)) i || edits_name_none g id (suc n) keys l i)
+      let below : list_all (λ (i : Id). nat_lt i.number id.number) (shown_ids s.held at)
+      ≡ true =
+      (and_parts (ids_rise (shown_ids s.held at)) (list_all (λ (i : Id). nat_lt i.number id.number) (shown_ids s.held at))
+      (shown_fall s.held at id state.set.rising l)).1 in
+      (λ i. and_none (in_segment g (edit_at s book pieces n k)) (list_any (same_id id) (shown_ids s.held at))
+      (not_named id.number id (shown_ids s.held at) below (omega arith)) i || edits_name_none g id (suc n) keys l i)
 
   -- ---- what of the edits a segment shows
 
@@ -101,14 +115,18 @@ module _ (s : State) (state : IsState s) (book : List ℕ) (pieces : List Part) 
         list_any-append (λ (p : Operation). in_segment g p && names p id) s.held (edits (next_number s.held) all)
         ∙ (λ i. held_names_none g id s.held state.set.each l i || edits_name_none g id (next_number s.held) all l i)
 
-    no_edit : (test : Operation → Bool) (n : ℕ) (keys : List KeyParts) → is_there key keys ≡ false → filter (λ o. in_segment g o && test o) (edits n keys) ≡ []
+    no_edit : (test : Operation → Bool) (n : ℕ) (keys : List KeyParts) → is_there key keys ≡ false
+        → filter (λ o. in_segment g o && test o) (edits n keys) ≡ []
     no_edit test n [] h = refl
     no_edit test n (k ∷ keys) h = by (λ g. no_edit test (suc n) keys g) (is_eq (key_cmp key k)) refl h
       where
-        by : (is_there key keys ≡ false → filter (λ o. in_segment g o && test o) (edits (suc n) keys) ≡ []) → (b : Bool) → is_eq (key_cmp key k) ≡ b → (b || is_there key keys) ≡ false → filter (λ o. in_segment g o && test o) (edits n (k ∷ keys)) ≡ []
+        by : (is_there key keys ≡ false → filter (λ o. in_segment g o && test o) (edits (suc n) keys) ≡ []) → (b : Bool)
+            → is_eq (key_cmp key k) ≡ b → (b || is_there key keys) ≡ false
+            → filter (λ o. in_segment g o && test o) (edits n (k ∷ keys)) ≡ []
         by rest true e h = cc h
         by rest false e h =
-            cond-false _ _ _ (ap (λ b. b && test (edit_at s book pieces n k)) (and_none (same_bytes book book) (same_key k key) (keys_apart key k e)))
+            cond-false _ _ _ (ap (λ b. b && test (edit_at s book pieces n k))
+            (and_none (same_bytes book book) (same_key k key) (keys_apart key k e)))
             ∙ rest h
 
     above_apart : (keys : List KeyParts) → list_all (λ k. is_lt (key_cmp key k)) keys ≡ true → is_there key keys ≡ false
@@ -117,31 +135,41 @@ module _ (s : State) (state : IsState s) (book : List ℕ) (pieces : List Part) 
         let p = and_parts (is_lt (key_cmp key k)) (list_all (λ k. is_lt (key_cmp key k)) keys) h in
         (λ i. is_eq (is_less (key_cmp key k) p.0 i) || above_apart keys p.1 i)
 
-    one_edit : (n : ℕ) (keys : List KeyParts) → rises_by key_cmp (λ k. k) keys ≡ true → greatest_number s.held < n → is_there key keys ≡ true → (m : ℕ) × (filter (is_shown now g) (edits n keys) ≡ edit_at s book pieces m key ∷ [])
+    one_edit : (n : ℕ) (keys : List KeyParts) → rises_by key_cmp (λ k. k) keys ≡ true → greatest_number s.held < n
+        → is_there key keys ≡ true → (m : ℕ) × (filter (is_shown now g) (edits n keys) ≡ edit_at s book pieces m key ∷ [])
     one_edit n [] r l h = cc h
     one_edit n (k ∷ keys) r l h = by (λ g. one_edit (suc n) keys p.1 (omega arith) g) (is_eq (key_cmp key k)) refl h
       where
         p : (list_all (λ j. is_lt (key_cmp k j)) keys ≡ true) × (rises_by key_cmp (λ k. k) keys ≡ true)
         p = and_parts (list_all (λ j. is_lt (key_cmp k j)) keys) (rises_by key_cmp (λ k. k) keys) r
 
-        by : (is_there key keys ≡ true → (m : ℕ) × (filter (is_shown now g) (edits (suc n) keys) ≡ edit_at s book pieces m key ∷ [])) → (b : Bool) → is_eq (key_cmp key k) ≡ b → (b || is_there key keys) ≡ true → (m : ℕ) × (filter (is_shown now g) (edits n (k ∷ keys)) ≡ edit_at s book pieces m key ∷ [])
+        by : (is_there key keys ≡ true → (m : ℕ) × (filter (is_shown now g) (edits (suc n) keys) ≡ edit_at s book pieces m key ∷ []))
+            → (b : Bool) → is_eq (key_cmp key k) ≡ b → (b || is_there key keys) ≡ true
+            → (m : ℕ) × (filter (is_shown now g) (edits n (k ∷ keys)) ≡ edit_at s book pieces m key ∷ [])
         by later true e h =
             let is : key ≡ k = key_is key k e in
             let id : Id = record { number = n; name = s.name } in
             let here : is_shown now g (edit_at s book pieces n k) ≡ true =
-            and_from _ _ (and_from _ _ (same_bytes-refl book) (ap (λ (j : KeyParts). same_key k j) is ∙ same_key-refl k)) (ap not (unnamed id l))
+            and_from _ _ (and_from _ _ (same_bytes-refl book) (ap (λ (j : KeyParts). same_key k j) is ∙ same_key-refl k))
+            (ap not (unnamed id l))
             in
-            let none = no_edit (λ o. not (is_replaced now g o.id)) (suc n) keys (above_apart keys (ap (λ (q : KeyParts). list_all (λ j. is_lt (key_cmp q j)) keys) is ∙ p.0)) in
+            let none = no_edit (λ o. not (is_replaced now g o.id)) (suc n) keys
+            (above_apart keys (ap (λ (q : KeyParts). list_all (λ j. is_lt (key_cmp q j)) keys) is ∙ p.0)) in
             (n, cond-true _ _ _ here ∙ (λ i. edit_at s book pieces n (sym is i) ∷ none i))
         by later false e h =
-            let rest = later h in
-            (rest.0, cond-false _ _ _ (ap (λ b. b && not (is_replaced now g (record { number = n; name = s.name }))) (and_none (same_bytes book book) (same_key k key) (keys_apart key k e))) ∙ rest.1)
+            let rest = later h in (
+              rest.0,
+              cond-false _ _ _ (ap (λ b. b && not (is_replaced now g (record { number = n; name = s.name })))
+                  (and_none (same_bytes book book) (same_key k key) (keys_apart key k e))) ∙ rest.1,
+            )
 
     -- a key with an edit: its text is the piece's
     pub text_edited : rises_by key_cmp (λ k. k) all ≡ true → is_there key all ≡ true → text_of now g ≡ piece_at pieces key
     text_edited r h =
         let one = one_edit (next_number s.held) all r (omega arith) h in
-        ap (λ (ops : List Operation). text_in (last ops)) (filter-append (is_shown now g) s.held (edits (next_number s.held) all) ∙ ap (λ (ops : List Operation). filter (is_shown now g) s.held ++ ops) one.1)
+        ap (λ (ops : List Operation). text_in (last ops))
+        (filter-append (is_shown now g) s.held (edits (next_number s.held) all)
+        ∙ ap (λ (ops : List Operation). filter (is_shown now g) s.held ++ ops) one.1)
         ∙ ap text_in (last_push (filter (is_shown now g) s.held) (edit_at s book pieces one.0 key))
 
     -- a key without one: its text is as it was
@@ -149,7 +177,8 @@ module _ (s : State) (state : IsState s) (book : List ℕ) (pieces : List Part) 
     text_kept h =
         ap (λ (ops : List Operation). text_in (last ops))
         (filter-append (is_shown now g) s.held (edits (next_number s.held) all)
-        ∙ ap (λ (ops : List Operation). filter (is_shown now g) s.held ++ ops) (no_edit (λ o. not (is_replaced now g o.id)) (next_number s.held) all h)
+        ∙ ap (λ (ops : List Operation). filter (is_shown now g) s.held ++ ops)
+        (no_edit (λ o. not (is_replaced now g o.id)) (next_number s.held) all h)
         ∙ append-nil (filter (is_shown now g) s.held)
         ∙ (λ i. filter (λ o. in_segment g o && not (same o.id i)) s.held))
       where
@@ -160,5 +189,6 @@ module _ (s : State) (state : IsState s) (book : List ℕ) (pieces : List Part) 
         same : (id : Id) → is_replaced now g id ≡ is_replaced s.held g id
         same id =
             list_any-append (λ (p : Operation). in_segment g p && names p id) s.held (edits (next_number s.held) all)
-            ∙ ap (λ b. is_replaced s.held g id || b) (any_none g id (edits (next_number s.held) all) (no_edit (λ o. names o id) (next_number s.held) all h))
+            ∙ ap (λ b. is_replaced s.held g id || b)
+            (any_none g id (edits (next_number s.held) all) (no_edit (λ o. names o id) (next_number s.held) all h))
             ∙ or_none (is_replaced s.held g id)

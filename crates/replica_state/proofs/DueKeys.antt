@@ -32,11 +32,13 @@ or_right : (a b : Bool) → b ≡ true → (a || b) ≡ true
 or_right true b h = refl
 or_right false b h = h
 
-pub there_kept : (p : KeyParts → Bool) (q : KeyParts) (ks : List KeyParts) → p q ≡ true → is_there q ks ≡ true → is_there q (filter p ks) ≡ true
+pub there_kept : (p : KeyParts → Bool) (q : KeyParts) (ks : List KeyParts) → p q ≡ true → is_there q ks ≡ true
+    → is_there q (filter p ks) ≡ true
 there_kept p q [] t h = h
 there_kept p q (k ∷ ks) t h = by (λ g. there_kept p q ks t g) (is_eq (key_cmp q k)) refl (p k) refl h
   where
-    by : (is_there q ks ≡ true → is_there q (filter p ks) ≡ true) → (b : Bool) → is_eq (key_cmp q k) ≡ b → (c : Bool) → p k ≡ c → (b || is_there q ks) ≡ true → is_there q (cond c (k ∷ filter p ks) (filter p ks)) ≡ true
+    by : (is_there q ks ≡ true → is_there q (filter p ks) ≡ true) → (b : Bool) → is_eq (key_cmp q k) ≡ b → (c : Bool) → p k ≡ c
+        → (b || is_there q ks) ≡ true → is_there q (cond c (k ∷ filter p ks) (filter p ks)) ≡ true
     by rest true e true f h = or_left _ _ e
     by rest true e false f h = cc (sym f ∙ ap p (sym (key_is q k e)) ∙ t)
     by rest false e true f h = or_right _ _ (rest h)
@@ -44,13 +46,15 @@ there_kept p q (k ∷ ks) t h = by (λ g. there_kept p q ks t g) (is_eq (key_cmp
 
 module _ (held : List Operation) (book : List ℕ) (pieces : List Part) where
   pub due_rise : rises_by key_cmp (λ k. k) (due_keys held book pieces) ≡ true
-  due_rise = rises_filter key_cmp key_total (λ k. k) (is_due held book pieces) (walked_keys held book pieces) (rises-rising key_cmp key_total (map head_of (keys_of held book) ++ (keys_of held book ++ map (λ p. p.key) pieces)))
+  due_rise = rises_filter key_cmp key_total (λ k. k) (is_due held book pieces) (walked_keys held book pieces)
+      (rises-rising key_cmp key_total (map head_of (keys_of held book) ++ (keys_of held book ++ map (λ p. p.key) pieces)))
 
   piece_there : (q : KeyParts) (ps : List Part) → is_some (piece_of ps q) ≡ true → is_there q (map (λ p. p.key) ps) ≡ true
   piece_there q [] h = cc h
   piece_there q (p ∷ ps) h = by (λ g. piece_there q ps g) (is_eq (key_cmp q p.key)) h
     where
-      by : (is_some (piece_of ps q) ≡ true → is_there q (map (λ p. p.key) ps) ≡ true) → (b : Bool) → is_some (cond b (Some p) (piece_of ps q)) ≡ true → (b || is_there q (map (λ p. p.key) ps)) ≡ true
+      by : (is_some (piece_of ps q) ≡ true → is_there q (map (λ p. p.key) ps) ≡ true) → (b : Bool)
+          → is_some (cond b (Some p) (piece_of ps q)) ≡ true → (b || is_there q (map (λ p. p.key) ps)) ≡ true
       by rest true h = refl
       by rest false h = rest h
 
@@ -58,7 +62,8 @@ module _ (held : List Operation) (book : List ℕ) (pieces : List Part) where
   heads_map q [] = refl
   heads_map q (k ∷ ks) = ap (λ b. is_eq (key_cmp q (head_of k)) || b) (heads_map q ks)
 
-  flat_there : (q : KeyParts) (ks : List KeyParts) → is_there q (flat_map (λ key. head_of key ∷ key ∷ []) ks) ≡ (list_any (λ k. is_eq (key_cmp q (head_of k))) ks || is_there q ks)
+  flat_there : (q : KeyParts) (ks : List KeyParts)
+      → is_there q (flat_map (λ key. head_of key ∷ key ∷ []) ks) ≡ (list_any (λ k. is_eq (key_cmp q (head_of k))) ks || is_there q ks)
   flat_there q [] = refl
   flat_there q (k ∷ ks) =
       ap (λ b. is_eq (key_cmp q (head_of k)) || (is_eq (key_cmp q k) || b)) (flat_there q ks)
@@ -70,7 +75,8 @@ module _ (held : List Operation) (book : List ℕ) (pieces : List Part) where
       four false true false d = refl
       four false false c d = refl
 
-  exported_there : (q : KeyParts) → list_any (same_key q) (exported_keys held book) ≡ true → (is_there q (map head_of (keys_of held book)) || is_there q (keys_of held book)) ≡ true
+  exported_there : (q : KeyParts) → list_any (same_key q) (exported_keys held book) ≡ true
+      → (is_there q (map head_of (keys_of held book)) || is_there q (keys_of held book)) ≡ true
   exported_there q h =
       (λ i. heads_map q (keys_of held book) i || any-rising (λ k. is_eq (key_cmp q k)) (keys_in held book) i)
       ∙ ap (λ b. b || is_there q (keys_in held book)) (any-rising (λ k. is_eq (key_cmp q (head_of k))) (keys_in held book))
@@ -79,11 +85,13 @@ module _ (held : List Operation) (book : List ℕ) (pieces : List Part) where
       ∙ (λ i. list_any (λ k. sym (same_key-cmp q k) i) (exported_keys held book))
       ∙ h
 
-  walked : (q : KeyParts) → ((is_there q (map head_of (keys_of held book)) || is_there q (keys_of held book)) || is_there q (map (λ p. p.key) pieces)) ≡ true → is_there q (walked_keys held book pieces) ≡ true
+  walked : (q : KeyParts) → ((is_there q (map head_of (keys_of held book)) || is_there q (keys_of held book))
+      || is_there q (map (λ p. p.key) pieces)) ≡ true → is_there q (walked_keys held book pieces) ≡ true
   walked q h =
       tested_rising key_cmp key_total key_exact q (map head_of (keys_of held book) ++ (keys_of held book ++ map (λ p. p.key) pieces))
       ∙ list_any-append (λ k. is_eq (key_cmp q k)) (map head_of (keys_of held book)) (keys_of held book ++ map (λ p. p.key) pieces)
-      ∙ ap (λ b. is_there q (map head_of (keys_of held book)) || b) (list_any-append (λ k. is_eq (key_cmp q k)) (keys_of held book) (map (λ p. p.key) pieces))
+      ∙ ap (λ b. is_there q (map head_of (keys_of held book)) || b)
+      (list_any-append (λ k. is_eq (key_cmp q k)) (keys_of held book) (map (λ p. p.key) pieces))
       ∙ regroup (is_there q (map head_of (keys_of held book))) (is_there q (keys_of held book)) (is_there q (map (λ p. p.key) pieces))
       ∙ h
     where
@@ -95,7 +103,9 @@ module _ (held : List Operation) (book : List ℕ) (pieces : List Part) where
   due_walked : (q : KeyParts) → is_due held book pieces q ≡ true → is_there q (walked_keys held book pieces) ≡ true
   due_walked q h = walked q (by (is_empty (picked_at held book q)) refl)
     where
-      none : (t : List ℕ) → is_empty t ≡ true → (o : Option Part) → (not (same_bytes t (text_in o)) || ((wants_chapter_line held (segment book q) && is_some o) && not (has_verse pieces q.chapter))) ≡ true → is_some o ≡ true
+      none : (t : List ℕ) → is_empty t ≡ true → (o : Option Part)
+          → (not (same_bytes t (text_in o))
+          || ((wants_chapter_line held (segment book q) && is_some o) && not (has_verse pieces q.chapter))) ≡ true → is_some o ≡ true
       none [] e (Some p) d = refl
       none [] e None d = last (wants_chapter_line held (segment book q)) d
         where
@@ -104,7 +114,9 @@ module _ (held : List Operation) (book : List ℕ) (pieces : List Part) where
           last false d = d
       none (b ∷ bs) e o d = absurd (cc)
 
-      by : (e : Bool) → is_empty (picked_at held book q) ≡ e → ((is_there q (map head_of (keys_of held book)) || is_there q (keys_of held book)) || is_there q (map (λ p. p.key) pieces)) ≡ true
+      by : (e : Bool) → is_empty (picked_at held book q) ≡ e
+          → ((is_there q (map head_of (keys_of held book)) || is_there q (keys_of held book)) || is_there q (map (λ p. p.key) pieces))
+          ≡ true
       by true e = or_right _ _ (piece_there q pieces (none (picked_at held book q) e (piece_of pieces q) h))
       by false e = or_left _ _ (exported_there q (picks_are_exported held book q e))
 

@@ -22,8 +22,10 @@ use Rattle.replica_state.specs.Edits.{has_numbers, next_id}
 pub next_beyond : (s : State) (id : Id) → Some id ≡ next_id s → greatest_number s.held < id.number
 next_beyond s id e = by (has_numbers s.held 1) e
   where
-    by : (b : Bool) → Some id ≡ cond b (Some (record { number = next_number s.held; name = s.name })) None → greatest_number s.held < id.number
-    by true e = let is : id ≡ record { number = next_number s.held; name = s.name } = cc in subst (λ (i : Id). greatest_number s.held < i.number) (sym is) (omega arith)
+    by : (b : Bool) → Some id ≡ cond b (Some (record { number = next_number s.held; name = s.name })) None
+        → greatest_number s.held < id.number
+    by true e = let is : id ≡ record { number = next_number s.held; name = s.name } = cc in
+        subst (λ (i : Id). greatest_number s.held < i.number) (sym is) (omega arith)
     by false e = cc e
 
 pub next_is_new : (s : State) (id : Id) → Some id ≡ next_id s → get s.held id ≡ None
@@ -32,7 +34,8 @@ next_is_new s id e = beyond s.held id (next_beyond s id e)
 pub next_falls : (s : State) (g : Segment) (id : Id) → IsState s → Some id ≡ next_id s → names_fall id (shown_ids s.held g) ≡ true
 next_falls s g id is e = shown_fall s.held g id is.set.rising (next_beyond s id e)
 
-pub next_falls_given : (s : State) (g : Segment) (given : List Id) (id : Id) → IsState s → Some id ≡ next_id s → names_fall id (given_ids s.held g given) ≡ true
+pub next_falls_given : (s : State) (g : Segment) (given : List Id) (id : Id) → IsState s → Some id ≡ next_id s
+    → names_fall id (given_ids s.held g given) ≡ true
 next_falls_given s g given id is e = some_fall id (is_among given) (shown_ids s.held g) (next_falls s g id is e)
 
 -- ---- whether a book has an operation
@@ -54,11 +57,14 @@ pub book_has_keys : (held : List Operation) (book : List ℕ) → has_book held 
 book_has_keys [] book = refl
 book_has_keys (o ∷ held) book = by (book_has_keys held book) (of_book book o)
   where
-    by : has_book held book ≡ not (is_none_left (keys_of held book)) → (b : Bool) → (b || has_book held book) ≡ not (is_none_left (rising key_cmp (map (λ p. p.segment.key) (cond b (o ∷ filter (of_book book) held) (filter (of_book book) held)))))
+    by : has_book held book ≡ not (is_none_left (keys_of held book)) → (b : Bool)
+        → (b || has_book held book) ≡ not (is_none_left (rising key_cmp
+        (map (λ p. p.segment.key) (cond b (o ∷ filter (of_book book) held) (filter (of_book book) held)))))
     by rest true = ap not (sym (one_is_there o.segment.key (rising key_cmp (keys_in held book))))
     by rest false = rest
 
 -- what a walk's first call tells
-pub first_is : (s : List KeyParts) (r : Option KeyParts) (t : List KeyParts) → YieldsFirst (λ (l : List KeyParts). l) s r t → is_some r ≡ not (is_none_left s)
+pub first_is : (s : List KeyParts) (r : Option KeyParts) (t : List KeyParts) → YieldsFirst (λ (l : List KeyParts). l) s r t
+    → is_some r ≡ not (is_none_left s)
 first_is s None t h = ap (λ l. not (is_none_left l)) (sym h.0)
 first_is s (Some k) t h = ap (λ l. not (is_none_left l)) (sym h)

@@ -50,26 +50,32 @@ there_passes p q (k ∷ ks) f = by (there_passes p q ks f) (p k) refl
         apart false g = rest
 
 -- the texts behind the head of a book are those that are picked
-pub later_at : (held : List Operation) (book : List ℕ) (q : KeyParts) → key_below book_head q ≡ true → text_at (filled (later_texts held book)) q ≡ picked_at held book q
-later_at held book q behind = filled_at held book (filter (key_below book_head) (exported_keys held book)) q ∙ by (is_empty (picked_at held book q)) refl
+pub later_at : (held : List Operation) (book : List ℕ) (q : KeyParts) → key_below book_head q ≡ true
+    → text_at (filled (later_texts held book)) q ≡ picked_at held book q
+later_at held book q behind =
+    filled_at held book (filter (key_below book_head) (exported_keys held book)) q ∙ by (is_empty (picked_at held book q)) refl
   where
     either : (b : Bool) → picked_at held book q ≡ [] → cond b (picked_at held book q) [] ≡ picked_at held book q
     either true h = refl
     either false h = sym h
 
-    by : (e : Bool) → is_empty (picked_at held book q) ≡ e → cond (is_there q (filter (key_below book_head) (exported_keys held book))) (picked_at held book q) [] ≡ picked_at held book q
+    by : (e : Bool) → is_empty (picked_at held book q) ≡ e
+        → cond (is_there q (filter (key_below book_head) (exported_keys held book))) (picked_at held book q) [] ≡ picked_at held book q
     by true e = either (is_there q (filter (key_below book_head) (exported_keys held book))) (empty_is (picked_at held book q) e)
     by false e =
-        let there : is_there q (exported_keys held book) ≡ true = (λ i. list_any (λ k. sym (same_key-cmp q k) i) (exported_keys held book)) ∙ picks_are_exported held book q e in
+        let there : is_there q (exported_keys held book) ≡ true =
+        (λ i. list_any (λ k. sym (same_key-cmp q k) i) (exported_keys held book)) ∙ picks_are_exported held book q e in
         cond-true _ _ _ (there_kept (key_below book_head) q (exported_keys held book) behind there)
 
-pub later_none : (held : List Operation) (book : List ℕ) (q : KeyParts) → key_below book_head q ≡ false → text_at (filled (later_texts held book)) q ≡ []
+pub later_none : (held : List Operation) (book : List ℕ) (q : KeyParts) → key_below book_head q ≡ false
+    → text_at (filled (later_texts held book)) q ≡ []
 later_none held book q apart =
     filled_at held book (filter (key_below book_head) (exported_keys held book)) q
     ∙ cond-false _ _ _ (there_passes (key_below book_head) q (exported_keys held book) apart)
 
 -- a list behind the head of the book has nothing at keys that are not
-behind_none : (ts : List KeyText) (q : KeyParts) → list_all (λ t. key_below book_head t.key) ts ≡ true → key_below book_head q ≡ false → text_at ts q ≡ []
+behind_none : (ts : List KeyText) (q : KeyParts) → list_all (λ t. key_below book_head t.key) ts ≡ true → key_below book_head q ≡ false
+    → text_at ts q ≡ []
 behind_none [] q h f = refl
 behind_none (t ∷ ts) q h f = by (behind_none ts q p.1 f) (is_eq (key_cmp q t.key)) refl
   where
@@ -81,7 +87,8 @@ behind_none (t ∷ ts) q h f = by (behind_none ts q p.1 f) (is_eq (key_cmp q t.k
     by rest false e = ap own_text (cond-false _ _ _ e) ∙ rest
 
 -- a text that is behind the head of the book is not the head's
-pub behind_head : (head : List ℕ) (ts : List KeyText) (q : KeyParts) → key_below book_head q ≡ true → text_at (at_book_head head ∷ ts) q ≡ text_at ts q
+pub behind_head : (head : List ℕ) (ts : List KeyText) (q : KeyParts) → key_below book_head q ≡ true
+    → text_at (at_book_head head ∷ ts) q ≡ text_at ts q
 behind_head head ts q h = by (is_eq (key_cmp q book_head)) refl
   where
     by : (b : Bool) → is_eq (key_cmp q book_head) ≡ b → own_text (cond b (Some (at_book_head head)) (at_key ts q)) ≡ text_at ts q
@@ -93,7 +100,8 @@ joined_filled : (ts : List KeyText) → texts_joined ts ≡ texts_joined (filled
 joined_filled [] = refl
 joined_filled (t ∷ ts) = by (joined_filled ts) (is_empty t.text) refl
   where
-    by : texts_joined ts ≡ texts_joined (filled ts) → (b : Bool) → is_empty t.text ≡ b → t.text ++ texts_joined ts ≡ texts_joined (cond (not b) (t ∷ filled ts) (filled ts))
+    by : texts_joined ts ≡ texts_joined (filled ts) → (b : Bool) → is_empty t.text ≡ b
+        → t.text ++ texts_joined ts ≡ texts_joined (cond (not b) (t ∷ filled ts) (filled ts))
     by rest true e = ap (λ (r : List ℕ). r ++ texts_joined ts) (empty_is t.text e) ∙ rest
     by rest false e = ap (λ (r : List ℕ). t.text ++ r) rest
 
@@ -110,11 +118,16 @@ module _ (s : State) (state : IsState s) (book file : List ℕ) (named : book_in
   later_is : filled (later_texts now book) ≡ (imports.joined s state book file named).later
   later_is =
       let j = imports.joined s state book file named in
-      let above = and_parts (list_all (λ (t : KeyText). key_below book_head t.key) j.later) (rises_by key_cmp (λ (t : KeyText). t.key) j.later) j.rise in
-      let own = and_parts (list_all (λ (t : KeyText). key_below book_head t.key) (later_texts now book)) (rises_by key_cmp (λ (t : KeyText). t.key) (later_texts now book)) (texts_rise now book []) in
-      same_texts (filled (later_texts now book)) j.later (filled_rise (later_texts now book) own.1) above.1 (filled_are (later_texts now book)) j.filled (λ q. at q (key_below book_head q) refl above.0)
+      let above = and_parts (list_all (λ (t : KeyText). key_below book_head t.key) j.later)
+      (rises_by key_cmp (λ (t : KeyText). t.key) j.later) j.rise in
+      let own = and_parts (list_all (λ (t : KeyText). key_below book_head t.key) (later_texts now book))
+      (rises_by key_cmp (λ (t : KeyText). t.key) (later_texts now book)) (texts_rise now book []) in
+      same_texts (filled (later_texts now book)) j.later (filled_rise (later_texts now book) own.1) above.1
+      (filled_are (later_texts now book)) j.filled (λ q. at q (key_below book_head q) refl above.0)
     where
-      at : (q : KeyParts) (b : Bool) → key_below book_head q ≡ b → list_all (λ (t : KeyText). key_below book_head t.key) (imports.joined s state book file named).later ≡ true → text_at (filled (later_texts now book)) q ≡ text_at (imports.joined s state book file named).later q
+      at : (q : KeyParts) (b : Bool) → key_below book_head q ≡ b
+          → list_all (λ (t : KeyText). key_below book_head t.key) (imports.joined s state book file named).later ≡ true
+          → text_at (filled (later_texts now book)) q ≡ text_at (imports.joined s state book file named).later q
       at q true e above =
           later_at now book q e ∙ imports.picked_is_piece s state book file named q ∙ imports.piece_text s state book file named q
           ∙ behind_head (imports.joined s state book file named).head (imports.joined s state book file named).later q e
@@ -130,7 +143,8 @@ module _ (s : State) (state : IsState s) (book file : List ℕ) (named : book_in
 
 pub imports_are_exported : ImportsAreExported
 imports_are_exported s file book count state named reply =
-    ap (λ (t : Step). export t.after.held book) (stepped) ∙ by (has_numbers s.held (length due)) refl (sym (ap (λ (t : Step). t.reply) stepped) ∙ reply)
+    ap (λ (t : Step). export t.after.held book) (stepped)
+    ∙ by (has_numbers s.held (length due)) refl (sym (ap (λ (t : Step). t.reply) stepped) ∙ reply)
   where
     due : List KeyParts
     due = due_keys s.held book (pieces_of file)
@@ -138,9 +152,13 @@ imports_are_exported s file book count state named reply =
     stepped : step s (Import file) ≡ imported s (edits_numbered s book (pieces_of file) due)
     stepped = ap (λ (r : Result (List ℕ) BookFault). imported s (import_into s (pieces_of file) r)) named
 
-    by : (b : Bool) → has_numbers s.held (length due) ≡ b → (imported s (edits_numbered s book (pieces_of file) due)).reply ≡ Imported (Ok count) → export (imported s (edits_numbered s book (pieces_of file) due)).after.held book ≡ file
+    by : (b : Bool) → has_numbers s.held (length due) ≡ b
+        → (imported s (edits_numbered s book (pieces_of file) due)).reply ≡ Imported (Ok count)
+        → export (imported s (edits_numbered s book (pieces_of file) due)).after.held book ≡ file
     by true e r =
         ap (λ (x : Result (List Operation) ImportFault). export (imported s x).after.held book) (cond-true _ _ _ e)
         ∙ ap (λ (ops : List Operation). export ops book) (joined_behind s state book (pieces_of file) due)
         ∙ export_is_file s state book file named
-    by false e r = absurd (let full : Imported (Err NumbersUsedUp) ≡ Imported (Ok count) = ap (λ (x : Result (List Operation) ImportFault). (imported s x).reply) (sym (cond-false _ _ _ e)) ∙ r in cc)
+    by false e r =
+        absurd (let full : Imported (Err NumbersUsedUp)
+        ≡ Imported (Ok count) = ap (λ (x : Result (List Operation) ImportFault). (imported s x).reply) (sym (cond-false _ _ _ e)) ∙ r in cc)

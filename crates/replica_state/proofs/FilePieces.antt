@@ -23,7 +23,8 @@ use Rattle.replica_state.specs.Imports.{text_in, piece_of, piece_at}
 code_leads : (bytes book : List ℕ) → leading_book bytes ≡ Some book → is_book_code book ≡ true
 code_leads bytes book h = by (is_book_code (take 3 bytes) && ends_code (drop 3 bytes)) refl h
   where
-    by : (e : Bool) → is_book_code (take 3 bytes) && ends_code (drop 3 bytes) ≡ e → cond e (Some (take 3 bytes)) None ≡ Some book → is_book_code book ≡ true
+    by : (e : Bool) → is_book_code (take 3 bytes) && ends_code (drop 3 bytes) ≡ e → cond e (Some (take 3 bytes)) None ≡ Some book
+        → is_book_code book ≡ true
     by true e h =
         let is : take 3 bytes ≡ book = cc in
         ap is_book_code (sym is) ∙ (and_parts (is_book_code (take 3 bytes)) (ends_code (drop 3 bytes)) e).0
@@ -47,26 +48,32 @@ book_is_headed text book h = book_reads text (Ok book) (sym h)
 -- ---- the piece of a key
 
 -- a piece that is found is of the key, and what holds of all holds of it
-pub piece_has : (P : Part → Type 0) (key : KeyParts) (pieces : List Part) (p : Part) → All P pieces → piece_of pieces key ≡ Some p → P p × (key ≡ p.key)
+pub piece_has : (P : Part → Type 0) (key : KeyParts) (pieces : List Part) (p : Part) → All P pieces → piece_of pieces key ≡ Some p
+    → P p × (key ≡ p.key)
 piece_has P key [] p all h = absurd (cc)
 piece_has P key (q ∷ pieces) p all h = by (λ e. piece_has P key pieces p (All-tail P q pieces all) e) (is_eq (key_cmp key q.key)) refl h
   where
-    by : (piece_of pieces key ≡ Some p → P p × (key ≡ p.key)) → (b : Bool) → is_eq (key_cmp key q.key) ≡ b → cond b (Some q) (piece_of pieces key) ≡ Some p → P p × (key ≡ p.key)
+    by : (piece_of pieces key ≡ Some p → P p × (key ≡ p.key)) → (b : Bool) → is_eq (key_cmp key q.key) ≡ b
+        → cond b (Some q) (piece_of pieces key) ≡ Some p → P p × (key ≡ p.key)
     by rest true e h =
         let is : q ≡ p = cc in
         (subst P is (All-head P q pieces all), key_exact key q.key ((Equal-is _).0 e) ∙ ap (λ (r : Part). r.key) is)
     by rest false e h = rest h
 
 -- the head of a book has a piece
-pub head_has_piece : (text : List ℕ) (book : List ℕ) (j : IsJoinOf book text) → piece_of (pieces_of text) book_head ≡ Some (record { key = book_head; start = 0; text = j.head })
+pub head_has_piece : (text : List ℕ) (book : List ℕ) (j : IsJoinOf book text)
+    → piece_of (pieces_of text) book_head ≡ Some (record { key = book_head; start = 0; text = j.head })
 head_has_piece text book j = ap (λ ps. piece_of ps book_head) j.pieces
 
 -- what a file has at a key, perhaps nothing, fits it
-pub piece_fits : (book text : List ℕ) (key : KeyParts) → is_book_code book ≡ true → IsHeaded book text → text_fits book key (piece_at (pieces_of text) key) ≡ true
+pub piece_fits : (book text : List ℕ) (key : KeyParts) → is_book_code book ≡ true → IsHeaded book text
+    → text_fits book key (piece_at (pieces_of text) key) ≡ true
 piece_fits book text key code headed = by (piece_of (pieces_of text) key) refl
   where
     absent : (b : Bool) → same_key key book_head ≡ b → piece_of (pieces_of text) key ≡ None → text_fits book key [] ≡ true
-    absent true e gone = absurd (let there = head_has_piece text book (books_are_joins book text code headed) in let here = ap (piece_of (pieces_of text)) (sym (same_key-is key book_head e)) ∙ gone in cc)
+    absent true e gone =
+        absurd (let there = head_has_piece text book (books_are_joins book text code headed) in
+        let here = ap (piece_of (pieces_of text)) (sym (same_key-is key book_head e)) ∙ gone in cc)
     absent false e gone = sym (fits_other book key [] e)
 
     by : (o : Option Part) → piece_of (pieces_of text) key ≡ o → text_fits book key (text_in o) ≡ true

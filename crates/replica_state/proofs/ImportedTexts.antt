@@ -43,7 +43,8 @@ empty_is (b ∷ bs) h = absurd (cc)
 -- a key that wants its chapter's line has no text of its own
 wants_no_text : (held : List Operation) (g : Segment) → wants_chapter_line held g ≡ true → text_of held g ≡ []
 wants_no_text held g h =
-    let a = and_parts (is_head g.key.place && nat_le 1 g.key.chapter && is_empty (text_of held g)) (has_verse_text held g.book g.key.chapter) h in
+    let a = and_parts (is_head g.key.place && nat_le 1 g.key.chapter && is_empty (text_of held g))
+    (has_verse_text held g.book g.key.chapter) h in
     empty_is (text_of held g) (and_parts (is_head g.key.place && nat_le 1 g.key.chapter) (is_empty (text_of held g)) a.0).1
 
 pub verse_wants_none : (held : List Operation) (g : Segment) → is_head g.key.place ≡ false → wants_chapter_line held g ≡ false
@@ -79,12 +80,15 @@ module _ (s : State) (state : IsState s) (book file : List ℕ) (named : book_in
   heads : All NeedsHead texts
   heads = All-cons NeedsHead (at_book_head joined.head) joined.later (λ some verse more. cc verse)
       (All-weaker (λ t. is_empty t.text ≡ false → is_head t.key.place ≡ false → 0 < t.key.chapter → HasHead t.key joined.later) NeedsHead
-      (λ t f some verse more. let h = f some verse more in (h.0, contains_later (at_book_head joined.head) joined.later h.0 h.1, h.2, h.3)) joined.later joined.heads)
+      (λ t f some verse more. let h = f some verse more in (h.0, contains_later (at_book_head joined.head) joined.later h.0 h.1, h.2, h.3))
+      joined.later joined.heads)
 
-  head_has_text : (key : KeyParts) → is_empty (piece_at pieces key) ≡ false → is_head key.place ≡ false → 1 ≤ key.chapter → is_empty (piece_at pieces (head_of key)) ≡ false
+  head_has_text : (key : KeyParts) → is_empty (piece_at pieces key) ≡ false → is_head key.place ≡ false → 1 ≤ key.chapter
+      → is_empty (piece_at pieces (head_of key)) ≡ false
   head_has_text key some verse more =
       let t = stands NeedsHead texts key heads (ap is_empty (sym (piece_text key)) ∙ some) in
-      let h = t.holds (ap is_empty (t.text ∙ sym (piece_text key)) ∙ some) (ap (λ (k : KeyParts). is_head k.place) (sym t.key) ∙ verse) (subst (λ (k : KeyParts). 0 < k.chapter) t.key (omega arith)) in
+      let h = t.holds (ap is_empty (t.text ∙ sym (piece_text key)) ∙ some) (ap (λ (k : KeyParts). is_head k.place) (sym t.key) ∙ verse)
+      (subst (λ (k : KeyParts). 0 < k.chapter) t.key (omega arith)) in
       let is : head_of key ≡ h.0.key = ap head_of t.key ∙ sym h.2 in
       ap is_empty (piece_text (head_of key) ∙ ap (text_at texts) is ∙ item_at texts h.0 joined.rise h.1) ∙ h.3
 
@@ -93,28 +97,39 @@ module _ (s : State) (state : IsState s) (book file : List ℕ) (named : book_in
   IsFilled t = is_head t.key.place ≡ false → is_empty t.text ≡ false
 
   filled_but_head : All IsFilled texts
-  filled_but_head = All-cons IsFilled (at_book_head joined.head) joined.later (λ verse. cc verse) (All-weaker (λ t. is_empty t.text ≡ false) IsFilled (λ t f verse. f) joined.later joined.filled)
+  filled_but_head = All-cons IsFilled (at_book_head joined.head) joined.later (λ verse. cc verse)
+      (All-weaker (λ t. is_empty t.text ≡ false) IsFilled (λ t f verse. f) joined.later joined.filled)
 
-  verse_among : (chapter n : ℕ) (ts : List KeyText) → has_verse (pieces_from n ts) chapter ≡ true → All IsFilled ts → (t : KeyText) × Contains ts t × (is_verse_of chapter t.key ≡ true) × IsFilled t
+  verse_among : (chapter n : ℕ) (ts : List KeyText) → has_verse (pieces_from n ts) chapter ≡ true → All IsFilled ts
+      → (t : KeyText) × Contains ts t × (is_verse_of chapter t.key ≡ true) × IsFilled t
   verse_among chapter n [] h all = cc h
-  verse_among chapter n (t ∷ ts) h all = by (λ g. verse_among chapter (n + length t.text) ts g (All-tail IsFilled t ts all)) (is_verse_of chapter t.key) refl h
+  verse_among chapter n (t ∷ ts) h all =
+      by (λ g. verse_among chapter (n + length t.text) ts g (All-tail IsFilled t ts all)) (is_verse_of chapter t.key) refl h
     where
-      by : (has_verse (pieces_from (n + length t.text) ts) chapter ≡ true → (u : KeyText) × Contains ts u × (is_verse_of chapter u.key ≡ true) × IsFilled u) → (b : Bool) → is_verse_of chapter t.key ≡ b → (b || has_verse (pieces_from (n + length t.text) ts) chapter) ≡ true → (u : KeyText) × Contains (t ∷ ts) u × (is_verse_of chapter u.key ≡ true) × IsFilled u
+      by : (has_verse (pieces_from (n + length t.text) ts) chapter ≡ true
+          → (u : KeyText) × Contains ts u × (is_verse_of chapter u.key ≡ true) × IsFilled u) → (b : Bool) → is_verse_of chapter t.key ≡ b
+          → (b || has_verse (pieces_from (n + length t.text) ts) chapter) ≡ true
+          → (u : KeyText) × Contains (t ∷ ts) u × (is_verse_of chapter u.key ≡ true) × IsFilled u
       by rest true e h = (t, (0, omega arith, refl), e, All-head IsFilled t ts all)
       by rest false e h = let r = rest h in (r.0, contains_later t ts r.0 r.1, r.2, r.3)
 
   -- ---- texts
 
-  not_due_parts : (key : KeyParts) → is_due s.held book pieces key ≡ false → (picked_at s.held book key ≡ piece_at pieces key) × (loses_line s.held book pieces key ≡ false)
+  not_due_parts : (key : KeyParts) → is_due s.held book pieces key ≡ false
+      → (picked_at s.held book key ≡ piece_at pieces key) × (loses_line s.held book pieces key ≡ false)
   not_due_parts key h = by (same_bytes (picked_at s.held book key) (piece_at pieces key)) refl h
     where
-      by : (b : Bool) → same_bytes (picked_at s.held book key) (piece_at pieces key) ≡ b → (not b || loses_line s.held book pieces key) ≡ false → (picked_at s.held book key ≡ piece_at pieces key) × (loses_line s.held book pieces key ≡ false)
+      by : (b : Bool) → same_bytes (picked_at s.held book key) (piece_at pieces key) ≡ b
+          → (not b || loses_line s.held book pieces key) ≡ false
+          → (picked_at s.held book key ≡ piece_at pieces key) × (loses_line s.held book pieces key ≡ false)
       by true e h = (same_bytes-is (picked_at s.held book key) (piece_at pieces key) e, h)
       by false e h = cc h
 
   -- with an edit the text is the piece's; without one it stays, and what was picked is the piece
   abbrev Becomes : KeyParts → Type 0
-  Becomes key = (text_of now (at key) ≡ piece_at pieces key) ⊎ ((text_of now (at key) ≡ text_of s.held (at key)) × ((picked_at s.held book key ≡ piece_at pieces key) × (loses_line s.held book pieces key ≡ false)))
+  Becomes key = (text_of now (at key) ≡ piece_at pieces key) ⊎
+      ((text_of now (at key) ≡ text_of s.held (at key))
+      × ((picked_at s.held book key ≡ piece_at pieces key) × (loses_line s.held book pieces key ≡ false)))
 
   becomes : (key : KeyParts) → Becomes key
   becomes key = by (is_there key due) refl
@@ -133,7 +148,8 @@ module _ (s : State) (state : IsState s) (book file : List ℕ) (named : book_in
   -- ---- chapters' own lines
 
   -- where a verse has a text, the head of its chapter has a piece that is not empty
-  line_has_piece : (chapter : ℕ) → 1 ≤ chapter → has_verse_text now book chapter ≡ true → is_empty (piece_at pieces (chapter_head chapter)) ≡ false
+  line_has_piece : (chapter : ℕ) → 1 ≤ chapter → has_verse_text now book chapter ≡ true
+      → is_empty (piece_at pieces (chapter_head chapter)) ≡ false
   line_has_piece chapter some h =
       let o = any_found (is_verse_with_text now book chapter) now h in
       let a = and_parts (is_verse_in book chapter o.0) (not (is_empty (text_of now o.0.segment))) o.1 in
@@ -143,12 +159,15 @@ module _ (s : State) (state : IsState s) (book file : List ℕ) (named : book_in
       let verse = not-true (is_head o.0.segment.key.place) c.1 in
       let number : o.0.segment.key.chapter ≡ chapter = eqb-true o.0.segment.key.chapter chapter c.0 in
       let text : is_empty (piece_at pieces o.0.segment.key) ≡ false =
-      ap is_empty (sym (verse_text o.0.segment.key verse)) ∙ ap (λ (g : Segment). is_empty (text_of now g)) (sym is) ∙ not-true (is_empty (text_of now o.0.segment)) a.1
+      ap is_empty (sym (verse_text o.0.segment.key verse)) ∙ ap (λ (g : Segment). is_empty (text_of now g)) (sym is)
+      ∙ not-true (is_empty (text_of now o.0.segment)) a.1
       in
-      ap (λ n. is_empty (piece_at pieces (chapter_head n))) (sym number) ∙ head_has_text o.0.segment.key text verse (subst (λ n. 1 ≤ n) (sym number) some)
+      ap (λ n. is_empty (piece_at pieces (chapter_head n))) (sym number)
+      ∙ head_has_text o.0.segment.key text verse (subst (λ n. 1 ≤ n) (sym number) some)
 
   -- a chapter with a verse among the pieces has a head that is picked
-  verse_has_head : (chapter : ℕ) → 1 ≤ chapter → has_verse pieces chapter ≡ true → is_empty (picked_at now book (chapter_head chapter)) ≡ false
+  verse_has_head : (chapter : ℕ) → 1 ≤ chapter → has_verse pieces chapter ≡ true
+      → is_empty (picked_at now book (chapter_head chapter)) ≡ false
   verse_has_head chapter some h =
       let v = verse_piece chapter h in
       let c = and_parts (v.0.key.chapter == chapter) (not (is_head v.0.key.place)) v.1 in
@@ -157,12 +176,18 @@ module _ (s : State) (state : IsState s) (book file : List ℕ) (named : book_in
       let picked : is_empty (picked_at now book v.0.key) ≡ false =
       ap is_empty (picked_own now (at v.0.key) (verse_wants_none now (at v.0.key) verse) ∙ verse_text v.0.key verse) ∙ v.2
       in
-      ap (λ n. is_empty (picked_at now book (chapter_head n))) (sym number) ∙ head_picked now book v.0.key picked verse (subst (λ n. 1 ≤ n) (sym number) some)
+      ap (λ n. is_empty (picked_at now book (chapter_head n))) (sym number)
+      ∙ head_picked now book v.0.key picked verse (subst (λ n. 1 ≤ n) (sym number) some)
     where
-      verse_piece : (chapter : ℕ) → has_verse pieces chapter ≡ true → (t : KeyText) × (is_verse_of chapter t.key ≡ true) × (is_empty (piece_at pieces t.key) ≡ false)
+      verse_piece : (chapter : ℕ) → has_verse pieces chapter ≡ true
+          → (t : KeyText) × (is_verse_of chapter t.key ≡ true) × (is_empty (piece_at pieces t.key) ≡ false)
       verse_piece chapter h =
-          let v = verse_among chapter 0 texts (ap (λ ps. has_verse ps chapter) (sym joined.pieces) ∙ h) filled_but_head in
-          (v.0, v.2, ap is_empty (piece_text v.0.key ∙ item_at texts v.0 joined.rise v.1) ∙ v.3 (not-true (is_head v.0.key.place) (and_parts (v.0.key.chapter == chapter) (not (is_head v.0.key.place)) v.2).1))
+          let v = verse_among chapter 0 texts (ap (λ ps. has_verse ps chapter) (sym joined.pieces) ∙ h) filled_but_head in (
+            v.0,
+            v.2,
+            ap is_empty (piece_text v.0.key ∙ item_at texts v.0 joined.rise v.1)
+                ∙ v.3 (not-true (is_head v.0.key.place) (and_parts (v.0.key.chapter == chapter) (not (is_head v.0.key.place)) v.2).1),
+          )
 
   -- ---- what is picked
 
@@ -170,7 +195,9 @@ module _ (s : State) (state : IsState s) (book file : List ℕ) (named : book_in
   picked_is_piece key = by (wants_chapter_line now (at key)) refl (becomes key)
     where
       kept : Bool → Type 0
-      kept w = wants_chapter_line s.held (at key) ≡ w → wants_chapter_line now (at key) ≡ false → text_of now (at key) ≡ text_of s.held (at key) → picked_at s.held book key ≡ piece_at pieces key → loses_line s.held book pieces key ≡ false → picked_at now book key ≡ piece_at pieces key
+      kept w = wants_chapter_line s.held (at key) ≡ w → wants_chapter_line now (at key) ≡ false
+          → text_of now (at key) ≡ text_of s.held (at key) → picked_at s.held book key ≡ piece_at pieces key
+          → loses_line s.held book pieces key ≡ false → picked_at now book key ≡ piece_at pieces key
 
       there : (o : Option Part) → is_empty (text_in o) ≡ false → is_some o ≡ true
       there None e = absurd (cc)
@@ -191,11 +218,13 @@ module _ (s : State) (state : IsState s) (book file : List ℕ) (named : book_in
       with_line : wants_chapter_line now (at key) ≡ true → Becomes key → picked_at now book key ≡ piece_at pieces key
       with_line e b =
           let w = wants_line now (at key) e in
-          let some : is_empty (piece_at pieces key) ≡ false = ap (λ (k : KeyParts). is_empty (piece_at pieces k)) w.key_is ∙ line_has_piece key.chapter w.some w.verse in
+          let some : is_empty (piece_at pieces key) ≡ false =
+          ap (λ (k : KeyParts). is_empty (piece_at pieces k)) w.key_is ∙ line_has_piece key.chapter w.some w.verse in
           let none = wants_no_text now (at key) e in
           cases some none b
         where
-          cases : is_empty (piece_at pieces key) ≡ false → text_of now (at key) ≡ [] → Becomes key → picked_at now book key ≡ piece_at pieces key
+          cases : is_empty (piece_at pieces key) ≡ false → text_of now (at key) ≡ [] → Becomes key
+              → picked_at now book key ≡ piece_at pieces key
           cases some none (inl t) = cc (sym some ∙ ap is_empty (sym t ∙ none))
           cases some none (inr (t, (p, l))) = was (wants_chapter_line s.held (at key)) refl
             where

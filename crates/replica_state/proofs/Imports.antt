@@ -27,35 +27,47 @@ use Rattle.replica_state.specs.Imports.{text_in, piece_of, piece_at, has_verse, 
 module _ (s : State) (book : List ℕ) (pieces : List Part) where
   -- the edit of a key, with a number
   abbrev pub edit_at : ℕ → KeyParts → Operation
-  edit_at n key = edit_with (record { number = n; name = s.name }) (segment book key) (shown_ids s.held (segment book key)) (piece_at pieces key)
+  edit_at n key =
+      edit_with (record { number = n; name = s.name }) (segment book key) (shown_ids s.held (segment book key)) (piece_at pieces key)
 
   -- an id of a smaller number is below each of the edits
-  pub numbers_above : (i : Id) (m : ℕ) (keys : List KeyParts) → i.number < m → list_all (λ o. id_below i o.id) (edits_from m s book pieces keys) ≡ true
+  pub numbers_above : (i : Id) (m : ℕ) (keys : List KeyParts) → i.number < m
+      → list_all (λ o. id_below i o.id) (edits_from m s book pieces keys) ≡ true
   numbers_above i m [] l = refl
-  numbers_above i m (k ∷ keys) l = and_from _ _ (ap (λ r. is_lt (ordering_then r (name_cmp i.name s.name))) (sym (nat_cmp_is i.number m Less l))) (numbers_above i (suc m) keys (omega arith))
+  numbers_above i m (k ∷ keys) l = and_from _ _
+      (ap (λ r. is_lt (ordering_then r (name_cmp i.name s.name))) (sym (nat_cmp_is i.number m Less l)))
+      (numbers_above i (suc m) keys (omega arith))
 
   pub edits_rise : (n : ℕ) (keys : List KeyParts) → rises (edits_from n s book pieces keys) ≡ true
   edits_rise n [] = refl
-  edits_rise n (k ∷ keys) = and_from _ _ (numbers_above (record { number = n; name = s.name }) (suc n) keys (omega arith)) (edits_rise (suc n) keys)
+  edits_rise n (k ∷ keys) =
+      and_from _ _ (numbers_above (record { number = n; name = s.name }) (suc n) keys (omega arith)) (edits_rise (suc n) keys)
 
-  pub edits_are_new : (n : ℕ) (keys : List KeyParts) → greatest_number s.held < n → AllByRecursion (λ o. get s.held o.id ≡ None) (edits_from n s book pieces keys)
+  pub edits_are_new : (n : ℕ) (keys : List KeyParts) → greatest_number s.held < n
+      → AllByRecursion (λ o. get s.held o.id ≡ None) (edits_from n s book pieces keys)
   edits_are_new n [] l = tt
   edits_are_new n (k ∷ keys) l = (beyond s.held (record { number = n; name = s.name }) l, edits_are_new (suc n) keys (omega arith))
 
-  edits_push : (n : ℕ) (keys : List KeyParts) (key : KeyParts) → edits_from n s book pieces (keys ++ key ∷ []) ≡ edits_from n s book pieces keys ++ edit_at (n + length keys) key ∷ []
+  edits_push : (n : ℕ) (keys : List KeyParts) (key : KeyParts)
+      → edits_from n s book pieces (keys ++ key ∷ []) ≡ edits_from n s book pieces keys ++ edit_at (n + length keys) key ∷ []
   edits_push n [] key = let e : n ≡ n + 0 = omega arith in ap (λ (m : ℕ). edit_at m key ∷ []) e
   edits_push n (k ∷ keys) key =
       let e : suc n + length keys ≡ n + suc (length keys) = omega arith in
-      ap (λ (ops : List Operation). edit_at n k ∷ ops) (edits_push (suc n) keys key ∙ ap (λ (m : ℕ). edits_from (suc n) s book pieces keys ++ edit_at m key ∷ []) e)
+      ap (λ (ops : List Operation). edit_at n k ∷ ops)
+      (edits_push (suc n) keys key ∙ ap (λ (m : ℕ). edits_from (suc n) s book pieces keys ++ edit_at m key ∷ []) e)
 
   -- one more of them
-  pub edits_more : (n m : ℕ) (keys : List KeyParts) (i : ℕ) (key : KeyParts) → i < length keys → key ≡ get_or keys i key → length (take i keys) ≡ i → m ≡ n + i → edits_from n s book pieces (take i keys) ++ edit_at m key ∷ [] ≡ edits_from n s book pieces (take (i + 1) keys)
+  pub edits_more : (n m : ℕ) (keys : List KeyParts) (i : ℕ) (key : KeyParts) → i < length keys → key ≡ get_or keys i key
+      → length (take i keys) ≡ i → m ≡ n + i
+      → edits_from n s book pieces (take i keys) ++ edit_at m key ∷ [] ≡ edits_from n s book pieces (take (i + 1) keys)
   edits_more n m keys i key l hk len e =
-      sym (ap (edits_from n s book pieces) (more_items keys i key l hk) ∙ edits_push n (take i keys) key ∙ ap (λ (j : ℕ). edits_from n s book pieces (take i keys) ++ edit_at j key ∷ []) (ap (λ (j : ℕ). n + j) len ∙ sym e))
+      sym (ap (edits_from n s book pieces) (more_items keys i key l hk) ∙ edits_push n (take i keys) key
+      ∙ ap (λ (j : ℕ). edits_from n s book pieces (take i keys) ++ edit_at j key ∷ []) (ap (λ (j : ℕ). n + j) len ∙ sym e))
 
 -- ---- keys picked as the chapter's own line
 
-module _ (held : List Operation) (book : List ℕ) (pieces : List Part) (key : KeyParts) (chapter : ℕ) (line : Line chapter ≡ pick held (segment book key)) where
+module _ (held : List Operation) (book : List ℕ) (pieces : List Part) (key : KeyParts) (chapter : ℕ)
+    (line : Line chapter ≡ pick held (segment book key)) where
   wants : wants_chapter_line held (segment book key) ≡ true
   wants = by (wants_chapter_line held (segment book key)) (last (shown held (segment book key))) line
     where
@@ -65,9 +77,12 @@ module _ (held : List Operation) (book : List ℕ) (pieces : List Part) (key : K
       by false (Some o) e = absurd (cc)
 
   pub line_differs : same_bytes (chapter_line chapter) (piece_at pieces key) ≡ false → true ≡ is_due held book pieces key
-  line_differs h = sym (ap (λ t. not (same_bytes (picked_text t) (piece_at pieces key)) || loses_line held book pieces key) (sym line) ∙ ap (λ b. not b || loses_line held book pieces key) h)
+  line_differs h =
+      sym (ap (λ t. not (same_bytes (picked_text t) (piece_at pieces key)) || loses_line held book pieces key) (sym line)
+      ∙ ap (λ b. not b || loses_line held book pieces key) h)
 
-  pub line_stays : (v : Bool) → same_bytes (chapter_line chapter) (piece_at pieces key) ≡ true → v ≡ has_verse pieces key.chapter → not v ≡ is_due held book pieces key
+  pub line_stays : (v : Bool) → same_bytes (chapter_line chapter) (piece_at pieces key) ≡ true → v ≡ has_verse pieces key.chapter
+      → not v ≡ is_due held book pieces key
   line_stays v h e =
       sym (ap (λ t. not (same_bytes (picked_text t) (piece_at pieces key)) || loses_line held book pieces key) (sym line)
       ∙ ap (λ b. not b || loses_line held book pieces key) h

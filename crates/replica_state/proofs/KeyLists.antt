@@ -32,8 +32,12 @@ any_dedup_from q k (x ∷ ks) = by (any_dedup_from q k ks) (any_dedup_from q x k
     twice true b = refl
     twice false b = refl
 
-    by : tested q (dedup_from same_key k ks) ≡ (is_eq (key_cmp q k) || tested q ks) → tested q (dedup_from same_key x ks) ≡ (is_eq (key_cmp q x) || tested q ks) → (b : Bool) → same_key x k ≡ b → tested q (cond b (dedup_from same_key k ks) (k ∷ dedup_from same_key x ks)) ≡ (is_eq (key_cmp q k) || (is_eq (key_cmp q x) || tested q ks))
-    by one other true e = one ∙ twice (is_eq (key_cmp q k)) (tested q ks) ∙ ap (λ (i : KeyParts). is_eq (key_cmp q k) || (is_eq (key_cmp q i) || tested q ks)) (sym (same_key-is x k e))
+    by : tested q (dedup_from same_key k ks) ≡ (is_eq (key_cmp q k) || tested q ks)
+        → tested q (dedup_from same_key x ks) ≡ (is_eq (key_cmp q x) || tested q ks) → (b : Bool) → same_key x k ≡ b
+        → tested q (cond b (dedup_from same_key k ks) (k ∷ dedup_from same_key x ks))
+        ≡ (is_eq (key_cmp q k) || (is_eq (key_cmp q x) || tested q ks))
+    by one other true e = one ∙ twice (is_eq (key_cmp q k)) (tested q ks)
+        ∙ ap (λ (i : KeyParts). is_eq (key_cmp q k) || (is_eq (key_cmp q i) || tested q ks)) (sym (same_key-is x k e))
     by one other false e = ap (λ b. is_eq (key_cmp q k) || b) other
 
 any_dedup : (q : KeyParts) (ks : List KeyParts) → tested q (dedup same_key ks) ≡ tested q ks
@@ -54,26 +58,33 @@ same_key-cmp a b = both_ways (same_key a b) (eq_by_cmp key_cmp a b)
     (λ h. subst (λ c. is_eq (key_cmp a c) ≡ true) (same_key-is a b h) (ap is_eq (tied_itself key_total a)))
     (λ h. subst (λ c. same_key a c ≡ true) (key_exact a b ((Equal-is _).0 h)) (same_key-refl a))
 
-sorted_is : (keys sorted : List KeyParts) → IsPermutation keys sorted → IsSorted key_cmp sorted → dedup same_key sorted ≡ rising key_cmp keys
+sorted_is : (keys sorted : List KeyParts) → IsPermutation keys sorted → IsSorted key_cmp sorted
+    → dedup same_key sorted ≡ rising key_cmp keys
 sorted_is keys sorted p s =
     same_tested key_cmp key_total key_exact (dedup same_key sorted) (rising key_cmp keys)
     (strict_rises (dedup same_key sorted) (IsStrictlySortedBy-dedup key_total same_key-cmp sorted s))
     (rises-rising key_cmp key_total keys)
-    (λ q. any_dedup q sorted ∙ sym (list_any-IsPermutation (λ k. is_eq (key_cmp q k)) keys sorted p) ∙ sym (tested_rising key_cmp key_total key_exact q keys))
+    (λ q. any_dedup q sorted ∙ sym (list_any-IsPermutation (λ k. is_eq (key_cmp q k)) keys sorted p)
+    ∙ sym (tested_rising key_cmp key_total key_exact q keys))
 
 -- keys sorted, each once, are the rising ones
-pub sorted_once : (cmp : KeyParts → KeyParts → Ordering) (eq : KeyParts → KeyParts → Bool) → ((a b : KeyParts) → cmp a b ≡ key_cmp a b) → ((a b : KeyParts) → eq a b ≡ same_key a b) → (keys sorted once : List KeyParts) → IsPermutation keys sorted → IsSorted cmp sorted → IsFiltered (DiffersFromLast eq) [] sorted once → once ≡ rising key_cmp keys
+pub sorted_once : (cmp : KeyParts → KeyParts → Ordering) (eq : KeyParts → KeyParts → Bool) → ((a b : KeyParts) → cmp a b ≡ key_cmp a b)
+    → ((a b : KeyParts) → eq a b ≡ same_key a b) → (keys sorted once : List KeyParts) → IsPermutation keys sorted → IsSorted cmp sorted
+    → IsFiltered (DiffersFromLast eq) [] sorted once → once ≡ rising key_cmp keys
 sorted_once cmp eq c e keys sorted once p s f =
     dedup_is eq sorted once f ∙ ap (λ (t : KeyParts → KeyParts → Bool). dedup t sorted) (λ i a b. e a b i)
     ∙ sorted_is keys sorted p (subst (λ (t : KeyParts → KeyParts → Ordering). IsSorted t sorted) (λ i a b. c a b i) s)
 
 -- ---- pieces as parts
 
-pub part_found : (key : KeyParts) (pieces : List Piece) → piece_of (parts_of pieces) key ≡ option_map part_of (find (λ p. is_eq (key_cmp key p.key)) pieces)
+pub part_found : (key : KeyParts) (pieces : List Piece)
+    → piece_of (parts_of pieces) key ≡ option_map part_of (find (λ p. is_eq (key_cmp key p.key)) pieces)
 part_found key [] = refl
 part_found key (p ∷ pieces) = by (part_found key pieces) (is_eq (key_cmp key p.key))
   where
-    by : piece_of (parts_of pieces) key ≡ option_map part_of (find (λ p. is_eq (key_cmp key p.key)) pieces) → (b : Bool) → cond b (Some (part_of p)) (piece_of (parts_of pieces) key) ≡ option_map part_of (cond b (Some p) (find (λ p. is_eq (key_cmp key p.key)) pieces))
+    by : piece_of (parts_of pieces) key ≡ option_map part_of (find (λ p. is_eq (key_cmp key p.key)) pieces) → (b : Bool)
+        → cond b (Some (part_of p)) (piece_of (parts_of pieces) key)
+        ≡ option_map part_of (cond b (Some p) (find (λ p. is_eq (key_cmp key p.key)) pieces))
     by rest true = refl
     by rest false = rest
 
@@ -85,10 +96,12 @@ pub parts_rise : (pieces : List Piece) → rises_by key_cmp (λ p. p.key) (parts
 parts_rise [] = refl
 parts_rise (p ∷ pieces) = λ i. above p.key pieces i && parts_rise pieces i
   where
-    above : (k : KeyParts) (ps : List Piece) → list_all (λ q. is_lt (key_cmp k q.key)) (parts_of ps) ≡ list_all (λ q. is_lt (key_cmp k q.key)) ps
+    above : (k : KeyParts) (ps : List Piece)
+        → list_all (λ q. is_lt (key_cmp k q.key)) (parts_of ps) ≡ list_all (λ q. is_lt (key_cmp k q.key)) ps
     above k [] = refl
     above k (q ∷ ps) = ap (λ b. is_lt (key_cmp k q.key) && b) (above k ps)
 
-pub part_verses : (chapter : ℕ) (pieces : List Piece) → has_verse (parts_of pieces) chapter ≡ list_any (λ p. is_verse_of chapter p.key) pieces
+pub part_verses : (chapter : ℕ) (pieces : List Piece)
+    → has_verse (parts_of pieces) chapter ≡ list_any (λ p. is_verse_of chapter p.key) pieces
 part_verses chapter [] = refl
 part_verses chapter (p ∷ pieces) = ap (λ b. is_verse_of chapter p.key || b) (part_verses chapter pieces)

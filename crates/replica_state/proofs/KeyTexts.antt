@@ -36,7 +36,9 @@ pub text_of_piece : (n : ℕ) (ts : List KeyText) (q : KeyParts) → piece_at (p
 text_of_piece n [] q = refl
 text_of_piece n (t ∷ ts) q = by (text_of_piece (n + length t.text) ts q) (is_eq (key_cmp q t.key))
   where
-    by : piece_at (pieces_from (n + length t.text) ts) q ≡ text_at ts q → (b : Bool) → text_in (cond b (Some (record { key = t.key; start = n; text = t.text })) (piece_of (pieces_from (n + length t.text) ts) q)) ≡ own_text (cond b (Some t) (at_key ts q))
+    by : piece_at (pieces_from (n + length t.text) ts) q ≡ text_at ts q → (b : Bool)
+        → text_in (cond b (Some (record { key = t.key; start = n; text = t.text })) (piece_of (pieces_from (n + length t.text) ts) q))
+        ≡ own_text (cond b (Some t) (at_key ts q))
     by rest true = refl
     by rest false = rest
 
@@ -51,14 +53,18 @@ pub stands : (P : KeyText → Type 0) (ts : List KeyText) (q : KeyParts) → All
 stands P [] q all h = absurd (cc)
 stands P (t ∷ ts) q all h = by (λ g. stands P ts q (All-tail P t ts all) g) (is_eq (key_cmp q t.key)) refl h
   where
-    by : (is_empty (text_at ts q) ≡ false → Stands P ts q) → (b : Bool) → is_eq (key_cmp q t.key) ≡ b → is_empty (own_text (cond b (Some t) (at_key ts q))) ≡ false → Stands P (t ∷ ts) q
-    by rest true e h = record { item = t; holds = All-head P t ts all; key = key_is q t.key e; text = sym (ap own_text (cond-true _ _ _ e)) }
-    by rest false e h = let r = rest h in record { item = r.item; holds = r.holds; key = r.key; text = r.text ∙ sym (ap own_text (cond-false _ _ _ e)) }
+    by : (is_empty (text_at ts q) ≡ false → Stands P ts q) → (b : Bool) → is_eq (key_cmp q t.key) ≡ b
+        → is_empty (own_text (cond b (Some t) (at_key ts q))) ≡ false → Stands P (t ∷ ts) q
+    by rest true e h =
+        record { item = t; holds = All-head P t ts all; key = key_is q t.key e; text = sym (ap own_text (cond-true _ _ _ e)) }
+    by rest false e h =
+        let r = rest h in record { item = r.item; holds = r.holds; key = r.key; text = r.text ∙ sym (ap own_text (cond-false _ _ _ e)) }
 
 -- an item of a rising list is found at its key
 pub item_at : (ts : List KeyText) (t : KeyText) → rises_by key_cmp (λ u. u.key) ts ≡ true → Contains ts t → text_at ts t.key ≡ t.text
 item_at ts t r (j, lt, is) =
-    let all = All-from_recursion (λ (u : KeyText). at_key ts u.key ≡ Some u) ts (each_found key_cmp key_total (λ (u : KeyText). u.key) ts r) in
+    let all =
+    All-from_recursion (λ (u : KeyText). at_key ts u.key ≡ Some u) ts (each_found key_cmp key_total (λ (u : KeyText). u.key) ts r) in
     ap own_text (subst (λ (u : KeyText). at_key ts u.key ≡ Some u) is (all j t lt))
 
 -- ---- rising lists with the same texts
@@ -81,11 +87,13 @@ pairs_rise (t ∷ ts) = λ i. pairs_below t.key ts i && pairs_rise ts i
 abbrev if_some : List ℕ → Option (List ℕ)
 if_some text = cond (is_empty text) None (Some text)
 
-pair_found : (ts : List KeyText) (q : KeyParts) → All (λ t. is_empty t.text ≡ false) ts → entries.find key_cmp q (pairs ts) ≡ if_some (text_at ts q)
+pair_found : (ts : List KeyText) (q : KeyParts) → All (λ t. is_empty t.text ≡ false) ts
+    → entries.find key_cmp q (pairs ts) ≡ if_some (text_at ts q)
 pair_found [] q all = refl
 pair_found (t ∷ ts) q all = by (pair_found ts q (All-tail (λ t. is_empty t.text ≡ false) t ts all)) (is_eq (key_cmp q t.key))
   where
-    by : entries.find key_cmp q (pairs ts) ≡ if_some (text_at ts q) → (b : Bool) → cond b (Some t.text) (entries.find key_cmp q (pairs ts)) ≡ if_some (own_text (cond b (Some t) (at_key ts q)))
+    by : entries.find key_cmp q (pairs ts) ≡ if_some (text_at ts q) → (b : Bool)
+        → cond b (Some t.text) (entries.find key_cmp q (pairs ts)) ≡ if_some (own_text (cond b (Some t) (at_key ts q)))
     by rest true = sym (cond-false (is_empty t.text) None (Some t.text) (All-head (λ t. is_empty t.text ≡ false) t ts all))
     by rest false = rest
 
@@ -94,7 +102,8 @@ pub same_texts : (xs ys : List KeyText) → rises_by key_cmp (λ t. t.key) xs �
 same_texts xs ys rx ry fx fy is =
     sym (unpaired xs)
     ∙ ap (map (λ (e : KeyParts × List ℕ). record { key = e.0; text = e.1 })) (same_entries key_cmp key_total key_exact (pairs xs) (pairs ys)
-    (subst T (sym (pairs_rise xs ∙ rx)) tt) (subst T (sym (pairs_rise ys ∙ ry)) tt) (λ q. pair_found xs q fx ∙ ap if_some (is q) ∙ sym (pair_found ys q fy)))
+    (subst T (sym (pairs_rise xs ∙ rx)) tt) (subst T (sym (pairs_rise ys ∙ ry)) tt)
+    (λ q. pair_found xs q fx ∙ ap if_some (is q) ∙ sym (pair_found ys q fy)))
     ∙ unpaired ys
 
 -- ---- the texts of a book's keys that are not empty
@@ -103,11 +112,13 @@ pub filled_are : (ts : List KeyText) → All (λ t. is_empty t.text ≡ false) (
 filled_are [] = All-nil (λ t. is_empty t.text ≡ false)
 filled_are (t ∷ ts) = by (filled_are ts) (is_empty t.text) refl
   where
-    by : All (λ t. is_empty t.text ≡ false) (filled ts) → (b : Bool) → is_empty t.text ≡ b → All (λ t. is_empty t.text ≡ false) (cond (not b) (t ∷ filled ts) (filled ts))
+    by : All (λ t. is_empty t.text ≡ false) (filled ts) → (b : Bool) → is_empty t.text ≡ b
+        → All (λ t. is_empty t.text ≡ false) (cond (not b) (t ∷ filled ts) (filled ts))
     by rest true e = rest
     by rest false e = All-cons (λ t. is_empty t.text ≡ false) t (filled ts) e rest
 
-pub filled_at : (held : List Operation) (book : List ℕ) (ks : List KeyParts) (q : KeyParts) → text_at (filled (map (keyed_text held book) ks)) q ≡ cond (is_there q ks) (picked_at held book q) []
+pub filled_at : (held : List Operation) (book : List ℕ) (ks : List KeyParts) (q : KeyParts)
+    → text_at (filled (map (keyed_text held book) ks)) q ≡ cond (is_there q ks) (picked_at held book q) []
 filled_at held book [] q = refl
 filled_at held book (k ∷ ks) q = by (filled_at held book ks q) (is_eq (key_cmp q k)) refl (is_empty (picked_at held book k)) refl
   where
@@ -122,7 +133,8 @@ filled_at held book (k ∷ ks) q = by (filled_at held book ks q) (is_eq (key_cmp
     either true t h = refl
     either false t h = sym h
 
-    by : text_at more q ≡ cond (is_there q ks) (picked_at held book q) [] → (b : Bool) → is_eq (key_cmp q k) ≡ b → (e : Bool) → is_empty (picked_at held book k) ≡ e →
+    by : text_at more q ≡ cond (is_there q ks) (picked_at held book q) [] → (b : Bool) → is_eq (key_cmp q k) ≡ b → (e : Bool)
+        → is_empty (picked_at held book k) ≡ e →
         text_at (cond (not e) (keyed_text held book k ∷ more) more) q ≡ cond (b || is_there q ks) (picked_at held book q) []
     by rest true s true f =
         let gone : picked_at held book q ≡ [] = ap (picked_at held book) (key_is q k s) ∙ empty_is (picked_at held book k) f in

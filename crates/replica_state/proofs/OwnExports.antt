@@ -48,7 +48,8 @@ none_pass p [] f = refl
 none_pass p (k ∷ ks) f = (λ i. cond (f k i) (k ∷ filter p ks) (filter p ks)) ∙ none_pass p ks f
 
 -- a verse with a piece that is not empty is a verse of its chapter's
-verse_there : (pieces : List Part) (chapter : ℕ) (key : KeyParts) → is_verse_of chapter key ≡ true → is_empty (piece_at pieces key) ≡ false → has_verse pieces chapter ≡ true
+verse_there : (pieces : List Part) (chapter : ℕ) (key : KeyParts) → is_verse_of chapter key ≡ true → is_empty (piece_at pieces key) ≡ false
+    → has_verse pieces chapter ≡ true
 verse_there [] chapter key v h = absurd (cc)
 verse_there (p ∷ pieces) chapter key v h = by (λ g. verse_there pieces chapter key v g) (is_eq (key_cmp key p.key)) refl h
   where
@@ -56,8 +57,11 @@ verse_there (p ∷ pieces) chapter key v h = by (λ g. verse_there pieces chapte
     or_true true = refl
     or_true false = refl
 
-    by : (is_empty (piece_at pieces key) ≡ false → has_verse pieces chapter ≡ true) → (b : Bool) → is_eq (key_cmp key p.key) ≡ b → is_empty (spec.text_in (cond b (Some p) (piece_of pieces key))) ≡ false → (is_verse_of chapter p.key || has_verse pieces chapter) ≡ true
-    by rest true e h = ap (λ (k : KeyParts). is_verse_of chapter k || has_verse pieces chapter) (sym (key_is key p.key e)) ∙ ap (λ b. b || has_verse pieces chapter) v
+    by : (is_empty (piece_at pieces key) ≡ false → has_verse pieces chapter ≡ true) → (b : Bool) → is_eq (key_cmp key p.key) ≡ b
+        → is_empty (spec.text_in (cond b (Some p) (piece_of pieces key))) ≡ false
+        → (is_verse_of chapter p.key || has_verse pieces chapter) ≡ true
+    by rest true e h = ap (λ (k : KeyParts). is_verse_of chapter k || has_verse pieces chapter) (sym (key_is key p.key e))
+        ∙ ap (λ b. b || has_verse pieces chapter) v
     by rest false e h = ap (λ b. is_verse_of chapter p.key || b) (rest h) ∙ or_true (is_verse_of chapter p.key)
 
 -- no number of a set is above the last one
@@ -83,17 +87,22 @@ module _ (s : State) (state : IsState s) (book : List ℕ) (begun : list_any (in
   code : is_book_code book ≡ true
   code =
       ap (λ (g : Segment). is_book_code g.book) (sym of_head.segment)
-      ∙ (and_parts (is_book_code first.0.segment.book) (is_key first.0.segment.key.chapter first.0.segment.key.place) of_head.is_operation.segment).0
+      ∙ (and_parts (is_book_code first.0.segment.book)
+      (is_key first.0.segment.key.chapter first.0.segment.key.place) of_head.is_operation.segment).0
 
   head_text : picked_at s.held book book_head ≡ first.0.text
   head_text = picked_own s.held (segment book book_head) refl ∙ ap text_in first.1
 
   headed : IsHeaded book file
   headed =
-      let fits : text_fits book book_head first.0.text ≡ true = ap (λ (g : Segment). text_fits g.book g.key first.0.text) (sym of_head.segment) ∙ of_head.is_operation.fits in
-      let begins : IsHeaded book (picked_at s.held book book_head) = subst (IsHeaded book) (sym head_text) ((fits_is_read book book_head first.0.text).0 fits).0 in
-      subst (IsHeaded book) (sym (split s.held book (exported_keys s.held book) (keys_rise s.held book) (picks_are_exported s.held book book_head)))
-      (joins_keep_their_book book (picked_at s.held book book_head) (later_texts s.held book) begins (texts_fit s.held book state.set) (texts_rise s.held book (picked_at s.held book book_head)))
+      let fits : text_fits book book_head first.0.text ≡ true =
+      ap (λ (g : Segment). text_fits g.book g.key first.0.text) (sym of_head.segment) ∙ of_head.is_operation.fits in
+      let begins : IsHeaded book (picked_at s.held book book_head) =
+      subst (IsHeaded book) (sym head_text) ((fits_is_read book book_head first.0.text).0 fits).0 in
+      subst (IsHeaded book) (sym (split s.held book (exported_keys s.held book) (keys_rise s.held book)
+      (picks_are_exported s.held book book_head)))
+      (joins_keep_their_book book (picked_at s.held book book_head) (later_texts s.held book) begins (texts_fit s.held book state.set)
+      (texts_rise s.held book (picked_at s.held book book_head)))
 
   named : book_in file ≡ Ok book
   named = book_only file (book_in file) refl book code headed
@@ -109,9 +118,12 @@ module _ (s : State) (state : IsState s) (book : List ℕ) (begun : list_any (in
       is_it true e h = same_key-is q book_head e
       is_it false e h = cc (sym h ∙ above_book_head q ∙ ap not e)
 
-      by : (b : Bool) → key_below book_head q ≡ b → text_at (at_book_head (picked_at s.held book book_head) ∷ filled (later_texts s.held book)) q ≡ picked_at s.held book q
+      by : (b : Bool) → key_below book_head q ≡ b
+          → text_at (at_book_head (picked_at s.held book book_head) ∷ filled (later_texts s.held book)) q ≡ picked_at s.held book q
       by true e = behind_head (picked_at s.held book book_head) (filled (later_texts s.held book)) q e ∙ later_at s.held book q e
-      by false e = subst (λ (k : KeyParts). text_at (at_book_head (picked_at s.held book book_head) ∷ filled (later_texts s.held book)) k ≡ picked_at s.held book k) (sym (is_it (same_key q book_head) refl e)) refl
+      by false e =
+          subst (λ (k : KeyParts). text_at (at_book_head (picked_at s.held book book_head) ∷ filled (later_texts s.held book)) k
+          ≡ picked_at s.held book k) (sym (is_it (same_key q book_head) refl e)) refl
 
   -- a key that is picked as its chapter's line has a verse among the pieces
   line_has_verse : (q : KeyParts) → wants_chapter_line s.held (segment book q) ≡ true → has_verse (pieces_of file) q.chapter ≡ true
@@ -123,7 +135,8 @@ module _ (s : State) (state : IsState s) (book : List ℕ) (begun : list_any (in
       let is : o.0.segment ≡ segment book o.0.segment.key = λ i. segment (same_bytes-is o.0.segment.book book b.0 i) o.0.segment.key in
       let verse = not-true (is_head o.0.segment.key.place) c.1 in
       let text : is_empty (piece_at (pieces_of file) o.0.segment.key) ≡ false =
-      ap is_empty (own_piece o.0.segment.key ∙ picked_own s.held (segment book o.0.segment.key) (verse_wants_none s.held (segment book o.0.segment.key) verse))
+      ap is_empty (own_piece o.0.segment.key ∙ picked_own s.held (segment book o.0.segment.key)
+      (verse_wants_none s.held (segment book o.0.segment.key) verse))
       ∙ ap (λ (g : Segment). is_empty (text_of s.held g)) (sym is) ∙ not-true (is_empty (text_of s.held o.0.segment)) a.1
       in
       verse_there (pieces_of file) q.chapter o.0.segment.key b.1 text
@@ -140,13 +153,15 @@ module _ (s : State) (state : IsState s) (book : List ℕ) (begun : list_any (in
       stays false = refl
 
       by : (w : Bool) → wants_chapter_line s.held (segment book q) ≡ w → loses_line s.held book (pieces_of file) q ≡ false
-      by true e = ap (λ v. (wants_chapter_line s.held (segment book q) && is_some (piece_of (pieces_of file) q)) && not v) (line_has_verse q e) ∙ stays (wants_chapter_line s.held (segment book q) && is_some (piece_of (pieces_of file) q))
+      by true e = ap (λ v. (wants_chapter_line s.held (segment book q) && is_some (piece_of (pieces_of file) q)) && not v)
+          (line_has_verse q e) ∙ stays (wants_chapter_line s.held (segment book q) && is_some (piece_of (pieces_of file) q))
       by false e = ap (λ w. (w && is_some (piece_of (pieces_of file) q)) && not (has_verse (pieces_of file) q.chapter)) e
 
   pub adds_nothing : step s (Import file) ≡ record { after = s; reply = Imported (Ok 0) }
   adds_nothing =
       ap (λ (r : Result (List ℕ) BookFault). imported s (import_into s (pieces_of file) r)) named
-      ∙ ap (λ (ks : List KeyParts). imported s (edits_numbered s book (pieces_of file) ks)) (none_pass (is_due s.held book (pieces_of file)) (walked_keys s.held book (pieces_of file)) none_due)
+      ∙ ap (λ (ks : List KeyParts). imported s (edits_numbered s book (pieces_of file) ks))
+      (none_pass (is_due s.held book (pieces_of file)) (walked_keys s.held book (pieces_of file)) none_due)
       ∙ ap (imported s) (cond-true _ _ _ room)
     where
       room : has_numbers s.held 0 ≡ true

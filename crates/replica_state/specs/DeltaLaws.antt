@@ -18,4 +18,5 @@ DeltasGiveUnion =
 
 -- The delta for one's own summary holds nothing.
 abbrev pub OwnDeltaIsEmpty : Type 0
-OwnDeltaIsEmpty = (own : State) (s : List Known) → IsState own → IsSummaryOf own.held s → outside s own.held ≡ []
+OwnDeltaIsEmpty =
+    (own : State) (s : List Known) → IsState own → IsSummaryOf own.held s → outside s own.held ≡ []

@@ -24,7 +24,9 @@ edit_with id g replaced text = record { id = id; segment = g; replaced = replace
 
 -- the id of the replica's next operation, if a number is left for it
 abbrev pub next_id : State → Option Id
-next_id s = if has_numbers s.held 1 then Some (record { number = next_number s.held; name = s.name }) else None
+next_id s =
+    if has_numbers s.held 1 then Some
+    (record { number = next_number s.held; name = s.name }) else None
 
 abbrev pub edit_by : Option Id → Segment → List Id → List ℕ → Result Operation EditFault
 edit_by None g replaced text = Err NumbersUsedUp
@@ -47,10 +49,12 @@ unless (Some fault) edit = Err fault
 
 -- the operation of an edit, which names all ids that the segment shows
 abbrev pub edit_op : State → Segment → List ℕ → Result Operation EditFault
-edit_op s g text = unless (edit_fault s.held g text) (edit_by (next_id s) g (shown_ids s.held g) text)
+edit_op s g text =
+    unless (edit_fault s.held g text) (edit_by (next_id s) g (shown_ids s.held g) text)
 
 -- the operation of an edit over given ids, which names these
 abbrev pub edit_over_op : State → Segment → List ℕ → List Id → Result Operation EditFault
 edit_over_op s g text given =
     unless (edit_fault s.held g text)
-    (unless (option_map NotShown (first_not_shown s.held g given)) (edit_by (next_id s) g (given_ids s.held g given) text))
+    (unless (option_map NotShown (first_not_shown s.held g given))
+    (edit_by (next_id s) g (given_ids s.held g given) text))

@@ -11,8 +11,14 @@ use Rattle.replica_state.specs.Steps.{Import, Imported, step}
 
 -- After an import that is not refused the export of the file's book is the file.
 abbrev pub ImportsAreExported : Type 0
-ImportsAreExported = (s : State) (file book : List ℕ) (count : ℕ) → IsState s → book_in file ≡ Ok book → (step s (Import file)).reply ≡ Imported (Ok count) → export (step s (Import file)).after.held book ≡ file
+ImportsAreExported =
+    (s : State) (file book : List ℕ) (count : ℕ) → IsState s → book_in file ≡ Ok book →
+    (step s (Import file)).reply ≡ Imported (Ok count) →
+    export (step s (Import file)).after.held book ≡ file
 
 -- The import of the export of a book whose head has an operation adds nothing.
 abbrev pub OwnExportsAddNothing : Type 0
-OwnExportsAddNothing = (s : State) (book : List ℕ) → IsState s → list_any (in_segment (segment book book_head)) s.held ≡ true → step s (Import (export s.held book)) ≡ record { after = s; reply = Imported (Ok 0) }
+OwnExportsAddNothing =
+    (s : State) (book : List ℕ) → IsState s →
+    list_any (in_segment (segment book book_head)) s.held ≡ true →
+    step s (Import (export s.held book)) ≡ record { after = s; reply = Imported (Ok 0) }

@@ -40,15 +40,21 @@ has_verse pieces chapter = list_any (λ p. is_verse_of chapter p.key) pieces
 -- edit the line would be gone with the last verse
 abbrev pub loses_line : List Operation → List ℕ → List Part → KeyParts → Bool
 loses_line held book pieces key =
-    wants_chapter_line held (segment book key) && is_some (piece_of pieces key) && not (has_verse pieces key.chapter)
+    wants_chapter_line held (segment book key)
+    && is_some (piece_of pieces key)
+    && not (has_verse pieces key.chapter)
 
 -- whether an import edits the key: what is picked differs from the file's piece, or the chapter's line would be gone
 abbrev pub is_due : List Operation → List ℕ → List Part → KeyParts → Bool
-is_due held book pieces key = not (same_bytes (picked_at held book key) (piece_at pieces key)) || loses_line held book pieces key
+is_due held book pieces key =
+    not (same_bytes (picked_at held book key) (piece_at pieces key))
+    || loses_line held book pieces key
 
 -- the keys where either may hold: those with an operation, the heads of their chapters, and those of the file
 abbrev pub walked_keys : List Operation → List ℕ → List Part → List KeyParts
-walked_keys held book pieces = rising key_cmp (map head_of (keys_of held book) ++ (keys_of held book ++ map (λ p. p.key) pieces))
+walked_keys held book pieces =
+    rising key_cmp
+    (map head_of (keys_of held book) ++ (keys_of held book ++ map (λ p. p.key) pieces))
 
 abbrev pub due_keys : List Operation → List ℕ → List Part → List KeyParts
 due_keys held book pieces = filter (is_due held book pieces) (walked_keys held book pieces)
@@ -58,15 +64,20 @@ due_keys held book pieces = filter (is_due held book pieces) (walked_keys held b
 abbrev pub edits_from : ℕ → State → List ℕ → List Part → List KeyParts → List Operation
 edits_from number s book pieces [] = []
 edits_from number s book pieces (key ∷ keys) =
-    edit_with (record { number = number; name = s.name }) (segment book key) (shown_ids s.held (segment book key)) (piece_at pieces key)
+    edit_with (record { number = number; name = s.name }) (segment book key)
+    (shown_ids s.held (segment book key)) (piece_at pieces key)
     ∷ edits_from (suc number) s book pieces keys
 
 -- the edits, if numbers are left for them
-abbrev pub edits_numbered : State → List ℕ → List Part → List KeyParts → Result (List Operation) ImportFault
+abbrev pub edits_numbered : State → List ℕ → List Part → List KeyParts
+    → Result (List Operation) ImportFault
 edits_numbered s book pieces keys =
-    if has_numbers s.held (length keys) then Ok (edits_from (next_number s.held) s book pieces keys) else Err NumbersUsedUp
+    if has_numbers s.held (length keys)
+    then Ok (edits_from (next_number s.held) s book pieces keys)
+    else Err NumbersUsedUp
 
-abbrev pub import_into : State → List Part → Result (List ℕ) BookFault → Result (List Operation) ImportFault
+abbrev pub import_into : State → List Part → Result (List ℕ) BookFault
+    → Result (List Operation) ImportFault
 import_into s pieces (Err fault) = Err (BadFile fault)
 import_into s pieces (Ok book) = edits_numbered s book pieces (due_keys s.held book pieces)
 

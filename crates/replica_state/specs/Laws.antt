@@ -15,6 +15,9 @@ abbrev pub SameBundlesSameBooks : Type 0
 SameBundlesSameBooks =
     (name other : List ℕ) (bundles others : List (List Operation)) →
     AllByRecursion IsOpSet bundles → AllByRecursion IsOpSet others → SameTogether bundles others →
-    NoneRefused (begun name) (map Receive bundles) → NoneRefused (begun other) (map Receive others) →
-    ((after (begun name) (map Receive bundles)).held ≡ (after (begun other) (map Receive others)).held)
-    × ((book : List ℕ) → export (after (begun name) (map Receive bundles)).held book ≡ export (after (begun other) (map Receive others)).held book)
+    NoneRefused (begun name) (map Receive bundles) →
+    NoneRefused (begun other) (map Receive others) →
+    ((after (begun name) (map Receive bundles)).held
+    ≡ (after (begun other) (map Receive others)).held)
+    × ((book : List ℕ) → export (after (begun name) (map Receive bundles)).held book
+    ≡ export (after (begun other) (map Receive others)).held book)

@@ -37,7 +37,10 @@ abbrev pub with_ops : State → List Operation → State
 with_ops s ops = record { name = s.name; held = join s.held ops }
 
 abbrev pub received : State → List Operation → Option Id → Step
-received s bundle None = record { after = with_ops s bundle; reply = Received (Ok (length (lacked s.held bundle))) }
+received s bundle None = record {
+  after = with_ops s bundle;
+  reply = Received (Ok (length (lacked s.held bundle)));
+}
 received s bundle (Some id) = record { after = s; reply = Received (Err (receiving.Clash id)) }
 
 abbrev pub edited : State → Result Operation EditFault → Step

@@ -38,8 +38,10 @@ impl Replica {
     /// memory.
     pub fn edit(&mut self, book: Book, key: Key, text: &str) -> Result<OpId, EditFault>
         ensures step { result ≢ Err EditFault.Memory →
-            step self.old (Edit (segment book key) text.now) ≡ record { after = self.new; reply = Edited result } }
-        ensures refused { IfErr (edits.edit_op self.old (segment book key) text.now) (λ fault. result ≡ Err fault) }
+            step self.old (Edit (segment book key) text.now)
+            ≡ record { after = self.new; reply = Edited result } }
+        ensures refused { IfErr (edits.edit_op self.old (segment book key) text.now)
+            (λ fault. result ≡ Err fault) }
         ensures err { OnErr result (self.new ≡ self.old) }
     {
         if let Some(fault) = self.edit_fault(book, key, text) {
@@ -74,8 +76,10 @@ impl Replica {
         over: &[OpId],
     ) -> Result<OpId, EditFault>
         ensures step { result ≢ Err EditFault.Memory →
-            step self.old (EditOver (segment book key) text.now over.now) ≡ record { after = self.new; reply = Edited result } }
-        ensures refused { IfErr (edits.edit_over_op self.old (segment book key) text.now over.now) (λ fault. result ≡ Err fault) }
+            step self.old (EditOver (segment book key) text.now over.now)
+            ≡ record { after = self.new; reply = Edited result } }
+        ensures refused { IfErr (edits.edit_over_op self.old (segment book key) text.now over.now)
+            (λ fault. result ≡ Err fault) }
         ensures err { OnErr result (self.new ≡ self.old) }
     {
         if let Some(fault) = self.edit_fault(book, key, text) {
@@ -121,7 +125,8 @@ impl Replica {
 
     // The ids that the segment shows, of those that are given.
     fn given_ids(&self, book: Book, key: Key, given: &[OpId]) -> Result<Vec<OpId>, AllocError>
-        ensures { IfOk result (λ ids. ids.items ≡ given_ids self.now.held (segment book key) given.now) }
+        ensures { IfOk result (λ ids.
+            ids.items ≡ given_ids self.now.held (segment book key) given.now) }
     {
         given_among(self.alloc, self.set.shown_ids(book, key), given)
     }
@@ -154,7 +159,8 @@ impl Replica {
         requires new { get self.old.held id ≡ None }
         requires falls { IsTrue (names_fall id replaced.items) }
         requires fits { IsTrue (text_fits book key text.now) }
-        ensures ok { OnOk result (self.new ≡ with_ops self.old (edits.edit_with id (segment book key) replaced.items text.now ∷ [])) }
+        ensures ok { let edit = edits.edit_with id (segment book key) replaced.items text.now in
+            OnOk result (self.new ≡ with_ops self.old (edit ∷ [])) }
         ensures err { OnErr result (self.new ≡ self.old) }
     {
         let text = String::from_str(self.alloc, text)?;

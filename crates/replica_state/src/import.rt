@@ -41,7 +41,8 @@ impl Replica {
     pub fn import(&mut self, file: &str) -> Result<u64, ImportFault>
         ensures step { result ≢ Err ImportFault.Memory →
             step self.old (Import file.now) ≡ record { after = self.new; reply = Imported result } }
-        ensures bad_file { IfErr (book_in file.now) (λ fault. result ≡ Err (ImportFault.BadFile fault)) }
+        ensures bad_file { IfErr (book_in file.now)
+            (λ fault. result ≡ Err (ImportFault.BadFile fault)) }
         ensures err { OnErr result (self.new ≡ self.old) }
     {
         let book = book_of(file)?;
@@ -65,7 +66,8 @@ impl Replica {
     // The keys that an import edits, rising.
     fn due_keys(&self, book: Book, pieces: &[Piece<'_>]) -> Result<Vec<Key>, AllocError>
         requires rising { IsTrue (rises_by key_cmp (λ p. p.key) pieces.now) }
-        ensures { IfOk result (λ keys. keys.items ≡ imports.due_keys self.now.held book (parts_of pieces.now)) }
+        ensures { IfOk result (λ keys.
+            keys.items ≡ imports.due_keys self.now.held book (parts_of pieces.now)) }
     {
         let mut due = Vec::new(self.alloc);
         let keys = self.walked_keys(book, pieces)?;
@@ -80,7 +82,8 @@ impl Replica {
     // The book's keys with an operation, the heads of their chapters, and the keys of the pieces,
     // rising, each once.
     fn walked_keys(&self, book: Book, pieces: &[Piece<'_>]) -> Result<Vec<Key>, AllocError>
-        ensures { IfOk result (λ keys. keys.items ≡ imports.walked_keys self.now.held book (parts_of pieces.now)) }
+        ensures { let walked = imports.walked_keys self.now.held book (parts_of pieces.now) in
+            IfOk result (λ keys. keys.items ≡ walked) }
     {
         let mut keys = self.gathered_keys(book, pieces)?;
         keys.sort_unstable();
@@ -90,7 +93,9 @@ impl Replica {
 
     // The same keys in no order.
     fn gathered_keys(&self, book: Book, pieces: &[Piece<'_>]) -> Result<Vec<Key>, AllocError>
-        ensures { IfOk result (λ keys. keys.items ≡ map head_of (keys_of self.now.held book) ++ (keys_of self.now.held book ++ map (λ p. p.key) pieces.now)) }
+        ensures { let held = keys_of self.now.held book in
+            IfOk result (λ keys.
+            keys.items ≡ map head_of held ++ (held ++ map (λ p. p.key) pieces.now)) }
     {
         let held = self.held_keys(book)?;
         let mut keys = Vec::new(self.alloc);
@@ -110,7 +115,8 @@ impl Replica {
     // Whether an import edits the key.
     fn is_due(&self, book: Book, pieces: &[Piece<'_>], key: Key) -> Result<bool, AllocError>
         requires rising { IsTrue (rises_by key_cmp (λ p. p.key) pieces.now) }
-        ensures { IfOk result (λ due. due ≡ imports.is_due self.now.held book (parts_of pieces.now) key) }
+        ensures { IfOk result (λ due.
+            due ≡ imports.is_due self.now.held book (parts_of pieces.now) key) }
     {
         let piece = piece_at(pieces, key);
         match self.set.pick(book, key) {
@@ -130,8 +136,11 @@ impl Replica {
     fn edits_of(&self, book: Book, pieces: &[Piece<'_>], due: &[Key]) -> Result<Vec<Op>, AllocError>
         requires rising { IsTrue (rises_by key_cmp (λ p. p.key) pieces.now) }
         requires numbers { IsTrue (edits.has_numbers self.now.held (length due.now)) }
-        requires fits { (key : _) → IsTrue (text_fits book key (imports.piece_at (parts_of pieces.now) key)) }
-        ensures ops { IfOk result (λ ops. ops.items ≡ imports.edits_from (next_number self.now.held) self.now book (parts_of pieces.now) due.now) }
+        requires fits { (key : _) →
+            IsTrue (text_fits book key (imports.piece_at (parts_of pieces.now) key)) }
+        ensures ops { let first = next_number self.now.held in
+            let made = imports.edits_from first self.now book (parts_of pieces.now) due.now in
+            IfOk result (λ ops. ops.items ≡ made) }
         ensures state { IsState self.now }
     {
         let mut ops = Vec::with_capacity(self.alloc, due.len())?;
@@ -159,7 +168,9 @@ impl Replica {
         requires rising { IsTrue (rises_by key_cmp (λ p. p.key) pieces.now) }
         requires beyond { greatest_number self.now.held < id.number }
         requires fits { IsTrue (text_fits book key (imports.piece_at (parts_of pieces.now) key)) }
-        ensures { IfOk result (λ op. op ≡ edits.edit_with id (segment book key) (shown_ids self.now.held (segment book key)) (imports.piece_at (parts_of pieces.now) key)) }
+        ensures { let shown = shown_ids self.now.held (segment book key) in
+            let text = imports.piece_at (parts_of pieces.now) key in
+            IfOk result (λ op. op ≡ edits.edit_with id (segment book key) shown text) }
     {
         let replaced = self.shown_ids(book, key)?;
         let text = String::from_str(self.alloc, piece_at(pieces, key))?;

@@ -14,8 +14,4 @@ pub use fault::{EditFault, ImportFault, ReceiveFault};
 pub use replica::Replica;
 
 #[cfg(test)]
-mod delta_rows;
-#[cfg(test)]
-mod edit_rows;
-#[cfg(test)]
-mod receive_rows;
+mod tests;

@@ -18,11 +18,15 @@ impl Replica {
     /// `Clash` with the least id under which the replica and the bundle have operations that are not
     /// equal; `Memory` where a growth was refused. The replica is then unchanged.
     pub fn receive(&mut self, bundle: &Bundle<'_>) -> Result<u64, ReceiveFault>
-        ensures step { result ≢ Err ReceiveFault.Memory → step self.old (Receive bundle.now) ≡ record { after = self.new; reply = Received result } }
+        ensures step { result ≢ Err ReceiveFault.Memory →
+            step self.old (Receive bundle.now)
+            ≡ record { after = self.new; reply = Received result } }
         ensures ok { OnOk result (self.new ≡ with_ops self.old bundle.now) }
         ensures agrees { OnOk result (sets.clash self.old.held bundle.now ≡ None) }
-        ensures refused { IfErr result (receives.RefusesReceive (sets.clash self.old.held bundle.now)) }
-        ensures nothing_new { receives.lacked self.old.held bundle.now ≡ [] → result ≢ Err ReceiveFault.Memory }
+        ensures refused { IfErr result
+            (receives.RefusesReceive (sets.clash self.old.held bundle.now)) }
+        ensures nothing_new { receives.lacked self.old.held bundle.now ≡ [] →
+            result ≢ Err ReceiveFault.Memory }
         ensures held { sets.AreHeld self.old.held bundle.now → result ≡ Ok 0 }
         ensures err { OnErr result (self.new ≡ self.old) }
     {
@@ -40,8 +44,10 @@ impl Replica {
         ensures set { sets.IsOpSet bundle.now }
         ensures ok { IfOk result (λ new. new.items ≡ receives.lacked self.now.held bundle.now) }
         ensures agrees { OnOk result (sets.clash self.now.held bundle.now ≡ None) }
-        ensures refused { IfErr result (receives.RefusesReceive (sets.clash self.now.held bundle.now)) }
-        ensures nothing_new { receives.lacked self.now.held bundle.now ≡ [] → result ≢ Err ReceiveFault.Memory }
+        ensures refused { IfErr result
+            (receives.RefusesReceive (sets.clash self.now.held bundle.now)) }
+        ensures nothing_new { receives.lacked self.now.held bundle.now ≡ [] →
+            result ≢ Err ReceiveFault.Memory }
     {
         let mut finder = self.set.finder();
         let mut new = Vec::new(self.alloc);

@@ -84,7 +84,8 @@ impl Replica {
     /// # Errors
     /// Out of memory alone.
     pub fn shown(&self, alloc: Global, book: Book, key: Key) -> Result<Vec<&Op>, AllocError>
-        ensures ops { IfOk result (λ v. map (λ op. op.now) v.items ≡ texts.shown self.now.held (segment book key)) }
+        ensures ops { IfOk result (λ v.
+            map (λ op. op.now) v.items ≡ texts.shown self.now.held (segment book key)) }
         ensures none { texts.shown self.now.held (segment book key) ≡ [] → IsOk result }
     {
         self.set.shown(alloc, book, key)
@@ -138,8 +139,10 @@ impl Replica {
     /// # Errors
     /// Want of memory alone.
     pub fn delta(&self, alloc: Global, summary: &Summary) -> Result<Vec<u8>, AllocError>
-        ensures spelled { IfOk result (λ bytes. bytes.items ≡ bundle (outside summary.now self.now.held)) }
-        ensures again { IfOk result (λ bytes. whole_at bytes.items ≡ Ok (outside summary.now self.now.held)) }
+        ensures spelled { IfOk result (λ bytes.
+            bytes.items ≡ bundle (outside summary.now self.now.held)) }
+        ensures again { IfOk result (λ bytes.
+            whole_at bytes.items ≡ Ok (outside summary.now self.now.held)) }
     {
         encode_outside(alloc, &self.set, summary)
     }

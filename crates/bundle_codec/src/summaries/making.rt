@@ -36,7 +36,8 @@ fn hold(
     name: ReplicaName,
     number: u64,
 ) -> Result<(), AllocError>
-    ensures { OnOk result (making.HoldsMore (record { number = number; name = name }) held.old held.new) }
+    ensures { OnOk result
+        (making.HoldsMore (record { number = number; name = name }) held.old held.new) }
 {
     if let Some(ranges) = held.get_mut(&name) {
         return hold_number(ranges, number);

@@ -15,7 +15,8 @@ use std::alloc::{AllocError, Global};
 /// # Errors
 /// Want of memory alone.
 pub fn encode_outside(alloc: Global, set: &OpSet, summary: &Summary) -> Result<Vec<u8>, AllocError>
-    ensures spelled { IfOk result (λ bytes. bytes.items ≡ spelled.bundle (outside summary.now set.now)) }
+    ensures spelled { IfOk result (λ bytes.
+        bytes.items ≡ spelled.bundle (outside summary.now set.now)) }
     ensures again { IfOk result (λ bytes. whole_at bytes.items ≡ Ok (outside summary.now set.now)) }
 {
     let mut bytes = Vec::new(alloc);

@@ -52,7 +52,7 @@ fn ranges_of(
     bytes: &[u8],
 ) -> Result<(Option<Vec<NumberRange>>, &[u8]), BundleFault>
     ensures rest { Gives (λ x. x.1.now) result (after (reading.ranges_at count bytes.now)) }
-    ensures kept { IfOk result (λ x. IfSome x.0 (λ v. reading.ranges_at count bytes.now ≡ Ok (v.items, x.1.now))) }
+    ensures kept { IfOk result (reading.Keeps (reading.ranges_at count bytes.now)) }
 {
     let mut kept = Some(Vec::new(alloc));
     let mut before = None;
@@ -69,7 +69,8 @@ fn ranges_of(
 // The name at the front, behind the one before it.
 #[tactic(auto, unfolding(crate::specs::SummaryReading::name_at))]
 fn name_of<'a>(before: Option<&[u8]>, bytes: &'a [u8]) -> Result<(&'a [u8], &'a [u8]), BundleFault>
-    ensures { Gives (λ x. (x.0.now, x.1.now)) result (reading.name_at (option_copied before.entry) bytes.now) }
+    ensures { Gives (λ x. (x.0.now, x.1.now)) result
+        (reading.name_at (option_copied before.entry) bytes.now) }
 {
     let (len, rest) = u8_at(bytes)?;
     if !matches!(len, 1..=32) {
@@ -98,8 +99,10 @@ fn known_of<'a>(
     before: Option<&[u8]>,
     bytes: &'a [u8],
 ) -> Result<(&'a [u8], Option<NameRanges>, &'a [u8]), BundleFault>
-    ensures rest { Gives (λ x. (x.0.now, x.2.now)) result (reading.name_read (reading.known_at (option_copied before.entry) bytes.now)) }
-    ensures kept { IfOk result (λ x. IfSome x.1 (λ k. reading.known_at (option_copied before.entry) bytes.now ≡ Ok (k, x.2.now))) }
+    ensures rest { let read = reading.known_at (option_copied before.entry) bytes.now in
+        Gives (λ x. (x.0.now, x.2.now)) result (reading.name_read read) }
+    ensures kept { let read = reading.known_at (option_copied before.entry) bytes.now in
+        IfOk result (λ x. IfSome x.1 (λ k. read ≡ Ok (k, x.2.now))) }
 {
     let (name, rest) = name_of(before, bytes)?;
     let (count, rest) = u64_at(rest)?;
@@ -116,7 +119,8 @@ fn known_of<'a>(
 
 // The names with one more behind them, if both were kept and a growth is not refused.
 fn with_known(kept: Option<Vec<NameRanges>>, known: Option<NameRanges>) -> Option<Vec<NameRanges>>
-    ensures { IfSome result (λ new. IsSomeAnd kept (λ old. IsSomeAnd known (λ k. new.items ≡ old.items ++ k ∷ []))) }
+    ensures { IfSome result (λ new.
+        IsSomeAnd kept (λ old. IsSomeAnd known (λ k. new.items ≡ old.items ++ k ∷ []))) }
 {
     let mut names = kept?;
     names.push(known?).ok()?;
@@ -130,7 +134,7 @@ pub(crate) fn summary_of(
     bytes: &[u8],
 ) -> Result<(Option<Vec<NameRanges>>, &[u8]), BundleFault>
     ensures rest { Gives (λ x. x.1.now) result (after (reading.summary_at bytes.now)) }
-    ensures kept { IfOk result (λ x. IfSome x.0 (λ v. reading.summary_at bytes.now ≡ Ok (v.items, x.1.now))) }
+    ensures kept { IfOk result (reading.Keeps (reading.summary_at bytes.now)) }
 {
     let rest = after_magic(bytes)?;
     let (count, rest) = u64_at(rest)?;
@@ -144,7 +148,7 @@ fn names_of(
     bytes: &[u8],
 ) -> Result<(Option<Vec<NameRanges>>, &[u8]), BundleFault>
     ensures rest { Gives (λ x. x.1.now) result (after (reading.names_at count bytes.now)) }
-    ensures kept { IfOk result (λ x. IfSome x.0 (λ v. reading.names_at count bytes.now ≡ Ok (v.items, x.1.now))) }
+    ensures kept { IfOk result (reading.Keeps (reading.names_at count bytes.now)) }
 {
     let mut kept = Some(Vec::new(alloc));
     let mut before = None;

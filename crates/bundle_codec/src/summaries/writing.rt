@@ -12,7 +12,8 @@ pub(crate) static MAGIC: [u8; 8] = *b"USFMSS1\n";
 // Appends the magic and how many names follow.
 #[tactic(auto, unfolding(crate::specs::Summaries::summary_magic))]
 pub(crate) fn push_front(bytes: &mut Vec<u8>, count: u64) -> Result<(), AllocError>
-    ensures { IfOk result (λ _. bytes.new.items ≡ bytes.old.items ++ (sums.summary_magic ++ to_be_bytes w64 count)) }
+    ensures { let front = sums.summary_magic ++ to_be_bytes w64 count in
+        IfOk result (λ _. bytes.new.items ≡ bytes.old.items ++ front) }
 {
     bytes.extend_from_slice(&MAGIC)?;
     push_number(bytes, count)
@@ -37,7 +38,8 @@ pub(crate) fn push_known(bytes: &mut Vec<u8>, known: &NameRanges) -> Result<(), 
 
 // Appends how many ranges there are, and each of them.
 fn push_ranges(bytes: &mut Vec<u8>, ranges: &[NumberRange]) -> Result<(), AllocError>
-    ensures { IfOk result (λ _. bytes.new.items ≡ bytes.old.items ++ sums.counted_ranges ranges.now) }
+    ensures { IfOk result (λ _.
+        bytes.new.items ≡ bytes.old.items ++ sums.counted_ranges ranges.now) }
 {
     push_number(bytes, ranges.len() as u64)?;
     for range in ranges {

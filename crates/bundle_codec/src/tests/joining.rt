@@ -1,7 +1,7 @@
 // Whole bundles, sets written as bundles, and bundles joined.
 use super::{B1, Y, changed};
 use crate::{BundleFault, JoinFault, WholeFault, decode, decode_whole, encode, join_bundles};
-use op_core::{OpId, ReplicaName};
+use op_core::OpId;
 use std::alloc::Global;
 use std::test::Fail;
 
@@ -16,11 +16,13 @@ const CUT: JoinFault = JoinFault::Bundle(WholeFault::Bundle(BundleFault::Truncat
 
 const TRAILING: JoinFault = JoinFault::Bundle(WholeFault::Trailing);
 
+const SETS: &[&[u8]] = &[B1, Y, CLASHING, EMPTY];
+
 #[test]
 fn sets_are_written(rt: HostRuntime) -> Result<(), Fail> {
-    for bytes in [B1.as_slice(), &Y, CLASHING, EMPTY] {
+    for bytes in SETS {
         let set = decode_whole(rt.alloc(), bytes)?.to_set(rt.alloc())?;
-        assert_eq!(rt; encode(rt.alloc(), &set)?.as_slice(), bytes);
+        assert!(rt; encode(rt.alloc(), &set)?.as_slice() == *bytes);
     }
     Ok(())
 }
@@ -30,45 +32,66 @@ fn something_follows(rt: HostRuntime) -> Result<(), Fail> {
     let longer = with_nought(rt.alloc())?;
     assert_eq!(rt; decode(rt.alloc(), &longer)?.1, 108);
     let whole = decode_whole(rt.alloc(), &longer);
-    assert_eq!(rt; whole.err(), Some(WholeFault::Trailing));
+    assert!(rt; whole.err() == Some(WholeFault::Trailing));
     let cut = decode_whole(rt.alloc(), &B1[..50]);
-    assert_eq!(rt; cut.err(), Some(WholeFault::Bundle(BundleFault::Truncated)));
+    assert!(rt; cut.err() == Some(WholeFault::Bundle(BundleFault::Truncated)));
     Ok(())
+}
+
+// Whether the first two of each row join to the third.
+fn all_join(alloc: Global, rows: &[[&[u8]; 3]]) -> Result<bool, Fail> {
+    for row in rows {
+        let joined = join_bundles(alloc, row[0], row[1])?;
+        if joined.as_slice() != row[2] {
+            return Ok(false);
+        }
+    }
+    Ok(true)
+}
+
+// B1 and Y in one bundle.
+fn b1_and_y(alloc: Global) -> Result<Vec<u8>, Fail> {
+    let mut both = changed(alloc, B1, 15, &[3])?;
+    both.extend_from_slice(Y.split_at(16).1)?;
+    Ok(both)
 }
 
 #[test]
 fn bundles_are_joined(rt: HostRuntime) -> Result<(), Fail> {
-    let mut both = changed(rt.alloc(), &B1, 15, &[3])?;
-    both.extend_from_slice(&Y[16..])?;
+    let alloc = rt.alloc();
+    let both = b1_and_y(alloc)?;
     assert_eq!(rt; both.len(), 166);
-    for (first, second, wanted) in [
-        (B1.as_slice(), B1.as_slice(), B1.as_slice()),
-        (&B1, &Y, &both),
-        (&Y, &B1, &both),
-        (&both, &Y, &both),
-        (EMPTY, EMPTY, EMPTY),
-    ] {
-        let joined = join_bundles(rt.alloc(), first, second)?;
-        assert_eq!(rt; joined.as_slice(), wanted);
-    }
+    let rows = [
+        [B1.as_slice(), B1, B1],
+        [B1, Y, &both],
+        [Y, B1, &both],
+        [&both, Y, &both],
+        [EMPTY, EMPTY, EMPTY],
+    ];
+    assert!(rt; all_join(alloc, &rows)?);
+    Ok(())
+}
+
+fn fault_of(alloc: Global, first: &[u8], second: &[u8]) -> Option<JoinFault> {
+    join_bundles(alloc, first, second).err()
+}
+
+#[test]
+fn joining_clashes(rt: HostRuntime) -> Result<(), Fail> {
+    let clash = JoinFault::Clash(OpId::read("2:ana")?);
+    assert!(rt; fault_of(rt.alloc(), B1, CLASHING) == Some(clash));
+    assert!(rt; fault_of(rt.alloc(), CLASHING, B1) == Some(clash));
     Ok(())
 }
 
 #[test]
 fn joining_is_refused(rt: HostRuntime) -> Result<(), Fail> {
-    let longer = with_nought(rt.alloc())?;
-    let ana = OpId::new(2, ReplicaName::read("ana")?).ok_or("an id")?;
-    for (first, second, wanted) in [
-        (B1.as_slice(), CLASHING, JoinFault::Clash(ana)),
-        (CLASHING, &B1, JoinFault::Clash(ana)),
-        (&B1[..50], &longer, CUT),
-        (&longer, &B1[..50], TRAILING),
-        (&B1, &B1[..50], CUT),
-        (&CLASHING[..50], &B1, CUT),
-    ] {
-        let joined = join_bundles(rt.alloc(), first, second);
-        assert!(rt; joined.err() == Some(wanted));
-    }
+    let alloc = rt.alloc();
+    let longer = with_nought(alloc)?;
+    assert!(rt; fault_of(alloc, &B1[..50], &longer) == Some(CUT));
+    assert!(rt; fault_of(alloc, &longer, &B1[..50]) == Some(TRAILING));
+    assert!(rt; fault_of(alloc, B1, &B1[..50]) == Some(CUT));
+    assert!(rt; fault_of(alloc, &CLASHING[..50], B1) == Some(CUT));
     Ok(())
 }
 

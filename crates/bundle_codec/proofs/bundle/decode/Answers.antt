@@ -4,22 +4,35 @@ use Rattle.bundle_codec.proofs.Seen.{left_fits, front_length, left_is, read_part
 use Rattle.bundle_codec.proofs.bundle.decode.Goals as goal
 
 pub returns-in_err-bundle-clause-only : goal.returns-in_err-bundle-clause-only
-returns-in_err-bundle-clause-only c = λ ops rest set is. absurd (not_refused c.args.bytes.now c.in_err-bundle.field-0.0 c.in_err-bundle.ensures (omega arith) ops rest set is)
+returns-in_err-bundle-clause-only c =
+    λ ops rest set is. absurd (not_refused c.args.bytes.now c.in_err-bundle.field-0.0 c.in_err-bundle.ensures (omega arith) ops rest set is)
 
 pub overflow_sub-result : goal.overflow_sub-result
-overflow_sub-result c = left_fits c.args.bytes.now (bundle c.in_ok-bundle.bundle) c.in_ok-bundle.rest.now (read_parts c.args.bytes.now (λ i. omega (arith, c.type_inv.bytes i)) c.in_ok-bundle.bundle c.in_ok-bundle.rest.now c.in_ok-bundle.ensures)
+overflow_sub-result c = left_fits c.args.bytes.now (bundle c.in_ok-bundle.bundle) c.in_ok-bundle.rest.now
+    (read_parts c.args.bytes.now (λ i. omega (arith, c.type_inv.bytes i)) c.in_ok-bundle.bundle c.in_ok-bundle.rest.now
+    c.in_ok-bundle.ensures)
 
 pub returns-clause-set : goal.returns-clause-set
-returns-clause-set c = is_set c.args.bytes.now (λ i. omega (arith, c.type_inv.bytes i)) c.in_ok-bundle.bundle c.in_ok-bundle.rest.now c.in_ok-bundle.ensures
+returns-clause-set c =
+    is_set c.args.bytes.now (λ i. omega (arith, c.type_inv.bytes i)) c.in_ok-bundle.bundle c.in_ok-bundle.rest.now c.in_ok-bundle.ensures
 
 pub returns-clause-spelled : goal.returns-clause-spelled
-returns-clause-spelled c = is_spelled c.args.bytes.now (λ i. omega (arith, c.type_inv.bytes i)) c.in_ok-bundle.bundle c.in_ok-bundle.rest.now c.in_ok-bundle.ensures
+returns-clause-spelled c = is_spelled c.args.bytes.now
+    (λ i. omega (arith, c.type_inv.bytes i)) c.in_ok-bundle.bundle c.in_ok-bundle.rest.now c.in_ok-bundle.ensures
 
 pub returns-clause-only : goal.returns-clause-only
-returns-clause-only c = λ ops rest set is. is_only c.args.bytes.now (λ i. omega (arith, c.type_inv.bytes i)) c.in_ok-bundle.bundle c.in_ok-bundle.rest.now c.in_ok-bundle.ensures (omega arith) ops rest set is
+returns-clause-only c = λ ops rest set is. is_only c.args.bytes.now
+    (λ i. omega (arith, c.type_inv.bytes i)) c.in_ok-bundle.bundle c.in_ok-bundle.rest.now c.in_ok-bundle.ensures
+    (omega arith) ops rest set is
 
 pub returns-clause-length : goal.returns-clause-length
-returns-clause-length c = front_length c.args.bytes.now (bundle c.in_ok-bundle.bundle) c.in_ok-bundle.rest.now (read_parts c.args.bytes.now (λ i. omega (arith, c.type_inv.bytes i)) c.in_ok-bundle.bundle c.in_ok-bundle.rest.now c.in_ok-bundle.ensures)
+returns-clause-length c = front_length c.args.bytes.now (bundle c.in_ok-bundle.bundle) c.in_ok-bundle.rest.now
+    (read_parts c.args.bytes.now (λ i. omega (arith, c.type_inv.bytes i)) c.in_ok-bundle.bundle c.in_ok-bundle.rest.now
+    c.in_ok-bundle.ensures)
 
 pub returns-clause-exact : goal.returns-clause-exact
-returns-clause-exact c = c.in_ok-bundle.ensures ∙ ap (λ (w : List ℕ). Ok (c.in_ok-bundle.bundle, w)) (sym (left_is c.args.bytes.now (bundle c.in_ok-bundle.bundle) c.in_ok-bundle.rest.now (read_parts c.args.bytes.now (λ i. omega (arith, c.type_inv.bytes i)) c.in_ok-bundle.bundle c.in_ok-bundle.rest.now c.in_ok-bundle.ensures)))
+returns-clause-exact c = c.in_ok-bundle.ensures
+    ∙ ap (λ (w : List ℕ). Ok (c.in_ok-bundle.bundle, w))
+    (sym (left_is c.args.bytes.now (bundle c.in_ok-bundle.bundle) c.in_ok-bundle.rest.now
+    (read_parts c.args.bytes.now (λ i. omega (arith, c.type_inv.bytes i)) c.in_ok-bundle.bundle c.in_ok-bundle.rest.now
+    c.in_ok-bundle.ensures)))

@@ -9,10 +9,13 @@ pub u8_in-len-requires : goal.u8_in-len-requires
 u8_in-len-requires c = id_length c.args.bytes.now (λ i. omega (arith, c.type_inv.bytes i)) c.requires _ _ c.u64_in-number.ensures
 
 pub block_in-requires : goal.block_in-requires
-block_in-requires c = id_name c.args.bytes.now (λ i. omega (arith, c.type_inv.bytes i)) c.requires _ _ c.u64_in-number.ensures _ _ c.u8_in-len.ensures
+block_in-requires c =
+    id_name c.args.bytes.now (λ i. omega (arith, c.type_inv.bytes i)) c.requires _ _ c.u64_in-number.ensures _ _ c.u8_in-len.ensures
 
 pub returns : goal.returns
 returns c = record {
-  value = id_is c.args.bytes.now (λ i. omega (arith, c.type_inv.bytes i)) c.requires _ _ c.u64_in-number.ensures _ _ c.u8_in-len.ensures _ _ c.block_in.ensures;
-  valid = id_valid c.args.bytes.now (λ i. omega (arith, c.type_inv.bytes i)) c.requires _ _ c.u64_in-number.ensures _ _ c.u8_in-len.ensures _ _ c.block_in.ensures;
+  value = id_is c.args.bytes.now
+      (λ i. omega (arith, c.type_inv.bytes i)) c.requires _ _ c.u64_in-number.ensures _ _ c.u8_in-len.ensures _ _ c.block_in.ensures;
+  valid = id_valid c.args.bytes.now
+      (λ i. omega (arith, c.type_inv.bytes i)) c.requires _ _ c.u64_in-number.ensures _ _ c.u8_in-len.ensures _ _ c.block_in.ensures;
 }

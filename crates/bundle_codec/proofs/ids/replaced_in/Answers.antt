@@ -8,7 +8,8 @@ pub after_ids_in-rest-requires : goal.after_ids_in-rest-requires
 after_ids_in-rest-requires c = ids_ok c.args.bytes.now c.requires _ _ c.u64_in-count.ensures
 
 pub returns-clause-value : goal.returns-clause-value
-returns-clause-value c = ids_are c.args.bytes.now c.requires _ _ c.u64_in-count.ensures c.after_ids_in-rest.result.now c.after_ids_in-rest.ensures
+returns-clause-value c =
+    ids_are c.args.bytes.now c.requires _ _ c.u64_in-count.ensures c.after_ids_in-rest.result.now c.after_ids_in-rest.ensures
 
 pub returns-clause-readable : goal.returns-clause-readable
 returns-clause-readable c = ids_ok c.args.bytes.now c.requires _ _ c.u64_in-count.ensures

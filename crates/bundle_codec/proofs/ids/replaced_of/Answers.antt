@@ -10,6 +10,8 @@ use Rattle.bundle_codec.proofs.ids.replaced_of.Goals as goal
 pub returns : goal.returns
 unfolding replaced_at
 returns c =
-    let count = (number_reads w64 (2 ^ 64) wide64 any Truncated).takes c.args.bytes.now c.in_ok-count.count c.in_ok-count.ids.now (λ i. omega (arith, c.type_inv.bytes i)) c.in_ok-count.ensures in
+    let count = (number_reads w64 (2 ^ 64) wide64 any Truncated).takes c.args.bytes.now c.in_ok-count.count c.in_ok-count.ids.now
+    (λ i. omega (arith, c.type_inv.bytes i)) c.in_ok-count.ensures in
     ap (λ r. r >>= λ n. many_at (named_at c.args.bad (id_view c.args.own.now)) after_id n.0 None n.1) c.in_ok-count.ensures
-    ∙ replaced_seen c.args.bad (id_view c.args.own.now) c.in_ok-count.count c.in_ok-count.ids.now c.in_ok-rest.rest.now count.0.rest_fits c.in_ok-rest.ensures
+    ∙ replaced_seen c.args.bad (id_view c.args.own.now) c.in_ok-count.count c.in_ok-count.ids.now c.in_ok-rest.rest.now count.0.rest_fits
+    c.in_ok-rest.ensures

@@ -9,7 +9,9 @@ pub u64_in-len-requires : goal.u64_in-len-requires
 u64_in-len-requires c = body_length c.args.bytes.now (λ i. omega (arith, c.type_inv.bytes i)) c.requires _ _ c.u8_in-tag.ensures
 
 pub block_in-requires : goal.block_in-requires
-block_in-requires c = body_text c.args.bytes.now (λ i. omega (arith, c.type_inv.bytes i)) c.requires _ _ c.u8_in-tag.ensures _ _ c.u64_in-len.ensures
+block_in-requires c =
+    body_text c.args.bytes.now (λ i. omega (arith, c.type_inv.bytes i)) c.requires _ _ c.u8_in-tag.ensures _ _ c.u64_in-len.ensures
 
 pub returns : goal.returns
-returns c = body_is c.args.bytes.now (λ i. omega (arith, c.type_inv.bytes i)) c.requires _ _ c.u8_in-tag.ensures _ _ c.u64_in-len.ensures _ _ c.block_in.ensures
+returns c = body_is c.args.bytes.now
+    (λ i. omega (arith, c.type_inv.bytes i)) c.requires _ _ c.u8_in-tag.ensures _ _ c.u64_in-len.ensures _ _ c.block_in.ensures

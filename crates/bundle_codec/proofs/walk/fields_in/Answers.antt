@@ -9,17 +9,25 @@ pub block_in-requires : goal.block_in-requires
 block_in-requires c = op_code c.args.bytes.now (λ i. omega (arith, c.type_inv.bytes i)) c.requires _ _ c.id_in.ensures.value
 
 pub key_in-requires : goal.key_in-requires
-key_in-requires c = op_key c.args.bytes.now (λ i. omega (arith, c.type_inv.bytes i)) c.requires _ _ c.id_in.ensures.value _ _ c.block_in.ensures
+key_in-requires c =
+    op_key c.args.bytes.now (λ i. omega (arith, c.type_inv.bytes i)) c.requires _ _ c.id_in.ensures.value _ _ c.block_in.ensures
 
 pub replaced_in-requires : goal.replaced_in-requires
-replaced_in-requires c = op_ids c.args.bytes.now (λ i. omega (arith, c.type_inv.bytes i)) c.requires _ _ c.id_in.ensures.value _ _ c.block_in.ensures _ _ c.key_in.ensures
+replaced_in-requires c = op_ids c.args.bytes.now
+    (λ i. omega (arith, c.type_inv.bytes i)) c.requires _ _ c.id_in.ensures.value _ _ c.block_in.ensures _ _ c.key_in.ensures
 
 pub body_in-requires : goal.body_in-requires
-body_in-requires c = op_body c.args.bytes.now (λ i. omega (arith, c.type_inv.bytes i)) c.requires _ _ c.id_in.ensures.value _ _ c.block_in.ensures _ _ c.key_in.ensures _ _ c.replaced_in.ensures.value
+body_in-requires c = op_body c.args.bytes.now
+    (λ i. omega (arith, c.type_inv.bytes i)) c.requires _ _ c.id_in.ensures.value _ _ c.block_in.ensures _ _ c.key_in.ensures _ _
+    c.replaced_in.ensures.value
 
 pub from_utf8_unchecked-text-requires : goal.from_utf8_unchecked-text-requires
-from_utf8_unchecked-text-requires c = op_text c.args.bytes.now (λ i. omega (arith, c.type_inv.bytes i)) c.requires _ _ c.id_in.ensures.value _ _ c.block_in.ensures _ _ c.key_in.ensures _ _ c.replaced_in.ensures.value _ _ c.body_in.ensures
+from_utf8_unchecked-text-requires c = op_text c.args.bytes.now
+    (λ i. omega (arith, c.type_inv.bytes i)) c.requires _ _ c.id_in.ensures.value _ _ c.block_in.ensures _ _ c.key_in.ensures _ _
+    c.replaced_in.ensures.value _ _ c.body_in.ensures
 
 pub returns-clause-value : goal.returns-clause-value
 returns-clause-value c =
-    rw c.from_utf8_unchecked-text.ensures (op_is c.args.bytes.now (λ i. omega (arith, c.type_inv.bytes i)) c.requires _ _ c.id_in.ensures.value _ _ c.block_in.ensures _ _ c.key_in.ensures _ _ c.replaced_in.ensures.value _ _ c.body_in.ensures)
+    rw c.from_utf8_unchecked-text.ensures
+    (op_is c.args.bytes.now (λ i. omega (arith, c.type_inv.bytes i)) c.requires _ _ c.id_in.ensures.value _ _ c.block_in.ensures _ _
+    c.key_in.ensures _ _ c.replaced_in.ensures.value _ _ c.body_in.ensures)

@@ -20,13 +20,15 @@ returns-then-length-bytes-clause-followed c = λ _. record {
   rest = drop c.in_ok-bundle.length c.args.bytes.now;
   set = c.in_ok-bundle.ensures.set;
   some = some_left c.args.bytes.now c.in_ok-bundle.length c.if-length-bytes.true;
-  spelled = sym (take-append-drop c.in_ok-bundle.length c.args.bytes.now) ∙ ap (λ (w : List ℕ). w ++ drop c.in_ok-bundle.length c.args.bytes.now) c.in_ok-bundle.ensures.spelled;
+  spelled = sym (take-append-drop c.in_ok-bundle.length c.args.bytes.now)
+      ∙ ap (λ (w : List ℕ). w ++ drop c.in_ok-bundle.length c.args.bytes.now) c.in_ok-bundle.ensures.spelled;
 }
 
 pub returns-then-length-bytes-clause-exact : goal.returns-then-length-bytes-clause-exact
 returns-then-length-bytes-clause-exact c =
     ap whole_if c.in_ok-bundle.ensures.exact
-    ∙ trails c.in_ok-bundle.bundle (drop c.in_ok-bundle.length c.args.bytes.now) (some_left c.args.bytes.now c.in_ok-bundle.length c.if-length-bytes.true)
+    ∙ trails c.in_ok-bundle.bundle (drop c.in_ok-bundle.length c.args.bytes.now)
+    (some_left c.args.bytes.now c.in_ok-bundle.length c.if-length-bytes.true)
 
 pub returns-clause-only : goal.returns-clause-only
 returns-clause-only c = λ ops set is. c.in_ok-bundle.ensures.only ops [] set (is ∙ sym (append-nil (bundle ops)))

@@ -13,10 +13,21 @@ use Rattle.replica_state.proofs.pieces.piece_at.Goals as goal
 
 pub returns-then-is_eq : goal.returns-then-is_eq
 returns-then-is_eq c =
-    sym (ap text_in (part_found c.args.key c.args.pieces.now ∙ ap (option_map part_of) (found_here key_cmp key_total (λ (p : Piece). p.key) c.args.key c.args.pieces.now c.place_piece-at.result c.index-pieces-at.result c.requires.rising c.place_piece-at.ensures.place c.if-at-pieces.true c.index-pieces-at.is (tied_back key_cmp key_total c.index-pieces-at.result.key c.args.key _ (sym (c.is_eq.ensures ∙ ap is_eq c.order.ensures) ∙ c.if-is_eq.true)))))
+    sym (ap text_in (part_found c.args.key c.args.pieces.now
+    ∙ ap (option_map part_of) (found_here key_cmp key_total
+    (λ (p : Piece). p.key) c.args.key c.args.pieces.now c.place_piece-at.result c.index-pieces-at.result c.requires.rising
+    c.place_piece-at.ensures.place c.if-at-pieces.true c.index-pieces-at.is
+    (tied_back key_cmp key_total c.index-pieces-at.result.key c.args.key _
+    (sym (c.is_eq.ensures ∙ ap is_eq c.order.ensures) ∙ c.if-is_eq.true)))))
 
 pub returns : goal.returns
 returns c = sym (ap text_in (part_found c.args.key c.args.pieces.now ∙ ap (option_map part_of) (elim c.if-at-pieces.branch [
-  | then-at-pieces+else-is_eq w ↦ found_not key_cmp key_total (λ (p : Piece). p.key) c.args.key c.args.pieces.now c.place_piece-at.result w.index-pieces-at.result c.requires.rising c.place_piece-at.ensures.place w.index-pieces-at.is (tied_back key_cmp key_total w.index-pieces-at.result.key c.args.key _ (sym (w.is_eq.ensures ∙ ap is_eq w.order.ensures) ∙ w.if-is_eq.false))
-  | else-at-pieces w ↦ found_end key_cmp key_total (λ (p : Piece). p.key) c.args.key c.args.pieces.now c.place_piece-at.result c.requires.rising c.place_piece-at.ensures.place (omega arith)
+  | then-at-pieces+else-is_eq w ↦ found_not key_cmp key_total
+      (λ (p : Piece). p.key) c.args.key c.args.pieces.now c.place_piece-at.result w.index-pieces-at.result c.requires.rising
+      c.place_piece-at.ensures.place w.index-pieces-at.is
+      (tied_back key_cmp key_total w.index-pieces-at.result.key c.args.key _
+      (sym (w.is_eq.ensures ∙ ap is_eq w.order.ensures) ∙ w.if-is_eq.false))
+  | else-at-pieces w ↦ found_end key_cmp key_total
+      (λ (p : Piece). p.key) c.args.key c.args.pieces.now c.place_piece-at.result c.requires.rising c.place_piece-at.ensures.place
+      (omega arith)
 ])))

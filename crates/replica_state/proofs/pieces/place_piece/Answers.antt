@@ -8,10 +8,16 @@ use Rattle.verse_cut.specs.declared.cutter.Piece.{Piece}
 use Rattle.replica_state.proofs.pieces.place_piece.Goals as goal
 
 pub halves-preserved-then-is_lt : goal.halves-preserved-then-is_lt
-halves-preserved-then-is_lt c = narrowed_low (λ (p : Piece). is_lt (key_cmp p.key c.args.key)) c.args.pieces.now _ _ _ c.index-pieces-middle.result (parted key_cmp key_total (λ (p : Piece). p.key) c.args.key c.args.pieces.now c.requires.rising) c.halves.invariant (omega arith) c.index-pieces-middle.is (sym (c.is_lt.ensures ∙ ap is_lt c.order.ensures) ∙ c.if-is_lt.true)
+halves-preserved-then-is_lt c = narrowed_low
+    (λ (p : Piece). is_lt (key_cmp p.key c.args.key)) c.args.pieces.now _ _ _ c.index-pieces-middle.result
+    (parted key_cmp key_total (λ (p : Piece). p.key) c.args.key c.args.pieces.now c.requires.rising) c.halves.invariant
+    (omega arith) c.index-pieces-middle.is (sym (c.is_lt.ensures ∙ ap is_lt c.order.ensures) ∙ c.if-is_lt.true)
 
 pub halves-preserved : goal.halves-preserved
-halves-preserved c = narrowed_high (λ (p : Piece). is_lt (key_cmp p.key c.args.key)) c.args.pieces.now _ _ _ c.index-pieces-middle.result (parted key_cmp key_total (λ (p : Piece). p.key) c.args.key c.args.pieces.now c.requires.rising) c.halves.invariant (omega arith) (omega arith) c.index-pieces-middle.is (sym (c.is_lt.ensures ∙ ap is_lt c.order.ensures) ∙ c.if-is_lt.false)
+halves-preserved c = narrowed_high (λ (p : Piece). is_lt (key_cmp p.key c.args.key)) c.args.pieces.now _ _ _ c.index-pieces-middle.result
+    (parted key_cmp key_total (λ (p : Piece). p.key) c.args.key c.args.pieces.now c.requires.rising) c.halves.invariant (omega arith)
+    (omega arith) c.index-pieces-middle.is (sym (c.is_lt.ensures ∙ ap is_lt c.order.ensures) ∙ c.if-is_lt.false)
 
 pub returns-clause-place : goal.returns-clause-place
-returns-clause-place c = narrowed_place (λ (p : Piece). is_lt (key_cmp p.key c.args.key)) c.args.pieces.now _ _ c.halves.invariant (omega arith)
+returns-clause-place c =
+    narrowed_place (λ (p : Piece). is_lt (key_cmp p.key c.args.key)) c.args.pieces.now _ _ c.halves.invariant (omega arith)

@@ -15,7 +15,8 @@ pub id_in-requires : goal.id_in-requires
 id_in-requires c = each_one (id_at Truncated) c.self.inside.left c.self.inside.bytes.now c.if-self-eq0.false c.self.invariant
 
 pub invariant_of-self : goal.invariant_of-self
-invariant_of-self c = each_rest (id_at Truncated) c.self.inside.left c.self.inside.bytes.now c.if-self-eq0.false c.self.invariant _ _ c.id_in.ensures.value
+invariant_of-self c =
+    each_rest (id_at Truncated) c.self.inside.left c.self.inside.bytes.now c.if-self-eq0.false c.self.invariant _ _ c.id_in.ensures.value
 
 -- the ids are the one that was given, and those that are left
 goes_on : (c : After-made) → c.args.self.now ≡ c.made.result ∷ found (each_id_at (c.self.inside.left - 1) c.id_in.result.1.now)

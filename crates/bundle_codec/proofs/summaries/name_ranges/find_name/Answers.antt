@@ -9,10 +9,20 @@ use Rattle.bundle_codec.proofs.summaries.name_ranges.find_name.Goals as goal
 
 pub returns-then-is_eq : goal.returns-then-is_eq
 returns-then-is_eq c =
-    sym (found_here name_cmp name_total (λ (k : Known). k.name) c.args.name c.args.names.now c.place_name-at.result c.index-names-at.result c.requires.rising c.place_name-at.ensures.place c.if-at-names.true c.index-names-at.is (tied_back name_cmp name_total c.index-names-at.result.name c.args.name _ (sym (c.is_eq.ensures ∙ ap is_eq c.order.ensures) ∙ c.if-is_eq.true)))
+    sym (found_here name_cmp name_total
+    (λ (k : Known). k.name) c.args.name c.args.names.now c.place_name-at.result c.index-names-at.result c.requires.rising
+    c.place_name-at.ensures.place c.if-at-names.true c.index-names-at.is
+    (tied_back name_cmp name_total c.index-names-at.result.name c.args.name _
+    (sym (c.is_eq.ensures ∙ ap is_eq c.order.ensures) ∙ c.if-is_eq.true)))
 
 pub returns : goal.returns
 returns c = sym (elim c.if-at-names.branch [
-  | then-at-names+else-is_eq w ↦ found_not name_cmp name_total (λ (k : Known). k.name) c.args.name c.args.names.now c.place_name-at.result w.index-names-at.result c.requires.rising c.place_name-at.ensures.place w.index-names-at.is (tied_back name_cmp name_total w.index-names-at.result.name c.args.name _ (sym (w.is_eq.ensures ∙ ap is_eq w.order.ensures) ∙ w.if-is_eq.false))
-  | else-at-names w ↦ found_end name_cmp name_total (λ (k : Known). k.name) c.args.name c.args.names.now c.place_name-at.result c.requires.rising c.place_name-at.ensures.place (omega arith)
+  | then-at-names+else-is_eq w ↦ found_not name_cmp name_total
+      (λ (k : Known). k.name) c.args.name c.args.names.now c.place_name-at.result w.index-names-at.result c.requires.rising
+      c.place_name-at.ensures.place w.index-names-at.is
+      (tied_back name_cmp name_total w.index-names-at.result.name c.args.name _
+      (sym (w.is_eq.ensures ∙ ap is_eq w.order.ensures) ∙ w.if-is_eq.false))
+  | else-at-names w ↦ found_end name_cmp name_total
+      (λ (k : Known). k.name) c.args.name c.args.names.now c.place_name-at.result c.requires.rising c.place_name-at.ensures.place
+      (omega arith)
 ])

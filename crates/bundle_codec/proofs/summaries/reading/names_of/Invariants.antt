@@ -6,5 +6,7 @@ use Rattle.bundle_codec.proofs.SummaryLoops.{behind}
 use Rattle.bundle_codec.proofs.summaries.reading.names_of.Given as goal
 
 abbrev pub invariant-loop : goal.invariant-loop
-invariant-loop l = (after (many_at known_at after_known (l.count - l.counter) (option_copied l.before) l.rest) ≡ after (names_at l.count l.bytes))
-    × IfSome l.kept (λ v. names_at l.count l.bytes ≡ behind v.items (many_at known_at after_known (l.count - l.counter) (option_copied l.before) l.rest))
+invariant-loop l =
+    (after (many_at known_at after_known (l.count - l.counter) (option_copied l.before) l.rest) ≡ after (names_at l.count l.bytes))
+    × IfSome l.kept (λ v. names_at l.count l.bytes ≡ behind v.items
+    (many_at known_at after_known (l.count - l.counter) (option_copied l.before) l.rest))

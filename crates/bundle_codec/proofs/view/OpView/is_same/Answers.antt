@@ -11,5 +11,6 @@ returns c =
     let y = c.other.invariant in
     c.eq.ensures
     ∙ (λ i. same_bytes (x.bytes_are i) (y.bytes_are i))
-    ∙ same_spellings (op_view c.self.inside.fields) (op_view c.other.inside.fields) x.fits y.fits (omega (arith, ap length x.bytes_are, c.self.told.0))
+    ∙ same_spellings (op_view c.self.inside.fields) (op_view c.other.inside.fields) x.fits y.fits
+    (omega (arith, ap length x.bytes_are, c.self.told.0))
     ∙ (λ i. same_op (c.self.view_is i) (c.other.view_is i))

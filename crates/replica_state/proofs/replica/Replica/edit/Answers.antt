@@ -10,4 +10,5 @@ add-requires-clause-new c = next_is_new c.args.self.now c.in-Some-next_id.id c.i
 pub add-requires-clause-falls : goal.add-requires-clause-falls
 add-requires-clause-falls c =
     ap (names_fall c.in-Some-next_id.id) c.in_ok-replaced.ensures
-    ∙ next_falls c.args.self.now (segment c.args.book c.args.key) c.in-Some-next_id.id c.next_id.ensures.state c.in-Some-next_id.ensures.next
+    ∙ next_falls c.args.self.now (segment c.args.book c.args.key) c.in-Some-next_id.id c.next_id.ensures.state
+    c.in-Some-next_id.ensures.next

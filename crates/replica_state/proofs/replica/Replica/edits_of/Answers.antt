@@ -16,9 +16,12 @@ loop-key-preserved c =
     let key = c.key-item.result in
     let numbered : c.loop-key.number + 1 ≡ next_number s.held + c.loop-key.key-index = omega (arith, c.loop-key.invariant.counted) in
     let made : c.in_ok-edit.edit ≡ edit_at s c.args.book (parts_of c.args.pieces.now) (c.loop-key.number + 1) key =
-    c.in_ok-edit.ensures ∙ ap (λ (t : State). edit_with (record { number = c.loop-key.number + 1; name = t.name }) (segment c.args.book key) (shown_ids s.held (segment c.args.book key)) (piece_at (parts_of c.args.pieces.now) key)) c.self.view_is in
+    c.in_ok-edit.ensures ∙ ap (λ (t : State). edit_with (record { number = c.loop-key.number + 1; name = t.name }) (segment c.args.book key)
+    (shown_ids s.held (segment c.args.book key)) (piece_at (parts_of c.args.pieces.now) key)) c.self.view_is in
     record {
       counted = omega (arith, c.loop-key.invariant.counted);
       made = c.in_ok-push.ensures.items ∙ (λ i. c.loop-key.invariant.made i ++ made i ∷ [])
-          ∙ edits_more s c.args.book (parts_of c.args.pieces.now) (next_number s.held) (c.loop-key.number + 1) c.args.due.now c.loop-key.key-index key c.loop-key-test.true c.key-item.is (length-take-le c.loop-key.key-index c.args.due.now (omega arith)) numbered;
+          ∙ edits_more s c.args.book (parts_of c.args.pieces.now) (next_number s.held)
+          (c.loop-key.number + 1) c.args.due.now c.loop-key.key-index key c.loop-key-test.true c.key-item.is
+          (length-take-le c.loop-key.key-index c.args.due.now (omega arith)) numbered;
     }

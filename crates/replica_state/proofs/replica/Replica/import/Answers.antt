@@ -16,22 +16,31 @@ use Rattle.replica_state.proofs.KeyLists.{parts_rise}
 use Rattle.replica_state.proofs.replica.Replica.import.Goals as goal
 
 pub due_keys-requires : goal.due_keys-requires
-due_keys-requires c = record { rising = ap (rises_by key_cmp (λ (p : Piece). p.key)) c.deref.ensures.value ∙ sym (parts_rise c.in_ok-pieces.pieces.items) ∙ c.in_ok-pieces.ensures.rise }
+due_keys-requires c =
+    record {
+      rising = ap (rises_by key_cmp (λ (p : Piece). p.key)) c.deref.ensures.value ∙ sym (parts_rise c.in_ok-pieces.pieces.items)
+          ∙ c.in_ok-pieces.ensures.rise;
+    }
 
 pub edits_of-requires-clause-rising : goal.edits_of-requires-clause-rising
-edits_of-requires-clause-rising c = ap (rises_by key_cmp (λ (p : Piece). p.key)) c.deref-2.ensures.value ∙ sym (parts_rise c.in_ok-pieces.pieces.items) ∙ c.in_ok-pieces.ensures.rise
+edits_of-requires-clause-rising c = ap (rises_by key_cmp (λ (p : Piece). p.key)) c.deref-2.ensures.value
+    ∙ sym (parts_rise c.in_ok-pieces.pieces.items) ∙ c.in_ok-pieces.ensures.rise
 
 pub edits_of-requires-clause-fits : goal.edits_of-requires-clause-fits
 edits_of-requires-clause-fits c = λ key.
     ap (λ (ps : List Piece). text_fits c.in_ok-book.book key (piece_at (parts_of ps) key)) c.deref-2.ensures.value
     ∙ ap (λ (ps : List Part). text_fits c.in_ok-book.book key (piece_at ps key)) c.in_ok-pieces.ensures.value
-    ∙ piece_fits c.in_ok-book.book c.args.file.now key (book_is_code c.args.file.now c.in_ok-book.book (sym c.in_ok-book.ensures.value)) c.in_ok-book.ensures.reads
+    ∙ piece_fits c.in_ok-book.book c.args.file.now key
+    (book_is_code c.args.file.now c.in_ok-book.book (sym c.in_ok-book.ensures.value)) c.in_ok-book.ensures.reads
 
 pub join_new-requires-clause-rising : goal.join_new-requires-clause-rising
 join_new-requires-clause-rising c =
-    ap rises c.in_ok-edits.ensures.ops ∙ edits_rise c.args.self.now c.in_ok-book.book (parts_of c.deref-2.result.now) (next_number c.args.self.now.held) c.deref-3.result.now
+    ap rises c.in_ok-edits.ensures.ops
+    ∙ edits_rise c.args.self.now c.in_ok-book.book (parts_of c.deref-2.result.now)
+    (next_number c.args.self.now.held) c.deref-3.result.now
 
 pub join_new-requires-clause-apart : goal.join_new-requires-clause-apart
 join_new-requires-clause-apart c =
     subst (AllByRecursion (λ (o : Operation). get c.args.self.now.held o.id ≡ None)) (sym c.in_ok-edits.ensures.ops)
-    (edits_are_new c.args.self.now c.in_ok-book.book (parts_of c.deref-2.result.now) (next_number c.args.self.now.held) c.deref-3.result.now (omega arith))
+    (edits_are_new c.args.self.now c.in_ok-book.book (parts_of c.deref-2.result.now) (next_number c.args.self.now.held) c.deref-3.result.now
+    (omega arith))

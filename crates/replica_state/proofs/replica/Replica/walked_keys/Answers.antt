@@ -9,5 +9,8 @@ use Rattle.replica_state.proofs.replica.Replica.walked_keys.Goals as goal
 
 pub returns : goal.returns
 returns c =
-    sorted_once ord.ghosts.cmp equal.ghosts.eq (λ a b. search rules) (λ a b. search rules) c.in_ok-keys.keys.items c.sort_unstable.new.self.items c.dedup.new.self.items c.sort_unstable.ensures.permutation c.sort_unstable.ensures.sorted c.dedup.ensures.filtered
-    ∙ ap (rising key_cmp) (c.in_ok-keys.ensures ∙ ap (λ (ks : List KeyParts). map head_of (keys_of c.args.self.now.held c.args.book) ++ (keys_of c.args.self.now.held c.args.book ++ ks)) (sym (part_keys c.args.pieces.now)))
+    sorted_once ord.ghosts.cmp equal.ghosts.eq (λ a b. search rules)
+    (λ a b. search rules) c.in_ok-keys.keys.items c.sort_unstable.new.self.items c.dedup.new.self.items
+    c.sort_unstable.ensures.permutation c.sort_unstable.ensures.sorted c.dedup.ensures.filtered
+    ∙ ap (rising key_cmp) (c.in_ok-keys.ensures ∙ ap (λ (ks : List KeyParts). map head_of (keys_of c.args.self.now.held c.args.book)
+    ++ (keys_of c.args.self.now.held c.args.book ++ ks)) (sym (part_keys c.args.pieces.now)))

@@ -1,0 +1,45 @@
+#!/usr/bin/env python3
+"""Measures `Replica::delta` and `Replica::receive` against plain Rust, turn about in one run.
+
+    run.py
+
+The project is the one of 66 books of bench/project/generate.py, and its 100 later edits are what one replica has and
+the other one lacks. The job `delta` writes them as a bundle for the other's summary, the job `receive` takes that bundle
+in. The proved calls are built by `rt run` (bench.rt.txt, in a folder of its own), the plain ones by `rustc -O`
+(plain.rs); both keep what each segment shows. Told are the least time of a round, and the peak of resident memory of a
+process that holds the project twice. The exit status is 1 where the two programs write different deltas, or a proved
+call takes more than 1.5 times as long.
+"""
+import os
+import subprocess
+import sys
+import tempfile
+
+HERE = os.path.dirname(os.path.abspath(__file__))
+sys.path.insert(0, os.path.dirname(HERE))
+from pairs import build, compare_jobs
+
+BESIDE = ("bundle_codec", "op_core")
+ROUNDS = "20"
+
+
+def files_of(work):
+    """The names of the project as a bundle, without the head of its file, and of the edits."""
+    subprocess.run([os.path.join(HERE, "../project/generate.py"), work], check=True)
+    with open(os.path.join(work, "project"), "rb") as file:
+        project = file.read()
+    names = [os.path.join(work, "held"), os.path.join(work, "delta")]
+    with open(names[0], "wb") as out:
+        out.write(project[project.index(b"USFMSR1\n"):])
+    return names
+
+
+def main():
+    with tempfile.TemporaryDirectory() as work:
+        names = files_of(work)
+        programs = build(work, HERE, "replica_state", [*names, "delta", "1"], BESIDE)
+        held = compare_jobs(programs, [(job, [*names, job, ROUNDS]) for job in ("delta", "receive")])
+    sys.exit(not held)
+
+
+main()

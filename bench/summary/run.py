@@ -1,0 +1,40 @@
+#!/usr/bin/env python3
+"""Measures `Replica::summary` against plain Rust, turn about in one run.
+
+    run.py [OPERATIONS ..]      by default 10000 100000
+
+The operations of eight people came in random order, in bundles of 1,000 (generate.py). The proved call is built by
+`rt run` (bench.rt.txt, in a folder of its own), the plain one by `rustc -O` (plain.rs), which keeps each name once and
+notes a number's ranges by the place of its name. Told are the least time of a round, and the peak of resident memory of
+the process, which took the bundles in. The exit status is 1 where the two programs make different summaries, or the
+proved one takes more than 1.5 times as long.
+"""
+import os
+import subprocess
+import sys
+import tempfile
+
+HERE = os.path.dirname(os.path.abspath(__file__))
+sys.path.insert(0, os.path.dirname(HERE))
+from pairs import build, compare_jobs
+
+BESIDE = ("bundle_codec", "op_core")
+ROUNDS = "10"
+
+
+def bundles_of(work, count):
+    name = os.path.join(work, str(count))
+    subprocess.run([os.path.join(HERE, "generate.py"), str(count), name], check=True)
+    return name
+
+
+def main():
+    counts = [int(word) for word in sys.argv[1:]] or [10_000, 100_000]
+    with tempfile.TemporaryDirectory() as work:
+        names = [bundles_of(work, count) for count in counts]
+        programs = build(work, HERE, "replica_state", [names[0], "1"], BESIDE)
+        held = compare_jobs(programs, [("%d operations" % count, [name, ROUNDS]) for count, name in zip(counts, names)])
+    sys.exit(not held)
+
+
+main()
