@@ -37,20 +37,45 @@ pub(crate) fn op(
     Ok(Op::new(id, book, key, replaced, text))
 }
 
+// Inserts an operation. The contract of `insert` stays out of the proofs of the tests that call this.
+pub(crate) fn put(set: &mut OpSet, op: Op) -> Result<bool, Fail> {
+    Ok(set.insert(op)?)
+}
+
+// Joins a set to another one, likewise.
+pub(crate) fn join(set: &mut OpSet, other: OpSet) -> Result<u64, SetFault> {
+    set.join(other)
+}
+
 // 1 ana on MAT 0, and 2 ana on MAT 1:1.
 fn first_set(alloc: Global) -> Result<OpSet, Fail> {
     let mut set = OpSet::new(alloc);
-    set.insert(op(alloc, op_id(1, "ana")?, head(0)?, &[], "\\id MAT\n")?)?;
-    set.insert(op(alloc, op_id(2, "ana")?, verse(1)?, &[], "\\v 1 In\n")?)?;
+    put(
+        &mut set,
+        op(alloc, op_id(1, "ana")?, head(0)?, &[], "\\id MAT\n")?,
+    )?;
+    put(
+        &mut set,
+        op(alloc, op_id(2, "ana")?, verse(1)?, &[], "\\v 1 In\n")?,
+    )?;
     Ok(set)
 }
 
 // A set that clashes with the first one at 2 ana.
 fn clashing_set(alloc: Global) -> Result<OpSet, Fail> {
     let mut set = OpSet::new(alloc);
-    set.insert(op(alloc, op_id(1, "cy")?, head(1)?, &[], "\\c 1\n")?)?;
-    set.insert(op(alloc, op_id(1, "dan")?, verse(2)?, &[], "\\v 2 b\n")?)?;
-    set.insert(op(alloc, op_id(2, "ana")?, verse(1)?, &[], "\\v 1 Xx\n")?)?;
+    put(
+        &mut set,
+        op(alloc, op_id(1, "cy")?, head(1)?, &[], "\\c 1\n")?,
+    )?;
+    put(
+        &mut set,
+        op(alloc, op_id(1, "dan")?, verse(2)?, &[], "\\v 2 b\n")?,
+    )?;
+    put(
+        &mut set,
+        op(alloc, op_id(2, "ana")?, verse(1)?, &[], "\\v 1 Xx\n")?,
+    )?;
     Ok(set)
 }
 
@@ -102,35 +127,66 @@ fn texts_of_ids(rt: HostRuntime) -> Result<(), Fail> {
     Ok(())
 }
 
+// The first set, joined with 3 ben over 2 ana on MAT 1:1.
+fn joined_set(alloc: Global) -> Result<OpSet, Fail> {
+    let mut set = first_set(alloc)?;
+    let mut later = OpSet::new(alloc);
+    let named = [op_id(2, "ana")?];
+    put(
+        &mut later,
+        op(alloc, op_id(3, "ben")?, verse(1)?, &named, "\\v 1 At\n")?,
+    )?;
+    if join(&mut set, later)? != 1 {
+        return Err(Fail::from("one operation is new"));
+    }
+    Ok(set)
+}
+
 #[test]
-fn sets_are_joined(rt: HostRuntime) -> Result<(), Fail> {
+fn what_is_held_stays(rt: HostRuntime) -> Result<(), Fail> {
     let alloc = rt.alloc();
     let mut set = first_set(alloc)?;
     let again = op(alloc, op_id(2, "ana")?, verse(1)?, &[], "\\v 1 In\n")?;
-    assert!(rt; !set.insert(again)?);
+    assert!(rt; !put(&mut set, again)?);
+    assert_eq!(rt; join(&mut set, first_set(alloc)?)?, 0);
+    assert_eq!(rt; set.join_rising(Vec::new(alloc))?, 0);
     assert_eq!(rt; set.len(), 2);
     let mat = Book::read("MAT")?;
     assert!(rt; matches!(&set.pick(mat, head(1)?), Picked::ChapterLine(1)));
-    let mut later = OpSet::new(alloc);
-    let ana2 = op_id(2, "ana")?;
-    let ben3 = op_id(3, "ben")?;
-    assert!(rt; later.insert(op(alloc, ben3, verse(1)?, &[ana2], "\\v 1 At\n")?)?);
-    assert_eq!(rt; set.join(later)?, 1);
-    assert_eq!(rt; set.join(first_set(alloc)?)?, 0);
-    assert_eq!(rt; set.join_rising(Vec::new(alloc))?, 0);
     assert_eq!(rt; set.shown(alloc, mat, verse(9)?)?.len(), 0);
-    let shown = set.shown(alloc, mat, verse(1)?)?;
-    assert_eq!(rt; shown.len(), 1);
-    assert!(rt; shown[0].id() == ben3 && shown[0].text() == "\\v 1 At\n");
-    drop(shown);
-    assert!(rt; set.join(clashing_set(alloc)?) == Err(SetFault::Clash(ana2)));
-    assert_eq!(rt; set.len(), 3);
+    Ok(())
+}
+
+#[test]
+fn sets_are_joined(rt: HostRuntime) -> Result<(), Fail> {
+    let alloc = rt.alloc();
+    let set = joined_set(alloc)?;
     assert_eq!(rt; set.iter().count(), 3);
-    assert!(rt; set.get(&ben3).is_some() && set.get(&op_id(1, "cy")?).is_none());
+    let shown = set.shown(alloc, Book::read("MAT")?, verse(1)?)?;
+    assert_eq!(rt; shown.len(), 1);
+    assert!(rt; shown[0].id() == op_id(3, "ben")? && shown[0].text() == "\\v 1 At\n");
+    Ok(())
+}
+
+#[test]
+fn a_clash_leaves_the_set(rt: HostRuntime) -> Result<(), Fail> {
+    let alloc = rt.alloc();
+    let mut set = joined_set(alloc)?;
+    let clash = Err(SetFault::Clash(op_id(2, "ana")?));
+    assert!(rt; join(&mut set, clashing_set(alloc)?) == clash);
+    assert_eq!(rt; set.len(), 3);
+    assert!(rt; set.get(&op_id(3, "ben")?).is_some() && set.get(&op_id(1, "cy")?).is_none());
+    Ok(())
+}
+
+#[test]
+fn a_finder_finds_in_any_order(rt: HostRuntime) -> Result<(), Fail> {
+    let set = joined_set(rt.alloc())?;
+    let ben3 = op_id(3, "ben")?;
     let mut finder = set.finder();
-    assert!(rt;
-        finder.find(&op_id(9, "ana")?).is_none() && finder.find(&op_id(1, "cy")?).is_none()
-    );
+    for missing in [op_id(9, "ana")?, op_id(1, "cy")?] {
+        assert!(rt; finder.find(&missing).is_none());
+    }
     for _ in 0..2 {
         assert!(rt; finder.find(&ben3).is_some_and(|op| op.id() == ben3));
     }
@@ -143,12 +199,12 @@ fn the_least_clash_is_told(rt: HostRuntime) -> Result<(), Fail> {
     let ana1 = op_id(1, "ana")?;
     for turned in [false, true] {
         let mut other = clashing_set(alloc)?;
-        other.insert(op(alloc, ana1, head(0)?, &[], "\\id MAT x\n")?)?;
+        put(&mut other, op(alloc, ana1, head(0)?, &[], "\\id MAT x\n")?)?;
         let mut set = first_set(alloc)?;
         let answer = if turned {
-            other.join(set)
+            join(&mut other, set)
         } else {
-            set.join(other)
+            join(&mut set, other)
         };
         assert!(rt; answer == Err(SetFault::Clash(ana1)));
     }
@@ -161,7 +217,10 @@ fn segments_stand_apart(rt: HostRuntime) -> Result<(), Fail> {
     let mat = Book::read("MAT")?;
     let mut set = first_set(alloc)?;
     let ana2 = op_id(2, "ana")?;
-    set.insert(op(alloc, op_id(3, "ben")?, verse(2)?, &[ana2], "\\v 2 b\n")?)?;
+    put(
+        &mut set,
+        op(alloc, op_id(3, "ben")?, verse(2)?, &[ana2], "\\v 2 b\n")?,
+    )?;
     assert!(rt; set.shown(alloc, mat, verse(1)?)?.len() == 1);
     assert!(rt; matches!(&set.pick(mat, head(0)?), Picked::Held(_)));
     assert!(rt; matches!(&set.pick(mat, head(2)?), Picked::Nothing));
@@ -176,7 +235,7 @@ fn segments_stand_apart(rt: HostRuntime) -> Result<(), Fail> {
         },
     )
     .ok_or("key")?;
-    early.insert(op(alloc, ana2, zero, &[], "\\v 1 a\n")?)?;
+    put(&mut early, op(alloc, ana2, zero, &[], "\\v 1 a\n")?)?;
     assert!(rt; matches!(&early.pick(mat, head(0)?), Picked::Nothing));
     Ok(())
 }
