@@ -26,6 +26,3 @@ pub use fault::FindFault;
 pub use finding::find;
 pub use hit::Hit;
 pub use listing::{Word, words};
-
-#[cfg(test)]
-mod tests;

@@ -22,6 +22,3 @@ mod tree;
 pub use checker::check;
 pub use code::Code;
 pub use finding::Finding;
-
-#[cfg(test)]
-mod tests;

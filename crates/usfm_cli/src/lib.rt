@@ -15,8 +15,6 @@ mod looking;
 mod reading;
 mod source;
 mod telling;
-#[cfg(test)]
-mod tests;
 mod usage;
 mod words;
 

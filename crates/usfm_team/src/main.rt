@@ -2,6 +2,8 @@
 #![tactic(auto)]
 
 mod files;
+#[cfg(test)]
+mod tests;
 
 use crate::files::{begin_file, read_file, replace_file};
 use std::io;

@@ -1,8 +1,8 @@
 // The words of the command line.
-use crate::{Line, LineFault, VERSION, fault_line, read_words};
 use op_core::OpId;
 use std::alloc::Global;
 use std::test::Fail;
+use usfm_cli::{Line, LineFault, VERSION, fault_line, read_words};
 use usfm_ref::{Book, Key, write_ref};
 
 // What the words of a text ask for, which stand between its bars: the subcommand with each value after

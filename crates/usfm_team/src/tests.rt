@@ -1,21 +1,24 @@
 // Reading to the end and writing piece by piece, with slow, short and failing streams.
 mod books;
+mod checks;
 mod commands;
+mod concordances;
 mod folding;
 mod line_words;
+mod looking;
 mod player;
 pub(crate) mod streams;
 mod trees;
 mod vectors;
 
 use self::streams::{Counted, Refusal, ShortSink, SlowSource, Zeros};
-use crate::{
-    ByteSource, FaultLine, MOST_BYTES, MOST_LINE_BYTES, ReadFault, StdSink, StdSource, WriteFault,
-    read_to_end, write_all, write_more, write_pieces,
-};
 use std::alloc::Global;
 use std::io::ErrorKind;
 use std::test::Fail;
+use usfm_cli::{
+    ByteSource, FaultLine, MOST_BYTES, MOST_LINE_BYTES, ReadFault, StdSink, StdSource, WriteFault,
+    read_to_end, write_all, write_more, write_pieces,
+};
 use usfm_export::within;
 
 const TEXT: [u8; 8] = *b"abcdefgh";

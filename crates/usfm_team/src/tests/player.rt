@@ -1,10 +1,10 @@
 // Projects that are told what a table says, row by row, as the program tells it to one.
 use super::trees::SHEET;
-use crate::{Command, create, exec, fault_line};
 use op_core::OpId;
 use std::alloc::Global;
 use std::process::Abort;
 use std::test::Fail;
+use usfm_cli::{Command, create, exec, fault_line};
 use usfm_ref::{Book, read_ref};
 
 // Whose project a row is told to.

@@ -1,6 +1,6 @@
 use Rattle.std.proofs.Common.{arith}
 use Rattle.std.proofs.lemmas.Fmt.{length-decimal-le}
-use Rattle.usfm_cli.proofs.tests.lines.Goals as goal
+use Rattle.usfm_team.proofs.tests.lines.Goals as goal
 
 pub push_number-requires : goal.push_number-requires
 push_number-requires g c =

@@ -1,4 +1,5 @@
-use super::*;
+// The findings in small texts.
+use segment_check::{Code, Finding, check};
 use std::alloc::{AllocError, Global};
 use std::process::Abort;
 use sty_sheet::{Sheet, SheetFault};

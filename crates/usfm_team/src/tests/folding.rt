@@ -5,11 +5,11 @@ use super::vectors::{
     AFTER, AT_VERSE_1, B1, CLASHING, FIRST, FIRST_OP, FITS_ANOTHER, ID_2, NAMES_ITSELF, NONE,
     NOTHING, ONE, TWO, Y, Z,
 };
-use crate::{Fault, MOST_BYTES, ReadFault, fault_line, fold_stream};
 use bundle_codec::join_bundles;
 use std::alloc::Global;
 use std::io::ErrorKind;
 use std::test::Fail;
+use usfm_cli::{Fault, MOST_BYTES, ReadFault, fault_line, fold_stream};
 use usfm_ref::Book;
 
 // Pieces of bytes one after another.

@@ -2,13 +2,13 @@
 use super::folding::{folded, joined};
 use super::streams::{Refusal, ShortSink};
 use super::vectors::{AT_VERSE_1, B1, CLASHING, FIRST, ID_2, ONE};
-use crate::{Fault, fault_line};
 use bundle_codec::decode;
 use op_core::ReplicaName;
 use replica_state::Replica;
 use std::alloc::Global;
 use std::io::ErrorKind;
 use std::test::Fail;
+use usfm_cli::{Fault, fault_line};
 use usfm_export::{book_text, write_book};
 use usfm_ref::Book;
 

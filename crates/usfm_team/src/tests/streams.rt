@@ -1,10 +1,10 @@
 // Readers and writers that are slow, short or failing.
 ghost use Rattle.std.specs.Prelude.{Some, None};
 
-use crate::{ByteSink, ByteSource};
 use std::alloc::Global;
 use std::io;
 use std::io::{Read, Write};
+use usfm_cli::{ByteSink, ByteSource};
 
 /// Gives a slice at most `step` bytes at a time, and fails at the read `fail_at`, counted from 1.
 #[derive(Drop)]

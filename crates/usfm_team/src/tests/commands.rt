@@ -1,17 +1,15 @@
 // Plays of commands over projects, as tables.
 use super::player::Step::{
-    Again, Check, Checked, Delta, Edit, Export, Find, Found, Import, Listed, Over, Pack,
-    PackLacked, Receive, Report, Same, Send, Shown, Summary, Unpack, Words,
+    Again, Checked, Edit, Export, Import, Over, Pack, Receive, Report, Same, Send, Shown, Unpack,
 };
 use super::player::Who::{Ana, Ben};
 use super::player::{Player, Row, play};
 use super::vectors::{
-    AFTER, B1, CLASHING, FIRST, FOURTH, LAST_NUMBER, NAMES_ANOTHER, NAMES_ITSELF, NAMES_TWO,
-    NOTHING, S1, Y, Z,
+    AFTER, B1, CLASHING, FIRST, LAST_NUMBER, NAMES_ANOTHER, NAMES_ITSELF, NAMES_TWO, NOTHING, Y, Z,
 };
-use crate::{Command, create, exec, exec_each};
 use bundle_codec::join_bundles;
 use std::test::Fail;
+use usfm_cli::{Command, create, exec, exec_each};
 use usfm_ref::{Book, read_ref};
 
 // After B1, Y and Z in whatever order.
@@ -282,116 +280,6 @@ const BRIDGE_AND_VERSE: &[Row<'static>] = &[
     ),
 ];
 
-const SUMMARIES: &[Row<'static>] = &[
-    (Ana, Summary, b"USFMSS1\n\0\0\0\0\0\0\0\0"),
-    (Ana, Delta(S1), NOTHING),
-    (
-        Ana,
-        Import(b"\\id MAT\n\\c 1\n\\v 1 a\n\\v 2 b\n\\v 3 c\n"),
-        b"added 5\n",
-    ),
-    (Ana, Delta(S1), FOURTH),
-    (
-        Ana,
-        Summary,
-        b"USFMSS1\n\0\0\0\0\0\0\0\x01\x03ana\0\0\0\0\0\0\0\x01\0\0\0\0\0\0\0\x01\0\0\0\0\0\0\0\x05",
-    ),
-    (Ben, Receive(FOURTH), b"new 1\n"),
-    (
-        Ben,
-        Summary,
-        b"USFMSS1\n\0\0\0\0\0\0\0\x01\x03ana\0\0\0\0\0\0\0\x01\0\0\0\0\0\0\0\x04\0\0\0\0\0\0\0\x04",
-    ),
-    // The last range from 4 on, or gone, or something behind the end.
-    (
-        Ana,
-        Delta(
-            b"USFMSS1\n\0\0\0\0\0\0\0\x01\x03ana\0\0\0\0\0\0\0\x02\0\0\0\0\0\0\0\x01\0\0\0\0\0\0\0\x03\0\0\0\0\0\0\0\x04\0\0\0\0\0\0\0\x05",
-        ),
-        b"fault 71\n",
-    ),
-    (
-        Ana,
-        Delta(
-            b"USFMSS1\n\0\0\0\0\0\0\0\x01\x03ana\0\0\0\0\0\0\0\x02\0\0\0\0\0\0\0\x01\0\0\0\0\0\0\0\x03",
-        ),
-        b"fault 71\n",
-    ),
-    (
-        Ana,
-        Delta(
-            b"USFMSS1\n\0\0\0\0\0\0\0\x01\x03ana\0\0\0\0\0\0\0\x02\0\0\0\0\0\0\0\x01\0\0\0\0\0\0\0\x03\0\0\0\0\0\0\0\x05\0\0\0\0\0\0\0\x05\0",
-        ),
-        b"fault 71\n",
-    ),
-];
-
-// The same book taken in twice, and edits of one verse, exchanged by what the other one lacks.
-const DELTAS: &[Row<'static>] = &[
-    (Ana, Import(FIRST), b"added 3\n"),
-    (Ben, Import(FIRST), b"added 3\n"),
-    (Ana, PackLacked, b""),
-    (Ben, PackLacked, b""),
-    (Ana, Unpack, b"new 3\n"),
-    (Ben, Unpack, b"new 3\n"),
-    (Ana, Report, b""),
-    (Ana, Edit("MAT 1:1", b"\\v 1 To\n"), b"made 4 ana\n"),
-    (Ben, Edit("MAT 1:1", b"\\v 1 At\n"), b"made 4 ben\n"),
-    (Ana, PackLacked, b""),
-    (Ben, PackLacked, b""),
-    (Ana, Unpack, b"new 1\n"),
-    (Ben, Unpack, b"new 1\n"),
-    (
-        Ana,
-        Report,
-        b"conflict MAT 1:1 2\ntext 4 ben 8\n\\v 1 At\n\ntext 4 ana 8\n\\v 1 To\n\n",
-    ),
-    (Ana, Pack, b""),
-    (Ben, Same, b""),
-];
-
-const CHECKS: &[Row<'static>] = &[
-    (
-        Ana,
-        Import(b"\\id MAT\n\\c 1\n\\v 1 a \\v 3 b \\v 2 c \\v 4 d"),
-        b"added 5\n",
-    ),
-    (Ana, Checked("MAT"), b"MAT 1:3 not-rising 27\n"),
-    (Ana, Check("LUK", b"\\Endmarker \xff"), b"fault 10 11\n"),
-    (Ana, Check("LUK", b"\\Endmarker nd*"), b"fault 40 1\n"),
-    (Ana, Check("LUK", b"\\Marker\n"), b"fault 41 1\n"),
-    (
-        Ana,
-        Check("LUK", b"\\Marker nd\n\\StyleType Foo"),
-        b"fault 42 2\n",
-    ),
-    (Ana, Checked("LUK"), b"fault 82\n"),
-];
-
-const FINDS: &[Row<'static>] = &[
-    (
-        Ana,
-        Import(
-            b"\\id MAT\n\\c 1\n\\p\n\\v 1 In \\w gnat|lemma=\"gnat\"\\w* the gnat\\f + \\ft gnat\\f*\n",
-        ),
-        b"added 3\n",
-    ),
-    (Ana, Found("MAT", "gnat"), b"MAT 1:1 27\nMAT 1:1 52\n"),
-    (Ana, Found("MAT", "lemma"), b""),
-    (Ana, Found("MAT", "+"), b""),
-    (Ana, Found("MAT", "1"), b""),
-    (Ana, Found("MAT", ""), b"fault 100\n"),
-    (Ana, Listed("MAT"), b"In 1:1\ngnat 1:1\nthe 1:1\n"),
-    (Ana, Words("LUK", b"\xff"), b"fault 10 0\n"),
-    (Ana, Words("LUK", b"\\Marker"), b"fault 41 1\n"),
-    (Ana, Listed("LUK"), b"fault 82\n"),
-    (Ana, Find("LUK", b"\xff", ""), b"fault 10 0\n"),
-    (Ana, Find("LUK", b"\\Marker", ""), b"fault 41 1\n"),
-    (Ana, Found("LUK", ""), b"fault 82\n"),
-    (Ben, Import(b"\\id MAT\n\\p aaa\n"), b"added 1\n"),
-    (Ben, Found("MAT", "aa"), b"MAT 0 11\n"),
-];
-
 // Each refusal of each command, with a greater one behind it where both hold.
 const REFUSALS: &[Row<'static>] = &[
     (Ana, Receive(B1), b"new 2\n"),
@@ -459,10 +347,6 @@ fn plays(rt: HostRuntime) -> Result<(), Fail> {
         EMPTIED_BY_BEN,
         SAME_BOOK_TWICE,
         BRIDGE_AND_VERSE,
-        SUMMARIES,
-        DELTAS,
-        CHECKS,
-        FINDS,
         REFUSALS,
     ] {
         play(&rt, rt.alloc(), &[], rows)?;

@@ -1,4 +1,5 @@
-use super::*;
+// The hits and the words of small texts.
+use concordance::{FindFault, find, words};
 use std::alloc::{AllocError, Global};
 use std::process::Abort;
 use sty_sheet::{Sheet, SheetFault};
