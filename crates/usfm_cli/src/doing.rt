@@ -118,7 +118,8 @@ fn shown_lines(
     book: Book,
     key: Key,
 ) -> Result<Vec<u8>, AllocError>
-    ensures { IfOk result (λ bytes. bytes.items ≡ commands.shown_text replica.now.held (segment book key)) }
+    ensures { IfOk result (λ bytes.
+        bytes.items ≡ commands.shown_text replica.now.held (segment book key)) }
 {
     let mut bytes = Vec::new(alloc);
     let shown = replica.shown(alloc, book, key)?;
@@ -150,7 +151,8 @@ fn count_line(alloc: Global, word: &str, count: u64) -> Result<Vec<u8>, AllocErr
 
 // The line of the id that an edit made.
 fn made_line(alloc: Global, id: &OpId) -> Result<Vec<u8>, AllocError>
-    ensures { IfOk result (λ line. line.items ≡ commands.line_of (codes "made") (commands.id_text id.now)) }
+    ensures { IfOk result (λ line.
+        line.items ≡ commands.line_of (codes "made") (commands.id_text id.now)) }
 {
     let line = format!(in alloc; "made {} {}\n", id.number, id.name.text())?;
     Ok(line.into_bytes())

@@ -65,9 +65,11 @@ impl Outcome {
 pub fn exec(alloc: Global, project: &[u8], command: &Command<'_>) -> Result<Outcome, Fault>
     ensures answer { result ≢ Err Fault.Memory → executed project.now command.now ≡ result }
     // A file that is no project is refused for that, whatever memory there is.
-    ensures no_project { IfErr (project_at project.now) (λ fault. result ≡ Err (of_loading fault)) }
+    ensures no_project { IfErr (project_at project.now) (λ fault.
+        result ≡ Err (of_loading fault)) }
     // A command that only tells gives the file back as it is.
-    ensures told { IfOk result (λ made. IsTrue (only_tells command.now) → made.project ≡ project.now) }
+    ensures told { IfOk result (λ made.
+        IsTrue (only_tells command.now) → made.project ≡ project.now) }
     // The file after it is that of the replica after the command's step.
     ensures after { IfOk result (λ made. (s : State) → project_at project.now ≡ Ok s
         → project_at made.project ≡ Ok (state_or s (outcome s command.now))) }
@@ -107,7 +109,8 @@ pub fn exec_each(
 
 // A project's file after a command, the same where the command is refused.
 fn file_after(alloc: Global, file: Vec<u8>, command: &Command<'_>) -> Result<Vec<u8>, AllocError>
-    ensures file { IfOk result (λ next. next.items ≡ file_or file.items (executed file.items command.now)) }
+    ensures file { IfOk result (λ next.
+        next.items ≡ file_or file.items (executed file.items command.now)) }
     ensures run { IfOk result (λ next. (s : State) → project_at file.items ≡ Ok s
         → project_at next.items ≡ Ok (state_or s (outcome s command.now))) }
 {

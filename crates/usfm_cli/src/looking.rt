@@ -82,7 +82,8 @@ fn push_finding(
     book: Book,
     finding: &Finding,
 ) -> Result<(), AllocError>
-    ensures { OnOk result (bytes.new.items ≡ bytes.old.items ++ looking.finding_line book finding.now) }
+    ensures { OnOk result (bytes.new.items
+        ≡ bytes.old.items ++ looking.finding_line book finding.now) }
 {
     let place = write_ref(alloc, book, finding.key)?;
     let name = finding.code.name();
@@ -103,7 +104,8 @@ fn hit_lines(alloc: Global, book: Book, hits: &[Hit<'_>]) -> Result<Vec<u8>, All
 
 // Appends the line of a hit.
 fn push_hit(alloc: Global, bytes: &mut Vec<u8>, book: Book, hit: &Hit<'_>) -> Result<(), AllocError>
-    ensures { OnOk result (bytes.new.items ≡ bytes.old.items ++ looking.hit_line book (hit_view hit.now)) }
+    ensures { OnOk result (bytes.new.items
+        ≡ bytes.old.items ++ looking.hit_line book (hit_view hit.now)) }
 {
     let place = write_ref(alloc, book, hit.key)?;
     let start = hit.start;
@@ -133,7 +135,8 @@ fn push_word(alloc: Global, bytes: &mut Vec<u8>, word: &Word) -> Result<(), Allo
 
 // Appends each key after a space.
 fn push_keys(alloc: Global, bytes: &mut Vec<u8>, keys: &[Key]) -> Result<(), AllocError>
-    ensures { OnOk result (bytes.new.items ≡ bytes.old.items ++ flat_map (λ k. 32 ∷ key_text k) keys.now) }
+    ensures { OnOk result (bytes.new.items
+        ≡ bytes.old.items ++ flat_map (λ k. 32 ∷ key_text k) keys.now) }
 {
     for key in keys {
         push_key(alloc, bytes, *key)?;

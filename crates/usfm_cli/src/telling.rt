@@ -50,7 +50,8 @@ fn numbered(number: u64) -> ShortLine
 // Appends a count as a detail.
 fn push_count(line: &mut ShortLine, count: u64)
     requires { length line.old ≤ 9 }
-    ensures text { line.new ≡ line.old ++ flat_map (λ detail. 32 ∷ detail) (decimal count ∷ []) }
+    ensures text { line.new
+        ≡ line.old ++ flat_map (λ detail. 32 ∷ detail) (decimal count ∷ []) }
     ensures short { length line.new ≤ 30 }
 {
     line.push_text(" ");
@@ -60,7 +61,9 @@ fn push_count(line: &mut ShortLine, count: u64)
 // Appends an id as two details.
 fn push_id(line: &mut ShortLine, id: &OpId)
     requires { length line.old ≤ 8 }
-    ensures text { line.new ≡ line.old ++ flat_map (λ detail. 32 ∷ detail) (decimal id.now.number ∷ id.now.name ∷ []) }
+    ensures text { line.new
+        ≡ line.old
+        ++ flat_map (λ detail. 32 ∷ detail) (decimal id.now.number ∷ id.now.name ∷ []) }
     ensures short { length line.new ≤ 58 }
 {
     line.push_text(" ");
@@ -72,7 +75,8 @@ fn push_id(line: &mut ShortLine, id: &OpId)
 // Appends the place of an operation, where the fault has one.
 fn push_place(line: &mut ShortLine, fault: &BundleFault)
     requires { length line.old ≤ 9 }
-    ensures text { line.new ≡ line.old ++ flat_map (λ detail. 32 ∷ detail) (lines.bundle_details fault.now) }
+    ensures text { line.new
+        ≡ line.old ++ flat_map (λ detail. 32 ∷ detail) (lines.bundle_details fault.now) }
     ensures short { length line.new ≤ 30 }
 {
     match fault {

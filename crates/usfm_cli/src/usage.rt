@@ -1,4 +1,7 @@
 // The program's subcommands, their words and their help.
+mod looking;
+
+use self::looking::{check, delta, export, find, fold, report, send, shown, summary, words};
 use clap::{Arg, Command};
 use std::alloc::{AllocError, Global};
 
@@ -8,19 +11,19 @@ pub const VERSION: &str = "0.1.0";
 // What an argument is called, and what is to be given for it.
 type Words<'a> = &'a [(&'static str, &'static str)];
 
-const PROJECT: (&str, &str) = ("PROJECT", "The project's file");
+pub(crate) const PROJECT: (&str, &str) = ("PROJECT", "The project's file");
 
-const REF: (&str, &str) = (
+pub(crate) const REF: (&str, &str) = (
     "REF",
     "A segment, as one word: \"MAT 1:1\" a verse, \"MAT 1\" the head of a chapter, \"MAT 0\" the head of the book",
 );
 
-const BOOK: (&str, &str) = (
+pub(crate) const BOOK: (&str, &str) = (
     "BOOK",
     "The book's code: three of A to Z and 0 to 9, as MAT",
 );
 
-const SHEET: (&str, &str) = (
+pub(crate) const SHEET: (&str, &str) = (
     "SHEET",
     "A style sheet in the manner of Paratext's usfm.sty",
 );
@@ -71,7 +74,7 @@ A project is written to PROJECT.new and renamed; where PROJECT is a link, so is 
 to. One of more than 268,435,456 bytes is written, and cannot be read again.";
 
 // A subcommand with its words, each of them required.
-fn command<'a>(
+pub(crate) fn command<'a>(
     alloc: Global,
     name: &'a str,
     about: &'a str,
@@ -181,29 +184,6 @@ Faults: those of `edit`, and
   fault 52                 ID is no operation's id
   fault 83 NUMBER NAME     the segment does not show this operation";
 
-fn shown<'a>(alloc: Global) -> Result<Command<'a>, AllocError> {
-    command(
-        alloc,
-        "shown",
-        "Tells what a segment shows: each text that no other one replaces",
-        SHOWN,
-        &[PROJECT, REF],
-    )
-}
-
-const SHOWN: &str = "\
-For each operation a line `op NUMBER NAME LENGTH`, the text of so many bytes, and a line feed. The last
-one is the text that the book has.
-
-Example: usfm_team shown ana.project 'MAT 1:1'
-
-Faults:
-  fault 1                  out of memory
-  fault 20, fault 21       REF is no segment
-  fault 60 to 70, 110      PROJECT is no project
-  fault 90 BYTES           writing failed after so many bytes
-  fault 120, fault 121     the file was not read, or has more than 268,435,456 bytes";
-
 fn receive<'a>(alloc: Global) -> Result<Command<'a>, AllocError> {
     let bundle = ("BUNDLE", "A bundle, as `send` writes it");
     command(
@@ -228,210 +208,3 @@ Faults:
   fault 110                PROJECT is no project
   fault 120, fault 121     a file was not read, or has more than 268,435,456 bytes
   fault 130                the project was not written";
-
-fn send<'a>(alloc: Global) -> Result<Command<'a>, AllocError> {
-    command(
-        alloc,
-        "send",
-        "Writes the bundle of all operations of the project",
-        SEND,
-        &[PROJECT],
-    )
-}
-
-const SEND: &str = "\
-Example: usfm_team send ana.project > ana.bundle
-
-Faults:
-  fault 1                  out of memory
-  fault 60 to 70, 110      PROJECT is no project
-  fault 90 BYTES           writing failed after so many bytes
-  fault 120, fault 121     the file was not read, or has more than 268,435,456 bytes";
-
-fn export<'a>(alloc: Global) -> Result<Command<'a>, AllocError> {
-    command(
-        alloc,
-        "export",
-        "Writes the text of a book",
-        EXPORT,
-        &[PROJECT, BOOK],
-    )
-}
-
-const EXPORT: &str = "\
-Where a segment shows several texts, the one of the greatest id is written.
-
-Example: usfm_team export ana.project MAT > matthew.usfm
-
-Faults:
-  fault 1                  out of memory
-  fault 20                 BOOK is no book's code
-  fault 60 to 70, 110      PROJECT is no project
-  fault 82                 the project has no operation of the book
-  fault 90 BYTES           writing failed after so many bytes
-  fault 120, fault 121     the file was not read, or has more than 268,435,456 bytes";
-
-fn summary<'a>(alloc: Global) -> Result<Command<'a>, AllocError> {
-    command(
-        alloc,
-        "summary",
-        "Writes the summary of all operations of the project",
-        SUMMARY,
-        &[PROJECT],
-    )
-}
-
-const SUMMARY: &str = "\
-Whoever gets it can write what this project lacks: see `delta`.
-
-Example: usfm_team summary ben.project > ben.summary
-
-Faults:
-  fault 1                  out of memory
-  fault 60 to 70, 110      PROJECT is no project
-  fault 90 BYTES           writing failed after so many bytes
-  fault 120, fault 121     the file was not read, or has more than 268,435,456 bytes";
-
-fn delta<'a>(alloc: Global) -> Result<Command<'a>, AllocError> {
-    let summary = (
-        "SUMMARY",
-        "The summary of another project, as `summary` writes it",
-    );
-    command(
-        alloc,
-        "delta",
-        "Writes the bundle of the operations that another project lacks",
-        DELTA,
-        &[PROJECT, summary],
-    )
-}
-
-const DELTA: &str = "\
-The bundle has the operations that the summary does not cover. The other project takes it in with
-`receive`, and then has all that this one has.
-
-Example: usfm_team delta ana.project ben.summary > ana.bundle
-
-Faults:
-  fault 1                  out of memory
-  fault 60 to 70, 110      PROJECT is no project
-  fault 71                 SUMMARY is no summary
-  fault 90 BYTES           writing failed after so many bytes
-  fault 120, fault 121     a file was not read, or has more than 268,435,456 bytes";
-
-fn check<'a>(alloc: Global) -> Result<Command<'a>, AllocError> {
-    command(
-        alloc,
-        "check",
-        "Reports what is wrong with the marks and the numbers of a book",
-        CHECK,
-        &[PROJECT, BOOK, SHEET],
-    )
-}
-
-const CHECK: &str = "\
-Writes a line `REF CODE START` for each finding: its segment, what is found, and at which byte of the
-export. The codes: unknown-marker, stray-close, unclosed-char, unclosed-note, too-deep, bad-number,
-bad-bridge, not-rising, overlap, not-under.
-
-Example: usfm_team check ana.project MAT samples/small.sty
-
-Faults:
-  fault 1                  out of memory
-  fault 10 BYTES           SHEET is not UTF-8 after so many bytes
-  fault 20                 BOOK is no book's code
-  fault 40 LINE            SHEET has a field before its first marker
-  fault 41 LINE            SHEET has a marker without a name
-  fault 42 LINE            SHEET has an unknown style type
-  fault 60 to 70, 110      PROJECT is no project
-  fault 82                 the project has no operation of the book
-  fault 90 BYTES           writing failed after so many bytes
-  fault 120, fault 121     a file was not read, or has more than 268,435,456 bytes";
-
-fn find<'a>(alloc: Global) -> Result<Command<'a>, AllocError> {
-    let needle = ("NEEDLE", "What is looked for, byte for byte");
-    command(
-        alloc,
-        "find",
-        "Finds a text in the verses of a book",
-        FIND,
-        &[PROJECT, BOOK, SHEET, needle],
-    )
-}
-
-const FIND: &str = "\
-Looks in the text of paragraphs whose style has the text of verses, outside notes, attributes and
-verse numbers. Writes a line `REF START` for each hit: its segment, and at which byte of the export.
-
-Example: usfm_team find ana.project MAT samples/small.sty beginning
-
-Faults: those of `check`, and
-  fault 100                NEEDLE is empty";
-
-fn words<'a>(alloc: Global) -> Result<Command<'a>, AllocError> {
-    command(
-        alloc,
-        "words",
-        "Lists the words in the verses of a book",
-        WORDS,
-        &[PROJECT, BOOK, SHEET],
-    )
-}
-
-const WORDS: &str = "\
-Writes a line for each word: the word in Unicode's Normalization Form C, and after it the segments where
-it stands, each after a space.
-
-Example: usfm_team words ana.project MAT samples/small.sty
-
-Faults: those of `check`";
-
-fn report<'a>(alloc: Global) -> Result<Command<'a>, AllocError> {
-    command(
-        alloc,
-        "report",
-        "Tells the segments that show several texts, and the operations that are awaited",
-        REPORT,
-        &[PROJECT],
-    )
-}
-
-const REPORT: &str = "\
-For each such segment a line `conflict REF COUNT`; then for each of its texts, the one that the book has
-first, a line `text NUMBER NAME LENGTH`, the text of so many bytes, and a line feed. Then a line
-`awaited NUMBER NAME` for each operation that another one replaces and that has not come yet.
-
-Example: usfm_team report ana.project
-
-Faults:
-  fault 1                  out of memory
-  fault 60 to 70, 110      PROJECT is no project
-  fault 90 BYTES           writing failed after so many bytes
-  fault 120, fault 121     the file was not read, or has more than 268,435,456 bytes";
-
-fn fold<'a>(alloc: Global) -> Result<Command<'a>, AllocError> {
-    command(
-        alloc,
-        "fold",
-        "Joins the bundles on standard input and writes a book's text",
-        FOLD,
-        &[BOOK],
-    )
-}
-
-const FOLD: &str = "\
-Bundles stand one after another; their order and how often each stands make no difference.
-
-Example: usfm_team fold MAT < first.bundle
-
-Faults:
-  fault 1                out of memory
-  fault 20               BOOK is no book's code
-  fault 51 NUMBER NAME   two operations that differ have this id
-  fault 60               a bundle does not begin as a bundle does
-  fault 61               a bundle is cut
-  fault 62 to 68 PLACE   the operation at this place of its bundle is not well formed
-  fault 82               no operation is of the book
-  fault 90 BYTES         writing failed after so many bytes
-  fault 120              reading failed
-  fault 121              the input has more than 268,435,456 bytes";
