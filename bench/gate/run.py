@@ -18,11 +18,16 @@ import time
 
 TOP = pathlib.Path(__file__).resolve().parent.parent.parent
 TICK = os.sysconf("SC_CLK_TCK")
-SCRIPTS = ("compile-fail", "refused_growths", "walkthrough", "program")
+PAGE = os.sysconf("SC_PAGE_SIZE")
+SCRIPTS = ("compile-fail/run", "tests/refused_growths/run", "tests/walkthrough/run", "tests/program/run")
+
+
+def command_of(pid):
+    return pathlib.Path("/proc", str(pid), "cmdline").read_bytes().decode(errors="replace").split("\0")
 
 
 def descendants(pid):
-    """All processes below one."""
+    """All processes below one, each with the script of the gate that it works for, or rt ci."""
     children = collections.defaultdict(list)
     for name in os.listdir("/proc"):
         if name.isdigit():
@@ -31,24 +36,29 @@ def descendants(pid):
             except OSError:
                 continue
             children[int(stat.rpartition(")")[2].split()[1])].append(int(name))
-    found, left = [], [pid]
+    found, left = [], [(pid, "rt ci")]
     while left:
-        one = left.pop()
-        found += children[one]
-        left += children[one]
+        one, job = left.pop()
+        for child in children[one]:
+            try:
+                words = " ".join(command_of(child)[:3])
+            except OSError:
+                continue
+            own = next((script for script in SCRIPTS if script in words), job)
+            found.append((child, own))
+            left.append((child, own))
     return found
 
 
-def part_of(pid, part):
+def work_of(pid, job):
     """What a process works for: a crate and its proof, tests or edits; or one of the gate's scripts."""
-    command = pathlib.Path("/proc", str(pid), "cmdline").read_bytes().decode(errors="replace").split("\0")
-    folder = os.readlink(f"/proc/{pid}/cwd")
-    if part != "rt ci":
-        return part, "script"
-    if "check" not in command[:3] or "--crate-name" not in command:
+    if job != "rt ci":
+        return job, "script"
+    command = command_of(pid)
+    if not {"build", "check"} & set(command[:3]) or "--crate-name" not in command:
         return "the rest of rt ci", "script"
     crate = command[command.index("--crate-name") + 1]
-    if "/rt-edit-" in folder:
+    if "/rt-edit-" in os.readlink(f"/proc/{pid}/cwd"):
         return crate, "edits"
     return crate, "tests" if "--test" in command else "proof"
 
@@ -57,27 +67,27 @@ def main():
     before = time.time()
     gate = subprocess.Popen([*sys.argv[1:], str(TOP / ".ci" / "run")], stdout=subprocess.PIPE,
                             stderr=subprocess.STDOUT, text=True, errors="replace")
-    lines, part, began = [], ["rt ci"], {"rt ci": before}
+    lines, began = [], {}
 
     def read():
         for line in gate.stdout:
             lines.append(line)
             print(line, end="", flush=True)
             if re.match(r"== part: ", line):
-                part[0] = line.split(": ", 1)[1].strip()
-                began[part[0]] = time.time()
+                began[line.split(": ", 1)[1].strip()] = time.time()
 
     reader = threading.Thread(target=read)
     reader.start()
-    used, works = {}, {}
+    used, works, most = {}, {}, collections.Counter()
     while gate.poll() is None:
-        for pid in descendants(gate.pid):
+        for pid, job in descendants(gate.pid):
             try:
                 stat = pathlib.Path("/proc", str(pid), "stat").read_text().rpartition(")")[2].split()
                 key = (pid, stat[19])
                 if key not in works or works[key][0].startswith("the rest"):
-                    works[key] = part_of(pid, part[0])
+                    works[key] = work_of(pid, job)
                 used[key] = (int(stat[11]) + int(stat[12])) / TICK
+                most[works[key]] = max(most[works[key]], int(stat[21]) * PAGE // 10**6)
             except (OSError, ValueError):
                 continue
         time.sleep(0.5)
@@ -89,11 +99,12 @@ def main():
     edits = collections.Counter(re.findall(r"^rt: must-fail (\w+)/", "".join(lines), re.M))
     crates = sorted({crate for crate, kind in table if kind != "script"}, key=lambda it: -sum(
         table[it, kind] for kind in ("proof", "tests", "edits")))
-    print("\n| Crate | Proof | Tests | Edits | Each edit |\n|---|---|---|---|---|")
+    print("\n| Crate | Proof | Tests | Edits | Each edit | Most memory |\n|---|---|---|---|---|---|")
     for crate in crates:
         each = table[crate, "edits"] / edits[crate] if edits[crate] else 0
         print(f"| `{crate}` | {table[crate, 'proof']:.0f} s | {table[crate, 'tests']:.0f} s | "
-              f"{table[crate, 'edits']:.0f} s ({edits[crate]}) | {each:.0f} s |")
+              f"{table[crate, 'edits']:.0f} s ({edits[crate]}) | {each:.0f} s | "
+              f"{max(most[crate, kind] for kind in ('proof', 'tests', 'edits'))} MB |")
     for kind in ("proof", "tests", "edits"):
         print(f"{kind}: {sum(table[it, kind] for it in crates):.0f} s")
     for (name, kind), seconds in sorted(table.items()):
