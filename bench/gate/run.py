@@ -1,5 +1,5 @@
 #!/usr/bin/env python3
-"""Runs the gate, and tells where its time goes: the processor seconds of each crate's proof, tests and edits.
+"""Runs the gate, and tells where its time goes: the processor seconds of each crate's proof and edits.
 
     bench/gate/run.py [WORD ..]      the gate under these words, such as: taskset -c 0,1
 
@@ -19,7 +19,8 @@ import time
 TOP = pathlib.Path(__file__).resolve().parent.parent.parent
 TICK = os.sysconf("SC_CLK_TCK")
 PAGE = os.sysconf("SC_PAGE_SIZE")
-SCRIPTS = ("compile-fail/run", "tests/refused_growths/run", "tests/walkthrough/run", "tests/program/run")
+SCRIPTS = ("compile-fail/run", "tests/refused_growths/run", "tests/walkthrough/run", "tests/program/run", "tests/run",
+           "edits/run")
 
 
 def command_of(pid):
@@ -51,16 +52,13 @@ def descendants(pid):
 
 
 def work_of(pid, job):
-    """What a process works for: a crate and its proof, tests or edits; or one of the gate's scripts."""
-    if job != "rt ci":
-        return job, "script"
+    """What a process works for: a crate and its proof or edits; or one of the gate's scripts."""
     command = command_of(pid)
-    if not {"build", "check"} & set(command[:3]) or "--crate-name" not in command:
-        return "the rest of rt ci", "script"
+    is_proof = {"build", "check"} & set(command[:3]) and "--crate-name" in command
+    if job not in ("rt ci", "edits/run") or not is_proof:
+        return "the rest of rt ci" if job == "rt ci" else job, "script"
     crate = command[command.index("--crate-name") + 1]
-    if "/rt-edit-" in os.readlink(f"/proc/{pid}/cwd"):
-        return crate, "edits"
-    return crate, "tests" if "--test" in command else "proof"
+    return crate, "edits" if job == "edits/run" else "proof"
 
 
 def main():
@@ -84,7 +82,7 @@ def main():
             try:
                 stat = pathlib.Path("/proc", str(pid), "stat").read_text().rpartition(")")[2].split()
                 key = (pid, stat[19])
-                if key not in works or works[key][0].startswith("the rest"):
+                if works.get(key, (None, "script"))[1] == "script":
                     works[key] = work_of(pid, job)
                 used[key] = (int(stat[11]) + int(stat[12])) / TICK
                 most[works[key]] = max(most[works[key]], int(stat[21]) * PAGE // 10**6)
@@ -96,16 +94,15 @@ def main():
     table = collections.Counter()
     for key, seconds in used.items():
         table[works[key]] += seconds
-    edits = collections.Counter(re.findall(r"^rt: must-fail (\w+)/", "".join(lines), re.M))
+    edits = collections.Counter(re.findall(r"^(\w+)/\w+\.edit: ", "".join(lines), re.M))
     crates = sorted({crate for crate, kind in table if kind != "script"}, key=lambda it: -sum(
-        table[it, kind] for kind in ("proof", "tests", "edits")))
-    print("\n| Crate | Proof | Tests | Edits | Each edit | Most memory |\n|---|---|---|---|---|---|")
+        table[it, kind] for kind in ("proof", "edits")))
+    print("\n| Crate | Proof | Edits | Each edit | Most memory |\n|---|---|---|---|---|")
     for crate in crates:
         each = table[crate, "edits"] / edits[crate] if edits[crate] else 0
-        print(f"| `{crate}` | {table[crate, 'proof']:.0f} s | {table[crate, 'tests']:.0f} s | "
-              f"{table[crate, 'edits']:.0f} s ({edits[crate]}) | {each:.0f} s | "
-              f"{max(most[crate, kind] for kind in ('proof', 'tests', 'edits'))} MB |")
-    for kind in ("proof", "tests", "edits"):
+        print(f"| `{crate}` | {table[crate, 'proof']:.0f} s | {table[crate, 'edits']:.0f} s ({edits[crate]}) | {each:.0f} s | "
+              f"{max(most[crate, kind] for kind in ('proof', 'edits'))} MB |")
+    for kind in ("proof", "edits"):
         print(f"{kind}: {sum(table[it, kind] for it in crates):.0f} s")
     for (name, kind), seconds in sorted(table.items()):
         if kind == "script":

@@ -1,0 +1,37 @@
+# Completes the words of usfm_team in fish: copy it to ~/.config/fish/completions/.
+
+set -g __usfm_team_books GEN EXO LEV NUM DEU JOS JDG RUT 1SA 2SA 1KI 2KI 1CH 2CH EZR NEH EST JOB PSA PRO ECC SNG \
+    ISA JER LAM EZK DAN HOS JOL AMO OBA JON MIC NAM HAB ZEP HAG ZEC MAL MAT MRK LUK JHN ACT \
+    ROM 1CO 2CO GAL EPH PHP COL 1TH 2TH 1TI 2TI TIT PHM HEB JAS 1PE 2PE 1JN 2JN 3JN JUD REV
+
+# Whether the word after the command's name and so many words is completed, for one of these commands.
+function __usfm_team_at
+    set -l words (commandline -opc)
+    test (count $words) -eq (math $argv[1] + 2); and contains -- $words[2] $argv[2..]
+end
+
+complete -c usfm_team -f
+complete -c usfm_team -n __fish_use_subcommand -a init -d 'Begins a project'
+complete -c usfm_team -n __fish_use_subcommand -a import -d "Takes in a book's file"
+complete -c usfm_team -n __fish_use_subcommand -a edit -d 'Gives a segment the text of standard input'
+complete -c usfm_team -n __fish_use_subcommand -a edit-over -d 'The same, in the place of given operations alone'
+complete -c usfm_team -n __fish_use_subcommand -a shown -d 'Tells what a segment shows'
+complete -c usfm_team -n __fish_use_subcommand -a receive -d 'Takes in a bundle'
+complete -c usfm_team -n __fish_use_subcommand -a send -d 'Writes the bundle of all operations'
+complete -c usfm_team -n __fish_use_subcommand -a export -d 'Writes the text of a book'
+complete -c usfm_team -n __fish_use_subcommand -a summary -d 'Writes the summary of all operations'
+complete -c usfm_team -n __fish_use_subcommand -a delta -d 'Writes what another project lacks'
+complete -c usfm_team -n __fish_use_subcommand -a report -d 'Tells the conflicts and what is awaited'
+complete -c usfm_team -n __fish_use_subcommand -a check -d 'Checks the marks and the numbers of a book'
+complete -c usfm_team -n __fish_use_subcommand -a find -d 'Finds a text in the verses of a book'
+complete -c usfm_team -n __fish_use_subcommand -a words -d 'Lists the words of a book'
+complete -c usfm_team -n __fish_use_subcommand -a fold -d 'Joins bundles and writes a book'
+complete -c usfm_team -n __fish_use_subcommand -a help -d 'Prints the help of a command'
+complete -c usfm_team -n __fish_use_subcommand -l help -d 'Prints help'
+complete -c usfm_team -n __fish_use_subcommand -l version -d 'Prints the version'
+complete -c usfm_team -n '__usfm_team_at 0 init import edit edit-over shown receive send export summary delta report check find words' -F
+complete -c usfm_team -n '__usfm_team_at 1 import receive delta' -F
+complete -c usfm_team -n '__usfm_team_at 2 check find words' -F
+complete -c usfm_team -n '__usfm_team_at 1 export check find words' -a "$__usfm_team_books"
+complete -c usfm_team -n '__usfm_team_at 0 fold' -a "$__usfm_team_books"
+complete -c usfm_team -n '__usfm_team_at 0 help' -a 'init import edit edit-over shown receive send export summary delta report check find words fold'
