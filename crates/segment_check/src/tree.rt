@@ -5,7 +5,7 @@ ghost use Rattle.std.specs.List.{list_any};
 ghost use Rattle.std.specs.Option.{option_map, option_map_or};
 ghost use Rattle.segment_check.specs.TreeConditions as conditions;
 ghost use Rattle.segment_check.specs.TreeConditions.{is_among, is_restricted_kind, under_in};
-ghost use Rattle.segment_check.specs.TreeViews.{Tells, allowing, inside_view, is_misplaced, kind_here};
+ghost use Rattle.segment_check.specs.TreeViews.{Tells, allowed_names, inside_view, is_misplaced, kind_here};
 ghost use Rattle.segment_check.specs.TreeViews.{told_by, told_under};
 ghost use Rattle.sty_sheet.specs.Views.{record_of, records_of, words_left};
 ghost use Rattle.usfm_token.specs.View.{mark_parts};
@@ -14,7 +14,7 @@ ghost use Rattle.usfm_tree.specs.SheetViews.{style_view};
 ghost use Rattle.usfm_tree.specs.TreeViews.{forest_in};
 ghost use Rattle.usfm_tree.specs.Views.{view, forest_of};
 
-use crate::inside::Inside;
+use crate::inside::{Allowed, Inside};
 use crate::told::Told;
 use std::alloc::{AllocError, Global};
 use sty_sheet::{Sheet, Style, StyleKind, UnderWords};
@@ -49,32 +49,22 @@ fn begins_node(mark: Mark<'_>, style: Option<&Style<'_>>) -> bool
     }
 }
 
-fn allows(kind: StyleKind, inside: Inside<'_>, word: &str) -> bool
-    ensures { result ≡ is_among (allowing kind (inside_view inside.entry)) word.now }
-{
-    match kind {
-        StyleKind::Character => inside.allows_character(word),
-        StyleKind::Note => inside.allows_note(word),
-        StyleKind::Paragraph | StyleKind::Milestone => false,
-    }
-}
-
-// Whether one of the words allows a node of the kind.
-fn any_allows(mut words: UnderWords<'_>, kind: StyleKind, inside: Inside<'_>) -> bool
-    ensures { let names = allowing kind (inside_view inside.entry) in
+// Whether one of the words allows a node.
+fn any_allows(mut words: UnderWords<'_>, allowed: Allowed<'_>) -> bool
+    ensures { let names = allowed_names allowed.entry in
         result ≡ list_any (is_among names) (words_left words.entry) }
 {
-    words.any(|word| allows(kind, inside, word))
+    words.any(|word| allowed.has(word))
 }
 
-// Whether there are words, none of which allows a node of the kind.
-fn forbids(mut words: UnderWords<'_>, kind: StyleKind, inside: Inside<'_>) -> bool
-    ensures { let names = allowing kind (inside_view inside.entry) in
+// Whether there are words, none of which allows a node.
+fn forbids(mut words: UnderWords<'_>, allowed: Allowed<'_>) -> bool
+    ensures { let names = allowed_names allowed.entry in
         result ≡ conditions.forbids (words_left words.entry) names }
 {
     match words.next() {
         None => false,
-        Some(first) => !allows(kind, inside, first) && !any_allows(words, kind, inside),
+        Some(first) => !allowed.has(first) && !any_allows(words, allowed),
     }
 }
 
@@ -92,7 +82,7 @@ fn is_under_another(style: Option<&Style<'_>>, kind: Option<StyleKind>, inside: 
     let (Some(style), Some(kind)) = (style, kind) else {
         return false;
     };
-    is_restricted(kind) && forbids(style.under_words(), kind, inside)
+    is_restricted(kind) && forbids(style.under_words(), inside.allowed(kind))
 }
 
 // What is told of a mark within nodes.
