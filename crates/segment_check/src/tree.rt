@@ -9,9 +9,8 @@ ghost use Rattle.segment_check.specs.TreeViews.{Tells, allowed_names, inside_vie
 ghost use Rattle.segment_check.specs.TreeViews.{told_by, told_under};
 ghost use Rattle.sty_sheet.specs.Views.{record_of, records_of, words_left};
 ghost use Rattle.usfm_token.specs.View.{mark_parts};
-ghost use Rattle.usfm_tree.specs.Reading.{marked};
-ghost use Rattle.usfm_tree.specs.SheetViews.{style_view};
-ghost use Rattle.usfm_tree.specs.TreeViews.{forest_in};
+ghost use Rattle.usfm_tree.specs.Reading.{marked, tree_of};
+ghost use Rattle.usfm_tree.specs.SheetViews.{style_view, styles_of};
 ghost use Rattle.usfm_tree.specs.Views.{view, forest_of};
 
 use crate::inside::{Allowed, Inside};
@@ -19,7 +18,7 @@ use crate::told::Told;
 use std::alloc::{AllocError, Global};
 use sty_sheet::{Sheet, Style, StyleKind, UnderWords};
 use usfm_token::Mark;
-use usfm_tree::{Node, Tree};
+use usfm_tree::{Node, TreeReader};
 
 // What the node at a mark is, None for a leaf.
 fn kind_of(node: &Node<'_>) -> Option<StyleKind>
@@ -136,16 +135,25 @@ fn tell_nodes<'a>(
     Ok(())
 }
 
-// What the tree tells of its marks, in order.
+// What the tree of a text tells of its marks, in order. No more of the tree is kept than a node
+// under the root.
 pub(crate) fn tell_tree(
     alloc: Global,
-    tree: &Tree<'_>,
+    text: &str,
     sheet: &Sheet<'_>,
 ) -> Result<Vec<Told>, AllocError>
-    ensures { let due = told_under (records_of sheet.now) (forest_in tree.now) in
+    ensures { let tree = tree_of (styles_of sheet.now) text.now in
+        let due = told_under (records_of sheet.now) tree in
         IfOk result (λ told. told.items ≡ due) }
 {
     let mut told = Vec::new(alloc);
-    tell_nodes(&mut told, sheet, Inside::root(), tree.kids())?;
+    let mut reader = TreeReader::new(alloc, text, &*sheet);
+    loop {
+        let nodes = reader.next_nodes()?;
+        if nodes.is_empty() {
+            break;
+        }
+        tell_nodes(&mut told, sheet, Inside::root(), nodes.as_slice())?;
+    }
     Ok(told)
 }
