@@ -147,7 +147,7 @@ pub(crate) fn tell_tree(
         IfOk result (λ told. told.items ≡ due) }
 {
     let mut told = Vec::new(alloc);
-    let mut reader = TreeReader::new(alloc, text, &*sheet);
+    let mut reader = TreeReader::new(alloc, text, sheet);
     loop {
         let nodes = reader.next_nodes()?;
         if nodes.is_empty() {
