@@ -16,6 +16,8 @@ use Rattle.usfm_tree.specs.Views.{view, forest_of, alone, node_step, parts_step,
 use Rattle.usfm_tree.specs.declared.node.Node.{Node}
 use Rattle.usfm_tree.specs.declared.node.Node.TheOpen.{Node-F, Text, Para, Char, Note, Milestone, Leaf}
 use Rattle.usfm_tree.specs.declared.node.Node.TheFolds.{fold_out-Node}
+use Rattle.usfm_tree.proofs.ReadingLemmas.{then-assoc}
+use Rattle.usfm_tree.proofs.SpanLemmas.{leaves_then}
 use Rattle.segment_check.specs.Spots.{Spot, spots}
 use Rattle.segment_check.specs.TreeConditions.{holds_characters, allow, begins_node, is_restricted_kind, forbids, under_words}
 use Rattle.segment_check.specs.TreeViews.{Tells, told_of, told_in, Surroundings, surroundings_of, entering, allowing, told_by, kind_here}
@@ -113,12 +115,25 @@ step_told sheet around (Milestone b) rest = step_node sheet around kinds.Milesto
 abbrev EntryTold : List Record → List Around → Forest → Type 0
 EntryTold sheet around f = (rest : Forest) → told_in sheet around (f then rest) ≡ told_first sheet around f ++ told_in sheet around rest
 
+told_before : (sheet : List Record) (around : List Around) (n : Node) → EntryTold sheet around (view n)
+told_before sheet around n =
+    subst (EntryTold sheet around) (sym (fold_out-Node Forest Parts node_step parts_step n)) (step_told sheet around _)
+
 pub node_told : (sheet : List Record) (around : List Around) (n : Node) (ns : List Node)
     → told_in sheet around (forest_of (n ∷ ns)) ≡ told_first sheet around (view n) ++ told_in sheet around (forest_of ns)
-node_told sheet around n ns =
-    let e : EntryTold sheet around (view n) = subst (EntryTold sheet around) (sym (fold_out-Node Forest Parts node_step parts_step n))
-    (step_told sheet around _) in
-    e (forest_of ns)
+node_told sheet around n ns = told_before sheet around n (forest_of ns)
+
+-- what is told of some nodes and of what follows them
+nodes_told : (sheet : List Record) (around : List Around) (ns : List Node) (rest : Forest)
+    → told_in sheet around ((forest_of ns) then rest) ≡ told_in sheet around (forest_of ns) ++ told_in sheet around rest
+nodes_told sheet around [] rest = refl
+nodes_told sheet around (n ∷ ns) rest =
+    let first = told_first sheet around (view n) in
+    ap (told_in sheet around) (then-assoc (view n) (forest_of ns) rest)
+    ∙ told_before sheet around n ((forest_of ns) then rest)
+    ∙ ap (λ l. first ++ l) (nodes_told sheet around ns rest)
+    ∙ sym (append_assoc first (told_in sheet around (forest_of ns)) (told_in sheet around rest))
+    ∙ ap (λ l. l ++ told_in sheet around rest) (sym (node_told sheet around n ns))
 
 -- ---- how large
 
@@ -214,3 +229,24 @@ pub nothing_told : (sheet : List Record) (around : List Around) (v : Forest) (ol
     → None ≡ mark_of v → old ≡ old ++ told_first sheet around v
 nothing_told sheet around v old e =
     sym (append-nil old) ∙ ap (λ o. old ++ entry_told sheet around (start_of v) o (kind_here v) (close_of v) (kids_of v)) e
+
+-- ---- a loop over what a reader gives
+
+-- some nodes under the root more are told
+pub tells_on : (sheet : List Record) (i : Surroundings) (old new whole : List Told) (ns : List Node) (f g : Forest)
+    → old ++ told_in sheet [] f ≡ whole → f ≡ ((forest_of ns) then g) → i ≡ surroundings_of [] → Tells sheet i (forest_of ns) old new
+    → new ++ told_in sheet [] g ≡ whole
+tells_on sheet i old new whole ns f g h split root tells =
+    advance old new whole (told_in sheet [] (forest_of ns)) (told_in sheet [] f) (told_in sheet [] g) h
+    (ap (told_in sheet []) split ∙ nodes_told sheet [] ns g) (tells [] root)
+
+pub less_left : (ns : List Node) (f g : Forest) → f ≡ ((forest_of ns) then g) → 0 < length ns → size_of g < size_of f
+less_left [] f g split some = absurd (omega (arith, some))
+less_left (n ∷ ns) f g split some =
+    omega (
+      arith,
+      ap size_of split,
+      ap length (leaves_then (forest_of (n ∷ ns)) g),
+      length-append (leaves_of (forest_of (n ∷ ns))) (leaves_of g),
+      node_smaller n ns,
+    )

@@ -11,6 +11,7 @@ use Rattle.usfm_tree.specs.Forest.{Forest, nothing, text, leaf, node}
 use Rattle.usfm_tree.specs.Reading.{is_character_kind, is_note_kind}
 use Rattle.segment_check.specs.Spots.{Spot, spots}
 use Rattle.segment_check.specs.TreeConditions.{is_note, is_paragraph, holds_characters, unknown_marker, stray_close, unclosed_char, unclosed_note, may_begin, too_deep, under_words, forbids, is_restricted_kind, not_under}
+use Rattle.segment_check.specs.declared.inside.Allowed.{Allowed}
 use Rattle.segment_check.specs.declared.inside.Inside.{Inside}
 use Rattle.segment_check.specs.declared.told.Told.{Told}
 
@@ -85,6 +86,11 @@ allowing kinds.Paragraph i = []
 allowing kinds.Character i = allowing_character i
 allowing kinds.Note i = option_to_list i.paragraph
 allowing kinds.Milestone i = []
+
+-- the words that a value stands for: a name, if there is one, and perhaps NEST
+abbrev pub allowed_names : Allowed → List (List ℕ)
+allowed_names a =
+    option_to_list (option_map (λ n. n.now) a.name) ++ (if a.nest then codes "NEST" ∷ [] else [])
 
 -- a character or note node with these words of OccursUnder, none of which allows it there
 abbrev pub is_misplaced : List (List ℕ) → Surroundings → StyleKind → Bool

@@ -7,7 +7,6 @@ use crate::marks::find_marks;
 use crate::tree::tell_tree;
 use std::alloc::{AllocError, Global};
 use sty_sheet::Sheet;
-use usfm_tree::Tree;
 
 /// The findings in a book by a style sheet, by their starts, and at one start in the order of the
 /// codes.
@@ -18,8 +17,7 @@ use usfm_tree::Tree;
 pub fn check(alloc: Global, text: &str, sheet: &Sheet<'_>) -> Result<Vec<Finding>, AllocError>
     ensures { IfOk result (λ list. list.items ≡ findings (records_of sheet.now) text.now) }
 {
-    let tree = Tree::read(alloc, text, sheet)?;
-    let told = tell_tree(alloc, &tree, sheet)?;
+    let told = tell_tree(alloc, text, sheet)?;
     let findings = find_marks(alloc, text, told.as_slice())?;
     Ok(findings)
 }

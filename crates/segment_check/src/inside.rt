@@ -20,7 +20,7 @@ pub(crate) struct Inside<'a> {
 
 impl<'a> Inside<'a> {
     ghost use Rattle.std.specs.Prelude.{[]};
-    ghost use Rattle.segment_check.specs.TreeViews.{allowing_character, entering, inside_view, surroundings_of};
+    ghost use Rattle.segment_check.specs.TreeViews.{allowed_names, allowing, entering, inside_view, surroundings_of};
 
     // Under the root, where 64 nodes may stand one in the other.
     pub(crate) fn root() -> Self
@@ -63,21 +63,46 @@ impl<'a> Inside<'a> {
         }
     }
 
-    // Whether a word of OccursUnder allows a character node here.
-    pub(crate) fn allows_character(self, word: &str) -> bool
-        ensures { result ≡ is_among (allowing_character (inside_view self.entry)) word.now }
+    // The words of OccursUnder that allow a node of a kind here.
+    pub(crate) fn allowed(self, kind: StyleKind) -> Allowed<'a>
+        ensures { allowed_names result ≡ allowing kind (inside_view self.entry) }
     {
-        match self.character {
-            Some(name) => word == name || word == "NEST",
-            None => is_name(self.holder, word),
+        match (kind, self.character) {
+            (StyleKind::Character, Some(name)) => Allowed {
+                name: Some(name),
+                nest: true,
+            },
+            (StyleKind::Character, None) => Allowed {
+                name: self.holder,
+                nest: false,
+            },
+            (StyleKind::Note, _) => Allowed {
+                name: self.paragraph,
+                nest: false,
+            },
+            (StyleKind::Paragraph | StyleKind::Milestone, _) => Allowed {
+                name: None,
+                nest: false,
+            },
         }
     }
+}
 
-    // Whether a word of OccursUnder allows a note here.
-    pub(crate) fn allows_note(self, word: &str) -> bool
-        ensures { result ≡ is_among (option_to_list (inside_view self.entry).paragraph) word.now }
+// The words of OccursUnder that allow a node: a name, if there is one, and perhaps NEST.
+#[derive(Clone, Copy)]
+pub(crate) struct Allowed<'a> {
+    pub(crate) name: Option<&'a str>,
+    pub(crate) nest: bool,
+}
+
+impl Allowed<'_> {
+    ghost use Rattle.segment_check.specs.TreeViews.{allowed_names};
+
+    // Whether a word is one of them.
+    pub(crate) fn has(self, word: &str) -> bool
+        ensures { result ≡ is_among (allowed_names self.entry) word.now }
     {
-        is_name(self.paragraph, word)
+        is_name(self.name, word) || self.nest && word == "NEST"
     }
 }
 

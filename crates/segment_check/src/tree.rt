@@ -5,21 +5,20 @@ ghost use Rattle.std.specs.List.{list_any};
 ghost use Rattle.std.specs.Option.{option_map, option_map_or};
 ghost use Rattle.segment_check.specs.TreeConditions as conditions;
 ghost use Rattle.segment_check.specs.TreeConditions.{is_among, is_restricted_kind, under_in};
-ghost use Rattle.segment_check.specs.TreeViews.{Tells, allowing, inside_view, is_misplaced, kind_here};
+ghost use Rattle.segment_check.specs.TreeViews.{Tells, allowed_names, inside_view, is_misplaced, kind_here};
 ghost use Rattle.segment_check.specs.TreeViews.{told_by, told_under};
 ghost use Rattle.sty_sheet.specs.Views.{record_of, records_of, words_left};
 ghost use Rattle.usfm_token.specs.View.{mark_parts};
-ghost use Rattle.usfm_tree.specs.Reading.{marked};
-ghost use Rattle.usfm_tree.specs.SheetViews.{style_view};
-ghost use Rattle.usfm_tree.specs.TreeViews.{forest_in};
+ghost use Rattle.usfm_tree.specs.Reading.{marked, tree_of};
+ghost use Rattle.usfm_tree.specs.SheetViews.{style_view, styles_of};
 ghost use Rattle.usfm_tree.specs.Views.{view, forest_of};
 
-use crate::inside::Inside;
+use crate::inside::{Allowed, Inside};
 use crate::told::Told;
 use std::alloc::{AllocError, Global};
 use sty_sheet::{Sheet, Style, StyleKind, UnderWords};
 use usfm_token::Mark;
-use usfm_tree::{Node, Tree};
+use usfm_tree::{Node, TreeReader};
 
 // What the node at a mark is, None for a leaf.
 fn kind_of(node: &Node<'_>) -> Option<StyleKind>
@@ -49,32 +48,22 @@ fn begins_node(mark: Mark<'_>, style: Option<&Style<'_>>) -> bool
     }
 }
 
-fn allows(kind: StyleKind, inside: Inside<'_>, word: &str) -> bool
-    ensures { result ≡ is_among (allowing kind (inside_view inside.entry)) word.now }
-{
-    match kind {
-        StyleKind::Character => inside.allows_character(word),
-        StyleKind::Note => inside.allows_note(word),
-        StyleKind::Paragraph | StyleKind::Milestone => false,
-    }
-}
-
-// Whether one of the words allows a node of the kind.
-fn any_allows(mut words: UnderWords<'_>, kind: StyleKind, inside: Inside<'_>) -> bool
-    ensures { let names = allowing kind (inside_view inside.entry) in
+// Whether one of the words allows a node.
+fn any_allows(mut words: UnderWords<'_>, allowed: Allowed<'_>) -> bool
+    ensures { let names = allowed_names allowed.entry in
         result ≡ list_any (is_among names) (words_left words.entry) }
 {
-    words.any(|word| allows(kind, inside, word))
+    words.any(|word| allowed.has(word))
 }
 
-// Whether there are words, none of which allows a node of the kind.
-fn forbids(mut words: UnderWords<'_>, kind: StyleKind, inside: Inside<'_>) -> bool
-    ensures { let names = allowing kind (inside_view inside.entry) in
+// Whether there are words, none of which allows a node.
+fn forbids(mut words: UnderWords<'_>, allowed: Allowed<'_>) -> bool
+    ensures { let names = allowed_names allowed.entry in
         result ≡ conditions.forbids (words_left words.entry) names }
 {
     match words.next() {
         None => false,
-        Some(first) => !allows(kind, inside, first) && !any_allows(words, kind, inside),
+        Some(first) => !allowed.has(first) && !any_allows(words, allowed),
     }
 }
 
@@ -92,7 +81,7 @@ fn is_under_another(style: Option<&Style<'_>>, kind: Option<StyleKind>, inside: 
     let (Some(style), Some(kind)) = (style, kind) else {
         return false;
     };
-    is_restricted(kind) && forbids(style.under_words(), kind, inside)
+    is_restricted(kind) && forbids(style.under_words(), inside.allowed(kind))
 }
 
 // What is told of a mark within nodes.
@@ -146,16 +135,25 @@ fn tell_nodes<'a>(
     Ok(())
 }
 
-// What the tree tells of its marks, in order.
+// What the tree of a text tells of its marks, in order. No more of the tree is kept than a node
+// under the root.
 pub(crate) fn tell_tree(
     alloc: Global,
-    tree: &Tree<'_>,
+    text: &str,
     sheet: &Sheet<'_>,
 ) -> Result<Vec<Told>, AllocError>
-    ensures { let due = told_under (records_of sheet.now) (forest_in tree.now) in
+    ensures { let tree = tree_of (styles_of sheet.now) text.now in
+        let due = told_under (records_of sheet.now) tree in
         IfOk result (λ told. told.items ≡ due) }
 {
     let mut told = Vec::new(alloc);
-    tell_nodes(&mut told, sheet, Inside::root(), tree.kids())?;
+    let mut reader = TreeReader::new(alloc, text, sheet);
+    loop {
+        let nodes = reader.next_nodes()?;
+        if nodes.is_empty() {
+            break;
+        }
+        tell_nodes(&mut told, sheet, Inside::root(), nodes.as_slice())?;
+    }
     Ok(told)
 }

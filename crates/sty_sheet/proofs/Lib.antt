@@ -1,3 +1,4 @@
+pub mod ClosingNames
 pub mod EachOnce
 pub mod Entries
 pub mod Finding

@@ -3,6 +3,8 @@ pub mod Lines
 pub mod Fields
 pub mod Records
 pub mod Sheets
+pub mod StyleViews
 pub mod Views
+pub mod Closers
 pub mod FieldViews
 pub mod Steps

@@ -6,7 +6,7 @@ use Rattle.sty_sheet.specs.Lines.{first_word}
 use Rattle.sty_sheet.specs.Fields.{Field, passed, marker, occurs_under, endmarker, name, style_type, text_type, is_word, kind_named}
 use Rattle.sty_sheet.specs.Records.{Record, words_of, closing_name}
 use Rattle.sty_sheet.specs.Sheets.{record_with}
-use Rattle.sty_sheet.specs.Views.{record_of, records_of}
+use Rattle.sty_sheet.specs.Views.{record_of, records_in}
 use Rattle.sty_sheet.specs.declared.fault.SheetFault.{SheetFault}
 use Rattle.sty_sheet.specs.declared.fault.SheetFault.TheVariants.{Memory, FieldBeforeMarker, EmptyMarker, BadStyleType}
 use Rattle.sty_sheet.specs.declared.reader.Reader.{Reader}
@@ -16,7 +16,7 @@ pub record Reading : Type 0 where
   pub begun : Option Record
 
 abbrev pub reading_of : Reader → Reading
-reading_of r = record { whole = records_of r.sheet; begun = option_map record_of r.begun }
+reading_of r = record { whole = records_in r.records; begun = option_map record_of r.begun }
 
 -- a record with one more field
 abbrev pub with_field : Field → Record → Record

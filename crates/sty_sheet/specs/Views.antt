@@ -1,32 +1,22 @@
 -- What a contract sees of a style and of a sheet: its records, and not where their texts lie in memory.
-use Rattle.std.specs.Prelude.{◌≡◌, ℕ, Bool, List, map, Result, Ok, Err}
-use Rattle.std.specs.Option.{option_map}
+pub use Rattle.sty_sheet.specs.StyleViews.{record_of}
+use Rattle.std.specs.Prelude.{◌≡◌, ℕ, List, map, Result, Ok, Err}
 use Rattle.indexmap.specs.IndexMap.{values}
-use Rattle.sty_sheet.specs.Records.{Record, closes_milestone, words_of}
+use Rattle.sty_sheet.specs.Records.{Record, words_of}
 use Rattle.sty_sheet.specs.declared.fault.SheetFault.{SheetFault}
 use Rattle.sty_sheet.specs.declared.fault.SheetFault.TheVariants.{Memory, FieldBeforeMarker, EmptyMarker, BadStyleType}
-use Rattle.sty_sheet.specs.declared.style.Style.{Style}
 use Rattle.sty_sheet.specs.declared.sheet.Sheet.{Sheet}
+use Rattle.sty_sheet.specs.declared.records.Records.{Records}
 use Rattle.sty_sheet.specs.declared.styles.Styles.{Styles}
 use Rattle.sty_sheet.specs.declared.under.UnderWords.{UnderWords}
-
-abbrev pub record_of : Style → Record
-record_of s = record {
-  marker = s.marker.now;
-  name = s.name.now;
-  closer = option_map (λ n. n.now) s.closer;
-  under = words_of s.under.now;
-  kind = s.kind;
-  verse_text = s.verse_text;
-}
-
--- the record is a milestone that a mark of this name closes
-abbrev pub closes : List ℕ → Style → Bool
-closes name s = closes_milestone name (record_of s)
 
 -- the records of a sheet, in the order in which their markers first stand
 abbrev pub records_of : Sheet → List Record
 records_of sheet = map record_of (values sheet.styles)
+
+-- the same while the sheet is read
+abbrev pub records_in : Records → List Record
+records_in records = map record_of (values records.styles)
 
 -- the records that an iterator has left
 abbrev pub records_left : Styles → List Record

@@ -12,6 +12,7 @@ mod kind;
 pub mod laws;
 mod line;
 mod reader;
+mod records;
 mod sheet;
 mod style;
 mod styles;

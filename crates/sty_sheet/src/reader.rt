@@ -6,6 +6,7 @@ ghost use Rattle.sty_sheet.specs.Sheets.{misplaced, kind_fault, field_fault};
 
 use crate::fault::SheetFault;
 use crate::field::Field;
+use crate::records::Records;
 use crate::sheet::Sheet;
 use crate::style::Style;
 use crate::words::{kind_named, split_word};
@@ -57,7 +58,7 @@ fn field_fault(seen: bool, line: usize, field: Field<'_>) -> Option<SheetFault>
 // The records that are whole, and the one that is being read.
 #[derive(Drop)]
 pub(crate) struct Reader<'s> {
-    pub(crate) sheet: Sheet<'s>,
+    pub(crate) records: Records<'s>,
     pub(crate) begun: Option<Style<'s>>,
 }
 
@@ -66,13 +67,13 @@ impl<'s> Reader<'s> {
     ghost use Rattle.sty_sheet.specs.Lines.{first_word};
     ghost use Rattle.sty_sheet.specs.Sheets.{record_with};
     ghost use Rattle.sty_sheet.specs.Steps.{reading_of, after, began, extended, finished, Tells};
-    ghost use Rattle.sty_sheet.specs.Views.{records_of, Gives};
+    ghost use Rattle.sty_sheet.specs.Views.{records_in, Gives};
 
     pub(crate) fn new(alloc: Global) -> Reader<'s>
         ensures { reading_of result ≡ record { whole = []; begun = None } }
     {
         Reader {
-            sheet: Sheet::new(alloc),
+            records: Records::new(alloc),
             begun: None,
         }
     }
@@ -91,11 +92,12 @@ impl<'s> Reader<'s> {
     }
 
     // The sheet, with the record that was being read.
-    pub(crate) fn finish(mut self) -> Result<Sheet<'s>, SheetFault>
+    pub(crate) fn finish(mut self, alloc: Global) -> Result<Sheet<'s>, SheetFault>
         ensures { Gives result (Ok (finished (reading_of self.entry))) }
     {
         self.put_begun()?;
-        Ok(self.sheet)
+        let sheet = self.records.into_sheet(alloc)?;
+        Ok(sheet)
     }
 
     fn add(&mut self, field: Field<'s>) -> Result<(), SheetFault>
@@ -136,12 +138,12 @@ impl<'s> Reader<'s> {
     }
 
     fn put_begun(&mut self) -> Result<(), SheetFault>
-        ensures puts { OnOk result (records_of self.new.sheet ≡ finished (reading_of self.old)) }
+        ensures puts { OnOk result (records_in self.new.records ≡ finished (reading_of self.old)) }
         ensures memory { OnErr result (result ≡ Err SheetFault.Memory) }
     {
         match self.begun.take() {
             None => Ok(()),
-            Some(style) => self.sheet.put(style),
+            Some(style) => self.records.put(style),
         }
     }
 }

@@ -1,4 +1,6 @@
 ghost use Rattle.std.specs.Prelude.{◌≡◌, map};
+ghost use Rattle.indexmap.specs.IndexMap.{values};
+ghost use Rattle.sty_sheet.specs.Closers.{HasFirstOf};
 
 use crate::fault::SheetFault;
 use crate::field::field_of;
@@ -13,17 +15,18 @@ use std::alloc::Global;
 #[derive(Drop)]
 pub struct Sheet<'s> {
     pub(crate) styles: IndexMap<&'s str, Style<'s>>,
+    // The milestones by their closing names, of each name the first.
+    pub(crate) closers: IndexMap<&'s str, Style<'s>>,
     ghost keyed: { map (λ e. e.0.now) styles.entries ≡ map (λ e. e.1.marker.now) styles.entries },
+    ghost closed: { HasFirstOf closers (values styles) },
 }
 
 impl<'s> Sheet<'s> {
-    ghost use Rattle.std.specs.Prelude.{[], find, OnOk, OnErr};
+    ghost use Rattle.std.specs.Prelude.{find};
     ghost use Rattle.std.specs.Option.{option_map};
-    ghost use Rattle.indexmap.specs.IndexMap.{values};
     ghost use Rattle.sty_sheet.specs.Records.{named, mark_style, closes_milestone};
     ghost use Rattle.sty_sheet.specs.Sheets.{sheet_of};
-    ghost use Rattle.sty_sheet.specs.Steps.{put};
-    ghost use Rattle.sty_sheet.specs.Views.{closes, record_of, records_of, records_left, Gives};
+    ghost use Rattle.sty_sheet.specs.Views.{record_of, records_of, records_left, Gives};
 
     /// The records of a sheet's text.
     ///
@@ -46,7 +49,7 @@ impl<'s> Sheet<'s> {
             number += 1;
             reader.take(field_of(line), number)?;
         }
-        reader.finish()
+        reader.finish(alloc)
     }
 
     /// The record of a marker. It takes no memory.
@@ -84,39 +87,11 @@ impl<'s> Sheet<'s> {
         }
     }
 
-    // A sheet without records.
-    pub(crate) fn new(alloc: Global) -> Sheet<'s>
-        ensures { records_of result ≡ [] }
-    {
-        Sheet {
-            styles: IndexMap::new(alloc),
-        }
-    }
-
-    // Puts a record behind the others, or in the place of the one of its marker.
-    pub(crate) fn put(&mut self, style: Style<'s>) -> Result<(), SheetFault>
-        ensures puts { let later = put (records_of self.old) (record_of style.entry) in
-            OnOk result (records_of self.new ≡ later) }
-        ensures memory { OnErr result (result ≡ Err SheetFault.Memory) }
-    {
-        self.styles.insert(style.marker(), style)?;
-        Ok(())
-    }
-
     // The first milestone that a mark of this name closes.
     fn milestone(&self, name: &str) -> Option<&Style<'s>>
         ensures { let found = option_map (λ s. record_of s.now) result in
             found ≡ find (closes_milestone name.now) (records_of self.now) }
     {
-        self.find_milestone(name)
-    }
-
-    fn find_milestone(&self, name: &str) -> Option<&Style<'s>>
-        ensures { let found = option_map (λ s. record_of s.now) result in
-            found ≡ option_map record_of (find (closes name.now) (values self.now.styles)) }
-    {
-        self.styles
-            .values()
-            .find(|style| style.closes_milestone(name))
+        self.closers.get(name)
     }
 }

@@ -1,7 +1,7 @@
 ghost use Rattle.std.specs.Prelude.{◌≡◌, [], slice_get};
 ghost use Rattle.std.specs.Option.{option_map};
 ghost use Rattle.sty_sheet.specs.FieldViews.{field_view};
-ghost use Rattle.sty_sheet.specs.Records.{closes_milestone};
+ghost use Rattle.sty_sheet.specs.Closers.{milestone_closer};
 ghost use Rattle.sty_sheet.specs.Sheets.{record_with};
 ghost use Rattle.sty_sheet.specs.Steps.{with_field};
 ghost use Rattle.sty_sheet.specs.Views.{record_of, words_left};
@@ -111,13 +111,13 @@ impl<'s> Style<'s> {
         }
     }
 
-    // Whether it is a milestone that a mark of this name closes.
-    pub(crate) fn closes_milestone(&self, name: &str) -> bool
-        ensures { result ≡ closes_milestone name.now (record_of self.now) }
+    // The name of the marks that close it, if it is a milestone and has one.
+    pub(crate) fn milestone_closer(&self) -> Option<&'s str>
+        ensures { option_map (λ n. n.now) result ≡ milestone_closer (record_of self.now) }
     {
-        match (self.kind, self.closer) {
-            (Some(StyleKind::Milestone), Some(closer)) => closer == name,
-            _ => false,
+        match self.kind {
+            Some(StyleKind::Milestone) => self.closer,
+            Some(StyleKind::Paragraph | StyleKind::Character | StyleKind::Note) | None => None,
         }
     }
 }

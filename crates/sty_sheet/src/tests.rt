@@ -118,3 +118,15 @@ fn finds_styles(rt: HostRuntime) -> Result<(), SheetFault> {
     assert!(rt; sheet.style("qt-s").is_some());
     Ok(())
 }
+
+#[test]
+fn finds_the_first_milestone(rt: HostRuntime) -> Result<(), SheetFault> {
+    let text =
+        "\\Marker a\n\\Endmarker z\n\\StyleType Milestone\n\\Marker b\n\\Endmarker z*\n\\StyleType Milestone\n\\Marker a\n";
+    let (both, _) = text.split_at(text.len() - 10);
+    let sheet = Sheet::read(rt.alloc(), both)?;
+    assert_eq!(rt; style_marker(&sheet, "z"), Some("a"));
+    let replaced = Sheet::read(rt.alloc(), text)?;
+    assert_eq!(rt; style_marker(&replaced, "z"), Some("b"));
+    Ok(())
+}

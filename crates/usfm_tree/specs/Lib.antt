@@ -1,3 +1,4 @@
+pub mod Ahead
 pub mod Around
 pub mod Forest
 pub mod Laws

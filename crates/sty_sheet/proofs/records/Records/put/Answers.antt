@@ -1,6 +1,6 @@
 use Rattle.std.proofs.Common.{◌∙◌, ap}
 use Rattle.sty_sheet.proofs.Entries.{records, puts, keyed_result}
-use Rattle.sty_sheet.proofs.sheet.Sheet.put.Goals as goal
+use Rattle.sty_sheet.proofs.records.Records.put.Goals as goal
 
 pub invariant_of-self : goal.invariant_of-self
 invariant_of-self c =
