@@ -8,7 +8,7 @@ use Rattle.std.specs.Cmp.Lexicographic.{nat_list_cmp_total, texts_ties}
 use Rattle.std.specs.FinMap.{slice_cmp-IsAntisymmetric, nat_cmp-IsAntisymmetric}
 use Rattle.std.specs.Str.{bytes_eq}
 use Rattle.std.proofs.lemmas.Cmp.{on_total, then_total}
-use Rattle.usfm_ref.specs.Keys.{KeyParts, key_cmp, same_key}
+use Rattle.usfm_ref.specs.Keys.{key_cmp, same_key}
 use Rattle.usfm_ref.proofs.Orders.{key_total, key_exact, same_key-cmp}
 use Rattle.concordance.specs.Words.{Spelling, form_cmp}
 use Rattle.concordance.specs.EntryViews.{spelling_cmp}

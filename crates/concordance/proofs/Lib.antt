@@ -8,6 +8,7 @@ pub mod Holding
 pub mod RunLemmas
 pub mod EntryLemmas
 pub mod WordLists
+pub mod GroupSteps
 pub mod RunPlaces
 pub mod RunLaws
 pub mod Letters

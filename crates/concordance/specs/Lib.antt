@@ -8,4 +8,5 @@ pub mod Words
 pub mod RunReading
 pub mod SpellingViews
 pub mod EntryViews
+pub mod Groups
 pub mod Laws
