@@ -1,7 +1,9 @@
-use Rattle.std.proofs.Common.{◌≡◌, ◌∙◌, refl, ap, sym, subst, arith, All, map, length}
+use Rattle.std.proofs.Common.{rules, ◌≡◌, ◌∙◌, refl, ap, sym, subst, arith, All, [], map, length, eqb-true}
 use Rattle.std.specs.List.{flat_map}
+use Rattle.std.proofs.lemmas.List.{nil_from_length}
 use Rattle.std.proofs.lemmas.Iterator.Consumers.{YieldsList-from_first, map_from_collect}
 use Rattle.sty_sheet.specs.Views.{records_of}
+use Rattle.verse_cut.specs.Pieces.{pieces_of}
 use Rattle.verse_cut.specs.Views.{parts_of}
 use Rattle.concordance.specs.Hits.{keyed, occurrences, hits_of}
 use Rattle.concordance.specs.KeyedViews.{hits_left}
@@ -34,6 +36,15 @@ pub returns-then-not-occurs-clause-hits : goal.returns-then-not-occurs-clause-hi
 returns-then-not-occurs-clause-hits c =
     ap (map hit_view) c.new.ensures.items
     ∙ no_hits c.args.text.now c.args.needle.now c.requires.some (c.if-not-occurs.ensures.no refl) (records_of c.args.sheet.now)
+
+pub returns-then-is_empty-clause-hits : goal.returns-then-is_empty-clause-hits
+unfolding hits_of
+returns-then-is_empty-clause-hits c =
+    let none : c.in_ok-found.found.items ≡ [] = nil_from_length c.in_ok-found.found.items (search rules) in
+    ap (map hit_view) c.new-then-is_empty.ensures.items
+    ∙ ap (λ ps. map (keyed (pieces_of c.args.text.now)) (passages_view ps)) (sym none)
+    ∙ ap (map (keyed (pieces_of c.args.text.now)))
+    (c.in_ok-found.ensures ∙ ap (flat_map (occurrences c.args.needle.now)) (ap passages_view c.deref.ensures.value ∙ c.in_ok-leaves.ensures))
 
 pub returns-clause-hits : goal.returns-clause-hits
 unfolding hits_of
