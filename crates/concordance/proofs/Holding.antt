@@ -15,7 +15,8 @@ use Rattle.concordance.specs.declared.passage.Passage as passages
 use Rattle.concordance.proofs.Standing.{Apart, apart_within, leaves_apart, stand_apart}
 use Rattle.concordance.proofs.Occurring.{occurrences_apart}
 
-pub fits_at : (ps : List passages.Passage) (k : ℕ) (d : passages.Passage) → All EndsWithin (passages_view ps) → k < length ps → (get_or ps k d).start + length (get_or ps k d).text.now < 2 ^ 64
+pub fits_at : (ps : List passages.Passage) (k : ℕ) (d : passages.Passage) → All EndsWithin (passages_view ps) → k < length ps
+    → (get_or ps k d).start + length (get_or ps k d).text.now < 2 ^ 64
 fits_at [] k d h l = absurd (omega arith)
 fits_at (p ∷ ps) zero d h l = All-head EndsWithin (passage_view p) (passages_view ps) h
 fits_at (p ∷ ps) (suc k) d h l = fits_at ps k d (All-tail EndsWithin (passage_view p) (passages_view ps) h) (omega arith)
@@ -63,7 +64,8 @@ begin_is [] h = refl
 begin_is (p ∷ ps) h = h.0
 
 -- the pieces of a text hold passages of it that are not empty
-pub pieces_hold : (s : List ℕ) (pieces : List Part) (ps : List Passage) → IsCutOf pieces s → Apart s 0 (length s) ps → Filled ps → hold_all pieces ps ≡ true
+pub pieces_hold : (s : List ℕ) (pieces : List Part) (ps : List Passage) → IsCutOf pieces s → Apart s 0 (length s) ps → Filled ps
+    → hold_all pieces ps ≡ true
 pieces_hold s pieces ps cut a f =
     let zero_is = begin_is pieces cut.neighbours in
     let end_is : end_of pieces ≡ length s = (let l = ap length cut.join in omega arith) in
@@ -72,10 +74,13 @@ pieces_hold s pieces ps cut a f =
 
 -- ---- hits
 
-pub found_apart : (sheet : List Record) (s needle : List ℕ) → 0 < length needle → Apart s 0 (length s) (flat_map (occurrences needle) (plain_leaves sheet s))
-found_apart sheet s needle some = apart_within s (occurrences needle) 0 (length s) (plain_leaves sheet s) (λ p h. occurrences_apart s needle some p h) (leaves_apart sheet s)
+pub found_apart : (sheet : List Record) (s needle : List ℕ) → 0 < length needle
+    → Apart s 0 (length s) (flat_map (occurrences needle) (plain_leaves sheet s))
+found_apart sheet s needle some =
+    apart_within s (occurrences needle) 0 (length s) (plain_leaves sheet s) (λ p h. occurrences_apart s needle some p h) (leaves_apart sheet s)
 
-pub found_filled : (sheet : List Record) (s needle : List ℕ) → 0 < length needle → Filled (flat_map (occurrences needle) (plain_leaves sheet s))
+pub found_filled : (sheet : List Record) (s needle : List ℕ) → 0 < length needle
+    → Filled (flat_map (occurrences needle) (plain_leaves sheet s))
 found_filled sheet s needle some = filled_each (occurrences needle) (plain_leaves sheet s) (occurrences_filled needle some)
 
 passages_keyed : (pieces : List Part) (ps : List Passage) → map passage_of (map (keyed pieces) ps) ≡ ps
@@ -84,4 +89,5 @@ passages_keyed pieces (p ∷ ps) = ap (λ l. p ∷ l) (passages_keyed pieces ps)
 
 pub hits_apart : (sheet : List Record) (s needle : List ℕ) → 0 < length needle → StandApart s 0 (map passage_of (hits_of sheet s needle))
 unfolding hits_of
-hits_apart sheet s needle some = subst (StandApart s 0) (sym (passages_keyed (pieces_of s) _)) (stand_apart s 0 _ (found_apart sheet s needle some))
+hits_apart sheet s needle some =
+    subst (StandApart s 0) (sym (passages_keyed (pieces_of s) _)) (stand_apart s 0 _ (found_apart sheet s needle some))

@@ -6,7 +6,7 @@ pub mod KeyedLemmas
 pub mod Occurring
 pub mod Holding
 pub mod RunLemmas
-pub mod EntryLemmas
+pub mod OrderLemmas
 pub mod WordLists
 pub mod GroupSteps
 pub mod RunPlaces

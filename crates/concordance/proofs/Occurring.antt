@@ -41,13 +41,18 @@ module _ (s needle : List ℕ) (some : 0 < length needle) (p : Passage) (stands 
       (sym (take-append-drop at p.text) ∙ ap (λ l. take at p.text ++ l) (OccursAt-split p.text needle at h))
       (ap (λ n. p.start + n) (length-take-le at p.text (omega arith)))
 
-  apart_from_match : (skip i n : ℕ) → Apart s (p.start + (i + skip)) (p.start + length p.text) (map place (matches_from p.text needle skip i n))
+  apart_from_match : (skip i n : ℕ)
+      → Apart s (p.start + (i + skip)) (p.start + length p.text) (map place (matches_from p.text needle skip i n))
   unfolding matches_from
   apart_from_match skip i zero = tt
-  apart_from_match zero i (suc n) = by (apart_from_match (match_len needle - 1) (i + 1) n) (apart_from_match 0 (i + 1) n) (occurs_at p.text needle i) refl
+  apart_from_match zero i (suc n) =
+      by (apart_from_match (match_len needle - 1) (i + 1) n) (apart_from_match 0 (i + 1) n) (occurs_at p.text needle i) refl
     where
-      behind : (m : ℕ) → m ≡ length needle → Apart s (p.start + (i + 1 + (m - 1))) (p.start + length p.text) (map place (matches_from p.text needle (m - 1) (i + 1) n)) → Apart s (p.start + i + length needle) (p.start + length p.text) (map place (matches_from p.text needle (m - 1) (i + 1) n))
-      behind m e a = subst (λ (k : ℕ). Apart s k (p.start + length p.text) (map place (matches_from p.text needle (m - 1) (i + 1) n))) (omega arith) a
+      behind : (m : ℕ) → m ≡ length needle
+          → Apart s (p.start + (i + 1 + (m - 1))) (p.start + length p.text) (map place (matches_from p.text needle (m - 1) (i + 1) n))
+          → Apart s (p.start + i + length needle) (p.start + length p.text) (map place (matches_from p.text needle (m - 1) (i + 1) n))
+      behind m e a =
+          subst (λ (k : ℕ). Apart s k (p.start + length p.text) (map place (matches_from p.text needle (m - 1) (i + 1) n))) (omega arith) a
 
       by : Apart s (p.start + (i + 1 + (match_len needle - 1))) (p.start + length p.text) (map place (matches_from p.text needle (match_len needle - 1) (i + 1) n)) → Apart s (p.start + (i + 1 + 0)) (p.start + length p.text) (map place (matches_from p.text needle 0 (i + 1) n)) → (b : Bool) → occurs_at p.text needle i ≡ b → Apart s (p.start + (i + 0)) (p.start + length p.text) (map place (cond b (i ∷ matches_from p.text needle (match_len needle - 1) (i + 1) n) (matches_from p.text needle 0 (i + 1) n)))
       by hit miss true e =
@@ -55,7 +60,8 @@ module _ (s needle : List ℕ) (some : 0 < length needle) (p : Passage) (stands 
           let low = h.fits in
           (omega arith, stands_at i h, omega arith, behind (match_len needle) (omega arith) hit)
       by hit miss false e = apart_from s (p.start + (i + 0)) (p.start + (i + 1 + 0)) (p.start + length p.text) _ (omega arith) miss
-  apart_from_match (suc skip) i (suc n) = subst (λ (k : ℕ). Apart s k (p.start + length p.text) (map place (matches_from p.text needle skip (i + 1) n))) (omega arith) (apart_from_match skip (i + 1) n)
+  apart_from_match (suc skip) i (suc n) =
+      subst (λ (k : ℕ). Apart s k (p.start + length p.text) (map place (matches_from p.text needle skip (i + 1) n))) (omega arith) (apart_from_match skip (i + 1) n)
 
   pub occurrences_apart : Apart s p.start (p.start + length p.text) (occurrences needle p)
   occurrences_apart = let e : p.start + (0 + 0) ≡ p.start = omega arith in subst (λ (k : ℕ). Apart s k (p.start + length p.text) (occurrences needle p)) e (apart_from_match 0 0 (length p.text + 1 - 0))

@@ -223,7 +223,8 @@ counted within n (d ∷ ds) c rest =
         → lies_in (n + length (encode_utf8_all (d ∷ ds))) (run_of n (d ∷ (ds ++ c ∷ rest))) ≡ a
     here a e f =
         let low : nat_le n (n + length (encode_utf8_all (d ∷ ds))) ≡ true = grind (arith, nat_tests) in
-        let reach = shifted n (length (encode_utf8_all (d ∷ ds))) (length (front_bytes true (d ∷ (ds ++ c ∷ rest)))) ∙ run_reaches (d ∷ ds) c rest in
+        let reach =
+        shifted n (length (encode_utf8_all (d ∷ ds))) (length (front_bytes true (d ∷ (ds ++ c ∷ rest)))) ∙ run_reaches (d ∷ ds) c rest in
         (λ i. low i && reach i) ∙ (λ i. e i && f i)
 
     one_in_all : (a : Bool) → all_words ds c ≡ a

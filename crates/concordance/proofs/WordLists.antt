@@ -20,10 +20,10 @@ use Rattle.usfm_ref.specs.Rising.{rises_by, with_item, rising}
 use Rattle.usfm_ref.proofs.Members.{same_tested, tested_rising}
 use Rattle.usfm_ref.proofs.Orders.{key_total, key_exact}
 use Rattle.usfm_ref.proofs.Sorted.{rises-rising, is_less}
-use Rattle.concordance.specs.EntryViews.{spelling_cmp}
+use Rattle.concordance.specs.SpellingOrder.{spelling_cmp}
 use Rattle.concordance.specs.Groups.{Group, told_by, told, is_bare, has_bare, is_told, TellsSame}
 use Rattle.concordance.specs.Words.{Spelling, WordParts, form_cmp, keys_with, word_with, words_in}
-use Rattle.concordance.proofs.EntryLemmas.{form_total, form_exact, spelling_total, spelling_exact}
+use Rattle.concordance.proofs.OrderLemmas.{form_total, form_exact, spelling_total, spelling_exact}
 
 -- ---- rising lists
 
@@ -48,11 +48,13 @@ module _ {K : Type 0} (cmp : K → K → Ordering) where
 
 -- ---- the words do not hang on the order of the spellings, nor on how often one is told
 
-any_forms : (f : List ℕ) (ss : List Spelling) → list_any (λ g. is_eq (form_cmp f g)) (map (λ s. s.form) ss) ≡ list_any (λ s. is_eq (form_cmp f s.form)) ss
+any_forms : (f : List ℕ) (ss : List Spelling)
+    → list_any (λ g. is_eq (form_cmp f g)) (map (λ s. s.form) ss) ≡ list_any (λ s. is_eq (form_cmp f s.form)) ss
 any_forms f [] = refl
 any_forms f (s ∷ ss) = ap (λ b. is_eq (form_cmp f s.form) || b) (any_forms f ss)
 
-any_keys : (f : List ℕ) (k : KeyParts) (ss : List Spelling) → list_any (λ j. is_eq (key_cmp k j)) (keys_with ss f) ≡ list_any (λ s. bytes_eq s.form f && is_eq (key_cmp k s.key)) ss
+any_keys : (f : List ℕ) (k : KeyParts) (ss : List Spelling)
+    → list_any (λ j. is_eq (key_cmp k j)) (keys_with ss f) ≡ list_any (λ s. bytes_eq s.form f && is_eq (key_cmp k s.key)) ss
 any_keys f k [] = refl
 any_keys f k (s ∷ ss) = by (any_keys f k ss) (bytes_eq s.form f)
   where
@@ -127,14 +129,16 @@ module _ (f : List ℕ) where
   same_form s h = (bytes_decides s.form f).0 h
 
   -- the forms of what has the form, and of what is over it
-  forms_split : (front back : List Spelling) → 0 < length front → list_all (has_form f) front ≡ true → list_all (is_over f) back ≡ true → rising form_cmp (map (λ s. s.form) (front ++ back)) ≡ f ∷ rising form_cmp (map (λ s. s.form) back)
+  forms_split : (front back : List Spelling) → 0 < length front → list_all (has_form f) front ≡ true → list_all (is_over f) back ≡ true
+      → rising form_cmp (map (λ s. s.form) (front ++ back)) ≡ f ∷ rising form_cmp (map (λ s. s.form) back)
   forms_split [] back some h over = absurd (omega arith)
   forms_split (s ∷ []) back some h over =
       let q = and_parts (has_form f s) true h in
       ap (λ (g : List ℕ). with_item form_cmp g (rising form_cmp (map (λ s. s.form) back))) (same_form s q.0)
       ∙ with_least form_cmp f (rising form_cmp (map (λ s. s.form) back)) (all_rising form_cmp (λ g. is_lt (form_cmp f g)) (map (λ s. s.form) back) (over_forms back over))
     where
-      over_forms : (ss : List Spelling) → list_all (is_over f) ss ≡ true → list_all (λ g. is_lt (form_cmp f g)) (map (λ s. s.form) ss) ≡ true
+      over_forms : (ss : List Spelling) → list_all (is_over f) ss ≡ true
+          → list_all (λ g. is_lt (form_cmp f g)) (map (λ s. s.form) ss) ≡ true
       over_forms [] h = refl
       over_forms (t ∷ ss) h = let q = and_parts (is_over f t) (list_all (is_over f) ss) h in and_from _ _ q.0 (over_forms ss q.1)
   forms_split (s ∷ t ∷ front) back some h over =
@@ -155,7 +159,8 @@ module _ (f : List ℕ) where
     where
       by : (b : Bool) → has_form f s ≡ b → has_form f s ≡ false
       by false e = e
-      by true e = absurd (true≢false (sym h ∙ ap (λ (g : List ℕ). is_lt (form_cmp f g)) (same_form s e) ∙ ap is_lt (tied_itself form_total f)))
+      by true e =
+          absurd (true≢false (sym h ∙ ap (λ (g : List ℕ). is_lt (form_cmp f g)) (same_form s e) ∙ ap is_lt (tied_itself form_total f)))
 
   none_kept : (back : List Spelling) → list_all (is_over f) back ≡ true → filter (has_form f) back ≡ []
   none_kept [] h = refl
@@ -164,7 +169,8 @@ module _ (f : List ℕ) where
       ap (λ b. cond b (s ∷ filter (has_form f) back) (filter (has_form f) back)) (not_over s q.0) ∙ none_kept back q.1
 
   -- another form is none of those at the front
-  none_other : (g : List ℕ) (front : List Spelling) → is_lt (form_cmp f g) ≡ true → list_all (has_form f) front ≡ true → filter (has_form g) front ≡ []
+  none_other : (g : List ℕ) (front : List Spelling) → is_lt (form_cmp f g) ≡ true → list_all (has_form f) front ≡ true
+      → filter (has_form g) front ≡ []
   none_other g [] l h = refl
   none_other g (s ∷ front) l h =
       let q = and_parts (has_form f s) (list_all (has_form f) front) h in
@@ -194,11 +200,13 @@ module _ (f : List ℕ) where
           each [] h = refl
           each (t ∷ ss) h = let q = and_parts (is_over f t) (list_all (is_over f) ss) h in and_from _ _ q.0 (each ss q.1)
 
-      there : (gs : List (List ℕ)) → list_all (λ g. is_lt (form_cmp f g)) gs ≡ true → map (word_with (front ++ back)) gs ≡ map (word_with back) gs
+      there : (gs : List (List ℕ)) → list_all (λ g. is_lt (form_cmp f g)) gs ≡ true
+          → map (word_with (front ++ back)) gs ≡ map (word_with back) gs
       there [] a = refl
       there (g ∷ gs) a =
           let q = and_parts (is_lt (form_cmp f g)) (list_all (λ g. is_lt (form_cmp f g)) gs) a in
-          let keys : rising key_cmp (keys_with (front ++ back) g) ≡ rising key_cmp (keys_with back g) = ap (λ l. rising key_cmp (map (λ s. s.key) l)) (filter-append (has_form g) front back ∙ ap (λ l. l ++ filter (has_form g) back) (none_other g front q.0 h)) in
+          let keys : rising key_cmp (keys_with (front ++ back) g) ≡ rising key_cmp (keys_with back g) =
+          ap (λ l. rising key_cmp (map (λ s. s.key) l)) (filter-append (has_form g) front back ∙ ap (λ l. l ++ filter (has_form g) back) (none_other g front q.0 h)) in
           λ i. (let word : WordParts = record { form = g; keys = keys i } in word) ∷ there gs q.1 i
 
 -- ---- groups
@@ -228,7 +236,8 @@ some_keys : (g : Group) → is_bare g ≡ false → 0 < length (told_by g)
 some_keys g h = let l = length-map g.1.items (λ k. (let s : Spelling = record { form = g.0.now; key = k } in s)) in let n = false-eqb (length g.1.items) 0 (sym h) in omega arith
 
 -- groups with rising forms tell a word each
-pub groups_words : (gs : List Group) → rises_by form_cmp (λ g. g.0.now) gs ≡ true → has_bare gs ≡ false → words_in (told gs) ≡ map word_told gs
+pub groups_words : (gs : List Group) → rises_by form_cmp (λ g. g.0.now) gs ≡ true → has_bare gs ≡ false
+    → words_in (told gs) ≡ map word_told gs
 groups_words [] r h = refl
 groups_words (g ∷ gs) r h =
     let q = and_parts (list_all (λ x. is_lt (form_cmp g.0.now x.0.now)) gs) (rises_by form_cmp (λ g. g.0.now) gs) r in
@@ -244,7 +253,8 @@ groups_words (g ∷ gs) r h =
 
 is_told_groups : (s : Spelling) (gs : List Group) → is_told s (told gs) ≡ list_any (λ g. is_told s (told_by g)) gs
 is_told_groups s [] = refl
-is_told_groups s (g ∷ gs) = list_any-append (λ t. is_eq (spelling_cmp s t)) (told_by g) (told gs) ∙ ap (λ b. is_told s (told_by g) || b) (is_told_groups s gs)
+is_told_groups s (g ∷ gs) =
+    list_any-append (λ t. is_eq (spelling_cmp s t)) (told_by g) (told gs) ∙ ap (λ b. is_told s (told_by g) || b) (is_told_groups s gs)
 
 -- the order of groups does not matter
 pub reordered_tell : (gs hs : List Group) → IsPermutation gs hs → TellsSame (told gs) (told hs)

@@ -21,5 +21,6 @@ loop-index-preserved c =
 
 pub returns : goal.returns
 returns c =
-    c.loop-index.invariant ∙ ap (map word_told) (take_all c.loop-index.index c.args.groups.now.entries (let l = c.len-index-end.ensures.len in let t = c.loop-index-test.false in omega arith))
+    c.loop-index.invariant
+    ∙ ap (map word_told) (take_all c.loop-index.index c.args.groups.now.entries (let l = c.len-index-end.ensures.len in let t = c.loop-index-test.false in omega arith))
     ∙ sym (groups_words c.args.groups.now.entries c.requires.rise c.requires.keyed)

@@ -6,7 +6,9 @@ pub returns-clause-told : goal.returns-clause-told
 returns-clause-told c = reordered_tell c.args.groups.entries c.sort_unstable_keys.new.self.entries c.sort_unstable_keys.ensures.reordered.0
 
 pub returns-clause-keyed : goal.returns-clause-keyed
-returns-clause-keyed c = reordered_keyed c.args.groups.entries c.sort_unstable_keys.new.self.entries c.sort_unstable_keys.ensures.reordered.0 c.requires.keyed
+returns-clause-keyed c =
+    reordered_keyed c.args.groups.entries c.sort_unstable_keys.new.self.entries c.sort_unstable_keys.ensures.reordered.0 c.requires.keyed
 
 pub returns-clause-rise : goal.returns-clause-rise
-returns-clause-rise c = groups_rise c.sort_unstable_keys.new.self.entries c.in_ok-sort_unstable_keys.ensures.sorted c.sort_unstable_keys.ensures.unique
+returns-clause-rise c =
+    groups_rise c.sort_unstable_keys.new.self.entries c.in_ok-sort_unstable_keys.ensures.sorted c.sort_unstable_keys.ensures.unique

@@ -40,7 +40,8 @@ returns c =
     let at = (goal.at.returns c).After-deref-3 in
     let sheet = records_of c.args.sheet.now in
     let spelled_all : spellings_view c.deref-4.result.now ≡ map (spelling_at (pieces_of c.args.text.now)) (flat_map runs_in (plain_leaves sheet c.args.text.now)) =
-    ap spellings_view c.deref-4.ensures.value ∙ c.in_ok-spellings.ensures ∙ ap (map spelled) c.new.ensures ∙ runs_spelled (parts_of c.deref-3.result.now) (passages_view c.deref-2.result.now)
+    ap spellings_view c.deref-4.ensures.value ∙ c.in_ok-spellings.ensures ∙ ap (map spelled) c.new.ensures
+    ∙ runs_spelled (parts_of c.deref-3.result.now) (passages_view c.deref-2.result.now)
     ∙ (λ i. map (spelling_at ((ap parts_of c.deref-3.ensures.value ∙ c.in_ok-pieces.ensures.value) i)) (found at i)) in
     let all : words_in (told c.in_ok-sorted.sorted.entries) ≡ words_of sheet c.args.text.now =
     sym (words_same (spellings_view c.deref-4.result.now) (told c.in_ok-sorted.sorted.entries) (λ s. c.in_ok-groups.ensures.told s ∙ c.in_ok-sorted.ensures.told s))
