@@ -20,6 +20,8 @@ first_bar bs (Some k) h =
 pub boundary_before_bar : (bs : List ℕ) → IsUtf8 bs → IsCharBoundary bs (position_or_len is_bar bs)
 boundary_before_bar bs utf8 =
     ⊎_elim
-    (λ within. IsCharBoundary-before_ascii bs _ within (let is : get_or bs (position_or_len is_bar bs) 0 ≡ 124 = eqb-true _ _ (passes_at_first is_bar bs 0 within) in omega arith))
-    (λ past. let low : position_or_len is_bar bs ≤ length bs = prefix_len-le-length _ bs in let end : length bs ≡ position_or_len is_bar bs = omega arith in subst (IsCharBoundary bs) end (IsCharBoundary-end bs))
+    (λ within. IsCharBoundary-before_ascii bs _ within
+    (let is : get_or bs (position_or_len is_bar bs) 0 ≡ 124 = eqb-true _ _ (passes_at_first is_bar bs 0 within) in omega arith))
+    (λ past. let low : position_or_len is_bar bs ≤ length bs = prefix_len-le-length _ bs in let end : length bs
+    ≡ position_or_len is_bar bs = omega arith in subst (IsCharBoundary bs) end (IsCharBoundary-end bs))
     (order (position_or_len is_bar bs) (length bs))

@@ -37,7 +37,8 @@ pub kids_fit : (k : StyleKind) (f g : Forest) → HasShape (shapes.Branch k) f �
 kids_fit k f g e h = (subst (λ x. TextsFit (x then g)) e.1 h).0
 
 pub kids_fewer : (k : StyleKind) (f g : Forest) → HasShape (shapes.Branch k) f → entry_count (kids_of f) < entry_count (f then g)
-kids_fewer k f g e = let is : entry_count (f then g) ≡ suc (entry_count (kids_of f) + entry_count g) = ap (λ x. entry_count (x then g)) e.1 in omega arith
+kids_fewer k f g e =
+    let is : entry_count (f then g) ≡ suc (entry_count (kids_of f) + entry_count g) = ap (λ x. entry_count (x then g)) e.1 in omega arith
 
 -- ---- what an entry adds
 

@@ -111,13 +111,16 @@ push_keyed f new ks k e = ne_eqb (length new.items) 0 (λ z. let l = ap length e
 pub put_keyed : (gs : List Group) (at : ℕ) (new : Vec KeyParts) (ks : List KeyParts) (k : KeyParts) → new.items ≡ ks ++ k ∷ []
     → has_bare gs ≡ false → has_bare (set_value_at gs at new) ≡ false
 put_keyed [] at new ks k e h = refl
-put_keyed (x ∷ gs) zero new ks k e h = let q = or_parts (is_bare x) (has_bare gs) h in ap (λ b. b || has_bare gs) (push_keyed x.0 new ks k e) ∙ q.1
-put_keyed (x ∷ gs) (suc at) new ks k e h = let q = or_parts (is_bare x) (has_bare gs) h in ap (λ b. b || has_bare (set_value_at gs at new)) q.0 ∙ put_keyed gs at new ks k e q.1
+put_keyed (x ∷ gs) zero new ks k e h =
+    let q = or_parts (is_bare x) (has_bare gs) h in ap (λ b. b || has_bare gs) (push_keyed x.0 new ks k e) ∙ q.1
+put_keyed (x ∷ gs) (suc at) new ks k e h =
+    let q = or_parts (is_bare x) (has_bare gs) h in ap (λ b. b || has_bare (set_value_at gs at new)) q.0 ∙ put_keyed gs at new ks k e q.1
 
 pub new_keyed : (gs : List Group) (f : Bor (List ℕ)) (new : Vec KeyParts) (k : KeyParts) → new.items ≡ k ∷ [] → has_bare gs ≡ false
     → has_bare (gs ++ (f, new) ∷ []) ≡ false
 new_keyed [] f new k e h = ap (λ b. b || false) (push_keyed f new [] k e)
-new_keyed (x ∷ gs) f new k e h = let q = or_parts (is_bare x) (has_bare gs) h in ap (λ b. b || has_bare (gs ++ (f, new) ∷ [])) q.0 ∙ new_keyed gs f new k e q.1
+new_keyed (x ∷ gs) f new k e h =
+    let q = or_parts (is_bare x) (has_bare gs) h in ap (λ b. b || has_bare (gs ++ (f, new) ∷ [])) q.0 ∙ new_keyed gs f new k e q.1
 
 -- ---- sorted
 

@@ -38,7 +38,8 @@ pub filled_each : (parts : Passage → List Passage) (ps : List Passage) → ((p
 filled_each parts [] h = tt
 filled_each parts (p ∷ ps) h = filled_append (parts p) (flat_map parts ps) (h p) (filled_each parts ps h)
 
-filled_places : (start : ℕ) (needle : List ℕ) (places : List ℕ) → 0 < length needle → Filled (map (λ at. (let one : Passage = record { start = start + at; text = needle } in one)) places)
+filled_places : (start : ℕ) (needle : List ℕ) (places : List ℕ) → 0 < length needle
+    → Filled (map (λ at. (let one : Passage = record { start = start + at; text = needle } in one)) places)
 filled_places start needle [] h = tt
 filled_places start needle (at ∷ places) h = (h, filled_places start needle places h)
 
@@ -49,7 +50,8 @@ rise_apart : (s : List ℕ) (low high : ℕ) (ps : List Passage) → Apart s low
 rise_apart s low high [] a f = refl
 rise_apart s low high (p ∷ ps) a f =
     let l = a.0 in let e = a.2 in let n = f.0 in
-    and_from _ _ (grind (arith, nat_tests)) (and_from _ _ (grind (arith, nat_tests)) (rise_apart s p.start high ps (from p.start ps (omega arith) a.3) f.1))
+    and_from _ _ (grind (arith, nat_tests))
+    (and_from _ _ (grind (arith, nat_tests)) (rise_apart s p.start high ps (from p.start ps (omega arith) a.3) f.1))
   where
     from : (k : ℕ) (qs : List Passage) → k ≤ p.start + length p.text → Apart s (p.start + length p.text) high qs → Apart s k high qs
     from k [] h b = tt
@@ -77,7 +79,8 @@ pieces_hold s pieces ps cut a f =
 pub found_apart : (sheet : List Record) (s needle : List ℕ) → 0 < length needle
     → Apart s 0 (length s) (flat_map (occurrences needle) (plain_leaves sheet s))
 found_apart sheet s needle some =
-    apart_within s (occurrences needle) 0 (length s) (plain_leaves sheet s) (λ p h. occurrences_apart s needle some p h) (leaves_apart sheet s)
+    apart_within s (occurrences needle) 0 (length s) (plain_leaves sheet s) (λ p h. occurrences_apart s needle some p h)
+    (leaves_apart sheet s)
 
 pub found_filled : (sheet : List Record) (s needle : List ℕ) → 0 < length needle
     → Filled (flat_map (occurrences needle) (plain_leaves sheet s))

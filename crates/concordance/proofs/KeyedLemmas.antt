@@ -22,12 +22,14 @@ keyed_from ps ps' low end (q ∷ qs) h same =
     let a = and_parts (nat_le low q.start) (nat_lt q.start end && rise_between q.start end qs) h in
     let b = and_parts (nat_lt q.start end) (rise_between q.start end qs) a.1 in
     let le = le_from low q.start a.0 in
-    λ i. (let one : HitParts = record { key = sym (same q.start le) i; start = q.start; text = q.text } in one) ∷ keyed_from ps ps' q.start end qs b.1 (λ n l. same n (omega arith)) i
+    λ i. (let one : HitParts = record { key = sym (same q.start le) i; start = q.start; text = q.text } in one)
+    ∷ keyed_from ps ps' q.start end qs b.1 (λ n l. same n (omega arith)) i
 
 pub keyed_step : (ps ps' : List Part) (items : List passages.Passage) (p : passages.Passage) (key : KeyParts) → 0 < length items
     → p ≡ get_or items 0 p → IsTrue (hold_all ps (passages_view items)) → ((n : ℕ) → p.start ≤ n → key_at ps' n ≡ key_at ps n)
     → key ≡ key_at ps p.start
-    → map (keyed ps) (passages_view items) ≡ (let one : HitParts = record { key = key; start = p.start; text = p.text.now } in one) ∷ map (keyed ps') (passages_view (drop 1 items))
+    → map (keyed ps) (passages_view items) ≡ (let one : HitParts = record { key = key; start = p.start; text = p.text.now } in one)
+    ∷ map (keyed ps') (passages_view (drop 1 items))
 keyed_step ps ps' [] p key l e held same is = absurd (omega arith)
 keyed_step ps ps' (x ∷ items) p key l e held same is =
     let rise = (and_parts (are_neighbours (begin_of ps) ps) (rise_between (begin_of ps) (end_of ps) (passages_view (x ∷ items))) held).1 in

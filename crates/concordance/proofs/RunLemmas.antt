@@ -12,9 +12,13 @@ use Rattle.concordance.specs.RunReading.{is_like, behind, front_bytes}
 abbrev pub after : Bool → ℕ → ℕ → List ℕ → List Passage
 after b n c cs = runs_behind b (n + length (encode_utf8 c)) cs
 
-pub one_step : (w : Bool) (n c : ℕ) (cs : List ℕ) (b : Bool) → is_word_char c ≡ b → runs_behind w n (c ∷ cs) ≡ cond (b && not w) ((let run : Passage = record { start = n; text = encode_utf8_all (take_while is_word_char (c ∷ cs)) } in run) ∷ after b n c cs) (after b n c cs)
+pub one_step : (w : Bool) (n c : ℕ) (cs : List ℕ) (b : Bool) → is_word_char c ≡ b → runs_behind w n (c ∷ cs)
+    ≡ cond (b && not w) ((let run : Passage = record { start = n; text = encode_utf8_all (take_while is_word_char (c ∷ cs)) } in run)
+    ∷ after b n c cs) (after b n c cs)
 one_step w n c cs b e =
-    ap (λ (k : Bool). cond (k && not w) ((let run : Passage = record { start = n; text = encode_utf8_all (take_while is_word_char (c ∷ cs)) } in run) ∷ after k n c cs) (after k n c cs)) e
+    ap (λ (k : Bool). cond (k && not w)
+    ((let run : Passage = record { start = n; text = encode_utf8_all (take_while is_word_char (c ∷ cs)) } in run) ∷ after k n c cs)
+    (after k n c cs)) e
 
 -- ---- what stands at the front of characters
 
@@ -41,7 +45,8 @@ bytes_none w c cs e = ap encode_utf8_all (front_none w c cs e)
 
 -- one character more at the front
 more : (w : Bool) (n c : ℕ) (cs : List ℕ) → is_like w c ≡ true
-    → runs_behind false (n + length (encode_utf8 c) + length (front_bytes w cs)) (behind w cs) ≡ runs_behind false (n + length (front_bytes w (c ∷ cs))) (behind w (c ∷ cs))
+    → runs_behind false (n + length (encode_utf8 c) + length (front_bytes w cs)) (behind w cs)
+    ≡ runs_behind false (n + length (front_bytes w (c ∷ cs))) (behind w (c ∷ cs))
 more w n c cs e =
     let l = length-append (encode_utf8 c) (front_bytes w cs) in
     let m = ap length (bytes_more w c cs e) in
@@ -78,19 +83,29 @@ past_run n (c ∷ cs) = by (past_run (n + length (encode_utf8 c)) cs) (is_word_c
     by rest false e = one_step true n c cs false e ∙ sym (one_step false n c cs false e) ∙ none true n c cs e
 
 -- behind the others stands nothing, or a run
-pub run_at : (n : ℕ) (cs ds : List ℕ) → behind false cs ≡ ds → 0 < length ds → runs_behind false n ds ≡ (let run : Passage = record { start = n; text = front_bytes true ds } in run) ∷ runs_behind false (n + length (front_bytes true ds)) (behind true ds)
+pub run_at : (n : ℕ) (cs ds : List ℕ) → behind false cs ≡ ds → 0 < length ds → runs_behind false n ds
+    ≡ (let run : Passage = record { start = n; text = front_bytes true ds } in run)
+    ∷ runs_behind false (n + length (front_bytes true ds)) (behind true ds)
 run_at n [] ds e h = absurd (let l = ap length e in omega arith)
 run_at n (c ∷ cs) ds e h = by (run_at n cs ds) (is_word_char c) refl e
   where
-    begins : (d : ℕ) (rest : List ℕ) → is_word_char d ≡ true → runs_behind false n (d ∷ rest) ≡ (let run : Passage = record { start = n; text = front_bytes true (d ∷ rest) } in run) ∷ runs_behind false (n + length (front_bytes true (d ∷ rest))) (behind true (d ∷ rest))
+    begins : (d : ℕ) (rest : List ℕ) → is_word_char d ≡ true → runs_behind false n (d ∷ rest)
+        ≡ (let run : Passage = record { start = n; text = front_bytes true (d ∷ rest) } in run)
+        ∷ runs_behind false (n + length (front_bytes true (d ∷ rest))) (behind true (d ∷ rest))
     begins d rest w =
         one_step false n d rest true w
-        ∙ ap (λ l. (let run : Passage = record { start = n; text = front_bytes true (d ∷ rest) } in run) ∷ l) (sym (one_step true n d rest true w) ∙ past_run n (d ∷ rest))
+        ∙ ap (λ l. (let run : Passage = record { start = n; text = front_bytes true (d ∷ rest) } in run) ∷ l)
+        (sym (one_step true n d rest true w) ∙ past_run n (d ∷ rest))
 
-    by : (behind false cs ≡ ds → 0 < length ds → runs_behind false n ds ≡ (let run : Passage = record { start = n; text = front_bytes true ds } in run) ∷ runs_behind false (n + length (front_bytes true ds)) (behind true ds))
-        → (b : Bool) → is_word_char c ≡ b → cond (not b) (behind false cs) (c ∷ cs) ≡ ds → runs_behind false n ds ≡ (let run : Passage = record { start = n; text = front_bytes true ds } in run) ∷ runs_behind false (n + length (front_bytes true ds)) (behind true ds)
+    by : (behind false cs ≡ ds → 0 < length ds → runs_behind false n ds
+        ≡ (let run : Passage = record { start = n; text = front_bytes true ds } in run)
+        ∷ runs_behind false (n + length (front_bytes true ds)) (behind true ds))
+        → (b : Bool) → is_word_char c ≡ b → cond (not b) (behind false cs) (c ∷ cs) ≡ ds → runs_behind false n ds
+        ≡ (let run : Passage = record { start = n; text = front_bytes true ds } in run)
+        ∷ runs_behind false (n + length (front_bytes true ds)) (behind true ds)
     by go true w e =
-        subst (λ (l : List ℕ). runs_behind false n l ≡ (let run : Passage = record { start = n; text = front_bytes true l } in run) ∷ runs_behind false (n + length (front_bytes true l)) (behind true l)) e (begins c cs w)
+        subst (λ (l : List ℕ). runs_behind false n l ≡ (let run : Passage = record { start = n; text = front_bytes true l } in run)
+        ∷ runs_behind false (n + length (front_bytes true l)) (behind true l)) e (begins c cs w)
     by go false w e = go e h
 
 -- ---- a step over the characters of a text
@@ -126,12 +141,15 @@ unlike_test false false c e h = absurd (cc)
 -- the others at the front and then the word characters are passed
 pub run_more : (n : ℕ) (rest at later : List ℕ) → rest ≡ front_bytes false (chars rest) ++ at → chars at ≡ behind false (chars rest)
     → at ≡ front_bytes true (chars at) ++ later → chars later ≡ behind true (chars at) → 0 < length (chars at)
-    → runs_behind false n (chars rest) ≡ (let run : Passage = record { start = n + length (front_bytes false (chars rest)); text = front_bytes true (chars at) } in run) ∷ runs_behind false (n + length (front_bytes false (chars rest)) + length (front_bytes true (chars at))) (chars later)
+    → runs_behind false n (chars rest)
+    ≡ (let run : Passage = record { start = n + length (front_bytes false (chars rest)); text = front_bytes true (chars at) } in run)
+    ∷ runs_behind false (n + length (front_bytes false (chars rest)) + length (front_bytes true (chars at))) (chars later)
 run_more n rest at later gap at_is run later_is some =
     let m = n + length (front_bytes false (chars rest)) in
     past_gap n (chars rest) ∙ ap (runs_behind false m) (sym at_is)
     ∙ run_at m (chars rest) (chars at) (sym at_is) some
-    ∙ ap (λ l. (let run : Passage = record { start = m; text = front_bytes true (chars at) } in run) ∷ runs_behind false (m + length (front_bytes true (chars at))) l) (sym later_is)
+    ∙ ap (λ l. (let run : Passage = record { start = m; text = front_bytes true (chars at) } in run)
+    ∷ runs_behind false (m + length (front_bytes true (chars at))) l) (sym later_is)
 
 pub no_more : (n : ℕ) (rest at : List ℕ) → chars at ≡ behind false (chars rest) → at ≡ [] → runs_behind false n (chars rest) ≡ []
 no_more n rest at at_is e =
@@ -169,7 +187,9 @@ chars_some bs u h = by (chars bs) refl
 pub next_run : (s t : ℕ) (rest at later : List ℕ) → length rest ≤ t → rest ≡ front_bytes false (chars rest) ++ at
     → chars at ≡ behind false (chars rest) → at ≡ front_bytes true (chars at) ++ later → chars later ≡ behind true (chars at)
     → 0 < length (chars at)
-    → runs_behind false (s + (t - length rest)) (chars rest) ≡ (let run : Passage = record { start = s + (t - length at); text = take (length at - length later) at } in run) ∷ runs_behind false (s + (t - length later)) (chars later)
+    → runs_behind false (s + (t - length rest)) (chars rest)
+    ≡ (let run : Passage = record { start = s + (t - length at); text = take (length at - length later) at } in run)
+    ∷ runs_behind false (s + (t - length later)) (chars later)
 next_run s t rest at later fits gap at_is run later_is some =
     let l = ap length gap ∙ length-append (front_bytes false (chars rest)) at in
     let m = ap length run ∙ length-append (front_bytes true (chars at)) later in
@@ -177,6 +197,7 @@ next_run s t rest at later fits gap at_is run later_is some =
     let end : s + (t - length rest) + length (front_bytes false (chars rest)) + length (front_bytes true (chars at)) ≡ s + (t - length later) = omega arith in
     let size : length at - length later ≡ length (front_bytes true (chars at)) = omega arith in
     let bytes : front_bytes true (chars at) ≡ take (length at - length later) at =
-    sym (ap (λ n. take n at) size ∙ ap (take (length (front_bytes true (chars at)))) run ∙ take-append_seam (front_bytes true (chars at)) later) in
+    sym (ap (λ n. take n at) size ∙ ap (take (length (front_bytes true (chars at)))) run
+    ∙ take-append_seam (front_bytes true (chars at)) later) in
     run_more (s + (t - length rest)) rest at later gap at_is run later_is some
     ∙ (λ i. (let one : Passage = record { start = start i; text = bytes i } in one) ∷ runs_behind false (end i) (chars later))

@@ -20,7 +20,8 @@ plain_append sheet [] ys = refl
 plain_append sheet (x ∷ xs) ys = by (is_plain sheet x) (plain_append sheet xs ys)
   where
     by : (b : Bool) → plain_of sheet (xs ++ ys) ≡ plain_of sheet xs ++ plain_of sheet ys
-        → map trimmed (cond b (x ∷ filter (is_plain sheet) (xs ++ ys)) (filter (is_plain sheet) (xs ++ ys))) ≡ map trimmed (cond b (x ∷ filter (is_plain sheet) xs) (filter (is_plain sheet) xs)) ++ plain_of sheet ys
+        → map trimmed (cond b (x ∷ filter (is_plain sheet) (xs ++ ys)) (filter (is_plain sheet) (xs ++ ys)))
+        ≡ map trimmed (cond b (x ∷ filter (is_plain sheet) xs) (filter (is_plain sheet) xs)) ++ plain_of sheet ys
     by true e = ap (λ l. trimmed x ∷ l) e
     by false e = e
 
@@ -29,7 +30,8 @@ plain_cons : (sheet : List Record) (x : Site) (xs : List Site)
 plain_cons sheet x xs = by (is_plain sheet x)
   where
     by : (b : Bool)
-        → map trimmed (cond b (x ∷ filter (is_plain sheet) xs) (filter (is_plain sheet) xs)) ≡ cond b (trimmed x ∷ plain_of sheet xs) (plain_of sheet xs)
+        → map trimmed (cond b (x ∷ filter (is_plain sheet) xs) (filter (is_plain sheet) xs))
+        ≡ cond b (trimmed x ∷ plain_of sheet xs) (plain_of sheet xs)
     by true = refl
     by false = refl
 
@@ -39,7 +41,8 @@ pub sites_read : (sheet : List Record) (around : List Around) (b : Option MarkPa
 sites_read sheet around b nothing = refl
 sites_read sheet around b (text s t f) =
     plain_cons sheet (record { start = s; bytes = t; around = around; behind = b; is_last = is_nothing f }) (sites_in around None f)
-    ∙ ap (λ l. cond (counts (inside_of sheet around)) (left_of (inside_of sheet around) b (is_nothing f) s t ∷ l) l) (sites_read sheet around None f)
+    ∙ ap (λ l. cond (counts (inside_of sheet around)) (left_of (inside_of sheet around) b (is_nothing f) s t ∷ l) l)
+    (sites_read sheet around None f)
 sites_read sheet around b (leaf s m f) = sites_read sheet around (Some m) f
 sites_read sheet around b (node k s x m ks c f) =
     let a : Around = record { kind = k; mark = m; is_closed = is_some c } in

@@ -123,7 +123,8 @@ with_text_apart s sur b last a t z is k at high le later h = by (counts sur)
   where
     by : (c : Bool) → Apart s (length a) high (cond c (left_of sur b last k t ∷ later) later)
     by true =
-        apart_append s (length a) (length a + length t) high (left_of sur b last k t ∷ []) later (omega arith) le (left_apart s sur b last a t z is k at) h
+        apart_append s (length a) (length a + length t) high (left_of sur b last k t ∷ []) later (omega arith) le
+        (left_apart s sur b last a t z is k at) h
     by false = apart_from s (length a) (length a + length t) high later (omega arith) h
 
 -- past what stands in front
@@ -143,9 +144,11 @@ forest_apart sheet sur b nothing s a z is r = tt
 forest_apart sheet sur b (text k t f) s a z is r =
     let sizes = length-append t (bytes_of f) in
     let l = length-append a t in
-    with_text_apart s sur b (is_nothing f) a t (bytes_of f ++ z) (is ∙ ap (λ l. a ++ l) (append_assoc t (bytes_of f) z)) k r.0 (length a + length (t ++ bytes_of f)) (omega arith)
+    with_text_apart s sur b (is_nothing f) a t (bytes_of f ++ z) (is ∙ ap (λ l. a ++ l) (append_assoc t (bytes_of f) z)) k r.0
+    (length a + length (t ++ bytes_of f)) (omega arith)
     (leaves_from sheet sur None f)
-    (from_to s (length (a ++ t)) (length a + length t) (length (a ++ t) + length (bytes_of f)) (length a + length (t ++ bytes_of f)) _ l (omega arith)
+    (from_to s (length (a ++ t)) (length a + length t) (length (a ++ t) + length (bytes_of f)) (length a + length (t ++ bytes_of f)) _ l
+    (omega arith)
     (forest_apart sheet sur None f s (a ++ t) z (past s a t (bytes_of f) z is) (runs_at _ _ f (sym l) r.1)))
 forest_apart sheet sur b (leaf k m f) s a z is r =
     let sizes = length-append (mark_bytes m) (bytes_of f) in
@@ -171,12 +174,16 @@ forest_apart sheet sur b (node k n x m ks c f) s a z is r =
     ap length r.1 ∙ length-append (mark_bytes m) (bytes_of ks ++ close_bytes c) in
     let kids = length-append (bytes_of ks) (close_bytes c) in
     let first =
-    forest_apart sheet (within sheet sur (record { kind = k; mark = m; is_closed = is_some c })) (Some m) ks s (a ++ mark_bytes m) (close_bytes c ++ (bytes_of f ++ z)) inside (runs_at _ _ ks (sym a_mark) r.2) in
+    forest_apart sheet (within sheet sur (record { kind = k; mark = m; is_closed = is_some c })) (Some m) ks s (a ++ mark_bytes m)
+    (close_bytes c ++ (bytes_of f ++ z)) inside (runs_at _ _ ks (sym a_mark) r.2) in
     let later =
-    forest_apart sheet sur (node_end (mark_at_end (Some m) ks) c) f s (a ++ x) z (past s a x (bytes_of f) z at) (runs_at _ _ f (sym a_node) r.3) in
-    from_to s (length a) (length a) (length (a ++ x) + length (bytes_of f)) (length a + length (bytes_of (node k n x m ks c f))) _ refl (omega arith)
+    forest_apart sheet sur (node_end (mark_at_end (Some m) ks) c) f s (a ++ x) z (past s a x (bytes_of f) z at)
+    (runs_at _ _ f (sym a_node) r.3) in
+    from_to s (length a) (length a) (length (a ++ x) + length (bytes_of f)) (length a + length (bytes_of (node k n x m ks c f))) _ refl
+    (omega arith)
     (apart_append s (length a) (length (a ++ x)) (length (a ++ x) + length (bytes_of f)) _ _ (omega arith) (omega arith)
-    (apart_from s (length a) (length (a ++ mark_bytes m)) (length (a ++ x)) _ (omega arith) (apart_to s _ (length (a ++ mark_bytes m) + length (bytes_of ks)) (length (a ++ x)) _ (omega arith) first))
+    (apart_from s (length a) (length (a ++ mark_bytes m)) (length (a ++ x)) _ (omega arith)
+    (apart_to s _ (length (a ++ mark_bytes m) + length (bytes_of ks)) (length (a ++ x)) _ (omega arith) first))
     later)
 
 -- the plain leaves of a text stand apart in it
@@ -187,4 +194,5 @@ leaves_apart sheet s =
     let join = tree_bytes styles s in
     subst (Apart s 0 (length s)) (sym (sites_read sheet [] None (tree_of styles s)))
     (from_to s 0 0 (0 + length (bytes_of (tree_of styles s))) (length s) _ refl (let l = ap length join in omega arith)
-    (forest_apart sheet (inside_of sheet []) None (tree_of styles s) s [] [] (sym join ∙ sym (append-nil (bytes_of (tree_of styles s)))) (tree_runs styles s)))
+    (forest_apart sheet (inside_of sheet []) None (tree_of styles s) s [] [] (sym join ∙ sym (append-nil (bytes_of (tree_of styles s))))
+    (tree_runs styles s)))

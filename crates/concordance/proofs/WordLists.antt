@@ -59,7 +59,9 @@ any_keys f k [] = refl
 any_keys f k (s ∷ ss) = by (any_keys f k ss) (bytes_eq s.form f)
   where
     by : list_any (λ j. is_eq (key_cmp k j)) (keys_with ss f) ≡ list_any (λ s. bytes_eq s.form f && is_eq (key_cmp k s.key)) ss
-        → (b : Bool) → list_any (λ j. is_eq (key_cmp k j)) (map (λ s. s.key) (cond b (s ∷ filter (λ s. bytes_eq s.form f) ss) (filter (λ s. bytes_eq s.form f) ss))) ≡ ((b && is_eq (key_cmp k s.key)) || list_any (λ s. bytes_eq s.form f && is_eq (key_cmp k s.key)) ss)
+        → (b : Bool) → list_any (λ j. is_eq (key_cmp k j))
+        (map (λ s. s.key) (cond b (s ∷ filter (λ s. bytes_eq s.form f) ss) (filter (λ s. bytes_eq s.form f) ss)))
+        ≡ ((b && is_eq (key_cmp k s.key)) || list_any (λ s. bytes_eq s.form f && is_eq (key_cmp k s.key)) ss)
     by rest true = ap (λ b. is_eq (key_cmp k s.key) || b) rest
     by rest false = rest
 
@@ -135,7 +137,8 @@ module _ (f : List ℕ) where
   forms_split (s ∷ []) back some h over =
       let q = and_parts (has_form f s) true h in
       ap (λ (g : List ℕ). with_item form_cmp g (rising form_cmp (map (λ s. s.form) back))) (same_form s q.0)
-      ∙ with_least form_cmp f (rising form_cmp (map (λ s. s.form) back)) (all_rising form_cmp (λ g. is_lt (form_cmp f g)) (map (λ s. s.form) back) (over_forms back over))
+      ∙ with_least form_cmp f (rising form_cmp (map (λ s. s.form) back))
+      (all_rising form_cmp (λ g. is_lt (form_cmp f g)) (map (λ s. s.form) back) (over_forms back over))
     where
       over_forms : (ss : List Spelling) → list_all (is_over f) ss ≡ true
           → list_all (λ g. is_lt (form_cmp f g)) (map (λ s. s.form) ss) ≡ true
@@ -184,14 +187,17 @@ module _ (f : List ℕ) where
 
   -- the words of what has the form, and then of what is over it
   pub words_split : (front back : List Spelling) → 0 < length front → list_all (has_form f) front ≡ true → list_all (is_over f) back ≡ true
-      → words_in (front ++ back) ≡ (let word : WordParts = record { form = f; keys = rising key_cmp (map (λ s. s.key) front) } in word) ∷ words_in back
+      → words_in (front ++ back) ≡ (let word : WordParts = record { form = f; keys = rising key_cmp (map (λ s. s.key) front) } in word)
+      ∷ words_in back
   words_split front back some h over =
       ap (map (word_with (front ++ back))) (forms_split front back some h over)
-      ∙ (λ i. (let word : WordParts = record { form = f; keys = here i } in word) ∷ there (rising form_cmp (map (λ s. s.form) back)) forms_over i)
+      ∙ (λ i. (let word : WordParts = record { form = f; keys = here i } in word)
+      ∷ there (rising form_cmp (map (λ s. s.form) back)) forms_over i)
     where
       here : rising key_cmp (keys_with (front ++ back) f) ≡ rising key_cmp (map (λ s. s.key) front)
       here =
-          ap (λ l. rising key_cmp (map (λ s. s.key) l)) (filter-append (has_form f) front back ∙ (λ i. all_kept front h i ++ none_kept back over i) ∙ append-nil front)
+          ap (λ l. rising key_cmp (map (λ s. s.key) l))
+          (filter-append (has_form f) front back ∙ (λ i. all_kept front h i ++ none_kept back over i) ∙ append-nil front)
 
       forms_over : list_all (λ g. is_lt (form_cmp f g)) (rising form_cmp (map (λ s. s.form) back)) ≡ true
       forms_over = all_rising form_cmp (λ g. is_lt (form_cmp f g)) (map (λ s. s.form) back) (each back over)
@@ -206,7 +212,8 @@ module _ (f : List ℕ) where
       there (g ∷ gs) a =
           let q = and_parts (is_lt (form_cmp f g)) (list_all (λ g. is_lt (form_cmp f g)) gs) a in
           let keys : rising key_cmp (keys_with (front ++ back) g) ≡ rising key_cmp (keys_with back g) =
-          ap (λ l. rising key_cmp (map (λ s. s.key) l)) (filter-append (has_form g) front back ∙ ap (λ l. l ++ filter (has_form g) back) (none_other g front q.0 h)) in
+          ap (λ l. rising key_cmp (map (λ s. s.key) l))
+          (filter-append (has_form g) front back ∙ ap (λ l. l ++ filter (has_form g) back) (none_other g front q.0 h)) in
           λ i. (let word : WordParts = record { form = g; keys = keys i } in word) ∷ there gs q.1 i
 
 -- ---- groups
@@ -218,11 +225,13 @@ group_has : (f : List ℕ) (ks : List KeyParts) → list_all (has_form f) (map (
 group_has f [] = refl
 group_has f (k ∷ ks) = and_from _ _ ((bytes_decides f f).1 refl) (group_has f ks)
 
-group_keys : (f : List ℕ) (ks : List KeyParts) → map (λ s. s.key) (map (λ k. (let s : Spelling = record { form = f; key = k } in s)) ks) ≡ ks
+group_keys : (f : List ℕ) (ks : List KeyParts) → map (λ s. s.key) (map (λ k. (let s : Spelling = record { form = f; key = k } in s)) ks)
+    ≡ ks
 group_keys f [] = refl
 group_keys f (k ∷ ks) = ap (λ l. k ∷ l) (group_keys f ks)
 
-group_over : (f g : List ℕ) (ks : List KeyParts) → is_lt (form_cmp f g) ≡ true → list_all (is_over f) (map (λ k. record { form = g; key = k }) ks) ≡ true
+group_over : (f g : List ℕ) (ks : List KeyParts) → is_lt (form_cmp f g) ≡ true
+    → list_all (is_over f) (map (λ k. record { form = g; key = k }) ks) ≡ true
 group_over f g [] l = refl
 group_over f g (k ∷ ks) l = and_from _ _ l (group_over f g ks l)
 
@@ -233,7 +242,9 @@ groups_over f (g ∷ gs) a =
     list_all-append (is_over f) (told_by g) (told gs) ∙ and_from _ _ (group_over f g.0.now g.1.items q.0) (groups_over f gs q.1)
 
 some_keys : (g : Group) → is_bare g ≡ false → 0 < length (told_by g)
-some_keys g h = let l = length-map g.1.items (λ k. (let s : Spelling = record { form = g.0.now; key = k } in s)) in let n = false-eqb (length g.1.items) 0 (sym h) in omega arith
+some_keys g h =
+    let l = length-map g.1.items (λ k. (let s : Spelling = record { form = g.0.now; key = k } in s)) in
+    let n = false-eqb (length g.1.items) 0 (sym h) in omega arith
 
 -- groups with rising forms tell a word each
 pub groups_words : (gs : List Group) → rises_by form_cmp (λ g. g.0.now) gs ≡ true → has_bare gs ≡ false
@@ -243,7 +254,8 @@ groups_words (g ∷ gs) r h =
     let q = and_parts (list_all (λ x. is_lt (form_cmp g.0.now x.0.now)) gs) (rises_by form_cmp (λ g. g.0.now) gs) r in
     let f = or_parts (is_bare g) (has_bare gs) h in
     words_split g.0.now (told_by g) (told gs) (some_keys g f.0) (group_has g.0.now g.1.items) (groups_over g.0.now gs q.0)
-    ∙ (λ i. (let word : WordParts = record { form = g.0.now; keys = rising key_cmp (group_keys g.0.now g.1.items i) } in word) ∷ groups_words gs q.1 f.1 i)
+    ∙ (λ i. (let word : WordParts = record { form = g.0.now; keys = rising key_cmp (group_keys g.0.now g.1.items i) } in word)
+    ∷ groups_words gs q.1 f.1 i)
   where
     or_parts : (a b : Bool) → (a || b) ≡ false → (a ≡ false) × (b ≡ false)
     or_parts true b e = absurd (true≢false e)

@@ -23,7 +23,8 @@ returns-in_ok-insert-in-None-clause-told c =
     c.in_ok-insert-in-None.ensures.entries
     ∙ insert_entry-new text_eq c.args.groups.now c.args.form c.push-in-None.new.self (none_of _ c.in-None.ensures.found) in
     subst (λ (gs : List Group). AlsoTells (told c.args.groups.now.entries) (spelled_with c.args.form.now c.args.key) (told gs)) (sym is)
-    (new_told c.args.groups.now.entries c.args.form c.push-in-None.new.self c.args.key (c.in_ok-push-in-None.ensures.items ∙ ap (λ ks. ks ++ c.args.key ∷ []) c.new-keys.ensures.items))
+    (new_told c.args.groups.now.entries c.args.form c.push-in-None.new.self c.args.key
+    (c.in_ok-push-in-None.ensures.items ∙ ap (λ ks. ks ++ c.args.key ∷ []) c.new-keys.ensures.items))
 
 pub returns-in_ok-insert-in-None-clause-keyed : goal.returns-in_ok-insert-in-None-clause-keyed
 returns-in_ok-insert-in-None-clause-keyed c =
@@ -31,4 +32,5 @@ returns-in_ok-insert-in-None-clause-keyed c =
     c.in_ok-insert-in-None.ensures.entries
     ∙ insert_entry-new text_eq c.args.groups.now c.args.form c.push-in-None.new.self (none_of _ c.in-None.ensures.found) in
     ap has_bare is
-    ∙ new_keyed c.args.groups.now.entries c.args.form c.push-in-None.new.self c.args.key (c.in_ok-push-in-None.ensures.items ∙ ap (λ ks. ks ++ c.args.key ∷ []) c.new-keys.ensures.items) c.requires.keyed
+    ∙ new_keyed c.args.groups.now.entries c.args.form c.push-in-None.new.self c.args.key
+    (c.in_ok-push-in-None.ensures.items ∙ ap (λ ks. ks ++ c.args.key ∷ []) c.new-keys.ensures.items) c.requires.keyed

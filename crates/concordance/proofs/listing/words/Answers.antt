@@ -20,19 +20,23 @@ use Rattle.concordance.proofs.listing.words.Goals as goal
 pub runs-requires : goal.runs-requires
 runs-requires c =
     subst (All EndsWithin) (sym (ap passages_view c.deref.ensures.value ∙ c.in_ok-leaves.ensures))
-    (all_fit c.args.text.now 0 (length c.args.text.now) (plain_leaves (records_of c.args.sheet.now) c.args.text.now) (leaves_apart (records_of c.args.sheet.now) c.args.text.now) (omega arith))
+    (all_fit c.args.text.now 0 (length c.args.text.now) (plain_leaves (records_of c.args.sheet.now) c.args.text.now)
+    (leaves_apart (records_of c.args.sheet.now) c.args.text.now) (omega arith))
 
 leaves : (c : After-deref-3) → passages_view c.deref.result.now ≡ plain_leaves (records_of c.args.sheet.now) c.args.text.now
 leaves c = ap passages_view c.deref.ensures.value ∙ c.in_ok-leaves.ensures
 
-found : (c : After-deref-3) → passages_view c.deref-2.result.now ≡ flat_map runs_in (plain_leaves (records_of c.args.sheet.now) c.args.text.now)
+found : (c : After-deref-3) → passages_view c.deref-2.result.now
+    ≡ flat_map runs_in (plain_leaves (records_of c.args.sheet.now) c.args.text.now)
 found c = ap passages_view c.deref-2.ensures.value ∙ c.in_ok-runs.ensures.runs ∙ ap (flat_map runs_in) (leaves c)
 
 pub new-requires : goal.new-requires
 new-requires c =
     let sheet = records_of c.args.sheet.now in
     (λ i. hold_all (parts_of (c.deref-3.ensures.value i)) (found c i))
-    ∙ pieces_hold c.args.text.now (parts_of c.in_ok-pieces.pieces.items) _ c.in_ok-pieces.ensures.cut (all_runs_apart sheet c.args.text.now (subst (All IsText) (leaves c) c.in_ok-runs.ensures.text)) (all_runs_filled (plain_leaves sheet c.args.text.now))
+    ∙ pieces_hold c.args.text.now (parts_of c.in_ok-pieces.pieces.items) _ c.in_ok-pieces.ensures.cut
+    (all_runs_apart sheet c.args.text.now (subst (All IsText) (leaves c) c.in_ok-runs.ensures.text))
+    (all_runs_filled (plain_leaves sheet c.args.text.now))
 
 pub returns : goal.returns
 unfolding words_of
@@ -44,6 +48,7 @@ returns c =
     ∙ runs_spelled (parts_of c.deref-3.result.now) (passages_view c.deref-2.result.now)
     ∙ (λ i. map (spelling_at ((ap parts_of c.deref-3.ensures.value ∙ c.in_ok-pieces.ensures.value) i)) (found at i)) in
     let all : words_in (told c.in_ok-sorted.sorted.entries) ≡ words_of sheet c.args.text.now =
-    sym (words_same (spellings_view c.deref-4.result.now) (told c.in_ok-sorted.sorted.entries) (λ s. c.in_ok-groups.ensures.told s ∙ c.in_ok-sorted.ensures.told s))
+    sym (words_same (spellings_view c.deref-4.result.now) (told c.in_ok-sorted.sorted.entries)
+    (λ s. c.in_ok-groups.ensures.told s ∙ c.in_ok-sorted.ensures.told s))
     ∙ ap words_in spelled_all in
     subst (λ (ws : List WordParts). IfOk c.gathered.result (λ words. words.items ≡ ws)) all c.gathered.ensures

@@ -14,7 +14,8 @@ loop-c-preserved c =
     let like = like_test c.is_word_char.result c.args.is_word c.in-Some.c c.is_word_char.ensures c.if-is_word_char-is_word.true in
     record {
       front =
-          reads_more c.args.is_word c.args.text.now (chars_rest c.loop-c.chars) (chars_rest c.next.new.self) c.in-Some.c e are like c.loop-c.invariant.front;
+          reads_more c.args.is_word c.args.text.now (chars_rest c.loop-c.chars)
+          (chars_rest c.next.new.self) c.in-Some.c e are like c.loop-c.invariant.front;
       behind =
           sym (behind_more c.args.is_word c.in-Some.c (chars (chars_rest c.next.new.self)) like) ∙ ap (behind c.args.is_word) (sym are)
           ∙ c.loop-c.invariant.behind;

@@ -12,7 +12,8 @@ pub returns-then-is_empty-clause-runs : goal.returns-then-is_empty-clause-runs
 returns-then-is_empty-clause-runs c =
     let n = c.args.passage.start + (length c.args.passage.text.now - length c.loop-at.rest.now) in
     let none =
-    no_more n c.loop-at.rest.now c.behind_front-at.result.now c.behind_front-at.ensures.rest (nil_from_length _ (eqb-true _ _ (sym c.if-is_empty.ensures))) in
+    no_more n c.loop-at.rest.now c.behind_front-at.result.now c.behind_front-at.ensures.rest
+    (nil_from_length _ (eqb-true _ _ (sym c.if-is_empty.ensures))) in
     sym (append-nil (passages_view c.loop-at.runs.items)) ∙ ap (λ l. passages_view c.loop-at.runs.items ++ l) (sym none)
     ∙ c.loop-at.invariant.1.runs
 
@@ -44,15 +45,18 @@ loop-at-preserved c =
     ap length c.behind_front-rest.ensures.front
     ∙ length-append (front_bytes true (chars c.behind_front-at.result.now)) c.behind_front-rest.result.now in
     let next =
-    next_run c.args.passage.start (length c.args.passage.text.now) c.loop-at.rest.now c.behind_front-at.result.now c.behind_front-rest.result.now c.loop-at.invariant.1.within
+    next_run c.args.passage.start
+    (length c.args.passage.text.now) c.loop-at.rest.now c.behind_front-at.result.now c.behind_front-rest.result.now c.loop-at.invariant.1.within
     c.behind_front-at.ensures.front c.behind_front-at.ensures.rest c.behind_front-rest.ensures.front c.behind_front-rest.ensures.rest h in
     let later =
-    runs_behind false (c.args.passage.start + (length c.args.passage.text.now - length c.behind_front-rest.result.now)) (chars c.behind_front-rest.result.now) in
+    runs_behind false (c.args.passage.start + (length c.args.passage.text.now - length c.behind_front-rest.result.now))
+    (chars c.behind_front-rest.result.now) in
     let run : Passage =
     record { start = c.args.passage.start + (length c.args.passage.text.now - length c.behind_front-at.result.now); text = take (length c.behind_front-at.result.now - length c.behind_front-rest.result.now) c.behind_front-at.result.now } in
     let told : passages_view c.push.new.self.items ≡ passages_view c.loop-at.runs.items ++ run ∷ [] =
     ap passages_view c.in_ok-push.ensures.items ∙ map-append passage_view c.loop-at.runs.items _
-    ∙ ap (λ (t : List ℕ). passages_view c.loop-at.runs.items ++ (let one : Passage = record { start = run.start; text = t } in one) ∷ []) c.split_at.ensures.front in (
+    ∙ ap (λ (t : List ℕ). passages_view c.loop-at.runs.items ++ (let one : Passage = record { start = run.start; text = t } in one)
+    ∷ []) c.split_at.ensures.front in (
       c.behind_front-rest.utf8,
       record {
         whole = c.loop-at.invariant.1.whole;
