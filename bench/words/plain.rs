@@ -1,7 +1,7 @@
 //! A plain list of the words of USFM books, to which the proved one is compared: std alone, which has no tables of
-//! composed forms, so the texts have to be in Normalization Form C. It is run as `plain SHEET FILE ROUNDS`, and
-//! prints the least time of a list in nanoseconds, how many words there are, the sum of their lengths, and the
-//! sum of the numbers of their keys.
+//! composed forms, so it stops at a word that may not be in Normalization Form C. It is run as
+//! `plain SHEET FILE ROUNDS`, and prints the least time of a list in nanoseconds, how many words there are, the sum
+//! of their lengths, and the sum of the numbers of their keys.
 
 #[path = "../plain_leaves.rs"]
 mod plain_leaves;
@@ -20,6 +20,11 @@ fn is_combining(c: char) -> bool {
     matches!(c as u32, 0x300..=0x36f | 0x483..=0x489 | 0x591..=0x5c7)
 }
 
+// Whether all characters are below U+0300, whose first byte is 0xCC: such a text is in Normalization Form C.
+fn is_composed(form: &str) -> bool {
+    form.bytes().all(|byte| byte < 0xcc)
+}
+
 struct Word {
     form: String,
     keys: Vec<Key>,
@@ -30,6 +35,7 @@ fn words(text: &str, sheet: &Sheet<'_>) -> Vec<Word> {
     let mut found: Vec<(&str, Vec<Key>)> = Vec::new();
     plain_leaves(text, sheet, |_, leaf, key| {
         for form in leaf.split(|c| !is_word_char(c)).filter(|form| !form.is_empty()) {
+            assert!(is_composed(form), "std cannot compose {form}");
             let place = *places.entry(form).or_insert_with(|| {
                 found.push((form, Vec::new()));
                 found.len() - 1

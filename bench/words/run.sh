@@ -1,7 +1,7 @@
 #!/usr/bin/env bash
 # Times the proved list of a book's words (bench.rt.txt) against a plain list in Rust with std alone (plain.rs), both
 # built for the processor that Rattle builds for, over a sheet and generated psalters of a size and of ten times the
-# size. The plain list keeps the words in a map and composes nothing: the psalters are in Normalization Form C.
+# size. The plain list keeps the words in a map. It tests each word for Normalization Form C, which the psalters are in.
 # Needs rt, rustc and awk, and takes some minutes.
 #
 # The two are run turn about, and of each the least time of a round counts; how the time grows is told by

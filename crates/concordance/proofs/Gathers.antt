@@ -37,11 +37,13 @@ pub kids_fit : (k : StyleKind) (f g : Forest) → HasShape (shapes.Branch k) f �
 kids_fit k f g e h = (subst (λ x. TextsFit (x then g)) e.1 h).0
 
 pub kids_fewer : (k : StyleKind) (f g : Forest) → HasShape (shapes.Branch k) f → entry_count (kids_of f) < entry_count (f then g)
-kids_fewer k f g e = let is : entry_count (f then g) ≡ suc (entry_count (kids_of f) + entry_count g) = ap (λ x. entry_count (x then g)) e.1 in omega arith
+kids_fewer k f g e =
+    let is : entry_count (f then g) ≡ suc (entry_count (kids_of f) + entry_count g) = ap (λ x. entry_count (x then g)) e.1 in omega arith
 
 -- ---- what an entry adds
 
-with_later : (sur : Surroundings) (b : Option MarkParts) (last : Bool) (s : ℕ) (t : List ℕ) (later : List Passage) → with_text sur b last s t [] ++ later ≡ with_text sur b last s t later
+with_later : (sur : Surroundings) (b : Option MarkParts) (last : Bool) (s : ℕ) (t : List ℕ) (later : List Passage)
+    → with_text sur b last s t [] ++ later ≡ with_text sur b last s t later
 with_later sur b last s t later = by (counts sur)
   where
     by : (c : Bool) → cond c (left_of sur b last s t ∷ []) [] ++ later ≡ cond c (left_of sur b last s t ∷ later) later
@@ -54,7 +56,9 @@ pub record Taken (sheet : List Record) (sur : Surroundings) (f g : Forest) (old 
   pub behind : mark_at_end b' g ≡ mark_at_end b (f then g)
 
 module _ (sheet : List Record) (sur : Surroundings) (f g : Forest) (old : List Passage) (b : Option MarkParts) where
-  pub text_taken : (new : List Passage) (b' : Option MarkParts) (last : Bool) (s : ℕ) (t : List ℕ) → HasShape shapes.Text f → last ≡ is_nothing g → s ≡ start_of f → t ≡ slice_here f → new ≡ old ++ with_text sur b last s t [] → b' ≡ None → Taken sheet sur f g old b new b'
+  pub text_taken : (new : List Passage) (b' : Option MarkParts) (last : Bool) (s : ℕ) (t : List ℕ) → HasShape shapes.Text f
+      → last ≡ is_nothing g → s ≡ start_of f → t ≡ slice_here f → new ≡ old ++ with_text sur b last s t [] → b' ≡ None
+      → Taken sheet sur f g old b new b'
   text_taken new b' last s t e l hs ht hn hb = record {
     leaves =
         ap (λ x. x ++ leaves_from sheet sur b' g) hn ∙ append_assoc old _ _
@@ -76,8 +80,10 @@ module _ (sheet : List Record) (sur : Surroundings) (f g : Forest) (old : List P
   branch_taken new b' m1 k ks closed around e hk hm hc ha hn hb =
       let m = e.0 in
       let is_mark : m1 ≡ Some m = hm ∙ ap mark_of e.1 in
-      let is_around : around ≡ within sheet sur (record { kind = k; mark = m; is_closed = is_some (close_of f) }) = ha m is_mark ∙ ap (λ c. within sheet sur (record { kind = k; mark = m; is_closed = c })) hc in
-      let is_behind : b' ≡ node_end (mark_at_end (Some m) (kids_of f)) (close_of f) = hb ∙ (λ i. node_end (mark_at_end (is_mark i) (hk i)) (close_of f)) in
+      let is_around : around ≡ within sheet sur (record { kind = k; mark = m; is_closed = is_some (close_of f) }) =
+      ha m is_mark ∙ ap (λ c. within sheet sur (record { kind = k; mark = m; is_closed = c })) hc in
+      let is_behind : b' ≡ node_end (mark_at_end (Some m) (kids_of f)) (close_of f) =
+      hb ∙ (λ i. node_end (mark_at_end (is_mark i) (hk i)) (close_of f)) in
       record {
         leaves =
             ap (λ x. x ++ leaves_from sheet sur b' g) hn ∙ append_assoc old _ _
@@ -93,7 +99,8 @@ some_marks f (Some x) = refl
 -- ---- nodes side by side
 
 -- from an entry on
-pub forest_at : (ns : List Node) (i : ℕ) (n : Node) → i < length ns → n ≡ get_or ns i n → forest_of (drop i ns) ≡ (view n then forest_of (drop (i + 1) ns))
+pub forest_at : (ns : List Node) (i : ℕ) (n : Node) → i < length ns → n ≡ get_or ns i n
+    → forest_of (drop i ns) ≡ (view n then forest_of (drop (i + 1) ns))
 forest_at ns i n h e = ap forest_of (drop-cons ns i n h ∙ (λ j. sym e j ∷ drop (sym (add-one i) j) ns))
 
 step_filled : (x : Node-F Forest Parts) (g : Forest) → is_nothing (node_step x then g) ≡ false
@@ -120,5 +127,7 @@ pub last_is : (ns : List Node) (i : ℕ) → i < length ns → (i + 1 == length 
 last_is ns i h = by (i + 1 == length ns) refl
   where
     by : (b : Bool) → (i + 1 == length ns) ≡ b → b ≡ is_nothing (forest_of (drop (i + 1) ns))
-    by true e = sym (none_left (drop (i + 1) ns) (let is : i + 1 ≡ length ns = eqb-true _ _ e in let l = length-drop (i + 1) ns in omega arith))
-    by false e = sym (some_left (drop (i + 1) ns) (let ne = false-eqb (i + 1) (length ns) (sym e) in let l = length-drop (i + 1) ns in omega arith))
+    by true e =
+        sym (none_left (drop (i + 1) ns) (let is : i + 1 ≡ length ns = eqb-true _ _ e in let l = length-drop (i + 1) ns in omega arith))
+    by false e =
+        sym (some_left (drop (i + 1) ns) (let ne = false-eqb (i + 1) (length ns) (sym e) in let l = length-drop (i + 1) ns in omega arith))

@@ -15,7 +15,8 @@ use Rattle.concordance.specs.declared.passage.Passage as passages
 use Rattle.concordance.proofs.Standing.{Apart, apart_within, leaves_apart, stand_apart}
 use Rattle.concordance.proofs.Occurring.{occurrences_apart}
 
-pub fits_at : (ps : List passages.Passage) (k : ℕ) (d : passages.Passage) → All EndsWithin (passages_view ps) → k < length ps → (get_or ps k d).start + length (get_or ps k d).text.now < 2 ^ 64
+pub fits_at : (ps : List passages.Passage) (k : ℕ) (d : passages.Passage) → All EndsWithin (passages_view ps) → k < length ps
+    → (get_or ps k d).start + length (get_or ps k d).text.now < 2 ^ 64
 fits_at [] k d h l = absurd (omega arith)
 fits_at (p ∷ ps) zero d h l = All-head EndsWithin (passage_view p) (passages_view ps) h
 fits_at (p ∷ ps) (suc k) d h l = fits_at ps k d (All-tail EndsWithin (passage_view p) (passages_view ps) h) (omega arith)
@@ -37,7 +38,8 @@ pub filled_each : (parts : Passage → List Passage) (ps : List Passage) → ((p
 filled_each parts [] h = tt
 filled_each parts (p ∷ ps) h = filled_append (parts p) (flat_map parts ps) (h p) (filled_each parts ps h)
 
-filled_places : (start : ℕ) (needle : List ℕ) (places : List ℕ) → 0 < length needle → Filled (map (λ at. (let one : Passage = record { start = start + at; text = needle } in one)) places)
+filled_places : (start : ℕ) (needle : List ℕ) (places : List ℕ) → 0 < length needle
+    → Filled (map (λ at. (let one : Passage = record { start = start + at; text = needle } in one)) places)
 filled_places start needle [] h = tt
 filled_places start needle (at ∷ places) h = (h, filled_places start needle places h)
 
@@ -48,7 +50,8 @@ rise_apart : (s : List ℕ) (low high : ℕ) (ps : List Passage) → Apart s low
 rise_apart s low high [] a f = refl
 rise_apart s low high (p ∷ ps) a f =
     let l = a.0 in let e = a.2 in let n = f.0 in
-    and_from _ _ (grind (arith, nat_tests)) (and_from _ _ (grind (arith, nat_tests)) (rise_apart s p.start high ps (from p.start ps (omega arith) a.3) f.1))
+    and_from _ _ (grind (arith, nat_tests))
+    (and_from _ _ (grind (arith, nat_tests)) (rise_apart s p.start high ps (from p.start ps (omega arith) a.3) f.1))
   where
     from : (k : ℕ) (qs : List Passage) → k ≤ p.start + length p.text → Apart s (p.start + length p.text) high qs → Apart s k high qs
     from k [] h b = tt
@@ -63,7 +66,8 @@ begin_is [] h = refl
 begin_is (p ∷ ps) h = h.0
 
 -- the pieces of a text hold passages of it that are not empty
-pub pieces_hold : (s : List ℕ) (pieces : List Part) (ps : List Passage) → IsCutOf pieces s → Apart s 0 (length s) ps → Filled ps → hold_all pieces ps ≡ true
+pub pieces_hold : (s : List ℕ) (pieces : List Part) (ps : List Passage) → IsCutOf pieces s → Apart s 0 (length s) ps → Filled ps
+    → hold_all pieces ps ≡ true
 pieces_hold s pieces ps cut a f =
     let zero_is = begin_is pieces cut.neighbours in
     let end_is : end_of pieces ≡ length s = (let l = ap length cut.join in omega arith) in
@@ -72,10 +76,14 @@ pieces_hold s pieces ps cut a f =
 
 -- ---- hits
 
-pub found_apart : (sheet : List Record) (s needle : List ℕ) → 0 < length needle → Apart s 0 (length s) (flat_map (occurrences needle) (plain_leaves sheet s))
-found_apart sheet s needle some = apart_within s (occurrences needle) 0 (length s) (plain_leaves sheet s) (λ p h. occurrences_apart s needle some p h) (leaves_apart sheet s)
+pub found_apart : (sheet : List Record) (s needle : List ℕ) → 0 < length needle
+    → Apart s 0 (length s) (flat_map (occurrences needle) (plain_leaves sheet s))
+found_apart sheet s needle some =
+    apart_within s (occurrences needle) 0 (length s) (plain_leaves sheet s) (λ p h. occurrences_apart s needle some p h)
+    (leaves_apart sheet s)
 
-pub found_filled : (sheet : List Record) (s needle : List ℕ) → 0 < length needle → Filled (flat_map (occurrences needle) (plain_leaves sheet s))
+pub found_filled : (sheet : List Record) (s needle : List ℕ) → 0 < length needle
+    → Filled (flat_map (occurrences needle) (plain_leaves sheet s))
 found_filled sheet s needle some = filled_each (occurrences needle) (plain_leaves sheet s) (occurrences_filled needle some)
 
 passages_keyed : (pieces : List Part) (ps : List Passage) → map passage_of (map (keyed pieces) ps) ≡ ps
@@ -84,4 +92,5 @@ passages_keyed pieces (p ∷ ps) = ap (λ l. p ∷ l) (passages_keyed pieces ps)
 
 pub hits_apart : (sheet : List Record) (s needle : List ℕ) → 0 < length needle → StandApart s 0 (map passage_of (hits_of sheet s needle))
 unfolding hits_of
-hits_apart sheet s needle some = subst (StandApart s 0) (sym (passages_keyed (pieces_of s) _)) (stand_apart s 0 _ (found_apart sheet s needle some))
+hits_apart sheet s needle some =
+    subst (StandApart s 0) (sym (passages_keyed (pieces_of s) _)) (stand_apart s 0 _ (found_apart sheet s needle some))

@@ -6,8 +6,9 @@ pub mod KeyedLemmas
 pub mod Occurring
 pub mod Holding
 pub mod RunLemmas
-pub mod EntryLemmas
+pub mod OrderLemmas
 pub mod WordLists
+pub mod GroupSteps
 pub mod RunPlaces
 pub mod RunLaws
 pub mod Letters

@@ -26,7 +26,8 @@ module _ (hay needle : List ℕ) (k : ℕ) (utf8 : IsUtf8 hay) (needle_utf8 : Is
       let low = h.fits in
       let l = length-drop k hay in
       IsCharBoundary-from_rest hay k (length needle) (omega arith)
-      (IsCharBoundary-from_take (drop k hay) (length needle) (IsUtf8-drop hay k utf8 boundary_before) (omega arith) (subst IsUtf8 (sym (OccursAt-part hay needle k h)) needle_utf8))
+      (IsCharBoundary-from_take (drop k hay) (length needle) (IsUtf8-drop hay k utf8 boundary_before) (omega arith)
+      (subst IsUtf8 (sym (OccursAt-part hay needle k h)) needle_utf8))
 
 -- ---- apart
 
@@ -41,38 +42,57 @@ module _ (s needle : List ℕ) (some : 0 < length needle) (p : Passage) (stands 
       (sym (take-append-drop at p.text) ∙ ap (λ l. take at p.text ++ l) (OccursAt-split p.text needle at h))
       (ap (λ n. p.start + n) (length-take-le at p.text (omega arith)))
 
-  apart_from_match : (skip i n : ℕ) → Apart s (p.start + (i + skip)) (p.start + length p.text) (map place (matches_from p.text needle skip i n))
+  apart_from_match : (skip i n : ℕ)
+      → Apart s (p.start + (i + skip)) (p.start + length p.text) (map place (matches_from p.text needle skip i n))
   unfolding matches_from
   apart_from_match skip i zero = tt
-  apart_from_match zero i (suc n) = by (apart_from_match (match_len needle - 1) (i + 1) n) (apart_from_match 0 (i + 1) n) (occurs_at p.text needle i) refl
+  apart_from_match zero i (suc n) =
+      by (apart_from_match (match_len needle - 1) (i + 1) n) (apart_from_match 0 (i + 1) n) (occurs_at p.text needle i) refl
     where
-      behind : (m : ℕ) → m ≡ length needle → Apart s (p.start + (i + 1 + (m - 1))) (p.start + length p.text) (map place (matches_from p.text needle (m - 1) (i + 1) n)) → Apart s (p.start + i + length needle) (p.start + length p.text) (map place (matches_from p.text needle (m - 1) (i + 1) n))
-      behind m e a = subst (λ (k : ℕ). Apart s k (p.start + length p.text) (map place (matches_from p.text needle (m - 1) (i + 1) n))) (omega arith) a
+      behind : (m : ℕ) → m ≡ length needle
+          → Apart s (p.start + (i + 1 + (m - 1))) (p.start + length p.text) (map place (matches_from p.text needle (m - 1) (i + 1) n))
+          → Apart s (p.start + i + length needle) (p.start + length p.text) (map place (matches_from p.text needle (m - 1) (i + 1) n))
+      behind m e a =
+          subst (λ (k : ℕ). Apart s k (p.start + length p.text) (map place (matches_from p.text needle (m - 1) (i + 1) n))) (omega arith) a
 
-      by : Apart s (p.start + (i + 1 + (match_len needle - 1))) (p.start + length p.text) (map place (matches_from p.text needle (match_len needle - 1) (i + 1) n)) → Apart s (p.start + (i + 1 + 0)) (p.start + length p.text) (map place (matches_from p.text needle 0 (i + 1) n)) → (b : Bool) → occurs_at p.text needle i ≡ b → Apart s (p.start + (i + 0)) (p.start + length p.text) (map place (cond b (i ∷ matches_from p.text needle (match_len needle - 1) (i + 1) n) (matches_from p.text needle 0 (i + 1) n)))
+      by : Apart s (p.start + (i + 1 + (match_len needle - 1))) (p.start + length p.text)
+          (map place (matches_from p.text needle (match_len needle - 1) (i + 1) n))
+          → Apart s (p.start + (i + 1 + 0)) (p.start + length p.text) (map place (matches_from p.text needle 0 (i + 1) n)) → (b : Bool)
+          → occurs_at p.text needle i ≡ b
+          → Apart s (p.start + (i + 0)) (p.start + length p.text)
+          (map place (cond b (i ∷ matches_from p.text needle (match_len needle - 1) (i + 1) n) (matches_from p.text needle 0 (i + 1) n)))
       by hit miss true e =
           let h = OccursAt-true p.text needle i e in
           let low = h.fits in
           (omega arith, stands_at i h, omega arith, behind (match_len needle) (omega arith) hit)
       by hit miss false e = apart_from s (p.start + (i + 0)) (p.start + (i + 1 + 0)) (p.start + length p.text) _ (omega arith) miss
-  apart_from_match (suc skip) i (suc n) = subst (λ (k : ℕ). Apart s k (p.start + length p.text) (map place (matches_from p.text needle skip (i + 1) n))) (omega arith) (apart_from_match skip (i + 1) n)
+  apart_from_match (suc skip) i (suc n) =
+      subst (λ (k : ℕ). Apart s k (p.start + length p.text) (map place (matches_from p.text needle skip (i + 1) n))) (omega arith)
+      (apart_from_match skip (i + 1) n)
 
   pub occurrences_apart : Apart s p.start (p.start + length p.text) (occurrences needle p)
-  occurrences_apart = let e : p.start + (0 + 0) ≡ p.start = omega arith in subst (λ (k : ℕ). Apart s k (p.start + length p.text) (occurrences needle p)) e (apart_from_match 0 0 (length p.text + 1 - 0))
+  occurrences_apart =
+      let e : p.start + (0 + 0) ≡ p.start = omega arith in
+      subst (λ (k : ℕ). Apart s k (p.start + length p.text) (occurrences needle p)) e (apart_from_match 0 0 (length p.text + 1 - 0))
 
 -- ---- the loop over the places
 
 occurrence_is : (hay needle : List ℕ) (k : ℕ) → OccursAt hay needle k → slice_range hay k (k + length needle) ≡ needle
-occurrence_is hay needle k h = (let e : k + length needle - k ≡ length needle = omega arith in ap (λ n. take n (drop k hay)) e) ∙ OccursAt-part hay needle k h
+occurrence_is hay needle k h =
+    (let e : k + length needle - k ≡ length needle = omega arith in ap (λ n. take n (drop k hay)) e) ∙ OccursAt-part hay needle k h
 
-pub one_more : (start at : ℕ) (hay needle : List ℕ) (items new : List passages.Passage) (x : passages.Passage) (its rest : List ℕ) (target : List Passage) → new ≡ items ++ x ∷ [] → its ≡ at ∷ rest → OccursAt hay needle at → x.start ≡ start + at → x.text.now ≡ slice_range hay at (at + length needle)
-    → passages_view items ++ map (λ at. (let one : Passage = record { start = start + at; text = needle } in one)) its ≡ target → passages_view new ++ map (λ at. (let one : Passage = record { start = start + at; text = needle } in one)) rest ≡ target
+pub one_more : (start at : ℕ) (hay needle : List ℕ) (items new : List passages.Passage) (x : passages.Passage) (its rest : List ℕ)
+    (target : List Passage) → new ≡ items ++ x ∷ [] → its ≡ at ∷ rest → OccursAt hay needle at → x.start ≡ start + at → x.text.now
+    ≡ slice_range hay at (at + length needle)
+    → passages_view items ++ map (λ at. (let one : Passage = record { start = start + at; text = needle } in one)) its ≡ target
+    → passages_view new ++ map (λ at. (let one : Passage = record { start = start + at; text = needle } in one)) rest ≡ target
 one_more start at hay needle items new x its rest target is next h s t e =
     let place : ℕ → Passage = λ at. record { start = start + at; text = needle } in
     ap (λ (l : List passages.Passage). passages_view l ++ map place rest) is
     ∙ ap (λ l. l ++ map place rest) (map-append passage_view items (x ∷ []))
     ∙ append_assoc (passages_view items) (passage_view x ∷ []) (map place rest)
-    ∙ (λ i. passages_view items ++ (let one : Passage = record { start = s i; text = (t ∙ occurrence_is hay needle at h) i } in one) ∷ map place rest)
+    ∙ (λ i. passages_view items ++ (let one : Passage = record { start = s i; text = (t ∙ occurrence_is hay needle at h) i } in one)
+    ∷ map place rest)
     ∙ ap (λ l. passages_view items ++ map place l) (sym next)
     ∙ e
 

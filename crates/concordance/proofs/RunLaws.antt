@@ -203,7 +203,8 @@ counted within n [] c rest =
 
     by : (w b : Bool) → is_word_char c ≡ b
         → count_at (n + length (encode_utf8_all [])) (after (is_word_char c) n c rest) ≡ 0
-        → count_at (n + length (encode_utf8_all [])) (cond (b && not w) (run_of n (c ∷ rest) ∷ after (is_word_char c) n c rest) (after (is_word_char c) n c rest))
+        → count_at (n + length (encode_utf8_all []))
+        (cond (b && not w) (run_of n (c ∷ rest) ∷ after (is_word_char c) n c rest) (after (is_word_char c) n c rest))
         ≡ cond (w && b) 0 (cond b 1 0)
     by true true e l = l
     by true false e l = l
@@ -223,7 +224,8 @@ counted within n (d ∷ ds) c rest =
         → lies_in (n + length (encode_utf8_all (d ∷ ds))) (run_of n (d ∷ (ds ++ c ∷ rest))) ≡ a
     here a e f =
         let low : nat_le n (n + length (encode_utf8_all (d ∷ ds))) ≡ true = grind (arith, nat_tests) in
-        let reach = shifted n (length (encode_utf8_all (d ∷ ds))) (length (front_bytes true (d ∷ (ds ++ c ∷ rest)))) ∙ run_reaches (d ∷ ds) c rest in
+        let reach =
+        shifted n (length (encode_utf8_all (d ∷ ds))) (length (front_bytes true (d ∷ (ds ++ c ∷ rest)))) ∙ run_reaches (d ∷ ds) c rest in
         (λ i. low i && reach i) ∙ (λ i. e i && f i)
 
     one_in_all : (a : Bool) → all_words ds c ≡ a
@@ -232,8 +234,11 @@ counted within n (d ∷ ds) c rest =
     one_in_all false f = omega arith
 
     by : (w b a : Bool) → is_word_char d ≡ b → all_words ds c ≡ a
-        → count_at (n + length (encode_utf8_all (d ∷ ds))) (after (is_word_char d) n d (ds ++ c ∷ rest)) ≡ cond (b && a) 0 (cond (is_word_char c) 1 0)
-        → count_at (n + length (encode_utf8_all (d ∷ ds))) (cond (b && not w) (run_of n (d ∷ (ds ++ c ∷ rest)) ∷ after (is_word_char d) n d (ds ++ c ∷ rest)) (after (is_word_char d) n d (ds ++ c ∷ rest)))
+        → count_at (n + length (encode_utf8_all (d ∷ ds))) (after (is_word_char d) n d (ds ++ c ∷ rest))
+        ≡ cond (b && a) 0 (cond (is_word_char c) 1 0)
+        → count_at (n + length (encode_utf8_all (d ∷ ds)))
+        (cond (b && not w) (run_of n (d ∷ (ds ++ c ∷ rest)) ∷ after (is_word_char d) n d (ds ++ c ∷ rest))
+        (after (is_word_char d) n d (ds ++ c ∷ rest)))
         ≡ cond (w && (b && a)) 0 (cond (is_word_char c) 1 0)
     by true true a e f l = l
     by true false a e f l = l

@@ -12,8 +12,13 @@ use Rattle.concordance.specs.RunReading.{is_like, behind, front_bytes}
 abbrev pub after : Bool → ℕ → ℕ → List ℕ → List Passage
 after b n c cs = runs_behind b (n + length (encode_utf8 c)) cs
 
-pub one_step : (w : Bool) (n c : ℕ) (cs : List ℕ) (b : Bool) → is_word_char c ≡ b → runs_behind w n (c ∷ cs) ≡ cond (b && not w) ((let run : Passage = record { start = n; text = encode_utf8_all (take_while is_word_char (c ∷ cs)) } in run) ∷ after b n c cs) (after b n c cs)
-one_step w n c cs b e = ap (λ (k : Bool). cond (k && not w) ((let run : Passage = record { start = n; text = encode_utf8_all (take_while is_word_char (c ∷ cs)) } in run) ∷ after k n c cs) (after k n c cs)) e
+pub one_step : (w : Bool) (n c : ℕ) (cs : List ℕ) (b : Bool) → is_word_char c ≡ b → runs_behind w n (c ∷ cs)
+    ≡ cond (b && not w) ((let run : Passage = record { start = n; text = encode_utf8_all (take_while is_word_char (c ∷ cs)) } in run)
+    ∷ after b n c cs) (after b n c cs)
+one_step w n c cs b e =
+    ap (λ (k : Bool). cond (k && not w)
+    ((let run : Passage = record { start = n; text = encode_utf8_all (take_while is_word_char (c ∷ cs)) } in run) ∷ after k n c cs)
+    (after k n c cs)) e
 
 -- ---- what stands at the front of characters
 
@@ -39,14 +44,17 @@ pub bytes_none : (w : Bool) (c : ℕ) (cs : List ℕ) → is_like w c ≡ false 
 bytes_none w c cs e = ap encode_utf8_all (front_none w c cs e)
 
 -- one character more at the front
-more : (w : Bool) (n c : ℕ) (cs : List ℕ) → is_like w c ≡ true → runs_behind false (n + length (encode_utf8 c) + length (front_bytes w cs)) (behind w cs) ≡ runs_behind false (n + length (front_bytes w (c ∷ cs))) (behind w (c ∷ cs))
+more : (w : Bool) (n c : ℕ) (cs : List ℕ) → is_like w c ≡ true
+    → runs_behind false (n + length (encode_utf8 c) + length (front_bytes w cs)) (behind w cs)
+    ≡ runs_behind false (n + length (front_bytes w (c ∷ cs))) (behind w (c ∷ cs))
 more w n c cs e =
     let l = length-append (encode_utf8 c) (front_bytes w cs) in
     let m = ap length (bytes_more w c cs e) in
     let k : n + length (encode_utf8 c) + length (front_bytes w cs) ≡ n + length (front_bytes w (c ∷ cs)) = omega arith in
     λ i. runs_behind false (k i) (sym (behind_more w c cs e) i)
 
-none : (w : Bool) (n c : ℕ) (cs : List ℕ) → is_like w c ≡ false → runs_behind false n (c ∷ cs) ≡ runs_behind false (n + length (front_bytes w (c ∷ cs))) (behind w (c ∷ cs))
+none : (w : Bool) (n c : ℕ) (cs : List ℕ) → is_like w c ≡ false
+    → runs_behind false n (c ∷ cs) ≡ runs_behind false (n + length (front_bytes w (c ∷ cs))) (behind w (c ∷ cs))
 none w n c cs e =
     let m = ap length (bytes_none w c cs e) in
     let k : n ≡ n + length (front_bytes w (c ∷ cs)) = omega arith in
@@ -57,7 +65,8 @@ pub past_gap : (n : ℕ) (cs : List ℕ) → runs_behind false n cs ≡ runs_beh
 past_gap n [] = refl
 past_gap n (c ∷ cs) = by (past_gap (n + length (encode_utf8 c)) cs) (is_word_char c) refl
   where
-    by : after false n c cs ≡ runs_behind false (n + length (encode_utf8 c) + length (front_bytes false cs)) (behind false cs) → (b : Bool) → is_word_char c ≡ b
+    by : after false n c cs ≡ runs_behind false (n + length (encode_utf8 c) + length (front_bytes false cs)) (behind false cs)
+        → (b : Bool) → is_word_char c ≡ b
         → runs_behind false n (c ∷ cs) ≡ runs_behind false (n + length (front_bytes false (c ∷ cs))) (behind false (c ∷ cs))
     by rest true e = none false n c cs (ap not e)
     by rest false e = one_step false n c cs false e ∙ rest ∙ more false n c cs (ap not e)
@@ -67,24 +76,36 @@ pub past_run : (n : ℕ) (cs : List ℕ) → runs_behind true n cs ≡ runs_behi
 past_run n [] = refl
 past_run n (c ∷ cs) = by (past_run (n + length (encode_utf8 c)) cs) (is_word_char c) refl
   where
-    by : after true n c cs ≡ runs_behind false (n + length (encode_utf8 c) + length (front_bytes true cs)) (behind true cs) → (b : Bool) → is_word_char c ≡ b
+    by : after true n c cs ≡ runs_behind false (n + length (encode_utf8 c) + length (front_bytes true cs)) (behind true cs) → (b : Bool)
+        → is_word_char c ≡ b
         → runs_behind true n (c ∷ cs) ≡ runs_behind false (n + length (front_bytes true (c ∷ cs))) (behind true (c ∷ cs))
     by rest true e = one_step true n c cs true e ∙ rest ∙ more true n c cs e
     by rest false e = one_step true n c cs false e ∙ sym (one_step false n c cs false e) ∙ none true n c cs e
 
 -- behind the others stands nothing, or a run
-pub run_at : (n : ℕ) (cs ds : List ℕ) → behind false cs ≡ ds → 0 < length ds → runs_behind false n ds ≡ (let run : Passage = record { start = n; text = front_bytes true ds } in run) ∷ runs_behind false (n + length (front_bytes true ds)) (behind true ds)
+pub run_at : (n : ℕ) (cs ds : List ℕ) → behind false cs ≡ ds → 0 < length ds → runs_behind false n ds
+    ≡ (let run : Passage = record { start = n; text = front_bytes true ds } in run)
+    ∷ runs_behind false (n + length (front_bytes true ds)) (behind true ds)
 run_at n [] ds e h = absurd (let l = ap length e in omega arith)
 run_at n (c ∷ cs) ds e h = by (run_at n cs ds) (is_word_char c) refl e
   where
-    begins : (d : ℕ) (rest : List ℕ) → is_word_char d ≡ true → runs_behind false n (d ∷ rest) ≡ (let run : Passage = record { start = n; text = front_bytes true (d ∷ rest) } in run) ∷ runs_behind false (n + length (front_bytes true (d ∷ rest))) (behind true (d ∷ rest))
+    begins : (d : ℕ) (rest : List ℕ) → is_word_char d ≡ true → runs_behind false n (d ∷ rest)
+        ≡ (let run : Passage = record { start = n; text = front_bytes true (d ∷ rest) } in run)
+        ∷ runs_behind false (n + length (front_bytes true (d ∷ rest))) (behind true (d ∷ rest))
     begins d rest w =
         one_step false n d rest true w
-        ∙ ap (λ l. (let run : Passage = record { start = n; text = front_bytes true (d ∷ rest) } in run) ∷ l) (sym (one_step true n d rest true w) ∙ past_run n (d ∷ rest))
+        ∙ ap (λ l. (let run : Passage = record { start = n; text = front_bytes true (d ∷ rest) } in run) ∷ l)
+        (sym (one_step true n d rest true w) ∙ past_run n (d ∷ rest))
 
-    by : (behind false cs ≡ ds → 0 < length ds → runs_behind false n ds ≡ (let run : Passage = record { start = n; text = front_bytes true ds } in run) ∷ runs_behind false (n + length (front_bytes true ds)) (behind true ds))
-        → (b : Bool) → is_word_char c ≡ b → cond (not b) (behind false cs) (c ∷ cs) ≡ ds → runs_behind false n ds ≡ (let run : Passage = record { start = n; text = front_bytes true ds } in run) ∷ runs_behind false (n + length (front_bytes true ds)) (behind true ds)
-    by go true w e = subst (λ (l : List ℕ). runs_behind false n l ≡ (let run : Passage = record { start = n; text = front_bytes true l } in run) ∷ runs_behind false (n + length (front_bytes true l)) (behind true l)) e (begins c cs w)
+    by : (behind false cs ≡ ds → 0 < length ds → runs_behind false n ds
+        ≡ (let run : Passage = record { start = n; text = front_bytes true ds } in run)
+        ∷ runs_behind false (n + length (front_bytes true ds)) (behind true ds))
+        → (b : Bool) → is_word_char c ≡ b → cond (not b) (behind false cs) (c ∷ cs) ≡ ds → runs_behind false n ds
+        ≡ (let run : Passage = record { start = n; text = front_bytes true ds } in run)
+        ∷ runs_behind false (n + length (front_bytes true ds)) (behind true ds)
+    by go true w e =
+        subst (λ (l : List ℕ). runs_behind false n l ≡ (let run : Passage = record { start = n; text = front_bytes true l } in run)
+        ∷ runs_behind false (n + length (front_bytes true l)) (behind true l)) e (begins c cs w)
     by go false w e = go e h
 
 -- ---- a step over the characters of a text
@@ -93,11 +114,13 @@ run_at n (c ∷ cs) ds e h = by (run_at n cs ds) (is_word_char c) refl e
 abbrev pub Reads : Bool → List ℕ → List ℕ → Type 0
 Reads w text rest = (x : List ℕ) × (text ≡ x ++ rest) × (front_bytes w (chars text) ≡ x ++ front_bytes w (chars rest))
 
-pub reads_more : (w : Bool) (text rest rest' : List ℕ) (c : ℕ) → rest ≡ encode_utf8 c ++ rest' → chars rest ≡ c ∷ chars rest' → is_like w c ≡ true → Reads w text rest → Reads w text rest'
+pub reads_more : (w : Bool) (text rest rest' : List ℕ) (c : ℕ) → rest ≡ encode_utf8 c ++ rest' → chars rest ≡ c ∷ chars rest'
+    → is_like w c ≡ true → Reads w text rest → Reads w text rest'
 reads_more w text rest rest' c e chars_are like (x, is, front) = (
   x ++ encode_utf8 c,
   is ∙ ap (λ l. x ++ l) e ∙ sym (append_assoc x (encode_utf8 c) rest'),
-  front ∙ ap (λ l. x ++ l) (ap (front_bytes w) chars_are ∙ bytes_more w c (chars rest') like) ∙ sym (append_assoc x (encode_utf8 c) (front_bytes w (chars rest'))),
+  front ∙ ap (λ l. x ++ l) (ap (front_bytes w) chars_are ∙ bytes_more w c (chars rest') like)
+      ∙ sym (append_assoc x (encode_utf8 c) (front_bytes w (chars rest'))),
 )
 
 -- a test of a character against what is looked for
@@ -116,13 +139,17 @@ unlike_test false false c e h = absurd (cc)
 -- ---- a step over the runs of a passage
 
 -- the others at the front and then the word characters are passed
-pub run_more : (n : ℕ) (rest at later : List ℕ) → rest ≡ front_bytes false (chars rest) ++ at → chars at ≡ behind false (chars rest) → at ≡ front_bytes true (chars at) ++ later → chars later ≡ behind true (chars at) → 0 < length (chars at)
-    → runs_behind false n (chars rest) ≡ (let run : Passage = record { start = n + length (front_bytes false (chars rest)); text = front_bytes true (chars at) } in run) ∷ runs_behind false (n + length (front_bytes false (chars rest)) + length (front_bytes true (chars at))) (chars later)
+pub run_more : (n : ℕ) (rest at later : List ℕ) → rest ≡ front_bytes false (chars rest) ++ at → chars at ≡ behind false (chars rest)
+    → at ≡ front_bytes true (chars at) ++ later → chars later ≡ behind true (chars at) → 0 < length (chars at)
+    → runs_behind false n (chars rest)
+    ≡ (let run : Passage = record { start = n + length (front_bytes false (chars rest)); text = front_bytes true (chars at) } in run)
+    ∷ runs_behind false (n + length (front_bytes false (chars rest)) + length (front_bytes true (chars at))) (chars later)
 run_more n rest at later gap at_is run later_is some =
     let m = n + length (front_bytes false (chars rest)) in
     past_gap n (chars rest) ∙ ap (runs_behind false m) (sym at_is)
     ∙ run_at m (chars rest) (chars at) (sym at_is) some
-    ∙ ap (λ l. (let run : Passage = record { start = m; text = front_bytes true (chars at) } in run) ∷ runs_behind false (m + length (front_bytes true (chars at))) l) (sym later_is)
+    ∙ ap (λ l. (let run : Passage = record { start = m; text = front_bytes true (chars at) } in run)
+    ∷ runs_behind false (m + length (front_bytes true (chars at))) l) (sym later_is)
 
 pub no_more : (n : ℕ) (rest at : List ℕ) → chars at ≡ behind false (chars rest) → at ≡ [] → runs_behind false n (chars rest) ≡ []
 no_more n rest at at_is e =
@@ -143,7 +170,8 @@ run_some (c ∷ cs) ds e h = by (run_some cs ds) (is_word_char c) refl e
         let s = char_some d in
         omega arith
 
-    by : (behind false cs ≡ ds → 0 < length ds → 0 < length (front_bytes true ds)) → (b : Bool) → is_word_char c ≡ b → cond (not b) (behind false cs) (c ∷ cs) ≡ ds → 0 < length (front_bytes true ds)
+    by : (behind false cs ≡ ds → 0 < length ds → 0 < length (front_bytes true ds)) → (b : Bool) → is_word_char c ≡ b
+        → cond (not b) (behind false cs) (c ∷ cs) ≡ ds → 0 < length (front_bytes true ds)
     by go true w e = subst (λ (l : List ℕ). 0 < length (front_bytes true l)) e (begins c cs w)
     by go false w e = go e h
 
@@ -156,14 +184,20 @@ chars_some bs u h = by (chars bs) refl
     by (c ∷ cs) e = (let l = ap length e in omega arith)
 
 -- one run of a text that begins at a place, where so much of the text is left
-pub next_run : (s t : ℕ) (rest at later : List ℕ) → length rest ≤ t → rest ≡ front_bytes false (chars rest) ++ at → chars at ≡ behind false (chars rest) → at ≡ front_bytes true (chars at) ++ later → chars later ≡ behind true (chars at) → 0 < length (chars at)
-    → runs_behind false (s + (t - length rest)) (chars rest) ≡ (let run : Passage = record { start = s + (t - length at); text = take (length at - length later) at } in run) ∷ runs_behind false (s + (t - length later)) (chars later)
+pub next_run : (s t : ℕ) (rest at later : List ℕ) → length rest ≤ t → rest ≡ front_bytes false (chars rest) ++ at
+    → chars at ≡ behind false (chars rest) → at ≡ front_bytes true (chars at) ++ later → chars later ≡ behind true (chars at)
+    → 0 < length (chars at)
+    → runs_behind false (s + (t - length rest)) (chars rest)
+    ≡ (let run : Passage = record { start = s + (t - length at); text = take (length at - length later) at } in run)
+    ∷ runs_behind false (s + (t - length later)) (chars later)
 next_run s t rest at later fits gap at_is run later_is some =
     let l = ap length gap ∙ length-append (front_bytes false (chars rest)) at in
     let m = ap length run ∙ length-append (front_bytes true (chars at)) later in
     let start : s + (t - length rest) + length (front_bytes false (chars rest)) ≡ s + (t - length at) = omega arith in
     let end : s + (t - length rest) + length (front_bytes false (chars rest)) + length (front_bytes true (chars at)) ≡ s + (t - length later) = omega arith in
     let size : length at - length later ≡ length (front_bytes true (chars at)) = omega arith in
-    let bytes : front_bytes true (chars at) ≡ take (length at - length later) at = sym (ap (λ n. take n at) size ∙ ap (take (length (front_bytes true (chars at)))) run ∙ take-append_seam (front_bytes true (chars at)) later) in
+    let bytes : front_bytes true (chars at) ≡ take (length at - length later) at =
+    sym (ap (λ n. take n at) size ∙ ap (take (length (front_bytes true (chars at)))) run
+    ∙ take-append_seam (front_bytes true (chars at)) later) in
     run_more (s + (t - length rest)) rest at later gap at_is run later_is some
     ∙ (λ i. (let one : Passage = record { start = start i; text = bytes i } in one) ∷ runs_behind false (end i) (chars later))

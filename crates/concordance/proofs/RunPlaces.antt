@@ -25,7 +25,8 @@ front_rest : (w : Bool) (cs : List ℕ) → encode_utf8_all cs ≡ front_bytes w
 front_rest w [] = refl
 front_rest w (c ∷ cs) = by (front_rest w cs) (is_like w c) refl
   where
-    by : encode_utf8_all cs ≡ front_bytes w cs ++ encode_utf8_all (behind w cs) → (b : Bool) → is_like w c ≡ b → encode_utf8_all (c ∷ cs) ≡ front_bytes w (c ∷ cs) ++ encode_utf8_all (behind w (c ∷ cs))
+    by : encode_utf8_all cs ≡ front_bytes w cs ++ encode_utf8_all (behind w cs) → (b : Bool) → is_like w c ≡ b
+        → encode_utf8_all (c ∷ cs) ≡ front_bytes w (c ∷ cs) ++ encode_utf8_all (behind w (c ∷ cs))
     by rest true e =
         ap (λ l. encode_utf8 c ++ l) rest ∙ sym (append_assoc (encode_utf8 c) (front_bytes w cs) (encode_utf8_all (behind w cs)))
         ∙ (λ i. sym (bytes_more w c cs e) i ++ encode_utf8_all (sym (behind_more w c cs e) i))
@@ -36,18 +37,24 @@ abbrev first_place : Bool → ℕ → List ℕ → ℕ
 first_place false n cs = n
 first_place true n cs = n + length (front_bytes true cs)
 
-apart_behind : (s : List ℕ) (w : Bool) (n : ℕ) (cs : List ℕ) → Stands s (bytes_at n (encode_utf8_all cs)) → Apart s (first_place w n cs) (n + length (encode_utf8_all cs)) (runs_behind w n cs)
+apart_behind : (s : List ℕ) (w : Bool) (n : ℕ) (cs : List ℕ) → Stands s (bytes_at n (encode_utf8_all cs))
+    → Apart s (first_place w n cs) (n + length (encode_utf8_all cs)) (runs_behind w n cs)
 apart_behind s w n [] h = tt
 apart_behind s w n (c ∷ cs) h =
     let here : Stands s (bytes_at (n + length (encode_utf8 c)) (encode_utf8_all cs)) =
-    stands_within s (bytes_at n (encode_utf8_all (c ∷ cs))) (bytes_at (n + length (encode_utf8 c)) (encode_utf8_all cs)) (encode_utf8 c) [] h (ap (λ l. encode_utf8 c ++ l) (sym (append-nil (encode_utf8_all cs)))) refl in
-    by w (apart_behind s true (n + length (encode_utf8 c)) cs here) (apart_behind s false (n + length (encode_utf8 c)) cs here) (is_word_char c) refl
+    stands_within s (bytes_at n (encode_utf8_all (c ∷ cs))) (bytes_at (n + length (encode_utf8 c)) (encode_utf8_all cs))
+    (encode_utf8 c) [] h (ap (λ l. encode_utf8 c ++ l) (sym (append-nil (encode_utf8_all cs)))) refl in
+    by w (apart_behind s true (n + length (encode_utf8 c)) cs here) (apart_behind s false (n + length (encode_utf8 c)) cs here)
+    (is_word_char c) refl
   where
     whole : length (encode_utf8_all (c ∷ cs)) ≡ length (encode_utf8 c) + length (encode_utf8_all cs)
     whole = length-append (encode_utf8 c) (encode_utf8_all cs)
 
-    ends : (low : ℕ) (ps : List Passage) → Apart s low (n + length (encode_utf8 c) + length (encode_utf8_all cs)) ps → Apart s low (n + length (encode_utf8_all (c ∷ cs))) ps
-    ends low ps a = apart_to s low (n + length (encode_utf8 c) + length (encode_utf8_all cs)) (n + length (encode_utf8_all (c ∷ cs))) ps (let l = whole in omega arith) a
+    ends : (low : ℕ) (ps : List Passage) → Apart s low (n + length (encode_utf8 c) + length (encode_utf8_all cs)) ps
+        → Apart s low (n + length (encode_utf8_all (c ∷ cs))) ps
+    ends low ps a =
+        apart_to s low (n + length (encode_utf8 c) + length (encode_utf8_all cs)) (n + length (encode_utf8_all (c ∷ cs))) ps
+        (let l = whole in omega arith) a
 
     front_is : is_word_char c ≡ true → length (front_bytes true (c ∷ cs)) ≡ length (encode_utf8 c) + length (front_bytes true cs)
     front_is e = ap length (bytes_more true c cs e) ∙ length-append (encode_utf8 c) (front_bytes true cs)
@@ -55,19 +62,25 @@ apart_behind s w n (c ∷ cs) h =
     none_is : is_word_char c ≡ false → length (front_bytes true (c ∷ cs)) ≡ 0
     none_is e = ap length (bytes_none true c cs e)
 
-    by : (w : Bool) → Apart s (n + length (encode_utf8 c) + length (front_bytes true cs)) (n + length (encode_utf8 c) + length (encode_utf8_all cs)) (runs_behind true (n + length (encode_utf8 c)) cs)
-        → Apart s (n + length (encode_utf8 c)) (n + length (encode_utf8 c) + length (encode_utf8_all cs)) (runs_behind false (n + length (encode_utf8 c)) cs)
-        → (b : Bool) → is_word_char c ≡ b → Apart s (first_place w n (c ∷ cs)) (n + length (encode_utf8_all (c ∷ cs))) (runs_behind w n (c ∷ cs))
+    by : (w : Bool)
+        → Apart s (n + length (encode_utf8 c) + length (front_bytes true cs)) (n + length (encode_utf8 c) + length (encode_utf8_all cs))
+        (runs_behind true (n + length (encode_utf8 c)) cs)
+        → Apart s (n + length (encode_utf8 c)) (n + length (encode_utf8 c) + length (encode_utf8_all cs))
+        (runs_behind false (n + length (encode_utf8 c)) cs)
+        → (b : Bool) → is_word_char c ≡ b
+        → Apart s (first_place w n (c ∷ cs)) (n + length (encode_utf8_all (c ∷ cs))) (runs_behind w n (c ∷ cs))
     by false inside outside true e =
         let run = front_bytes true (c ∷ cs) in
         let rest = encode_utf8_all (behind true (c ∷ cs)) in
         let l = front_is e in
-        let m : length (encode_utf8_all (c ∷ cs)) ≡ length run + length rest = ap length (front_rest true (c ∷ cs)) ∙ length-append run rest in
+        let m : length (encode_utf8_all (c ∷ cs)) ≡ length run + length rest =
+        ap length (front_rest true (c ∷ cs)) ∙ length-append run rest in
         subst (Apart s n (n + length (encode_utf8_all (c ∷ cs)))) (sym (one_step false n c cs true e)) (
           omega arith,
           stands_within s (bytes_at n (encode_utf8_all (c ∷ cs))) (bytes_at n run) [] rest h (front_rest true (c ∷ cs)) (omega arith),
           omega arith,
-          ends (n + length run) _ (apart_from s (n + length run) (n + length (encode_utf8 c) + length (front_bytes true cs)) _ _ (omega arith) inside),
+          ends (n + length run) _ (apart_from s (n + length run) (n + length (encode_utf8 c) + length (front_bytes true cs)) _ _
+              (omega arith) inside),
         )
     by false inside outside false e =
         subst (Apart s n (n + length (encode_utf8_all (c ∷ cs)))) (sym (one_step false n c cs false e))
@@ -75,16 +88,19 @@ apart_behind s w n (c ∷ cs) h =
     by true inside outside true e =
         let l = front_is e in
         subst (Apart s (n + length (front_bytes true (c ∷ cs))) (n + length (encode_utf8_all (c ∷ cs)))) (sym (one_step true n c cs true e))
-        (ends (n + length (front_bytes true (c ∷ cs))) _ (apart_from s _ (n + length (encode_utf8 c) + length (front_bytes true cs)) _ _ (omega arith) inside))
+        (ends (n + length (front_bytes true (c ∷ cs))) _
+        (apart_from s _ (n + length (encode_utf8 c) + length (front_bytes true cs)) _ _ (omega arith) inside))
     by true inside outside false e =
         let l = none_is e in
-        subst (Apart s (n + length (front_bytes true (c ∷ cs))) (n + length (encode_utf8_all (c ∷ cs)))) (sym (one_step true n c cs false e))
+        subst (Apart s (n + length (front_bytes true (c ∷ cs))) (n + length (encode_utf8_all (c ∷ cs))))
+        (sym (one_step true n c cs false e))
         (ends (n + length (front_bytes true (c ∷ cs))) _ (apart_from s _ (n + length (encode_utf8 c)) _ _ (omega arith) outside))
 
 runs_apart : (s : List ℕ) (p : Passage) → IsText p → Stands s p → Apart s p.start (p.start + length p.text) (runs_in p)
 runs_apart s p u h =
     let e = encodes-chars p.text u in
-    subst (λ (t : List ℕ). Apart s p.start (p.start + length t) (runs_in p)) e (apart_behind s false p.start (chars p.text) (subst (λ (t : List ℕ). Stands s (bytes_at p.start t)) (sym e) h))
+    subst (λ (t : List ℕ). Apart s p.start (p.start + length t) (runs_in p)) e
+    (apart_behind s false p.start (chars p.text) (subst (λ (t : List ℕ). Stands s (bytes_at p.start t)) (sym e) h))
 
 each_apart : (s : List ℕ) (low high : ℕ) (ps : List Passage) → All IsText ps → Apart s low high ps → Apart s low high (flat_map runs_in ps)
 each_apart s low high [] u a = tt
@@ -95,16 +111,19 @@ each_apart s low high (p ∷ ps) u a =
     (each_apart s (p.start + length p.text) high ps (All-tail IsText p ps u) a.3)
 
 -- the runs of a text stand apart in it
-pub all_runs_apart : (sheet : List Record) (s : List ℕ) → All IsText (plain_leaves sheet s) → Apart s 0 (length s) (flat_map runs_in (plain_leaves sheet s))
+pub all_runs_apart : (sheet : List Record) (s : List ℕ) → All IsText (plain_leaves sheet s)
+    → Apart s 0 (length s) (flat_map runs_in (plain_leaves sheet s))
 all_runs_apart sheet s u = each_apart s 0 (length s) (plain_leaves sheet s) u (leaves_apart sheet s)
 
 -- ---- none is empty
 
 filled_behind : (w : Bool) (n : ℕ) (cs : List ℕ) → Filled (runs_behind w n cs)
 filled_behind w n [] = tt
-filled_behind w n (c ∷ cs) = by w (filled_behind true (n + length (encode_utf8 c)) cs) (filled_behind false (n + length (encode_utf8 c)) cs) (is_word_char c) refl
+filled_behind w n (c ∷ cs) =
+    by w (filled_behind true (n + length (encode_utf8 c)) cs) (filled_behind false (n + length (encode_utf8 c)) cs) (is_word_char c) refl
   where
-    by : (w : Bool) → Filled (runs_behind true (n + length (encode_utf8 c)) cs) → Filled (runs_behind false (n + length (encode_utf8 c)) cs) → (b : Bool) → is_word_char c ≡ b → Filled (runs_behind w n (c ∷ cs))
+    by : (w : Bool) → Filled (runs_behind true (n + length (encode_utf8 c)) cs)
+        → Filled (runs_behind false (n + length (encode_utf8 c)) cs) → (b : Bool) → is_word_char c ≡ b → Filled (runs_behind w n (c ∷ cs))
     by false inside outside true e =
         let l = ap length (bytes_more true c cs e) ∙ length-append (encode_utf8 c) (front_bytes true cs) in
         let some = char_some c in

@@ -19,23 +19,30 @@ plain_append : (sheet : List Record) (xs ys : List Site) → plain_of sheet (xs 
 plain_append sheet [] ys = refl
 plain_append sheet (x ∷ xs) ys = by (is_plain sheet x) (plain_append sheet xs ys)
   where
-    by : (b : Bool) → plain_of sheet (xs ++ ys) ≡ plain_of sheet xs ++ plain_of sheet ys → map trimmed (cond b (x ∷ filter (is_plain sheet) (xs ++ ys)) (filter (is_plain sheet) (xs ++ ys))) ≡ map trimmed (cond b (x ∷ filter (is_plain sheet) xs) (filter (is_plain sheet) xs)) ++ plain_of sheet ys
+    by : (b : Bool) → plain_of sheet (xs ++ ys) ≡ plain_of sheet xs ++ plain_of sheet ys
+        → map trimmed (cond b (x ∷ filter (is_plain sheet) (xs ++ ys)) (filter (is_plain sheet) (xs ++ ys)))
+        ≡ map trimmed (cond b (x ∷ filter (is_plain sheet) xs) (filter (is_plain sheet) xs)) ++ plain_of sheet ys
     by true e = ap (λ l. trimmed x ∷ l) e
     by false e = e
 
-plain_cons : (sheet : List Record) (x : Site) (xs : List Site) → plain_of sheet (x ∷ xs) ≡ cond (is_plain sheet x) (trimmed x ∷ plain_of sheet xs) (plain_of sheet xs)
+plain_cons : (sheet : List Record) (x : Site) (xs : List Site)
+    → plain_of sheet (x ∷ xs) ≡ cond (is_plain sheet x) (trimmed x ∷ plain_of sheet xs) (plain_of sheet xs)
 plain_cons sheet x xs = by (is_plain sheet x)
   where
-    by : (b : Bool) → map trimmed (cond b (x ∷ filter (is_plain sheet) xs) (filter (is_plain sheet) xs)) ≡ cond b (trimmed x ∷ plain_of sheet xs) (plain_of sheet xs)
+    by : (b : Bool)
+        → map trimmed (cond b (x ∷ filter (is_plain sheet) xs) (filter (is_plain sheet) xs))
+        ≡ cond b (trimmed x ∷ plain_of sheet xs) (plain_of sheet xs)
     by true = refl
     by false = refl
 
 -- the filter of the texts is the reading
-pub sites_read : (sheet : List Record) (around : List Around) (b : Option MarkParts) (f : Forest) → plain_of sheet (sites_in around b f) ≡ leaves_from sheet (inside_of sheet around) b f
+pub sites_read : (sheet : List Record) (around : List Around) (b : Option MarkParts) (f : Forest)
+    → plain_of sheet (sites_in around b f) ≡ leaves_from sheet (inside_of sheet around) b f
 sites_read sheet around b nothing = refl
 sites_read sheet around b (text s t f) =
     plain_cons sheet (record { start = s; bytes = t; around = around; behind = b; is_last = is_nothing f }) (sites_in around None f)
-    ∙ ap (λ l. cond (counts (inside_of sheet around)) (left_of (inside_of sheet around) b (is_nothing f) s t ∷ l) l) (sites_read sheet around None f)
+    ∙ ap (λ l. cond (counts (inside_of sheet around)) (left_of (inside_of sheet around) b (is_nothing f) s t ∷ l) l)
+    (sites_read sheet around None f)
 sites_read sheet around b (leaf s m f) = sites_read sheet around (Some m) f
 sites_read sheet around b (node k s x m ks c f) =
     let a : Around = record { kind = k; mark = m; is_closed = is_some c } in
@@ -48,7 +55,8 @@ fits_at : (n m : ℕ) (f : Forest) → Runs n f → n ≡ m → Runs m f
 fits_at n m f r e = subst (λ k. Runs k f) e r
 
 -- the bytes of a node and what follows
-pub node_bytes : (k : StyleKind) (n : ℕ) (x : List ℕ) (m : MarkParts) (ks : Forest) (c : Option MarkParts) (f : Forest) → x ≡ span_bytes m ks c → bytes_of (node k n x m ks c f) ≡ x ++ bytes_of f
+pub node_bytes : (k : StyleKind) (n : ℕ) (x : List ℕ) (m : MarkParts) (ks : Forest) (c : Option MarkParts) (f : Forest)
+    → x ≡ span_bytes m ks c → bytes_of (node k n x m ks c f) ≡ x ++ bytes_of f
 node_bytes k n x m ks c f e = bytes_then (node k n x m ks c nothing) f ∙ ap (λ z. z ++ bytes_of f) (span_is k n x m ks c ∙ sym e)
 
 pub texts_fit : (n : ℕ) (f : Forest) → Runs n f → n + length (bytes_of f) < 2 ^ 64 → TextsFit f

@@ -39,13 +39,16 @@ pub apart_to : (s : List ℕ) (low high high' : ℕ) (ps : List Passage) → hig
 apart_to s low high high' [] h a = tt
 apart_to s low high high' (p ∷ ps) h a = let e = a.2 in (a.0, a.1, omega arith, apart_to s (p.start + length p.text) high high' ps h a.3)
 
-pub apart_append : (s : List ℕ) (low mid high : ℕ) (ps qs : List Passage) → low ≤ mid → mid ≤ high → Apart s low mid ps → Apart s mid high qs → Apart s low high (ps ++ qs)
+pub apart_append : (s : List ℕ) (low mid high : ℕ) (ps qs : List Passage) → low ≤ mid → mid ≤ high → Apart s low mid ps
+    → Apart s mid high qs → Apart s low high (ps ++ qs)
 apart_append s low mid high [] qs l h a b = apart_from s low mid high qs l b
 apart_append s low mid high (p ∷ ps) qs l h a b =
     let e = a.2 in (a.0, a.1, omega arith, apart_append s (p.start + length p.text) mid high ps qs e h a.3 b)
 
 -- passages within each of some that stand apart
-pub apart_within : (s : List ℕ) (parts : Passage → List Passage) (low high : ℕ) (ps : List Passage) → ((p : Passage) → Stands s p → Apart s p.start (p.start + length p.text) (parts p)) → Apart s low high ps → Apart s low high (flat_map parts ps)
+pub apart_within : (s : List ℕ) (parts : Passage → List Passage) (low high : ℕ) (ps : List Passage)
+    → ((p : Passage) → Stands s p → Apart s p.start (p.start + length p.text) (parts p)) → Apart s low high ps
+    → Apart s low high (flat_map parts ps)
 apart_within s parts low high [] within a = tt
 apart_within s parts low high (p ∷ ps) within a =
     let b = a.0 in let e = a.2 in
@@ -54,7 +57,8 @@ apart_within s parts low high (p ∷ ps) within a =
     (apart_within s parts (p.start + length p.text) high ps within a.3)
 
 -- a part of a passage stands in the text
-pub stands_within : (s : List ℕ) (p q : Passage) (x y : List ℕ) → Stands s p → p.text ≡ x ++ (q.text ++ y) → p.start + length x ≡ q.start → Stands s q
+pub stands_within : (s : List ℕ) (p q : Passage) (x y : List ℕ) → Stands s p → p.text ≡ x ++ (q.text ++ y) → p.start + length x ≡ q.start
+    → Stands s q
 stands_within s p q x y (a, b, is, at) e l = (
   a ++ x,
   y ++ b,
@@ -95,7 +99,8 @@ attributes_behind true t = (drop (position_or_len is_bar t) t, sym (take-append-
 attributes_behind false t = ([], sym (append-nil t))
 
 -- what is left of a text stands in it
-left_apart : (s : List ℕ) (sur : Surroundings) (b : Option MarkParts) (last : Bool) (a t z : List ℕ) → s ≡ a ++ (t ++ z) → (k : ℕ) → k ≡ length a → Apart s (length a) (length a + length t) (left_of sur b last k t ∷ [])
+left_apart : (s : List ℕ) (sur : Surroundings) (b : Option MarkParts) (last : Bool) (a t z : List ℕ) → s ≡ a ++ (t ++ z) → (k : ℕ)
+    → k ≡ length a → Apart s (length a) (length a + length t) (left_of sur b last k t ∷ [])
 left_apart s sur b last a t z is k at =
     let n = number_length b t in
     let may = last && sur.in_closed in
@@ -105,16 +110,21 @@ left_apart s sur b last a t z is k at =
     let cut : t ≡ front ++ (without_attributes may (drop n t) ++ behind.0) = sym (take-append-drop n t) ∙ ap (λ l. front ++ l) behind.1 in
     let l : length front ≡ n = length-take-le n t fits in
     let sizes : length t ≡ length front + (length (without_attributes may (drop n t)) + length behind.0) =
-    ap length cut ∙ length-append front (without_attributes may (drop n t) ++ behind.0) ∙ ap (λ m. length front + m) (length-append (without_attributes may (drop n t)) behind.0)
+    ap length cut ∙ length-append front (without_attributes may (drop n t) ++ behind.0)
+    ∙ ap (λ m. length front + m) (length-append (without_attributes may (drop n t)) behind.0)
     in
     let whole : Passage = record { start = length a; text = t } in
     (omega arith, stands_within s whole (left_of sur b last k t) front behind.0 (a, z, is, refl) cut (omega arith), omega arith, tt)
 
-with_text_apart : (s : List ℕ) (sur : Surroundings) (b : Option MarkParts) (last : Bool) (a t z : List ℕ) → s ≡ a ++ (t ++ z) → (k : ℕ) → k ≡ length a → (high : ℕ) → length a + length t ≤ high → (later : List Passage) → Apart s (length a + length t) high later → Apart s (length a) high (with_text sur b last k t later)
+with_text_apart : (s : List ℕ) (sur : Surroundings) (b : Option MarkParts) (last : Bool) (a t z : List ℕ) → s ≡ a ++ (t ++ z) → (k : ℕ)
+    → k ≡ length a → (high : ℕ) → length a + length t ≤ high → (later : List Passage) → Apart s (length a + length t) high later
+    → Apart s (length a) high (with_text sur b last k t later)
 with_text_apart s sur b last a t z is k at high le later h = by (counts sur)
   where
     by : (c : Bool) → Apart s (length a) high (cond c (left_of sur b last k t ∷ later) later)
-    by true = apart_append s (length a) (length a + length t) high (left_of sur b last k t ∷ []) later (omega arith) le (left_apart s sur b last a t z is k at) h
+    by true =
+        apart_append s (length a) (length a + length t) high (left_of sur b last k t ∷ []) later (omega arith) le
+        (left_apart s sur b last a t z is k at) h
     by false = apart_from s (length a) (length a + length t) high later (omega arith) h
 
 -- past what stands in front
@@ -124,17 +134,21 @@ past s a x y z h = h ∙ ap (λ l. a ++ l) (append_assoc x y z) ∙ sym (append_
 runs_at : (n m : ℕ) (f : Forest) → n ≡ m → Runs n f → Runs m f
 runs_at n m f e r = subst (λ k. Runs k f) e r
 
-from_to : (s : List ℕ) (low low' high high' : ℕ) (ps : List Passage) → low ≡ low' → high ≡ high' → Apart s low high ps → Apart s low' high' ps
+from_to : (s : List ℕ) (low low' high high' : ℕ) (ps : List Passage) → low ≡ low' → high ≡ high' → Apart s low high ps
+    → Apart s low' high' ps
 from_to s low low' high high' ps e f a = subst (λ (l : ℕ). Apart s l high' ps) e (subst (λ (h : ℕ). Apart s low h ps) f a)
 
-pub forest_apart : (sheet : List Record) (sur : Surroundings) (b : Option MarkParts) (f : Forest) (s a z : List ℕ) → s ≡ a ++ (bytes_of f ++ z) → Runs (length a) f → Apart s (length a) (length a + length (bytes_of f)) (leaves_from sheet sur b f)
+pub forest_apart : (sheet : List Record) (sur : Surroundings) (b : Option MarkParts) (f : Forest) (s a z : List ℕ)
+    → s ≡ a ++ (bytes_of f ++ z) → Runs (length a) f → Apart s (length a) (length a + length (bytes_of f)) (leaves_from sheet sur b f)
 forest_apart sheet sur b nothing s a z is r = tt
 forest_apart sheet sur b (text k t f) s a z is r =
     let sizes = length-append t (bytes_of f) in
     let l = length-append a t in
-    with_text_apart s sur b (is_nothing f) a t (bytes_of f ++ z) (is ∙ ap (λ l. a ++ l) (append_assoc t (bytes_of f) z)) k r.0 (length a + length (t ++ bytes_of f)) (omega arith)
+    with_text_apart s sur b (is_nothing f) a t (bytes_of f ++ z) (is ∙ ap (λ l. a ++ l) (append_assoc t (bytes_of f) z)) k r.0
+    (length a + length (t ++ bytes_of f)) (omega arith)
     (leaves_from sheet sur None f)
-    (from_to s (length (a ++ t)) (length a + length t) (length (a ++ t) + length (bytes_of f)) (length a + length (t ++ bytes_of f)) _ l (omega arith)
+    (from_to s (length (a ++ t)) (length a + length t) (length (a ++ t) + length (bytes_of f)) (length a + length (t ++ bytes_of f)) _ l
+    (omega arith)
     (forest_apart sheet sur None f s (a ++ t) z (past s a t (bytes_of f) z is) (runs_at _ _ f (sym l) r.1)))
 forest_apart sheet sur b (leaf k m f) s a z is r =
     let sizes = length-append (mark_bytes m) (bytes_of f) in
@@ -154,14 +168,22 @@ forest_apart sheet sur b (node k n x m ks c f) s a z is r =
     in
     let a_mark = length-append a (mark_bytes m) in
     let a_node = length-append a x in
-    let whole : length (bytes_of (node k n x m ks c f)) ≡ length x + length (bytes_of f) = ap length joined ∙ length-append x (bytes_of f) in
-    let inner : length x ≡ length (mark_bytes m) + length (bytes_of ks ++ close_bytes c) = ap length r.1 ∙ length-append (mark_bytes m) (bytes_of ks ++ close_bytes c) in
+    let whole : length (bytes_of (node k n x m ks c f)) ≡ length x + length (bytes_of f) =
+    ap length joined ∙ length-append x (bytes_of f) in
+    let inner : length x ≡ length (mark_bytes m) + length (bytes_of ks ++ close_bytes c) =
+    ap length r.1 ∙ length-append (mark_bytes m) (bytes_of ks ++ close_bytes c) in
     let kids = length-append (bytes_of ks) (close_bytes c) in
-    let first = forest_apart sheet (within sheet sur (record { kind = k; mark = m; is_closed = is_some c })) (Some m) ks s (a ++ mark_bytes m) (close_bytes c ++ (bytes_of f ++ z)) inside (runs_at _ _ ks (sym a_mark) r.2) in
-    let later = forest_apart sheet sur (node_end (mark_at_end (Some m) ks) c) f s (a ++ x) z (past s a x (bytes_of f) z at) (runs_at _ _ f (sym a_node) r.3) in
-    from_to s (length a) (length a) (length (a ++ x) + length (bytes_of f)) (length a + length (bytes_of (node k n x m ks c f))) _ refl (omega arith)
+    let first =
+    forest_apart sheet (within sheet sur (record { kind = k; mark = m; is_closed = is_some c })) (Some m) ks s (a ++ mark_bytes m)
+    (close_bytes c ++ (bytes_of f ++ z)) inside (runs_at _ _ ks (sym a_mark) r.2) in
+    let later =
+    forest_apart sheet sur (node_end (mark_at_end (Some m) ks) c) f s (a ++ x) z (past s a x (bytes_of f) z at)
+    (runs_at _ _ f (sym a_node) r.3) in
+    from_to s (length a) (length a) (length (a ++ x) + length (bytes_of f)) (length a + length (bytes_of (node k n x m ks c f))) _ refl
+    (omega arith)
     (apart_append s (length a) (length (a ++ x)) (length (a ++ x) + length (bytes_of f)) _ _ (omega arith) (omega arith)
-    (apart_from s (length a) (length (a ++ mark_bytes m)) (length (a ++ x)) _ (omega arith) (apart_to s _ (length (a ++ mark_bytes m) + length (bytes_of ks)) (length (a ++ x)) _ (omega arith) first))
+    (apart_from s (length a) (length (a ++ mark_bytes m)) (length (a ++ x)) _ (omega arith)
+    (apart_to s _ (length (a ++ mark_bytes m) + length (bytes_of ks)) (length (a ++ x)) _ (omega arith) first))
     later)
 
 -- the plain leaves of a text stand apart in it
@@ -172,4 +194,5 @@ leaves_apart sheet s =
     let join = tree_bytes styles s in
     subst (Apart s 0 (length s)) (sym (sites_read sheet [] None (tree_of styles s)))
     (from_to s 0 0 (0 + length (bytes_of (tree_of styles s))) (length s) _ refl (let l = ap length join in omega arith)
-    (forest_apart sheet (inside_of sheet []) None (tree_of styles s) s [] [] (sym join ∙ sym (append-nil (bytes_of (tree_of styles s)))) (tree_runs styles s)))
+    (forest_apart sheet (inside_of sheet []) None (tree_of styles s) s [] [] (sym join ∙ sym (append-nil (bytes_of (tree_of styles s))))
+    (tree_runs styles s)))

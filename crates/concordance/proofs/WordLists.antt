@@ -1,28 +1,29 @@
--- Words gathered from spellings: the spellings of the least form first, and whichever the spellings' order.
-use Rattle.std.proofs.Common.{◌≡◌, ℕ, ◌<◌, Bool, true, false, cond, ◌&&◌, ◌||◌, List, [], ◌∷◌, ◌++◌, length, take, drop, get_or, map, filter, append-nil, ◌⊎◌, inl, inr, refl, sym, ap, subst, ◌∙◌, arith}
+-- Words gathered from spellings, whatever their order and however often one is told.
+use Rattle.std.proofs.Common.{◌≡◌, ℕ, ◌<◌, Bool, true, false, cond, ◌&&◌, ◌||◌, List, [], ◌∷◌, ◌++◌, length, map, filter, append-nil, refl, sym, ap, ◌∙◌, arith}
 use Rattle.std.specs.declared.cmp.Ordering.{Ordering}
 use Rattle.std.specs.declared.cmp.Ordering.TheVariants.{Less, Equal, Greater}
-use Rattle.std.specs.Ordering.{is_eq, is_lt, ordering_then}
-use Rattle.std.specs.Cmp.{tied_itself}
+use Rattle.std.specs.Ordering.{is_eq, is_lt}
+use Rattle.std.specs.Cmp.{tied_itself, Equal-is}
 use Rattle.std.specs.Cmp.Lexicographic.{bytes_decides}
 use Rattle.std.specs.FinMap.Entries.{by_order}
-use Rattle.std.specs.List.{list_any, list_all, take_while}
+use Rattle.std.specs.List.{list_any, list_all}
+use Rattle.std.specs.List.Sorted.{IsPermutation}
 use Rattle.std.specs.Str.{bytes_eq}
-use Rattle.std.proofs.lemmas.Bool.{and_parts, and_from, true≢false, false≢true}
-use Rattle.std.proofs.lemmas.List.{map-append, length-map}
+use Rattle.std.proofs.lemmas.Bool.{and_parts, and_from, or_right, true≢false, false≢true}
+use Rattle.std.proofs.lemmas.List.{length-map}
 use Rattle.std.proofs.lemmas.List.Elements.{filter-append}
-use Rattle.std.proofs.lemmas.List.Folds.{list_all-append}
-use Rattle.std.proofs.lemmas.List.Sums.{take_while-cons}
-use Rattle.std.proofs.Math.Seq.{take-append_seam, drop-append_seam}
+use Rattle.std.proofs.lemmas.List.Folds.{list_all-append, list_any-append}
+use Rattle.std.proofs.lemmas.List.Sorted.{list_any-IsPermutation}
+use Rattle.std.proofs.Common.{false-eqb}
 use Rattle.usfm_ref.specs.Keys.{KeyParts, key_cmp}
 use Rattle.usfm_ref.specs.Rising.{rises_by, with_item, rising}
 use Rattle.usfm_ref.proofs.Members.{same_tested, tested_rising}
 use Rattle.usfm_ref.proofs.Orders.{key_total, key_exact}
-use Rattle.usfm_ref.proofs.Sorted.{rises-rising, is_less, Above, parts}
-use Rattle.concordance.specs.EntryViews.{entry_view, entries_view, spelling_cmp}
+use Rattle.usfm_ref.proofs.Sorted.{rises-rising, is_less}
+use Rattle.concordance.specs.SpellingOrder.{spelling_cmp}
+use Rattle.concordance.specs.Groups.{Group, told_by, told, is_bare, has_bare, is_told, TellsSame}
 use Rattle.concordance.specs.Words.{Spelling, WordParts, form_cmp, keys_with, word_with, words_in}
-use Rattle.concordance.specs.declared.listing.Entry.{Entry}
-use Rattle.concordance.proofs.EntryLemmas.{form_total, form_exact, spelling_total, spelling_exact}
+use Rattle.concordance.proofs.OrderLemmas.{form_total, form_exact, spelling_total, spelling_exact}
 
 -- ---- rising lists
 
@@ -45,77 +46,77 @@ module _ {K : Type 0} (cmp : K → K → Ordering) where
       let q = and_parts (is_lt (cmp k x)) (list_all (λ x. is_lt (cmp k x)) xs) h in
       ap (λ r. by_order r (k ∷ x ∷ xs) (x ∷ xs) (x ∷ with_item cmp k xs)) (is_less _ q.0)
 
-  -- a rising list is its rising one
-  rising_already : (xs : List K) → rises_by cmp (λ x. x) xs ≡ true → rising cmp xs ≡ xs
-  rising_already [] h = refl
-  rising_already (x ∷ xs) h =
-      let q = and_parts (list_all (λ y. is_lt (cmp x y)) xs) (rises_by cmp (λ x. x) xs) h in
-      ap (with_item cmp x) (rising_already xs q.1) ∙ with_least x xs q.0
-
-  module _ (exact : (a b : K) → cmp a b ≡ Equal → a ≡ b) (p : K → Bool) where
-    any_with : (k : K) (xs : List K) → list_any p (with_item cmp k xs) ≡ (p k || list_any p xs)
-    any_with k [] = refl
-    any_with k (x ∷ xs) = by (any_with k xs) (cmp k x) refl
-      where
-        twice : (a b : Bool) → (a || b) ≡ (a || (a || b))
-        twice true b = refl
-        twice false b = refl
-
-        swap : (a b c : Bool) → (a || (b || c)) ≡ (b || (a || c))
-        swap true true c = refl
-        swap true false c = refl
-        swap false true c = refl
-        swap false false c = refl
-
-        by : list_any p (with_item cmp k xs) ≡ (p k || list_any p xs) → (r : Ordering) → cmp k x ≡ r → list_any p (by_order r (k ∷ x ∷ xs) (x ∷ xs) (x ∷ with_item cmp k xs)) ≡ (p k || (p x || list_any p xs))
-        by rest Less e = refl
-        by rest Equal e = twice (p x) (list_any p xs) ∙ ap (λ (i : K). p i || (p x || list_any p xs)) (sym (exact k x e))
-        by rest Greater e = ap (λ b. p x || b) rest ∙ swap (p x) (p k) (list_any p xs)
-
-    -- what is told once is what there is
-    any_rising : (xs : List K) → list_any p (rising cmp xs) ≡ list_any p xs
-    any_rising [] = refl
-    any_rising (x ∷ xs) = any_with x (rising cmp xs) ∙ ap (λ b. p x || b) (any_rising xs)
-
 -- ---- the words do not hang on the order of the spellings, nor on how often one is told
 
-any_forms : (f : List ℕ) (ss : List Spelling) → list_any (λ g. is_eq (form_cmp f g)) (map (λ s. s.form) ss) ≡ list_any (λ s. is_eq (form_cmp f s.form)) ss
+any_forms : (f : List ℕ) (ss : List Spelling)
+    → list_any (λ g. is_eq (form_cmp f g)) (map (λ s. s.form) ss) ≡ list_any (λ s. is_eq (form_cmp f s.form)) ss
 any_forms f [] = refl
 any_forms f (s ∷ ss) = ap (λ b. is_eq (form_cmp f s.form) || b) (any_forms f ss)
 
-any_keys : (f : List ℕ) (k : KeyParts) (ss : List Spelling) → list_any (λ j. is_eq (key_cmp k j)) (keys_with ss f) ≡ list_any (λ s. bytes_eq s.form f && is_eq (key_cmp k s.key)) ss
+any_keys : (f : List ℕ) (k : KeyParts) (ss : List Spelling)
+    → list_any (λ j. is_eq (key_cmp k j)) (keys_with ss f) ≡ list_any (λ s. bytes_eq s.form f && is_eq (key_cmp k s.key)) ss
 any_keys f k [] = refl
 any_keys f k (s ∷ ss) = by (any_keys f k ss) (bytes_eq s.form f)
   where
     by : list_any (λ j. is_eq (key_cmp k j)) (keys_with ss f) ≡ list_any (λ s. bytes_eq s.form f && is_eq (key_cmp k s.key)) ss
-        → (b : Bool) → list_any (λ j. is_eq (key_cmp k j)) (map (λ s. s.key) (cond b (s ∷ filter (λ s. bytes_eq s.form f) ss) (filter (λ s. bytes_eq s.form f) ss))) ≡ ((b && is_eq (key_cmp k s.key)) || list_any (λ s. bytes_eq s.form f && is_eq (key_cmp k s.key)) ss)
+        → (b : Bool) → list_any (λ j. is_eq (key_cmp k j))
+        (map (λ s. s.key) (cond b (s ∷ filter (λ s. bytes_eq s.form f) ss) (filter (λ s. bytes_eq s.form f) ss)))
+        ≡ ((b && is_eq (key_cmp k s.key)) || list_any (λ s. bytes_eq s.form f && is_eq (key_cmp k s.key)) ss)
     by rest true = ap (λ b. is_eq (key_cmp k s.key) || b) rest
     by rest false = rest
 
-forms_once : (ss : List Spelling) → rising form_cmp (map (λ s. s.form) (rising spelling_cmp ss)) ≡ rising form_cmp (map (λ s. s.form) ss)
-forms_once ss =
-    let once = rising spelling_cmp ss in
-    same_tested form_cmp form_total form_exact (rising form_cmp (map (λ s. s.form) once)) (rising form_cmp (map (λ s. s.form) ss))
-    (rises-rising form_cmp form_total (map (λ s. s.form) once)) (rises-rising form_cmp form_total (map (λ s. s.form) ss))
+-- what is told in one list and also in another
+abbrev Also : List Spelling → List Spelling → Type 0
+Also ss ts = (s : Spelling) → is_told s ss ≡ true → is_told s ts ≡ true
+
+module _ (p : Spelling → Bool) where
+  any_told : (s : Spelling) (ts : List Spelling) → p s ≡ true → is_told s ts ≡ true → list_any p ts ≡ true
+  any_told s [] e h = absurd (false≢true h)
+  any_told s (t ∷ ts) e h = by (any_told s ts e) (is_eq (spelling_cmp s t)) refl
+    where
+      by : (is_told s ts ≡ true → list_any p ts ≡ true) → (b : Bool) → is_eq (spelling_cmp s t) ≡ b → list_any p (t ∷ ts) ≡ true
+      by rest true k = ap (λ b. b || list_any p ts) (ap p (sym (spelling_exact s t ((Equal-is _).0 k))) ∙ e)
+      by rest false k = or_right (p t) _ (rest (sym (ap (λ b. b || is_told s ts) k) ∙ h))
+
+  any_also : (ss ts : List Spelling) → Also ss ts → list_any p ss ≡ true → list_any p ts ≡ true
+  any_also [] ts also h = absurd (false≢true h)
+  any_also (s ∷ ss) ts also h = by (any_also ss ts (λ t k. also t (or_right (is_eq (spelling_cmp t s)) _ k))) (p s) refl
+    where
+      by : (list_any p ss ≡ true → list_any p ts ≡ true) → (b : Bool) → p s ≡ b → list_any p ts ≡ true
+      by rest true e = any_told s ts e (also s (ap (λ r. is_eq r || is_told s ss) (tied_itself spelling_total s)))
+      by rest false e = rest (sym (ap (λ b. b || list_any p ss) e) ∙ h)
+
+  any_same : (ss ts : List Spelling) → TellsSame ss ts → list_any p ss ≡ list_any p ts
+  any_same ss ts same = both _ _ (any_also ss ts (λ s h. sym (same s) ∙ h)) (any_also ts ss (λ s h. same s ∙ h))
+    where
+      both : (a b : Bool) → (a ≡ true → b ≡ true) → (b ≡ true → a ≡ true) → a ≡ b
+      both true b f g = sym (f refl)
+      both false true f g = absurd (false≢true (g refl))
+      both false false f g = refl
+
+forms_same : (ss ts : List Spelling) → TellsSame ss ts → rising form_cmp (map (λ s. s.form) ss) ≡ rising form_cmp (map (λ s. s.form) ts)
+forms_same ss ts same =
+    same_tested form_cmp form_total form_exact (rising form_cmp (map (λ s. s.form) ss)) (rising form_cmp (map (λ s. s.form) ts))
+    (rises-rising form_cmp form_total (map (λ s. s.form) ss)) (rises-rising form_cmp form_total (map (λ s. s.form) ts))
     (λ f.
-    tested_rising form_cmp form_total form_exact f (map (λ s. s.form) once) ∙ any_forms f once
-    ∙ any_rising spelling_cmp spelling_exact (λ s. is_eq (form_cmp f s.form)) ss
-    ∙ sym (any_forms f ss) ∙ sym (tested_rising form_cmp form_total form_exact f (map (λ s. s.form) ss)))
+    tested_rising form_cmp form_total form_exact f (map (λ s. s.form) ss) ∙ any_forms f ss
+    ∙ any_same (λ s. is_eq (form_cmp f s.form)) ss ts same
+    ∙ sym (any_forms f ts) ∙ sym (tested_rising form_cmp form_total form_exact f (map (λ s. s.form) ts)))
 
-keys_once : (f : List ℕ) (ss : List Spelling) → rising key_cmp (keys_with (rising spelling_cmp ss) f) ≡ rising key_cmp (keys_with ss f)
-keys_once f ss =
-    let once = rising spelling_cmp ss in
-    same_tested key_cmp key_total key_exact (rising key_cmp (keys_with once f)) (rising key_cmp (keys_with ss f))
-    (rises-rising key_cmp key_total (keys_with once f)) (rises-rising key_cmp key_total (keys_with ss f))
+keys_same : (f : List ℕ) (ss ts : List Spelling) → TellsSame ss ts → rising key_cmp (keys_with ss f) ≡ rising key_cmp (keys_with ts f)
+keys_same f ss ts same =
+    same_tested key_cmp key_total key_exact (rising key_cmp (keys_with ss f)) (rising key_cmp (keys_with ts f))
+    (rises-rising key_cmp key_total (keys_with ss f)) (rises-rising key_cmp key_total (keys_with ts f))
     (λ k.
-    tested_rising key_cmp key_total key_exact k (keys_with once f) ∙ any_keys f k once
-    ∙ any_rising spelling_cmp spelling_exact (λ s. bytes_eq s.form f && is_eq (key_cmp k s.key)) ss
-    ∙ sym (any_keys f k ss) ∙ sym (tested_rising key_cmp key_total key_exact k (keys_with ss f)))
+    tested_rising key_cmp key_total key_exact k (keys_with ss f) ∙ any_keys f k ss
+    ∙ any_same (λ s. bytes_eq s.form f && is_eq (key_cmp k s.key)) ss ts same
+    ∙ sym (any_keys f k ts) ∙ sym (tested_rising key_cmp key_total key_exact k (keys_with ts f)))
 
-pub words_once : (ss : List Spelling) → words_in (rising spelling_cmp ss) ≡ words_in ss
-words_once ss =
-    ap (map (word_with (rising spelling_cmp ss))) (forms_once ss)
-    ∙ ap (λ (w : List ℕ → WordParts). map w (rising form_cmp (map (λ s. s.form) ss))) (λ i f. (let word : WordParts = record { form = f; keys = keys_once f ss i } in word))
+pub words_same : (ss ts : List Spelling) → TellsSame ss ts → words_in ss ≡ words_in ts
+words_same ss ts same =
+    ap (map (word_with ss)) (forms_same ss ts same)
+    ∙ ap (λ (w : List ℕ → WordParts). map w (rising form_cmp (map (λ s. s.form) ts)))
+    (λ i f. (let word : WordParts = record { form = f; keys = keys_same f ss ts same i } in word))
 
 -- ---- the word of the least form first
 
@@ -125,22 +126,22 @@ has_form f s = bytes_eq s.form f
 abbrev is_over : List ℕ → Spelling → Bool
 is_over f s = is_lt (form_cmp f s.form)
 
-abbrev Rises : List Spelling → Type 0
-Rises ss = rises_by spelling_cmp (λ s. s) ss ≡ true
-
 module _ (f : List ℕ) where
   same_form : (s : Spelling) → has_form f s ≡ true → s.form ≡ f
   same_form s h = (bytes_decides s.form f).0 h
 
   -- the forms of what has the form, and of what is over it
-  forms_split : (front back : List Spelling) → 0 < length front → list_all (has_form f) front ≡ true → list_all (is_over f) back ≡ true → rising form_cmp (map (λ s. s.form) (front ++ back)) ≡ f ∷ rising form_cmp (map (λ s. s.form) back)
+  forms_split : (front back : List Spelling) → 0 < length front → list_all (has_form f) front ≡ true → list_all (is_over f) back ≡ true
+      → rising form_cmp (map (λ s. s.form) (front ++ back)) ≡ f ∷ rising form_cmp (map (λ s. s.form) back)
   forms_split [] back some h over = absurd (omega arith)
   forms_split (s ∷ []) back some h over =
       let q = and_parts (has_form f s) true h in
       ap (λ (g : List ℕ). with_item form_cmp g (rising form_cmp (map (λ s. s.form) back))) (same_form s q.0)
-      ∙ with_least form_cmp f (rising form_cmp (map (λ s. s.form) back)) (all_rising form_cmp (λ g. is_lt (form_cmp f g)) (map (λ s. s.form) back) (over_forms back over))
+      ∙ with_least form_cmp f (rising form_cmp (map (λ s. s.form) back))
+      (all_rising form_cmp (λ g. is_lt (form_cmp f g)) (map (λ s. s.form) back) (over_forms back over))
     where
-      over_forms : (ss : List Spelling) → list_all (is_over f) ss ≡ true → list_all (λ g. is_lt (form_cmp f g)) (map (λ s. s.form) ss) ≡ true
+      over_forms : (ss : List Spelling) → list_all (is_over f) ss ≡ true
+          → list_all (λ g. is_lt (form_cmp f g)) (map (λ s. s.form) ss) ≡ true
       over_forms [] h = refl
       over_forms (t ∷ ss) h = let q = and_parts (is_over f t) (list_all (is_over f) ss) h in and_from _ _ q.0 (over_forms ss q.1)
   forms_split (s ∷ t ∷ front) back some h over =
@@ -161,7 +162,8 @@ module _ (f : List ℕ) where
     where
       by : (b : Bool) → has_form f s ≡ b → has_form f s ≡ false
       by false e = e
-      by true e = absurd (true≢false (sym h ∙ ap (λ (g : List ℕ). is_lt (form_cmp f g)) (same_form s e) ∙ ap is_lt (tied_itself form_total f)))
+      by true e =
+          absurd (true≢false (sym h ∙ ap (λ (g : List ℕ). is_lt (form_cmp f g)) (same_form s e) ∙ ap is_lt (tied_itself form_total f)))
 
   none_kept : (back : List Spelling) → list_all (is_over f) back ≡ true → filter (has_form f) back ≡ []
   none_kept [] h = refl
@@ -170,7 +172,8 @@ module _ (f : List ℕ) where
       ap (λ b. cond b (s ∷ filter (has_form f) back) (filter (has_form f) back)) (not_over s q.0) ∙ none_kept back q.1
 
   -- another form is none of those at the front
-  none_other : (g : List ℕ) (front : List Spelling) → is_lt (form_cmp f g) ≡ true → list_all (has_form f) front ≡ true → filter (has_form g) front ≡ []
+  none_other : (g : List ℕ) (front : List Spelling) → is_lt (form_cmp f g) ≡ true → list_all (has_form f) front ≡ true
+      → filter (has_form g) front ≡ []
   none_other g [] l h = refl
   none_other g (s ∷ front) l h =
       let q = and_parts (has_form f s) (list_all (has_form f) front) h in
@@ -182,32 +185,19 @@ module _ (f : List ℕ) where
           let same : f ≡ g = sym (same_form s k) ∙ (bytes_decides s.form g).0 e in
           absurd (true≢false (sym l ∙ ap (λ (x : List ℕ). is_lt (form_cmp f x)) (sym same) ∙ ap is_lt (tied_itself form_total f)))
 
-  front_keys : (front : List Spelling) → list_all (has_form f) front ≡ true → Rises front → rises_by key_cmp (λ k. k) (map (λ s. s.key) front) ≡ true
-  front_keys [] h r = refl
-  front_keys (s ∷ front) h r =
-      let q = and_parts (has_form f s) (list_all (has_form f) front) h in
-      let p = parts spelling_cmp spelling_total (λ (s : Spelling). s) s front r in
-      and_from _ _ (over front q.1 p.0 (same_form s q.0)) (front_keys front q.1 p.1)
-    where
-      over : (ss : List Spelling) → list_all (has_form f) ss ≡ true → list_all (λ t. is_lt (spelling_cmp s t)) ss ≡ true → s.form ≡ f → list_all (λ k. is_lt (key_cmp s.key k)) (map (λ t. t.key) ss) ≡ true
-      over [] h a e = refl
-      over (t ∷ ss) h a e =
-          let q = and_parts (has_form f t) (list_all (has_form f) ss) h in
-          let p = and_parts (is_lt (spelling_cmp s t)) (list_all (λ t. is_lt (spelling_cmp s t)) ss) a in
-          let tied : form_cmp s.form t.form ≡ Equal = ap (λ (g : List ℕ). form_cmp s.form g) (same_form t q.0 ∙ sym e) ∙ tied_itself form_total s.form in
-          and_from _ _ (sym (ap (λ r. is_lt (ordering_then r (key_cmp s.key t.key))) tied) ∙ p.0) (over ss q.1 p.1 e)
-
   -- the words of what has the form, and then of what is over it
-  pub words_split : (front back : List Spelling) → 0 < length front → list_all (has_form f) front ≡ true → list_all (is_over f) back ≡ true → Rises front
-      → words_in (front ++ back) ≡ (let word : WordParts = record { form = f; keys = map (λ s. s.key) front } in word) ∷ words_in back
-  words_split front back some h over r =
+  pub words_split : (front back : List Spelling) → 0 < length front → list_all (has_form f) front ≡ true → list_all (is_over f) back ≡ true
+      → words_in (front ++ back) ≡ (let word : WordParts = record { form = f; keys = rising key_cmp (map (λ s. s.key) front) } in word)
+      ∷ words_in back
+  words_split front back some h over =
       ap (map (word_with (front ++ back))) (forms_split front back some h over)
-      ∙ (λ i. (let word : WordParts = record { form = f; keys = here i } in word) ∷ there (rising form_cmp (map (λ s. s.form) back)) forms_over i)
+      ∙ (λ i. (let word : WordParts = record { form = f; keys = here i } in word)
+      ∷ there (rising form_cmp (map (λ s. s.form) back)) forms_over i)
     where
-      here : rising key_cmp (keys_with (front ++ back) f) ≡ map (λ s. s.key) front
+      here : rising key_cmp (keys_with (front ++ back) f) ≡ rising key_cmp (map (λ s. s.key) front)
       here =
-          ap (λ l. rising key_cmp (map (λ s. s.key) l)) (filter-append (has_form f) front back ∙ (λ i. all_kept front h i ++ none_kept back over i) ∙ append-nil front)
-          ∙ rising_already key_cmp (map (λ s. s.key) front) (front_keys front h r)
+          ap (λ l. rising key_cmp (map (λ s. s.key) l))
+          (filter-append (has_form f) front back ∙ (λ i. all_kept front h i ++ none_kept back over i) ∙ append-nil front)
 
       forms_over : list_all (λ g. is_lt (form_cmp f g)) (rising form_cmp (map (λ s. s.form) back)) ≡ true
       forms_over = all_rising form_cmp (λ g. is_lt (form_cmp f g)) (map (λ s. s.form) back) (each back over)
@@ -216,112 +206,71 @@ module _ (f : List ℕ) where
           each [] h = refl
           each (t ∷ ss) h = let q = and_parts (is_over f t) (list_all (is_over f) ss) h in and_from _ _ q.0 (each ss q.1)
 
-      there : (gs : List (List ℕ)) → list_all (λ g. is_lt (form_cmp f g)) gs ≡ true → map (word_with (front ++ back)) gs ≡ map (word_with back) gs
+      there : (gs : List (List ℕ)) → list_all (λ g. is_lt (form_cmp f g)) gs ≡ true
+          → map (word_with (front ++ back)) gs ≡ map (word_with back) gs
       there [] a = refl
       there (g ∷ gs) a =
           let q = and_parts (is_lt (form_cmp f g)) (list_all (λ g. is_lt (form_cmp f g)) gs) a in
-          let keys : rising key_cmp (keys_with (front ++ back) g) ≡ rising key_cmp (keys_with back g) = ap (λ l. rising key_cmp (map (λ s. s.key) l)) (filter-append (has_form g) front back ∙ ap (λ l. l ++ filter (has_form g) back) (none_other g front q.0 h)) in
+          let keys : rising key_cmp (keys_with (front ++ back) g) ≡ rising key_cmp (keys_with back g) =
+          ap (λ l. rising key_cmp (map (λ s. s.key) l))
+          (filter-append (has_form g) front back ∙ ap (λ l. l ++ filter (has_form g) back) (none_other g front q.0 h)) in
           λ i. (let word : WordParts = record { form = g; keys = keys i } in word) ∷ there gs q.1 i
 
--- ---- entries of one form at the front
+-- ---- groups
 
-abbrev dropped : {X : Type 0} → (X → Bool) → List X → List X
-dropped p [] = []
-dropped p (x ∷ xs) = cond (p x) (dropped p xs) (x ∷ xs)
+abbrev pub word_told : Group → WordParts
+word_told g = record { form = g.0.now; keys = rising key_cmp g.1.items }
 
-front_back : {X : Type 0} (p : X → Bool) (xs : List X) → xs ≡ take_while p xs ++ dropped p xs
-front_back p [] = refl
-front_back p (x ∷ xs) = by (front_back p xs) (p x) refl
+group_has : (f : List ℕ) (ks : List KeyParts) → list_all (has_form f) (map (λ k. record { form = f; key = k }) ks) ≡ true
+group_has f [] = refl
+group_has f (k ∷ ks) = and_from _ _ ((bytes_decides f f).1 refl) (group_has f ks)
+
+group_keys : (f : List ℕ) (ks : List KeyParts) → map (λ s. s.key) (map (λ k. (let s : Spelling = record { form = f; key = k } in s)) ks)
+    ≡ ks
+group_keys f [] = refl
+group_keys f (k ∷ ks) = ap (λ l. k ∷ l) (group_keys f ks)
+
+group_over : (f g : List ℕ) (ks : List KeyParts) → is_lt (form_cmp f g) ≡ true
+    → list_all (is_over f) (map (λ k. record { form = g; key = k }) ks) ≡ true
+group_over f g [] l = refl
+group_over f g (k ∷ ks) l = and_from _ _ l (group_over f g ks l)
+
+groups_over : (f : List ℕ) (gs : List Group) → list_all (λ g. is_lt (form_cmp f g.0.now)) gs ≡ true → list_all (is_over f) (told gs) ≡ true
+groups_over f [] a = refl
+groups_over f (g ∷ gs) a =
+    let q = and_parts (is_lt (form_cmp f g.0.now)) (list_all (λ g. is_lt (form_cmp f g.0.now)) gs) a in
+    list_all-append (is_over f) (told_by g) (told gs) ∙ and_from _ _ (group_over f g.0.now g.1.items q.0) (groups_over f gs q.1)
+
+some_keys : (g : Group) → is_bare g ≡ false → 0 < length (told_by g)
+some_keys g h =
+    let l = length-map g.1.items (λ k. (let s : Spelling = record { form = g.0.now; key = k } in s)) in
+    let n = false-eqb (length g.1.items) 0 (sym h) in omega arith
+
+-- groups with rising forms tell a word each
+pub groups_words : (gs : List Group) → rises_by form_cmp (λ g. g.0.now) gs ≡ true → has_bare gs ≡ false
+    → words_in (told gs) ≡ map word_told gs
+groups_words [] r h = refl
+groups_words (g ∷ gs) r h =
+    let q = and_parts (list_all (λ x. is_lt (form_cmp g.0.now x.0.now)) gs) (rises_by form_cmp (λ g. g.0.now) gs) r in
+    let f = or_parts (is_bare g) (has_bare gs) h in
+    words_split g.0.now (told_by g) (told gs) (some_keys g f.0) (group_has g.0.now g.1.items) (groups_over g.0.now gs q.0)
+    ∙ (λ i. (let word : WordParts = record { form = g.0.now; keys = rising key_cmp (group_keys g.0.now g.1.items i) } in word)
+    ∷ groups_words gs q.1 f.1 i)
   where
-    by : xs ≡ take_while p xs ++ dropped p xs → (b : Bool) → p x ≡ b → x ∷ xs ≡ take_while p (x ∷ xs) ++ cond b (dropped p xs) (x ∷ xs)
-    by rest true e = ap (λ l. x ∷ l) rest ∙ ap (λ l. l ++ dropped p xs) (sym (take_while-cons p x xs ∙ ap (λ b. cond b (x ∷ take_while p xs) []) e))
-    by rest false e = ap (λ l. l ++ x ∷ xs) (sym (take_while-cons p x xs ∙ ap (λ b. cond b (x ∷ take_while p xs) []) e))
+    or_parts : (a b : Bool) → (a || b) ≡ false → (a ≡ false) × (b ≡ false)
+    or_parts true b e = absurd (true≢false e)
+    or_parts false b e = (refl, e)
 
-module _ (f : List ℕ) where
-  abbrev entry_has : Entry → Bool
-  entry_has e = bytes_eq e.form.now f
+-- ---- groups made, and put in order
 
-  front_has : (es : List Entry) → list_all (has_form f) (entries_view (take_while entry_has es)) ≡ true
-  front_has [] = refl
-  front_has (e ∷ es) = by (front_has es) (entry_has e) refl
-    where
-      by : list_all (has_form f) (entries_view (take_while entry_has es)) ≡ true → (b : Bool) → entry_has e ≡ b → list_all (has_form f) (entries_view (take_while entry_has (e ∷ es))) ≡ true
-      by rest true h = ap (λ l. list_all (has_form f) (entries_view l)) (take_while-cons entry_has e es ∙ ap (λ b. cond b (e ∷ take_while entry_has es) []) h) ∙ and_from _ _ h rest
-      by rest false h = ap (λ l. list_all (has_form f) (entries_view l)) (take_while-cons entry_has e es ∙ ap (λ b. cond b (e ∷ take_while entry_has es) []) h)
+is_told_groups : (s : Spelling) (gs : List Group) → is_told s (told gs) ≡ list_any (λ g. is_told s (told_by g)) gs
+is_told_groups s [] = refl
+is_told_groups s (g ∷ gs) =
+    list_any-append (λ t. is_eq (spelling_cmp s t)) (told_by g) (told gs) ∙ ap (λ b. is_told s (told_by g) || b) (is_told_groups s gs)
 
-  -- what comes after a spelling of a form no less has none less
-  at_least : (s t : Spelling) → is_lt (spelling_cmp s t) ≡ true → (form_cmp s.form t.form ≡ Less) ⊎ (s.form ≡ t.form)
-  at_least s t h = by (form_cmp s.form t.form) refl h
-    where
-      by : (r : Ordering) → form_cmp s.form t.form ≡ r → is_lt (ordering_then r (key_cmp s.key t.key)) ≡ true → (form_cmp s.form t.form ≡ Less) ⊎ (s.form ≡ t.form)
-      by Less e h = inl e
-      by Equal e h = inr (form_exact s.form t.form e)
-      by Greater e h = absurd (false≢true h)
+-- the order of groups does not matter
+pub reordered_tell : (gs hs : List Group) → IsPermutation gs hs → TellsSame (told gs) (told hs)
+reordered_tell gs hs p s = is_told_groups s gs ∙ list_any-IsPermutation (λ g. is_told s (told_by g)) gs hs p ∙ sym (is_told_groups s hs)
 
-  over_all : (s : Spelling) (ss : List Spelling) → form_cmp f s.form ≡ Less → Above spelling_cmp spelling_total (λ (s : Spelling). s) s ss → list_all (is_over f) ss ≡ true
-  over_all s [] l a = refl
-  over_all s (t ∷ ss) l a =
-      let q = and_parts (is_lt (spelling_cmp s t)) (list_all (λ t. is_lt (spelling_cmp s t)) ss) a in
-      and_from _ _ (ap is_lt (by (at_least s t q.0))) (over_all s ss l q.1)
-    where
-      by : (form_cmp s.form t.form ≡ Less) ⊎ (s.form ≡ t.form) → form_cmp f t.form ≡ Less
-      by (inl e) = form_total.trans f s.form t.form l e
-      by (inr e) = subst (λ (g : List ℕ). form_cmp f g ≡ Less) e l
-
-  back_over : (s : Spelling) (es : List Entry) → s.form ≡ f → Above spelling_cmp spelling_total (λ (s : Spelling). s) s (entries_view es) → Rises (entries_view es) → list_all (is_over f) (entries_view (dropped entry_has es)) ≡ true
-  back_over s [] e a r = refl
-  back_over s (x ∷ es) e a r =
-      let q = and_parts (is_lt (spelling_cmp s (entry_view x))) (list_all (λ t. is_lt (spelling_cmp s t)) (entries_view es)) a in
-      let p = parts spelling_cmp spelling_total (λ (s : Spelling). s) (entry_view x) (entries_view es) r in
-      by q.0 p.0 (λ same. back_over (entry_view x) es same p.0 p.1) (entry_has x) refl
-    where
-      by : is_lt (spelling_cmp s (entry_view x)) ≡ true → Above spelling_cmp spelling_total (λ (s : Spelling). s) (entry_view x) (entries_view es) → (x.form.now ≡ f → list_all (is_over f) (entries_view (dropped entry_has es)) ≡ true)
-          → (b : Bool) → entry_has x ≡ b → list_all (is_over f) (entries_view (cond b (dropped entry_has es) (x ∷ es))) ≡ true
-      by l above rest true h = rest ((bytes_decides x.form.now f).0 h)
-      by l above rest false h = over (at_least s (entry_view x) l)
-        where
-          over : (form_cmp s.form x.form.now ≡ Less) ⊎ (s.form ≡ x.form.now) → list_all (is_over f) (entries_view (x ∷ es)) ≡ true
-          over (inl k) =
-              let less : form_cmp f x.form.now ≡ Less = subst (λ (g : List ℕ). form_cmp g x.form.now ≡ Less) e k in
-              and_from _ _ (ap is_lt less) (over_all (entry_view x) (entries_view es) less above)
-          over (inr k) = absurd (false≢true (sym h ∙ (bytes_decides x.form.now f).1 (sym k ∙ e)))
-
-rises_front : (xs ys : List Spelling) → Rises (xs ++ ys) → Rises xs
-rises_front [] ys r = refl
-rises_front (x ∷ xs) ys r =
-    let p = parts spelling_cmp spelling_total (λ (s : Spelling). s) x (xs ++ ys) r in
-    and_from _ _ (and_parts (list_all (λ t. is_lt (spelling_cmp x t)) xs) (list_all (λ t. is_lt (spelling_cmp x t)) ys) (sym (list_all-append (λ t. is_lt (spelling_cmp x t)) xs ys) ∙ p.0)).0 (rises_front xs ys p.1)
-
-rises_back : (xs ys : List Spelling) → Rises (xs ++ ys) → Rises ys
-rises_back [] ys r = r
-rises_back (x ∷ xs) ys r = rises_back xs ys (parts spelling_cmp spelling_total (λ (s : Spelling). s) x (xs ++ ys) r).1
-
--- the word of the entries at the front that have the first one's form, and then those of the others
-pub front_word : (x : Entry) (es front back : List Entry) (n : ℕ) → 0 < length es → x ≡ get_or es 0 x → n ≡ length (take_while (λ e. bytes_eq e.form.now x.form.now) es) → front ≡ take n es → back ≡ drop n es → Rises (entries_view es)
-    → (words_in (entries_view es) ≡ (let word : WordParts = record { form = x.form.now; keys = map (λ e. e.key) front } in word) ∷ words_in (entries_view back)) × Rises (entries_view back) × (0 < n)
-front_word x [] front back n some is len e d r = absurd (omega arith)
-front_word x (y ∷ es) front back n some is len e d r =
-    let f = x.form.now in
-    let first : y.form.now ≡ f = ap (λ (e : Entry). e.form.now) (sym is) in
-    let has : entry_has f y ≡ true = (bytes_decides y.form.now f).1 first in
-    let tw = take_while (entry_has f) (y ∷ es) in
-    let dr = dropped (entry_has f) (y ∷ es) in
-    let cut : y ∷ es ≡ tw ++ dr = front_back (entry_has f) (y ∷ es) in
-    let front_is : front ≡ tw = e ∙ ap (λ k. take k (y ∷ es)) len ∙ ap (take (length tw)) cut ∙ take-append_seam tw dr in
-    let back_is : back ≡ dr = d ∙ ap (λ k. drop k (y ∷ es)) len ∙ ap (drop (length tw)) cut ∙ drop-append_seam tw dr in
-    let split : entries_view (y ∷ es) ≡ entries_view tw ++ entries_view dr = ap entries_view cut ∙ map-append entry_view tw dr in
-    let p = parts spelling_cmp spelling_total (λ (s : Spelling). s) (entry_view y) (entries_view es) r in
-    let some_front : 0 < length tw = (let l = ap length (take_while-cons (entry_has f) y es ∙ ap (λ b. cond b (y ∷ take_while (entry_has f) es) []) has) in omega arith) in
-    let dr_is : dr ≡ dropped (entry_has f) es = ap (λ b. cond b (dropped (entry_has f) es) (y ∷ es)) has in
-    let over : list_all (is_over f) (entries_view dr) ≡ true = ap (λ l. list_all (is_over f) (entries_view l)) dr_is ∙ back_over f (entry_view y) es first p.0 p.1 in
-    let r' : Rises (entries_view tw ++ entries_view dr) = subst Rises split r in (
-      ap words_in split
-          ∙ words_split f (entries_view tw) (entries_view dr) (let l = length-map tw entry_view in omega arith) (front_has f (y ∷ es)) over (rises_front (entries_view tw) (entries_view dr) r')
-          ∙ (λ i. (let word : WordParts = record { form = f; keys = (keys_seen tw ∙ ap (map (λ e. e.key)) (sym front_is)) i } in word) ∷ words_in (entries_view (sym back_is i))),
-      subst (λ l. Rises (entries_view l)) (sym back_is) (rises_back (entries_view tw) (entries_view dr) r'),
-      omega arith,
-    )
-  where
-    keys_seen : (xs : List Entry) → map (λ s. s.key) (entries_view xs) ≡ map (λ e. e.key) xs
-    keys_seen [] = refl
-    keys_seen (x ∷ xs) = ap (λ l. x.key ∷ l) (keys_seen xs)
+pub reordered_keyed : (gs hs : List Group) → IsPermutation gs hs → has_bare gs ≡ false → has_bare hs ≡ false
+reordered_keyed gs hs p h = sym (list_any-IsPermutation is_bare gs hs p) ∙ h

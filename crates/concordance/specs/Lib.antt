@@ -7,5 +7,6 @@ pub mod KeyedViews
 pub mod Words
 pub mod RunReading
 pub mod SpellingViews
-pub mod EntryViews
+pub mod SpellingOrder
+pub mod Groups
 pub mod Laws

@@ -126,6 +126,9 @@ fn hits_of<'a>(
     }
     let leaves = plain_leaves(alloc, text, sheet)?;
     let found = occurrences(alloc, needle, &leaves)?;
+    if found.is_empty() {
+        return Ok(Vec::new(alloc));
+    }
     let pieces = cut(alloc, text)?;
     Keyed::new(&found, &pieces).collect(alloc)
 }

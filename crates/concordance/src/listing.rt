@@ -1,15 +1,16 @@
-ghost use Rattle.std.specs.Prelude.{◌≡◌, ◌≤◌, IsTrue, length, map, take_while, IfOk};
-ghost use Rattle.std.specs.Str.{bytes_eq};
+ghost use Rattle.std.specs.Prelude.{◌≡◌, IsTrue, IsFalse, IfOk, OnOk};
 ghost use Rattle.sty_sheet.specs.Views.{records_of};
-ghost use Rattle.usfm_ref.specs.Rising.{rising, rises_by};
-ghost use Rattle.concordance.specs.EntryViews.{entry_view, entries_view, spelling_cmp};
-ghost use Rattle.concordance.specs.SpellingViews.{spelling_view, spellings_view};
+ghost use Rattle.usfm_ref.specs.Keys.{key_cmp};
+ghost use Rattle.usfm_ref.specs.Rising.{rising};
+ghost use Rattle.concordance.specs.Groups.{told, has_bare, rise, AlsoTells, TellsSame};
+ghost use Rattle.concordance.specs.SpellingViews.{spellings_view};
 ghost use Rattle.concordance.specs.Words as spec;
 
 use crate::keyed::Keyed;
 use crate::plain::plain_leaves;
 use crate::runs::runs;
 use crate::spelling::{Spelling, spellings};
+use indexmap::IndexMap;
 use std::alloc::{AllocError, Global};
 use std::marker::Model;
 use sty_sheet::Sheet;
@@ -48,85 +49,84 @@ impl Word {
     }
 }
 
-// A form at a key. Entries go by the form's bytes, and then by key.
-#[derive(Clone, Copy, Debug, PartialEq, Eq, PartialOrd, Ord)]
-struct Entry<'f> {
+// Puts a key behind those of a form.
+fn note<'f>(
+    alloc: Global,
+    groups: &mut IndexMap<&'f str, Vec<Key>>,
     form: &'f str,
     key: Key,
-}
-
-impl<'f> Entry<'f> {
-    fn of(spelling: &'f Spelling<'_>) -> Entry<'f>
-        ensures { entry_view result ≡ spelling_view spelling.now }
-    {
-        let form = spelling.form.text();
-        let key = spelling.key;
-        Entry { form, key }
+) -> Result<(), AllocError>
+    requires keyed { IsFalse (has_bare groups.old.entries) }
+    ensures told { OnOk result (AlsoTells (told groups.old.entries)
+        (record { form = form.entry.now; key = key }) (told groups.new.entries)) }
+    ensures keyed { OnOk result (IsFalse (has_bare groups.new.entries)) }
+{
+    match groups.get_index_of(form) {
+        Some(at) => groups[at].push(key)?,
+        None => {
+            let mut keys = Vec::new(alloc);
+            keys.push(key)?;
+            groups.insert(form, keys)?;
+        }
     }
+    Ok(())
 }
 
-// The entries of spellings, in their order.
-fn collected<'f>(alloc: Global, spellings: &'f [Spelling<'_>]) -> Result<Vec<Entry<'f>>, AllocError>
-    ensures { IfOk result (λ entries.
-        entries_view entries.items ≡ spellings_view spellings.now) }
+// The keys of each form of spellings.
+fn grouped<'f>(
+    alloc: Global,
+    spellings: &'f [Spelling<'_>],
+) -> Result<IndexMap<&'f str, Vec<Key>>, AllocError>
+    ensures told { IfOk result (λ groups.
+        TellsSame (spellings_view spellings.now) (told groups.entries)) }
+    ensures keyed { IfOk result (λ groups. IsFalse (has_bare groups.entries)) }
 {
-    spellings
-        .iter()
-        .map(|spelling| Entry::of(spelling))
-        .collect(alloc)
+    let mut groups = IndexMap::new(alloc);
+    for spelling in spellings {
+        note(alloc, &mut groups, spelling.form.text(), spelling.key)?;
+    }
+    Ok(groups)
 }
 
-// The entries of spellings, rising, each once.
-fn entries<'f>(alloc: Global, spellings: &'f [Spelling<'_>]) -> Result<Vec<Entry<'f>>, AllocError>
-    ensures { IfOk result (λ entries.
-        entries_view entries.items ≡ rising spelling_cmp (spellings_view spellings.now)) }
-{
-    let mut entries = collected(alloc, spellings)?;
-    entries.sort_unstable();
-    entries.dedup();
-    Ok(entries)
-}
-
-// The word of entries of one form.
-fn word_of(alloc: Global, form: &str, entries: &[Entry<'_>]) -> Result<Word, AllocError>
+// The word of a form that stands at keys.
+fn word_of(alloc: Global, form: &str, keys: &[Key]) -> Result<Word, AllocError>
     ensures form { IfOk result (λ word. word.form ≡ form.now) }
-    ensures keys { IfOk result (λ word. word.keys ≡ map (λ e. e.key) entries.now) }
+    ensures keys { IfOk result (λ word. word.keys ≡ rising key_cmp keys.now) }
 {
-    let mut keys = Vec::with_capacity(alloc, entries.len())?;
-    for entry in entries {
-        keys.push(entry.key)?;
-    }
+    let mut keys = Vec::from_slice(alloc, keys)?;
+    keys.sort_unstable();
+    keys.dedup();
     Ok(Word {
         form: String::from_str(alloc, form)?,
         keys,
     })
 }
 
-// How many entries at the front have the form.
-fn front_len(form: &str, entries: &[Entry<'_>]) -> usize
-    ensures value { result
-        ≡ length (take_while (λ e. bytes_eq e.form.now form.now) entries.now) }
-    ensures within { result ≤ length entries.now }
+// Groups put in the order of their forms.
+fn in_order<'f>(
+    mut groups: IndexMap<&'f str, Vec<Key>>,
+) -> Result<IndexMap<&'f str, Vec<Key>>, AllocError>
+    requires keyed { IsFalse (has_bare groups.entries) }
+    ensures told { IfOk result (λ sorted.
+        TellsSame (told groups.entry.entries) (told sorted.entries)) }
+    ensures keyed { IfOk result (λ sorted. IsFalse (has_bare sorted.entries)) }
+    ensures rise { IfOk result (λ sorted. IsTrue (rise sorted.entries)) }
 {
-    entries
-        .iter()
-        .take_while(|entry| entry.form == form)
-        .count()
+    groups.sort_unstable_keys()?;
+    Ok(groups)
 }
 
-// A word for each form of rising entries.
-fn gathered(alloc: Global, entries: &[Entry<'_>]) -> Result<Vec<Word>, AllocError>
-    requires { IsTrue (rises_by spelling_cmp (λ s. s) (entries_view entries.now)) }
-    ensures { IfOk result (λ words. words.items ≡ spec.words_in (entries_view entries.now)) }
+// The words of groups whose forms rise.
+fn gathered(alloc: Global, groups: &IndexMap<&str, Vec<Key>>) -> Result<Vec<Word>, AllocError>
+    requires keyed { IsFalse (has_bare groups.now.entries) }
+    requires rise { IsTrue (rise groups.now.entries) }
+    ensures { IfOk result (λ words. words.items ≡ spec.words_in (told groups.now.entries)) }
 {
-    let mut words = Vec::new(alloc);
-    let mut done = 0;
-    while done < entries.len() {
-        let form = entries[done].form;
-        let (_, rest) = entries.split_at(done);
-        let (of_form, _) = rest.split_at(front_len(form, rest));
-        words.push(word_of(alloc, form, of_form)?)?;
-        done += of_form.len();
+    let mut words = Vec::with_capacity(alloc, groups.len())?;
+    for index in 0..groups.len() {
+        if let Some((form, keys)) = groups.get_index(index) {
+            words.push(word_of(alloc, form, keys)?)?;
+        }
     }
     Ok(words)
 }
@@ -147,6 +147,7 @@ pub fn words(alloc: Global, text: &str, sheet: &Sheet<'_>) -> Result<Vec<Word>, 
     let runs = runs(alloc, &leaves)?;
     let pieces = cut(alloc, text)?;
     let spellings = spellings(alloc, Keyed::new(&runs, &pieces))?;
-    let entries = entries(alloc, &spellings)?;
-    gathered(alloc, &entries)
+    let groups = grouped(alloc, &spellings)?;
+    let sorted = in_order(groups)?;
+    gathered(alloc, &sorted)
 }

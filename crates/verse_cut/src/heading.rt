@@ -16,8 +16,10 @@ use usfm_ref::Book;
 /// `BadBook` where no code, and what may follow it, stands behind.
 pub fn book_of(text: &str) -> Result<Book, BookFault>
     ensures reads { IfOk result (λ book. IsHeaded book text.now) }
-    ensures only { (book : List ℕ) → IsTrue (is_book_code book) → IsHeaded book text.now → result ≡ Ok book }
-    ensures no_id { (result ≡ Err BookFault.NoId) ↔ ((behind : List ℕ) → BeginsWithId text.now behind → ⊥) }
+    ensures only { (book : List ℕ) → IsTrue (is_book_code book)
+        → IsHeaded book text.now → result ≡ Ok book }
+    ensures no_id { (result ≡ Err BookFault.NoId)
+        ↔ ((behind : List ℕ) → BeginsWithId text.now behind → ⊥) }
     ensures value { result ≡ reading.book_in text.now }
 {
     match behind_id(text.as_bytes()) {
@@ -45,7 +47,8 @@ pub(crate) fn is_headed(book: Book, text: &str) -> bool
 // What stands behind `\id` and one blank at the front, or behind U+FEFF at the front.
 #[tactic(auto, unfolding(crate::specs::Reading::behind_id))]
 fn behind_id(text: &[u8]) -> Option<&[u8]>
-    ensures { MatchOption result (reading.behind_id text.now ≡ None) (λ behind. reading.behind_id text.now ≡ Some behind.now) }
+    ensures { MatchOption result (reading.behind_id text.now ≡ None)
+        (λ behind. reading.behind_id text.now ≡ Some behind.now) }
 {
     match text {
         [0xEF, 0xBB, 0xBF, bytes @ ..] => id_at(bytes),
@@ -54,7 +57,8 @@ fn behind_id(text: &[u8]) -> Option<&[u8]>
 }
 
 fn id_at(bytes: &[u8]) -> Option<&[u8]>
-    ensures { MatchOption result (reading.id_at bytes.now ≡ None) (λ behind. reading.id_at bytes.now ≡ Some behind.now) }
+    ensures { MatchOption result (reading.id_at bytes.now ≡ None)
+        (λ behind. reading.id_at bytes.now ≡ Some behind.now) }
 {
     match bytes {
         [b'\\', b'i', b'd', blank, behind @ ..] if is_blank(*blank) => Some(behind),

@@ -49,7 +49,8 @@ impl<'a> Walk<'a> {
     // chapter.
     fn step(&mut self, chapter: u16) -> Option<Option<Key>>
         requires { chapter ≤ 999 }
-        ensures { MatchOption result (tokens_of self.old.here.now ≡ []) (λ key. TakesToken chapter self.old.here.now self.new.here.now key) }
+        ensures { MatchOption result (tokens_of self.old.here.now ≡ [])
+            (λ key. TakesToken chapter self.old.here.now self.new.here.now key) }
     {
         let token = self.next?;
         self.here = self.tokens.rest();
@@ -59,14 +60,16 @@ impl<'a> Walk<'a> {
 
     // Whether the mark at the front has the key. The walk stands behind it.
     pub(crate) fn leads(&mut self, key: Key) -> bool
-        ensures { leads key (tokens_of self.old.here.now) ≡ (result && is_quiet key (tokens_of self.new.here.now)) }
+        ensures { leads key (tokens_of self.old.here.now)
+            ≡ (result && is_quiet key (tokens_of self.new.here.now)) }
     {
         self.step(key.chapter) == Some(Some(key))
     }
 
     // The next mark whose key is above this one, whose chapter is the greatest so far.
     pub(crate) fn next_above(&mut self, key: Key) -> Option<Opening<'a>>
-        ensures { MatchOption result (GoesToEnd key self.old.here.now) (λ o. OpensAt key self.old.here.now o.here.now o.behind.now o.key) }
+        ensures { MatchOption result (GoesToEnd key self.old.here.now)
+            (λ o. OpensAt key self.old.here.now o.here.now o.behind.now o.key) }
     {
         let chapter = key.chapter;
         loop {
@@ -95,7 +98,8 @@ fn is_below(key: Key, other: Key) -> bool
 // The key of a token before the next one, where a verse stands in the chapter.
 fn key_of(chapter: u16, token: Token<'_>, next: Option<Token<'_>>) -> Option<Key>
     requires { chapter ≤ 999 }
-    ensures { (ts : List Lexeme) → IsFirst next.entry ts → result ≡ key_of chapter (lexeme token.entry) ts }
+    ensures { (ts : List Lexeme) → IsFirst next.entry ts
+        → result ≡ key_of chapter (lexeme token.entry) ts }
 {
     let Token::Mark(mark) = token else {
         return None;

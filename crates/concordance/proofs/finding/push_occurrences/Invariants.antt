@@ -9,6 +9,7 @@ invariant-loop-at l =
     (goal.iterator-loop-at).can_next l.at-iterator
     × (goal.iterator-loop-at).is_finite l.at-iterator
     × (record {
-      found : passages_view l.found.items ++ map (λ at. ((record { start = l.passage.start + at; text = l.finder }))) l.at-iterator ≡ passages_view l.initial.found.items ++ occurrences l.finder (passage_view l.passage);
+      found : passages_view l.found.items ++ map (λ at. ((record { start = l.passage.start + at; text = l.finder }))) l.at-iterator
+          ≡ passages_view l.initial.found.items ++ occurrences l.finder (passage_view l.passage);
       occur : All (OccursAt l.passage.text.now l.finder) l.at-iterator;
     })

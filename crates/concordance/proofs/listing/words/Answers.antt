@@ -2,54 +2,53 @@ use Rattle.std.proofs.Common.{◌≡◌, ◌∙◌, ap, sym, subst, arith, All, 
 use Rattle.std.specs.List.{flat_map}
 use Rattle.std.specs.Prelude.{IfOk}
 use Rattle.sty_sheet.specs.Views.{records_of}
-use Rattle.usfm_ref.specs.Rising.{rises_by}
-use Rattle.usfm_ref.proofs.Sorted.{rises-rising}
+use Rattle.verse_cut.specs.Pieces.{pieces_of}
 use Rattle.verse_cut.specs.Views.{parts_of}
-use Rattle.concordance.specs.EntryViews.{entries_view, spelling_cmp}
+use Rattle.concordance.specs.Groups.{told}
 use Rattle.concordance.specs.Plain.{plain_leaves}
 use Rattle.concordance.specs.Reading.{EndsWithin, IsText, hold_all}
 use Rattle.concordance.specs.SpellingViews.{spelled, spellings_view}
 use Rattle.concordance.specs.Views.{passages_view}
 use Rattle.concordance.specs.Words.{WordParts, runs_in, spelling_at, words_in, words_of}
-use Rattle.concordance.proofs.EntryLemmas.{spelling_total}
 use Rattle.concordance.proofs.Holding.{all_fit, pieces_hold}
 use Rattle.concordance.proofs.RunPlaces.{all_runs_apart, all_runs_filled, runs_spelled}
 use Rattle.concordance.proofs.Standing.{leaves_apart}
-use Rattle.concordance.proofs.WordLists.{words_once}
+use Rattle.concordance.proofs.WordLists.{words_same}
 use Rattle.concordance.proofs.listing.words.Goals.{After-deref-3}
 use Rattle.concordance.proofs.listing.words.Goals as goal
 
 pub runs-requires : goal.runs-requires
 runs-requires c =
     subst (All EndsWithin) (sym (ap passages_view c.deref.ensures.value ∙ c.in_ok-leaves.ensures))
-    (all_fit c.args.text.now 0 (length c.args.text.now) (plain_leaves (records_of c.args.sheet.now) c.args.text.now) (leaves_apart (records_of c.args.sheet.now) c.args.text.now) (omega arith))
+    (all_fit c.args.text.now 0 (length c.args.text.now) (plain_leaves (records_of c.args.sheet.now) c.args.text.now)
+    (leaves_apart (records_of c.args.sheet.now) c.args.text.now) (omega arith))
 
 leaves : (c : After-deref-3) → passages_view c.deref.result.now ≡ plain_leaves (records_of c.args.sheet.now) c.args.text.now
 leaves c = ap passages_view c.deref.ensures.value ∙ c.in_ok-leaves.ensures
 
-found : (c : After-deref-3) → passages_view c.deref-2.result.now ≡ flat_map runs_in (plain_leaves (records_of c.args.sheet.now) c.args.text.now)
+found : (c : After-deref-3) → passages_view c.deref-2.result.now
+    ≡ flat_map runs_in (plain_leaves (records_of c.args.sheet.now) c.args.text.now)
 found c = ap passages_view c.deref-2.ensures.value ∙ c.in_ok-runs.ensures.runs ∙ ap (flat_map runs_in) (leaves c)
 
 pub new-requires : goal.new-requires
 new-requires c =
     let sheet = records_of c.args.sheet.now in
     (λ i. hold_all (parts_of (c.deref-3.ensures.value i)) (found c i))
-    ∙ pieces_hold c.args.text.now (parts_of c.in_ok-pieces.pieces.items) _ c.in_ok-pieces.ensures.cut (all_runs_apart sheet c.args.text.now (subst (All IsText) (leaves c) c.in_ok-runs.ensures.text)) (all_runs_filled (plain_leaves sheet c.args.text.now))
-
-pub gathered-requires : goal.gathered-requires
-gathered-requires c =
-    ap (λ es. rises_by spelling_cmp (λ s. s) (entries_view es)) c.deref-5.ensures.value
-    ∙ ap (rises_by spelling_cmp (λ s. s)) c.in_ok-entries.ensures
-    ∙ rises-rising spelling_cmp spelling_total (spellings_view c.deref-4.result.now)
+    ∙ pieces_hold c.args.text.now (parts_of c.in_ok-pieces.pieces.items) _ c.in_ok-pieces.ensures.cut
+    (all_runs_apart sheet c.args.text.now (subst (All IsText) (leaves c) c.in_ok-runs.ensures.text))
+    (all_runs_filled (plain_leaves sheet c.args.text.now))
 
 pub returns : goal.returns
 unfolding words_of
 returns c =
     let at = (goal.at.returns c).After-deref-3 in
-    let told : words_in (entries_view c.deref-5.result.now) ≡ words_of (records_of c.args.sheet.now) c.args.text.now =
-    ap (λ es. words_in (entries_view es)) c.deref-5.ensures.value ∙ ap words_in c.in_ok-entries.ensures
-    ∙ words_once (spellings_view c.deref-4.result.now)
-    ∙ ap words_in
-    (ap spellings_view c.deref-4.ensures.value ∙ c.in_ok-spellings.ensures ∙ ap (map spelled) c.new.ensures ∙ runs_spelled (parts_of c.deref-3.result.now) (passages_view c.deref-2.result.now)
-    ∙ (λ i. map (spelling_at ((ap parts_of c.deref-3.ensures.value ∙ c.in_ok-pieces.ensures.value) i)) (found at i))) in
-    subst (λ (ws : List WordParts). IfOk c.gathered.result (λ words. words.items ≡ ws)) told c.gathered.ensures
+    let sheet = records_of c.args.sheet.now in
+    let spelled_all : spellings_view c.deref-4.result.now ≡ map (spelling_at (pieces_of c.args.text.now)) (flat_map runs_in (plain_leaves sheet c.args.text.now)) =
+    ap spellings_view c.deref-4.ensures.value ∙ c.in_ok-spellings.ensures ∙ ap (map spelled) c.new.ensures
+    ∙ runs_spelled (parts_of c.deref-3.result.now) (passages_view c.deref-2.result.now)
+    ∙ (λ i. map (spelling_at ((ap parts_of c.deref-3.ensures.value ∙ c.in_ok-pieces.ensures.value) i)) (found at i)) in
+    let all : words_in (told c.in_ok-sorted.sorted.entries) ≡ words_of sheet c.args.text.now =
+    sym (words_same (spellings_view c.deref-4.result.now) (told c.in_ok-sorted.sorted.entries)
+    (λ s. c.in_ok-groups.ensures.told s ∙ c.in_ok-sorted.ensures.told s))
+    ∙ ap words_in spelled_all in
+    subst (λ (ws : List WordParts). IfOk c.gathered.result (λ words. words.items ≡ ws)) all c.gathered.ensures

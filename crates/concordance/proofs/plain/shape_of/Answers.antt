@@ -16,20 +16,31 @@ shape_at s n m f e v h = subst (λ (x : Node). HasShape s (view x)) (sym e) (sub
 
 pub returns-in-Leaf : goal.returns-in-Leaf
 unfolding nodes.out-Node denote.Hole.Carrier.out
-returns-in-Leaf c = let m = nodes.Leaf c.in-Leaf.field-0 in shape_at shapes.Leaf c.args.node.now m _ c.in-Leaf.is (fold_out-Node Forest Parts node_step parts_step m) (_, refl)
+returns-in-Leaf c =
+    let m = nodes.Leaf c.in-Leaf.field-0 in
+    shape_at shapes.Leaf c.args.node.now m _ c.in-Leaf.is (fold_out-Node Forest Parts node_step parts_step m) (_, refl)
 
 pub returns-in-Para : goal.returns-in-Para
 unfolding nodes.out-Node denote.Hole.Carrier.out
-returns-in-Para c = let m = nodes.Para c.in-Para.field-0 in shape_at (shapes.Branch kinds.Paragraph) c.args.node.now m _ c.in-Para.is (fold_out-Node Forest Parts node_step parts_step m) (_, refl)
+returns-in-Para c =
+    let m = nodes.Para c.in-Para.field-0 in
+    shape_at (shapes.Branch kinds.Paragraph) c.args.node.now m _ c.in-Para.is (fold_out-Node Forest Parts node_step parts_step m) (_, refl)
 
 pub returns-in-Char : goal.returns-in-Char
 unfolding nodes.out-Node denote.Hole.Carrier.out
-returns-in-Char c = let m = nodes.Char c.in-Char.field-0 in shape_at (shapes.Branch kinds.Character) c.args.node.now m _ c.in-Char.is (fold_out-Node Forest Parts node_step parts_step m) (_, refl)
+returns-in-Char c =
+    let m = nodes.Char c.in-Char.field-0 in
+    shape_at (shapes.Branch kinds.Character) c.args.node.now m _ c.in-Char.is (fold_out-Node Forest Parts node_step parts_step m) (_, refl)
 
 pub returns-in-Note : goal.returns-in-Note
 unfolding nodes.out-Node denote.Hole.Carrier.out
-returns-in-Note c = let m = nodes.Note c.in-Note.field-0 in shape_at (shapes.Branch kinds.Note) c.args.node.now m _ c.in-Note.is (fold_out-Node Forest Parts node_step parts_step m) (_, refl)
+returns-in-Note c =
+    let m = nodes.Note c.in-Note.field-0 in
+    shape_at (shapes.Branch kinds.Note) c.args.node.now m _ c.in-Note.is (fold_out-Node Forest Parts node_step parts_step m) (_, refl)
 
 pub returns-in-Milestone : goal.returns-in-Milestone
 unfolding nodes.out-Node denote.Hole.Carrier.out
-returns-in-Milestone c = let m = nodes.Milestone c.in-Milestone.field-0 in shape_at (shapes.Branch kinds.Milestone) c.args.node.now m _ c.in-Milestone.is (fold_out-Node Forest Parts node_step parts_step m) (_, refl)
+returns-in-Milestone c =
+    let m = nodes.Milestone c.in-Milestone.field-0 in
+    shape_at (shapes.Branch kinds.Milestone) c.args.node.now m _ c.in-Milestone.is (fold_out-Node Forest Parts node_step parts_step m)
+    (_, refl)

@@ -5,7 +5,8 @@ use Rattle.concordance.proofs.runs.behind_front.Given as goal
 
 abbrev pub invariant-loop-c : goal.invariant-loop-c
 invariant-loop-c l = record {
-  front : (x : List ℕ) × (l.text ≡ x ++ chars_rest l.chars) × (front_bytes l.is_word (chars l.text) ≡ x ++ front_bytes l.is_word (chars (chars_rest l.chars)));
+  front : (x : List ℕ) × (l.text ≡ x ++ chars_rest l.chars)
+      × (front_bytes l.is_word (chars l.text) ≡ x ++ front_bytes l.is_word (chars (chars_rest l.chars)));
   behind : behind l.is_word (chars (chars_rest l.chars)) ≡ behind l.is_word (chars l.text);
 }
 

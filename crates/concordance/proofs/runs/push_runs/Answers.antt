@@ -11,11 +11,15 @@ use Rattle.concordance.proofs.runs.push_runs.Goals as goal
 pub returns-then-is_empty-clause-runs : goal.returns-then-is_empty-clause-runs
 returns-then-is_empty-clause-runs c =
     let n = c.args.passage.start + (length c.args.passage.text.now - length c.loop-at.rest.now) in
-    let none = no_more n c.loop-at.rest.now c.behind_front-at.result.now c.behind_front-at.ensures.rest (nil_from_length _ (eqb-true _ _ (sym c.if-is_empty.ensures))) in
-    sym (append-nil (passages_view c.loop-at.runs.items)) ∙ ap (λ l. passages_view c.loop-at.runs.items ++ l) (sym none) ∙ c.loop-at.invariant.1.runs
+    let none =
+    no_more n c.loop-at.rest.now c.behind_front-at.result.now c.behind_front-at.ensures.rest
+    (nil_from_length _ (eqb-true _ _ (sym c.if-is_empty.ensures))) in
+    sym (append-nil (passages_view c.loop-at.runs.items)) ∙ ap (λ l. passages_view c.loop-at.runs.items ++ l) (sym none)
+    ∙ c.loop-at.invariant.1.runs
 
 pub split_at-requires : goal.split_at-requires
-split_at-requires c = boundary_at_rest c.behind_front-at.result.now _ c.behind_front-rest.result.now c.behind_front-rest.ensures.front c.behind_front-rest.utf8
+split_at-requires c =
+    boundary_at_rest c.behind_front-at.result.now _ c.behind_front-rest.result.now c.behind_front-rest.ensures.front c.behind_front-rest.utf8
 
 -- a character stands where a text is not empty
 some : (bs : List ℕ) → false ≡ (length bs == 0) → IsUtf8 bs → 0 < length (chars bs)
@@ -25,22 +29,34 @@ pub loop-at-smaller : goal.loop-at-smaller
 loop-at-smaller c =
     let h = some c.behind_front-at.result.now c.if-is_empty.ensures c.behind_front-at.utf8 in
     let n = run_some (chars c.loop-at.rest.now) (chars c.behind_front-at.result.now) (sym c.behind_front-at.ensures.rest) h in
-    let l = ap length c.behind_front-at.ensures.front ∙ length-append (front_bytes false (chars c.loop-at.rest.now)) c.behind_front-at.result.now in
-    let m = ap length c.behind_front-rest.ensures.front ∙ length-append (front_bytes true (chars c.behind_front-at.result.now)) c.behind_front-rest.result.now in
+    let l =
+    ap length c.behind_front-at.ensures.front ∙ length-append (front_bytes false (chars c.loop-at.rest.now)) c.behind_front-at.result.now in
+    let m =
+    ap length c.behind_front-rest.ensures.front
+    ∙ length-append (front_bytes true (chars c.behind_front-at.result.now)) c.behind_front-rest.result.now in
     omega arith
 
 pub loop-at-preserved : goal.loop-at-preserved
 loop-at-preserved c =
     let h = some c.behind_front-at.result.now c.if-is_empty.ensures c.behind_front-at.utf8 in
-    let l = ap length c.behind_front-at.ensures.front ∙ length-append (front_bytes false (chars c.loop-at.rest.now)) c.behind_front-at.result.now in
-    let m = ap length c.behind_front-rest.ensures.front ∙ length-append (front_bytes true (chars c.behind_front-at.result.now)) c.behind_front-rest.result.now in
-    let next = next_run c.args.passage.start (length c.args.passage.text.now) c.loop-at.rest.now c.behind_front-at.result.now c.behind_front-rest.result.now c.loop-at.invariant.1.within
+    let l =
+    ap length c.behind_front-at.ensures.front ∙ length-append (front_bytes false (chars c.loop-at.rest.now)) c.behind_front-at.result.now in
+    let m =
+    ap length c.behind_front-rest.ensures.front
+    ∙ length-append (front_bytes true (chars c.behind_front-at.result.now)) c.behind_front-rest.result.now in
+    let next =
+    next_run c.args.passage.start
+    (length c.args.passage.text.now) c.loop-at.rest.now c.behind_front-at.result.now c.behind_front-rest.result.now c.loop-at.invariant.1.within
     c.behind_front-at.ensures.front c.behind_front-at.ensures.rest c.behind_front-rest.ensures.front c.behind_front-rest.ensures.rest h in
-    let later = runs_behind false (c.args.passage.start + (length c.args.passage.text.now - length c.behind_front-rest.result.now)) (chars c.behind_front-rest.result.now) in
-    let run : Passage = record { start = c.args.passage.start + (length c.args.passage.text.now - length c.behind_front-at.result.now); text = take (length c.behind_front-at.result.now - length c.behind_front-rest.result.now) c.behind_front-at.result.now } in
+    let later =
+    runs_behind false (c.args.passage.start + (length c.args.passage.text.now - length c.behind_front-rest.result.now))
+    (chars c.behind_front-rest.result.now) in
+    let run : Passage =
+    record { start = c.args.passage.start + (length c.args.passage.text.now - length c.behind_front-at.result.now); text = take (length c.behind_front-at.result.now - length c.behind_front-rest.result.now) c.behind_front-at.result.now } in
     let told : passages_view c.push.new.self.items ≡ passages_view c.loop-at.runs.items ++ run ∷ [] =
     ap passages_view c.in_ok-push.ensures.items ∙ map-append passage_view c.loop-at.runs.items _
-    ∙ ap (λ (t : List ℕ). passages_view c.loop-at.runs.items ++ (let one : Passage = record { start = run.start; text = t } in one) ∷ []) c.split_at.ensures.front in (
+    ∙ ap (λ (t : List ℕ). passages_view c.loop-at.runs.items ++ (let one : Passage = record { start = run.start; text = t } in one)
+    ∷ []) c.split_at.ensures.front in (
       c.behind_front-rest.utf8,
       record {
         whole = c.loop-at.invariant.1.whole;

@@ -27,29 +27,39 @@ loop-index-preserved t c =
     let taken : After c.match-shape_of.self =
     elim c.match-shape_of.branch [
       | in-Text+in_ok-take_text-in-Text w ↦
-          text_taken sheet sur f g old b _ _ (c.loop-index.index + 1 == length c.args.nodes.now) w.start.result w.slice.result.now w.in-Text.ensures
+          text_taken sheet sur f g old b _ _
+          (c.loop-index.index + 1 == length c.args.nodes.now) w.start.result w.slice.result.now w.in-Text.ensures
           (last_is c.args.nodes.now c.loop-index.index c.loop-index-test.true) w.start.ensures w.slice.ensures
           (ap (λ (s : Gathering). passages_view s.leaves.items) w.self-is ∙ w.in_ok-take_text-in-Text.ensures.leaves)
           (ap mark_behind w.self-is ∙ w.in_ok-take_text-in-Text.ensures.behind)
       | in-Leaf w ↦ subst After (sym w.self-is) (leaf_taken sheet sur f g old b _ w.in-Leaf.ensures w.mark-self.ensures)
       | in-Branch+in_ok-take_nodes-in-Branch+in-Some w ↦
-          subst After (sym w.self-is) (branch_taken sheet sur f g old b _ _ (option_map mark_parts w.mark-self-in-Branch.result) w.in-Branch.kind (forest_of w.kids.result.now) w.is_some.result w.within-around.result w.in-Branch.ensures
-          w.kids.ensures w.mark-self-in-Branch.ensures (w.is_some.ensures ∙ some_marks mark_parts w.close.result ∙ ap is_some w.close.ensures)
+          subst After (sym w.self-is)
+          (branch_taken sheet sur f g old b _ _ (option_map mark_parts w.mark-self-in-Branch.result) w.in-Branch.kind
+          (forest_of w.kids.result.now) w.is_some.result w.within-around.result w.in-Branch.ensures
+          w.kids.ensures w.mark-self-in-Branch.ensures
+          (w.is_some.ensures ∙ some_marks mark_parts w.close.result ∙ ap is_some w.close.ensures)
           (λ m h. w.within-around.ensures m (w.mark.ensures ∙ sym w.mark-self-in-Branch.ensures ∙ h))
           w.in_ok-take_nodes-in-Branch.ensures.leaves
-          (ap (node_end (mark_at_end (option_map mark_parts w.mark-self-in-Branch.result) (forest_of w.kids.result.now))) (ap (option_map mark_parts) (sym w.in-Some.is) ∙ w.close-in-Branch.ensures)))
+          (ap (node_end (mark_at_end (option_map mark_parts w.mark-self-in-Branch.result) (forest_of w.kids.result.now)))
+          (ap (option_map mark_parts) (sym w.in-Some.is) ∙ w.close-in-Branch.ensures)))
       | in-Branch+in_ok-take_nodes-in-Branch+in-None w ↦
-          subst After (sym w.self-is) (branch_taken sheet sur f g old b _ _ (option_map mark_parts w.mark-self-in-Branch.result) w.in-Branch.kind (forest_of w.kids.result.now) w.is_some.result w.within-around.result w.in-Branch.ensures
-          w.kids.ensures w.mark-self-in-Branch.ensures (w.is_some.ensures ∙ some_marks mark_parts w.close.result ∙ ap is_some w.close.ensures)
+          subst After (sym w.self-is)
+          (branch_taken sheet sur f g old b _ _ (option_map mark_parts w.mark-self-in-Branch.result) w.in-Branch.kind
+          (forest_of w.kids.result.now) w.is_some.result w.within-around.result w.in-Branch.ensures
+          w.kids.ensures w.mark-self-in-Branch.ensures
+          (w.is_some.ensures ∙ some_marks mark_parts w.close.result ∙ ap is_some w.close.ensures)
           (λ m h. w.within-around.ensures m (w.mark.ensures ∙ sym w.mark-self-in-Branch.ensures ∙ h))
           w.in_ok-take_nodes-in-Branch.ensures.leaves
           (w.in_ok-take_nodes-in-Branch.ensures.behind
-          ∙ ap (node_end (mark_at_end (option_map mark_parts w.mark-self-in-Branch.result) (forest_of w.kids.result.now))) (ap (option_map mark_parts) (sym w.in-None.is) ∙ w.close-in-Branch.ensures)))
+          ∙ ap (node_end (mark_at_end (option_map mark_parts w.mark-self-in-Branch.result) (forest_of w.kids.result.now)))
+          (ap (option_map mark_parts) (sym w.in-None.is) ∙ w.close-in-Branch.ensures)))
     ]
     in
     record {
       fit = tail_fits c.shape_of.result f g c.shape_of.ensures fit;
-      fewer = (let n = tail_fewer c.shape_of.result f g c.shape_of.ensures in let m = ap entry_count at in let k = c.loop-index.invariant.fewer in omega arith);
+      fewer =
+          (let n = tail_fewer c.shape_of.result f g c.shape_of.ensures in let m = ap entry_count at in let k = c.loop-index.invariant.fewer in omega arith);
       leaves = taken.leaves ∙ ap (λ x. old ++ leaves_from sheet sur b x) (sym at) ∙ c.loop-index.invariant.leaves;
       behind = taken.behind ∙ ap (mark_at_end b) (sym at) ∙ c.loop-index.invariant.behind;
     }

@@ -15,6 +15,7 @@ invariant-loop-index l =
       fit : TextsFit left;
       fewer : entry_count left ≤ entry_count (forest_of l.nodes);
       leaves : passages_view l.self.leaves.items ++ leaves_from (records_of l.sheet) l.surroundings (mark_behind l.self) left
-          ≡ passages_view l.initial.self.leaves.items ++ leaves_from (records_of l.sheet) l.surroundings (mark_behind l.initial.self) (forest_of l.nodes);
+          ≡ passages_view l.initial.self.leaves.items
+          ++ leaves_from (records_of l.sheet) l.surroundings (mark_behind l.initial.self) (forest_of l.nodes);
       behind : mark_at_end (mark_behind l.self) left ≡ mark_at_end (mark_behind l.initial.self) (forest_of l.nodes);
     }

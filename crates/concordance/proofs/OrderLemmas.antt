@@ -1,4 +1,4 @@
--- The order of spellings: it is total, and tells apart what differs; entries are tested for it.
+-- The order of spellings: it is total, and tells apart what differs.
 use Rattle.std.proofs.Common.{◌≡◌, ℕ, ◌&&◌, List, refl, sym, ◌∙◌}
 use Rattle.std.specs.declared.cmp.Ordering.{Ordering}
 use Rattle.std.specs.declared.cmp.Ordering.TheVariants.{Less, Equal, Greater}
@@ -8,10 +8,10 @@ use Rattle.std.specs.Cmp.Lexicographic.{nat_list_cmp_total, texts_ties}
 use Rattle.std.specs.FinMap.{slice_cmp-IsAntisymmetric, nat_cmp-IsAntisymmetric}
 use Rattle.std.specs.Str.{bytes_eq}
 use Rattle.std.proofs.lemmas.Cmp.{on_total, then_total}
-use Rattle.usfm_ref.specs.Keys.{KeyParts, key_cmp, same_key}
+use Rattle.usfm_ref.specs.Keys.{key_cmp, same_key}
 use Rattle.usfm_ref.proofs.Orders.{key_total, key_exact, same_key-cmp}
 use Rattle.concordance.specs.Words.{Spelling, form_cmp}
-use Rattle.concordance.specs.EntryViews.{spelling_cmp}
+use Rattle.concordance.specs.SpellingOrder.{spelling_cmp}
 
 pub form_total : IsTotalOrder form_cmp
 form_total = nat_list_cmp_total
@@ -31,13 +31,3 @@ pub spelling_exact : (a b : Spelling) → spelling_cmp a b ≡ Equal → a ≡ b
 spelling_exact a b h =
     let p = then_parts (form_cmp a.form b.form) (key_cmp a.key b.key) h in
     λ i. record { form = form_exact a.form b.form p.0 i; key = key_exact a.key b.key p.1 i }
-
--- ---- tests of equality
-
-eq_then : (a b : Ordering) → is_eq (ordering_then a b) ≡ (is_eq a && is_eq b)
-eq_then Less b = refl
-eq_then Equal b = refl
-eq_then Greater b = refl
-
-pub spelling_tests : (a b : Spelling) → (bytes_eq a.form b.form && same_key a.key b.key) ≡ is_eq (spelling_cmp a b)
-spelling_tests a b = (λ i. texts_ties a.form b.form i && same_key-cmp a.key b.key i) ∙ sym (eq_then (form_cmp a.form b.form) (key_cmp a.key b.key))

@@ -1,0 +1,172 @@
+-- Groups of keys by forms: a key more, and their order.
+use Rattle.std.proofs.Common.{◌≡◌, ℕ, zero, suc, Bool, true, false, cond, ◌||◌, List, [], ◌∷◌, ◌++◌, length, map, take, slice_get, get_or, position, Some, refl, sym, ap, subst, ◌∙◌, arith, Bor}
+use Rattle.std.specs.Global.{Vec}
+use Rattle.std.specs.declared.cmp.Ordering.{Ordering}
+use Rattle.std.specs.declared.cmp.Ordering.TheVariants.{Less}
+use Rattle.std.specs.Cmp.Lexicographic.{bytes_decides, texts_ties}
+use Rattle.std.specs.List.{list_all, dedup, dedup_from, IsDistinct, AllByRecursion}
+use Rattle.std.specs.List.Sorted.{IsSorted, IsStrictlySortedBy}
+use Rattle.std.specs.Map.{keys_of, values_of}
+use Rattle.std.specs.Ordering.{is_eq, is_lt}
+use Rattle.std.specs.Str.{bytes_eq}
+use Rattle.std.proofs.lemmas.Bool.{and_from, ne_eqb, true≢false, false≢true}
+use Rattle.std.proofs.lemmas.Cmp.{on_total}
+use Rattle.std.proofs.lemmas.List.{length-append}
+use Rattle.std.proofs.lemmas.List.Folds.{list_any-append}
+use Rattle.std.proofs.lemmas.List.Kept.{IsStrictlySortedBy-dedup}
+use Rattle.std.proofs.lemmas.List.Quantifiers.{position-Some}
+use Rattle.std.proofs.lemmas.Map.Keys.{IsDistinct-head, IsDistinct-tail}
+use Rattle.indexmap.specs.Layout.{set_value_at}
+use Rattle.usfm_ref.specs.Keys.{KeyParts}
+use Rattle.usfm_ref.specs.Rising.{rises_by}
+use Rattle.concordance.specs.SpellingOrder.{spelling_cmp}
+use Rattle.concordance.specs.Groups.{Group, told_by, told, is_bare, has_bare, is_told, AlsoTells}
+use Rattle.concordance.specs.Words.{Spelling, form_cmp}
+use Rattle.concordance.proofs.OrderLemmas.{form_total}
+
+abbrev pub spelled_with : List ℕ → KeyParts → Spelling
+spelled_with f k = record { form = f; key = k }
+
+or_assoc : (a b c : Bool) → (a || (b || c)) ≡ ((a || b) || c)
+or_assoc true b c = refl
+or_assoc false b c = refl
+
+or_last : (a b c : Bool) → ((a || b) || c) ≡ ((a || c) || b)
+or_last true b c = refl
+or_last false true true = refl
+or_last false true false = refl
+or_last false false true = refl
+or_last false false false = refl
+
+or_false : (b : Bool) → (b || false) ≡ b
+or_false true = refl
+or_false false = refl
+
+module _ (s : Spelling) where
+  abbrev is_it : Spelling → Bool
+  is_it t = is_eq (spelling_cmp s t)
+
+  one_more : (f : List ℕ) (ks : List KeyParts) (k : KeyParts)
+      → is_told s (map (spelled_with f) (ks ++ k ∷ [])) ≡ (is_told s (map (spelled_with f) ks) || is_it (spelled_with f k))
+  one_more f [] k = or_false _
+  one_more f (j ∷ ks) k =
+      ap (λ b. is_it (spelled_with f j) || b) (one_more f ks k)
+      ∙ or_assoc (is_it (spelled_with f j)) (is_told s (map (spelled_with f) ks)) (is_it (spelled_with f k))
+
+  also_one : (g h : Group) (gs : List Group) (k : KeyParts) → h.0.now ≡ g.0.now → h.1.items ≡ g.1.items ++ k ∷ []
+      → is_told s (told (h ∷ gs)) ≡ (is_told s (told (g ∷ gs)) || is_it (spelled_with g.0.now k))
+  also_one g h gs k form keys =
+      list_any-append is_it (told_by h) (told gs)
+      ∙ ap (λ b. b || is_told s (told gs)) ((λ i. is_told s (map (spelled_with (form i)) (keys i))) ∙ one_more g.0.now g.1.items k)
+      ∙ or_last (is_told s (told_by g)) (is_it (spelled_with g.0.now k)) (is_told s (told gs))
+      ∙ ap (λ b. b || is_it (spelled_with g.0.now k)) (sym (list_any-append is_it (told_by g) (told gs)))
+
+  also_later : (g : Group) (gs hs : List Group) (t : Spelling) → is_told s (told hs) ≡ (is_told s (told gs) || is_it t)
+      → is_told s (told (g ∷ hs)) ≡ (is_told s (told (g ∷ gs)) || is_it t)
+  also_later g gs hs t h =
+      list_any-append is_it (told_by g) (told hs) ∙ ap (λ b. is_told s (told_by g) || b) h
+      ∙ or_assoc (is_told s (told_by g)) (is_told s (told gs)) (is_it t)
+      ∙ ap (λ b. b || is_it t) (sym (list_any-append is_it (told_by g) (told gs)))
+
+  put_here : (gs : List Group) (at : ℕ) (f : Bor (List ℕ)) (old new : Vec KeyParts) (k : KeyParts)
+      → (get_or (keys_of gs) at f).now ≡ f.now → slice_get (values_of gs) at ≡ Some old → new.items ≡ old.items ++ k ∷ []
+      → is_told s (told (set_value_at gs at new)) ≡ (is_told s (told gs) || is_it (spelled_with f.now k))
+  put_here [] at f old new k form h e = cc
+  put_here (x ∷ gs) zero f old new k form h e =
+      let same : x.1 ≡ old = cc in
+      also_one x (x.0, new) gs k refl (e ∙ ap (λ (v : Vec KeyParts). v.items ++ k ∷ []) (sym same))
+      ∙ ap (λ n. is_told s (told (x ∷ gs)) || is_it (spelled_with n k)) form
+  put_here (x ∷ gs) (suc at) f old new k form h e =
+      also_later x gs (set_value_at gs at new) (spelled_with f.now k) (put_here gs at f old new k form h e)
+
+  new_here : (gs : List Group) (f : Bor (List ℕ)) (new : Vec KeyParts) (k : KeyParts) → new.items ≡ k ∷ []
+      → is_told s (told (gs ++ (f, new) ∷ [])) ≡ (is_told s (told gs) || is_it (spelled_with f.now k))
+  new_here [] f new k e =
+      list_any-append is_it (told_by (f, new)) [] ∙ or_false _ ∙ ap (λ ks. is_told s (map (spelled_with f.now) ks)) e ∙ or_false _
+  new_here (x ∷ gs) f new k e = also_later x gs (gs ++ (f, new) ∷ []) (spelled_with f.now k) (new_here gs f new k e)
+
+-- a key more in the group at a place
+pub put_told : (gs : List Group) (at : ℕ) (f : Bor (List ℕ)) (old new : Vec KeyParts) (k : KeyParts)
+    → Some at ≡ position (λ x. bytes_eq f.now x.now) (keys_of gs) → slice_get (values_of gs) at ≡ Some old → new.items ≡ old.items ++ k ∷ []
+    → AlsoTells (told gs) (spelled_with f.now k) (told (set_value_at gs at new))
+put_told gs at f old new k is h e s =
+    let p = position-Some (λ (x : Bor (List ℕ)). bytes_eq f.now x.now) (keys_of gs) at f (sym is) in
+    put_here s gs at f old new k (sym ((bytes_decides f.now (get_or (keys_of gs) at f).now).0 p.1)) h e
+
+-- a group more, of one key
+pub new_told : (gs : List Group) (f : Bor (List ℕ)) (new : Vec KeyParts) (k : KeyParts) → new.items ≡ k ∷ []
+    → AlsoTells (told gs) (spelled_with f.now k) (told (gs ++ (f, new) ∷ []))
+new_told gs f new k e s = new_here s gs f new k e
+
+-- ---- each with a key
+
+or_parts : (a b : Bool) → (a || b) ≡ false → (a ≡ false) × (b ≡ false)
+or_parts true b e = absurd (true≢false e)
+or_parts false b e = (refl, e)
+
+push_keyed : (f : Bor (List ℕ)) (new : Vec KeyParts) (ks : List KeyParts) (k : KeyParts) → new.items ≡ ks ++ k ∷ []
+    → is_bare (f, new) ≡ false
+push_keyed f new ks k e = ne_eqb (length new.items) 0 (λ z. let l = ap length e ∙ length-append ks (k ∷ []) in omega arith)
+
+pub put_keyed : (gs : List Group) (at : ℕ) (new : Vec KeyParts) (ks : List KeyParts) (k : KeyParts) → new.items ≡ ks ++ k ∷ []
+    → has_bare gs ≡ false → has_bare (set_value_at gs at new) ≡ false
+put_keyed [] at new ks k e h = refl
+put_keyed (x ∷ gs) zero new ks k e h =
+    let q = or_parts (is_bare x) (has_bare gs) h in ap (λ b. b || has_bare gs) (push_keyed x.0 new ks k e) ∙ q.1
+put_keyed (x ∷ gs) (suc at) new ks k e h =
+    let q = or_parts (is_bare x) (has_bare gs) h in ap (λ b. b || has_bare (set_value_at gs at new)) q.0 ∙ put_keyed gs at new ks k e q.1
+
+pub new_keyed : (gs : List Group) (f : Bor (List ℕ)) (new : Vec KeyParts) (k : KeyParts) → new.items ≡ k ∷ [] → has_bare gs ≡ false
+    → has_bare (gs ++ (f, new) ∷ []) ≡ false
+new_keyed [] f new k e h = ap (λ b. b || false) (push_keyed f new [] k e)
+new_keyed (x ∷ gs) f new k e h =
+    let q = or_parts (is_bare x) (has_bare gs) h in ap (λ b. b || has_bare (gs ++ (f, new) ∷ [])) q.0 ∙ new_keyed gs f new k e q.1
+
+-- ---- sorted
+
+abbrev pub text_cmp : Bor (List ℕ) → Bor (List ℕ) → Ordering
+text_cmp a b = form_cmp a.now b.now
+
+abbrev pub text_eq : Bor (List ℕ) → Bor (List ℕ) → Bool
+text_eq a b = bytes_eq a.now b.now
+
+turned : (a b : Bor (List ℕ)) → text_eq a b ≡ false → text_eq b a ≡ false
+turned a b h = by (text_eq b a) refl
+  where
+    by : (r : Bool) → text_eq b a ≡ r → text_eq b a ≡ false
+    by false e = e
+    by true e = absurd (false≢true (sym h ∙ (bytes_decides a.now b.now).1 (sym ((bytes_decides b.now a.now).0 e))))
+
+kept_from : (k : Bor (List ℕ)) (xs : List (Bor (List ℕ))) → IsDistinct text_eq (k ∷ xs) → dedup_from text_eq k xs ≡ k ∷ xs
+kept_from k [] d = refl
+kept_from k (x ∷ xs) d =
+    ap (λ b. cond b (dedup_from text_eq k xs) (k ∷ dedup_from text_eq x xs)) (turned k x (IsDistinct-head text_eq k (x ∷ xs) d).0)
+    ∙ ap (λ l. k ∷ l) (kept_from x xs (IsDistinct-tail text_eq k (x ∷ xs) d))
+
+kept : (xs : List (Bor (List ℕ))) → IsDistinct text_eq xs → dedup text_eq xs ≡ xs
+kept [] d = refl
+kept (x ∷ xs) d = kept_from x xs d
+
+strict_rises : (gs : List Group) → IsStrictlySortedBy text_cmp (keys_of gs) → rises_by form_cmp (λ g. g.0.now) gs ≡ true
+unfolding IsStrictlySortedBy
+strict_rises [] h = refl
+strict_rises (g ∷ gs) h = and_from _ _ (over gs h.0) (strict_rises gs h.1)
+  where
+    over : (hs : List Group) → AllByRecursion (λ k. text_cmp g.0 k ≡ Less) (keys_of hs)
+        → list_all (λ x. is_lt (form_cmp g.0.now x.0.now)) hs ≡ true
+    over [] a = refl
+    over (x ∷ hs) a = and_from _ _ (ap is_lt a.0) (over hs a.1)
+
+pub groups_rise : (gs : List Group) → IsSorted text_cmp (keys_of gs) → IsDistinct text_eq (keys_of gs)
+    → rises_by form_cmp (λ g. g.0.now) gs ≡ true
+groups_rise gs sorted distinct =
+    strict_rises gs
+    (subst (IsStrictlySortedBy text_cmp) (kept (keys_of gs) distinct)
+    (IsStrictlySortedBy-dedup (on_total (λ (k : Bor (List ℕ)). k.now) form_total) (λ a b. texts_ties a.now b.now) (keys_of gs) sorted))
+
+-- the groups up to a place, and the one there
+pub map_at : {A : Type 0} (f : Group → A) (gs : List Group) (i : ℕ) (g : Group) → slice_get gs i ≡ Some g
+    → map f (take (suc i) gs) ≡ map f (take i gs) ++ f g ∷ []
+map_at f [] i g h = cc
+map_at f (x ∷ gs) zero g h = let same : x ≡ g = cc in ap (λ y. f y ∷ []) same
+map_at f (x ∷ gs) (suc i) g h = ap (λ l. f x ∷ l) (map_at f gs i g h)

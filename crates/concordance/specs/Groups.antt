@@ -1,0 +1,43 @@
+-- The keys of each form, gathered: what they tell.
+use Rattle.std.specs.Prelude.{◌≡◌, ℕ, ◌==◌, Bool, ◌||◌, List, map, length}
+use Rattle.std.specs.List.{flat_map, list_any}
+use Rattle.std.specs.Ordering.{is_eq}
+use Rattle.std.specs.Borrow.{Bor}
+use Rattle.std.specs.Global.{Vec}
+use Rattle.usfm_ref.specs.Keys.{KeyParts}
+use Rattle.usfm_ref.specs.Rising.{rises_by}
+use Rattle.concordance.specs.SpellingOrder.{spelling_cmp}
+use Rattle.concordance.specs.Words.{Spelling, form_cmp}
+
+-- a form, and keys at which it stands, in the order in which they were told
+abbrev pub Group : Type 0
+Group = Bor (List ℕ) × Vec KeyParts
+
+abbrev pub told_by : Group → List Spelling
+told_by g = map (λ k. record { form = g.0.now; key = k }) g.1.items
+
+abbrev pub told : List Group → List Spelling
+told gs = flat_map told_by gs
+
+-- one has no key
+abbrev pub is_bare : Group → Bool
+is_bare g = length g.1.items == 0
+
+abbrev pub has_bare : List Group → Bool
+has_bare gs = list_any is_bare gs
+
+-- their forms rise
+abbrev pub rise : List Group → Bool
+rise gs = rises_by form_cmp (λ g. g.0.now) gs
+
+-- a spelling is among some
+abbrev pub is_told : Spelling → List Spelling → Bool
+is_told s ss = list_any (λ t. is_eq (spelling_cmp s t)) ss
+
+-- two lists tell the same spellings, whatever their order and however often
+abbrev pub TellsSame : List Spelling → List Spelling → Type 0
+TellsSame ss ts = (s : Spelling) → is_told s ss ≡ is_told s ts
+
+-- the second list tells what the first does, and one more
+abbrev pub AlsoTells : List Spelling → Spelling → List Spelling → Type 0
+AlsoTells ss t ts = (s : Spelling) → is_told s ts ≡ (is_told s ss || is_eq (spelling_cmp s t))
