@@ -4,6 +4,7 @@ ghost use Rattle.op_core.specs.Sets.{IsOpSet};
 ghost use Rattle.bundle_codec.specs.Summaries as sums;
 ghost use Rattle.bundle_codec.specs.SummaryReading.{read_summary, ReadFails};
 
+mod coverage;
 mod making;
 mod name_ranges;
 mod outside;
@@ -12,11 +13,11 @@ mod reading;
 mod writing;
 
 use crate::fault::SummaryFault;
+use coverage::Coverage;
 use making::{held_ranges, listed};
-use name_ranges::{NameRanges, find_name};
+use name_ranges::NameRanges;
 use op_core::{OpId, OpSet};
 pub use outside::encode_outside;
-use range::has_number;
 use reading::summary_of;
 use std::alloc::{AllocError, Global};
 use std::marker::Model;
@@ -106,9 +107,13 @@ impl Summary {
     pub fn covers(&self, id: &OpId) -> bool
         ensures { result ≡ sums.covers self.now id.now }
     {
-        match find_name(&self.names, id.name) {
-            None => false,
-            Some(known) => has_number(known.ranges(), id.number),
-        }
+        self.coverage().covers(id)
+    }
+
+    // A search among the ids that it covers.
+    fn coverage(&self) -> Coverage<'_>
+        ensures { result ≡ self.now }
+    {
+        Coverage::new(&self.names)
     }
 }

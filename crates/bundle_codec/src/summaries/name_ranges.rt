@@ -55,6 +55,13 @@ impl NameRanges {
         self.name
     }
 
+    // The bytes of its name.
+    pub(crate) fn text(&self) -> &[u8]
+        ensures { result.now ≡ self.now.name }
+    {
+        self.name.text().as_bytes()
+    }
+
     pub(crate) fn ranges(&self) -> &[NumberRange]
         ensures ranges { result.now ≡ self.now.ranges }
         ensures valid { IsKnown self.now }

@@ -1,4 +1,4 @@
-ghost use Rattle.std.specs.Prelude.{◌≡◌, IsTrue};
+ghost use Rattle.std.specs.Prelude.{◌≡◌, ◌∷◌, [], ℕ, is_some, IsTrue, IfSome};
 ghost use Rattle.std.specs.List.{list_all};
 ghost use Rattle.bundle_codec.specs.Summaries.{is_range, are_apart, has_number};
 ghost use Rattle.bundle_codec.specs.SummaryReading.{begins_after};
@@ -27,11 +27,21 @@ pub(crate) fn begins_after(before: Option<u64>, first: u64) -> bool
     }
 }
 
-// Whether the number lies in one of the ranges, which are searched by halves.
-pub(crate) fn has_number(ranges: &[NumberRange], number: u64) -> bool
+// Whether a number lies in the range.
+pub(crate) fn is_in(range: NumberRange, number: u64) -> bool
+    ensures { result ≡ has_number (range ∷ []) number }
+{
+    range.first <= number && number <= range.last
+}
+
+// The range in which the number lies, if there is one. They are searched by halves.
+pub(crate) fn find_range(ranges: &[NumberRange], number: u64) -> Option<NumberRange>
     requires each { IsTrue (list_all is_range ranges.now) }
     requires apart { IsTrue (are_apart ranges.now) }
-    ensures { result ≡ has_number ranges.now number }
+    ensures there { is_some result ≡ has_number ranges.now number }
+    ensures found { IfSome result (λ r. IsTrue (has_number (r ∷ []) number)) }
+    ensures among { IfSome result (λ r. (n : ℕ) → IsTrue (has_number (r ∷ []) n)
+        → IsTrue (has_number ranges.now n)) }
 {
     let mut low = 0;
     let mut high = ranges.len();
@@ -43,8 +53,8 @@ pub(crate) fn has_number(ranges: &[NumberRange], number: u64) -> bool
         } else if range.last < number {
             low = middle + 1;
         } else {
-            return true;
+            return Some(range);
         }
     }
-    false
+    None
 }
