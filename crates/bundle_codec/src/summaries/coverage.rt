@@ -51,7 +51,7 @@ impl<'a> Coverage<'a> {
         if is_in(self.range, id.number) && self.name == name {
             return true;
         }
-        let Some(known) = find_name(self.names, id.name) else {
+        let Some(known) = find_name(self.names, name) else {
             return false;
         };
         let Some(range) = find_range(known.ranges(), id.number) else {
