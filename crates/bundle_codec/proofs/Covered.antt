@@ -1,5 +1,5 @@
 -- Whether an id's number lies in a range of its name.
-use Rattle.std.proofs.Common.{◌≡◌, ℕ, zero, suc, ◌+◌, ◌<◌, ◌≤◌, Bool, true, false, cond, ◌&&◌, ◌||◌, leb, ltb, List, [], ◌∷◌, length, get_or, Option, Some, None, refl, sym, ap, subst, ◌∙◌, arith, inl, inr}
+use Rattle.std.proofs.Common.{◌≡◌, ℕ, zero, suc, ◌+◌, ◌<◌, ◌≤◌, Bool, true, false, ◌&&◌, ◌||◌, leb, ltb, List, [], ◌∷◌, length, get_or, Option, Some, None, refl, sym, ap, subst, ◌∙◌, arith, inl, inr}
 use Rattle.std.specs.List.{list_all, list_any, find}
 use Rattle.std.specs.Ordering.{is_eq, is_lt}
 use Rattle.std.proofs.lemmas.Bool.{and_parts, and_from, leb-true, ltb-true, le-leb, cases_lt}
@@ -191,21 +191,7 @@ covered_is id name number s names one h e f g =
     (λ j. covers (sym e j) (sym f j)) ∙ covers-found (record { number = number; name = name }) names h
     ∙ ap (λ o. found_has o number) (sym g)
 
-found_is : {A : Type 0} (p : A → Bool) (xs : List A) (x : A) → find p xs ≡ Some x → p x ≡ true
-found_is p [] x e = cc e
-found_is p (y ∷ ys) x e = by (p y) refl e (λ f. found_is p ys x f)
-  where
-    by : (b : Bool) → p y ≡ b → cond b (Some y) (find p ys) ≡ Some x → (find p ys ≡ Some x → p x ≡ true) → p x ≡ true
-    by true h e on = let same : y ≡ x = cc e in ap p (sym same) ∙ h
-    by false h e on = on e
-
--- a summary covers what lies in the ranges that were found under a name
-pub covers_near : (q name : List ℕ) (names : List Known) (k : Known) (range : NumberRange)
-    → rises_by name_cmp (λ (k : Known). k.name) names ≡ true → Some k ≡ under_name q names → name ≡ k.name
-    → ((n : ℕ) → has_number (range ∷ []) n ≡ true → has_number k.ranges n ≡ true) → (n : ℕ) → has_number (range ∷ []) n ≡ true
-    → covers names (record { number = n; name = name }) ≡ true
-covers_near q name names k range rises found same among n h =
-    let tied : is_eq (name_cmp q k.name) ≡ true = found_is (λ (x : Known). is_eq (name_cmp q x.name)) names k (sym found) in
-    let is : name ≡ q = same ∙ same_bytes-is k.name q (same_tied q k.name ∙ tied) in
-    covered_is (record { number = n; name = name }) q n names names (Some k) rises refl
-    (λ i. record { number = n; name = sym is i }) found ∙ among n h
+-- an id, by the bytes of its name
+pub named : {a b : List ℕ} {n : ℕ} {id : Id} → a ≡ b → ◌≡◌ {A = Id} (record { number = n; name = b }) id
+    → ◌≡◌ {A = Id} (record { number = n; name = a }) id
+named {n = n} e is = (λ i. record { number = n; name = e i }) ∙ is

@@ -9,7 +9,7 @@ use Rattle.op_core.specs.Ids.{Id}
 use Rattle.op_core.specs.Ops.{Operation}
 use Rattle.op_core.specs.Sets.{get}
 use Rattle.bundle_codec.specs.declared.summaries.range.NumberRange.{NumberRange}
-use Rattle.bundle_codec.specs.Summaries.{Known, IsSummary, is_range, are_apart, has_number, covers}
+use Rattle.bundle_codec.specs.Summaries.{Known, is_range, are_apart, has_number}
 
 -- the ranges with one number more, which is greater than theirs
 abbrev pub with_last : List NumberRange → ℕ → List NumberRange
@@ -76,11 +76,3 @@ pub record HoldsRanges {A : Type 0} (held : List Operation)
 -- the names of a map with their ranges
 abbrev pub listed : {A : Type 0} → BTreeMap (List ℕ) (Vec NumberRange A) → List Known
 listed m = map (λ e. record { name = e.0; ranges = e.1.items }) m.entries
-
--- ---- which ids a summary covers
-
--- a summary, and a range of which it covers each number under a name
-pub record IsNear (s : List Known) (name : List ℕ) (range : NumberRange) : Type 0 where
-  pub form : IsSummary s
-  pub near : (n : ℕ) → IsTrue (has_number (range ∷ []) n)
-      → IsTrue (covers s (record { number = n; name = name }))

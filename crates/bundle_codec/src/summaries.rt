@@ -15,9 +15,10 @@ mod writing;
 use crate::fault::SummaryFault;
 use coverage::Coverage;
 use making::{held_ranges, listed};
-use name_ranges::NameRanges;
+use name_ranges::{NameRanges, find_name};
 use op_core::{OpId, OpSet};
 pub use outside::encode_outside;
+use range::find_range;
 use reading::summary_of;
 use std::alloc::{AllocError, Global};
 use std::marker::Model;
@@ -107,13 +108,16 @@ impl Summary {
     pub fn covers(&self, id: &OpId) -> bool
         ensures { result ≡ sums.covers self.now id.now }
     {
-        self.coverage().covers(id)
+        match find_name(&self.names, id.name.text().as_bytes(), 0) {
+            None => false,
+            Some((_, known)) => find_range(known.ranges(), id.number, 0).is_some(),
+        }
     }
 
     // A search among the ids that it covers.
-    fn coverage(&self) -> Coverage<'_>
-        ensures { result ≡ self.now }
+    fn coverage(&self, alloc: Global) -> Result<Coverage<'_>, AllocError>
+        ensures { IfOk result (λ coverage. coverage ≡ self.now) }
     {
-        Coverage::new(&self.names)
+        Coverage::new(alloc, &self.names)
     }
 }

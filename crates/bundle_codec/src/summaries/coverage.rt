@@ -1,45 +1,46 @@
 // A search among the ids that a summary covers.
-ghost use Rattle.std.specs.Prelude.{◌≡◌};
-ghost use Rattle.usfm_ref.specs.Books.{same_bytes};
+ghost use Rattle.std.specs.Prelude.{◌≡◌, IfOk};
 ghost use Rattle.bundle_codec.specs.Summaries.{IsSummary, covers};
 
 use super::name_ranges::{NameRanges, find_name};
-use super::range::{NumberRange, find_range, is_in};
+use super::range::find_range;
 use op_core::OpId;
+use std::alloc::{AllocError, Global};
 use std::marker::Model;
 
-// Tells which ids a summary covers. It looks first at the range that had the last covered one, since
-// the ids of a set mostly come in runs of one name; then names and ranges are searched by halves.
+// Tells which ids a summary covers. A search begins where the last one ended, since the ids of a set
+// mostly stand in runs of one name, and the numbers of a name rise.
 #[derive(Drop)]
 pub(crate) struct Coverage<'a> {
     names: &'a [NameRanges],
-    // The name of the last covered id, and the range of it. At first no number is in the range.
-    name: &'a [u8],
-    range: NumberRange,
+    // The place of the last name.
+    near: usize,
+    // For each name the place of the range that had its last covered number.
+    ranges: Vec<usize>,
 }
 
 impl<'a> Model for Coverage<'a> {
-    ghost use Rattle.std.specs.Prelude.{List};
-    ghost use Rattle.bundle_codec.specs.Summaries.{Known};
-    ghost use Rattle.bundle_codec.specs.SummaryMaking.{IsNear};
+    ghost use Rattle.std.specs.Prelude.{◌≡◌, List, length};
+    ghost use Rattle.bundle_codec.specs.Summaries.{Known, IsSummary};
 
     ghost Value = { List Known };
 
     ghost view = { λ c. c.names.now };
 
-    ghost invariant = { λ c. IsNear c.names.now c.name.now c.range };
+    ghost invariant = { λ c. IsSummary c.names.now × (length c.ranges.items ≡ length c.names.now) };
 }
 
 impl<'a> Coverage<'a> {
-    pub(crate) fn new(names: &'a [NameRanges]) -> Coverage<'a>
+    pub(crate) fn new(alloc: Global, names: &'a [NameRanges]) -> Result<Coverage<'a>, AllocError>
         requires { IsSummary names.now }
-        ensures { result ≡ names.now }
+        ensures { IfOk result (λ coverage. coverage ≡ names.now) }
     {
-        Coverage {
+        let ranges = vec![in alloc; 0usize; names.len()]?;
+        Ok(Coverage {
             names,
-            name: b"",
-            range: NumberRange { first: 1, last: 0 },
-        }
+            near: 0,
+            ranges,
+        })
     }
 
     // Whether an id's number lies in a range of its name.
@@ -48,17 +49,14 @@ impl<'a> Coverage<'a> {
         ensures same { self.new ≡ self.old }
     {
         let name = id.name.text().as_bytes();
-        if is_in(self.range, id.number) && self.name == name {
-            return true;
-        }
-        let Some(known) = find_name(self.names, name) else {
+        let Some((near, known)) = find_name(self.names, name, self.near) else {
             return false;
         };
-        let Some(range) = find_range(known.ranges(), id.number) else {
+        self.near = near;
+        let Some(range) = find_range(known.ranges(), id.number, self.ranges[near]) else {
             return false;
         };
-        self.name = known.text();
-        self.range = range;
+        self.ranges[near] = range;
         true
     }
 }

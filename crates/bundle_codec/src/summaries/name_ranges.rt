@@ -1,13 +1,12 @@
 // A name with the ranges of its numbers.
-ghost use Rattle.std.specs.Prelude.{◌≡◌, ◌≢◌, [], IsTrue};
+ghost use Rattle.std.specs.Prelude.{◌≡◌, ◌≢◌, ◌<◌, [], length, option_map, IsTrue, IfSome};
 ghost use Rattle.std.specs.List.{list_all, find};
-ghost use Rattle.std.specs.Option.{option_copied};
 ghost use Rattle.std.specs.Ordering.{is_eq};
 ghost use Rattle.usfm_ref.specs.Rising.{rises_by};
 ghost use Rattle.op_core.specs.Names.{name_cmp};
 ghost use Rattle.bundle_codec.specs.Summaries.{IsKnown, is_range, are_apart};
 
-use super::range::NumberRange;
+use super::range::{NumberRange, look};
 use op_core::ReplicaName;
 use std::cmp::Ordering;
 use std::marker::Model;
@@ -70,19 +69,26 @@ impl NameRanges {
     }
 }
 
-// What stands under a name, if there is one. The names are searched by halves.
-pub(crate) fn find_name<'a>(names: &'a [NameRanges], name: &[u8]) -> Option<&'a NameRanges>
+// What stands under a name, and its place, if there is one. The name at `near` is looked at first, and
+// the one behind it; then they are searched by halves.
+pub(crate) fn find_name<'a>(
+    names: &'a [NameRanges],
+    name: &[u8],
+    near: usize,
+) -> Option<(usize, &'a NameRanges)>
     requires rising { IsTrue (rises_by name_cmp (λ k. k.name) names.now) }
-    ensures { option_copied result ≡ find (λ k. is_eq (name_cmp name.now k.name)) names.now }
+    ensures found { let wanted = find (λ k. is_eq (name_cmp name.now k.name)) names.now in
+        option_map (λ p. p.1.now) result ≡ wanted }
+    ensures within { IfSome result (λ p. p.0 < length names.now) }
 {
     let mut low = 0;
     let mut high = names.len();
     'halves: while low < high {
-        let middle = low + (high - low) / 2;
+        let middle = look(low, high, near);
         let known = &names[middle];
         match known.order(name) {
             Ordering::Less => low = middle + 1,
-            Ordering::Equal => return Some(known),
+            Ordering::Equal => return Some((middle, known)),
             Ordering::Greater => high = middle,
         }
     }

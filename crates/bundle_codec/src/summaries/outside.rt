@@ -21,7 +21,7 @@ pub fn encode_outside(alloc: Global, set: &OpSet, summary: &Summary) -> Result<V
 {
     let mut bytes = Vec::new(alloc);
     push_front(&mut bytes, 0)?;
-    let mut coverage = summary.coverage();
+    let mut coverage = summary.coverage(alloc)?;
     // All operations but those that are covered.
     let mut count = set.len();
     for op in set.iter() {

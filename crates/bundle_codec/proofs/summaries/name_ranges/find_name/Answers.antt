@@ -7,8 +7,8 @@ halves-preserved-in-Less c = around_low c.args.name.now c.args.names.now c.requi
     c.index-names-middle.result c.halves.invariant (omega arith) (omega arith) c.index-names-middle.is
     (sym c.order.ensures ∙ c.in-Less.is)
 
-pub returns-in-Equal : goal.returns-in-Equal
-returns-in-Equal c = sym (around_found c.args.name.now c.args.names.now c.requires.rising c.halves.low c.halves.high _
+pub returns-in-Equal-clause-found : goal.returns-in-Equal-clause-found
+returns-in-Equal-clause-found c = sym (around_found c.args.name.now c.args.names.now c.requires.rising c.halves.low c.halves.high _
     c.index-names-middle.result c.halves.invariant (omega arith) (omega arith) c.index-names-middle.is
     (sym c.order.ensures ∙ c.in-Equal.is))
 
@@ -17,6 +17,6 @@ halves-preserved c = around_high c.args.name.now c.args.names.now c.requires.ris
     c.index-names-middle.result c.halves.invariant (omega arith) (omega arith) c.index-names-middle.is
     (sym c.order.ensures ∙ c.in-Greater.is)
 
-pub returns : goal.returns
-returns c = sym (around_none c.args.name.now c.args.names.now c.requires.rising c.halves.low c.halves.high c.halves.invariant
+pub returns-clause-found : goal.returns-clause-found
+returns-clause-found c = sym (around_none c.args.name.now c.args.names.now c.requires.rising c.halves.low c.halves.high c.halves.invariant
     c.halves-test.false)

@@ -10,5 +10,5 @@ pub halves-preserved : goal.halves-preserved
 halves-preserved c = between_low c.args.number c.args.ranges.now c.requires.each c.requires.apart c.halves.low c.halves.high _ _
     c.halves.invariant (omega arith) (omega arith) c.if-range-number.true
 
-pub returns-clause-there : goal.returns-clause-there
-returns-clause-there c = sym (between_none c.args.number c.args.ranges.now c.halves.low c.halves.high c.halves.invariant c.halves-test.false)
+pub returns : goal.returns
+returns c = sym (between_none c.args.number c.args.ranges.now c.halves.low c.halves.high c.halves.invariant c.halves-test.false)
