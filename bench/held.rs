@@ -1,19 +1,20 @@
-//! What a replica holds, in plain Rust: operations in the order of their ids, with each name of a replica kept once, and
-//! what each segment shows. It takes bundles in, and tells its summary and what lies outside another one's.
+//! What a replica holds, in plain Rust: operations in the order of their ids, each with the names that it has, and what
+//! each segment shows. It takes bundles in, and tells its summary and what lies outside another one's.
 
 #[path = "operations.rs"]
 mod operations;
 
 use operations::fitting::{Key, Place};
 use operations::{Fault, Reader};
-use std::cmp::Ordering;
-use std::collections::{HashMap, HashSet};
+use std::collections::{BTreeMap, HashMap, HashSet};
 
-/// A number, and the place of a name among those that came.
-#[derive(Clone, Copy, PartialEq, Eq, Hash)]
+/// The text of a name, and zeros behind it.
+pub type Name = [u8; 32];
+
+#[derive(Clone, Copy, PartialEq, Eq, PartialOrd, Ord, Hash)]
 struct Id {
     number: u64,
-    name: u16,
+    name: Name,
 }
 
 #[derive(PartialEq)]
@@ -26,31 +27,23 @@ struct Op {
 }
 
 /// Names, rising by their bytes, each with ranges of numbers.
-pub type Summary = Vec<(Vec<u8>, Vec<(u64, u64)>)>;
+pub type Summary = Vec<(Name, Vec<(u64, u64)>)>;
 
 #[derive(Default)]
 pub struct Held {
-    names: Vec<Vec<u8>>,
     ops: Vec<Op>,
     named: HashSet<Id>,
     shown: HashMap<([u8; 3], Key), Vec<Id>>,
 }
 
-fn order(names: &[Vec<u8>], a: Id, b: Id) -> Ordering {
-    let by_name = || names[usize::from(a.name)].cmp(&names[usize::from(b.name)]);
-    a.number.cmp(&b.number).then_with(|| if a.name == b.name { Ordering::Equal } else { by_name() })
-}
-
 impl Held {
-    fn kept(&mut self, id: operations::Id) -> Id {
-        let name = self.names.iter().position(|name| *name == id.name).unwrap_or_else(|| {
-            self.names.push(id.name);
-            self.names.len() - 1
-        });
-        Id { number: id.number, name: name as u16 }
+    fn kept(&self, id: operations::Id) -> Id {
+        let mut name = [0; 32];
+        name[..id.name.len()].copy_from_slice(&id.name);
+        Id { number: id.number, name }
     }
 
-    fn kept_op(&mut self, op: operations::Op) -> Op {
+    fn kept_op(&self, op: operations::Op) -> Op {
         Op {
             id: self.kept(op.id),
             book: op.book,
@@ -66,7 +59,7 @@ impl Held {
         let mut new = Vec::new();
         for op in reader.bundle()? {
             let op = self.kept_op(op);
-            match self.ops.binary_search_by(|held| order(&self.names, held.id, op.id)) {
+            match self.place(&op.id) {
                 Err(_) => new.push(op),
                 Ok(at) if self.ops[at] == op => {}
                 Ok(_) => return Err((51, format!(" {}", op.id.number))),
@@ -77,14 +70,22 @@ impl Held {
             self.note(op);
         }
         let is_behind = match (self.ops.last(), new.first()) {
-            (Some(last), Some(first)) => order(&self.names, last.id, first.id).is_lt(),
+            (Some(last), Some(first)) => last.id < first.id,
             _ => true,
         };
         self.ops.append(&mut new);
         if !is_behind {
-            self.ops.sort_by(|a, b| order(&self.names, a.id, b.id));
+            self.ops.sort_by(|a, b| a.id.cmp(&b.id));
         }
         Ok((count, reader.rest))
+    }
+
+    /// Where an operation of this id stands, or would stand. Most that come are behind all that are held.
+    fn place(&self, id: &Id) -> Result<usize, usize> {
+        match self.ops.last() {
+            Some(last) if *id <= last.id => self.ops.binary_search_by(|held| held.id.cmp(id)),
+            _ => Err(self.ops.len()),
+        }
     }
 
     /// Shows the operation in its segment, in place of those that it names, if none that came names it.
@@ -93,7 +94,7 @@ impl Held {
         shown.retain(|id| !op.replaced.contains(id));
         self.named.extend(&op.replaced);
         if !self.named.contains(&op.id) {
-            let at = shown.partition_point(|id| order(&self.names, *id, op.id).is_lt());
+            let at = shown.partition_point(|id| *id < op.id);
             shown.insert(at, op.id);
         }
     }
@@ -103,39 +104,41 @@ impl Held {
         self.shown.values().map(Vec::len).sum()
     }
 
+    /// The summary. A name is looked up once for each run of it.
     pub fn summary(&self) -> Summary {
-        let mut ranges: Vec<Vec<(u64, u64)>> = vec![Vec::new(); self.names.len()];
-        for op in &self.ops {
-            let number = op.id.number;
-            match ranges[usize::from(op.id.name)].last_mut() {
-                Some(last) if last.1 + 1 == number => last.1 = number,
-                _ => ranges[usize::from(op.id.name)].push((number, number)),
+        let mut held: BTreeMap<Name, Vec<(u64, u64)>> = BTreeMap::new();
+        for run in self.ops.chunk_by(|a, b| a.id.name == b.id.name) {
+            let ranges = held.entry(run[0].id.name).or_default();
+            for number in run.iter().map(|op| op.id.number) {
+                match ranges.last_mut() {
+                    Some(last) if last.1 + 1 == number => last.1 = number,
+                    _ => ranges.push((number, number)),
+                }
             }
         }
-        let named = self.names.iter().cloned().zip(ranges);
-        let mut summary: Summary = named.filter(|(_, ranges)| !ranges.is_empty()).collect();
-        summary.sort_unstable();
-        summary
+        held.into_iter().collect()
     }
 
-    /// The bundle of the operations outside a summary. Numbers rise, so each name's ranges are walked once.
+    /// The bundle of the operations outside a summary. A name is looked up once for each run of it, and its ranges are
+    /// walked beside the numbers, which rise.
     pub fn delta(&self, summary: &Summary) -> Vec<u8> {
-        let mut left: Vec<&[(u64, u64)]> = vec![&[]; self.names.len()];
-        for (at, name) in self.names.iter().enumerate() {
-            if let Ok(found) = summary.binary_search_by(|(other, _)| other.cmp(name)) {
-                left[at] = &summary[found].1;
-            }
-        }
+        let mut left: Vec<&[(u64, u64)]> = summary.iter().map(|(_, ranges)| ranges.as_slice()).collect();
         let mut bytes = b"USFMSR1\n\0\0\0\0\0\0\0\0".to_vec();
         let mut count = 0u64;
-        for op in &self.ops {
-            let left = &mut left[usize::from(op.id.name)];
-            while left.first().is_some_and(|range| range.1 < op.id.number) {
-                *left = &left[1..];
+        for run in self.ops.chunk_by(|a, b| a.id.name == b.id.name) {
+            let found = summary.binary_search_by(|(name, _)| name.cmp(&run[0].id.name));
+            let mut known: &[(u64, u64)] = found.map_or(&[], |at| left[at]);
+            for op in run {
+                while known.first().is_some_and(|range| range.1 < op.id.number) {
+                    known = &known[1..];
+                }
+                if known.first().is_none_or(|range| op.id.number < range.0) {
+                    self.push(&mut bytes, op);
+                    count += 1;
+                }
             }
-            if left.first().is_none_or(|range| op.id.number < range.0) {
-                self.push(&mut bytes, op);
-                count += 1;
+            if let Ok(at) = found {
+                left[at] = known;
             }
         }
         bytes[8..16].copy_from_slice(&count.to_be_bytes());
@@ -143,7 +146,7 @@ impl Held {
     }
 
     fn push_id(&self, bytes: &mut Vec<u8>, id: Id) {
-        let name = &self.names[usize::from(id.name)];
+        let name = text_of(&id.name);
         bytes.extend(id.number.to_be_bytes());
         bytes.push(name.len() as u8);
         bytes.extend_from_slice(name);
@@ -175,6 +178,7 @@ pub fn summary_bytes(summary: &Summary) -> Vec<u8> {
     let mut bytes = b"USFMSS1\n".to_vec();
     bytes.extend((summary.len() as u64).to_be_bytes());
     for (name, ranges) in summary {
+        let name = text_of(name);
         bytes.push(name.len() as u8);
         bytes.extend_from_slice(name);
         bytes.extend((ranges.len() as u64).to_be_bytes());
@@ -188,4 +192,8 @@ pub fn summary_bytes(summary: &Summary) -> Vec<u8> {
 
 pub fn sum_of(bytes: &[u8]) -> u64 {
     bytes.iter().fold(0, |sum, byte| u64::wrapping_add(u64::wrapping_mul(sum, 31), u64::from(*byte)))
+}
+
+pub fn text_of(name: &Name) -> &[u8] {
+    &name[..name.iter().position(|b| *b == 0).unwrap_or(32)]
 }

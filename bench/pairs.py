@@ -77,9 +77,9 @@ def turn_about(programs, words, turns):
     return least, answers[0]
 
 
-def compare_jobs(programs, jobs, turns=7):
+def compare_jobs(programs, jobs, turns=7, limit=1.5):
     """Tells the least time and the peak memory of both programs for each job, which has a label and its words. Answers
-    whether the proved one takes at most 1.5 times as long in each."""
+    whether the proved one takes at most so many times as long in each."""
     held = True
     for label, words in jobs:
         least, _ = turn_about(programs, words, turns)
@@ -87,5 +87,5 @@ def compare_jobs(programs, jobs, turns=7):
         ratio = least[0] / least[1]
         print("%-18s proved %9.3f ms %7d KB   plain %9.3f ms %7d KB   time %.2f   memory %.2f"
               % (label, least[0] / 1e6, peaks[0], least[1] / 1e6, peaks[1], ratio, peaks[0] / peaks[1]))
-        held = held and ratio <= 1.5
+        held = held and ratio <= limit
     return held

@@ -8,7 +8,7 @@ the other one lacks. The job `delta` writes them as a bundle for the other's sum
 in. The proved calls are built by `rt run` (bench.rt.txt, in a folder of its own), the plain ones by `rustc -O`
 (plain.rs); both keep what each segment shows. Told are the least time of a round, and the peak of resident memory of a
 process that holds the project twice. The exit status is 1 where the two programs write different deltas, or a proved
-call takes more than 1.5 times as long.
+call takes more than twice as long.
 """
 import os
 import subprocess
@@ -38,7 +38,7 @@ def main():
     with tempfile.TemporaryDirectory() as work:
         names = files_of(work)
         programs = build(work, HERE, "replica_state", [*names, "delta", "1"], BESIDE)
-        held = compare_jobs(programs, [(job, [*names, job, ROUNDS]) for job in ("delta", "receive")])
+        held = compare_jobs(programs, [(job, [*names, job, ROUNDS]) for job in ("delta", "receive")], limit=2)
     sys.exit(not held)
 
 

@@ -190,3 +190,8 @@ pub covered_is : (id : Id) (name : List ℕ) (number : ℕ) (s names : List Know
 covered_is id name number s names one h e f g =
     (λ j. covers (sym e j) (sym f j)) ∙ covers-found (record { number = number; name = name }) names h
     ∙ ap (λ o. found_has o number) (sym g)
+
+-- an id, by the bytes of its name
+pub named : {a b : List ℕ} {n : ℕ} {id : Id} → a ≡ b → ◌≡◌ {A = Id} (record { number = n; name = b }) id
+    → ◌≡◌ {A = Id} (record { number = n; name = a }) id
+named {n = n} e is = (λ i. record { number = n; name = e i }) ∙ is

@@ -1,12 +1,13 @@
 -- A map from names to ranges, with the ids of a set added one after another.
-use Rattle.std.proofs.Common.{◌≡◌, ℕ, ◌<◌, Bool, true, false, cond, ◌&&◌, ◌||◌, eqb, leb, List, [], ◌∷◌, ◌++◌, Option, Some, None, Result, Ok, Err, Vec, option_map, refl, sym, ap, subst, ◌∙◌, arith, inl, inr}
-use Rattle.std.specs.List.{list_all}
+use Rattle.std.proofs.Common.{◌≡◌, ℕ, ◌<◌, Bool, true, false, cond, ◌&&◌, ◌||◌, eqb, leb, List, [], ◌∷◌, ◌++◌, Option, Some, None, Result, Ok, Err, Vec, option_map, map, IsTrue, refl, sym, ap, subst, ◌∙◌, append_assoc, arith, inl, inr}
+use Rattle.std.specs.List.{list_all, AllByRecursion}
 use Rattle.std.specs.Option.{unwrap_or, is_some}
 use Rattle.std.specs.Ordering.{is_eq}
-use Rattle.std.specs.Result.{OnOk}
+use Rattle.std.specs.Result.{IfOk}
 use Rattle.std.specs.Map.{lookup}
 use Rattle.std.specs.BTreeMap.{BTreeMap, get as value_at, is_at}
 use Rattle.std.proofs.lemmas.Bool.{and_parts, and_from, lt-ltb, leb-true, eq-eqb, true≢false, cases_lt}
+use Rattle.std.proofs.lemmas.List.{map-append}
 use Rattle.usfm_ref.specs.Books.{same_bytes}
 use Rattle.usfm_ref.proofs.Orders.{same_bytes-is, same_bytes-refl}
 use Rattle.op_core.specs.Names.{name_cmp}
@@ -18,28 +19,36 @@ use Rattle.op_core.proofs.Union.{apart_below}
 use Rattle.op_core.specs.Sets.{get, rises}
 use Rattle.bundle_codec.specs.declared.summaries.range.NumberRange.{NumberRange}
 use Rattle.bundle_codec.specs.Summaries.{is_range, has_number}
-use Rattle.bundle_codec.specs.SummaryMaking.{with_last, under, HoldsMore, AreUnder}
+use Rattle.bundle_codec.specs.SummaryMaking.{with_last, with_each, under, numbers, AddsRun, HoldsRun, AreUnder}
 use Rattle.bundle_codec.proofs.Lasts.{AllBelow, last_has, last_ranges}
 use Rattle.bundle_codec.proofs.SummaryReads.{range_bounds}
 use Rattle.bundle_codec.proofs.Covered.{lies_in, lies_yes, same_tied}
 
 -- ---- one value of the map was written
 
-module _ {A : Type 0} (m n : BTreeMap (List ℕ) (Vec NumberRange A)) (id : Id) (old : Option (Vec NumberRange A))
-    (w : Vec NumberRange A) where
-  pub holds_more : value_at name_cmp m id.name ≡ old → w.items ≡ with_last (unwrap_or (option_map (λ v. v.items) old) []) id.number
-      → ((q : List ℕ) → value_at name_cmp n q ≡ cond (is_eq (name_cmp id.name q)) (Some w) (value_at name_cmp m q)) → HoldsMore id m n
-  holds_more was made updates = λ q. ap (option_map (λ v. v.items)) (updates q) ∙ by q (is_eq (name_cmp id.name q)) refl
+module _ {A : Type 0} (m n : BTreeMap (List ℕ) (Vec NumberRange A)) (id : Id) (ops rest : List Operation)
+    (old : Option (Vec NumberRange A)) (w : Vec NumberRange A) where
+  holds_run : value_at name_cmp m id.name ≡ old → AddsRun id ops rest (unwrap_or (option_map (λ v. v.items) old) []) w.items
+      → ((q : List ℕ) → value_at name_cmp n q ≡ cond (is_eq (name_cmp id.name q)) (Some w) (value_at name_cmp m q))
+      → HoldsRun id ops rest m n
+  holds_run was made updates = (made.0, λ q. ap (option_map (λ v. v.items)) (updates q) ∙ by q (is_eq (name_cmp id.name q)) refl)
     where
       by : (q : List ℕ) (b : Bool) → is_eq (name_cmp id.name q) ≡ b
           → option_map (λ v. v.items) (cond b (Some w) (value_at name_cmp m q))
-          ≡ cond (same_bytes q id.name) (Some (with_last (unwrap_or (under m q) []) id.number)) (under m q)
+          ≡ cond (same_bytes q id.name) (Some (with_each (unwrap_or (under m q) []) (numbers made.0))) (under m q)
       by q true e =
           let same : same_bytes q id.name ≡ true = same_tied id.name q ∙ e in
           let there : under m q ≡ option_map (λ v. v.items) old =
           ap (under m) (same_bytes-is q id.name same) ∙ ap (option_map (λ v. v.items)) was in
-          rw (same, there, made) refl
+          rw (same, there, made.1) refl
       by q false e = rw (same_tied id.name q ∙ e) refl
+
+  pub holds_named : (name : List ℕ) → name ≡ id.name → value_at name_cmp m name ≡ old
+      → AddsRun id ops rest (unwrap_or (option_map (λ v. v.items) old) []) w.items
+      → ((q : List ℕ) → value_at name_cmp n q ≡ cond (is_eq (name_cmp name q)) (Some w) (value_at name_cmp m q))
+      → HoldsRun id ops rest m n
+  holds_named name e was made updates = holds_run (ap (value_at name_cmp m) (sym e) ∙ was) made
+      (subst (λ (k : List ℕ). (q : List ℕ) → value_at name_cmp n q ≡ cond (is_eq (name_cmp k q)) (Some w) (value_at name_cmp m q)) e updates)
 
 -- ---- held ids
 
@@ -150,26 +159,102 @@ module _ (done : List Operation) (o : Operation) (rest : List Operation) (rising
   under_other q None other h = λ k. as_held q k other ∙ h k
   under_other q (Some rs) other h = (h.0, λ k. h.1 k ∙ sym (as_held q k other))
 
-  pub names_step : {A : Type 0} (m n : BTreeMap (List ℕ) (Vec NumberRange A)) → is_number o.id.number ≡ true → HoldsMore o.id m n
-      → ((q : List ℕ) → AreUnder done q (under m q)) → (q : List ℕ) → AreUnder (done ++ o ∷ []) q (under n q)
-  names_step m n num more so_far q = by (same_bytes q o.id.name) refl
-    where
-      by : (b : Bool) → same_bytes q o.id.name ≡ b → AreUnder (done ++ o ∷ []) q (under n q)
-      by true e = subst (AreUnder (done ++ o ∷ []) q)
-          (sym (more q ∙ ap (λ b. cond b (Some (with_last (unwrap_or (under m q) []) o.id.number)) (under m q)) e))
-          (under_same q (under m q) num e (so_far q))
-      by false e = subst (AreUnder (done ++ o ∷ []) q)
-          (sym (more q ∙ ap (λ b. cond b (Some (with_last (unwrap_or (under m q) []) o.id.number)) (under m q)) e))
-          (under_other q (under m q) e (so_far q))
+-- ---- a run of one name
 
-pub on_ok : {T E : Type 0} (r : Result T E) (P Q : Type 0) → (P → Q) → OnOk r P → OnOk r Q
-on_ok (Ok x) P Q f h = f h
-on_ok (Err e) P Q f h = tt
+added : (old : List NumberRange) (ns : List ℕ) (n : ℕ) → with_last (with_each old ns) n ≡ with_each old (ns ++ n ∷ [])
+added old [] n = refl
+added old (m ∷ ns) n = added (with_last old m) ns n
+
+all_more : {X : Type 0} (P : X → Type 0) (xs : List X) (x : X) → AllByRecursion P xs → P x → AllByRecursion P (xs ++ x ∷ [])
+all_more P [] x h p = (p, tt)
+all_more P (y ∷ xs) x h p = (h.0, all_more P xs x h.1 p)
+
+module _ (id : Id) (ops : List Operation) (old : List NumberRange) where
+  pub run_begins : (new : List NumberRange) → new ≡ with_last old id.number → AddsRun id ops ops old new
+  run_begins new e = (record { run = []; same = tt; parts = refl }, e)
+
+  pub run_more : (it rest : List Operation) (o : Operation) (now new : List NumberRange) → it ≡ o ∷ rest
+      → same_bytes o.id.name id.name ≡ true → new ≡ with_last now o.id.number → AddsRun id ops it old now → AddsRun id ops rest old new
+  run_more it rest o now new next same more h = (
+    record {
+      run = h.0.run ++ o ∷ [];
+      same = all_more _ h.0.run o h.0.same same;
+      parts = h.0.parts ∙ ap (λ (w : List Operation). h.0.run ++ w) next ∙ sym (append_assoc h.0.run (o ∷ []) rest);
+    },
+    more ∙ ap (λ (w : List NumberRange). with_last w o.id.number) h.1
+        ∙ added old (numbers h.0) o.id.number
+        ∙ ap (λ (w : List ℕ). with_each old (id.number ∷ w)) (sym (map-append (λ (p : Operation). p.id.number) h.0.run (o ∷ []))),
+  )
+
+  pub run_ends : (it rest : List Operation) (now : List NumberRange) → it ≡ rest → AddsRun id ops it old now → AddsRun id ops rest old now
+  run_ends it rest now e h = subst (λ (w : List Operation). AddsRun id ops w old now) e h
+
+abbrev Numbered : List Operation → Type 0
+Numbered ops = AllByRecursion (λ (o : Operation). is_number o.id.number ≡ true) ops
+
+-- the operations of a run are done, which begins with an id
+run_same : (done : List Operation) (o : Operation) (run rest : List Operation) (q : List ℕ) (u : Option (List NumberRange))
+    → rises (done ++ o ∷ (run ++ rest)) ≡ true → Numbered (o ∷ run)
+    → AllByRecursion (λ (p : Operation). same_bytes q p.id.name ≡ true) (o ∷ run) → AreUnder done q u
+    → AreUnder (done ++ o ∷ run) q (Some (with_each (unwrap_or u []) (o.id.number ∷ map (λ (p : Operation). p.id.number) run)))
+run_same done o [] rest q u rising num same h = under_same done o rest rising q u num.0 same.0 h
+run_same done o (p ∷ run) rest q u rising num same h =
+    let one = under_same done o (p ∷ (run ++ rest)) rising q u num.0 same.0 h in
+    let more = run_same (done ++ o ∷ []) p run rest q (Some (with_last (unwrap_or u []) o.id.number))
+    (ap rises (append_assoc done (o ∷ []) (p ∷ (run ++ rest))) ∙ rising) num.1 same.1 one in
+    subst (λ (w : List Operation). AreUnder w q
+    (Some (with_each (unwrap_or u []) (o.id.number ∷ p.id.number ∷ map (λ (x : Operation). x.id.number) run))))
+    (append_assoc done (o ∷ []) (p ∷ run)) more
+
+run_other : (done : List Operation) (o : Operation) (run rest : List Operation) (q : List ℕ) (u : Option (List NumberRange))
+    → rises (done ++ o ∷ (run ++ rest)) ≡ true
+    → AllByRecursion (λ (p : Operation). same_bytes q p.id.name ≡ false) (o ∷ run) → AreUnder done q u
+    → AreUnder (done ++ o ∷ run) q u
+run_other done o [] rest q u rising other h = under_other done o rest rising q u other.0 h
+run_other done o (p ∷ run) rest q u rising other h =
+    let one = under_other done o (p ∷ (run ++ rest)) rising q u other.0 h in
+    subst (λ (w : List Operation). AreUnder w q u) (append_assoc done (o ∷ []) (p ∷ run))
+    (run_other (done ++ o ∷ []) p run rest q u (ap rises (append_assoc done (o ∷ []) (p ∷ (run ++ rest))) ∙ rising) other.1 one)
+
+-- a run has one name
+one_name : (q : List ℕ) (id : Id) (b : Bool) (run : List Operation) → same_bytes q id.name ≡ b
+    → AllByRecursion (λ (p : Operation). IsTrue (same_bytes p.id.name id.name)) run
+    → AllByRecursion (λ (p : Operation). same_bytes q p.id.name ≡ b) run
+one_name q id b [] e h = tt
+one_name q id b (p ∷ run) e h =
+    (ap (same_bytes q) (same_bytes-is p.id.name id.name h.0) ∙ e, one_name q id b run e h.1)
+
+pub names_run : {A : Type 0} (done : List Operation) (o : Operation) (ops rest : List Operation)
+    (m n : BTreeMap (List ℕ) (Vec NumberRange A)) (h : HoldsRun o.id ops rest m n)
+    → rises (done ++ o ∷ ops) ≡ true → Numbered (o ∷ h.0.run) → ((q : List ℕ) → AreUnder done q (under m q))
+    → (q : List ℕ) → AreUnder (done ++ o ∷ h.0.run) q (under n q)
+names_run done o ops rest m n h rising num so_far q = by (same_bytes q o.id.name) refl
+  where
+    parts : rises (done ++ o ∷ (h.0.run ++ rest)) ≡ true
+    parts = ap (λ (w : List Operation). rises (done ++ o ∷ w)) (sym h.0.parts) ∙ rising
+
+    is : (b : Bool) → same_bytes q o.id.name ≡ b
+        → cond b (Some (with_each (unwrap_or (under m q) []) (numbers h.0))) (under m q) ≡ under n q
+    is b e =
+        sym (h.1 q ∙ ap (λ c. cond c (Some (with_each (unwrap_or (under m q) []) (numbers h.0))) (under m q)) e)
+
+    by : (b : Bool) → same_bytes q o.id.name ≡ b → AreUnder (done ++ o ∷ h.0.run) q (under n q)
+    by true e = subst (AreUnder (done ++ o ∷ h.0.run) q) (is true e)
+        (run_same done o h.0.run rest q (under m q) parts num (e, one_name q o.id true h.0.run e h.0.same) (so_far q))
+    by false e = subst (AreUnder (done ++ o ∷ h.0.run) q) (is false e)
+        (run_other done o h.0.run rest q (under m q) parts (e, one_name q o.id false h.0.run e h.0.same) (so_far q))
+
+pub if_ok : {T E : Type 0} (r : Result T E) (P Q : T → Type 0) → ((x : T) → P x → Q x) → IfOk r P → IfOk r Q
+if_ok (Ok x) P Q f h = f x h
+if_ok (Err e) P Q f h = tt
 
 -- the same entries have the same ids
-pub more_as : {A : Type 0} (l m n : BTreeMap (List ℕ) (Vec NumberRange A)) (id : Id) → l.entries ≡ m.entries → HoldsMore id l n
-    → HoldsMore id m n
-more_as l m n id e h = λ q. h q
-    ∙ ap (λ es. cond (same_bytes q id.name)
-    (Some (with_last (unwrap_or (option_map (λ v. v.items) (lookup (is_at (name_cmp q)) es)) []) id.number))
-    (option_map (λ v. v.items) (lookup (is_at (name_cmp q)) es))) e
+pub run_as : {A : Type 0} (l m n : BTreeMap (List ℕ) (Vec NumberRange A)) (id : Id) (ops rest : List Operation) → l.entries ≡ m.entries
+    → HoldsRun id ops rest l n → HoldsRun id ops rest m n
+run_as l m n id ops rest e h = (
+  h.0,
+  λ q. h.1 q ∙ ap
+      (λ es. cond (same_bytes q id.name)
+      (Some (with_each (unwrap_or (option_map (λ v. v.items) (lookup (is_at (name_cmp q)) es)) []) (numbers h.0)))
+      (option_map (λ v. v.items) (lookup (is_at (name_cmp q)) es))) e,
+)

@@ -14,6 +14,7 @@ pub mod SummaryReads
 pub mod SummaryLoops
 pub mod SummaryWholes
 pub mod Covered
+pub mod NameHalves
 pub mod Outside
 pub mod Lasts
 pub mod Holding

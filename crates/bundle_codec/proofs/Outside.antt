@@ -1,12 +1,16 @@
 -- The operations of a set that lie outside a summary.
-use Rattle.std.proofs.Common.{◌≡◌, ℕ, suc, ◌+◌, ◌-◌, ◌≤◌, true, false, not, List, [], ◌∷◌, length, filter, Bool, cond, refl, ap, ◌∙◌, arith}
-use Rattle.std.specs.List.{AllByRecursion}
+use Rattle.std.proofs.Common.{◌≡◌, ℕ, suc, ◌+◌, ◌-◌, ◌≤◌, true, false, not, List, [], ◌∷◌, ◌++◌, length, take, drop, filter, Bool, cond, refl, sym, ap, ◌∙◌, arith}
+use Rattle.std.specs.Int.{w64, to_be_bytes}
+use Rattle.std.specs.List.{AllByRecursion, flat_map}
+use Rattle.std.proofs.lemmas.List.{append-nil}
 use Rattle.usfm_ref.proofs.Sorted.{rises_filter}
 use Rattle.op_core.specs.Ids.{id_cmp}
 use Rattle.op_core.specs.Ops.{Operation}
 use Rattle.op_core.specs.Sets.{IsOpSet}
 use Rattle.op_core.proofs.Rising.{id_total}
+use Rattle.bundle_codec.specs.Spelling.{magic, operation, bundle}
 use Rattle.bundle_codec.specs.Summaries.{Known, covers, outside}
+use Rattle.bundle_codec.proofs.Wholes.{counted}
 
 all_filter : {A : Type 0} (P : A → Type 0) (p : A → Bool) (xs : List A) → AllByRecursion P xs → AllByRecursion P (filter p xs)
 all_filter P p [] h = tt
@@ -46,3 +50,36 @@ module _ (s : List Known) (o : Operation) (rest it all : List Operation) (n : �
 
   pub counted_off : (n - 1) + length (outside s rest) ≡ length (outside s all) + length rest
   counted_off = omega (arith, same, longer, so_far, counted_some)
+
+-- ---- a walk over the set that writes what is not covered, and counts the covered off
+
+abbrev begun : List ℕ
+begun = magic ++ to_be_bytes w64 0
+
+pub record Written (s : List Known) (all rest : List Operation) (coverage : List Known) (bytes : List ℕ) (count : ℕ) : Type 0 where
+  pub same : coverage ≡ s
+  pub written : bytes ++ flat_map operation (outside s rest) ≡ begun ++ flat_map operation (outside s all)
+  pub counted : count + length (outside s rest) ≡ length (outside s all) + length rest
+
+module _ (s : List Known) (all : List Operation) where
+  module _ (it rest : List Operation) (o : Operation) (coverage : List Known) (bytes : List ℕ) (count : ℕ) (next : it ≡ o ∷ rest)
+      (w : Written s all it coverage bytes count) where
+    pub written_some : covers s o.id ≡ true → 1 ≤ count
+    written_some in_it = counted_some s o rest it all count next in_it w.counted
+
+    pub written_off : covers s o.id ≡ true → (now : List Known) → now ≡ coverage → Written s all rest now bytes (count - 1)
+    written_off in_it now same = record {
+      same = same ∙ w.same;
+      written = ap (λ (ops : List Operation). bytes ++ flat_map operation ops) (sym (outside_in s o rest in_it))
+          ∙ ap (λ (ops : List Operation). bytes ++ flat_map operation (outside s ops)) (sym next) ∙ w.written;
+      counted = counted_off s o rest it all count next in_it w.counted;
+    }
+
+  module _ (it : List Operation) (coverage : List Known) (bytes : List ℕ) (count : ℕ) (end : it ≡ [])
+      (w : Written s all it coverage bytes count) where
+    pub written_all : bytes ≡ begun ++ flat_map operation (outside s all)
+    written_all = sym (append-nil bytes) ∙ ap (λ (ops : List Operation). bytes ++ flat_map operation (outside s ops)) (sym end) ∙ w.written
+
+    pub is_bundle : (made : List ℕ) → made ≡ take 8 bytes ++ (to_be_bytes w64 count ++ drop 16 bytes) → made ≡ bundle (outside s all)
+    is_bundle made h = counted (outside s all) 0 bytes written_all count made
+        (omega (arith, w.counted, ap (λ (ops : List Operation). length (outside s ops)) end, ap length end)) h

@@ -8,42 +8,52 @@ use Rattle.std.specs.Cmp.{tied_itself}
 use Rattle.std.specs.declared.cmp.Ordering.TheVariants.{Less}
 use Rattle.std.specs.List.{list_all}
 use Rattle.std.specs.Option.{is_some}
-use Rattle.std.proofs.lemmas.Bool.{and_from, cond-true, cond-false}
+use Rattle.std.proofs.lemmas.Bool.{and_parts, and_from, cond-true, cond-false}
 use Rattle.usfm_ref.specs.Rising.{rises_by}
 use Rattle.usfm_ref.proofs.Sorted.{back}
 use Rattle.std.proofs.lemmas.List.{append-nil}
-use Rattle.op_core.specs.Names.{name_cmp}
+use Rattle.op_core.specs.Names.{name_cmp, is_name}
 use Rattle.op_core.specs.Ids.{Id, is_number}
-use Rattle.op_core.specs.Ops.{Operation}
-use Rattle.op_core.specs.Sets.{rises, get}
+use Rattle.op_core.specs.Ops.{Operation, IsOperation}
+use Rattle.op_core.specs.Sets.{rises, get, IsOpSet}
 use Rattle.bundle_codec.specs.declared.summaries.range.NumberRange.{NumberRange}
 use Rattle.bundle_codec.specs.Summaries.{Known, IsKnown, IsSummaryOf, covers, has_number}
-use Rattle.bundle_codec.specs.SummaryMaking.{under, HoldsMore, AreRanges, AreUnder, HoldsRanges, listed}
+use Rattle.bundle_codec.specs.SummaryMaking.{under, HoldsRun, AreRanges, AreUnder, HoldsRanges, listed}
 use Rattle.bundle_codec.proofs.SummaryReads.{name_total}
 use Rattle.bundle_codec.proofs.Covered.{covers-found, under_name, found_has}
-use Rattle.bundle_codec.proofs.Holding.{names_step}
+use Rattle.bundle_codec.proofs.Holding.{names_run}
 
 pub record SoFar {A : Type 0} (all rest : List Operation) (m : BTreeMap (List ℕ) (Vec NumberRange A)) : Type 0 where
   pub done : List Operation
   pub parts : done ++ rest ≡ all
   pub names : (q : List ℕ) → AreUnder done q (under m q)
 
-pub so_far_none : {A : Type 0} (all : List Operation) (m : BTreeMap (List ℕ) (Vec NumberRange A)) → m.entries ≡ [] → SoFar all all m
-so_far_none all m none = record {
-  done = [];
-  parts = refl;
-  names = λ q. subst (λ es. AreUnder [] q (option_map (λ v. v.items) (lookup (is_at (name_cmp q)) es)))
-      (sym none) (λ n. refl);
-}
+-- parts of a list of operations
+all_front : {X : Type 0} (P : X → Type 0) (xs ys : List X) → AllByRecursion P (xs ++ ys) → AllByRecursion P xs
+all_front P [] ys h = tt
+all_front P (x ∷ xs) ys h = (h.0, all_front P xs ys h.1)
 
-pub so_far_more : {A : Type 0} (all it rest : List Operation) (o : Operation) (id : Id) (m n : BTreeMap (List ℕ) (Vec NumberRange A))
-    → rises all ≡ true → it ≡ o ∷ rest → id ≡ o.id → is_number o.id.number ≡ true → HoldsMore id m n → SoFar all it m → SoFar all rest n
-so_far_more all it rest o id m n rising next same num more s =
-    let whole : s.done ++ o ∷ rest ≡ all = ap (λ (w : List Operation). s.done ++ w) (sym next) ∙ s.parts in
+all_behind : {X : Type 0} (P : X → Type 0) (xs ys : List X) → AllByRecursion P (xs ++ ys) → AllByRecursion P ys
+all_behind P [] ys h = h
+all_behind P (x ∷ xs) ys h = all_behind P xs ys h.1
+
+numbered : (ops : List Operation) → AllByRecursion IsOperation ops
+    → AllByRecursion (λ (o : Operation). is_number o.id.number ≡ true) ops
+numbered [] h = tt
+numbered (o ∷ ops) h = ((and_parts (is_number o.id.number) (is_name o.id.name) h.0.id).0, numbered ops h.1)
+
+pub so_far_run : {A : Type 0} (all it ops rest : List Operation) (o : Operation) (id : Id) (m n : BTreeMap (List ℕ) (Vec NumberRange A))
+    → IsOpSet all → it ≡ o ∷ ops → id ≡ o.id → HoldsRun id ops rest m n → SoFar all it m → SoFar all rest n
+so_far_run all it ops rest o id m n set next same more s =
+    let whole : s.done ++ o ∷ ops ≡ all = ap (λ (w : List Operation). s.done ++ w) (sym next) ∙ s.parts in
+    let h = subst (λ (i : Id). HoldsRun i ops rest m n) same more in
+    let cut : s.done ++ ((o ∷ h.0.run) ++ rest) ≡ all = ap (λ (w : List Operation). s.done ++ o ∷ w) (sym h.0.parts) ∙ whole in
+    let valid = all_front IsOperation (o ∷ h.0.run) rest
+    (all_behind IsOperation s.done ((o ∷ h.0.run) ++ rest) (subst (AllByRecursion IsOperation) (sym cut) set.each)) in
     record {
-      done = s.done ++ o ∷ [];
-      parts = append_assoc s.done (o ∷ []) rest ∙ whole;
-      names = names_step s.done o rest (ap rises whole ∙ rising) m n num (subst (λ (i : Id). HoldsMore i m n) same more) s.names;
+      done = s.done ++ o ∷ h.0.run;
+      parts = append_assoc s.done (o ∷ h.0.run) rest ∙ cut;
+      names = names_run s.done o ops rest m n h (ap rises whole ∙ set.rising) (numbered (o ∷ h.0.run) valid) s.names;
     }
 
 pub so_far_all : {A : Type 0} (all it : List Operation) (m : BTreeMap (List ℕ) (Vec NumberRange A)) → it ≡ [] → SoFar all it m

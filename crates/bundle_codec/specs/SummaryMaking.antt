@@ -1,5 +1,5 @@
 -- How the summary of a set is made by one walk over its ids, which rise.
-use Rattle.std.specs.Prelude.{◌≡◌, ◌≢◌, ℕ, suc, ◌==◌, false, List, [], ◌∷◌, map, Option, Some, None, Vec, IsTrue, option_map, if◌then◌else◌}
+use Rattle.std.specs.Prelude.{◌≡◌, ◌≢◌, ℕ, suc, ◌==◌, false, List, [], ◌∷◌, ◌++◌, map, Option, Some, None, Vec, IsTrue, option_map, if◌then◌else◌}
 use Rattle.std.specs.List.{list_all, AllByRecursion}
 use Rattle.std.specs.Option.{is_some, unwrap_or}
 use Rattle.std.specs.BTreeMap.{BTreeMap, get as value_at, IsOrdered}
@@ -24,14 +24,34 @@ abbrev pub under : {A : Type 0} → BTreeMap (List ℕ) (Vec NumberRange A) → 
     → Option (List NumberRange)
 under m q = option_map (λ v. v.items) (value_at name_cmp m q)
 
--- a map with one id more
-abbrev pub HoldsMore : {A : Type 0} → Id → BTreeMap (List ℕ) (Vec NumberRange A)
-    → BTreeMap (List ℕ) (Vec NumberRange A) → Type 0
-HoldsMore id m n =
-    (q : List ℕ) → under n q
+-- the ranges with more numbers, each greater than those before it
+abbrev pub with_each : List NumberRange → List ℕ → List NumberRange
+with_each ranges [] = ranges
+with_each ranges (n ∷ ns) = with_each (with_last ranges n) ns
+
+-- the operations at the front of some that have the name of an id before them, and those behind
+pub record Run (id : Id) (ops rest : List Operation) : Type 0 where
+  pub run : List Operation
+  pub same : AllByRecursion (λ o. IsTrue (same_bytes o.id.name id.name)) run
+  pub parts : ops ≡ run ++ rest
+
+-- the numbers of an id and of the run behind it
+abbrev pub numbers : {id : Id} {ops rest : List Operation} → Run id ops rest → List ℕ
+numbers {id = id} r = id.number ∷ map (λ o. o.id.number) r.run
+
+-- ranges with the numbers of a run more
+abbrev pub AddsRun : Id → List Operation → List Operation → List NumberRange → List NumberRange → Type 0
+AddsRun id ops rest old new = (r : Run id ops rest) × (new ≡ with_each old (numbers r))
+
+-- a map with the numbers of a run more
+abbrev pub HoldsRun : {A : Type 0} → Id → List Operation → List Operation
+    → BTreeMap (List ℕ) (Vec NumberRange A) → BTreeMap (List ℕ) (Vec NumberRange A) → Type 0
+HoldsRun id ops rest m n =
+    (r : Run id ops rest)
+    × ((q : List ℕ) → under n q
     ≡ (if same_bytes q id.name
-    then Some (with_last (unwrap_or (under m q) []) id.number)
-    else under m q)
+    then Some (with_each (unwrap_or (under m q) []) (numbers r))
+    else under m q))
 
 -- ranges that a summary may have
 pub record AreRanges (ranges : List NumberRange) : Type 0 where

@@ -1,12 +1,11 @@
 // The bundle of the union of two bundles.
-ghost use Rattle.std.specs.Prelude.{◌≡◌, ◌≤◌, ◌++◌, Ok, IfOk, IfErr, take, drop, vec_len};
-ghost use Rattle.std.specs.Int.{w64, to_be_bytes};
+ghost use Rattle.std.specs.Prelude.{◌≡◌, Ok, IfOk, IfErr};
 ghost use Rattle.bundle_codec.specs.Joining as joining;
 
 use crate::fault::JoinFault;
 use crate::merging::push_union;
 use crate::whole::decode_whole;
-use crate::writing::push_front;
+use crate::writing::{push_front, set_count};
 use std::alloc::Global;
 
 /// The bundle of the union of two bundles, each operation copied with the bytes that spell it.
@@ -33,13 +32,4 @@ pub fn join_bundles(alloc: Global, first: &[u8], second: &[u8]) -> Result<Vec<u8
     let count = push_union(&mut bytes, left.ops(), right.ops())?;
     set_count(&mut bytes, count);
     Ok(bytes)
-}
-
-// Writes the count of a bundle over the one that stands in its bytes.
-fn set_count(bytes: &mut Vec<u8>, count: u64)
-    requires { 16 ≤ vec_len bytes.old }
-    ensures { bytes.new.items
-        ≡ take 8 bytes.old.items ++ (to_be_bytes w64 count ++ drop 16 bytes.old.items) }
-{
-    bytes[8..16].copy_from_slice(&count.to_be_bytes());
 }

@@ -4,6 +4,7 @@ ghost use Rattle.op_core.specs.Sets.{IsOpSet};
 ghost use Rattle.bundle_codec.specs.Summaries as sums;
 ghost use Rattle.bundle_codec.specs.SummaryReading.{read_summary, ReadFails};
 
+mod coverage;
 mod making;
 mod name_ranges;
 mod outside;
@@ -12,11 +13,12 @@ mod reading;
 mod writing;
 
 use crate::fault::SummaryFault;
+use coverage::Coverage;
 use making::{held_ranges, listed};
 use name_ranges::{NameRanges, find_name};
 use op_core::{OpId, OpSet};
 pub use outside::encode_outside;
-use range::has_number;
+use range::find_range;
 use reading::summary_of;
 use std::alloc::{AllocError, Global};
 use std::marker::Model;
@@ -106,9 +108,16 @@ impl Summary {
     pub fn covers(&self, id: &OpId) -> bool
         ensures { result ≡ sums.covers self.now id.now }
     {
-        match find_name(&self.names, id.name) {
+        match find_name(&self.names, id.name.text().as_bytes(), 0) {
             None => false,
-            Some(known) => has_number(known.ranges(), id.number),
+            Some((_, known)) => find_range(known.ranges(), id.number, 0).is_some(),
         }
+    }
+
+    // A search among the ids that it covers.
+    fn coverage(&self, alloc: Global) -> Result<Coverage<'_>, AllocError>
+        ensures { IfOk result (λ coverage. coverage ≡ self.now) }
+    {
+        Coverage::new(alloc, &self.names)
     }
 }

@@ -1,5 +1,5 @@
 // Sets of operations, written as bundles.
-ghost use Rattle.std.specs.Prelude.{◌≡◌, ◌++◌, Ok, IfOk};
+ghost use Rattle.std.specs.Prelude.{◌≡◌, ◌≤◌, ◌++◌, Ok, IfOk, take, drop, vec_len};
 ghost use Rattle.std.specs.Int.{w64, to_be_bytes};
 ghost use Rattle.bundle_codec.specs.Spelling as spelled;
 ghost use Rattle.bundle_codec.specs.Joining.{whole_at};
@@ -46,6 +46,15 @@ pub(crate) fn push_front(bytes: &mut Vec<u8>, count: u64) -> Result<(), AllocErr
 {
     bytes.extend_from_slice(&MAGIC)?;
     bytes.extend_from_slice(&count.to_be_bytes())
+}
+
+// Writes the count of a bundle over the one that stands in its bytes.
+pub(crate) fn set_count(bytes: &mut Vec<u8>, count: u64)
+    requires { 16 ≤ vec_len bytes.old }
+    ensures { bytes.new.items
+        ≡ take 8 bytes.old.items ++ (to_be_bytes w64 count ++ drop 16 bytes.old.items) }
+{
+    bytes[8..16].copy_from_slice(&count.to_be_bytes());
 }
 
 pub(crate) fn push_operation(bytes: &mut Vec<u8>, op: &Op) -> Result<(), AllocError>

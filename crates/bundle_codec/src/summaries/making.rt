@@ -1,13 +1,17 @@
-// The summary of a set, made by one walk over its ids.
+// The summary of a set, made by one walk over its ids. A name is looked up once for each run of ids
+// that have it.
 ghost use Rattle.std.specs.Prelude.{◌≡◌, IfOk, OnOk};
 ghost use Rattle.std.specs.List.{AllByRecursion};
+ghost use Rattle.std.specs.Option.{option_copied};
+ghost use Rattle.usfm_ref.specs.Books.{same_bytes};
 ghost use Rattle.op_core.specs.Sets.{IsOpSet};
+ghost use Rattle.bundle_codec.specs.Merging.{at_hand};
 ghost use Rattle.bundle_codec.specs.Summaries.{IsKnown};
 ghost use Rattle.bundle_codec.specs.SummaryMaking as making;
 
 use super::name_ranges::NameRanges;
 use super::range::NumberRange;
-use op_core::{OpSet, ReplicaName};
+use op_core::{Op, OpId, OpSet, Ops, ReplicaName};
 use std::alloc::{AllocError, Global};
 use std::collections::BTreeMap;
 
@@ -20,32 +24,62 @@ pub(crate) fn held_ranges(
     ensures set { IsOpSet set.now }
 {
     let mut held = BTreeMap::new(alloc);
-    for op in set.iter() {
-        let id = op.id();
-        hold(alloc, &mut held, id.name, id.number)?;
+    let mut ops = set.iter();
+    let mut next = ops.next();
+    'runs: while let Some(op) = next {
+        next = hold_run(alloc, &mut held, op.id(), &mut ops)?;
     }
     // The map's count shows that its keys rise.
     let _ = held.len();
     Ok(held)
 }
 
-// Adds a number, which is greater than those that are held under the name.
-fn hold(
+// Adds the numbers of a run, which begins with an id and goes on with the operations, and answers the
+// operation behind it.
+fn hold_run<'a>(
     alloc: Global,
     held: &mut BTreeMap<ReplicaName, Vec<NumberRange>>,
-    name: ReplicaName,
-    number: u64,
-) -> Result<(), AllocError>
-    ensures { OnOk result
-        (making.HoldsMore (record { number = number; name = name }) held.old held.new) }
+    first: OpId,
+    ops: &mut Ops<'a>,
+) -> Result<Option<&'a Op>, AllocError>
+    ensures { IfOk result (λ next.
+        making.HoldsRun first ops.old (at_hand (option_copied next) ops.new) held.old held.new) }
 {
-    if let Some(ranges) = held.get_mut(&name) {
-        return hold_number(ranges, number);
+    if let Some(ranges) = held.get_mut(&first.name) {
+        return push_run(ranges, &first, ops);
     }
     let mut ranges = Vec::new(alloc);
-    hold_number(&mut ranges, number)?;
-    held.insert(name, ranges)?;
-    Ok(())
+    let next = push_run(&mut ranges, &first, ops)?;
+    held.insert(first.name, ranges)?;
+    Ok(next)
+}
+
+// Adds the numbers of a run to the ranges of its name.
+fn push_run<'a>(
+    ranges: &mut Vec<NumberRange>,
+    first: &OpId,
+    ops: &mut Ops<'a>,
+) -> Result<Option<&'a Op>, AllocError>
+    ensures { IfOk result (λ next.
+        making.AddsRun first.now ops.old (at_hand (option_copied next) ops.new)
+        ranges.old.items ranges.new.items) }
+{
+    let name = first.name.text().as_bytes();
+    hold_number(ranges, first.number)?;
+    'run: while let Some(op) = ops.next() {
+        let id = op.id();
+        if !is_of(&id, name) {
+            return Ok(Some(op));
+        }
+        hold_number(ranges, id.number)?;
+    }
+    Ok(None)
+}
+
+fn is_of(id: &OpId, name: &[u8]) -> bool
+    ensures { result ≡ same_bytes id.now.name name.now }
+{
+    id.name.text().as_bytes() == name
 }
 
 // Adds a number that is greater than those of the ranges.

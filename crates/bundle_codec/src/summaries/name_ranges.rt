@@ -1,13 +1,12 @@
 // A name with the ranges of its numbers.
-ghost use Rattle.std.specs.Prelude.{◌≡◌, ◌≢◌, ◌≤◌, [], length, not, IsTrue};
-ghost use Rattle.std.specs.List.{list_all, find, position_or_len};
-ghost use Rattle.std.specs.Option.{option_copied};
-ghost use Rattle.std.specs.Ordering.{is_eq, is_lt};
+ghost use Rattle.std.specs.Prelude.{◌≡◌, ◌≢◌, ◌<◌, [], length, option_map, IsTrue, IfSome};
+ghost use Rattle.std.specs.List.{list_all, find};
+ghost use Rattle.std.specs.Ordering.{is_eq};
 ghost use Rattle.usfm_ref.specs.Rising.{rises_by};
 ghost use Rattle.op_core.specs.Names.{name_cmp};
 ghost use Rattle.bundle_codec.specs.Summaries.{IsKnown, is_range, are_apart};
 
-use super::range::NumberRange;
+use super::range::{NumberRange, look};
 use op_core::ReplicaName;
 use std::cmp::Ordering;
 use std::marker::Model;
@@ -41,11 +40,11 @@ impl NameRanges {
         NameRanges { name, ranges }
     }
 
-    // How its name stands to another.
-    fn order(&self, name: ReplicaName) -> Ordering
-        ensures { result ≡ name_cmp self.now.name name }
+    // How its name stands to another one's bytes.
+    fn order(&self, name: &[u8]) -> Ordering
+        ensures { result ≡ name_cmp self.now.name name.now }
     {
-        self.name.cmp(&name)
+        self.text().cmp(name)
     }
 
     pub(crate) fn name(&self) -> ReplicaName
@@ -53,6 +52,13 @@ impl NameRanges {
         ensures valid { IsKnown self.now }
     {
         self.name
+    }
+
+    // The bytes of its name.
+    pub(crate) fn text(&self) -> &[u8]
+        ensures { result.now ≡ self.now.name }
+    {
+        self.name.text().as_bytes()
     }
 
     pub(crate) fn ranges(&self) -> &[NumberRange]
@@ -63,36 +69,28 @@ impl NameRanges {
     }
 }
 
-// What stands under a name, if there is one.
-pub(crate) fn find_name(names: &[NameRanges], name: ReplicaName) -> Option<&NameRanges>
+// What stands under a name, and its place, if there is one. The name at `near` is looked at first, and
+// the one behind it; then they are searched by halves.
+pub(crate) fn find_name<'a>(
+    names: &'a [NameRanges],
+    name: &[u8],
+    near: usize,
+) -> Option<(usize, &'a NameRanges)>
     requires rising { IsTrue (rises_by name_cmp (λ k. k.name) names.now) }
-    ensures { option_copied result ≡ find (λ k. is_eq (name_cmp name k.name)) names.now }
-{
-    let at = place_name(names, name);
-    if at < names.len() {
-        let known = &names[at];
-        if known.order(name).is_eq() {
-            return Some(known);
-        }
-    }
-    None
-}
-
-// How many names at the front are below this one. They are searched by halves.
-fn place_name(names: &[NameRanges], name: ReplicaName) -> usize
-    requires rising { IsTrue (rises_by name_cmp (λ k. k.name) names.now) }
-    ensures place { result ≡ position_or_len (λ k. not (is_lt (name_cmp k.name name))) names.now }
-    ensures within { result ≤ length names.now }
+    ensures found { let wanted = find (λ k. is_eq (name_cmp name.now k.name)) names.now in
+        option_map (λ p. p.1.now) result ≡ wanted }
+    ensures within { IfSome result (λ p. p.0 < length names.now) }
 {
     let mut low = 0;
     let mut high = names.len();
     'halves: while low < high {
-        let middle = low + (high - low) / 2;
-        if names[middle].order(name).is_lt() {
-            low = middle + 1;
-        } else {
-            high = middle;
+        let middle = look(low, high, near);
+        let known = &names[middle];
+        match known.order(name) {
+            Ordering::Less => low = middle + 1,
+            Ordering::Equal => return Some((middle, known)),
+            Ordering::Greater => high = middle,
         }
     }
-    low
+    None
 }

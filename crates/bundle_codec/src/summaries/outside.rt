@@ -1,11 +1,11 @@
 // What a summary lacks of a set, written as a bundle.
-ghost use Rattle.std.specs.Prelude.{◌≡◌, length, Ok, IfOk};
+ghost use Rattle.std.specs.Prelude.{◌≡◌, Ok, IfOk};
 ghost use Rattle.bundle_codec.specs.Spelling as spelled;
 ghost use Rattle.bundle_codec.specs.Joining.{whole_at};
 ghost use Rattle.bundle_codec.specs.Summaries.{outside};
 
 use super::Summary;
-use crate::writing::{push_front, push_operation};
+use crate::writing::{push_front, push_operation, set_count};
 use op_core::OpSet;
 use std::alloc::{AllocError, Global};
 
@@ -20,24 +20,17 @@ pub fn encode_outside(alloc: Global, set: &OpSet, summary: &Summary) -> Result<V
     ensures again { IfOk result (λ bytes. whole_at bytes.items ≡ Ok (outside summary.now set.now)) }
 {
     let mut bytes = Vec::new(alloc);
-    push_front(&mut bytes, count_outside(set, summary))?;
+    push_front(&mut bytes, 0)?;
+    let mut coverage = summary.coverage(alloc)?;
+    // All operations but those that are covered.
+    let mut count = set.len();
     for op in set.iter() {
-        if !summary.covers(&op.id()) {
+        if coverage.covers(&op.id()) {
+            count -= 1;
+        } else {
             push_operation(&mut bytes, op)?;
         }
     }
+    set_count(&mut bytes, count as u64);
     Ok(bytes)
-}
-
-// How many operations of the set lie outside the summary: all but those that it covers.
-fn count_outside(set: &OpSet, summary: &Summary) -> u64
-    ensures { result ≡ length (outside summary.now set.now) }
-{
-    let mut count = set.len();
-    for op in set.iter() {
-        if summary.covers(&op.id()) {
-            count -= 1;
-        }
-    }
-    count as u64
 }

@@ -1,4 +1,4 @@
-ghost use Rattle.std.specs.Prelude.{◌≡◌, IsTrue};
+ghost use Rattle.std.specs.Prelude.{◌≡◌, ◌<◌, ◌≤◌, is_some, IsTrue};
 ghost use Rattle.std.specs.List.{list_all};
 ghost use Rattle.bundle_codec.specs.Summaries.{is_range, are_apart, has_number};
 ghost use Rattle.bundle_codec.specs.SummaryReading.{begins_after};
@@ -27,24 +27,41 @@ pub(crate) fn begins_after(before: Option<u64>, first: u64) -> bool
     }
 }
 
-// Whether the number lies in one of the ranges, which are searched by halves.
-pub(crate) fn has_number(ranges: &[NumberRange], number: u64) -> bool
+// The place of the range in which the number lies, if there is one. The range at `near` is looked at
+// first, and the one behind it; then they are searched by halves.
+pub(crate) fn find_range(ranges: &[NumberRange], number: u64, near: usize) -> Option<usize>
     requires each { IsTrue (list_all is_range ranges.now) }
     requires apart { IsTrue (are_apart ranges.now) }
-    ensures { result ≡ has_number ranges.now number }
+    ensures { is_some result ≡ has_number ranges.now number }
 {
     let mut low = 0;
     let mut high = ranges.len();
     'halves: while low < high {
-        let middle = low + (high - low) / 2;
+        let middle = look(low, high, near);
         let range = ranges[middle];
         if number < range.first {
             high = middle;
         } else if range.last < number {
             low = middle + 1;
         } else {
-            return true;
+            return Some(middle);
         }
     }
-    false
+    None
+}
+
+// Where a search looks next, from `low` to below `high`: at a place, at the one behind it, and then
+// halfway.
+pub(crate) fn look(low: usize, high: usize, near: usize) -> usize
+    requires { low < high }
+    ensures at_least { low ≤ result }
+    ensures below { result < high }
+{
+    if low <= near && near < high {
+        near
+    } else if near < low && low - near == 1 {
+        low
+    } else {
+        low + (high - low) / 2
+    }
 }

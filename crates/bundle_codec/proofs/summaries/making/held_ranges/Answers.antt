@@ -1,21 +1,16 @@
-use Rattle.std.proofs.Common.{◌∙◌}
-use Rattle.std.proofs.lemmas.Bool.{and_parts}
-use Rattle.op_core.specs.Names.{is_name}
-use Rattle.op_core.specs.Ids.{is_number}
-use Rattle.bundle_codec.proofs.SoFar.{so_far_none, so_far_more, so_far_all, holds_ranges}
+use Rattle.std.proofs.Common.{ap}
+use Rattle.std.specs.Option.{option_copied}
+use Rattle.bundle_codec.specs.Merging.{at_hand}
+use Rattle.bundle_codec.proofs.SoFar.{so_far_run, so_far_all, holds_ranges}
 use Rattle.bundle_codec.proofs.summaries.making.held_ranges.Goals as goal
 
-pub loop-op-init : goal.loop-op-init
-loop-op-init c = rw (c.into_iter-op-iterator.ensures.into_iter_gives, c.iter-op-items.ensures.items)
-    (so_far_none c.args.set.now c.new-held.result c.new-held.ensures.empty)
-
-pub loop-op-preserved : goal.loop-op-preserved
-loop-op-preserved c = so_far_more c.args.set.now c.loop-op.op-iterator c.next.new.self c.in-Some.op.now
-    (record { number = c.id.inside.number; name = c.id.inside.name }) c.loop-op.held c.hold.new.held
-    c.iter-op-items.ensures.set.rising c.in-Some.ensures.steps (c.id.view_is ∙ c.id-id.ensures.id)
-    (and_parts (is_number c.in-Some.op.now.id.number) (is_name c.in-Some.op.now.id.name) c.id-id.ensures.valid.id).0
-    c.in_ok-hold.ensures c.loop-op.invariant
+pub runs-preserved : goal.runs-preserved
+runs-preserved c = so_far_run c.args.set.now (at_hand (option_copied c.runs.next) c.runs.ops) c.runs.ops
+    (at_hand (option_copied c.in_ok-next.next) c.hold_run.new.ops) c.in-Some.op.now c.id.result c.runs.held c.hold_run.new.held
+    c.iter-ops.ensures.set (ap (λ n. at_hand (option_copied n) c.runs.ops) c.in-Some.is) c.id.ensures.id c.in_ok-next.ensures
+    c.runs.invariant
 
 pub returns-clause-ranges : goal.returns-clause-ranges
-returns-clause-ranges c = holds_ranges c.args.set.now c.loop-op.held c.len.ensures.ordered
-    (so_far_all c.args.set.now c.loop-op.op-iterator c.loop-op.held c.in-None.ensures.steps.0 c.loop-op.invariant)
+returns-clause-ranges c = holds_ranges c.args.set.now c.runs.held c.len.ensures.ordered
+    (so_far_all c.args.set.now (at_hand (option_copied c.runs.next) c.runs.ops) c.runs.held
+    (ap (λ n. at_hand (option_copied n) c.runs.ops) c.in_default.is) c.runs.invariant)

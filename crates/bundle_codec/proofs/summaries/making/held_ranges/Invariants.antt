@@ -1,5 +1,11 @@
+use Rattle.std.proofs.Common.{length}
+use Rattle.bundle_codec.specs.Merging.{at_hand}
+use Rattle.std.specs.Option.{option_copied}
 use Rattle.bundle_codec.proofs.SoFar.{SoFar}
 use Rattle.bundle_codec.proofs.summaries.making.held_ranges.Given as goal
 
-abbrev pub invariant-loop-op : goal.invariant-loop-op
-invariant-loop-op l = SoFar l.set l.op-iterator l.held
+abbrev pub invariant-runs : goal.invariant-runs
+invariant-runs l = SoFar l.set (at_hand (option_copied l.next) l.ops) l.held
+
+abbrev pub decreases-runs : goal.decreases-runs
+decreases-runs l = length (at_hand (option_copied l.next) l.ops)

@@ -1,29 +1,35 @@
-use Rattle.std.proofs.Common.{List, ◌++◌, ap, sym, ◌∙◌, arith}
-use Rattle.std.specs.List.{flat_map}
-use Rattle.std.proofs.lemmas.List.{append-nil}
-use Rattle.op_core.specs.Ops.{Operation}
-use Rattle.bundle_codec.specs.Spelling.{operation}
-use Rattle.bundle_codec.specs.Summaries.{outside}
-use Rattle.bundle_codec.proofs.Wholes.{fronted, whole_reads}
-use Rattle.bundle_codec.proofs.Outside.{outside_set}
+use Rattle.std.proofs.Common.{sym, ◌∙◌, arith}
+use Rattle.bundle_codec.specs.Summaries.{covers, outside}
+use Rattle.bundle_codec.proofs.Wholes.{has_front, whole_reads}
+use Rattle.bundle_codec.proofs.Outside.{outside_set, written_some, written_off, written_all, is_bundle}
 use Rattle.bundle_codec.proofs.summaries.outside.encode_outside.Goals as goal
 
-pub loop-op-init : goal.loop-op-init
-loop-op-init c = rw (
-  c.in_ok-push_front.ensures,
-  c.count_outside.ensures,
-  c.new-bytes.ensures.items,
-  c.into_iter-op-iterator.ensures.into_iter_gives,
-  c.iter-op-items.ensures.items,
-) (fronted (outside c.args.summary.now c.args.set.now))
+pub overflow_sub-count : goal.overflow_sub-count
+overflow_sub-count c = written_some c.args.summary.now c.args.set.now c.loop-op.op-iterator c.next.new.self c.in-Some.op.now
+    c.loop-op.coverage c.loop-op.bytes.items c.loop-op.count c.in-Some.ensures.steps c.loop-op.invariant
+    (sym (λ i. covers (c.loop-op.invariant.same i) (c.id.ensures.id i)) ∙ sym c.covers.ensures.answer ∙ c.if-covers.true)
+
+pub loop-op-preserved-then-covers : goal.loop-op-preserved-then-covers
+loop-op-preserved-then-covers c = written_off c.args.summary.now c.args.set.now c.loop-op.op-iterator c.next.new.self c.in-Some.op.now
+    c.loop-op.coverage c.loop-op.bytes.items c.loop-op.count c.in-Some.ensures.steps c.loop-op.invariant
+    (sym (λ i. covers (c.loop-op.invariant.same i) (c.id.ensures.id i)) ∙ sym c.covers.ensures.answer ∙ c.if-covers.true)
+    c.covers.new.self c.covers.ensures.same
+
+pub set_count-requires : goal.set_count-requires
+set_count-requires c =
+    let all = written_all c.args.summary.now c.args.set.now c.loop-op.op-iterator c.loop-op.coverage c.loop-op.bytes.items c.loop-op.count
+    c.in-None.ensures.steps.0 c.loop-op.invariant in
+    omega (arith, has_front (outside c.args.summary.now c.args.set.now) 0 c.loop-op.bytes.items all, c.loop-op.bytes.ok.0)
+
+pub returns-clause-spelled : goal.returns-clause-spelled
+returns-clause-spelled c = is_bundle c.args.summary.now c.args.set.now c.loop-op.op-iterator c.loop-op.coverage c.loop-op.bytes.items
+    c.loop-op.count c.in-None.ensures.steps.0 c.loop-op.invariant c.set_count.new.bytes.items c.set_count.ensures
 
 pub returns-clause-again : goal.returns-clause-again
-returns-clause-again c = whole_reads c.loop-op.bytes.items (record {
+returns-clause-again c = whole_reads c.set_count.new.bytes.items (record {
   ops = outside c.args.summary.now c.args.set.now;
   set = outside_set c.args.summary.now c.args.set.now c.iter-op-items.ensures.set;
-  spelled = sym (append-nil c.loop-op.bytes.items)
-      ∙ ap (λ (ops : List Operation). c.loop-op.bytes.items ++ flat_map operation (outside c.args.summary.now ops))
-      (sym c.in-None.ensures.steps.0)
-      ∙ c.loop-op.invariant;
-  short = omega (arith, c.loop-op.bytes.ok.0, c.loop-op.bytes.small);
+  spelled = is_bundle c.args.summary.now c.args.set.now c.loop-op.op-iterator c.loop-op.coverage c.loop-op.bytes.items c.loop-op.count
+      c.in-None.ensures.steps.0 c.loop-op.invariant c.set_count.new.bytes.items c.set_count.ensures;
+  short = omega (arith, c.set_count.new.bytes.ok.0, c.set_count.new.bytes.small);
 })

@@ -1,6 +1,6 @@
 use Rattle.std.proofs.Common.{sym, arith}
 use Rattle.bundle_codec.proofs.Covered.{between_low, between_high, between_none}
-use Rattle.bundle_codec.proofs.summaries.range.has_number.Goals as goal
+use Rattle.bundle_codec.proofs.summaries.range.find_range.Goals as goal
 
 pub halves-preserved-then-number-range : goal.halves-preserved-then-number-range
 halves-preserved-then-number-range c = between_high c.args.number c.args.ranges.now c.requires.each c.requires.apart c.halves.low

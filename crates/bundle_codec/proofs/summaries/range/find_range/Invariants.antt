@@ -1,6 +1,6 @@
 use Rattle.std.proofs.Common.{◌-◌}
 use Rattle.bundle_codec.proofs.Covered.{Between}
-use Rattle.bundle_codec.proofs.summaries.range.has_number.Given as goal
+use Rattle.bundle_codec.proofs.summaries.range.find_range.Given as goal
 
 abbrev pub invariant-halves : goal.invariant-halves
 invariant-halves l = Between l.number l.ranges l.low l.high

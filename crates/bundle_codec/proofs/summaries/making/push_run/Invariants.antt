@@ -1,0 +1,9 @@
+use Rattle.std.proofs.Common.{length}
+use Rattle.bundle_codec.specs.SummaryMaking.{AddsRun}
+use Rattle.bundle_codec.proofs.summaries.making.push_run.Given as goal
+
+abbrev pub invariant-run : goal.invariant-run
+invariant-run l = AddsRun l.first l.fn.ops l.ops l.fn.ranges.items l.ranges.items
+
+abbrev pub decreases-run : goal.decreases-run
+decreases-run l = length l.ops
