@@ -41,7 +41,7 @@ each_relaxed : {A S : Type 0} (next : S → A → S) (Fits : S → A → Type 0)
 each_relaxed next Fits P weaker s [] e = tt
 each_relaxed next Fits P weaker s (x ∷ xs) e = (weaker s x e.0, each_relaxed next Fits P weaker (next s x) xs e.1)
 
--- values that one reader takes, each behind those before it, are what another takes that asks less of them
+-- values that one reader takes, each after those before it, are what another takes that asks less of them
 module _ {A S : Type 0} (one : S → Reader A) (next : S → A → S) (other : Reader A) (spell : A → List ℕ) (Fits : S → A → Type 0)
     (P : A → Type 0) (reads : (s : S) → Reads (one s) spell (Fits s)) (others : Reads other spell P)
     (weaker : (s : S) (x : A) → Fits s x → P x) where

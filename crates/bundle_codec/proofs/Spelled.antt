@@ -49,7 +49,7 @@ id_reads bad =
 
 -- ---- ids that are named as replaced
 
--- an id that may stand behind those before it
+-- an id that may stand after those before it
 abbrev pub IsNamed : Id → Option Id → Id → Type 0
 IsNamed own before i = (is_id i ≡ true) × ((comes_after before i && ltb i.number own.number) ≡ true)
 
@@ -234,7 +234,7 @@ body_reads k =
 
 -- ---- an operation
 
--- an operation that may stand behind the one before it
+-- an operation that may stand after the one before it
 abbrev pub Follows : Option Id → Operation → Type 0
 Follows before o = (comes_after before o.id ≡ true) × (IsOperation o × IsCounted o)
 

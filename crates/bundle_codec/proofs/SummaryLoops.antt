@@ -8,7 +8,7 @@ use Rattle.bundle_codec.specs.Summaries.{Known}
 use Rattle.bundle_codec.specs.SummaryReading.{name_read, known_at, after_known}
 use Rattle.bundle_codec.proofs.Readers.{Reader, ok_is}
 
--- what was read, behind what was kept before
+-- what was read, after what was kept before
 abbrev pub behind : {A : Type 0} → List A → Result (List A × List ℕ) BundleFault → Result (List A × List ℕ) BundleFault
 behind kept read = read >>= λ others. Ok (kept ++ others.0, others.1)
 

@@ -123,7 +123,7 @@ pub summary_fronted : (s : List Known) → (summary_magic ++ to_be_bytes w64 (le
 unfolding summary
 summary_fronted s = append_assoc summary_magic (to_be_bytes w64 (length s)) (flat_map known s)
 
--- bytes with one thing more of a list behind them
+-- bytes with one thing more of a list after them
 pub pushed_on : {A : Type 0} (f : A → List ℕ) (xs : List A) (i : ℕ) (d : A) (bytes new whole : List ℕ) → i < length xs
     → new ≡ bytes ++ f (get_or xs i d)
     → bytes ++ flat_map f (drop i xs) ≡ whole → new ++ flat_map f (drop (i + 1) xs) ≡ whole

@@ -78,7 +78,7 @@ from_more n m (r ∷ rs) le h =
     let p = and_parts (ltb m r.first) (list_all (λ (x : NumberRange). ltb m x.first) rs) h in
     and_from _ _ (lt-ltb n r.first (omega (arith, le, ltb-true _ _ p.0))) (from_more n m rs le p.1)
 
--- ranges behind the first are more than one above a number that the first does not touch
+-- ranges after the first are more than one above a number that the first does not touch
 apart_from : (n : ℕ) (r : NumberRange) (rs : List NumberRange) → is_range r ≡ true → ltb n r.first ≡ true → (suc n ≡ r.first → ⊥)
     → list_all (λ (s : NumberRange). ltb (suc r.last) s.first) rs ≡ true
     → list_all (λ (s : NumberRange). ltb (suc n) s.first) (r ∷ rs) ≡ true

@@ -65,7 +65,7 @@ front_length : (n : ℕ) → length (magic ++ to_be_bytes w64 n) ≡ 16
 unfolding magic
 front_length n = refl
 
--- operations behind a front are a bundle, once their count is written into it
+-- operations after a front are a bundle, once their count is written into it
 module _ (ops : List Operation) (n : ℕ) (bytes : List ℕ) (e : bytes ≡ (magic ++ to_be_bytes w64 n) ++ flat_map operation ops) where
   pub has_front : 16 ≤ length bytes
   has_front = omega (arith, ap length e, length-append (magic ++ to_be_bytes w64 n) (flat_map operation ops), front_length n)

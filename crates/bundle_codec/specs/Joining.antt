@@ -59,7 +59,7 @@ of_both (Ok a) (Ok b) = union_or_clash a b (clash a b)
 abbrev pub bundles_joined : List ℕ → List ℕ → Result (List ℕ) JoinFault
 bundles_joined x y = of_both (whole_at x) (whole_at y)
 
--- A refusal is the one that there is. Want of memory is told of two bundles alone.
+-- A refusal is the one that there is. Out of memory is answered for two bundles alone.
 abbrev pub RefusesJoin : List ℕ → List ℕ → JoinFault → Type 0
 RefusesJoin x y Memory = IsOk (whole_at x) × IsOk (whole_at y)
 RefusesJoin x y (Bundle fault) = bundles_joined x y ≡ Err (Bundle fault)

@@ -42,7 +42,7 @@ abbrev pub Steps : List Operation → List Operation → List Operation → List
 Steps xs ys xs' ys' None = (xs ≡ []) × (ys ≡ [])
 Steps xs ys xs' ys' (Some bytes) = Leaves xs ys bytes.now xs' ys'
 
--- a refusal while two sets are joined is for want of memory, or for the clash that there is
+-- a refusal while two sets are joined is out of memory, or the clash that there is
 abbrev pub RefusesUnion : Option Id → JoinFault → Type 0
 RefusesUnion found Memory = Unit {0}
 RefusesUnion found (Bundle fault) = ⊥

@@ -145,7 +145,7 @@ body_at k bytes = do
 abbrev pub judge_text : ℕ → List ℕ → Result (Unit {0}) BundleFault
 judge_text k text = check (is_utf8 text) (NotUtf8 k)
 
--- the k-th operation, behind one of the id `before`; its text is judged last, by its rule and then by its segment
+-- the k-th operation, after one of the id `before`; its text is judged last, by its rule and then by its segment
 unfoldable pub operation_at : ℕ → Option Id → List ℕ → Result (Operation × List ℕ) BundleFault
 operation_at k before bytes = do
   id ← id_at (BadId k) bytes

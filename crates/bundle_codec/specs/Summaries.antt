@@ -110,7 +110,7 @@ pub record SpellsSummary (bytes : List ℕ) : Type 0 where
   pub form : IsSummary names
   pub spelled : bytes ≡ summary names
 
--- Bytes are refused as bad exactly where they are no summary, and want of memory is told of a summary alone.
+-- Bytes are refused as bad exactly where they are no summary, and out of memory is answered for a summary alone.
 abbrev pub RefusesSummary : List ℕ → SummaryFault → Type 0
 RefusesSummary bytes Memory = SpellsSummary bytes
 RefusesSummary bytes BadSummary = SpellsSummary bytes → ⊥

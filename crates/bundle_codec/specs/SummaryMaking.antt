@@ -29,13 +29,13 @@ abbrev pub with_each : List NumberRange → List ℕ → List NumberRange
 with_each ranges [] = ranges
 with_each ranges (n ∷ ns) = with_each (with_last ranges n) ns
 
--- the operations at the front of some that have the name of an id before them, and those behind
+-- the operations at the front of some that have the name of an id before them, and those after
 pub record Run (id : Id) (ops rest : List Operation) : Type 0 where
   pub run : List Operation
   pub same : AllByRecursion (λ o. IsTrue (same_bytes o.id.name id.name)) run
   pub parts : ops ≡ run ++ rest
 
--- the numbers of an id and of the run behind it
+-- the numbers of an id and of the run after it
 abbrev pub numbers : {id : Id} {ops rest : List Operation} → Run id ops rest → List ℕ
 numbers {id = id} r = id.number ∷ map (λ o. o.id.number) r.run
 

@@ -90,7 +90,7 @@ read_whole (Err fault) = None
 abbrev pub read_summary : List ℕ → Option (List Known)
 read_summary bytes = read_whole (summary_at bytes)
 
--- bytes are refused as bad exactly where they are no summary, and want of memory is told of a summary alone
+-- bytes are refused as bad exactly where they are no summary, and out of memory is answered for a summary alone
 abbrev pub ReadFails : Option (List Known) → SummaryFault → Type 0
 ReadFails found Memory = IsSome found
 ReadFails found BadSummary = found ≡ None

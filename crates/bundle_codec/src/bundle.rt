@@ -57,7 +57,7 @@ impl<'a> Bundle<'a> {
     /// The set that it spells, each operation copied out of the bytes.
     ///
     /// # Errors
-    /// Want of memory alone.
+    /// Out of memory alone.
     pub fn to_set(&self, alloc: Global) -> Result<OpSet, AllocError>
         ensures { IfOk result (λ set. set ≡ self.now) }
     {
@@ -113,7 +113,7 @@ pub fn decode(_alloc: Global, bytes: &[u8]) -> Result<(Bundle<'_>, usize), Bundl
         → IsOkAnd result (λ x. x.0 ≡ ops) }
     // How many bytes it takes.
     ensures length { IfOk result (λ x. x.1 ≡ length (bundle x.0)) }
-    // Which fault it is, and what is not read. Want of memory is none.
+    // Which fault it is, and what is not read. Out of memory is none.
     ensures exact { Gives (λ x. (x.0, drop x.1 bytes.now)) result (bundle_at bytes.now) }
 {
     let (bundle, rest) = bundle_of(bytes)?;

@@ -168,7 +168,7 @@ pub(crate) fn comes_after(before: &Option<IdView<'_>>, id: &IdView<'_>) -> bool
     }
 }
 
-// An id that may be named as replaced by the operation of the id `own`, behind the one before it.
+// An id that may be named as replaced by the operation of the id `own`, after the one before it.
 #[tactic(auto, unfolding(crate::specs::Reading::named_at))]
 fn named_of<'a>(
     bad: BundleFault,

@@ -31,7 +31,7 @@ pub(crate) fn body_of(place: u64, bytes: &[u8]) -> Result<(&[u8], &[u8]), Bundle
     block_of(len, rest)
 }
 
-// The bytes of the text behind the tag, in bytes that were judged.
+// The bytes of the text after the tag, in bytes that were judged.
 pub(crate) fn body_in(bytes: &[u8]) -> (&[u8], &[u8])
     requires { IsOk (body_at 0 bytes.now) }
     ensures { body_at 0 bytes.now ≡ Ok (result.0.now, result.1.now) }
@@ -49,7 +49,7 @@ fn judged_text(place: u64, text: &[u8]) -> Result<&str, BundleFault>
     text_of(text).ok_or(BundleFault::NotUtf8(place))
 }
 
-// Judges the operation at this place, behind one of the id `before`.
+// Judges the operation at this place, after one of the id `before`.
 #[tactic(auto, unfolding(crate::specs::Reading::operation_at))]
 fn fields_of<'a>(
     place: u64,

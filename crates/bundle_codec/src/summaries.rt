@@ -75,7 +75,7 @@ impl Summary {
     /// The bytes that spell the summary, which `read` reads back.
     ///
     /// # Errors
-    /// Want of memory alone.
+    /// Out of memory alone.
     pub fn write(&self, alloc: Global) -> Result<Vec<u8>, AllocError>
         ensures spelled { IfOk result (λ bytes. bytes.items ≡ sums.summary self.now) }
         ensures form { sums.IsSummary self.now }
@@ -93,7 +93,7 @@ impl Summary {
     /// made by one walk over the ids.
     ///
     /// # Errors
-    /// Want of memory alone.
+    /// Out of memory alone.
     pub fn of(alloc: Global, set: &OpSet) -> Result<Summary, AllocError>
         ensures exact { IfOk result (λ s. sums.IsSummaryOf set.now s) }
         ensures value { IfOk result (λ s. s ≡ sums.summary_of set.now) }

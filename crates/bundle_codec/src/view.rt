@@ -121,7 +121,7 @@ impl<'a> OpView<'a> {
     /// The operation as a value of its own, copied out of the bytes.
     ///
     /// # Errors
-    /// Want of memory alone.
+    /// Out of memory alone.
     pub fn to_op(&self, alloc: Global) -> Result<Op, AllocError>
         ensures { IfOk result (λ op. op ≡ self.now) }
     {

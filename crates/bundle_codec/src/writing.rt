@@ -12,7 +12,7 @@ use usfm_ref::{Key, Place};
 /// The bundle of a set of operations. There is one for each set.
 ///
 /// # Errors
-/// Want of memory alone.
+/// Out of memory alone.
 pub fn encode(alloc: Global, set: &OpSet) -> Result<Vec<u8>, AllocError>
     ensures spelled { IfOk result (λ bytes. bytes.items ≡ spelled.bundle set.now) }
     ensures again { IfOk result (λ bytes. whole_at bytes.items ≡ Ok set.now) }
@@ -23,11 +23,11 @@ pub fn encode(alloc: Global, set: &OpSet) -> Result<Vec<u8>, AllocError>
     Ok(bytes)
 }
 
-/// The bytes with the bundle of a set behind them, for a file that has it behind something else. The
+/// The bytes with the bundle of a set after them, for a file that has it after something else. The
 /// bytes are taken, and dropped on an error.
 ///
 /// # Errors
-/// Want of memory alone.
+/// Out of memory alone.
 pub fn encode_after(mut bytes: Vec<u8>, set: &OpSet) -> Result<Vec<u8>, AllocError>
     ensures { IfOk result (λ whole. whole.items ≡ bytes.items ++ spelled.bundle set.now) }
 {

@@ -1,4 +1,4 @@
--- One entry of a tree after the other: what it adds to the plain leaves, and the mark that it leaves behind it.
+-- One entry of a tree after the other: what it adds to the plain leaves, and the mark that it leaves after it.
 use Rattle.sty_sheet.specs.declared.kind.StyleKind.{StyleKind}
 use Rattle.std.proofs.Common.{◌≡◌, ℕ, suc, ◌+◌, ◌^◌, ◌<◌, ◌≤◌, Bool, true, false, cond, List, [], ◌∷◌, ◌++◌, length, drop, get_or, Option, None, Some, refl, sym, ap, subst, ◌∙◌, arith, append_assoc, drop-cons, add-one, length-drop, eqb-true, false-eqb}
 use Rattle.std.specs.Prelude.{is_some, ◌==◌}
@@ -17,7 +17,7 @@ use Rattle.concordance.specs.declared.plain.Shape.{Shape}
 use Rattle.concordance.specs.declared.plain.Shape.TheVariants as shapes
 use Rattle.concordance.specs.declared.plain.Surroundings.{Surroundings}
 
--- ---- what is behind an entry
+-- ---- what is after an entry
 
 pub tail_fits : (s : Shape) (f g : Forest) → HasShape s f → TextsFit (f then g) → TextsFit g
 tail_fits shapes.Text f g e h = (subst (λ x. TextsFit (x then g)) e h).1

@@ -79,7 +79,7 @@ one_more_before before c =
     ∙ ap (λ l. length (encode_utf8_all before) + length l) (append-nil (encode_utf8 c))
 
 module _ (p : Passage) where
-  -- the runs in characters that stand behind others of the passage
+  -- the runs in characters that stand after others of the passage
   longest_behind : (before cs : List ℕ) (within : Bool) (n : ℕ) → chars p.text ≡ before ++ cs
       → ends_with_word before ≡ within → n ≡ p.start + length (encode_utf8_all before)
       → All (IsLongestRun p) (runs_behind within n cs)
@@ -131,7 +131,7 @@ one_counted at run runs = sum_by-cons (λ r. cond (lies_in at r) 1 0) run runs
 lies_before : (at : ℕ) (run : Passage) → at < run.start → lies_in at run ≡ false
 lies_before at run h = and_left (nat_le run.start at) _ (grind (arith, nat_tests))
 
--- it lies in none of the runs that begin behind it
+-- it lies in none of the runs that begin after it
 none_reached : (at : ℕ) (within : Bool) (n : ℕ) (cs : List ℕ) → at < n → count_at at (runs_behind within n cs) ≡ 0
 none_reached at within n [] h = refl
 none_reached at within n (c ∷ cs) h =
@@ -151,7 +151,7 @@ shifted k a b = both_ways (nat_lt (k + a) (k + b)) (nat_lt a b)
     (λ h. let l = ltb-true (k + a) (k + b) h in lt-ltb a b (omega arith))
     (λ h. let l = ltb-true a b h in lt-ltb (k + a) (k + b) (omega arith))
 
--- whether characters and the one behind them are all word characters
+-- whether characters and the one after them are all word characters
 abbrev all_words : List ℕ → ℕ → Bool
 all_words [] c = is_word_char c
 all_words (d ∷ ds) c = is_word_char d && all_words ds c

@@ -82,7 +82,7 @@ past_run n (c ∷ cs) = by (past_run (n + length (encode_utf8 c)) cs) (is_word_c
     by rest true e = one_step true n c cs true e ∙ rest ∙ more true n c cs e
     by rest false e = one_step true n c cs false e ∙ sym (one_step false n c cs false e) ∙ none true n c cs e
 
--- behind the others stands nothing, or a run
+-- after the others stands nothing, or a run
 pub run_at : (n : ℕ) (cs ds : List ℕ) → behind false cs ≡ ds → 0 < length ds → runs_behind false n ds
     ≡ (let run : Passage = record { start = n; text = front_bytes true ds } in run)
     ∷ runs_behind false (n + length (front_bytes true ds)) (behind true ds)

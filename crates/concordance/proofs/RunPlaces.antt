@@ -20,7 +20,7 @@ use Rattle.concordance.proofs.Standing.{Stands, Apart, apart_from, apart_to, apa
 abbrev bytes_at : ℕ → List ℕ → Passage
 bytes_at n bytes = record { start = n; text = bytes }
 
--- the characters at the front, and those behind them
+-- the characters at the front, and those after them
 front_rest : (w : Bool) (cs : List ℕ) → encode_utf8_all cs ≡ front_bytes w cs ++ encode_utf8_all (behind w cs)
 front_rest w [] = refl
 front_rest w (c ∷ cs) = by (front_rest w cs) (is_like w c) refl
@@ -32,7 +32,7 @@ front_rest w (c ∷ cs) = by (front_rest w cs) (is_like w c) refl
         ∙ (λ i. sym (bytes_more w c cs e) i ++ encode_utf8_all (sym (behind_more w c cs e) i))
     by rest false e = λ i. sym (bytes_none w c cs e) i ++ encode_utf8_all (sym (behind_none w c cs e) i)
 
--- from where on runs begin, in characters that come behind a word character or not
+-- from where on runs begin, in characters that come after a word character or not
 abbrev first_place : Bool → ℕ → List ℕ → ℕ
 first_place false n cs = n
 first_place true n cs = n + length (front_bytes true cs)

@@ -22,7 +22,7 @@ use Rattle.concordance.specs.Reading.{inside_of, within, left_of, counts, with_t
 use Rattle.concordance.specs.declared.plain.Surroundings.{Surroundings}
 use Rattle.concordance.proofs.Sites.{sites_read, node_bytes}
 
--- what stands before the passage in the text, and what behind it
+-- what stands before the passage in the text, and what after it
 abbrev pub Stands : List ℕ → Passage → Type 0
 Stands s p = (x : List ℕ) × (y : List ℕ) × (s ≡ x ++ (p.text ++ y)) × (length x ≡ p.start)
 

@@ -5,8 +5,8 @@ use Rattle.concordance.specs.Passages.{Passage}
 use Rattle.concordance.specs.Words.{is_word_char, runs_in}
 
 -- A run is a longest one of a passage. The passage's characters are those before the run, the run's
--- own, and those behind it; the run has at least one, and all of its own are word characters. The last
--- one before it is none, and the first one behind it is none; or there is none before, or behind.
+-- own, and those after it; the run has at least one, and all of its own are word characters. The last
+-- one before it is none, and the first one after it is none; or there is none before, or after.
 pub record IsLongestRun (p run : Passage) : Type 0 where
   pub before : List ℕ
   pub own : List ℕ
@@ -27,7 +27,7 @@ RunsAreLongest = (p : Passage) → All (IsLongestRun p) (runs_in p)
 abbrev pub lies_in : ℕ → Passage → Bool
 lies_in at p = nat_le p.start at && nat_lt at (p.start + length p.text)
 
--- A character that stands in a passage behind others lies in exactly one run of the passage if it is a
+-- A character that stands in a passage after others lies in exactly one run of the passage if it is a
 -- word character, and else in none.
 abbrev pub WordCharactersAreInOneRun : Type 0
 WordCharactersAreInOneRun =

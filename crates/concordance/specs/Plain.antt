@@ -1,7 +1,7 @@
 -- The plain leaves of a text: the words that are read as the text of Scripture. They are what is left of texts of its tree, without
 -- notes, milestones, attributes and verse numbers.
 --
--- USFM 3.0 has the attributes of a character marker behind a bar before its closing mark, and the number behind `\v`. Paratext's
+-- USFM 3.0 has the attributes of a character marker after a bar before its closing mark, and the number after `\v`. Paratext's
 -- style sheets say by TextType which paragraphs have the text of verses. Which texts count, and what of them, is this project's own
 -- rule.
 use Rattle.sty_sheet.specs.declared.kind.StyleKind.{StyleKind}
@@ -36,7 +36,7 @@ abbrev pub node_end : Option MarkParts → Option MarkParts → Option MarkParts
 node_end inside None = inside
 node_end inside (Some close) = Some close
 
--- the mark at the end of entries that stand behind a mark or a text, if they do not end with a text
+-- the mark at the end of entries that stand after a mark or a text, if they do not end with a text
 abbrev pub mark_at_end : Option MarkParts → Forest → Option MarkParts
 mark_at_end behind nothing = behind
 mark_at_end behind (text s t f) = mark_at_end None f
@@ -90,7 +90,7 @@ abbrev pub verse_length : Option VerseMark → ℕ
 verse_length None = 0
 verse_length (Some v) = v.length
 
--- those of the number directly behind the mark `\v`; behind `\+v` and `\v*` stands none
+-- those of the number directly after the mark `\v`; after `\+v` and `\v*` stands none
 abbrev pub number_length : Option MarkParts → List ℕ → ℕ
 number_length None bytes = 0
 number_length (Some m) bytes = if bytes_eq (mark_bytes m) (codes "\\v") then verse_length (verse_in bytes) else 0

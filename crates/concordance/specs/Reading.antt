@@ -91,7 +91,7 @@ abbrev pub rise_between : ℕ → ℕ → List Passage → Bool
 rise_between low end [] = true
 rise_between low end (p ∷ ps) = nat_le low p.start && (nat_lt p.start end && rise_between p.start end ps)
 
--- pieces reach from the first of some passages to behind the last
+-- pieces reach from the first of some passages to after the last
 abbrev pub hold_all : List Part → List Passage → Bool
 hold_all ps passages = are_neighbours (begin_of ps) ps && rise_between (begin_of ps) (end_of ps) passages
 

@@ -32,7 +32,7 @@ fn part(text: &str, at: usize, len: usize) -> &str
     &text[at..at + len]
 }
 
-// Puts the occurrences in a passage behind others.
+// Puts the occurrences in a passage after others.
 fn push_occurrences<'a>(
     found: &mut Vec<Passage<'a>>,
     finder: &Finder<'_>,
@@ -76,7 +76,7 @@ fn occurrences<'a>(
 /// The places in a book where a needle occurs, in order, by a style sheet.
 ///
 /// A hit lies in one plain leaf: a text inside a paragraph whose style has the text of verses,
-/// outside notes and milestones, without the number behind `\v` and without the attributes before a
+/// outside notes and milestones, without the number after `\v` and without the attributes before a
 /// closing mark. In each leaf hits are found from the left, and none overlaps one before it.
 ///
 /// # Errors

@@ -1,7 +1,7 @@
 //! Finds a needle and lists the words in the text of Scripture that a USFM book has.
 //!
 //! Only the plain leaves of a book count: the texts of its tree inside paragraphs whose style has
-//! the text of verses, outside notes and milestones, without the numbers behind `\v` and the
+//! the text of verses, outside notes and milestones, without the numbers after `\v` and the
 //! attributes before a closing mark. A hit or a word lies in one plain leaf, and has the key of the
 //! piece of the book that holds its start.
 //!

@@ -49,7 +49,7 @@ impl Word {
     }
 }
 
-// Puts a key behind those of a form.
+// Puts a key after those of a form.
 fn note<'f>(
     alloc: Global,
     groups: &mut IndexMap<&'f str, Vec<Key>>,

@@ -60,7 +60,7 @@ fn shape_of(node: &Node<'_>) -> Shape
     }
 }
 
-// The bytes of the number directly behind the mark `\v`, with the blanks and the bridge.
+// The bytes of the number directly after the mark `\v`, with the blanks and the bridge.
 fn number_len(behind: Option<Mark<'_>>, text: &str) -> usize
     ensures value { result ≡ plain.number_length (option_map mark_parts behind.entry) text.now }
     ensures boundary { IsCharBoundary text.now result }

@@ -33,7 +33,7 @@ fn is_combining(category: GeneralCategory) -> bool
     )
 }
 
-// What stands behind the word characters at the front of a text, or behind the others.
+// What stands after the word characters at the front of a text, or after the others.
 fn behind_front(text: &str, is_word: bool) -> &str
     ensures front { text.now ≡ front_bytes is_word (chars text.now) ++ result.now }
     ensures rest { chars result.now ≡ behind is_word (chars text.now) }
@@ -48,7 +48,7 @@ fn behind_front(text: &str, is_word: bool) -> &str
     }
 }
 
-// Puts the runs in a passage behind others.
+// Puts the runs in a passage after others.
 fn push_runs<'a>(runs: &mut Vec<Passage<'a>>, passage: Passage<'a>) -> Result<(), AllocError>
     requires { passage.start + length passage.text.now < 2 ^ 64 }
     ensures utf8 { IsUtf8 passage.entry.text.now }

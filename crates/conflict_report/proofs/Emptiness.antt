@@ -49,7 +49,7 @@ no_ids : (ids : List Id) → flat_map awaited_line ids ≡ [] → ids ≡ []
 no_ids [] h = refl
 no_ids (id ∷ ids) h = cc
 
--- ---- what is told of a segment with an operation
+-- ---- what is reported of a segment with an operation
 
 module _ {X : Type 0} where
   implied : (p q : X → Bool) → ((x : X) → p x ≡ true → q x ≡ true) → (xs : List X) → list_any p xs ≡ true → list_any q xs ≡ true
@@ -77,7 +77,7 @@ module _ {X : Type 0} where
       by rest false = rest
 
 module _ (held : List Operation) (g : Segment) where
-  -- a segment with an operation is among those that are told of
+  -- a segment with an operation is among those that are reported of
   told_of : list_any (in_segment g) held ≡ true → flat_map (conflicts_in held) (books_of held) ≡ [] → conflict_at held g ≡ []
   told_of h e =
       let book : Operation → Bool = λ o. is_eq (book_cmp g.book o.segment.book) in

@@ -29,7 +29,7 @@ walk_end f all before left e h = sym (append-nil before) ∙ ap (λ items. befor
 
 -- ---- one segment
 
--- a conflict of two or more texts is told by its line and their lines
+-- a conflict of two or more texts is reported by its line and their lines
 pub conflict_told : {U E : Type 0} (g : Segment) (texts : List (Bor Operation)) (distinct : List Operation) (count : ℕ) (line before middle after : List ℕ) (r : Result U E)
     → map (λ op. op.now) texts ≡ distinct → count ≡ length texts → 2 ≤ count → line ≡ conflict_line g count → middle ≡ before ++ line
     → OnOk r (after ≡ middle ++ flat_map (λ op. text_lines op.now) texts) → OnOk r (after ≡ before ++ conflict_lines g distinct)

@@ -75,7 +75,7 @@ latest_is (o ∷ later) h =
 abbrev pub now_of : List (Bor Operation) → List Operation
 now_of ops = map (λ op. op.now) ops
 
--- the operations behind those that are left are told
+-- the operations after those that are left are reported
 pub record IsWalked (all left distinct : List Operation) : Type 0 where
   pub behind : List Operation
   pub joined : left ++ behind ≡ all
@@ -99,7 +99,7 @@ module _ (all : List Operation) (left rest : List (Bor Operation)) (op : Bor Ope
   joined_more =
       sym (append_assoc (now_of rest) (op.now ∷ []) w.behind) ∙ ap (λ (ops : List Operation). ops ++ w.behind) (sym (map-append (λ (o : Bor Operation). o.now) rest (op ∷ [])) ∙ ap now_of (sym e)) ∙ w.joined
 
-  -- its text is told already
+  -- its text is reported already
   pub walked_past : true ≡ list_any (λ o. same_bytes o.now.text op.now.text) distinct → IsWalked all (now_of rest) (now_of distinct)
   walked_past h = record {
     behind = op.now ∷ w.behind;

@@ -11,7 +11,7 @@ use Rattle.op_core.specs.Ops.{Operation}
 use Rattle.op_core.specs.Shown.{shown}
 use Rattle.op_core.specs.Lists.{awaited, books_of, keys_of}
 
--- ---- what is told
+-- ---- what is reported
 
 -- whether one of the operations has the same text and a greater id
 abbrev pub is_repeated : List Operation → Operation → Bool
@@ -39,21 +39,21 @@ text_lines o = text_line o ++ (o.text ++ 10 ∷ [])
 abbrev pub awaited_line : Id → List ℕ
 awaited_line id = codes "awaited " ++ (decimal id.number ++ 32 ∷ (id.name ++ 10 ∷ []))
 
--- what is told of a segment that shows these distinct texts: nothing unless they are two or more
+-- what is reported of a segment that shows these distinct texts: nothing unless they are two or more
 abbrev pub conflict_lines : Segment → List Operation → List ℕ
 conflict_lines g texts =
     if nat_le 2 (length texts) then conflict_line g (length texts) ++ flat_map text_lines texts else []
 
 -- ---- the report
 
--- what is told of a segment
+-- what is reported of a segment
 abbrev pub conflict_at : List Operation → Segment → List ℕ
 conflict_at held g = conflict_lines g (distinct_texts held g)
 
--- what is told of a book's segments, by rising key
+-- what is reported of a book's segments, by rising key
 abbrev pub conflicts_in : List Operation → List ℕ → List ℕ
 conflicts_in held book = flat_map (λ key. conflict_at held (segment book key)) (keys_of held book)
 
--- what is told of all books, in their order, and then the awaited ids, rising
+-- what is reported of all books, in their order, and then the awaited ids, rising
 abbrev pub report : List Operation → List ℕ
 report held = flat_map (conflicts_in held) (books_of held) ++ flat_map awaited_line (awaited held)

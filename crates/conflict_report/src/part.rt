@@ -13,7 +13,7 @@ use usfm_export::{ByteSink, WriteFault, write_more};
 use usfm_ref::{Book, Key, write_ref};
 
 // A part of a report: a line that was made for it, or a text that is lent from the replica, with a
-// line feed behind it.
+// line feed after it.
 #[derive(Drop)]
 pub(crate) enum Part<'a> {
     Line(String),

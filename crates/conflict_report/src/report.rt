@@ -16,7 +16,7 @@ use usfm_export::{ByteSink, StdSink};
 /// line `awaited NUMBER NAME` for each id that a held operation names and none has, rising.
 ///
 /// # Errors
-/// Want of memory alone.
+/// Out of memory alone.
 pub fn report_text(alloc: Global, replica: &Replica) -> Result<Vec<u8>, AllocError>
     ensures { IfOk result (λ text. text.items ≡ report replica.now.held) }
 {

@@ -46,7 +46,7 @@ all_more {X} P xs i x l hx h p = subst (AllByRecursion P) (sym (more_items xs i 
     push [] h = (p, tt)
     push (y ∷ ys) h = (h.0, push ys h.1)
 
--- ---- rising operations, before and behind one of them
+-- ---- rising operations, before and after one of them
 
 -- each has a smaller id
 abbrev pub AllBelow : Id → List Operation → Type 0

@@ -28,7 +28,7 @@ pub put_front : (o : Operation) (ops : List Operation) → AllAbove o.id ops →
 put_front o [] h = refl
 put_front o (p ∷ ops) h = rw (is_less (id_cmp o.id p.id) (and_parts (id_below o.id p.id) (list_all (λ q. id_below o.id q.id) ops) h).0) refl
 
--- a new operation stands behind so many, and what follows is above it
+-- a new operation stands after so many, and what follows is above it
 record At (n : ℕ) (o : Operation) (ops : List Operation) : Type 0 where
   stands : put o ops ≡ take n ops ++ o ∷ drop n ops
   above : AllAbove o.id (drop n ops)
@@ -86,7 +86,7 @@ join_last ops ys o n e h hy g =
 pub join_none : (new : List Operation) → rises new ≡ true → join [] new ≡ new
 join_none new h = same_gets _ _ (rises-join [] new refl) h (λ q. get-join [] new q refl h)
 
--- new operations behind all of a list go to its end
+-- new operations after all of a list go to its end
 pub join_behind : (held new : List Operation) (n : ℕ) → length held ≤ n → rises held ≡ true → rises new ≡ true → AreApart held new → IsBefore n held new → join held new ≡ held ++ new
 join_behind held [] n l hh hn a b = sym (append-nil held)
 join_behind held (o ∷ new) n l hh hn a b =

@@ -45,7 +45,7 @@ differs (Some p) o = not (same_op p o)
 abbrev pub clash : List Operation → List Operation → Option Id
 clash held other = option_map (λ o. o.id) (find (λ o. differs (get held o.id) o) other)
 
--- a refusal is for the clash that there is, or where there is none, for want of memory
+-- a refusal is the clash that there is, or where there is none, out of memory
 abbrev pub IsRefusal : Option Id → SetFault → Type 0
 IsRefusal found Memory = found ≡ None
 IsRefusal found (Clash id) = found ≡ Some id

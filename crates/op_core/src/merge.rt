@@ -89,8 +89,8 @@ pub(crate) fn reserve_ops(ops: &mut Vec<Op>, count: usize) -> Result<(), AllocEr
     ops.reserve(count)
 }
 
-// An empty list with room for so many new operations and what is behind the first of them. Where nothing is
-// behind it, none is needed.
+// An empty list with room for so many new operations and what is after the first of them. Where nothing is
+// after it, none is needed.
 pub(crate) fn tail_of(
     alloc: Global,
     len: usize,
@@ -108,7 +108,7 @@ pub(crate) fn tail_of(
 }
 
 // Merges new operations into a rising list, of whose ids none is there. There is room for them, and in
-// `tail` for them and for what is behind the first of them.
+// `tail` for them and for what is after the first of them.
 pub(crate) fn merge(
     ops: &mut Vec<Op>,
     mut new: Vec<Op>,
@@ -134,7 +134,7 @@ pub(crate) fn merge(
     }
 }
 
-// Merges new operations into a rising list from the back: what is behind each of them goes to the tail, the last
+// Merges new operations into a rising list from the back: what is after each of them goes to the tail, the last
 // first, and at last from there to the end of the list.
 fn interleave(
     ops: &mut Vec<Op>,

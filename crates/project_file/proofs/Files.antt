@@ -50,7 +50,7 @@ same_replica bytes s t short read v e = let same : Ok s ≡ Ok t = sym read ∙ 
 pub one_replica : (s t : State) → IsState s → IsState t → length (project s) < 2 ^ 64 → project s ≡ project t → s ≡ t
 one_replica s t v w short e = same_replica (project s) s t short (project_again s v short) w e
 
--- the parts of a project file, one behind the other
+-- the parts of a project file, one after the other
 pub project-parts : (s : State) (name : List ℕ) → name ≡ s.name → ((magic ++ length name ∷ []) ++ name) ++ bundle s.held ≡ project s
 unfolding project
 project-parts s name e =
@@ -86,7 +86,7 @@ project_is bytes s fits e = by_front (front_at bytes) refl e
     by_front None f e = cc e
     by_front (Some front) f e = by_whole front.0 front.1 (front_is bytes front.0 front.1 f) (whole_at front.1) refl e
 
--- ---- a replica that held nothing and received the bundle behind a front
+-- ---- a replica that held nothing and received the bundle after a front
 
 pub no_clash : (name : List ℕ) (r : State) (held : List Operation) (id : Id) → r ≡ begun name → clash r.held held ≡ Some id → ⊥
 no_clash name r held id e f = let none : clash r.held held ≡ None = ap (λ (s : State). clash s.held held) e ∙ clash_none held in absurd cc

@@ -10,7 +10,7 @@ use Rattle.bundle_codec.specs.Reading.{AreBytes}
 use Rattle.bundle_codec.proofs.Readers.{AreBytes-drop}
 use Rattle.project_file.specs.Projects.{magic, name_at, front_at}
 
--- a name behind the magic and its length, and what follows it
+-- a name after the magic and its length, and what follows it
 pub record IsFront (bytes name rest : List ℕ) : Type 0 where
   pub spelled : bytes ≡ magic ++ (length name ∷ (name ++ rest))
   pub valid : IsTrue (is_name name)

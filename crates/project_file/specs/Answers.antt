@@ -7,12 +7,12 @@ use Rattle.project_file.specs.declared.fault.LoadFault.{LoadFault}
 use Rattle.project_file.specs.declared.fault.LoadFault.TheVariants.{Memory, BadProject, Bundle}
 use Rattle.project_file.specs.Projects.{project_at}
 
--- no project is made where the text is no name; want of memory is told of a name alone
+-- no project is made where the text is no name; out of memory is answered for a name alone
 abbrev pub RefusesName : List ℕ → CreateFault → Type 0
 RefusesName name creating.Memory = IsTrue (is_name name)
 RefusesName name creating.BadName = is_name name ≡ false
 
--- a refusal is the one that there is; want of memory is told of a project file alone
+-- a refusal is the one that there is; out of memory is answered for a project file alone
 abbrev pub RefusesLoad : List ℕ → LoadFault → Type 0
 RefusesLoad bytes Memory = IsOk (project_at bytes)
 RefusesLoad bytes BadProject = project_at bytes ≡ Err BadProject

@@ -24,12 +24,12 @@ project s = magic ++ (length s.name ∷ (s.name ++ bundle s.held))
 abbrev pub after_magic : List ℕ → Option (List ℕ)
 after_magic bytes = if starts_with nat_eq bytes magic then Some (drop (length magic) bytes) else None
 
--- a name behind its length, where they stand at the front, and the bytes after it
+-- a name after its length, where they stand at the front, and the bytes after it
 abbrev pub name_at : List ℕ → Option (List ℕ × List ℕ)
 name_at [] = None
 name_at (n ∷ bytes) = if nat_le n (length bytes) && is_name (take n bytes) then Some (take n bytes, drop n bytes) else None
 
--- the name behind the magic, and the bytes after it
+-- the name after the magic, and the bytes after it
 unfoldable pub front_at : List ℕ → Option (List ℕ × List ℕ)
 front_at bytes = option_and_then name_at (after_magic bytes)
 

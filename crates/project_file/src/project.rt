@@ -66,7 +66,7 @@ pub fn load(alloc: Global, bytes: &[u8]) -> Result<Replica, LoadFault>
 /// The project file of a replica. There is one for each replica.
 ///
 /// # Errors
-/// Want of memory alone.
+/// Out of memory alone.
 pub fn save(alloc: Global, replica: &Replica) -> Result<Vec<u8>, AllocError>
     ensures spelled { IfOk result (λ bytes. bytes.items ≡ projects.project replica.now) }
     ensures again { IfOk result (λ bytes. projects.project_at bytes.items ≡ Ok replica.now) }
@@ -80,7 +80,7 @@ pub fn save(alloc: Global, replica: &Replica) -> Result<Vec<u8>, AllocError>
     replica.bundle_after(bytes)
 }
 
-// The name behind the magic, and the bytes after it.
+// The name after the magic, and the bytes after it.
 #[tactic(auto, unfolding(crate::specs::Projects::front_at))]
 fn front_of(bytes: &[u8]) -> Option<(ReplicaName, &[u8])>
     ensures { option_map (λ front. (front.0, front.1.now)) result ≡ projects.front_at bytes.now }
@@ -96,7 +96,7 @@ fn after_magic(bytes: &[u8]) -> Option<&[u8]>
     bytes.strip_prefix(&MAGIC)
 }
 
-// The name at the front, behind its length, and the bytes after it.
+// The name at the front, after its length, and the bytes after it.
 fn name_at(bytes: &[u8]) -> Option<(ReplicaName, &[u8])>
     ensures { option_map (λ front. (front.0, front.1.now)) result ≡ projects.name_at bytes.now }
 {

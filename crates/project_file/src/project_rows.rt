@@ -16,7 +16,7 @@ const CUT: LoadFault = LoadFault::Bundle(WholeFault::Bundle(BundleFault::Truncat
 
 const TRAILING: LoadFault = LoadFault::Bundle(WholeFault::Trailing);
 
-// The bytes of a front, with others behind them.
+// The bytes of a front, with others after them.
 fn joined(alloc: Global, front: &[u8], behind: &[u8]) -> Result<Vec<u8>, AllocError> {
     let mut bytes = front.to_vec(alloc)?;
     bytes.extend_from_slice(behind)?;

@@ -49,7 +49,7 @@ there_passes p q (k ∷ ks) f = by (there_passes p q ks f) (p k) refl
         apart true g = cc (sym f ∙ ap p (key_is q k g) ∙ e)
         apart false g = rest
 
--- the texts behind the head of a book are those that are picked
+-- the texts after the head of a book are those that are picked
 pub later_at : (held : List Operation) (book : List ℕ) (q : KeyParts) → key_below book_head q ≡ true
     → text_at (filled (later_texts held book)) q ≡ picked_at held book q
 later_at held book q behind =
@@ -73,7 +73,7 @@ later_none held book q apart =
     filled_at held book (filter (key_below book_head) (exported_keys held book)) q
     ∙ cond-false _ _ _ (there_passes (key_below book_head) q (exported_keys held book) apart)
 
--- a list behind the head of the book has nothing at keys that are not
+-- a list after the head of the book has nothing at keys that are not
 behind_none : (ts : List KeyText) (q : KeyParts) → list_all (λ t. key_below book_head t.key) ts ≡ true → key_below book_head q ≡ false
     → text_at ts q ≡ []
 behind_none [] q h f = refl
@@ -86,7 +86,7 @@ behind_none (t ∷ ts) q h f = by (behind_none ts q p.1 f) (is_eq (key_cmp q t.k
     by rest true e = cc (sym f ∙ ap (key_below book_head) (key_is q t.key e) ∙ p.0)
     by rest false e = ap own_text (cond-false _ _ _ e) ∙ rest
 
--- a text that is behind the head of the book is not the head's
+-- a text that is after the head of the book is not the head's
 pub behind_head : (head : List ℕ) (ts : List KeyText) (q : KeyParts) → key_below book_head q ≡ true
     → text_at (at_book_head head ∷ ts) q ≡ text_at ts q
 behind_head head ts q h = by (is_eq (key_cmp q book_head)) refl

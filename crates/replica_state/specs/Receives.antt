@@ -10,7 +10,7 @@ use Rattle.replica_state.specs.declared.fault.ReceiveFault.TheVariants.{Memory, 
 abbrev pub lacked : List Operation → List Operation → List Operation
 lacked held bundle = filter (λ o. is_none (get held o.id)) bundle
 
--- a refusal is for want of memory, or for the clash that there is
+-- a refusal is out of memory, or the clash that there is
 abbrev pub RefusesReceive : Option Id → ReceiveFault → Type 0
 RefusesReceive found Memory = Unit {0}
 RefusesReceive found (Clash id) = found ≡ Some id

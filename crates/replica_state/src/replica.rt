@@ -103,7 +103,7 @@ impl Replica {
     /// The bundle of all operations that the replica holds.
     ///
     /// # Errors
-    /// Want of memory alone.
+    /// Out of memory alone.
     pub fn bundle(&self, alloc: Global) -> Result<Vec<u8>, AllocError>
         ensures spelled { IfOk result (λ bytes. bytes.items ≡ bundle self.now.held) }
         ensures again { IfOk result (λ bytes. whole_at bytes.items ≡ Ok self.now.held) }
@@ -111,11 +111,11 @@ impl Replica {
         encode(alloc, &self.set)
     }
 
-    /// The bytes with the bundle of all operations that the replica holds behind them, for a file that
-    /// has it behind something else. The bytes are taken, and dropped on an error.
+    /// The bytes with the bundle of all operations that the replica holds after them, for a file that
+    /// has it after something else. The bytes are taken, and dropped on an error.
     ///
     /// # Errors
-    /// Want of memory alone.
+    /// Out of memory alone.
     pub fn bundle_after(&self, bytes: Vec<u8>) -> Result<Vec<u8>, AllocError>
         ensures { IfOk result (λ whole. whole.items ≡ bytes.items ++ bundle self.now.held) }
     {
@@ -125,7 +125,7 @@ impl Replica {
     /// The summary of the ids that the replica holds.
     ///
     /// # Errors
-    /// Want of memory alone.
+    /// Out of memory alone.
     pub fn summary(&self, alloc: Global) -> Result<Summary, AllocError>
         ensures exact { IfOk result (λ s. IsSummaryOf self.now.held s) }
         ensures value { IfOk result (λ s. s ≡ summary_of self.now.held) }
@@ -137,7 +137,7 @@ impl Replica {
     /// summary lacks. They are lent and written one by one; no second set is made.
     ///
     /// # Errors
-    /// Want of memory alone.
+    /// Out of memory alone.
     pub fn delta(&self, alloc: Global, summary: &Summary) -> Result<Vec<u8>, AllocError>
         ensures spelled { IfOk result (λ bytes.
             bytes.items ≡ bundle (outside summary.now self.now.held)) }

@@ -98,7 +98,7 @@ module _ (sheet : List Record) (s : List ℕ) where
       cuts = cuts_later (pieces_of s) on.key at (at + length (mark_bytes m)) (at + length (mark_bytes m)) ts (omega arith) cut_on;
     }
 
-    -- what is told of the mark is what its tree tells there
+    -- what is reported of the mark is what its tree tells there
     told_here : (test : Spot → Bool) (field : Told → Bool) → ((x : Spot) → field (told_of sheet x) ≡ test x) → field (untold at) ≡ false
         → field (told_first at st.told) ≡ stands_at tree at test
     told_here test field is none =
@@ -162,7 +162,7 @@ findings_are_read sheet s =
     found_is sheet s [] 0 (start_state (map (told_of sheet) (spots_of sheet s))) (spots_of sheet s) (tokens_of s) (each-tokens_of s)
     (knows_start sheet s)
 
--- with what is told of the tree, a reading of the text finds its findings
+-- with what is reported of the tree, a reading of the text finds its findings
 pub tree_findings : (sheet : List Record) (s : List ℕ) (f : Forest) (told : List Told) (list : List Finding)
     → f ≡ tree_of (styles_in sheet) s → told ≡ told_in sheet [] f → list ≡ found_in told s → list ≡ findings sheet s
 unfolding spots_of

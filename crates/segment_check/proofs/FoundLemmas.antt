@@ -18,7 +18,7 @@ module _ (held : Held) (start : ℕ) (key : KeyParts) where
   abbrev pub tell : Code → Finding
   tell c = record { code = c; start = start; key = key }
 
-  -- what is put behind others for a code
+  -- what is put after others for a code
   abbrev pub part : Code → List Finding
   part c = cond (holds_in held c) (tell c ∷ []) []
 

@@ -39,7 +39,7 @@ by_parts c false false false n v h = refl
 by_parts c false false true n None h = refl
 by_parts c false false true n (Some v) h = refl
 
--- the key of a mark, by the chapter and the verse behind it
+-- the key of a mark, by the chapter and the verse after it
 pub mark_key-by : (c : ℕ) (m : MarkParts) (after : List ℕ) → mark_key c m after ≡ key_by c (chapter_behind m after) (verse_behind m after)
 mark_key-by c m after =
     by_parts c (m.nested || m.closing) (bytes_eq m.name (codes "c")) (bytes_eq m.name (codes "v")) (chapter_in after) (verse_in after)

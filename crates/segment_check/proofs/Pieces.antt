@@ -42,7 +42,7 @@ cuts_later all key from to next ts h c = record {
   finds = λ p q. c.finds p (omega arith);
 }
 
--- a place behind a piece is not held by it
+-- a place after a piece is not held by it
 not_held : (key : KeyParts) (start p : ℕ) (text : List ℕ) → start + length text ≤ p
     → holds p (record { key = key; start = start; text = text }) ≡ false
 not_held key start p text h = by (nat_le start p)

@@ -103,7 +103,7 @@ thread_beyond n p (l ∷ ls) (x ∷ xs) test h t =
     ∙ thread_beyond (n + length l) p ls xs test (omega arith) a.2)
     (λ b. thread_beyond (n + length l) p ls (x ∷ xs) test (omega arith) b) t
 
--- the marks behind a token: those that the token's place does not take
+-- the marks after a token: those that the token's place does not take
 abbrev pub left_behind : ℕ → List Spot → List Spot
 left_behind at [] = []
 left_behind at (x ∷ xs) = cond (x.start == at) xs (x ∷ xs)
@@ -113,7 +113,7 @@ thread_start n [] x xs t = absurd t
 thread_start n (l ∷ ls) x xs t =
     ⊎_elim (λ a. let e = a.0 in omega (arith, e)) (λ b. let e = thread_start (n + length l) ls x xs b in omega (arith, e)) t
 
--- What one leaf does: the marks behind it stand behind it, those at later places are the same, and what is told in front is told of
+-- What one leaf does: the marks after it stand after it, those at later places are the same, and what is reported in front is reported of
 -- the mark there.
 pub record Passes (sheet : List Record) (at : ℕ) (l : List ℕ) (ls : List (List ℕ)) (xs : List Spot) : Type 0 where
   pub thread : Thread (at + length l) ls (left_behind at xs)

@@ -58,7 +58,7 @@ allow_is kinds.Milestone around = refl
 room_is : (n : ℕ) → nat_le 64 n ≡ (64 - n == 0)
 room_is n = grind (arith, nat_tests)
 
--- what is told of a mark is told by what the nodes around decide
+-- what is reported of a mark is reported by what the nodes around decide
 pub told_is : (sheet : List Record) (start : ℕ) (m : MarkParts) (kind : Option StyleKind) (is_closed : Bool) (around : List Around)
     → told_of sheet (record { start = start; mark = m; node = kind; is_closed = is_closed; around = around })
     ≡ told_by sheet (surroundings_of around) start m kind is_closed
@@ -75,12 +75,12 @@ told_is sheet start m kind is_closed around = λ i. record {
 
 -- ---- entries
 
--- what is told within an entry
+-- what is reported within an entry
 abbrev pub inner_told : List Record → List Around → Option StyleKind → MarkParts → Bool → Forest → List Told
 inner_told sheet around None m is_closed ks = []
 inner_told sheet around (Some k) m is_closed ks = told_in sheet (record { kind = k; mark = m; is_closed = is_closed } ∷ around) ks
 
--- what is told of an entry by its parts
+-- what is reported of an entry by its parts
 abbrev pub entry_told : List Record → List Around → ℕ → Option MarkParts → Option StyleKind → Option MarkParts → Forest → List Told
 entry_told sheet around start None kind close ks = []
 entry_told sheet around start (Some m) kind close ks =
@@ -123,7 +123,7 @@ pub node_told : (sheet : List Record) (around : List Around) (n : Node) (ns : Li
     → told_in sheet around (forest_of (n ∷ ns)) ≡ told_first sheet around (view n) ++ told_in sheet around (forest_of ns)
 node_told sheet around n ns = told_before sheet around n (forest_of ns)
 
--- what is told of some nodes and of what follows them
+-- what is reported of some nodes and of what follows them
 nodes_told : (sheet : List Record) (around : List Around) (ns : List Node) (rest : Forest)
     → told_in sheet around ((forest_of ns) then rest) ≡ told_in sheet around (forest_of ns) ++ told_in sheet around rest
 nodes_told sheet around [] rest = refl
@@ -165,7 +165,7 @@ node_smaller n ns =
 
 -- ---- a loop over nodes
 
--- the node at a place, and those behind it
+-- the node at a place, and those after it
 node_left : (ns : List Node) (i : ℕ) (n : Node) → n ≡ get_or ns i n → i < length ns → drop i ns ≡ n ∷ drop (i + 1) ns
 node_left ns i n e h = drop-cons ns i n h ∙ ap (λ x. x ∷ drop (suc i) ns) (sym e) ∙ ap (λ j. n ∷ drop j ns) (sym (add-one i))
 
@@ -180,7 +180,7 @@ size_left ns i n e h =
     let F : List Node → Type 0 = λ l. size_of (kids_of (view n)) + size_of (forest_of (drop (i + 1) ns)) < size_of (forest_of l) in
     subst F (sym (node_left ns i n e h)) (node_smaller n (drop (i + 1) ns))
 
--- one entry more is told
+-- one entry more is reported
 pub advance : (old new whole e before after : List Told) → old ++ before ≡ whole → before ≡ e ++ after → new ≡ old ++ e
     → new ++ after ≡ whole
 advance old new whole e before after h split more =
@@ -193,7 +193,7 @@ is_some-map f (Some x) = refl
 pub closed_is : {A B : Type 0} (f : A → B) (o : Option A) (c : Option B) (b : Bool) → b ≡ is_some o → option_map f o ≡ c → b ≡ is_some c
 closed_is f o c b e h = e ∙ is_some-map f o ∙ ap is_some h
 
--- what is told of a mark is its entry's
+-- what is reported of a mark is its entry's
 pub told_more : (sheet : List Record) (around : List Around) (i : Surroundings) (v : Forest) (m : MarkParts) (start : ℕ)
     (kind : Option StyleKind) (is_closed : Bool) (t : Told) (inner old new : List Told)
     → i ≡ surroundings_of around → t ≡ told_by sheet i start m kind is_closed
@@ -211,7 +211,7 @@ told_more sheet around i v m start kind is_closed t inner old new ei et em es ek
     spot : ℕ → Option StyleKind → Bool → Spot
     spot at node closed = record { start = at; mark = m; node = node; is_closed = closed; around = around }
 
--- what is told within a node
+-- what is reported within a node
 pub told_within : (sheet : List Record) (around : List Around) (i inner : Surroundings) (k : StyleKind) (kind : Option StyleKind)
     (m : MarkParts) (is_closed : Bool) (name : List ℕ) (f ks : Forest) (old new : List Told)
     → i ≡ surroundings_of around → name ≡ m.name → inner ≡ entering k name i → kind ≡ Some k → f ≡ ks → Tells sheet inner f old new
@@ -224,7 +224,7 @@ told_within sheet around i inner k kind m is_closed name f ks old new ei en ew e
     within : List Around
     within = record { kind = k; mark = m; is_closed = is_closed } ∷ around
 
--- nothing is told of a text
+-- nothing is reported of a text
 pub nothing_told : (sheet : List Record) (around : List Around) (v : Forest) (old : List Told)
     → None ≡ mark_of v → old ≡ old ++ told_first sheet around v
 nothing_told sheet around v old e =
@@ -232,7 +232,7 @@ nothing_told sheet around v old e =
 
 -- ---- a loop over what a reader gives
 
--- some nodes under the root more are told
+-- some nodes under the root more are reported
 pub tells_on : (sheet : List Record) (i : Surroundings) (old new whole : List Told) (ns : List Node) (f g : Forest)
     → old ++ told_in sheet [] f ≡ whole → f ≡ ((forest_of ns) then g) → i ≡ surroundings_of [] → Tells sheet i (forest_of ns) old new
     → new ++ told_in sheet [] g ≡ whole

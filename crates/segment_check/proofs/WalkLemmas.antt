@@ -11,7 +11,7 @@ use Rattle.segment_check.specs.Reading.{State, behind, held_at, findings_with, f
 use Rattle.segment_check.specs.declared.finding.Finding.{Finding}
 use Rattle.segment_check.specs.declared.told.Told.{Told}
 
--- where the token behind the first begins
+-- where the token after the first begins
 pub next_place : (n : ℕ) (at rest : List ℕ) (t : Lexeme) → tokens_of at ≡ t ∷ tokens_of rest → length at ≤ n
     → n - length at + length (slice_of t) ≡ n - length rest
 next_place n at rest t front within =

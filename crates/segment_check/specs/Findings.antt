@@ -14,7 +14,7 @@ use Rattle.segment_check.specs.declared.code.Code.{Code}
 use Rattle.segment_check.specs.declared.code.Code.TheVariants as code
 use Rattle.segment_check.specs.declared.finding.Finding.{Finding}
 
--- the codes, in the order in which those of one mark are told
+-- the codes, in the order in which those of one mark are reported
 abbrev pub all_codes : List Code
 all_codes =
     code.UnknownMarker ∷ code.StrayClose ∷ code.UnclosedChar ∷ code.UnclosedNote ∷ code.TooDeep

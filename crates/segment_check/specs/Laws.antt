@@ -49,7 +49,7 @@ NoTwoAlike =
     (sheet : List Record) (s : List ℕ)
     → AllPairs (λ a b. a.start ≡ b.start → a.code ≡ b.code → ⊥) (findings sheet s)
 
--- A token of a text begins at a place: behind the tokens before it.
+-- A token of a text begins at a place: after the tokens before it.
 pub record IsTokenStart (s : List ℕ) (at : ℕ) : Type 0 where
   pub before : List Lexeme
   pub token : Lexeme

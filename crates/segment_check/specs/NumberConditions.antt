@@ -1,6 +1,6 @@
 -- What is found at a mark of a text by its number: one condition for each code.
 --
--- USFM 3.0 has the numbers behind `\c` and `\v`, the bridge `\v 3-4` and the part `\v 3a`. What is wrong with a number is this
+-- USFM 3.0 has the numbers after `\c` and `\v`, the bridge `\v 3-4` and the part `\v 3a`. What is wrong with a number is this
 -- project's own rule.
 use Rattle.std.specs.Prelude.{ℕ, nat_lt, ◌==◌, Bool, false, not, ◌&&◌, ◌||◌, List, [], codes, Option, None, Some}
 use Rattle.std.specs.Option.{is_some, option_map_or}
@@ -13,7 +13,7 @@ use Rattle.usfm_ref.specs.declared.number.VerseMark.{VerseMark}
 use Rattle.usfm_token.specs.Tokens.{MarkParts}
 use Rattle.segment_check.specs.Scenes.{Scene, scenes_behind, chapter_of, key_of, opens_piece, is_plain_mark, verse_behind, opened_verse}
 
--- no number stands behind a mark `\c` or `\v`
+-- no number stands after a mark `\c` or `\v`
 abbrev pub lacks_number : MarkParts → List ℕ → Bool
 lacks_number m after =
     (is_plain_mark (codes "c") m && not (is_some (chapter_in after)))
@@ -31,7 +31,7 @@ hyphen_at text place = option_map_or (λ b. b == 45) (slice_get text place) fals
 abbrev pub bridges_forward : VerseMark → ℕ × Option ℕ → Bool
 bridges_forward v last = is_lt (place_cmp (Verse v.number v.letter) (Verse last.0 last.1))
 
--- a hyphen directly behind a verse's number without a bridge, or a bridge whose last verse is not after its first
+-- a hyphen directly after a verse's number without a bridge, or a bridge whose last verse is not after its first
 abbrev pub fails_bridge : List ℕ → VerseMark → Bool
 fails_bridge after v =
     option_map_or (λ last. not (bridges_forward v last)) v.last (hyphen_at after v.length)
@@ -72,6 +72,6 @@ abbrev pub is_reached : Scene → VerseMark → Bool
 is_reached scene v =
     list_any (overlaps_from (chapter_of scene) v) (scenes_behind [] scene.before)
 
--- `overlap`: a verse's mark that opens a piece, behind one of its chapter that opens a piece and whose bridge reaches it
+-- `overlap`: a verse's mark that opens a piece, after one of its chapter that opens a piece and whose bridge reaches it
 abbrev pub overlap : Scene → Bool
 overlap scene = option_map_or (is_reached scene) (opened_verse scene) false

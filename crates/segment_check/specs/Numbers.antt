@@ -1,4 +1,4 @@
--- The numbers behind marks, as a walk reads them.
+-- The numbers after marks, as a walk reads them.
 use Rattle.std.specs.Prelude.{ℕ, List, codes, Option, None, Some, if◌then◌else◌}
 use Rattle.usfm_ref.specs.Keys.{KeyParts, chapter_head}
 use Rattle.usfm_ref.specs.Numbers.{chapter_in}
@@ -7,11 +7,11 @@ use Rattle.usfm_token.specs.Tokens.{MarkParts}
 use Rattle.verse_cut.specs.Keys.{verse_key}
 use Rattle.segment_check.specs.Scenes.{is_plain_mark}
 
--- the chapter that stands behind a mark `\c`
+-- the chapter that stands after a mark `\c`
 abbrev pub chapter_behind : MarkParts → List ℕ → Option ℕ
 chapter_behind m after = if is_plain_mark (codes "c") m then chapter_in after else None
 
--- the key of a mark with a chapter or a verse behind it
+-- the key of a mark with a chapter or a verse after it
 abbrev pub key_by : ℕ → Option ℕ → Option VerseMark → Option KeyParts
 key_by chapter (Some n) verse = Some (chapter_head n)
 key_by chapter None (Some v) = Some (verse_key chapter v)

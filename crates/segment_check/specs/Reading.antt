@@ -56,7 +56,7 @@ untold start = record {
   not_under = false;
 }
 
--- what is told of the mark that begins at a place, and of those behind it
+-- what is reported of the mark that begins at a place, and of those after it
 abbrev pub told_first : ℕ → List Told → Told
 told_first at [] = untold at
 told_first at (t ∷ ts) = if t.start == at then t else untold at
@@ -88,7 +88,7 @@ held_at st at m after =
           is_above st.key key && option_map_or (any_reaches st.reach) (verse_behind m after) false;
     }
 
--- the state behind a mark
+-- the state after a mark
 abbrev pub behind : State → ℕ → MarkParts → List ℕ → State
 behind st at m after =
     let key = key_by st.key.chapter (chapter_behind m after) (verse_behind m after) in record {

@@ -108,7 +108,7 @@ told_by sheet i start m kind is_closed = record {
   not_under = option_map_or (is_misplaced (under_words sheet m.name) i) kind false;
 }
 
--- within nodes that decide this, the marks of entries are told behind what was told before
+-- within nodes that decide this, the marks of entries are reported after what was told before
 abbrev pub Tells : List Record → Surroundings → Forest → List Told → List Told → Type 0
 Tells sheet i f old new =
     (around : List Around) → i ≡ surroundings_of around → new ≡ old ++ told_in sheet around f

@@ -1,4 +1,4 @@
-/// What is found at a mark. At one mark the codes are told in this order.
+/// What is found at a mark. At one mark the codes are reported in this order.
 #[derive(Clone, Copy, Debug, PartialEq, Eq, PartialOrd, Ord, Hash)]
 pub enum Code {
     /// A mark, not closing, that has no record in the sheet.
@@ -13,7 +13,7 @@ pub enum Code {
     TooDeep,
     /// A mark `\c` or `\v`, neither nested nor closing, without a number.
     BadNumber,
-    /// A verse with a hyphen behind its number and no bridge, or whose bridge does not lead to a
+    /// A verse with a hyphen after its number and no bridge, or whose bridge does not lead to a
     /// later verse.
     BadBridge,
     /// A mark with a key that opens no piece of the book.

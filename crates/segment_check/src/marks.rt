@@ -72,7 +72,7 @@ impl Walk<'_> {
         }
     }
 
-    // Takes a mark, and what stands behind it.
+    // Takes a mark, and what stands after it.
     fn take(&mut self, start: usize, mark: Mark<'_>, after: &str) -> Held
         ensures held { let st = state_of self.old in
             result ≡ held_at st start (mark_parts mark.entry) after.now }
@@ -97,7 +97,7 @@ impl Walk<'_> {
         held
     }
 
-    // Takes a mark, and puts what is found at it behind the other findings.
+    // Takes a mark, and puts what is found at it after the other findings.
     fn find(
         &mut self,
         findings: &mut Vec<Finding>,
@@ -126,7 +126,7 @@ fn is_above(key: Key, found: Option<Key>) -> bool
     }
 }
 
-// The key of the piece that is open behind a mark with this key.
+// The key of the piece that is open after a mark with this key.
 fn key_then(key: Key, found: Option<Key>) -> Key
     ensures { result ≡ reading.key_then key found }
 {
@@ -146,7 +146,7 @@ fn overlaps(reach: Option<(u16, Option<u8>)>, verse: Option<VerseMark>) -> bool
     }
 }
 
-// How far bridges reach behind a mark that opens a piece: its verse's bridge counts, and at the
+// How far bridges reach after a mark that opens a piece: its verse's bridge counts, and at the
 // head of a chapter none does.
 fn reach_with(
     reach: Option<(u16, Option<u8>)>,

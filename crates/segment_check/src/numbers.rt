@@ -20,7 +20,7 @@ fn is_plain(mark: Mark<'_>) -> bool
     !(mark.nested() || mark.closing())
 }
 
-// The verse behind a mark `\v`.
+// The verse after a mark `\v`.
 pub(crate) fn verse_behind(mark: Mark<'_>, after: &str) -> Option<VerseMark>
     ensures value { result ≡ scenes.verse_behind (mark_parts mark.entry) after.now }
     ensures in_range { IfSome result (λ v. IsTrue (is_verse (v.number, v.letter))) }
@@ -32,7 +32,7 @@ pub(crate) fn verse_behind(mark: Mark<'_>, after: &str) -> Option<VerseMark>
     }
 }
 
-// The chapter behind a mark `\c`.
+// The chapter after a mark `\c`.
 pub(crate) fn chapter_behind(mark: Mark<'_>, after: &str) -> Option<u16>
     ensures value { result ≡ numbers.chapter_behind (mark_parts mark.entry) after.now }
     ensures in_range { IfSome result (λ number. number ≤ 999) }
@@ -44,7 +44,7 @@ pub(crate) fn chapter_behind(mark: Mark<'_>, after: &str) -> Option<u16>
     }
 }
 
-// The key of a mark with the chapter or verse behind it, where a verse stands in the chapter.
+// The key of a mark with the chapter or verse after it, where a verse stands in the chapter.
 pub(crate) fn key_of(chapter: u16, head: Option<u16>, verse: Option<VerseMark>) -> Option<Key>
     requires chapter { chapter ≤ 999 }
     requires head { IfSome head (λ number. number ≤ 999) }
@@ -67,7 +67,7 @@ pub(crate) fn key_of(chapter: u16, head: Option<u16>, verse: Option<VerseMark>) 
     }
 }
 
-// Whether no number stands behind a mark that has one.
+// Whether no number stands after a mark that has one.
 pub(crate) fn lacks_number(mark: Mark<'_>, after: &str) -> bool
     ensures { result ≡ conditions.lacks_number (mark_parts mark.entry) after.now }
 {

@@ -84,7 +84,7 @@ fn is_under_another(style: Option<&Style<'_>>, kind: Option<StyleKind>, inside: 
     is_restricted(kind) && forbids(style.under_words(), inside.allowed(kind))
 }
 
-// What is told of a mark within nodes.
+// What is reported of a mark within nodes.
 fn tell_mark(
     sheet: &Sheet<'_>,
     inside: Inside<'_>,

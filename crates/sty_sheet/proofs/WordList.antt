@@ -16,7 +16,7 @@ take_more n b bs = let e : 1 + n ≡ suc n = omega arith in ap (λ k. take k (b 
 drop_more : (n b : ℕ) (bs : List ℕ) → drop (1 + n) (b ∷ bs) ≡ drop n bs
 drop_more n b bs = let e : 1 + n ≡ suc n = omega arith in ap (λ k. drop k (b ∷ bs)) e
 
--- the parts behind the first, where bs follows it
+-- the parts after the first, where bs follows it
 tails : List ℕ → List (List ℕ)
 tails [] = []
 tails (c ∷ cs) = slice_split is_blank cs
@@ -62,7 +62,7 @@ words_behind : (bs : List ℕ) → words_of (behind_blanks bs) ≡ words_of bs
 words_behind [] = refl
 words_behind (b ∷ bs) = behind_by b bs (is_blank b) refl (words_behind bs)
 
--- behind the blanks stands a word
+-- after the blanks stands a word
 first_is : (bs : List ℕ) → 0 < length (first_word bs) → words_of bs ≡ first_word bs ∷ words_of (behind_word bs)
 unfolding words_of
 first_is bs h =

@@ -33,7 +33,7 @@ field_named key value =
     else if is_word (codes "TextType") key then text_type value
     else passed
 
--- behind the backslash: the field's name up to a blank, and its value, without the blanks around it
+-- after the backslash: the field's name up to a blank, and its value, without the blanks around it
 abbrev pub field_behind : List ℕ → Field
 field_behind bs = field_named (first_word bs) (trimmed (behind_word bs))
 

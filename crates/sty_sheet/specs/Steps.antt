@@ -28,7 +28,7 @@ with_field (name value) r = record r { name = value }
 with_field (style_type value) r = record r { kind = kind_named value }
 with_field (text_type value) r = record r { verse_text = is_word (codes "VerseText") value }
 
--- a record behind the others, or in the place of the one of its marker
+-- a record after the others, or in the place of the one of its marker
 abbrev pub put : List Record → Record → List Record
 put [] r = r ∷ []
 put (q ∷ qs) r = if bytes_eq r.marker q.marker then r ∷ qs else q ∷ put qs r
@@ -58,7 +58,7 @@ after s (name value) = extended s (name value)
 after s (style_type value) = extended s (style_type value)
 after s (text_type value) = extended s (text_type value)
 
--- what a call answers where this fault, or none, is due; a want of memory is told where none is
+-- what a call answers where this fault, or none, is due; out of memory is answered where none is
 abbrev pub Tells : Result (Unit {0}) SheetFault → Option SheetFault → Type 0
 Tells (Ok done) due = due ≡ None
 Tells (Err Memory) due = due ≡ None

@@ -26,7 +26,7 @@ records_left styles = map record_of styles.values
 abbrev pub words_left : UnderWords → List (List ℕ)
 words_left words = words_of words.rest.now
 
--- what a reading answers: the records that are to be read, or their fault; want of memory alone says nothing of them
+-- what a reading answers: the records that are to be read, or their fault; out of memory alone says nothing of them
 abbrev pub Gives : Result Sheet SheetFault → Result (List Record) SheetFault → Type 0
 Gives (Ok sheet) read = read ≡ Ok (records_of sheet)
 Gives (Err Memory) read = Unit {0}

@@ -43,7 +43,7 @@ fn field_named<'s>(key: &str, value: &'s str) -> Field<'s>
     Field::Passed
 }
 
-// The field behind a backslash.
+// The field after a backslash.
 fn field_behind(text: &str) -> Field<'_>
     ensures { field_view result ≡ field_behind text.now }
 {

@@ -62,7 +62,7 @@ impl<'s> Records<'s> {
         }
     }
 
-    // Puts a record behind the others, or in the place of the one of its marker.
+    // Puts a record after the others, or in the place of the one of its marker.
     pub(crate) fn put(&mut self, style: Style<'s>) -> Result<(), SheetFault>
         ensures puts { let later = put (records_in self.old) (record_of style.entry) in
             OnOk result (records_in self.new ≡ later) }

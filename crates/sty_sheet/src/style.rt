@@ -52,7 +52,7 @@ impl<'s> Style<'s> {
         UnderWords { rest: self.under }
     }
 
-    /// The word at a place of the field OccursUnder, counted from 0, and `None` behind the last.
+    /// The word at a place of the field OccursUnder, counted from 0, and `None` after the last.
     /// It passes over the words before it: whoever needs them all takes `under_words`.
     pub fn under(&self, place: usize) -> Option<&'s str>
         ensures { option_map (λ w. w.now) result ≡ slice_get (record_of self.now).under place }

@@ -61,7 +61,7 @@ pub bundle_is_some : (ops : List Operation) → 0 < length (bundle ops)
 unfolding bundle magic
 bundle_is_some ops = omega arith
 
--- what is left behind a bundle is shorter
+-- what is left after a bundle is shorter
 pub left_is_shorter : (bytes : List ℕ) (n : ℕ) (set : List Operation) → take n bytes ≡ bundle set → n ≡ length (bundle set) → (n ≤ length bytes) × (length (drop n bytes) < length bytes)
 left_is_shorter bytes n set e f =
     let some = bundle_is_some set in
@@ -92,7 +92,7 @@ module _ (input : List ℕ) (held set : List Operation) (rest left : List ℕ) (
     back = λ one. w.back (After held rest set left read c one);
   }
 
-  -- a refused bundle is refused with the clash, or for want of memory
+  -- a refused bundle is refused with the clash, or out of memory
   pub refused_bundle : (fault : ReceiveFault) → RefusesReceive (clash held set) fault → UnionAnswers input (Err (of_receiving fault))
   refused_bundle receiving.Memory r = w.back (Here held rest set left read)
   refused_bundle (receiving.Clash id) r = leads_clash held rest (union_in [] input) w.leads some set left id read r

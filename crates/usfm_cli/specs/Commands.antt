@@ -123,7 +123,7 @@ only_tells (Check book sheet) = true
 only_tells (Find book sheet needle) = true
 only_tells (Words book sheet) = true
 
--- ---- refusals, and want of memory
+-- ---- refusals, and out of memory
 
 abbrev pub no_fault : Fault → Bool
 no_fault fault = false

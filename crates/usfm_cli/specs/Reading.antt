@@ -10,7 +10,7 @@ abbrev pub most_bytes : ℕ
 most_bytes = 268435456
 
 -- What is answered where the source gave these bytes and has then so much left: all of them at the end of the source; that they
--- are too long, with the first byte past the limit. A want of memory and a failed read come before that.
+-- are too long, with the first byte past the limit. Out of memory and a failed read come before that.
 abbrev pub AnswersGiven : {A : Type 0} → ℕ → List ℕ → Option (List ℕ) → Result (Vec ℕ A) ReadFault → Type 0
 AnswersGiven limit given left (Ok bytes) =
     (bytes.items ≡ given) × (length given ≤ limit) × IsAtEnd left

@@ -60,7 +60,7 @@ pub data ReceivesOne : List Operation → List ℕ → Type 0 where
   Here : (held : List Operation) (bytes : List ℕ) (set : List Operation) (rest : List ℕ) → bundle_at bytes ≡ Ok (set, rest) → ReceivesOne held bytes
   After : (held : List Operation) (bytes : List ℕ) (set : List Operation) (rest : List ℕ) → bundle_at bytes ≡ Ok (set, rest) → clash held set ≡ None → ReceivesOne (join held set) rest → ReceivesOne held bytes
 
--- what a call that makes the union answers: a replica that holds it, a bundle's fault, a clash, or a want of memory, where it
+-- what a call that makes the union answers: a replica that holds it, a bundle's fault, a clash, or out of memory, where it
 -- received a bundle
 abbrev pub UnionAnswers : List ℕ → Result State Fault → Type 0
 UnionAnswers input (Ok replica) = union_in [] input ≡ Ok replica.held

@@ -13,7 +13,7 @@ use Rattle.usfm_export.specs.declared.writing.WriteFault.{WriteFault}
 use Rattle.usfm_export.proofs.Heads.{heads_are}
 use Rattle.usfm_export.proofs.Pieces.{TakesAll-nil, TakesAll-append, TakesFront-append}
 
--- the text of a key goes out behind that of its chapter's head
+-- the text of a key goes out after that of its chapter's head
 pub front_behind_head : (held : List Operation) (book : List ℕ) (before : Option KeyParts) (key : KeyParts) (head_text text : List ℕ) (a b c : Option (List ℕ)) (gone middle : ℕ) (r : Result ℕ WriteFault)
     → lacks_head before key ≡ true → head_text ≡ picked_at held book (head_of key) → text ≡ picked_at held book key → TakesAll a b head_text gone middle
     → IfErr r (λ fault. TakesFront b c text middle fault.gone) → IfErr r (λ fault. TakesFront a c (texts_at held book (with_head before key)) gone fault.gone)

@@ -1,4 +1,4 @@
--- The keys of an export are those with an operation, each chapter's behind its head.
+-- The keys of an export are those with an operation, each chapter's after its head.
 use Rattle.std.proofs.Common.{◌≡◌, ℕ, Bool, true, false, not, cond, ◌||◌, ◌&&◌, ◌==◌, List, [], ◌∷◌, ◌++◌, Option, None, Some, is_some, MatchOption, map, refl, sym, ap, subst, ◌∙◌}
 use Rattle.std.specs.declared.cmp.Ordering.{Ordering}
 use Rattle.std.specs.declared.cmp.Ordering.TheVariants.{Less, Equal, Greater}
@@ -93,7 +93,7 @@ module _ (p : KeyParts → Bool) where
   abbrev either : KeyParts → Bool
   either k = p (head_of k) || p k
 
-  -- behind a head that was told already
+  -- after a head that was told already
   told : (x y w r : Bool) → (x || w) ≡ (x || r) → (x || (y || w)) ≡ (x || ((x || y) || r))
   told true y w r e = refl
   told false y w r e = ap (λ b. y || b) e
@@ -201,7 +201,7 @@ rise_heads before (k ∷ ks) h =
         let first : is_lt (key_cmp (head_of k) k) ≡ true = head_first k.chapter k.place (no_head before e) in
         and_from _ _ (and_from _ _ first (above_trans key_cmp key_total (λ (x : KeyParts). x) (head_of k) k (with_heads (Some k) ks) (is_less _ first) over)) own
 
--- the keys with an operation, each chapter's behind its head, are those of the export
+-- the keys with an operation, each chapter's after its head, are those of the export
 pub heads_are : (held : List Operation) (book : List ℕ) → with_heads None (keys_of held book) ≡ exported_keys held book
 heads_are held book =
     same_tested key_cmp key_total key_exact (with_heads None (keys_of held book)) (exported_keys held book)

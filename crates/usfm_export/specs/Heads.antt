@@ -6,12 +6,12 @@ use Rattle.usfm_ref.specs.Keys.{KeyParts, head_of, is_head}
 use Rattle.op_core.specs.Ops.{Operation}
 use Rattle.op_core.specs.CutsBack.{picked_at}
 
--- whether a key is the first of its chapter, behind the key before, and is not the chapter's head
+-- whether a key is the first of its chapter, after the key before, and is not the chapter's head
 abbrev pub lacks_head : Option KeyParts → KeyParts → Bool
 lacks_head None key = not (is_head key.place)
 lacks_head (Some before) key = not (before.chapter == key.chapter) && not (is_head key.place)
 
--- a key, behind the head of its chapter where it lacks that
+-- a key, after the head of its chapter where it lacks that
 abbrev pub with_head : Option KeyParts → KeyParts → List KeyParts
 with_head before key = if lacks_head before key then head_of key ∷ key ∷ [] else key ∷ []
 

@@ -133,7 +133,7 @@ fn chapter_line(chapter: u16) -> ShortLine
     line
 }
 
-// Whether a key is the first of its chapter, behind the key before, and is not the chapter's head.
+// Whether a key is the first of its chapter, after the key before, and is not the chapter's head.
 fn lacks_head(before: Option<Key>, key: Key) -> bool
     ensures { result ≡ lacks_head before key }
 {

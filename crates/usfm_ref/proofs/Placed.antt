@@ -14,7 +14,7 @@ use Rattle.usfm_ref.specs.Rising.{rises_by, placed}
 use Rattle.usfm_ref.proofs.Sorted.{is_less}
 use Rattle.usfm_ref.proofs.Sorted as sorted
 
--- ---- a binary search by a test that holds of a first part and of nothing behind it
+-- ---- a binary search by a test that holds of a first part and of nothing after it
 
 -- the facts that the loop keeps
 pub record IsNarrowed {X : Type 0} (p : X → Bool) (xs : List X) (low high : ℕ) : Type 0 where

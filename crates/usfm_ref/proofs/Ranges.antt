@@ -98,7 +98,7 @@ read_is_ascii text mark h =
     before_both text h.bytes h.rest (blanks_before text h.bytes h.blanks h.text_is h.are_blanks)
     (before_both h.bytes h.behind h.rest (number_before h.bytes mark.number mark.letter h.behind h.number_is) (bridge_before h.behind mark.last h.rest h.last_is))
 
--- a text may be cut behind what is read
+-- a text may be cut after what is read
 pub read_ends_between : (text : List ℕ) (mark : VerseMark) → IsUtf8 text → ReadsVerse text mark → IsCharBoundary text mark.length
 read_ends_between text mark utf8 h =
     let before = read_is_ascii text mark h in

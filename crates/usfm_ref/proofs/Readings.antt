@@ -66,7 +66,7 @@ lettered-of number None [] l h = refl
 lettered-of number None (b ∷ rest) l h = rw (h, not_lower b h) refl
 lettered-of number (Some c) rest l h = rw (l, h) refl
 
--- what a letter or none behind a number is
+-- what a letter or none after a number is
 pub record IsLettered (number : ℕ) (bytes : List ℕ) (verse : ℕ × Option ℕ) (rest : List ℕ) : Type 0 where
   pub number_is : verse.0 ≡ number
   pub bytes_are : bytes ≡ option_to_list verse.1 ++ rest
@@ -78,7 +78,7 @@ ended-some {T} value rest r h =
     let found = cond_some (ends_number rest) (value, rest) r h in
     (found.0, ap (λ (p : T × List ℕ). p.0) found.1, ap (λ (p : T × List ℕ). p.1) found.1)
 
--- a verse that ends behind its letter or none
+-- a verse that ends after its letter or none
 lettered_is : (number : ℕ) (letter : Option ℕ) (rest : List ℕ) (v : (ℕ × Option ℕ) × List ℕ) → is_letter letter ≡ true → ended (number, letter) rest ≡ Some v → IsLettered number (option_to_list letter ++ rest) v.0 v.1
 lettered_is number letter rest v l h =
     let found = ended-some (number, letter) rest v h in
@@ -181,7 +181,7 @@ blanks_at-run blanks bytes h s =
     let run : prefix_len is_blank (blanks ++ bytes) ≡ length blanks = prefix_len-run is_blank blanks bytes parts.1 s in
     rw (run, parts.0, drop_at blanks bytes (length blanks) refl) refl
 
--- what stands behind blanks
+-- what stands after blanks
 pub record AreBlanks (text bytes : List ℕ) : Type 0 where
   pub blanks : List ℕ
   pub text_is : text ≡ blanks ++ bytes
@@ -342,7 +342,7 @@ pub verse_in-verse : (text bytes : List ℕ) (verse : ℕ × Option ℕ) (behind
 unfolding verse_in
 verse_in-verse text bytes verse behind b v = rw (b, v) refl
 
--- the bytes behind a verse and its bridge are a part of the text
+-- the bytes after a verse and its bridge are a part of the text
 pub within_text : (text bytes : List ℕ) (verse : ℕ × Option ℕ) (behind : List ℕ) → blanks_at text ≡ Some bytes → verse_at bytes ≡ Some (verse, behind) → length behind ≤ length text
 within_text text bytes verse behind b v = starts text bytes behind verse (blanks_at-some text bytes b) (verse_at-some bytes (verse, behind) v)
 

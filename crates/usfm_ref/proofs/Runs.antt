@@ -25,7 +25,7 @@ list_all-run p (x ∷ xs) = step (p x) refl (list_all-run p xs)
     step true e others = rw (e, one_more, e) others
     step false e others = rw e refl
 
--- what is behind the run stops
+-- what is after the run stops
 pub stops-run : {X : Type 0} (p : X → Bool) (xs : List X) → stops p (drop (prefix_len p xs) xs) ≡ true
 stops-run p [] = refl
 stops-run p (x ∷ xs) = step (p x) refl (stops-run p xs)

@@ -59,7 +59,7 @@ decimal_starts number letter rest small l ends = record {
   ends = ends;
 }
 
--- a chapter in decimal behind blanks is read
+-- a chapter in decimal after blanks is read
 pub chapter_in-decimal : (blanks : List ℕ) (number : ℕ) (rest : List ℕ) → are_blanks blanks ≡ true → number ≤ 999 → ends_number rest ≡ true → chapter_in (blanks ++ (decimal number ++ rest)) ≡ Some number
 chapter_in-decimal blanks number rest b small ends =
     chapter_in-of _ number

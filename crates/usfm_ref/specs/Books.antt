@@ -1,5 +1,5 @@
 -- Codes of books, and the order of books: USFM 3.0's identifiers of books in the order of the canon of 66,
--- and every other code behind them by its bytes (this project's own rule).
+-- and every other code after them by its bytes (this project's own rule).
 use Rattle.std.specs.Prelude.{ℕ, ◌==◌, nat_le, Bool, false, ◌&&◌, ◌||◌, List, [], ◌∷◌, codes}
 use Rattle.std.specs.List.{position_or_len, list_all, list_any}
 use Rattle.std.specs.declared.cmp.Ordering.{Ordering}

@@ -22,7 +22,7 @@ are_blanks bytes = nat_le 1 (length bytes) && list_all is_blank bytes
 abbrev pub are_digits : List ℕ → Bool
 are_digits bytes = nat_le 1 (length bytes) && nat_le (length bytes) 3 && list_all is_ascii_digit bytes
 
--- the number that digits write behind those of another
+-- the number that digits write after those of another
 abbrev pub number_behind : ℕ → List ℕ → ℕ
 number_behind n [] = n
 number_behind n (d ∷ ds) = number_behind (n * 10 + (d - 48)) ds
@@ -52,7 +52,7 @@ pub record StartsWithBridge (bytes : List ℕ) (last : ℕ × Option ℕ) (rest 
   pub bytes_are : bytes ≡ 45 ∷ behind
   pub last_is : StartsWithNumber behind last.0 last.1 rest
 
--- What stands behind a verse's number: the bridge to its last verse and a rest, or no bridge and all of it is the rest.
+-- What stands after a verse's number: the bridge to its last verse and a rest, or no bridge and all of it is the rest.
 abbrev pub BridgesTo : List ℕ → Option (ℕ × Option ℕ) → List ℕ → Type 0
 BridgesTo bytes None rest = (rest ≡ bytes) × ((last : ℕ × Option ℕ) (after : List ℕ) → StartsWithBridge bytes last after → ⊥)
 BridgesTo bytes (Some last) rest = StartsWithBridge bytes last rest
@@ -90,9 +90,9 @@ abbrev pub is_last : Option (ℕ × Option ℕ) → Bool
 is_last None = true
 is_last (Some verse) = is_verse verse
 
--- ---- the same, as a reading from the left: what is read, if it stands at the front, and the bytes behind it
+-- ---- the same, as a reading from the left: what is read, if it stands at the front, and the bytes after it
 
--- behind one blank or more
+-- after one blank or more
 unfoldable pub blanks_at : List ℕ → Option (List ℕ)
 blanks_at bytes = let n = prefix_len is_blank bytes in if nat_le 1 n then Some (drop n bytes) else None
 
@@ -106,7 +106,7 @@ number_at bytes =
 abbrev pub ended : {T : Type 0} → T → List ℕ → Option (T × List ℕ)
 ended value rest = if ends_number rest then Some (value, rest) else None
 
--- a letter or none behind a number, which ends
+-- a letter or none after a number, which ends
 abbrev pub lettered : ℕ → List ℕ → Option ((ℕ × Option ℕ) × List ℕ)
 lettered number [] = Some ((number, None), [])
 lettered number (b ∷ rest) = if is_ascii_lowercase b then ended (number, Some b) rest else ended (number, None) (b ∷ rest)

@@ -15,7 +15,7 @@ use Rattle.usfm_ref.specs.declared.key.Place.TheVariants.{Head, Verse}
 
 -- ---- the texts
 
--- what is written of a place behind its chapter: nothing of the head
+-- what is written of a place after its chapter: nothing of the head
 abbrev pub place_text : Place → List ℕ
 place_text Head = []
 place_text (Verse number letter) = codes ":" ++ (decimal number ++ option_to_list letter)
@@ -32,9 +32,9 @@ pub record IsRefTo (text : List ℕ) (book : List ℕ) (key : KeyParts) : Type 0
   pub is_key : IsTrue (is_key key.chapter key.place)
   pub text_is : text ≡ ref_text book key
 
--- ---- the same, as a reading from the left: what is read, if it stands at the front, and the bytes behind it
+-- ---- the same, as a reading from the left: what is read, if it stands at the front, and the bytes after it
 
--- a zero, and a digit behind it
+-- a zero, and a digit after it
 abbrev pub is_zero_led : List ℕ → Bool
 is_zero_led [] = false
 is_zero_led (a ∷ []) = false
@@ -44,13 +44,13 @@ is_zero_led (a ∷ b ∷ rest) = a == 48 && is_ascii_digit b
 unfoldable pub plain_at : List ℕ → Option (ℕ × List ℕ)
 plain_at bytes = if is_zero_led bytes then None else number_at bytes
 
--- a verse's letter or none behind its number, up to the end
+-- a verse's letter or none after its number, up to the end
 abbrev pub verse_to_end : ℕ → List ℕ → Option Place
 verse_to_end number [] = Some (Verse number None)
 verse_to_end number (b ∷ []) = if is_ascii_lowercase b then Some (Verse number (Some b)) else None
 verse_to_end number (b ∷ c ∷ rest) = None
 
--- a place behind its chapter, up to the end
+-- a place after its chapter, up to the end
 unfoldable pub place_in : List ℕ → Option Place
 place_in [] = Some Head
 place_in (b ∷ rest) = if b == 58 then option_and_then (λ n. verse_to_end n.0 n.1) (plain_at rest) else None

@@ -9,7 +9,7 @@ use std::marker::Model;
 
 /// A book, by its code of three of A to Z and 0 to 9, as USFM 3.0 names books.
 ///
-/// Books go in the order of the 66 books of the canon, Genesis to Revelation, and behind them
+/// Books go in the order of the 66 books of the canon, Genesis to Revelation, and after them
 /// every other code by its bytes.
 #[derive(Clone, Copy, Debug, PartialEq, Eq, PartialOrd, Ord, Hash)]
 pub struct Book {

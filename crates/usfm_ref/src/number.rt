@@ -41,7 +41,7 @@ pub fn chapter_after(text: &str) -> Option<u16>
 ///
 /// It is one blank or more (space, tab, CR, LF), one to three digits and at most one letter a to
 /// z, before the end or a character that is no ASCII letter or digit. Where that character is a
-/// hyphen and behind it stand digits and a letter in the same way, they are the last verse of a
+/// hyphen and after it stand digits and a letter in the same way, they are the last verse of a
 /// bridge; else the verse has no bridge. None where no number stands there.
 pub fn verse_after(text: &str) -> Option<VerseMark>
     ensures reads { IfSome result (ReadsVerse text.now) }
@@ -71,7 +71,7 @@ fn is_blank(byte: u8) -> bool
     matches!(byte, b' ' | b'\t' | b'\r' | b'\n')
 }
 
-// What stands behind one blank or more.
+// What stands after one blank or more.
 #[tactic(auto, unfolding(crate::specs::Numbers::blanks_at))]
 fn blanks_at(bytes: &[u8]) -> Option<&[u8]>
     ensures { MatchOption result (numbers.blanks_at bytes.now ≡ None) (λ rest. numbers.blanks_at bytes.now ≡ Some rest.now) }
@@ -110,7 +110,7 @@ fn digit(byte: u8) -> u16
     u16::from(byte - b'0')
 }
 
-// A run of one to three digits, and what stands behind it.
+// A run of one to three digits, and what stands after it.
 #[tactic(auto, unfolding(crate::specs::Numbers::number_at))]
 pub(crate) fn number_at(bytes: &[u8]) -> Option<(u16, &[u8])>
     ensures { MatchOption result (numbers.number_at bytes.now ≡ None) (λ n. numbers.number_at bytes.now ≡ Some (n.0, n.1.now)) }
@@ -136,7 +136,7 @@ fn ends_number(bytes: &[u8]) -> bool
     }
 }
 
-// A verse's number with its letter, which ends, and what stands behind it.
+// A verse's number with its letter, which ends, and what stands after it.
 #[tactic(auto, unfolding(crate::specs::Numbers::verse_at))]
 fn verse_at(bytes: &[u8]) -> Option<(Verse, &[u8])>
     ensures { MatchOption result (numbers.verse_at bytes.now ≡ None) (λ v. numbers.verse_at bytes.now ≡ Some (v.0, v.1.now)) }
@@ -149,7 +149,7 @@ fn verse_at(bytes: &[u8]) -> Option<(Verse, &[u8])>
     ends_number(rest).then_some(((number, letter), rest))
 }
 
-// A bridge's last verse, and what stands behind it.
+// A bridge's last verse, and what stands after it.
 #[tactic(auto, unfolding(crate::specs::Numbers::bridge_at))]
 fn bridge_at(bytes: &[u8]) -> Option<(Verse, &[u8])>
     ensures { MatchOption result (numbers.bridge_at bytes.now ≡ None) (λ v. numbers.bridge_at bytes.now ≡ Some (v.0, v.1.now)) }

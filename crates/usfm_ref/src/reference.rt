@@ -79,7 +79,7 @@ fn push_key(text: &mut String, key: Key) -> Result<(), AllocError>
     Ok(())
 }
 
-// A number of one to three digits without leading zeros, and what stands behind it.
+// A number of one to three digits without leading zeros, and what stands after it.
 #[tactic(auto, unfolding(crate::specs::References::plain_at))]
 fn plain_at(bytes: &[u8]) -> Option<(u16, &[u8])>
     ensures value { MatchOption result (references.plain_at bytes.now ≡ None) (λ n. references.plain_at bytes.now ≡ Some (n.0, n.1.now)) }
@@ -91,7 +91,7 @@ fn plain_at(bytes: &[u8]) -> Option<(u16, &[u8])>
     }
 }
 
-// The place of a key behind its chapter.
+// The place of a key after its chapter.
 #[tactic(auto, unfolding(crate::specs::References::place_in))]
 fn place_in(bytes: &[u8]) -> Option<Place>
     ensures { result ≡ references.place_in bytes.now }
@@ -118,7 +118,7 @@ fn key_in(bytes: &[u8]) -> Option<Key>
     Some(Key { chapter, place })
 }
 
-// The key behind one space.
+// The key after one space.
 #[tactic(auto, unfolding(crate::specs::References::key_behind))]
 fn key_behind(bytes: &[u8]) -> Option<Key>
     ensures { result ≡ references.key_behind bytes.now }

@@ -19,7 +19,7 @@ impl<'a> TokenIter<'a> {
         TokenIter { rest: text }
     }
 
-    /// The text that is left, behind the tokens that were given.
+    /// The text that is left, after the tokens that were given.
     pub fn rest(&self) -> &'a str
         ensures { result.now ≡ rest_of self.now }
     {

@@ -12,7 +12,7 @@ use Rattle.usfm_tree.specs.Reading.{Styles, Placed, placed, Role, plain, alone, 
 use Rattle.usfm_tree.proofs.LeavesLemmas.{role_slice, bare_slice}
 use Rattle.usfm_tree.proofs.SpanLemmas.{span_is, bytes_then}
 
--- tokens that stand one behind another from n on
+-- tokens that stand one after another from n on
 abbrev Placing : ℕ → List Placed → Type 0
 Placing n [] = Unit {0}
 Placing n (t ∷ l) = (t.start ≡ n) × Placing (n + length (slice_of t.token)) l
@@ -86,7 +86,7 @@ either_places : (n : ℕ) (b : Bool) (x y : Read) → ReadPlaces n x → ReadPla
 either_places n true x y p q = p
 either_places n false x y p q = q
 
--- one entry of these bytes, then what is read behind it
+-- one entry of these bytes, then what is read after it
 one_text : (n : ℕ) (t : Placed) (b : List ℕ) (after : Read) → b ≡ slice_of t.token → t.start ≡ n → ReadPlaces (n + length (slice_of t.token)) after → ReadPlaces n (followed (text t.start b) after)
 one_text n t b after is at h = (
   (at, runs_at _ _ after.0 (ap (λ x. n + length x) (sym is)) h.0),
@@ -142,7 +142,7 @@ kids_places styles (suc k) os n (t ∷ l) p =
     (tt, placing_at n (n + 0) (t ∷ l) (omega arith) p)
     (enter_places n styles (kids styles k) os t l (role styles t.token) (kids_places styles k) (role_slice styles t.token) p)
 
--- the entries of a tree stand one behind another
+-- the entries of a tree stand one after another
 pub tree_runs : (styles : Styles) (s : List ℕ) → Runs 0 (tree_of styles s)
 unfolding tree_of
 tree_runs styles s = let l = placed 0 (tokens_of s) in (kids_places styles (suc (length l)) [] 0 l (placed_places 0 (tokens_of s))).0

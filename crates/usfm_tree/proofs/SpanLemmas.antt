@@ -41,7 +41,7 @@ put_at [] sofar e rest h = tt
 put_at (s ∷ ss) sofar e rest h =
     (h.0 ∙ ap (λ x. mark_bytes s.mark ++ x) (sym (append_assoc (bytes_of sofar) (bytes_of e) rest) ∙ ap (λ x. x ++ rest) (sym (bytes_then sofar e))), h.1)
 
--- an entry behind what was read so far
+-- an entry after what was read so far
 pub adjoins_put : (ss new_ss : List Span) (sofar new_sofar e : Forest) (b rest : List ℕ) → Adjoins ss sofar (b ++ rest) → bytes_of e ≡ b → new_sofar ≡ sofar then e → new_ss ≡ ss → Adjoins new_ss new_sofar rest
 adjoins_put ss new_ss sofar new_sofar e b rest h is made same =
     let F : List ℕ → Type 0 = λ x. Adjoins ss sofar (x ++ rest) in

@@ -35,7 +35,7 @@ takes_mark n rest after m h within =
     let f = (left_front n rest after (mark m) h within).0 in
     ap milestone_takes f ∙ sym (ap (λ l. cond (is_bare_close (mark m)) (record { kids = nothing; close = Some bare; rest = left_of n after }) (Taken_none l)) f)
 
--- a text in front, and nothing behind it
+-- a text in front, and nothing after it
 pub takes_text : (n : ℕ) (rest after : List ℕ) (t : List ℕ) → tokens_of rest ≡ words t ∷ tokens_of after → length rest ≤ n → milestone_takes (left_of n rest) ≡ take_bare (left_of n rest) (text (n - length rest) t nothing) (left_of n after)
 takes_text n rest after t h within =
     let f = (left_front n rest after (words t) h within).0 in

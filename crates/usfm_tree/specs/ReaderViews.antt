@@ -26,7 +26,7 @@ pub record Span : Type 0 where
 abbrev pub span_of : Open → Span
 span_of o = record { from = o.from.now; mark = mark_parts o.mark; before = forest_of o.before.items }
 
--- the mark of each open node, what was read behind it, and the rest are the text from that mark on
+-- the mark of each open node, what was read after it, and the rest are the text from that mark on
 abbrev pub Adjoins : List Span → Forest → List ℕ → Type 0
 Adjoins [] sofar rest = Unit {0}
 Adjoins (s ∷ ss) sofar rest = (s.from ≡ mark_bytes s.mark ++ (bytes_of sofar ++ rest)) × Adjoins ss s.before s.from

@@ -201,7 +201,7 @@ followed entry after = (entry after.0, after.1)
 abbrev pub spanned : (List Open → List Placed → Read) → List Open → Placed → MarkParts → Taken → Read
 spanned go os t m taken = followed (spanning kinds.Milestone t.start m taken.kids taken.close) (go os taken.rest)
 
--- a node with its kids and its closing mark, if the token behind them closes it
+-- a node with its kids and its closing mark, if the token after them closes it
 abbrev pub closing : (List Open → List Placed → Read) → List Open → Placed → StyleKind → MarkParts → Forest → Closed → Read
 closing go os t kind m inside closed = followed (spanning kind t.start m inside closed.0) (go os closed.1)
 

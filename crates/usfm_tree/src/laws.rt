@@ -13,7 +13,7 @@ pub fn leaves_are_tokens()
     ensures { LeavesAreTokens }
 {}
 
-/// Each entry of a tree begins where the one before it ends, the first of a node behind the node's
+/// Each entry of a tree begins where the one before it ends, the first of a node after the node's
 /// mark, and a node's slice is the join of its leaves.
 pub fn trees_run()
     ensures { TreesRun }

@@ -1,4 +1,4 @@
-//! The look-ahead behind a milestone mark.
+//! The look-ahead after a milestone mark.
 
 ghost use Rattle.std.specs.Prelude.{◌≡◌, ◌∷◌};
 ghost use Rattle.usfm_token.specs.Tokens.{tokens_of, mark, words};

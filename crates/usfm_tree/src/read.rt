@@ -15,7 +15,7 @@ use sty_sheet::Sheet;
 use usfm_token::TokenIter;
 
 // The nodes under the root from a place of the source on, before which all nodes are ended, and
-// what is left behind them: they are read to the end, or until some are ended.
+// what is left after them: they are read to the end, or until some are ended.
 pub(crate) fn read_some<'a, 's>(
     alloc: Global,
     source: &'a str,

@@ -37,7 +37,7 @@ fn cut_off<'a>(from: &'a str, rest: &str) -> &'a str
     from.split_at(from.len() - rest.len()).0
 }
 
-// What is left behind a token that gives the innermost node this closing mark, or none.
+// What is left after a token that gives the innermost node this closing mark, or none.
 fn left_behind<'a>(role: Role<'a, '_>, count: usize, at: &'a str, rest: &'a str) -> &'a str
     requires token { at.now ≡ reading.role_bytes (role_view role) ++ rest.now }
     ensures value { result.now ≡ (if is_some (closing_mark (role_view role.entry) count) then rest.entry.now else at.entry.now) }
@@ -259,7 +259,7 @@ impl<'a, 's> Reader<'a, 's> {
         Ok(taken.after)
     }
 
-    // Takes a token that ends nothing. Answers what is left behind it.
+    // Takes a token that ends nothing. Answers what is left after it.
     pub(crate) fn take(
         &mut self,
         alloc: Global,

@@ -54,7 +54,7 @@ some_text : (s r : List ℕ) → 0 < length s → is_empty (s ++ r) ≡ false
 some_text [] r h = absurd (omega arith)
 some_text (b ∷ s) r h = refl
 
--- a head further on is there behind one text more
+-- a head further on is there after one text more
 has_head-cons : (k : KeyParts) (t : KeyText) (ts : List KeyText) → HasHead k ts → HasHead k (t ∷ ts)
 has_head-cons k t ts (h, (j, lt, is), key, some) = (h, (suc j, omega arith, is), key, some)
 

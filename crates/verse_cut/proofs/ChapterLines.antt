@@ -40,7 +40,7 @@ one_text b bs plain first =
     let is : b ∷ bs ≡ before_first is_backslash (b ∷ bs) = sym whole ∙ ap (before_first is_backslash) (append-nil (b ∷ bs)) in
     tokens_of-text (b ∷ bs) [] (b ∷ bs) (append-nil (b ∷ bs)) (omega arith) first is ∙ ap (λ ts. words (b ∷ bs) ∷ ts) tokens_of-nil
 
--- the text of a chapter line behind its mark
+-- the text of a chapter line after its mark
 abbrev number_text : ℕ → List ℕ
 number_text n = 32 ∷ (decimal n ++ 10 ∷ [])
 

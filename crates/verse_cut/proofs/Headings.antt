@@ -10,7 +10,7 @@ use Rattle.verse_cut.specs.Reading.{behind_bom, begins_blank, id_at, behind_id, 
 use Rattle.verse_cut.specs.declared.fault.BookFault.{BookFault}
 use Rattle.verse_cut.specs.declared.fault.BookFault.TheVariants.{NoId}
 
--- `\id`, a blank, and what stands behind
+-- `\id`, a blank, and what stands after
 record IsId (bytes behind : List ℕ) : Type 0 where
   blank : ℕ
   is_blank : is_blank blank ≡ true
@@ -118,7 +118,7 @@ book_or_bad-ok : (o : Option (List ℕ)) (book : List ℕ) → book_or_bad o ≡
 book_or_bad-ok None book h = absurd (cc)
 book_or_bad-ok (Some b) book h = cc
 
--- what is read behind `\id` has one
+-- what is read after `\id` has one
 never_no_id : (o : Option (List ℕ)) → book_or_bad o ≡ Err NoId → ⊥
 never_no_id None h = absurd (cc)
 never_no_id (Some b) h = absurd (cc)

@@ -34,7 +34,7 @@ rise_from k (t ∷ ts) above rises =
     let r = and_parts (list_all (λ u. key_below t.key u.key) ts) (rises_by key_cmp (λ u. u.key) ts) rises in
     (a.0, rise_from t.key ts r.0 r.1)
 
--- texts behind the head of a book
+-- texts after the head of a book
 pub rise_behind : (head : List ℕ) (ts : List KeyText) → TextsRise (at_book_head head ∷ ts) → Rise book_head ts
 rise_behind head ts h =
     let r = and_parts (list_all (λ u. key_below book_head u.key) ts) (rises_by key_cmp (λ u. u.key) ts) h in
@@ -49,7 +49,7 @@ rise_all k [] r j d lt = absurd (omega arith)
 rise_all k (t ∷ ts) r zero d lt = r.0
 rise_all k (t ∷ ts) r (suc j) d lt = rise_all k ts (rise_weaken k t.key ts r.0 r.1) j d (omega arith)
 
--- ---- texts of keys behind the book head
+-- ---- texts of keys after the book head
 
 abbrev pub FitKeys : List KeyText → Type 0
 FitKeys ts = All (λ t. FitsKey t.key t.text) ts

@@ -70,7 +70,7 @@ head_or_after : (x : Place) → is_lt (place_cmp Head x) ≡ not (same_place x H
 head_or_after Head = refl
 head_or_after (Verse n l) = refl
 
--- every key but the book head itself stands behind it
+-- every key but the book head itself stands after it
 pub above_book_head : (k : KeyParts) → key_below book_head k ≡ not (same_key k book_head)
 above_book_head k =
     key_below-is book_head k ∙ ap (λ e. nat_lt 0 k.chapter || (0 == k.chapter && e)) (head_or_after k.place) ∙ by (same_place k.place Head)
@@ -79,6 +79,6 @@ above_book_head k =
     by true = grind (arith, nat_tests)
     by false = grind (arith, nat_tests)
 
--- a key behind the book head is another one
+-- a key after the book head is another one
 pub not_book_head : (k : KeyParts) → key_below book_head k ≡ true → same_key k book_head ≡ false
 not_book_head k h = not-true (same_key k book_head) (sym (above_book_head k) ∙ h)

@@ -29,13 +29,13 @@ greater_comm None b n = refl
 greater_comm (Some x) None n = refl
 greater_comm (Some x) (Some y) n = omega arith
 
--- with one mark more behind the others
+-- with one mark more after the others
 pub in_force-snoc : (c : ℕ) (before : List Site) (s : Site) → chapter_in_force c (before ++ s ∷ []) ≡ greater_of (chapter_number s) (chapter_in_force c before)
 in_force-snoc c [] s = refl
 in_force-snoc c (b ∷ before) s =
     ap (greater_of (chapter_number b)) (in_force-snoc c before s) ∙ greater_comm (chapter_number b) (chapter_number s) (chapter_in_force c before)
 
--- the chapter in force behind a mark, by its key
+-- the chapter in force after a mark, by its key
 pub number_step : (c : ℕ) (e f g : Bool) (n : Option ℕ) (v : Option VerseMark) → greater_of (cond e None (cond f n None)) c ≡ chapter_after c (cond e None (cond f (option_map chapter_head n) (cond g (option_map (verse_key c) v) None)))
 number_step c true f g n v = refl
 number_step c false true g None v = refl
@@ -85,7 +85,7 @@ and_assoc : (x y z : Bool) → x && (y && z) ≡ (x && y) && z
 and_assoc true y z = refl
 and_assoc false y z = refl
 
--- with one key more behind the others
+-- with one key more after the others
 pub above-snoc : (k : KeyParts) (before : List Keyed) (m : Keyed) → is_above_all k (before ++ m ∷ []) ≡ is_above_all k before && key_below m.key k
 above-snoc k [] m = and_true (key_below m.key k)
 above-snoc k (b ∷ before) m = ap (λ x. key_below b.key k && x) (above-snoc k before m) ∙ and_assoc (key_below b.key k) _ _

@@ -73,7 +73,7 @@ goes_end key text here on none =
           ∙ (λ i. ((append-nil (read_of text here) ∙ all) i, []));
     }
 
--- ---- the text behind a mark with a key
+-- ---- the text after a mark with a key
 
 no_chapter : chapter_in [] ≡ None
 unfolding chapter_in blanks_at
@@ -94,7 +94,7 @@ no_number c q e f g h = by e f g (chapter_in []) no_chapter (verse_in []) no_ver
     by false false true n p None r h = absurd (cc)
     by false false true n p (Some v) r h = absurd (cc)
 
--- a text stands behind a mark with a key
+-- a text stands after a mark with a key
 pub record IsBehindText (ts rest : List Lexeme) : Type 0 where
   pub text : List ℕ
   pub is : ts ≡ words text ∷ rest

@@ -12,7 +12,7 @@ use Rattle.verse_cut.specs.Pieces.{pieces_of}
 abbrev pub byte_order_mark : List ℕ
 byte_order_mark = 239 ∷ 187 ∷ 191 ∷ []
 
--- The text is at most one U+FEFF, `\id`, one blank, and then what stands behind.
+-- The text is at most one U+FEFF, `\id`, one blank, and then what stands after.
 pub record BeginsWithId (text behind : List ℕ) : Type 0 where
   pub marked : Bool
   pub blank : ℕ

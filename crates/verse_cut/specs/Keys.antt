@@ -1,4 +1,4 @@
--- The keys of marks: of USFM 3.0's chapter mark `\c` and verse mark `\v`, by the numbers directly behind them. That nested
+-- The keys of marks: of USFM 3.0's chapter mark `\c` and verse mark `\v`, by the numbers directly after them. That nested
 -- and closing marks have no key, and that a verse stands in the greatest chapter so far, is this project's own rule.
 use Rattle.std.specs.Prelude.{ℕ, Bool, ◌||◌, List, [], ◌∷◌, codes, Option, None, option_map, if◌then◌else◌}
 use Rattle.std.specs.Ordering.{is_lt}

@@ -38,7 +38,7 @@ abbrev pub chapter_in_force : ℕ → List Site → ℕ
 chapter_in_force chapter [] = chapter
 chapter_in_force chapter (s ∷ ss) = greater_of (chapter_number s) (chapter_in_force chapter ss)
 
--- the key of a mark that stands behind others
+-- the key of a mark that stands after others
 abbrev pub key_behind : ℕ → List Site → Site → Option KeyParts
 key_behind chapter before s = mark_key (chapter_in_force chapter before) s.parts s.after
 
@@ -46,7 +46,7 @@ abbrev pub with_key : Option KeyParts → ℕ → List Keyed → List Keyed
 with_key None at ms = ms
 with_key (Some k) at ms = record { key = k; at = at } ∷ ms
 
--- the marks that have a key, of those that stand behind others
+-- the marks that have a key, of those that stand after others
 abbrev pub keyed_behind : ℕ → List Site → List Site → List Keyed
 keyed_behind chapter before [] = []
 keyed_behind chapter before (s ∷ ss) = with_key (key_behind chapter before s) s.at (keyed_behind chapter (before ++ s ∷ []) ss)

@@ -8,6 +8,6 @@ use Rattle.verse_cut.specs.Pieces.{Part}
 abbrev pub holds : ℕ → Part → Bool
 holds at p = nat_le p.start at && nat_lt at (p.start + length p.text)
 
--- the key of the piece that holds a place; behind all of them, the head of the book
+-- the key of the piece that holds a place; after all of them, the head of the book
 abbrev pub key_at : List Part → ℕ → KeyParts
 key_at ps at = option_map_or (λ p. p.key) (find (holds at) ps) book_head

@@ -52,7 +52,7 @@ CutIsRead = (s : List ℕ) → cut_of s ≡ pieces_of s
 
 -- ---- headings
 
--- behind a U+FEFF, if one stands at the front
+-- after a U+FEFF, if one stands at the front
 abbrev pub behind_bom : List ℕ → List ℕ
 behind_bom text = if same_bytes (take 3 text) byte_order_mark then drop 3 text else text
 
@@ -60,11 +60,11 @@ abbrev pub begins_blank : List ℕ → Bool
 begins_blank [] = false
 begins_blank (b ∷ rest) = is_blank b
 
--- behind `\id` and one blank, if they stand at the front
+-- after `\id` and one blank, if they stand at the front
 abbrev pub id_at : List ℕ → Option (List ℕ)
 id_at bytes = if same_bytes (take 3 bytes) (codes "\\id") && begins_blank (drop 3 bytes) then Some (drop 4 bytes) else None
 
--- and behind at most one U+FEFF
+-- and after at most one U+FEFF
 unfoldable pub behind_id : List ℕ → Option (List ℕ)
 behind_id text = id_at (behind_bom text)
 

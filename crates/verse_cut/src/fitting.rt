@@ -14,7 +14,7 @@ use usfm_ref::{Book, Key, Place};
 /// A text fits the head of the book where it is at most one U+FEFF, `\id`, one blank, the book's
 /// code, and then a blank, a backslash or the end, and no mark in it opens a piece. A text fits
 /// every other key where it is empty, or begins with a mark of that key and has no mark of a
-/// greater one behind it, the key's chapter being the greatest at its front.
+/// greater one after it, the key's chapter being the greatest at its front.
 pub fn fits(book: Book, key: Key, text: &str) -> bool
     ensures fits { Decides result (Fits book key text.now) }
     ensures value { result ≡ text_fits book key text.now }

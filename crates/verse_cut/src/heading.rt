@@ -8,12 +8,12 @@ use crate::fault::BookFault;
 use usfm_ref::Book;
 
 /// The book that a text begins with: at most one U+FEFF, `\id`, one blank (space, tab, CR, LF),
-/// the book's code, and then a blank, a backslash or the end. What stands behind is not looked at.
+/// the book's code, and then a blank, a backslash or the end. What stands after is not looked at.
 /// It takes no memory.
 ///
 /// # Errors
 /// `NoId` where the text does not begin with at most one U+FEFF, `\id` and a blank, and else
-/// `BadBook` where no code, and what may follow it, stands behind.
+/// `BadBook` where no code, and what may follow it, stands after.
 pub fn book_of(text: &str) -> Result<Book, BookFault>
     ensures reads { IfOk result (λ book. IsHeaded book text.now) }
     ensures only { (book : List ℕ) → IsTrue (is_book_code book)
@@ -44,7 +44,7 @@ pub(crate) fn is_headed(book: Book, text: &str) -> bool
     }
 }
 
-// What stands behind `\id` and one blank at the front, or behind U+FEFF at the front.
+// What stands after `\id` and one blank at the front, or after U+FEFF at the front.
 #[tactic(auto, unfolding(crate::specs::Reading::behind_id))]
 fn behind_id(text: &[u8]) -> Option<&[u8]>
     ensures { MatchOption result (reading.behind_id text.now ≡ None)

@@ -10,7 +10,7 @@ ghost use Rattle.verse_cut.specs.Walks.{IsFirst, before};
 use usfm_ref::{Key, Place, chapter_after, verse_after};
 use usfm_token::{Token, TokenIter};
 
-// A mark that opens a piece: the text from its front on, its key, and what stands behind the text
+// A mark that opens a piece: the text from its front on, its key, and what stands after the text
 // with its number.
 #[derive(Clone, Copy)]
 pub(crate) struct Opening<'a> {
@@ -20,7 +20,7 @@ pub(crate) struct Opening<'a> {
 }
 
 // The tokens of a text. Each is found once: the next one is kept, since a mark's key is told by the
-// text behind it.
+// text after it.
 #[derive(Drop)]
 pub(crate) struct Walk<'a> {
     here: &'a str,
@@ -58,7 +58,7 @@ impl<'a> Walk<'a> {
         Some(key_of(chapter, token, self.next))
     }
 
-    // Whether the mark at the front has the key. The walk stands behind it.
+    // Whether the mark at the front has the key. The walk stands after it.
     pub(crate) fn leads(&mut self, key: Key) -> bool
         ensures { leads key (tokens_of self.old.here.now)
             ≡ (result && is_quiet key (tokens_of self.new.here.now)) }

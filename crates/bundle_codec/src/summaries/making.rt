@@ -35,7 +35,7 @@ pub(crate) fn held_ranges(
 }
 
 // Adds the numbers of a run, which begins with an id and goes on with the operations, and answers the
-// operation behind it.
+// operation after it.
 fn hold_run<'a>(
     alloc: Global,
     held: &mut BTreeMap<ReplicaName, Vec<NumberRange>>,

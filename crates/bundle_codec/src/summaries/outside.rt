@@ -13,7 +13,7 @@ use std::alloc::{AllocError, Global};
 /// and written one by one; no second set is made.
 ///
 /// # Errors
-/// Want of memory alone.
+/// Out of memory alone.
 pub fn encode_outside(alloc: Global, set: &OpSet, summary: &Summary) -> Result<Vec<u8>, AllocError>
     ensures spelled { IfOk result (λ bytes.
         bytes.items ≡ spelled.bundle (outside summary.now set.now)) }

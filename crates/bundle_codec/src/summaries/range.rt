@@ -28,7 +28,7 @@ pub(crate) fn begins_after(before: Option<u64>, first: u64) -> bool
 }
 
 // The place of the range in which the number lies, if there is one. The range at `near` is looked at
-// first, and the one behind it; then they are searched by halves.
+// first, and the one after it; then they are searched by halves.
 pub(crate) fn find_range(ranges: &[NumberRange], number: u64, near: usize) -> Option<usize>
     requires each { IsTrue (list_all is_range ranges.now) }
     requires apart { IsTrue (are_apart ranges.now) }
@@ -50,7 +50,7 @@ pub(crate) fn find_range(ranges: &[NumberRange], number: u64, near: usize) -> Op
     None
 }
 
-// Where a search looks next, from `low` to below `high`: at a place, at the one behind it, and then
+// Where a search looks next, from `low` to below `high`: at a place, at the one after it, and then
 // halfway.
 pub(crate) fn look(low: usize, high: usize, near: usize) -> usize
     requires { low < high }

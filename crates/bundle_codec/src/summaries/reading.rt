@@ -1,5 +1,5 @@
 // Reading a summary in one walk. Where a growth is refused the walk goes on without keeping anything,
-// since a fault that comes later is told before want of memory.
+// since a fault that comes later is answered before out of memory.
 ghost use Rattle.std.specs.Prelude.{◌≡◌, ◌++◌, ◌∷◌, [], Ok, IfOk, IfSome};
 ghost use Rattle.std.specs.Option.{IsSomeAnd, option_copied};
 ghost use Rattle.bundle_codec.specs.Reading.{Gives, exactly_at, after};
@@ -22,7 +22,7 @@ fn after_magic(bytes: &[u8]) -> Result<&[u8], BundleFault>
     exactly_of(&MAGIC, BundleFault::Truncated, bytes)
 }
 
-// The range at the front, behind one that ends with `before`.
+// The range at the front, after one that ends with `before`.
 #[tactic(auto, unfolding(crate::specs::SummaryReading::range_at))]
 fn range_of(before: Option<u64>, bytes: &[u8]) -> Result<(NumberRange, &[u8]), BundleFault>
     ensures { Gives (λ x. (x.0, x.1.now)) result (reading.range_at before bytes.now) }
@@ -36,7 +36,7 @@ fn range_of(before: Option<u64>, bytes: &[u8]) -> Result<(NumberRange, &[u8]), B
     Ok((range, rest))
 }
 
-// The ranges with one more behind them, if they were kept and a growth is not refused.
+// The ranges with one more after them, if they were kept and a growth is not refused.
 fn with_range(kept: Option<Vec<NumberRange>>, range: NumberRange) -> Option<Vec<NumberRange>>
     ensures { IfSome result (λ new. IsSomeAnd kept (λ old. new.items ≡ old.items ++ range ∷ [])) }
 {
@@ -66,7 +66,7 @@ fn ranges_of(
     Ok((kept, rest))
 }
 
-// The name at the front, behind the one before it.
+// The name at the front, after the one before it.
 #[tactic(auto, unfolding(crate::specs::SummaryReading::name_at))]
 fn name_of<'a>(before: Option<&[u8]>, bytes: &'a [u8]) -> Result<(&'a [u8], &'a [u8]), BundleFault>
     ensures { Gives (λ x. (x.0.now, x.1.now)) result
@@ -117,7 +117,7 @@ fn known_of<'a>(
     Ok((name, known, rest))
 }
 
-// The names with one more behind them, if both were kept and a growth is not refused.
+// The names with one more after them, if both were kept and a growth is not refused.
 fn with_known(kept: Option<Vec<NameRanges>>, known: Option<NameRanges>) -> Option<Vec<NameRanges>>
     ensures { IfSome result (λ new.
         IsSomeAnd kept (λ old. IsSomeAnd known (λ k. new.items ≡ old.items ++ k ∷ []))) }

@@ -114,7 +114,7 @@ const CHANGES: &[(usize, &[u8])] = &[
     (8, &[0xff]),
     // a name with an upper-case letter
     (17, b"A"),
-    // no range, and yet two behind that count
+    // no range, and yet two after that count
     (27, &[0]),
     // a first number of 0
     (35, &[0]),
@@ -136,7 +136,7 @@ fn no_summary(rt: HostRuntime) -> Result<(), Fail> {
         let bytes = changed(alloc, S1, *at, with)?;
         assert!(rt; is_bad(alloc, &bytes), "{at}");
     }
-    // A name without a range, and nothing behind it.
+    // A name without a range, and nothing after it.
     let bare = changed(alloc, &S1[..28], 27, &[0])?;
     assert!(rt; is_bad(alloc, &bare));
     // 10^15 itself is a last number.
@@ -145,7 +145,7 @@ fn no_summary(rt: HostRuntime) -> Result<(), Fail> {
     Ok(())
 }
 
-// Names that do not rise by their bytes: one twice, a longer one that is less, and `-` behind `0`.
+// Names that do not rise by their bytes: one twice, a longer one that is less, and `-` after `0`.
 const NOT_RISING: &[&[&str]] = &[&["a", "a"], &["b", "aa"], &["a0", "a-"]];
 
 #[test]

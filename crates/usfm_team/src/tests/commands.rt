@@ -280,7 +280,7 @@ const BRIDGE_AND_VERSE: &[Row<'static>] = &[
     ),
 ];
 
-// Each refusal of each command, with a greater one behind it where both hold.
+// Each refusal of each command, with a greater one after it where both hold.
 const REFUSALS: &[Row<'static>] = &[
     (Ana, Receive(B1), b"new 2\n"),
     (Ana, Import(b"a\xff"), b"fault 10 1\n"),

@@ -28,7 +28,7 @@ const SUMMARIES: &[Row<'static>] = &[
         Summary,
         b"USFMSS1\n\0\0\0\0\0\0\0\x01\x03ana\0\0\0\0\0\0\0\x01\0\0\0\0\0\0\0\x04\0\0\0\0\0\0\0\x04",
     ),
-    // The last range from 4 on, or gone, or something behind the end.
+    // The last range from 4 on, or gone, or something after the end.
     (
         Ana,
         Delta(

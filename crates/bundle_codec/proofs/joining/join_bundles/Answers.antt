@@ -9,7 +9,7 @@ use Rattle.bundle_codec.specs.Joining.{of_both, union_or_clash}
 use Rattle.bundle_codec.proofs.Wholes.{has_front, counted}
 use Rattle.bundle_codec.proofs.joining.join_bundles.Goals as goal
 
--- the front, and the operations of the union behind it
+-- the front, and the operations of the union after it
 written : (xs ys a b : List Operation) (empty front bytes : List ℕ) → xs ≡ a → ys ≡ b → empty ≡ []
     → front ≡ empty ++ (magic ++ to_be_bytes w64 0) → bytes ≡ front ++ flat_map operation (join xs ys)
     → bytes ≡ (magic ++ to_be_bytes w64 0) ++ flat_map operation (join a b)

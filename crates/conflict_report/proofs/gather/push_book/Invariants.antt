@@ -5,7 +5,7 @@ use Rattle.conflict_report.specs.Parts.{bytes_of}
 use Rattle.conflict_report.specs.Reports.{conflict_at, conflicts_in}
 use Rattle.conflict_report.proofs.gather.push_book.Given as goal
 
--- the parts so far, and what is told of the keys that are left
+-- the parts so far, and what is reported of the keys that are left
 abbrev pub invariant-loop-key : goal.invariant-loop-key
 invariant-loop-key l =
     bytes_of l.parts.items ++ flat_map (λ key. conflict_at l.replica.held (segment l.book key)) l.key-iterator

@@ -4,7 +4,7 @@ use Rattle.op_core.specs.Shown.{shown}
 use Rattle.conflict_report.proofs.Latest.{IsWalked, now_of}
 use Rattle.conflict_report.proofs.texts.distinct_texts.Given as goal
 
--- the operations behind those that are left are told
+-- the operations after those that are left are reported
 abbrev pub invariant-falling : goal.invariant-falling
 invariant-falling l = IsWalked (shown l.replica.held (segment l.fn.book l.fn.key)) (now_of l.shown.items) (now_of l.distinct.items)
 

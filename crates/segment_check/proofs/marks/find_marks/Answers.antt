@@ -7,7 +7,7 @@ use Rattle.segment_check.proofs.WalkLemmas.{next_place, still_within, ahead_is, 
 use Rattle.segment_check.proofs.marks.find_marks.Goals as goal
 use Rattle.segment_check.proofs.marks.find_marks.Goals.{After-next-next-in-Some}
 
--- the token in front, and what is left behind it
+-- the token in front, and what is left after it
 front : (c : After-next-next-in-Some) → tokens_of c.loop-next.at.now ≡ lexeme c.in-Some.token ∷ tokens_of c.rest-at.result.now
 front c =
     c.loop-next.invariant.ahead ∙ ap (λ o. before o (tokens_of (rest_of c.loop-next.tokens))) c.in-Some.is

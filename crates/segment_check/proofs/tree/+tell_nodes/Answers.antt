@@ -17,7 +17,7 @@ inner c around =
     inner_told (records_of c.args.sheet.now) around c.kind_of-kind.result (mark_parts c.in-Some.mark) c.is_some-is_closed.result
     (kids_of (view c.node-item.result))
 
--- what is told within the node is put behind what is told of its mark
+-- what is reported within the node is put after what is reported of its mark
 within : {t : _} (c : Joined-kind t) (around : List Around) → inside_view c.args.inside ≡ surroundings_of around
     → c.match-kind.told.items ≡ c.push.new.self.items ++ inner c around
 within c around same = elim c.match-kind.branch [

@@ -34,7 +34,7 @@ loop-token-init c =
           (left_of n (c.new-tokens.ensures i));
     }
 
--- the token in front, and what is left behind it
+-- the token in front, and what is left after it
 here : (c : In_ok-unwind) → (left_of (length c.args.source.now) (rest_of c.loop-token.tokens) ≡ record { start = length c.args.source.now - length (rest_of c.loop-token.tokens); token = lexeme c.in-Some.token } ∷ left_of (length c.args.source.now) (rest_of c.next.new.self)) × (length (rest_of c.next.new.self) ≤ length c.args.source.now)
 here c = left_front (length c.args.source.now) (rest_of c.loop-token.tokens) (rest_of c.next.new.self) (lexeme c.in-Some.token) c.in-Some.ensures.steps c.loop-token.invariant.within
 

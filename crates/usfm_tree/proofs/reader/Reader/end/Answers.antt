@@ -10,7 +10,7 @@ use Rattle.usfm_tree.proofs.ReaderLemmas.{ends_by_pop, branch_parts_made, forest
 use Rattle.usfm_tree.proofs.reader.Reader.end.Goals as goal
 use Rattle.usfm_tree.proofs.reader.Reader.end.Goals.{In-Some, After-node_of, In_ok-push}
 
--- the innermost open node, and what stands behind it
+-- the innermost open node, and what stands after it
 opened : (c : In-Some) → Adjoins (span_of c.in-Some.open ∷ reverse (map span_of c.pop.new.self.items)) (forest_of c.args.self.now.kids.items) (close_bytes (option_map mark_parts c.args.close) ++ c.args.rest.now)
 opened c = adjoins_pop c.args.self.now.open_nodes.items c.pop.new.self.items c.in-Some.open (forest_of c.args.self.now.kids.items) _ c.in-Some.ensures.items c.requires.adjoins
 
