@@ -15,7 +15,7 @@ pub(crate) const PROJECT: (&str, &str) = ("PROJECT", "The project's file");
 
 pub(crate) const REF: (&str, &str) = (
     "REF",
-    "A segment, as one word: \"MAT 1:1\" a verse, \"MAT 1\" the head of a chapter, \"MAT 0\" the head of the book",
+    "\"MAT 1:1\" a verse, \"MAT 1\" a chapter's head, \"MAT 0\" the book's head",
 );
 
 pub(crate) const BOOK: (&str, &str) = (
@@ -68,9 +68,10 @@ Begin with:
   usfm_team init ana.project ana
   usfm_team import ana.project matthew.usfm
 
-What is refused is told on standard error in one line, `fault NUMBER ..`, with status 1; the
-help of a subcommand lists its faults. A line that is no use of the program is told with status 2.
-A project is written to PROJECT.new and renamed; where PROJECT is a link, so is the file that it leads
+A command that is refused writes one line to standard error,
+`fault NUMBER ..`, and exits with status 1; the help of a subcommand lists its
+faults. A wrong command line exits with status 2. A project is written to
+PROJECT.new and renamed; where PROJECT is a link, so is the file that it leads
 to. One of more than 268,435,456 bytes is written, and cannot be read again.";
 
 // A subcommand with its words, each of them required.
@@ -91,7 +92,7 @@ pub(crate) fn command<'a>(
 fn init<'a>(alloc: Global) -> Result<Command<'a>, AllocError> {
     let name = (
         "NAME",
-        "Your name in the project, which no one else has: 1 to 32 of a to z, 0 to 9 and -",
+        "A name that no other copy has: 1 to 32 of a to z, 0 to 9 and -",
     );
     command(alloc, "init", "Begins a project", INIT, &[PROJECT, name])
 }
@@ -102,7 +103,7 @@ Example: usfm_team init ana.project ana
 Faults:
   fault 1      out of memory
   fault 50     NAME is no replica's name
-  fault 130    something stands under the name PROJECT, or the file was not written";
+  fault 130    PROJECT is there already, or was not written";
 
 fn import<'a>(alloc: Global) -> Result<Command<'a>, AllocError> {
     let file = (
@@ -112,7 +113,7 @@ fn import<'a>(alloc: Global) -> Result<Command<'a>, AllocError> {
     command(
         alloc,
         "import",
-        "Takes in a book's file, by the edits that make it the book's export",
+        "Takes in a book's file by the edits that make it the book's export",
         IMPORT,
         &[PROJECT, file],
     )
@@ -126,26 +127,27 @@ Example: usfm_team import ana.project matthew.usfm
 Faults:
   fault 1                  out of memory
   fault 10 BYTES           FILE is not UTF-8 after so many bytes
-  fault 20, fault 30       FILE does not begin with \\id, a blank and a book's code
+  fault 20, fault 30       FILE does not begin with \\id and a book's code
   fault 60 to 70, 110      PROJECT is no project
   fault 81                 no number is left for the edits
-  fault 90 BYTES           writing to standard output failed; the project is changed
-  fault 120, fault 121     a file was not read, or has more than 268,435,456 bytes
+  fault 90 BYTES           writing the output failed; the project is changed
+  fault 120, fault 121     a file was not read, or is over 268,435,456 bytes
   fault 130                the project was not written";
 
 fn edit<'a>(alloc: Global) -> Result<Command<'a>, AllocError> {
     command(
         alloc,
         "edit",
-        "Gives a segment the text of standard input, in the place of all that it shows",
+        "Replaces all that a segment shows by the text of standard input",
         EDIT,
         &[PROJECT, REF],
     )
 }
 
 const EDIT: &str = "\
-The text is the whole segment, with its mark: `\\v 1 In the beginning` for a verse 1. The empty text takes
-the segment out of its book. Writes `made NUMBER NAME`, the edit's id.
+The text is the whole segment, with its mark: `\\v 1 In the beginning` for a
+verse 1. The empty text takes the segment out of its book. Writes
+`made NUMBER NAME`, the edit's id.
 
 Example: printf '\\\\v 1 At\\n' | usfm_team edit ana.project 'MAT 1:1'
 
@@ -154,21 +156,21 @@ Faults:
   fault 10 BYTES           the text is not UTF-8 after so many bytes
   fault 20, fault 21       REF is no segment
   fault 60 to 70, 110      PROJECT is no project
-  fault 80                 the text does not fit REF: another mark, or a later verse or chapter in it
+  fault 80                 the text begins with another mark, or has a later one
   fault 81                 no number is left for the edit
-  fault 82                 the project has no such book; import it, or give the head `MAT 0` its text first
-  fault 90 BYTES           writing to standard output failed; the project is changed
-  fault 120, fault 121     a file was not read, or has more than 268,435,456 bytes
+  fault 82                 no such book yet: import it, or edit its head `MAT 0`
+  fault 90 BYTES           writing the output failed; the project is changed
+  fault 120, fault 121     a file was not read, or is over 268,435,456 bytes
   fault 130                the project was not written";
 
 fn edit_over<'a>(alloc: Global) -> Result<Command<'a>, AllocError> {
     let ids = Arg::new(alloc, "ID").num_args(0..).help(
-        "The operations to replace, as `shown` tells them: 3:ana for `op 3 ana`",
+        "The operations to replace: 3:ana for `op 3 ana` of `shown`",
     );
     command(
         alloc,
         "edit-over",
-        "Gives a segment the text of standard input, in the place of given operations alone",
+        "Replaces the given operations by the text of standard input",
         EDIT_OVER,
         &[PROJECT, REF],
     )?
@@ -176,9 +178,11 @@ fn edit_over<'a>(alloc: Global) -> Result<Command<'a>, AllocError> {
 }
 
 const EDIT_OVER: &str = "\
-What it does not name stays shown beside the new text; with no ID it replaces nothing.
+What it does not name stays shown beside the new text; with no ID it replaces
+nothing.
 
-Example: printf '\\\\v 1 As\\n' | usfm_team edit-over ana.project 'MAT 1:1' 3:ana 3:ben
+Example:
+  printf '\\\\v 1 As\\n' | usfm_team edit-over ana.project 'MAT 1:1' 3:ana 3:ben
 
 Faults: those of `edit`, and
   fault 52                 ID is no operation's id
@@ -202,9 +206,9 @@ Example: usfm_team receive ana.project ben.bundle
 
 Faults:
   fault 1                  out of memory
-  fault 51 NUMBER NAME     the project and the bundle have two operations that differ under this id
+  fault 51 NUMBER NAME     two operations that differ have this id
   fault 60 to 70           BUNDLE is no bundle, or PROJECT is no project
-  fault 90 BYTES           writing to standard output failed; the project is changed
+  fault 90 BYTES           writing the output failed; the project is changed
   fault 110                PROJECT is no project
-  fault 120, fault 121     a file was not read, or has more than 268,435,456 bytes
+  fault 120, fault 121     a file was not read, or is over 268,435,456 bytes
   fault 130                the project was not written";

@@ -55,7 +55,7 @@ fn write_new(rt: &HostRuntime, path: &str, bytes: &[u8]) -> Result<(), Fault> {
     sink.into_inner().sync_all().map_err(|_| Fault::FileFailed)
 }
 
-// What an error of following a link is told as. The name that it leads to takes memory.
+// The fault of an error of following a link. The name that it leads to takes memory.
 fn link_fault(error: io::Error) -> Fault {
     if error.kind() == ErrorKind::OutOfMemory {
         Fault::Memory

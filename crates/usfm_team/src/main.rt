@@ -169,13 +169,13 @@ fn tell_help(rt: &HostRuntime, text: &[u8]) -> ExitCode {
     }
 }
 
-// Tells on standard error why the words are no line of the program.
+// Writes to standard error why the words are no command line of the program.
 fn tell_usage(rt: &HostRuntime, text: &str) -> ExitCode {
     let _ = rt.stderr().write_all(text.as_bytes());
     ExitCode::from(USAGE)
 }
 
-// Tells a fault on standard error. Where that fails, the status alone tells of it.
+// Writes a fault to standard error. Where that fails, the status alone shows it.
 fn refuse(rt: &HostRuntime, fault: &Fault) -> ExitCode {
     let line = fault_line(fault);
     let _ = rt.stderr().write_all(line.bytes());

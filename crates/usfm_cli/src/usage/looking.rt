@@ -7,15 +7,15 @@ pub(crate) fn shown<'a>(alloc: Global) -> Result<Command<'a>, AllocError> {
     command(
         alloc,
         "shown",
-        "Tells what a segment shows: each text that no other one replaces",
+        "Shows a segment: each text that no other one replaces",
         SHOWN,
         &[PROJECT, REF],
     )
 }
 
 const SHOWN: &str = "\
-For each operation a line `op NUMBER NAME LENGTH`, the text of so many bytes, and a line feed. The last
-one is the text that the book has.
+For each operation a line `op NUMBER NAME LENGTH`, the text of so many bytes,
+and a line feed. The last one is the text that the book has.
 
 Example: usfm_team shown ana.project 'MAT 1:1'
 
@@ -24,7 +24,7 @@ Faults:
   fault 20, fault 21       REF is no segment
   fault 60 to 70, 110      PROJECT is no project
   fault 90 BYTES           writing failed after so many bytes
-  fault 120, fault 121     the file was not read, or has more than 268,435,456 bytes";
+  fault 120, fault 121     the file was not read, or is over 268,435,456 bytes";
 
 pub(crate) fn send<'a>(alloc: Global) -> Result<Command<'a>, AllocError> {
     command(
@@ -43,7 +43,7 @@ Faults:
   fault 1                  out of memory
   fault 60 to 70, 110      PROJECT is no project
   fault 90 BYTES           writing failed after so many bytes
-  fault 120, fault 121     the file was not read, or has more than 268,435,456 bytes";
+  fault 120, fault 121     the file was not read, or is over 268,435,456 bytes";
 
 pub(crate) fn export<'a>(alloc: Global) -> Result<Command<'a>, AllocError> {
     command(
@@ -66,7 +66,7 @@ Faults:
   fault 60 to 70, 110      PROJECT is no project
   fault 82                 the project has no operation of the book
   fault 90 BYTES           writing failed after so many bytes
-  fault 120, fault 121     the file was not read, or has more than 268,435,456 bytes";
+  fault 120, fault 121     the file was not read, or is over 268,435,456 bytes";
 
 pub(crate) fn summary<'a>(alloc: Global) -> Result<Command<'a>, AllocError> {
     command(
@@ -87,7 +87,7 @@ Faults:
   fault 1                  out of memory
   fault 60 to 70, 110      PROJECT is no project
   fault 90 BYTES           writing failed after so many bytes
-  fault 120, fault 121     the file was not read, or has more than 268,435,456 bytes";
+  fault 120, fault 121     the file was not read, or is over 268,435,456 bytes";
 
 pub(crate) fn delta<'a>(alloc: Global) -> Result<Command<'a>, AllocError> {
     let summary = (
@@ -104,8 +104,8 @@ pub(crate) fn delta<'a>(alloc: Global) -> Result<Command<'a>, AllocError> {
 }
 
 const DELTA: &str = "\
-The bundle has the operations that the summary does not cover. The other project takes it in with
-`receive`, and then has all that this one has.
+The bundle has the operations that the summary does not cover. The other
+project takes it in with `receive`, and then has all that this one has.
 
 Example: usfm_team delta ana.project ben.summary > ana.bundle
 
@@ -114,7 +114,7 @@ Faults:
   fault 60 to 70, 110      PROJECT is no project
   fault 71                 SUMMARY is no summary
   fault 90 BYTES           writing failed after so many bytes
-  fault 120, fault 121     a file was not read, or has more than 268,435,456 bytes";
+  fault 120, fault 121     a file was not read, or is over 268,435,456 bytes";
 
 pub(crate) fn check<'a>(alloc: Global) -> Result<Command<'a>, AllocError> {
     command(
@@ -127,9 +127,10 @@ pub(crate) fn check<'a>(alloc: Global) -> Result<Command<'a>, AllocError> {
 }
 
 const CHECK: &str = "\
-Writes a line `REF CODE START` for each finding: its segment, what is found, and at which byte of the
-export. The codes: unknown-marker, stray-close, unclosed-char, unclosed-note, too-deep, bad-number,
-bad-bridge, not-rising, overlap, not-under.
+Writes a line `REF CODE START` for each finding: its segment, what is found,
+and at which byte of the export. The codes: unknown-marker, stray-close,
+unclosed-char, unclosed-note, too-deep, bad-number, bad-bridge, not-rising,
+overlap, not-under.
 
 Example: usfm_team check ana.project MAT samples/small.sty
 
@@ -143,7 +144,7 @@ Faults:
   fault 60 to 70, 110      PROJECT is no project
   fault 82                 the project has no operation of the book
   fault 90 BYTES           writing failed after so many bytes
-  fault 120, fault 121     a file was not read, or has more than 268,435,456 bytes";
+  fault 120, fault 121     a file was not read, or is over 268,435,456 bytes";
 
 pub(crate) fn find<'a>(alloc: Global) -> Result<Command<'a>, AllocError> {
     let needle = ("NEEDLE", "What is looked for, byte for byte");
@@ -157,8 +158,9 @@ pub(crate) fn find<'a>(alloc: Global) -> Result<Command<'a>, AllocError> {
 }
 
 const FIND: &str = "\
-Looks in the text of paragraphs whose style has the text of verses, outside notes, attributes and
-verse numbers. Writes a line `REF START` for each hit: its segment, and at which byte of the export.
+Looks in the text of paragraphs whose style has the text of verses, outside
+notes, attributes and verse numbers. Writes a line `REF START` for each hit:
+its segment, and at which byte of the export.
 
 Example: usfm_team find ana.project MAT samples/small.sty beginning
 
@@ -176,8 +178,8 @@ pub(crate) fn words<'a>(alloc: Global) -> Result<Command<'a>, AllocError> {
 }
 
 const WORDS: &str = "\
-Writes a line for each word: the word in Unicode's Normalization Form C, and after it the segments where
-it stands, each after a space.
+Writes a line for each word: the word in Unicode's Normalization Form C, and
+after it the segments where it stands, each after a space.
 
 Example: usfm_team words ana.project MAT samples/small.sty
 
@@ -187,16 +189,18 @@ pub(crate) fn report<'a>(alloc: Global) -> Result<Command<'a>, AllocError> {
     command(
         alloc,
         "report",
-        "Tells the segments that show several texts, and the operations that are awaited",
+        "Reports conflicts, and the operations that are awaited",
         REPORT,
         &[PROJECT],
     )
 }
 
 const REPORT: &str = "\
-For each such segment a line `conflict REF COUNT`; then for each of its texts, the one that the book has
-first, a line `text NUMBER NAME LENGTH`, the text of so many bytes, and a line feed. Then a line
-`awaited NUMBER NAME` for each operation that another one replaces and that has not come yet.
+For each segment that shows several texts a line `conflict REF COUNT`; then for
+each of its texts, the one that the book has first, a line
+`text NUMBER NAME LENGTH`, the text of so many bytes, and a line feed. Then a
+line `awaited NUMBER NAME` for each operation that another one replaces and
+that has not come yet.
 
 Example: usfm_team report ana.project
 
@@ -204,7 +208,7 @@ Faults:
   fault 1                  out of memory
   fault 60 to 70, 110      PROJECT is no project
   fault 90 BYTES           writing failed after so many bytes
-  fault 120, fault 121     the file was not read, or has more than 268,435,456 bytes";
+  fault 120, fault 121     the file was not read, or is over 268,435,456 bytes";
 
 pub(crate) fn fold<'a>(alloc: Global) -> Result<Command<'a>, AllocError> {
     command(
@@ -217,7 +221,8 @@ pub(crate) fn fold<'a>(alloc: Global) -> Result<Command<'a>, AllocError> {
 }
 
 const FOLD: &str = "\
-Bundles stand one after another; their order and how often each stands make no difference.
+Bundles stand one after another; their order and how often each stands make no
+difference.
 
 Example: usfm_team fold MAT < first.bundle
 
@@ -227,7 +232,7 @@ Faults:
   fault 51 NUMBER NAME   two operations that differ have this id
   fault 60               a bundle does not begin as a bundle does
   fault 61               a bundle is cut
-  fault 62 to 68 PLACE   the operation at this place of its bundle is not well formed
+  fault 62 to 68 PLACE   the operation at this place is not well formed
   fault 82               no operation is of the book
   fault 90 BYTES         writing failed after so many bytes
   fault 120              reading failed
