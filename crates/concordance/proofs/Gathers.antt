@@ -118,7 +118,7 @@ none_left : (ns : List Node) → length ns ≡ 0 → is_nothing (forest_of ns) �
 none_left [] h = refl
 none_left (n ∷ ns) h = absurd (omega arith)
 
-some_left : (ns : List Node) → 0 < length ns → is_nothing (forest_of ns) ≡ false
+pub some_left : (ns : List Node) → 0 < length ns → is_nothing (forest_of ns) ≡ false
 some_left [] h = absurd (omega arith)
 some_left (n ∷ ns) h = view_filled n (forest_of ns)
 

@@ -1,6 +1,7 @@
 pub mod Bars
 pub mod Gathers
 pub mod Sites
+pub mod NodesAhead
 pub mod Standing
 pub mod KeyedLemmas
 pub mod Occurring

@@ -1,15 +1,14 @@
 -- The order of spellings: it is total, and tells apart what differs.
-use Rattle.std.proofs.Common.{◌≡◌, ℕ, ◌&&◌, List, refl, sym, ◌∙◌}
+use Rattle.std.proofs.Common.{◌≡◌, ℕ, List, refl}
 use Rattle.std.specs.declared.cmp.Ordering.{Ordering}
 use Rattle.std.specs.declared.cmp.Ordering.TheVariants.{Less, Equal, Greater}
-use Rattle.std.specs.Ordering.{ordering_then, is_eq}
+use Rattle.std.specs.Ordering.{ordering_then}
 use Rattle.std.specs.Cmp.{IsTotalOrder}
-use Rattle.std.specs.Cmp.Lexicographic.{nat_list_cmp_total, texts_ties}
+use Rattle.std.specs.Cmp.Lexicographic.{nat_list_cmp_total}
 use Rattle.std.specs.FinMap.{slice_cmp-IsAntisymmetric, nat_cmp-IsAntisymmetric}
-use Rattle.std.specs.Str.{bytes_eq}
 use Rattle.std.proofs.lemmas.Cmp.{on_total, then_total}
-use Rattle.usfm_ref.specs.Keys.{key_cmp, same_key}
-use Rattle.usfm_ref.proofs.Orders.{key_total, key_exact, same_key-cmp}
+use Rattle.usfm_ref.specs.Keys.{key_cmp}
+use Rattle.usfm_ref.proofs.Orders.{key_total, key_exact}
 use Rattle.concordance.specs.Words.{Spelling, form_cmp}
 use Rattle.concordance.specs.SpellingOrder.{spelling_cmp}
 

@@ -21,7 +21,7 @@ use std::alloc::{AllocError, Global};
 use sty_sheet::{Sheet, StyleKind};
 use usfm_ref::verse_after;
 use usfm_token::Mark;
-use usfm_tree::{Node, Tree};
+use usfm_tree::{Node, TreeReader};
 
 // What the nodes around a text say of it: one of them has the text of verses, one is a note or a
 // milestone, and the innermost is a character node with its closing mark.
@@ -205,7 +205,7 @@ impl<'a> Gathering<'a> {
     }
 }
 
-// The plain leaves of a text, in order.
+// The plain leaves of a text, in order. No more of the tree is kept than a node under the root.
 pub(crate) fn plain_leaves<'a>(
     alloc: Global,
     text: &'a str,
@@ -214,7 +214,6 @@ pub(crate) fn plain_leaves<'a>(
     ensures { IfOk result (λ leaves.
         passages_view leaves.items ≡ plain.plain_leaves (records_of sheet.now) text.now) }
 {
-    let tree = Tree::read(alloc, text, sheet)?;
     let mut gathering = Gathering {
         leaves: Vec::new(alloc),
         behind: None,
@@ -224,7 +223,14 @@ pub(crate) fn plain_leaves<'a>(
         in_aside: false,
         in_closed: false,
     };
-    gathering.take_nodes(sheet, root, tree.kids())?;
+    let mut reader = TreeReader::new(alloc, text, sheet);
+    loop {
+        let nodes = reader.next_nodes()?;
+        if nodes.is_empty() {
+            break;
+        }
+        gathering.take_nodes(sheet, root, nodes.as_slice())?;
+    }
     let Gathering { leaves, behind: _ } = gathering;
     Ok(leaves)
 }

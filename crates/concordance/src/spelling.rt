@@ -52,7 +52,7 @@ pub(crate) fn spellings<'a>(
     ensures { IfOk result (λ spellings.
         spellings_view spellings.items ≡ map spelled (hits_left runs.entry)) }
 {
-    let mut spellings = Vec::new(alloc);
+    let mut spellings = Vec::with_capacity(alloc, runs.passages.len())?;
     for run in runs {
         let form = Form::of(alloc, run.text)?;
         let key = run.key;
