@@ -1,7 +1,7 @@
 -- What a search of a book by a sheet gives, once the sheet was read and the book has an operation.
 use Rattle.std.proofs.Common.{◌≡◌, ◌≢◌, ℕ, true, false, List, [], ◌∷◌, Result, Ok, Err, IsUtf8, refl, sym, ap, subst, ◌∙◌}
 use Rattle.std.specs.Str.{is_utf8}
-use Rattle.std.proofs.lemmas.Bool.{cond-true, false≢true}
+use Rattle.std.proofs.lemmas.Bool.{cond-true, cond-false, false≢true}
 use Rattle.std.proofs.lemmas.Str.{is_utf8-from_IsUtf8}
 use Rattle.sty_sheet.specs.Records.{Record}
 use Rattle.sty_sheet.specs.Sheets.{sheet_of}
@@ -10,8 +10,11 @@ use Rattle.op_core.specs.Export.{has_book, export}
 use Rattle.concordance.specs.Hits.{hits_of}
 use Rattle.concordance.specs.declared.fault.FindFault.{FindFault}
 use Rattle.concordance.specs.declared.fault.FindFault.TheVariants as finding
+use Rattle.usfm_export.specs.Books.{AnswersText}
+use Rattle.usfm_export.specs.declared.fault.TextFault.{TextFault}
+use Rattle.usfm_export.specs.declared.fault.TextFault.TheVariants as giving
 use Rattle.usfm_cli.specs.Commands.{MayWantMemory, Gives}
-use Rattle.usfm_cli.specs.Faults.{of_find}
+use Rattle.usfm_cli.specs.Faults.{of_find, of_book_text as fault_of_text}
 use Rattle.usfm_cli.specs.Looking.{by_records, of_book_text, hit_lines, unless_empty, searched, is_after_sheet}
 use Rattle.usfm_cli.specs.declared.fault.Fault.{Fault}
 
@@ -36,3 +39,15 @@ search_is_late (b ∷ needle) found = tt
 pub search_refused : (A : Type 0) (needle found : List ℕ) (wanted : Result (List ℕ) Fault) (fault : FindFault) → wanted ≡ unless_empty needle (Ok found) → (fault ≡ finding.EmptyNeedle → needle ≡ []) → Gives {A = A} is_after_sheet wanted (Err (of_find fault))
 search_refused A needle found wanted finding.Memory e h = subst (MayWantMemory is_after_sheet) (sym e) (search_is_late needle found)
 search_refused A needle found wanted finding.EmptyNeedle e h = e ∙ ap (λ (n : List ℕ). unless_empty n (Ok found)) (h refl)
+
+-- a book without an operation is refused, and memory may be wanted of one that has some
+pub search_without_text : (A B : Type 0) (held : List Operation) (book sheet needle : List ℕ) (records : List Record)
+    (fault : TextFault) → is_utf8 sheet ≡ true → sheet_of sheet ≡ Ok records → AnswersText {A = A} held book (Err fault)
+    → Gives {A = B} is_after_sheet (searched held book sheet needle) (Err (fault_of_text fault))
+search_without_text A B held book sheet needle records giving.NoBook is read has =
+    let lines = λ (r : List Record) (text : List ℕ). hit_lines book (hits_of r text needle) in
+    let found = λ (r : List Record). of_book_text held book (λ text. unless_empty needle (Ok (lines r text))) in
+    cond-true _ _ _ is ∙ ap (λ r. by_records r found) read ∙ cond-false _ _ _ has
+search_without_text A B held book sheet needle records giving.Memory is read has =
+    let due = searched_is held book sheet needle records is read has in
+    subst (MayWantMemory is_after_sheet) (sym due) (search_is_late needle _)

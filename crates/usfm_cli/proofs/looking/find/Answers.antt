@@ -1,4 +1,5 @@
-use Rattle.std.proofs.Common.{Global, List, Ok, Err, sym, ap, subst, ◌∙◌}
+use Rattle.std.proofs.Common.{Global, List, Ok, Err, is_ok, sym, ap, subst, ◌∙◌}
+use Rattle.std.proofs.lemmas.Bool.{true≢false}
 use Rattle.std.proofs.lemmas.Result.{err_from_is_err_and}
 use Rattle.sty_sheet.specs.Sheets.{sheet_of}
 use Rattle.sty_sheet.specs.Views.{records_of}
@@ -6,8 +7,16 @@ use Rattle.concordance.specs.Hits.{hits_of}
 use Rattle.concordance.specs.Views.{hits_view}
 use Rattle.usfm_cli.specs.Commands.{MayWantMemory}
 use Rattle.usfm_cli.specs.Looking.{hit_lines, is_after_sheet}
-use Rattle.usfm_cli.proofs.Searched.{is_told_as_text, searched_is, some_needle, search_is_late, search_refused}
+use Rattle.usfm_cli.proofs.Searched.{is_told_as_text, searched_is, some_needle, search_is_late, search_refused, search_without_text}
 use Rattle.usfm_cli.proofs.looking.find.Goals as goal
+
+pub returns-in_err-bytes : goal.returns-in_err-bytes
+returns-in_err-bytes c =
+    let fault = err_from_is_err_and c.from_residual-in_err-bytes.result c.from_residual-in_err-bytes.ensures.1 in
+    let read = ap sheet_of (sym c.in_ok-text_in.ensures.ok.1) ∙ c.in_ok-sheet.ensures in
+    rw (fault.1, fault.2)
+    (search_without_text Global Global c.args.replica.now.held c.args.book c.args.sheet.now c.args.needle.now
+        (records_of c.in_ok-sheet.sheet) c.in_err-bytes.field-0.0 c.in_ok-text_in.ensures.ok.0 read c.in_err-bytes.ensures)
 
 pub returns-in_err-text_in-2 : goal.returns-in_err-text_in-2
 returns-in_err-text_in-2 c = absurd (is_told_as_text c.deref.result.now c.in_ok-bytes.bytes.items c.deref.ensures.value c.in_ok-bytes.ensures.1.is_text c.in_err-text_in-2.ensures.refused.0)
@@ -30,4 +39,4 @@ returns c =
     let is = searched_is c.args.replica.now.held c.args.book c.args.sheet.now c.args.needle.now records c.in_ok-text_in.ensures.ok.0 (ap sheet_of (sym c.in_ok-text_in.ensures.ok.1) ∙ c.in_ok-sheet.ensures) c.in_ok-bytes.ensures.0 in
     let text = c.in_ok-text_in-2.ensures.ok.1 ∙ c.deref.ensures.value ∙ c.in_ok-bytes.ensures.1.text_is in
     let hits = ap hits_view c.deref-2.ensures.value ∙ c.in_ok-hits.ensures.hits ∙ ap (λ (t : List _). hits_of records t c.args.needle.now) text in
-    is ∙ some_needle c.args.needle.now _ (λ e. cc (c.in_ok-hits.ensures.empty.1 e)) ∙ ap Ok (sym (c.in_ok-hit_lines.ensures ∙ ap (hit_lines c.args.book) hits))
+    is ∙ some_needle c.args.needle.now _ (λ e. true≢false (ap is_ok (c.in_ok-hits.ensures.empty.1 e))) ∙ ap Ok (sym (c.in_ok-hit_lines.ensures ∙ ap (hit_lines c.args.book) hits))
