@@ -15,7 +15,7 @@ pub(crate) const PROJECT: (&str, &str) = ("PROJECT", "The project's file");
 
 pub(crate) const REF: (&str, &str) = (
     "REF",
-    "\"MAT 1:1\" a verse, \"MAT 1\" a chapter's head, \"MAT 0\" the book's head",
+    "\"MAT 1:1\" a verse, \"MAT 1\" a chapter's head, \"MAT 0\" the book's",
 );
 
 pub(crate) const BOOK: (&str, &str) = (

@@ -16,7 +16,7 @@ returns-in_err-bytes c =
     let read = ap sheet_of (sym c.in_ok-text_in.ensures.ok.1) ∙ c.in_ok-sheet.ensures in
     rw (fault.1, fault.2)
     (search_without_text Global Global c.args.replica.now.held c.args.book c.args.sheet.now c.args.needle.now
-        (records_of c.in_ok-sheet.sheet) c.in_err-bytes.field-0.0 c.in_ok-text_in.ensures.ok.0 read c.in_err-bytes.ensures)
+    (records_of c.in_ok-sheet.sheet) c.in_err-bytes.field-0.0 c.in_ok-text_in.ensures.ok.0 read c.in_err-bytes.ensures)
 
 pub returns-in_err-text_in-2 : goal.returns-in_err-text_in-2
 returns-in_err-text_in-2 c = absurd (is_told_as_text c.deref.result.now c.in_ok-bytes.bytes.items c.deref.ensures.value c.in_ok-bytes.ensures.1.is_text c.in_err-text_in-2.ensures.refused.0)
