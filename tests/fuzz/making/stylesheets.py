@@ -58,8 +58,9 @@ def make_sheet(rng: Random) -> bytes:
     if rng.random() < 0.3:
         rng.shuffle(records)
     lines = [line for record in records for line in record]
-    while rng.random() < 0.4:
-        lines.insert(rng.randint(1, len(lines)), rng.choice(ODD_LINES))
+    fields = [it for it in lines if not it.startswith("\\Marker")]
+    while rng.random() < 0.5:
+        lines.insert(rng.randint(1, len(lines)), rng.choice(rng.choice([ODD_LINES, fields])))
     chance = rng.random()
     if chance < 0.08:
         lines.insert(rng.randint(1, len(lines)), rng.choice(WRONG_LINES))

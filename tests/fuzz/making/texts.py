@@ -101,7 +101,7 @@ def make_noise(rng: Random, length: int, numbers: bool) -> str:
 
 def make_verse_number(rng: Random, number: int) -> str:
     """A verse's number, now and then with a letter or a bridge."""
-    written = rng.choice([str(number)] * 8 + [f"{number:03}", f"{number}a", f"{number}b"])
+    written = rng.choice([str(number)] * 20 + [f"{number:03}", f"{number}a", f"{number}b", rng.choice(NUMBERS)])
     last = rng.choice([f"{number + 1}", f"{number + 3}", f"{number + 1}a", f"{number}", f"{number}b", "", "x"])
     return written + (f"-{last}" if rng.random() < 0.2 else "")
 
@@ -122,7 +122,7 @@ def make_book(rng: Random, book: str, verses: int) -> bytes:
     for _ in range(verses):
         if rng.random() < 0.1:
             chapter, number = chapter + rng.choice([1, 1, 1, 2, 0, -1]), 0
-            text += f"\\c {abs(chapter)}{rng.choice(BLANKS)}"
+            text += f"\\c {rng.choice([str(abs(chapter))] * 60 + NUMBERS[:9])}{rng.choice(BLANKS)}"
         if rng.random() < 0.3:
             text += make_paragraph(rng)
         number = max(0, number + rng.choice([1] * 8 + [2, 0, -1]))
