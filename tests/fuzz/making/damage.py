@@ -83,6 +83,8 @@ def wrong_bundle(rng: Random, operations: Sequence[Operation]) -> bytes:
         swap_named(rng, fields)
     elif change == 4:
         return changed_magic(rng, joined(fields, count))
+    elif change == 5:
+        name_own_number(rng, fields)
     elif count:
         operation = rng.choice(fields)
         # Each kind of field is as likely, since texts stand in each operation and names are rarely named.
@@ -94,11 +96,20 @@ def wrong_bundle(rng: Random, operations: Sequence[Operation]) -> bytes:
     return joined(fields, count)
 
 
+def name_own_number(rng: Random, fields: Sequence[Fields]) -> None:
+    """Gives the last named id of an operation the number of the operation."""
+    some = [it for it in fields if any(kind == "named number" for kind, _ in it)]
+    if some:
+        operation = rng.choice(some)
+        operation[-6] = ("named number", operation[0][1])
+
+
 def changed_magic(rng: Random, data: bytes) -> bytes:
     """The bytes of a bundle whose first ones are changed, or are those of another file."""
     place = rng.randrange(len(BUNDLE_MAGIC))
     changed = data[:place] + bytes([data[place] ^ 1 << rng.randrange(8)]) + data[place + 1 :]
-    return rng.choice([changed, b"USFMSS1\n" + data[8:], b"USFMPJ1\n\x03ana" + data, b"\xef\xbb\xbf" + data])
+    others = [b"USFMSS1\n" + data[8:], b"USFMPJ1\n\x03ana" + data, b"\xef\xbb\xbf" + data]
+    return rng.choice([changed, changed, data[: rng.randrange(8)], data[:place] + b"\n", *others])
 
 
 def swap_named(rng: Random, fields: Sequence[Fields]) -> None:
@@ -130,13 +141,15 @@ def damaged(rng: Random, data: bytes) -> bytes:
 
 def wrong_summary(rng: Random, name: bytes) -> bytes:
     """A summary of a few ranges, of which some do not rise or touch."""
-    ends = [rng.choice([0, 1, 2, 3, 4, 5, 6, GREATEST_NUMBER, GREATEST_NUMBER + 1]) for _ in range(4)]
-    if rng.random() < 0.6:
+    ends = [rng.choice([1, 2, 3, 4, 5, 6]) for _ in range(4)]
+    if rng.random() < 0.3:
+        ends[rng.randrange(4)] = rng.choice([0, GREATEST_NUMBER, GREATEST_NUMBER + 1, 2**64 - 1])
+    if rng.random() < 0.7:
         ends.sort()
     names = sorted({name.decode(), rng.choice(["a", "zed", "-", "a" * 32])}, reverse=rng.random() < 0.3)
     data = b"USFMSS1\n" + write_number(len(names), 8)
     for each in names:
-        count = rng.choice([0, 1, 1, 2, 2, 2])
+        count = rng.choice([0, 1, 1, 2, 2, 2, 2])
         data += write_name(each) + write_number(count, 8)
         data += b"".join(write_number(it, 8) for it in ends[: 2 * count])
     return data

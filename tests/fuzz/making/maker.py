@@ -13,7 +13,7 @@ from model.tokens import fits
 from .damage import damaged, wrong_bundle, wrong_summary
 from .plays import Play, Step, Wanted, do
 from .stylesheets import make_sheet
-from .texts import WORDS, broken_text, changed_book, make_book, make_text
+from .texts import WORDS, broken_text, changed_book, make_book, make_text, without_verses
 
 NAMES = ["ana", "ben", "cy", "-", "a", "a0", "a-b", "z" * 32]
 BOOKS = ["MAT", "LUK", "GEN", "XXA", "0A1"]
@@ -25,7 +25,7 @@ WRONG_NAMES = ["Ana", "", "a b", "\u00e4", "a" * 33, "ana_"]
 WRONG_LINES = ["", "unfold MAT", "fold", "send", "send p q", "init p", "check p MAT", "find p mat s", "edit p"]
 WRONG_LINES += ["edit-over p", "export p mat MAT", "fold mat LUK"]
 WRONG_OPENINGS = ["\\id mat", "\\id", "", "\\id  MAT", "\\c 1", "\ufeff\ufeff\\id MAT", "\\id* MAT"]
-NEEDLES = WORDS + ["a", "n", "a ", "n", " ", "\n", "", "", "", "|", "\\", "1", "-", "\u0301", "aa"]
+NEEDLES = WORDS + ["a", "n", "a ", "n", " ", "\n", "", "", "", "|", "\\", "1", "-", "\u0301"]
 
 
 def make_play(seed: int) -> tuple[Play, list[Wanted]]:
@@ -62,7 +62,8 @@ class Maker:
         if self.rng.random() < 0.05 and len(self.projects) > 1:
             self.begin_with_used_name()
         length = self.rng.randint(10, 25)
-        self.import_book(self.projects[0])
+        for book in self.rng.sample(BOOKS, self.rng.choice([1, 1, 2])):
+            self.begin_book(book)
         if self.rng.random() < 0.9:
             self.share()
         while len(self.play) < length:
@@ -81,6 +82,10 @@ class Maker:
         project = f"p{len(self.projects)}"
         self.projects.append(project)
         self.step("init", project, name)
+
+    def begin_book(self, book: str) -> None:
+        """A new book in the first project."""
+        self.step("import", self.projects[0], "book", book=make_book(self.rng, book, self.rng.choice(self.sizes)))
 
     def share(self) -> None:
         """What the first project holds goes to all others."""
@@ -135,11 +140,12 @@ class Maker:
         text = make_text(self.rng, book, key)
         return broken_text(self.rng, text) if self.rng.random() < 0.02 else text
 
-    def import_book(self, project: Optional[str] = None) -> None:
-        project = project or self.any_project()
+    def import_book(self) -> None:
+        project = self.any_project()
         book = self.any_book(project) if self.rng.random() < 0.7 else self.rng.choice(BOOKS)
         try:
-            text = changed_book(self.rng, export(self.held(project), book))
+            text = export(self.held(project), book)
+            text = changed_book(self.rng, text) if self.rng.random() < 0.9 else text
         except Fault:
             text = make_book(self.rng, book, self.rng.choice(self.sizes))
         chance = self.rng.random()
@@ -155,12 +161,15 @@ class Maker:
         self.step("edit", project, write_ref(book, key), given=self.any_text(book, key))
 
     def empty_chapter(self) -> None:
-        """Empties the head of a chapter, whose line is then picked."""
+        """Empties the head of a chapter, whose line is then picked, and perhaps leaves its verses out."""
         project = self.any_project()
         heads = [it for it in self.held(project).values() if it.key.is_head and it.key != BOOK_HEAD]
         if heads:
             head = self.rng.choice(heads)
             self.step("edit", project, write_ref(head.book, head.key))
+            if self.rng.random() < 0.5:
+                text = export(self.held(project), head.book)
+                self.step("import", project, "book", book=without_verses(text, head.key.chapter))
 
     def edit_over(self) -> None:
         project = self.any_project()
@@ -170,7 +179,7 @@ class Maker:
         self.rng.shuffle(ids)
         if self.rng.random() < 0.3:
             ids = ids[: self.rng.randint(0, len(ids))]
-        if self.rng.random() < 0.15:
+        while self.rng.random() < 0.25:
             ids.insert(self.rng.randint(0, len(ids)), self.any_id(held))
         if ids and self.rng.random() < 0.1:
             ids.append(self.rng.choice(ids))
@@ -214,7 +223,7 @@ class Maker:
         if self.rng.random() < 0.3:
             receiver = self.any_project()
         self.step("receive", receiver, "bundle", bundle=delta)
-        if self.rng.random() < 0.3:
+        if self.rng.random() < 0.5:
             self.step("report", receiver)
 
     def odd_summary(self) -> None:
@@ -254,7 +263,7 @@ class Maker:
         id = Id(self.rng.choice(numbers), self.rng.choice(NAMES))
         same = [it.id for it in [*held.values(), *made.values()] if it.book == book and it.key == key]
         named = {it for it in same if self.rng.random() < 0.4}
-        named |= {self.any_id(held) for _ in range(self.rng.choice([0, 0, 0, 1, 2]))}
+        named |= {self.any_id(held) for _ in range(self.rng.choice([0, 0, 1, 2, 3]))}
         return Operation(id, book, key, tuple(sorted(it for it in named if it.number < id.number)), text)
 
     def use_numbers_up(self) -> None:
@@ -267,17 +276,19 @@ class Maker:
         self.rng.choice([self.edit, self.import_book])()
 
     def rename(self) -> None:
-        """Two operations over one segment that differ in the name alone, or not even in the text."""
+        """Operations beside held ones that differ in the name or the text alone, or in nothing."""
         project = self.any_project()
-        held = self.held(project)
-        if not held:
-            return
-        old = self.rng.choice(list(held.values()))
-        text = self.rng.choice([old.text, make_text(self.rng, old.book, old.key)])
-        if fits(old.book, old.key, text):
-            id = Id(old.id.number, self.rng.choice(NAMES))
-            more = {id: Operation(id, old.book, old.key, old.replaced, text)}
-            self.step("receive", project, "bundle", bundle=write_bundle(more))
+        held = list(self.held(project).values())
+        more: Set = {}
+        names = NAMES if self.rng.random() < 0.7 else []
+        for old in self.rng.sample(held, min(len(held), self.rng.choice([1, 2, 4, 6]))):
+            text = self.rng.choice([old.text, make_text(self.rng, old.book, old.key)])
+            if fits(old.book, old.key, text):
+                id = Id(old.id.number, self.rng.choice([old.id.name, *names]))
+                more[id] = Operation(id, old.book, old.key, old.replaced, text)
+        self.step("receive", project, "bundle", bundle=write_bundle(more))
+        if self.rng.random() < 0.5:
+            self.step("report", project)
 
     def export(self) -> None:
         project = self.any_project()
@@ -301,8 +312,11 @@ class Maker:
         project = self.any_project()
         book = self.any_book(project)
         needle = self.rng.choice(NEEDLES)
-        if self.rng.random() < 0.4:
+        chance = self.rng.random()
+        if chance < 0.4:
             needle = self.part_of_book(project, book) or needle
+        elif chance < 0.5:
+            needle = "aa"
         self.step("find", project, book, "sheet", needle, sheet=self.any_sheet())
 
     def part_of_book(self, project: str, book: str) -> str:
@@ -344,7 +358,7 @@ class Maker:
                 [self.rng.choice(["edit", "shown", "edit-over"]), project, ref],
                 ["edit-over", project, self.rng.choice([ref, "MAT 1:1"]), "1:ana", self.rng.choice(WRONG_IDS)],
                 ["export", project, self.rng.choice(WRONG_BOOKS)],
-                [self.rng.choice(["check", "words"]), "missing", self.rng.choice(WRONG_BOOKS + ["MAT"]), "missing"],
+                [self.rng.choice(["check", "words"]), "missing", self.rng.choice(["mat", "MAT"]), "missing"],
                 [self.rng.choice(["import", "receive", "delta"]), project, "missing"],
                 ["fold", self.rng.choice(WRONG_BOOKS)],
             ]
@@ -368,10 +382,10 @@ class Maker:
 ACTIONS = [Maker.import_book, Maker.edit, Maker.empty_chapter, Maker.edit_over, Maker.fork, Maker.show]
 WEIGHTS = [12, 10, 3, 9, 4, 5]
 ACTIONS += [Maker.exchange, Maker.receive_old, Maker.exchange_delta, Maker.odd_summary]
-WEIGHTS += [7, 3, 5, 2]
+WEIGHTS += [7, 3, 5, 3]
 ACTIONS += [Maker.forge, Maker.rename, Maker.use_numbers_up]
-WEIGHTS += [12, 3, 0.7]
+WEIGHTS += [12, 4, 0.7]
 ACTIONS += [Maker.export, Maker.report, Maker.check, Maker.words, Maker.find, Maker.fold]
-WEIGHTS += [6, 7, 10, 5, 8, 4]
+WEIGHTS += [6, 7, 11, 8, 9, 4]
 ACTIONS += [Maker.odd_project, Maker.wrong_words, Maker.long_file]
 WEIGHTS += [2, 4, 0.5]

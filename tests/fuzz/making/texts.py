@@ -6,7 +6,7 @@ from model.tokens import cut
 
 # Letters that compose, ones that do not, ones that compose to others, combining marks first, and no letters.
 WORDS = (
-    ["In", "the", "gnat", "LORD", "a", "aa", "x_y", "3b", "don\u2019t", "1", "a\u200db", "a\u00a0b"]
+    ["In", "the", "gnat", "LORD", "a", "aa", "aaa", "aaaaa", "x_y", "3b", "don\u2019t", "1", "a\u200db", "a\u00a0b"]
     + ["\ufeff", "\U0001f600", "\uffff", "\U0010ffff"]
     + ["\u00e9t\u00e9", "e\u0301te\u0301", "na\u00efve", "\u0308a", "\u212b", "\u1e9b\u0323", "q\u0307\u0323"]
     + ["\u2167", "\u24d0", "\U0001f170", "\u00aa", "\u00b2", "\u20dd", "\u0345", "\u0958", "\ufb01n"]
@@ -47,6 +47,8 @@ def make_character(rng: Random, depth: int = 0) -> str:
     inside = make_words(rng)
     while depth < 4 and rng.random() < 0.3:
         inside += make_character(rng, depth + 1) + make_words(rng)
+    if depth < 2 and rng.random() < 0.1:
+        inside += make_note(rng)
     if rng.random() < 0.4:
         inside += rng.choice(['|lemma="gnat"', "|", "|gnat|In", 'x| strong="H1"'])
     end = rng.choice([f"\\{plus}{name}*"] * 6 + ["", "\\nd*", "\\+nd*"])
@@ -57,7 +59,7 @@ def make_note(rng: Random) -> str:
     """A note, perhaps with marks in it, or without its end."""
     name = rng.choice(["f", "x"])
     inside = "".join(
-        rng.choice([make_words, make_character, make_mark, lambda _: "\\ft gnat", lambda _: "\\fr 1:1 "])(rng)
+        rng.choice([make_words(rng), make_character(rng, 2), make_mark(rng), "\\ft gnat", "\\fr 1:1 ", "\\nd*"])
         for _ in range(rng.randint(1, 3))
     )
     return f"\\{name} +{inside}" + rng.choice([f"\\{name}*"] * 4 + ["", "\\+f*"])
@@ -80,8 +82,13 @@ def make_deep(rng: Random) -> str:
 
 def make_number(rng: Random) -> str:
     """A chapter or a verse with an odd number."""
-    mark = rng.choice(["\\v", "\\v", "\\c", "\\+v", "\\v*", "\\c*", "\\+c"])
-    return mark + rng.choice(BLANKS + [""]) + rng.choice(NUMBERS) + rng.choice(["", " ", "\n", "."])
+    mark = rng.choice(["\\v", "\\v", "\\c"]) + rng.choice(BLANKS + [""])
+    return mark + rng.choice(NUMBERS) + rng.choice(["", " ", "\n", "."])
+
+
+def make_nested_number(rng: Random) -> str:
+    """A number after a mark that is nested or closing, and so has no key."""
+    return rng.choice(["\\+v", "\\+v", "\\v*", "\\+c"]) + rng.choice(BLANKS) + rng.choice(["2", "2b", "1a", "1-2a"])
 
 
 def make_slash(rng: Random) -> str:
@@ -92,7 +99,7 @@ def make_slash(rng: Random) -> str:
 def make_noise(rng: Random, length: int, numbers: bool) -> str:
     """Anything that stands in a verse, with numbers of chapters and verses in it or without."""
     makers = [make_words] * 8 + [make_character] * 5 + [make_paragraph] * 3 + [make_note] * 3
-    makers += [make_milestone] * 2 + [make_mark] * 2 + [make_slash]
+    makers += [make_milestone] * 2 + [make_mark] * 2 + [make_slash, make_nested_number]
     if numbers:
         makers += [make_number] * 2
     noise = "".join(rng.choice(makers)(rng) for _ in range(rng.randint(0, length)))
@@ -101,9 +108,11 @@ def make_noise(rng: Random, length: int, numbers: bool) -> str:
 
 def make_verse_number(rng: Random, number: int) -> str:
     """A verse's number, now and then with a letter or a bridge."""
-    written = rng.choice([str(number)] * 20 + [f"{number:03}", f"{number}a", f"{number}b", rng.choice(NUMBERS)])
-    last = rng.choice([f"{number + 1}", f"{number + 3}", f"{number + 1}a", f"{number}", f"{number}b", "", "x"])
-    return written + (f"-{last}" if rng.random() < 0.2 else "")
+    letters = [f"{number}a", f"{number}b", f"{number}c"]
+    written = rng.choice([str(number)] * 20 + letters + [f"{number:03}", rng.choice(NUMBERS)])
+    after = number + 1
+    lasts = [f"{after}", f"{after}", f"{after}a", f"{after}b", f"{after + 2}", f"{number}", f"{number}b", "", "x"]
+    return written + (f"-{rng.choice(lasts)}" if rng.random() < 0.25 else "")
 
 
 def make_opening(rng: Random, book: str) -> str:
@@ -119,6 +128,8 @@ def make_book(rng: Random, book: str, verses: int) -> bytes:
     chapter, number = rng.choice([0, 1, 1, 1, 3]), 0
     if chapter:
         text += f"\\c {chapter}\n"
+    if rng.random() < 0.6:
+        text += "\\p\n"
     for _ in range(verses):
         if rng.random() < 0.1:
             chapter, number = chapter + rng.choice([1, 1, 1, 2, 0, -1]), 0
@@ -185,6 +196,11 @@ def changed_book(rng: Random, text: bytes) -> bytes:
             del pieces[place:]
             del keys[place:]
     return b"".join(pieces)
+
+
+def without_verses(text: bytes, chapter: int) -> bytes:
+    """A book without the verses of a chapter."""
+    return b"".join(it.text for it in cut(text) if it.key.is_head or it.key.chapter != chapter)
 
 
 def broken_text(rng: Random, text: bytes) -> bytes:
