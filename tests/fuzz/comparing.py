@@ -9,7 +9,7 @@ from typing import Optional
 from making.plays import Play, Step, Wanted, wanted_of
 from model.program import Answer, Content, Zeros
 
-# Far more than any step takes: a program that hangs is told as one that differs.
+# Far more than any step takes: a program that hangs is shown as one that differs.
 SECONDS = 100
 
 
@@ -22,7 +22,7 @@ class Stage:
         self.input = work / "input"
 
     def difference(self, play: Play, wanted: list[Wanted]) -> Optional[str]:
-        """Plays in an empty folder, and tells the first step that comes out otherwise, if one does."""
+        """Plays in an empty folder, and shows the first step that comes out otherwise, if one does."""
         shutil.rmtree(self.folder, ignore_errors=True)
         self.folder.mkdir()
         for number, (step, want) in enumerate(zip(play, wanted), start=1):
@@ -39,7 +39,7 @@ class Stage:
         wrong = []
         given = self.run(step)
         if not same_answer(want.answer, given):
-            wrong += [f"wanted: {told(want.answer)}", f"given:  {told(given)}"]
+            wrong += [f"wanted: {shown(want.answer)}", f"given:  {shown(given)}"]
         return wrong + self.wrong_files(want)
 
     def run(self, step: Step) -> Answer:
@@ -100,7 +100,7 @@ def same_answer(want: Answer, given: Answer) -> bool:
     return right and (want.status, want.output) == (given.status, given.output)
 
 
-def told(answer: Answer) -> str:
+def shown(answer: Answer) -> str:
     """An answer in a line."""
     error = "some usage" if answer.error is None else repr(answer.error)
     return f"status {answer.status}, output {answer.output!r}, error {error}"

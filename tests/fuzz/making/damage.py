@@ -87,8 +87,8 @@ def wrong_bundle(rng: Random, operations: Sequence[Operation]) -> bytes:
         name_own_number(rng, fields)
     elif count:
         operation = rng.choice(fields)
-        # Each kind of field is as likely, since texts stand in each operation and names are rarely named.
-        kind = rng.choice(sorted({kind for kind, _ in operation}))
+        # By kinds, else most changes would be of the ids that an operation names.
+        kind = rng.choice(sorted({kind for kind, _ in operation}) + ["tag", "text", "text"])
         place = rng.choice([place for place, it in enumerate(operation) if it[0] == kind])
         operation[place] = (kind, wrong_field(rng, kind, operation[place][1]))
         if kind == "text":

@@ -85,7 +85,8 @@ class Maker:
 
     def begin_book(self, book: str) -> None:
         """A new book in the first project."""
-        self.step("import", self.projects[0], "book", book=make_book(self.rng, book, self.rng.choice(self.sizes)))
+        text = make_book(self.rng, book, self.rng.choice(self.sizes))
+        self.step("import", self.projects[0], "book", book=text)
 
     def share(self) -> None:
         """What the first project holds goes to all others."""

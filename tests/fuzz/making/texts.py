@@ -6,8 +6,8 @@ from model.tokens import cut
 
 # Letters that compose, ones that do not, ones that compose to others, combining marks first, and no letters.
 WORDS = (
-    ["In", "the", "gnat", "LORD", "a", "aa", "aaa", "aaaaa", "x_y", "3b", "don\u2019t", "1", "a\u200db", "a\u00a0b"]
-    + ["\ufeff", "\U0001f600", "\uffff", "\U0010ffff"]
+    ["In", "the", "gnat", "LORD", "a", "aa", "aaa", "aaaaa", "x_y", "3b", "don\u2019t", "1", "a\u200db"]
+    + ["a\u00a0b", "\ufeff", "\U0001f600", "\uffff", "\U0010ffff"]
     + ["\u00e9t\u00e9", "e\u0301te\u0301", "na\u00efve", "\u0308a", "\u212b", "\u1e9b\u0323", "q\u0307\u0323"]
     + ["\u2167", "\u24d0", "\U0001f170", "\u00aa", "\u00b2", "\u20dd", "\u0345", "\u0958", "\ufb01n"]
     + ["\u0915\u094d\u0937\u093f"]
@@ -88,7 +88,8 @@ def make_number(rng: Random) -> str:
 
 def make_nested_number(rng: Random) -> str:
     """A number after a mark that is nested or closing, and so has no key."""
-    return rng.choice(["\\+v", "\\+v", "\\v*", "\\+c"]) + rng.choice(BLANKS) + rng.choice(["2", "2b", "1a", "1-2a"])
+    mark = rng.choice(["\\+v", "\\+v", "\\v*", "\\+c"])
+    return mark + rng.choice(BLANKS) + rng.choice(["2", "2b", "1a", "1-2a"])
 
 
 def make_slash(rng: Random) -> str:
@@ -111,8 +112,8 @@ def make_verse_number(rng: Random, number: int) -> str:
     letters = [f"{number}a", f"{number}b", f"{number}c"]
     written = rng.choice([str(number)] * 20 + letters + [f"{number:03}", rng.choice(NUMBERS)])
     after = number + 1
-    lasts = [f"{after}", f"{after}", f"{after}a", f"{after}b", f"{after + 2}", f"{number}", f"{number}b", "", "x"]
-    return written + (f"-{rng.choice(lasts)}" if rng.random() < 0.25 else "")
+    last = rng.choice([f"{after}", f"{after}", f"{after}a", f"{after}b", f"{after + 2}", f"{number}b", "", "x"])
+    return written + (f"-{last}" if rng.random() < 0.25 else "")
 
 
 def make_opening(rng: Random, book: str) -> str:

@@ -2,7 +2,7 @@
 
 
 class Fault(Exception):
-    """Why something was refused: a number, and what is told besides."""
+    """Why something was refused: a number, and its details."""
 
     def __init__(self, number: int, *details: object) -> None:
         super().__init__(number, *details)
@@ -15,7 +15,7 @@ class Fault(Exception):
 
 
 def text_of(data: bytes) -> bytes:
-    """The same bytes where they are UTF-8; else the refusal that tells how many valid bytes come first."""
+    """The same bytes where they are UTF-8; else the refusal with the number of valid bytes before."""
     try:
         data.decode("utf-8")
     except UnicodeDecodeError as error:

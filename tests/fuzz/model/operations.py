@@ -113,7 +113,7 @@ def report(held: Set) -> bytes:
 
 
 def conflict(held: Set, book: str, key: Key) -> bytes:
-    """What a report tells of a segment: nothing where it shows fewer than two texts."""
+    """What a report says of a segment: nothing where it shows fewer than two texts."""
     # Later ids take the place of earlier ones that have the same text.
     greatest = {it.text: it.id for it in shown(held, book, key)}
     if len(greatest) < 2:
