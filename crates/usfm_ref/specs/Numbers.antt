@@ -124,7 +124,7 @@ unfoldable pub bridge_at : List ℕ → Option ((ℕ × Option ℕ) × List ℕ)
 bridge_at [] = None
 bridge_at (b ∷ rest) = if b == 45 then verse_at rest else None
 
--- the chapter in the text after its mark
+-- the number of a chapter in the text directly after its mark, if one stands there
 unfoldable pub chapter_in : List ℕ → Option ℕ
 chapter_in text = option_map (λ c. c.0) (option_and_then chapter_at (blanks_at text))
 
@@ -133,7 +133,7 @@ abbrev pub bridged : List ℕ → ℕ × Option ℕ → List ℕ → Option ((�
 bridged text verse behind None = record { number = verse.0; letter = verse.1; last = None; length = length text - length behind }
 bridged text verse behind (Some b) = record { number = verse.0; letter = verse.1; last = Some b.0; length = length text - length b.1 }
 
--- the verse in the text after its mark
+-- the verse in the text directly after its mark, if one stands there, with its bridge and how many bytes were read
 unfoldable pub verse_in : List ℕ → Option VerseMark
 verse_in text = option_map (λ v. bridged text v.0 v.1 (bridge_at v.1)) (option_and_then verse_at (blanks_at text))
 
@@ -147,9 +147,10 @@ OneChapter = (text : List ℕ) (a b : ℕ) → ReadsChapter text a → ReadsChap
 abbrev pub OneVerse : Type 0
 OneVerse = (text : List ℕ) (a b : VerseMark) → ReadsVerse text a → ReadsVerse text b → a ≡ b
 
--- the reading from the left gives what the grammar does
+-- the reading from the left gives a chapter's number exactly where the grammar has it
 abbrev pub ChaptersAreRead : Type 0
 ChaptersAreRead = (text : List ℕ) (number : ℕ) → (chapter_in text ≡ Some number) ↔ ReadsChapter text number
 
+-- the reading from the left gives a verse with its bridge and its length exactly where the grammar has it
 abbrev pub VersesAreRead : Type 0
 VersesAreRead = (text : List ℕ) (mark : VerseMark) → (verse_in text ≡ Some mark) ↔ ReadsVerse text mark
