@@ -9,7 +9,7 @@ use Rattle.usfm_ref.specs.declared.key.Place.TheVariants.{Verse}
 use Rattle.usfm_ref.specs.declared.number.VerseMark.{VerseMark}
 use Rattle.usfm_token.specs.Tokens.{MarkParts, Lexeme, mark, words}
 
--- j comes before k
+-- the key j comes before the key k
 abbrev pub key_below : KeyParts → KeyParts → Bool
 key_below j k = is_lt (key_cmp j k)
 

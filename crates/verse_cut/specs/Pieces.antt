@@ -50,6 +50,7 @@ OneCut = (ps : List Part) (s : List ℕ) → IsCutOf ps s ↔ (ps ≡ pieces_of 
 abbrev pub KeysRise : List Part → Type 0
 KeysRise ps = IsTrue (rises_by key_cmp (λ p. p.key) ps)
 
+-- the keys of a text's pieces rise
 abbrev pub PiecesRise : Type 0
 PiecesRise = (s : List ℕ) → KeysRise (pieces_of s)
 
@@ -57,5 +58,6 @@ PiecesRise = (s : List ℕ) → KeysRise (pieces_of s)
 abbrev pub LieIn : List ℕ → List Part → Type 0
 LieIn s ps = All (λ p. slice_range s p.start (p.start + length p.text) ≡ p.text) ps
 
+-- each piece of a text is the text's bytes from the piece's start on
 abbrev pub PiecesLie : Type 0
 PiecesLie = (s : List ℕ) → LieIn s (pieces_of s)
