@@ -10,10 +10,11 @@ use Rattle.usfm_tree.specs.Views.{forest_of}
 use Rattle.usfm_tree.specs.declared.open.Open.{Open}
 use Rattle.usfm_tree.specs.declared.reader.Reader.{Reader}
 
+-- an open node: its kind, whether its mark has '+', and the name that closes it
 abbrev pub open_view : Open → reading.Open
 open_view o = record { kind = o.kind; nested = o.mark.nested; closer = option_map (λ n. n.now) o.closer }
 
--- the innermost first
+-- open nodes that are listed from the outermost on, the innermost first
 abbrev pub opens_in : List Open → List reading.Open
 opens_in os = reverse (map open_view os)
 
@@ -23,6 +24,7 @@ pub record Span : Type 0 where
   pub mark : MarkParts
   pub before : Forest
 
+-- an open node of the reader, by its bytes
 abbrev pub span_of : Open → Span
 span_of o = record { from = o.from.now; mark = mark_parts o.mark; before = forest_of o.before.items }
 
@@ -35,6 +37,7 @@ Adjoins (s ∷ ss) sofar rest = (s.from ≡ mark_bytes s.mark ++ (bytes_of sofar
 abbrev pub EndsIn : List ℕ → List ℕ → Type 0
 EndsIn from rest = (x : List ℕ) × (from ≡ x ++ rest)
 
+-- an open node of the reader, with where it begins and what stands before it in its parent
 abbrev pub frame_of : Open → Frame
 frame_of o = record {
   open_node = open_view o;
@@ -51,5 +54,6 @@ frames_of r = reverse (map frame_of r.open_nodes.items)
 abbrev pub sofar_of : Reader → Forest
 sofar_of r = forest_of r.kids.items
 
+-- the open nodes by their bytes, the innermost first
 abbrev pub spans_of : Reader → List Span
 spans_of r = reverse (map span_of r.open_nodes.items)
