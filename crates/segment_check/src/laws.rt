@@ -3,7 +3,7 @@
 
 ghost use Rattle.segment_check.specs.Laws.{CodesRise, FindingsAreRead, LeavesAreTooDeep, NoTwoAlike, StartsAreTokens, StartsNeverFall};
 
-/// The reading of the marks from the left, with what the tree tells of them, gives the findings.
+/// The reading of the marks from the left, with what the tree says of them, gives the findings.
 pub fn findings_are_read()
     ensures { FindingsAreRead }
 {}

@@ -1,4 +1,4 @@
-//! What a tree tells of its marks.
+//! What a tree says of its marks.
 
 ghost use Rattle.std.specs.Prelude.{◌≡◌, false, IfOk, OnOk};
 ghost use Rattle.std.specs.List.{list_any};
@@ -110,7 +110,7 @@ fn tell_mark(
     }
 }
 
-// Tells of all marks of nodes that stand side by side, in order.
+// Adds what holds of all marks of nodes that stand side by side, in order.
 fn tell_nodes<'a>(
     told: &mut Vec<Told>,
     sheet: &Sheet<'_>,
@@ -135,7 +135,7 @@ fn tell_nodes<'a>(
     Ok(())
 }
 
-// What the tree of a text tells of its marks, in order. No more of the tree is kept than a node
+// What the tree of a text says of its marks, in order. No more of the tree is kept than a node
 // under the root.
 pub(crate) fn tell_tree(
     alloc: Global,
