@@ -6,7 +6,8 @@ use Rattle.usfm_export.specs.Books.{IsBookOf}
 use Rattle.bundle_codec.specs.Reading.{AreBytes}
 use Rattle.usfm_cli.specs.Streams.{union_in, book_of_stream}
 
--- the source gave bundles, and the sink took such a book of their union
+-- the source gave bundles, and the sink took the export of a book of their union, which cuts back into the picked
+-- texts
 pub record WritesBook (book : List ℕ) (to_come left : Option (List ℕ)) (before after : Option (List ℕ)) : Type 0 where
   pub given : List ℕ
   pub consumed : Consumes to_come left given
