@@ -24,8 +24,8 @@ pub record IsBookOf (held : List Operation) (book text : List ℕ) : Type 0 wher
   pub is_text : IsUtf8 text
   pub cuts_back : pieces_of text ≡ pieces_from 0 (at_book_head (picked_at held book book_head) ∷ filled (later_texts held book))
 
--- What an answer says of a book that is to be written, and of what the sink took: all of it, the front of it that is told, or
--- nothing exactly where the book has no operation.
+-- What an answer says of a book that is to be written, and of what the sink took: all of it, the front of it whose
+-- length is answered, or nothing exactly where the book has no operation.
 abbrev pub AnswersBook : List Operation → List ℕ → Option (List ℕ) → Option (List ℕ) → Result (Unit {0}) ExportFault → Type 0
 AnswersBook held book before after (Ok done) = (has_book held book ≡ true) × Appends before after (export held book)
 AnswersBook held book before after (Err writing.NoBook) = (has_book held book ≡ false) × (after ≡ before)
