@@ -28,6 +28,7 @@ next_id s =
     if has_numbers s.held 1 then Some
     (record { number = next_number s.held; name = s.name }) else None
 
+-- the operation of an edit by its id, or that no number is left
 abbrev pub edit_by : Option Id → Segment → List Id → List ℕ → Result Operation EditFault
 edit_by None g replaced text = Err NumbersUsedUp
 edit_by (Some id) g replaced text = Ok (edit_with id g replaced text)
@@ -43,6 +44,7 @@ edit_fault held g text =
 abbrev pub first_not_shown : List Operation → Segment → List Id → Option Id
 first_not_shown held g ids = find (λ id. not (is_among (shown_ids held g) id)) ids
 
+-- the operation of an edit, unless there is a fault
 abbrev pub unless : Option EditFault → Result Operation EditFault → Result Operation EditFault
 unless None edit = edit
 unless (Some fault) edit = Err fault
