@@ -36,7 +36,7 @@ pub record IsKnown (k : Known) : Type 0 where
   pub each : IsTrue (list_all is_range k.ranges)
   pub apart : IsTrue (are_apart k.ranges)
 
--- the names rise by their bytes
+-- a summary: names that rise by their bytes, each with its ranges
 pub record IsSummary (s : List Known) : Type 0 where
   pub rising : IsTrue (rises_by name_cmp (λ k. k.name) s)
   pub each : AllByRecursion IsKnown s
@@ -89,6 +89,7 @@ outside s held = filter (λ o. not (covers s o.id)) held
 unfoldable pub summary_magic : List ℕ
 summary_magic = codes "USFMSS1" ++ 10 ∷ []
 
+-- a range: its first and its last number
 abbrev pub range : NumberRange → List ℕ
 range r = to_be_bytes w64 r.first ++ to_be_bytes w64 r.last
 
