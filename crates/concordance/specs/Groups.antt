@@ -13,9 +13,11 @@ use Rattle.concordance.specs.Words.{Spelling, form_cmp}
 abbrev pub Group : Type 0
 Group = Bor (List ℕ) × Vec KeyParts
 
+-- the spellings of a group: its form with each of its keys
 abbrev pub told_by : Group → List Spelling
 told_by g = map (λ k. record { form = g.0.now; key = k }) g.1.items
 
+-- the spellings of all groups
 abbrev pub told : List Group → List Spelling
 told gs = flat_map told_by gs
 
@@ -23,6 +25,7 @@ told gs = flat_map told_by gs
 abbrev pub is_bare : Group → Bool
 is_bare g = length g.1.items == 0
 
+-- some group has no key
 abbrev pub has_bare : List Group → Bool
 has_bare gs = list_any is_bare gs
 

@@ -4,5 +4,6 @@ use Rattle.concordance.specs.Hits.{HitParts, keyed}
 use Rattle.concordance.specs.Views.{passages_view, pieces_left}
 use Rattle.concordance.specs.declared.keyed.Keyed.{Keyed}
 
+-- the hits that an iterator has still to give
 abbrev pub hits_left : Keyed → List HitParts
 hits_left k = map (keyed (pieces_left k.places)) (passages_view k.passages.now)

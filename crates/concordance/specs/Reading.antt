@@ -35,6 +35,7 @@ left_of i behind is_last start bytes =
     let n = number_length behind bytes in
     record { start = start + n; text = without_attributes (is_last && i.in_closed) (drop n bytes) }
 
+-- whether a text counts, by what the nodes around it say
 abbrev pub counts : Surroundings → Bool
 counts i = i.in_verse_text && not i.in_aside
 
@@ -78,6 +79,7 @@ abbrev pub begin_of : List Part → ℕ
 begin_of [] = 0
 begin_of (p ∷ ps) = p.start
 
+-- where pieces end
 abbrev pub end_of : List Part → ℕ
 end_of ps = begin_of ps + length (pieces_joined ps)
 

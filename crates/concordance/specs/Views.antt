@@ -12,9 +12,11 @@ use Rattle.concordance.specs.Hits.{HitParts}
 use Rattle.concordance.specs.declared.passage.Passage.{Passage}
 use Rattle.concordance.specs.declared.hit.Hit.{Hit}
 
+-- a passage with its bytes
 abbrev pub passage_view : Passage → passages.Passage
 passage_view p = record { start = p.start; text = p.text.now }
 
+-- passages, each with its bytes
 abbrev pub passages_view : List Passage → List passages.Passage
 passages_view ps = map passage_view ps
 
@@ -30,5 +32,6 @@ pieces_left p = parts_of p.pieces.now
 abbrev pub hit_view : Hit → HitParts
 hit_view h = record { key = h.key; start = h.start; text = h.text.now }
 
+-- hits, each with its key, its start in the text, and its bytes
 abbrev pub hits_view : List Hit → List HitParts
 hits_view hs = map hit_view hs
