@@ -52,7 +52,8 @@ pub record StartsWithBridge (bytes : List ℕ) (last : ℕ × Option ℕ) (rest 
   pub bytes_are : bytes ≡ 45 ∷ behind
   pub last_is : StartsWithNumber behind last.0 last.1 rest
 
--- What stands after a verse's number: the bridge to its last verse and a rest, or no bridge and all of it is the rest.
+-- What stands after a verse's number: the bridge to its last verse and a rest, or no bridge and all of it is the
+-- rest. A bridge is read wherever one stands.
 abbrev pub BridgesTo : List ℕ → Option (ℕ × Option ℕ) → List ℕ → Type 0
 BridgesTo bytes None rest = (rest ≡ bytes) × ((last : ℕ × Option ℕ) (after : List ℕ) → StartsWithBridge bytes last after → ⊥)
 BridgesTo bytes (Some last) rest = StartsWithBridge bytes last rest
@@ -143,7 +144,7 @@ verse_in text = option_map (λ v. bridged text v.0 v.1 (bridge_at v.1)) (option_
 abbrev pub OneChapter : Type 0
 OneChapter = (text : List ℕ) (a b : ℕ) → ReadsChapter text a → ReadsChapter text b → a ≡ b
 
--- a text has at most one verse's mark
+-- a text has at most one verse's mark, with one bridge or none and one length
 abbrev pub OneVerse : Type 0
 OneVerse = (text : List ℕ) (a b : VerseMark) → ReadsVerse text a → ReadsVerse text b → a ≡ b
 

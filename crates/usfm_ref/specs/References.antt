@@ -83,10 +83,10 @@ ref_in text = if is_book_code (take 3 text) then ref_to (take 3 text) (key_behin
 
 -- ---- the laws
 
--- what is written is read again
+-- a reference that was written is read again
 abbrev pub ReadsWhatIsWritten : Type 0
 ReadsWhatIsWritten = (book : List ℕ) (key : KeyParts) → IsTrue (is_book_code book) → IsTrue (is_key key.chapter key.place) → ref_in (ref_text book key) ≡ Ok (book, key)
 
--- what is read is written again, and its book and key are right
+-- a reference that was read is written with the same bytes, and its book and key are right
 abbrev pub WritesWhatIsRead : Type 0
 WritesWhatIsRead = (text : List ℕ) (book : List ℕ) (key : KeyParts) → ref_in text ≡ Ok (book, key) → IsRefTo text book key
