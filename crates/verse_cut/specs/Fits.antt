@@ -24,7 +24,7 @@ abbrev pub ends_code : List ℕ → Bool
 ends_code [] = true
 ends_code (b ∷ rest) = is_blank b || b == 92
 
--- The text begins with `\id` and the book's code, which ends.
+-- The text begins with `\id` and the book's code, after which a blank, a backslash or the end stands.
 pub record IsHeaded (book text : List ℕ) : Type 0 where
   pub rest : List ℕ
   pub begins : BeginsWithId text (book ++ rest)

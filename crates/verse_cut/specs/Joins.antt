@@ -85,6 +85,6 @@ JoinsKeepTheirBook = (book head : List ℕ) (ts : List KeyText) → IsHeaded boo
 abbrev pub chapter_line : ℕ → List ℕ
 chapter_line chapter = codes "\\c " ++ decimal chapter ++ 10 ∷ []
 
--- That line fits the head of the chapter.
+-- The line of the head of a chapter from 1 to 999 fits that head.
 abbrev pub ChapterLinesFit : Type 0
 ChapterLinesFit = (book : List ℕ) (chapter : ℕ) → 1 ≤ chapter → chapter ≤ 999 → Fits book (chapter_head chapter) (chapter_line chapter)

@@ -16,7 +16,8 @@ abbrev pub pieces_between : List ℕ → KeyParts → ℕ → List Keyed → Lis
 pieces_between s k at [] = record { key = k; start = at; text = drop at s } ∷ []
 pieces_between s k at (m ∷ ms) = record { key = k; start = at; text = take (m.at - at) (drop at s) } ∷ pieces_between s m.key m.at ms
 
--- the pieces of a text; the first begins at 0, perhaps empty, and has the key of the book head
+-- the pieces of a text, between the marks that open one; the first begins at 0, perhaps empty, and has the key of
+-- the book head
 unfoldable pub pieces_of : List ℕ → List Part
 pieces_of s = pieces_between s book_head 0 (opening (keyed_marks 0 s))
 
