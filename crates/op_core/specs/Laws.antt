@@ -1,4 +1,4 @@
--- Laws of sets of operations.
+-- Laws of sets of operations: of a join semilattice, and of what a multi-value register shows (INRIA RR-7506).
 use Rattle.std.specs.Prelude.{◌≡◌, ◌≢◌, ℕ, true, List, [], ◌∷◌, None, Some, Result, Ok, Err, Option, ◌⊎◌, IsTrue, is_ok}
 use Rattle.std.specs.List.{list_any, Contains}
 use Rattle.std.specs.Option.{option_or}
@@ -91,7 +91,7 @@ with_both (Ok a) (Ok b) f = f a b
 with_both (Ok a) (Err id) f = Err id
 with_both (Err id) b f = Err id
 
--- what a way of joining makes
+-- what a way of joining makes: the union, or the clash that refuses it
 abbrev pub union_by : Joining → Result (List Operation) Id
 union_by (Part set) = Ok set
 union_by (Joined left right) = with_both (union_by left) (union_by right) (λ a b. joined_or_clash a b (clash a b))

@@ -26,7 +26,7 @@ get held id = find (λ o. same_id id o.id) held
 abbrev pub meet : Operation → Operation → Operation
 meet held new = held
 
--- the set with one operation more
+-- a set with one operation more; where its id is held, what stays of the two
 abbrev pub put : Operation → List Operation → List Operation
 put o [] = o ∷ []
 put o (p ∷ rest) = by_order (id_cmp o.id p.id) (o ∷ p ∷ rest) (meet p o ∷ rest) (p ∷ put o rest)

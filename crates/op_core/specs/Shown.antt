@@ -52,8 +52,8 @@ is_verse_with_text held book chapter o =
 abbrev pub has_verse_text : List Operation → List ℕ → ℕ → Bool
 has_verse_text held book chapter = list_any (is_verse_with_text held book chapter) held
 
--- whether the segment is a chapter's head without a text while a verse of the chapter has one: without a
--- line of its own, such a chapter's verses would be read as verses of the chapter before
+-- whether the segment is the head of a chapter from 1 on without a text while a verse of the chapter has one:
+-- without a line of its own, such a chapter's verses would be read as verses of the chapter before
 abbrev pub wants_chapter_line : List Operation → Segment → Bool
 wants_chapter_line held g =
     is_head g.key.place && nat_le 1 g.key.chapter && is_empty (text_of held g)
