@@ -33,8 +33,8 @@ abbrev pub edit_by : Option Id → Segment → List Id → List ℕ → Result O
 edit_by None g replaced text = Err NumbersUsedUp
 edit_by (Some id) g replaced text = Ok (edit_with id g replaced text)
 
--- why an edit of the segment may not begin: the text does not fit it; or its book has no operation, and it is not the
--- book's head
+-- why an edit of the segment may not begin: the text does not fit it; or else its book has no operation, and it is
+-- not the book's head
 abbrev pub edit_fault : List Operation → Segment → List ℕ → Option EditFault
 edit_fault held g text =
     if not (text_fits g.book g.key text) then Some BadSegment
@@ -49,12 +49,13 @@ abbrev pub unless : Option EditFault → Result Operation EditFault → Result O
 unless None edit = edit
 unless (Some fault) edit = Err fault
 
--- the operation of an edit, which names all ids that the segment shows
+-- the operation of an edit, by the next id, which names all ids that the segment shows; or the first refusal
 abbrev pub edit_op : State → Segment → List ℕ → Result Operation EditFault
 edit_op s g text =
     unless (edit_fault s.held g text) (edit_by (next_id s) g (shown_ids s.held g) text)
 
--- the operation of an edit over given ids, which names these
+-- the operation of an edit over given ids, which names these; or the first refusal, where an id that is not shown
+-- comes before that no number is left
 abbrev pub edit_over_op : State → Segment → List ℕ → List Id → Result Operation EditFault
 edit_over_op s g text given =
     unless (edit_fault s.held g text)

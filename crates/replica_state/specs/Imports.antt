@@ -51,7 +51,8 @@ is_due held book pieces key =
     not (same_bytes (picked_at held book key) (piece_at pieces key))
     || loses_line held book pieces key
 
--- the keys that an import may edit: those with an operation, the heads of their chapters, and those of the file
+-- the keys that an import may edit, rising: those with an operation, the heads of their chapters, and those of the
+-- file
 abbrev pub walked_keys : List Operation → List ℕ → List Part → List KeyParts
 walked_keys held book pieces =
     rising key_cmp
@@ -84,6 +85,7 @@ abbrev pub import_into : State → List Part → Result (List ℕ) BookFault
 import_into s pieces (Err fault) = Err (BadFile fault)
 import_into s pieces (Ok book) = edits_numbered s book pieces (due_keys s.held book pieces)
 
--- the operations of an import
+-- the operations of an import: the edits of the due keys to the file's pieces, by rising numbers; or that the file
+-- begins with no book, or else that no number is left
 abbrev pub import_ops : State → List ℕ → Result (List Operation) ImportFault
 import_ops s file = import_into s (pieces_of file) (book_in file)
