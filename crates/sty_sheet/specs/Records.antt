@@ -67,6 +67,7 @@ abbrev pub or_milestone : List Record → List ℕ → Option Record → Option 
 or_milestone rs name None = if bytes_eq name [] then None else find (closes_milestone name) rs
 or_milestone rs name (Some r) = Some r
 
--- the style of a mark: the record of its name; if none has it, and it is not empty, the first milestone that it closes
+-- the style of a mark: the record of its name; if none has it, and it is not empty, the first milestone whose
+-- closing name it is
 abbrev pub mark_style : List Record → List ℕ → Option Record
 mark_style rs name = or_milestone rs name (named name rs)
