@@ -1,8 +1,8 @@
 -- The tree of a text by a style sheet, as a recursive reading of its tokens.
 --
--- The USFM 3.0 documentation has paragraph markers without and character and note markers with closing markers, '+' for nested
--- character markers, and milestones that end with '\*'. What an opening or a closing mark ends where marks are missing, which marks
--- are leaves, and that nodes stand at most 64 deep, is this project's own rule.
+-- The USFM 3.0 documentation has paragraph markers without and character and note markers with closing markers, '+' for
+-- nested character markers, and milestones that end with `\*`. What an opening or a closing mark ends where marks are
+-- missing, which marks are leaves, and that nodes stand at most 64 deep, is this project's own rule.
 use Rattle.sty_sheet.specs.declared.kind.StyleKind.{StyleKind}
 use Rattle.sty_sheet.specs.declared.kind.StyleKind.TheVariants as kinds
 use Rattle.std.specs.Prelude.{ℕ, zero, suc, ◌+◌, ◌==◌, nat_lt, Bool, true, false, ◌&&◌, ◌||◌, List, [], ◌∷◌, length, Option, None, Some, if◌then◌else◌, not}
@@ -264,6 +264,6 @@ kids styles (suc n) os (t ∷ l) =
 abbrev pub kids_of_list : Styles → List Open → List Placed → Read
 kids_of_list styles os l = kids styles (suc (length l)) os l
 
--- the tree of a text by the styles of its marks: what stands under the root
+-- the tree of a text by the styles of its marks: what stands under the root, nodes at most 64 deep
 unfoldable pub tree_of : Styles → List ℕ → Forest
 tree_of styles s = (kids_of_list styles [] (placed 0 (tokens_of s))).0
