@@ -1,4 +1,5 @@
--- What a call that exports a book answers, and what it leaves of its sink. The book's bytes are its export.
+-- What a call that exports a book answers, and what it leaves of its sink (this project's own rule). The book's bytes are
+-- its export.
 use Rattle.std.specs.Prelude.{◌≡◌, ℕ, true, false, List, ◌∷◌, Option, Result, Ok, Err, Vec}
 use Rattle.std.specs.Io.KnownBytes.{Appends}
 use Rattle.std.specs.Str.{IsUtf8}
@@ -38,7 +39,8 @@ sink_failures (Ok done) failures = failures
 sink_failures (Err writing.NoBook) failures = failures
 sink_failures (Err (writing.WriteFailed gone)) failures = one_more failures
 
--- What an answer says of a book whose text is asked for: its bytes, or that it has no operation.
+-- What an answer says of a book whose text is asked for: its bytes, or that it has no operation; or out of memory,
+-- where it has one.
 abbrev pub AnswersText : {A : Type 0} → List Operation → List ℕ → Result (Vec ℕ A) TextFault → Type 0
 AnswersText held book (Ok text) = (has_book held book ≡ true) × IsBookOf held book text.items
 AnswersText held book (Err texts.NoBook) = has_book held book ≡ false
