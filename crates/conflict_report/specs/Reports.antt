@@ -46,7 +46,7 @@ conflict_lines g texts =
 
 -- ---- the report
 
--- what is reported of a segment
+-- what is reported of a segment: nothing unless it shows two or more distinct texts
 abbrev pub conflict_at : List Operation → Segment → List ℕ
 conflict_at held g = conflict_lines g (distinct_texts held g)
 
