@@ -17,7 +17,8 @@ pub record WritesBook (book : List ℕ) (to_come left : Option (List ℕ)) (befo
   pub written : Appends before after text
   pub is_book : IsBookOf union book text
 
--- What a stream gives for a book is such a book of the union of its bundles.
+-- What a stream gives for a book is the export of that book of the union of its bundles, which cuts back into the
+-- picked texts.
 abbrev pub FoldedBooksCutBack : Type 0
 FoldedBooksCutBack =
     (book input text : List ℕ) → AreBytes input → book_of_stream book input ≡ Ok text →

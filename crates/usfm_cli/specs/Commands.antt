@@ -95,7 +95,8 @@ abbrev pub delta_for : List Operation → Option (List Known) → Result (List �
 delta_for held (Some known) = Ok (bundle (outside known held))
 delta_for held None = Err BadSummary
 
--- What a command does to a replica, or why it is refused. From `Shown` on they leave it as it is.
+-- The replica after a command and what the command writes, or why it is refused. From `Shown` on commands leave the
+-- replica as it is.
 abbrev pub outcome : State → Command → Result Done Fault
 outcome s (Import file) = import_done s file.now
 outcome s (Edit book key text) = edit_done s (segment book key) text.now

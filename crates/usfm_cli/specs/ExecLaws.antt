@@ -1,4 +1,4 @@
--- Laws of projects under commands.
+-- Laws of projects under commands (this project's own rule).
 use Rattle.std.specs.Prelude.{◌≡◌, ℕ, List, [], Result, Ok, Err}
 use Rattle.std.specs.List.{Contains}
 use Rattle.op_core.specs.Laws.{IsAmong}
