@@ -1,4 +1,4 @@
--- Laws of bundles.
+-- Laws of bundles (this project's own format): joining them is a join semilattice's, as joining sets is (INRIA RR-7506).
 use Rattle.std.specs.Prelude.{◌≡◌, ◌≢◌, ◌<◌, ◌^◌, ℕ, List, [], ◌++◌, length, Result, Ok, Err}
 use Rattle.op_core.specs.Ops.{Operation}
 use Rattle.op_core.specs.Sets.{IsOpSet}

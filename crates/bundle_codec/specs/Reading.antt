@@ -1,5 +1,5 @@
--- Reading a bundle from left to right. A field is read whole and then judged, before the next one is looked
--- at, so a refusal is the fault of the first field that is cut or breaks its rule. What follows the last
+-- Reading a bundle from left to right (this project's own format). A field is read whole and then judged, before the next
+-- one is looked at, so a refusal is the fault of the first field that is cut or breaks its rule. What follows the last
 -- operation is not read.
 use Rattle.std.specs.Prelude.{ℕ, zero, suc, ◌+◌, ◌<◌, slice_index, ◌&&◌, ◌||◌, ◌≡◌, Bool, true, List, [], ◌∷◌, length, take, drop, Option, Some, None, Result, Ok, Err, nat_le, nat_lt, ◌==◌, if◌then◌else◌}
 use Rattle.std.specs.Int.{Width, w16, w64, byte_len, from_be_bytes}

@@ -36,7 +36,8 @@ pub record IsKnown (k : Known) : Type 0 where
   pub each : IsTrue (list_all is_range k.ranges)
   pub apart : IsTrue (are_apart k.ranges)
 
--- a summary: names that rise by their bytes, each with its ranges
+-- a summary: names that rise by their bytes, each with ranges that lie from 1 to 10^15, at least one, no two of
+-- which touch
 pub record IsSummary (s : List Known) : Type 0 where
   pub rising : IsTrue (rises_by name_cmp (λ k. k.name) s)
   pub each : AllByRecursion IsKnown s
