@@ -6,7 +6,7 @@ pub record Passage : Type 0 where
   pub start : ℕ
   pub text : List ℕ
 
--- its bytes are the text's from its start on
+-- the bytes of a passage are the text's from its start on
 abbrev pub StandsIn : List ℕ → Passage → Type 0
 StandsIn s p = slice_range s p.start (p.start + length p.text) ≡ p.text
 

@@ -50,7 +50,7 @@ is_nothing (text s t f) = false
 is_nothing (leaf s m f) = false
 is_nothing (node k s b m ks c f) = false
 
--- the texts, in order
+-- the texts of entries within these nodes and after a mark, if one stands there, in order
 abbrev pub sites_in : List Around → Option MarkParts → Forest → List Site
 sites_in around behind nothing = []
 sites_in around behind (text s t f) =
@@ -92,7 +92,8 @@ abbrev pub verse_length : Option VerseMark → ℕ
 verse_length None = 0
 verse_length (Some v) = v.length
 
--- those of the number directly after the mark `\v`; after `\+v` and `\v*` stands none
+-- the bytes of the number directly after the mark `\v`, with its bridge and the blanks before; after `\+v` and
+-- `\v*` stands none
 abbrev pub number_length : Option MarkParts → List ℕ → ℕ
 number_length None bytes = 0
 number_length (Some m) bytes = if bytes_eq (mark_bytes m) (codes "\\v") then verse_length (verse_in bytes) else 0
@@ -124,6 +125,6 @@ trimmed t =
 abbrev pub plain_in : List Record → Forest → List Passage
 plain_in sheet tree = map trimmed (filter (is_plain sheet) (sites_in [] None tree))
 
--- the plain leaves of a text by the records of a style sheet, in order
+-- the plain leaves of a text by the records of a style sheet, in order, each without number and attributes
 unfoldable pub plain_leaves : List Record → List ℕ → List Passage
 plain_leaves sheet s = plain_in sheet (tree_of (styles_in sheet) s)

@@ -28,7 +28,7 @@ is_combining SpacingMark = true
 is_combining EnclosingMark = true
 is_combining _ = false
 
--- a character of words: one that is alphabetic, or that combines with others
+-- a character of words: one that is alphabetic, or of the general categories Mn, Mc and Me
 abbrev pub is_word_char : ℕ → Bool
 is_word_char c = is_alphabetic c || is_combining (general_category c)
 
