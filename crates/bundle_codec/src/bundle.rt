@@ -97,7 +97,7 @@ fn bundle_of(bytes: &[u8]) -> Result<(Bundle<'_>, &[u8]), BundleFault>
 
 /// The bundle that the bytes begin with, and how many bytes it takes. What follows it is not read.
 ///
-/// It takes no memory, and so there is no fault for want of it: the allocator is for a later format,
+/// It takes no memory, and so none of its faults is out of memory: the allocator is for a later format,
 /// whose judging needs some.
 ///
 /// # Errors
