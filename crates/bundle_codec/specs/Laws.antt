@@ -44,7 +44,7 @@ abbrev pub then_joined : Result (List ℕ) JoinFault → (List ℕ → Result (L
 then_joined (Ok made) others = others made
 then_joined (Err fault) others = Err fault
 
--- the same bytes, or two clashes, at whatever ids
+-- two joinings give the same bytes, or two clashes, at whatever ids
 abbrev pub AnswerAlike : Result (List ℕ) JoinFault → Result (List ℕ) JoinFault → Type 0
 AnswerAlike (Ok one) (Ok other) = one ≡ other
 AnswerAlike (Err (Clash id)) (Err (Clash other)) = Unit {0}

@@ -80,7 +80,7 @@ any x = true
 
 -- ---- an operation
 
--- 1 to 32
+-- the length of a name: 1 to 32
 abbrev pub is_name_length : ℕ → Bool
 is_name_length n = nat_le 1 n && nat_le n 32
 

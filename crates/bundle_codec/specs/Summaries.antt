@@ -1,4 +1,4 @@
--- What a copy holds, told as ranges of numbers under names, and what another copy lacks (this project's own format).
+-- What a copy holds, as ranges of numbers under names, and what another copy lacks (this project's own format).
 use Rattle.std.specs.Prelude.{◌≡◌, ◌≢◌, ℕ, suc, nat_le, nat_lt, ◌==◌, Bool, true, not, ◌&&◌, List, [], ◌∷◌, ◌++◌, length, map, filter, codes, IsTrue, if◌then◌else◌}
 use Rattle.std.specs.Int.{w64, to_be_bytes}
 use Rattle.std.specs.List.{list_all, list_any, flat_map, AllByRecursion}

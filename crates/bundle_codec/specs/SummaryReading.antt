@@ -59,7 +59,7 @@ known_at before bytes = do
   ranges ← ranges_at count.0 count.1
   Ok (record { name = name.0; ranges = ranges.0 }, ranges.1)
 
--- its name, and the bytes after it
+-- of a name that was read with its ranges, the name, and the bytes after the ranges
 abbrev pub name_read : Result (Known × List ℕ) BundleFault → Result (List ℕ × List ℕ) BundleFault
 name_read read = read >>= λ k. Ok (k.0.name, k.1)
 

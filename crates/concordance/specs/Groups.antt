@@ -21,7 +21,7 @@ told_by g = map (λ k. record { form = g.0.now; key = k }) g.1.items
 abbrev pub told : List Group → List Spelling
 told gs = flat_map told_by gs
 
--- one has no key
+-- a group has no key
 abbrev pub is_bare : Group → Bool
 is_bare g = length g.1.items == 0
 
@@ -29,7 +29,7 @@ is_bare g = length g.1.items == 0
 abbrev pub has_bare : List Group → Bool
 has_bare gs = list_any is_bare gs
 
--- their forms rise
+-- the forms of groups rise
 abbrev pub rise : List Group → Bool
 rise gs = rises_by form_cmp (λ g. g.0.now) gs
 

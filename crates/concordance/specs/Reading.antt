@@ -21,7 +21,7 @@ inside_of sheet around = record {
   in_closed = in_closed_character around;
 }
 
--- and with one more around it
+-- what the nodes around a text say of it, with one more around it
 abbrev pub within : List Record → Surroundings → Around → Surroundings
 within sheet i a = record {
   in_verse_text = is_verse_text sheet a || i.in_verse_text;
@@ -74,7 +74,7 @@ HasShape (shapes.Branch kind) f = (m : MarkParts) × (f ≡ node kind (start_of 
 
 -- ---- pieces
 
--- where pieces begin, and where they end
+-- where pieces begin
 abbrev pub begin_of : List Part → ℕ
 begin_of [] = 0
 begin_of (p ∷ ps) = p.start

@@ -19,7 +19,7 @@ pub data Field : Type 0 where
   style_type : List ℕ → Field
   text_type : List ℕ → Field
 
--- the same word, without ASCII case
+-- whether two words are the same, without ASCII case
 abbrev pub is_word : List ℕ → List ℕ → Bool
 is_word word bs = str_eq_ignore_ascii_case word bs
 
@@ -34,7 +34,7 @@ field_named key value =
     else if is_word (codes "TextType") key then text_type value
     else passed
 
--- after the backslash: the field's name up to a blank, and its value, without the blanks around it
+-- the field after a backslash: its name up to a blank, and its value without the blanks around it
 abbrev pub field_behind : List ℕ → Field
 field_behind bs = field_named (first_word bs) (trimmed (behind_word bs))
 

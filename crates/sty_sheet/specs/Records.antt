@@ -27,7 +27,7 @@ is_filled bs = not (bytes_eq bs [])
 unfoldable pub words_of : List ℕ → List (List ℕ)
 words_of bs = filter is_filled (slice_split is_blank bs)
 
--- without a '*' (42) at the end, if one stands there
+-- a text without a '*' (42) at its end, if one stands there
 abbrev pub without_star : List ℕ → List ℕ
 without_star bs = if slice_index bs (length bs - 1) == 42 then take (length bs - 1) bs else bs
 

@@ -93,7 +93,7 @@ is_last (Some verse) = is_verse verse
 
 -- ---- the same, as a reading from the left: what is read, if it stands at the front, and the bytes after it
 
--- after one blank or more
+-- what stands after one blank or more at the front
 unfoldable pub blanks_at : List ℕ → Option (List ℕ)
 blanks_at bytes = let n = prefix_len is_blank bytes in if nat_le 1 n then Some (drop n bytes) else None
 
