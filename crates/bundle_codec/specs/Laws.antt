@@ -1,4 +1,5 @@
--- Laws of bundles (this project's own format): joining them is a join semilattice's, as joining sets is (INRIA RR-7506).
+-- Laws of bundles (this project's own format). Joining them is associative, commutative and idempotent, as joining is in
+-- a join semilattice (INRIA RR-7506).
 use Rattle.std.specs.Prelude.{◌≡◌, ◌≢◌, ◌<◌, ◌^◌, ℕ, List, [], ◌++◌, length, Result, Ok, Err}
 use Rattle.op_core.specs.Ops.{Operation}
 use Rattle.op_core.specs.Sets.{IsOpSet}

@@ -1,4 +1,5 @@
--- What commands report of a book by a style sheet (this project's own rule): its findings, the hits of a needle, and its words.
+-- What commands report of a book by a style sheet (this project's own rule): its findings, the hits of a needle, and its
+-- words.
 use Rattle.std.specs.Prelude.{ℕ, Bool, true, false, List, [], ◌∷◌, ◌++◌, Result, Ok, Err, if◌then◌else◌}
 use Rattle.std.specs.Fmt.{decimal}
 use Rattle.std.specs.List.{flat_map}
