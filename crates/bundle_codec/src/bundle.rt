@@ -8,7 +8,7 @@ use crate::fault::BundleFault;
 use crate::fields::{exactly_of, u64_at};
 use crate::operation::after_operations;
 use crate::walk::BundleOps;
-use op_core::{OpSet, SetFault};
+use op_core::OpSet;
 use std::alloc::{AllocError, Global};
 use std::marker::Model;
 
@@ -61,14 +61,12 @@ impl<'a> Bundle<'a> {
     pub fn to_set(&self, alloc: Global) -> Result<OpSet, AllocError>
         ensures { IfOk result (λ set. set ≡ self.now) }
     {
-        let mut set = OpSet::new(alloc);
+        let mut ops = Vec::new(alloc);
         for view in self.ops() {
-            match set.insert(view.to_op(alloc)?) {
-                Ok(_) => {}
-                Err(SetFault::Memory) => return Err(AllocError),
-                Err(SetFault::Clash(_)) => unreachable!(),
-            }
+            ops.push(view.to_op(alloc)?)?;
         }
+        let mut set = OpSet::new(alloc);
+        set.join_rising(ops)?;
         Ok(set)
     }
 }
