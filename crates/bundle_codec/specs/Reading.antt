@@ -134,12 +134,17 @@ replaced_at bad own bytes = do
   count ← number_at w64 any Truncated bytes
   many_at (named_at bad own) after_id count.0 None count.1
 
+-- the bytes of a text, after their count
+unfoldable pub counted_text_at : List ℕ → Result (List ℕ × List ℕ) BundleFault
+counted_text_at bytes = do
+  len ← number_at w64 any Truncated bytes
+  block_at len.0 any Truncated len.1
+
 -- the tag, and the bytes of the text; k is the place of the operation, from 1
 unfoldable pub body_at : ℕ → List ℕ → Result (List ℕ × List ℕ) BundleFault
 body_at k bytes = do
   tag ← byte_at (λ b. b == 1) (BadTag k) bytes
-  len ← number_at w64 any Truncated tag.1
-  block_at len.0 any Truncated len.1
+  counted_text_at tag.1
 
 -- the rules of the text of the k-th operation, once it is whole: it is UTF-8
 abbrev pub judge_text : ℕ → List ℕ → Result (Unit {0}) BundleFault
@@ -173,12 +178,17 @@ after_operation s o = (s.0 + 1, Some o.id)
 abbrev pub operations_at : ℕ → ℕ × Option Id → List ℕ → Result (List Operation × List ℕ) BundleFault
 operations_at n s bytes = many_at (λ t. operation_at t.0 t.1) after_operation n s bytes
 
+-- how many operations, and each of them, rising by id
+unfoldable pub counted_operations_at : List ℕ → Result (List Operation × List ℕ) BundleFault
+counted_operations_at bytes = do
+  count ← number_at w64 any Truncated bytes
+  operations_at count.0 (1, None) count.1
+
 -- a bundle at the front, and what follows it
 unfoldable pub bundle_at : List ℕ → Result (List Operation × List ℕ) BundleFault
 bundle_at bytes = do
   start ← exactly_at magic Magic bytes
-  count ← number_at w64 any Truncated start.1
-  operations_at count.0 (1, None) count.1
+  counted_operations_at start.1
 
 -- the bytes after what was read
 abbrev pub after : {A : Type 0} → Result (A × List ℕ) BundleFault → Result (List ℕ) BundleFault
