@@ -7,14 +7,17 @@ use Rattle.std.specs.Global.{Vec}
 use Rattle.usfm_ref.specs.Keys.{KeyParts}
 use Rattle.usfm_ref.specs.Rising.{rises_by}
 use Rattle.concordance.specs.SpellingOrder.{spelling_cmp}
-use Rattle.concordance.specs.Words.{Spelling, form_cmp}
+use Rattle.concordance.specs.Words.{Spelling, form_cmp, form_of}
 
 -- a form, and keys at which it stands, in the order in which they were told
 abbrev pub Group : Type 0
 Group = Bor (List ℕ) × Vec KeyParts
 
+abbrev pub told_with : List ℕ → List KeyParts → List Spelling
+told_with form keys = map (λ k. record { form = form; key = k }) keys
+
 abbrev pub told_by : Group → List Spelling
-told_by g = map (λ k. record { form = g.0.now; key = k }) g.1.items
+told_by g = told_with g.0.now g.1.items
 
 abbrev pub told : List Group → List Spelling
 told gs = flat_map told_by gs
@@ -38,6 +41,14 @@ is_told s ss = list_any (λ t. is_eq (spelling_cmp s t)) ss
 abbrev pub TellsSame : List Spelling → List Spelling → Type 0
 TellsSame ss ts = (s : Spelling) → is_told s ss ≡ is_told s ts
 
--- the second list tells what the first does, and one more
-abbrev pub AlsoTells : List Spelling → Spelling → List Spelling → Type 0
-AlsoTells ss t ts = (s : Spelling) → is_told s ts ≡ (is_told s ss || is_eq (spelling_cmp s t))
+-- the last list tells what the first two do
+abbrev pub AlsoTells : List Spelling → List Spelling → List Spelling → Type 0
+AlsoTells ss more ts = (s : Spelling) → is_told s ts ≡ (is_told s ss || is_told s more)
+
+-- a spelling of a run, composed
+abbrev pub composed : Spelling → Spelling
+composed s = record { form = form_of s.form; key = s.key }
+
+-- the form of a group of a run
+abbrev pub form_at : Group → List ℕ
+form_at g = form_of g.0.now

@@ -1,19 +1,23 @@
 -- The plain leaves as one reading of the tree, from the left, and what is left of the pieces on the way.
-use Rattle.std.specs.Prelude.{◌≡◌, ℕ, suc, ◌+◌, ◌^◌, ◌<◌, Bool, true, ◌==◌, nat_le, nat_lt, not, ◌&&◌, ◌||◌, List, [], ◌∷◌, ◌++◌, length, drop, Option, None, Some, is_some, IsUtf8, if◌then◌else◌}
+use Rattle.std.specs.Prelude.{ℕ, ◌+◌, ◌^◌, ◌<◌, Bool, true, ◌==◌, nat_le, nat_lt, not, ◌&&◌, ◌||◌, List, [], ◌∷◌, ◌++◌, length, drop, Option, None, Some, is_some, IsUtf8, if◌then◌else◌}
 use Rattle.std.specs.List.{list_any}
 use Rattle.sty_sheet.specs.Records.{Record}
 use Rattle.usfm_token.specs.Tokens.{MarkParts}
 use Rattle.usfm_tree.specs.Around.{Around}
-use Rattle.usfm_tree.specs.Forest.{Forest, nothing, text, leaf, node, start_of, slice_here, kids_of, close_of}
+use Rattle.usfm_tree.specs.Forest.{Forest, nothing, text, leaf, node}
 use Rattle.usfm_tree.specs.Reading.{is_character_kind}
 use Rattle.verse_cut.specs.Pieces.{Part, pieces_joined}
 use Rattle.concordance.specs.Passages.{Passage}
-use Rattle.concordance.specs.declared.plain.Shape.{Shape}
-use Rattle.concordance.specs.declared.plain.Shape.TheVariants as shapes
-use Rattle.concordance.specs.declared.plain.Surroundings.{Surroundings}
 use Rattle.concordance.specs.Plain.{is_verse_text, is_aside, in_closed_character, is_nothing, node_end, mark_at_end, number_length, without_attributes}
 
--- what the nodes around a text say of it
+-- What the nodes around a text say of it: one of them has the text of verses, one is a note or a milestone, and the innermost is a
+-- character node that ends with its closing mark.
+pub record Surroundings : Type 0 where
+  pub in_verse_text : Bool
+  pub in_aside : Bool
+  pub in_closed : Bool
+
+-- what these nodes say
 abbrev pub inside_of : List Record → List Around → Surroundings
 inside_of sheet around = record {
   in_verse_text = list_any (is_verse_text sheet) around;
@@ -57,19 +61,6 @@ TextsFit nothing = Unit {0}
 TextsFit (text s t f) = (s + length t < 2 ^ 64) × TextsFit f
 TextsFit (leaf s m f) = TextsFit f
 TextsFit (node k s b m ks c f) = TextsFit ks × TextsFit f
-
--- how many entries there are, with those inside others
-abbrev pub entry_count : Forest → ℕ
-entry_count nothing = 0
-entry_count (text s t f) = suc (entry_count f)
-entry_count (leaf s m f) = suc (entry_count f)
-entry_count (node k s b m ks c f) = suc (entry_count ks + entry_count f)
-
--- a single entry is a text, a leaf, or a node of a kind
-abbrev pub HasShape : Shape → Forest → Type 0
-HasShape shapes.Text f = f ≡ text (start_of f) (slice_here f) nothing
-HasShape shapes.Leaf f = (m : MarkParts) × (f ≡ leaf (start_of f) m nothing)
-HasShape (shapes.Branch kind) f = (m : MarkParts) × (f ≡ node kind (start_of f) (slice_here f) m (kids_of f) (close_of f) nothing)
 
 -- ---- pieces
 
