@@ -7,10 +7,10 @@ use Rattle.usfm_ref.specs.declared.key.Place.TheVariants.{Head, Verse}
 use Rattle.usfm_ref.specs.Keys.{is_place, is_key}
 use Rattle.bundle_codec.specs.declared.fault.BundleFault.{BundleFault}
 use Rattle.bundle_codec.specs.declared.fault.BundleFault.TheVariants.{Truncated}
-use Rattle.bundle_codec.specs.Spelling.{place, key, body}
-use Rattle.bundle_codec.specs.Reading.{AreBytes, any, byte_at, block_at, number_at, place_of, place_at, key_at, body_at}
+use Rattle.bundle_codec.specs.Spelling.{place, key, counted_text, body}
+use Rattle.bundle_codec.specs.Reading.{AreBytes, any, byte_at, block_at, number_at, place_of, place_at, key_at, counted_text_at, body_at}
 use Rattle.bundle_codec.proofs.Readers.{byte_reads, block_reads, number_reads, wide16, wide64}
-use Rattle.bundle_codec.proofs.Spelled.{kind_of, verse_of, letter_of, place_from, place_spelled, place_reads, key_reads, body_reads, key_below}
+use Rattle.bundle_codec.proofs.Spelled.{kind_of, verse_of, letter_of, place_from, place_spelled, place_reads, key_reads, counted_text_reads, body_reads, key_below}
 use Rattle.bundle_codec.proofs.Steps.{Front, front, is_ok, at_front, same_value, same_rest}
 
 -- ---- a place
@@ -115,38 +115,52 @@ module _ (bad : BundleFault) (bytes : List ℕ) (fine : AreBytes bytes) (h : IsO
 
 -- ---- a text
 
+module _ (bytes : List ℕ) (fine : AreBytes bytes) (h : IsOk (counted_text_at bytes)) where
+  text_front : Front counted_text_at counted_text (λ text. length text < 2 ^ 64) bytes
+  text_front = front counted_text_reads bytes fine h
+
+  abbrev text : List ℕ
+  text = text_front.first
+
+  text_length_spelled : number_at w64 any Truncated bytes ≡ Ok (length text, text ++ text_front.left)
+  text_length_spelled = at_front (number_reads w64 (2 ^ 64) wide64 any Truncated) (length text) (text ++ text_front.left) bytes
+      (text_front.parts ∙ append_assoc (to_be_bytes w64 (length text)) text text_front.left)
+      (text_front.fits, refl)
+
+  pub text_length : IsOk (number_at w64 any Truncated bytes)
+  text_length = is_ok (number_at w64 any Truncated bytes) _ text_length_spelled
+
+  module _ (len : ℕ) (rest : List ℕ) (one : number_at w64 any Truncated bytes ≡ Ok (len, rest)) where
+    text_spelled : block_at len any Truncated rest ≡ Ok (text, text_front.left)
+    text_spelled = at_front (block_reads len any Truncated) text text_front.left rest
+        (same_rest (number_at w64 any Truncated bytes) _ _ _ _ text_length_spelled one)
+        (sym (same_value (number_at w64 any Truncated bytes) _ _ _ _ text_length_spelled one), refl)
+
+    pub text_block : IsOk (block_at len any Truncated rest)
+    text_block = is_ok (block_at len any Truncated rest) _ text_spelled
+
+    pub text_is : (found left : List ℕ) → block_at len any Truncated rest ≡ Ok (found, left) → counted_text_at bytes ≡ Ok (found, left)
+    text_is found left two = text_front.is_read ∙ sym text_spelled ∙ two
+
+-- ---- a tag and a text
+
 module _ (bytes : List ℕ) (fine : AreBytes bytes) (h : IsOk (body_at 0 bytes)) where
   body_front : Front (body_at 0) body (λ text. length text < 2 ^ 64) bytes
   body_front = front (body_reads 0) bytes fine h
 
-  abbrev text : List ℕ
-  text = body_front.first
-
-  tag_spelled : byte_at any Truncated bytes ≡ Ok (1, (to_be_bytes w64 (length text) ++ text) ++ body_front.left)
-  tag_spelled =
-      at_front (byte_reads any Truncated) 1 ((to_be_bytes w64 (length text) ++ text) ++ body_front.left) bytes body_front.parts refl
+  tag_spelled : byte_at any Truncated bytes ≡ Ok (1, counted_text body_front.first ++ body_front.left)
+  tag_spelled = at_front (byte_reads any Truncated) 1 (counted_text body_front.first ++ body_front.left) bytes body_front.parts refl
 
   pub body_tag : IsOk (byte_at any Truncated bytes)
   body_tag = is_ok (byte_at any Truncated bytes) _ tag_spelled
 
   module _ (tag : ℕ) (rest : List ℕ) (one : byte_at any Truncated bytes ≡ Ok (tag, rest)) where
-    text_length_spelled : number_at w64 any Truncated rest ≡ Ok (length text, text ++ body_front.left)
-    text_length_spelled = at_front (number_reads w64 (2 ^ 64) wide64 any Truncated) (length text) (text ++ body_front.left) rest
-        (same_rest (byte_at any Truncated bytes) _ _ _ _ tag_spelled one
-        ∙ append_assoc (to_be_bytes w64 (length text)) text body_front.left)
-        (body_front.fits, refl)
+    body_text_spelled : counted_text_at rest ≡ Ok (body_front.first, body_front.left)
+    body_text_spelled = at_front counted_text_reads body_front.first body_front.left rest
+        (same_rest (byte_at any Truncated bytes) _ _ _ _ tag_spelled one) body_front.fits
 
-    pub body_length : IsOk (number_at w64 any Truncated rest)
-    body_length = is_ok (number_at w64 any Truncated rest) _ text_length_spelled
+    pub body_text : IsOk (counted_text_at rest)
+    body_text = is_ok (counted_text_at rest) _ body_text_spelled
 
-    module _ (len : ℕ) (rest2 : List ℕ) (two : number_at w64 any Truncated rest ≡ Ok (len, rest2)) where
-      text_spelled : block_at len any Truncated rest2 ≡ Ok (text, body_front.left)
-      text_spelled = at_front (block_reads len any Truncated) text body_front.left rest2
-          (same_rest (number_at w64 any Truncated rest) _ _ _ _ text_length_spelled two)
-          (sym (same_value (number_at w64 any Truncated rest) _ _ _ _ text_length_spelled two), refl)
-
-      pub body_text : IsOk (block_at len any Truncated rest2)
-      body_text = is_ok (block_at len any Truncated rest2) _ text_spelled
-
-      pub body_is : (found left : List ℕ) → block_at len any Truncated rest2 ≡ Ok (found, left) → body_at 0 bytes ≡ Ok (found, left)
-      body_is found left three = body_front.is_read ∙ sym text_spelled ∙ three
+    pub body_is : (found left : List ℕ) → counted_text_at rest ≡ Ok (found, left) → body_at 0 bytes ≡ Ok (found, left)
+    body_is found left two = body_front.is_read ∙ sym body_text_spelled ∙ two

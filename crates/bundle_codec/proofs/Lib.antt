@@ -6,7 +6,6 @@ pub mod Loops
 pub mod Seen
 pub mod Steps
 pub mod FieldSteps
-pub mod Appended
 pub mod Wholes
 pub mod Merges
 pub mod Groupings

@@ -7,12 +7,12 @@ use Rattle.op_core.specs.Ids.{Id, is_id}
 use Rattle.op_core.specs.Ops.{Operation}
 use Rattle.op_core.specs.Sets.{IsOpSet}
 use Rattle.bundle_codec.specs.declared.fault.BundleFault.{BundleFault}
-use Rattle.bundle_codec.specs.declared.fault.BundleFault.TheVariants.{Magic, Truncated}
-use Rattle.bundle_codec.specs.Spelling.{id, operation, magic, bundle}
-use Rattle.bundle_codec.specs.Reading.{AreBytes, ◌>>=◌, any, exactly_at, number_at, many_at, id_at, named_at, after_id, operation_at, after_operation, operations_at, bundle_at, after}
+use Rattle.bundle_codec.specs.declared.fault.BundleFault.TheVariants.{Truncated}
+use Rattle.bundle_codec.specs.Spelling.{id, operation, bundle}
+use Rattle.bundle_codec.specs.Reading.{AreBytes, ◌>>=◌, any, number_at, many_at, id_at, named_at, after_id, operation_at, after_operation, operations_at, counted_operations_at, bundle_at, after}
 use Rattle.bundle_codec.specs.Views.{each_at, found, each_id_at, each_operation_at, operations_in, Spells}
-use Rattle.bundle_codec.proofs.Readers.{Each, Reader, Reads, many_reads, number_reads, exactly_reads, wide64, bind_ok, ok_is}
-use Rattle.bundle_codec.proofs.Spelled.{IsNamed, Follows, FollowsAt, IsSpelled, id_reads, named_reads, operation_reads, operations_follow, bundle_reads}
+use Rattle.bundle_codec.proofs.Readers.{Each, Reader, Reads, many_reads, number_reads, wide64, bind_ok, ok_is}
+use Rattle.bundle_codec.proofs.Spelled.{IsNamed, Follows, FollowsAt, IsSpelled, id_reads, named_reads, operation_reads, operations_follow, counted_operations_reads, bundle_reads}
 use Rattle.bundle_codec.proofs.OneSpelling.{AreCounted-from_length}
 
 -- ---- bytes that are left
@@ -79,28 +79,25 @@ replaced_seen bad own n bytes rest fits e =
 
 -- ---- a bundle
 
--- the operations that follow the count of a bundle, and what follows them
+-- the operations that follow their count, and what follows them
 pub record Parts (bytes : List ℕ) (n : ℕ) (operations left : List ℕ) : Type 0 where
   pub ops : List Operation
-  pub read : bundle_at bytes ≡ Ok (ops, left)
+  pub read : counted_operations_at bytes ≡ Ok (ops, left)
   pub own : operations ≡ flat_map operation ops ++ left
   pub count : length ops ≡ n
   pub set : IsSpelled ops
 
-pub bundle_parts : (bytes rest : List ℕ) (n : ℕ) (operations left : List ℕ) → AreBytes bytes → exactly_at magic Magic bytes ≡ Ok (tt, rest)
-    → number_at w64 any Truncated rest ≡ Ok (n, operations) → after (operations_at n (1, None) operations) ≡ Ok left
+pub counted_parts : (bytes : List ℕ) (n : ℕ) (operations left : List ℕ) → AreBytes bytes
+    → number_at w64 any Truncated bytes ≡ Ok (n, operations) → after (operations_at n (1, None) operations) ≡ Ok left
     → Parts bytes n operations left
-unfolding bundle_at
-bundle_parts bytes rest n operations left fits first second third =
-    let a = (exactly_reads magic Magic).takes bytes tt rest fits first in
-    let b = (number_reads w64 (2 ^ 64) wide64 any Truncated).takes rest n operations a.0.rest_fits second in
-    let c = after_ok (operations_at n (1, None) operations) left third in
+unfolding counted_operations_at
+counted_parts bytes n operations left fits first second =
+    let a = (number_reads w64 (2 ^ 64) wide64 any Truncated).takes bytes n operations fits first in
+    let b = after_ok (operations_at n (1, None) operations) left second in
     let t = (many_reads (λ s. operation_at s.0 s.1) after_operation operation FollowsAt (λ s. operation_reads s.0 s.1) n (1, None)).takes
-    operations c.0 left b.0.rest_fits c.1 in
-    let read : bundle_at bytes ≡ Ok (c.0, left) =
-    ap (λ r. r >>= λ s. number_at w64 any Truncated s.1 >>= λ k. operations_at k.0 (1, None) k.1) first
-    ∙ ap (λ r. r >>= λ k. operations_at k.0 (1, None) k.1) second ∙ c.1 in
-    record { ops = c.0; read = read; own = t.0.parts; count = t.1.0; set = (bundle_reads.takes bytes c.0 left fits read).1 }
+    operations b.0 left a.0.rest_fits b.1 in
+    let read : counted_operations_at bytes ≡ Ok (b.0, left) = ap (λ r. r >>= λ k. operations_at k.0 (1, None) k.1) first ∙ b.1 in
+    record { ops = b.0; read = read; own = t.0.parts; count = t.1.0; set = (counted_operations_reads.takes bytes b.0 left fits read).1 }
 
 -- the operations are what their own bytes spell, and no more
 own_read : (bytes : List ℕ) (n : ℕ) (operations left : List ℕ) (p : Parts bytes n operations left)

@@ -18,8 +18,8 @@ use Rattle.op_core.specs.Ops.{Operation, IsOperation}
 use Rattle.op_core.specs.Sets.{IsOpSet}
 use Rattle.bundle_codec.specs.declared.fault.BundleFault.{BundleFault}
 use Rattle.bundle_codec.specs.declared.fault.BundleFault.TheVariants.{Magic, Truncated, NotRising, BadId, BadKey, BadReplaced, BadTag, NotUtf8, BadText}
-use Rattle.bundle_codec.specs.Spelling.{magic, id, letter, place, key, ids, body, operation, bundle, IsCounted, AreCounted}
-use Rattle.bundle_codec.specs.Reading.{any, is_name_length, id_at, is_verse, is_letter_byte, place_of, place_at, key_at, comes_after, named_at, after_id, replaced_at, body_at, operation_at, after_operation, bundle_at}
+use Rattle.bundle_codec.specs.Spelling.{magic, id, letter, place, key, ids, counted_text, body, operation, counted_operations, bundle, IsCounted, AreCounted}
+use Rattle.bundle_codec.specs.Reading.{any, is_name_length, id_at, is_verse, is_letter_byte, place_of, place_at, key_at, comes_after, named_at, after_id, replaced_at, counted_text_at, body_at, operation_at, after_operation, counted_operations_at, bundle_at}
 use Rattle.bundle_codec.proofs.Readers.{Each, Reads, step, ends, checked, reads_as, byte_reads, block_reads, number_reads, exactly_reads, wide16, wide64, many_reads}
 use Rattle.bundle_codec.proofs.RisingIds.{Climbs, rises-from_climbs, climbs-from_rises}
 
@@ -219,17 +219,23 @@ key_reads bad =
 
 -- ---- the text
 
+pub counted_text_reads : Reads counted_text_at counted_text (λ text. length text < 2 ^ 64)
+unfolding counted_text_at
+counted_text_reads =
+    reads_as counted_text (λ text. length text < 2 ^ 64)
+    (step (λ (text : List ℕ). length text) (number_reads w64 (2 ^ 64) wide64 any Truncated) (λ len. block_reads len any Truncated)
+    (λ len text _ f. f.0))
+    (λ text f. f.0.0)
+    (λ text f. ((f, refl), (refl, refl)))
+    (λ text f. refl)
+
 pub body_reads : (k : ℕ) → Reads (body_at k) body (λ text. length text < 2 ^ 64)
 unfolding body_at
 body_reads k =
     reads_as body (λ text. length text < 2 ^ 64)
-    (step (λ (text : List ℕ). 1) (byte_reads (λ b. eqb b 1) (BadTag k)) (λ tag.
-    step (λ (text : List ℕ). length text) (number_reads w64 (2 ^ 64) wide64 any Truncated) (λ len.
-    block_reads len any Truncated)
-    (λ len text _ f. f.0))
-    (λ tag text h f. sym (eqb-true tag 1 h)))
-    (λ text f. f.1.0.0)
-    (λ text f. (refl, ((f, refl), (refl, refl))))
+    (step (λ (text : List ℕ). 1) (byte_reads (λ b. eqb b 1) (BadTag k)) (λ tag. counted_text_reads) (λ tag text h f. sym (eqb-true tag 1 h)))
+    (λ text f. f.1)
+    (λ text f. (refl, f))
     (λ text f. refl)
 
 -- ---- an operation
@@ -317,19 +323,26 @@ IsSpelled ops = IsOpSet ops × AreCounted ops
 pub operations_follow : (ops : List Operation) → IsSpelled ops → Each FollowsAt after_operation (1, None) ops
 operations_follow ops s = each_follows 1 None ops (climbs-from_rises (λ o. o.id) ops s.0.rising) s.0.each s.1.each
 
+pub counted_operations_reads : Reads counted_operations_at counted_operations IsSpelled
+unfolding counted_operations_at
+counted_operations_reads =
+    reads_as counted_operations IsSpelled
+    (step (λ (ops : List Operation). length ops) (number_reads w64 (2 ^ 64) wide64 any Truncated) (λ count.
+    many_reads (λ s. operation_at s.0 s.1) after_operation operation FollowsAt (λ s. operation_reads s.0 s.1) count (1, None))
+    (λ count ops _ f. f.0))
+    (λ ops f. let p = each_fits 1 None ops f.1.1 in (
+      record { rising = rises-from_climbs (λ o. o.id) None ops (each_climbs_ops 1 None ops f.1.1); each = p.0 },
+      record
+          { count = f.0.0; each = p.1 },
+    ))
+    (λ ops f. ((f.1.count, refl), (refl, operations_follow ops f)))
+    (λ ops f. refl)
+
 pub bundle_reads : Reads bundle_at bundle IsSpelled
 unfolding bundle_at bundle
 bundle_reads =
     reads_as bundle IsSpelled
-    (step (λ (ops : List Operation). tt) (exactly_reads magic Magic) (λ _.
-    step (λ (ops : List Operation). length ops) (number_reads w64 (2 ^ 64) wide64 any Truncated) (λ count.
-    many_reads (λ s. operation_at s.0 s.1) after_operation operation FollowsAt (λ s. operation_reads s.0 s.1) count (1, None))
-    (λ count ops _ f. f.0))
-    (λ _ ops _ f. refl))
-    (λ ops f. let p = each_fits 1 None ops f.1.1.1 in (
-      record { rising = rises-from_climbs (λ o. o.id) None ops (each_climbs_ops 1 None ops f.1.1.1); each = p.0 },
-      record
-          { count = f.1.0.0; each = p.1 },
-    ))
-    (λ ops f. (tt, ((f.1.count, refl), (refl, operations_follow ops f))))
+    (step (λ (ops : List Operation). tt) (exactly_reads magic Magic) (λ _. counted_operations_reads) (λ _ ops _ f. refl))
+    (λ ops f. f.1)
+    (λ ops f. (tt, f))
     (λ ops f. refl)

@@ -13,10 +13,12 @@ use Rattle.bundle_codec.specs.Reading.{bundle_at}
 
 -- ---- a bundle and nothing after it
 
+-- the set of a bundle, if no bytes follow it, and else that some do
 abbrev pub nothing_after : List Operation → List ℕ → Result (List Operation) WholeFault
 nothing_after ops [] = Ok ops
 nothing_after ops (b ∷ rest) = Err whole.Trailing
 
+-- the set of a bundle that was read to the end of the bytes, or why none was
 abbrev pub whole_if : Result (List Operation × List ℕ) BundleFault
     → Result (List Operation) WholeFault
 whole_if (Ok read) = nothing_after read.0 read.1
@@ -55,7 +57,8 @@ of_both (Err fault) second = Err (Bundle fault)
 of_both (Ok a) (Err fault) = Err (Bundle fault)
 of_both (Ok a) (Ok b) = union_or_clash a b (clash a b)
 
--- the bundle of the union of what both bytes spell
+-- the bundle of the union of what both bytes spell; else the refusal of the first, else that of the second, else
+-- their clash
 abbrev pub bundles_joined : List ℕ → List ℕ → Result (List ℕ) JoinFault
 bundles_joined x y = of_both (whole_at x) (whole_at y)
 

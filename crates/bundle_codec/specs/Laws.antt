@@ -1,4 +1,5 @@
--- Laws of bundles.
+-- Laws of bundles (this project's own format). Joining them is associative, commutative and idempotent, as joining is in
+-- a join semilattice (INRIA RR-7506).
 use Rattle.std.specs.Prelude.{◌≡◌, ◌≢◌, ◌<◌, ◌^◌, ℕ, List, [], ◌++◌, length, Result, Ok, Err}
 use Rattle.op_core.specs.Ops.{Operation}
 use Rattle.op_core.specs.Sets.{IsOpSet}
@@ -44,7 +45,7 @@ abbrev pub then_joined : Result (List ℕ) JoinFault → (List ℕ → Result (L
 then_joined (Ok made) others = others made
 then_joined (Err fault) others = Err fault
 
--- the same bytes, or two clashes, at whatever ids
+-- two joinings give the same bytes, or two clashes, at whatever ids
 abbrev pub AnswerAlike : Result (List ℕ) JoinFault → Result (List ℕ) JoinFault → Type 0
 AnswerAlike (Ok one) (Ok other) = one ≡ other
 AnswerAlike (Err (Clash id)) (Err (Clash other)) = Unit {0}

@@ -19,7 +19,7 @@ pub record Passes (ops : List Operation) (bytes : List ℕ) (rest : List Operati
   pub spelled : bytes ≡ operation first
   pub parts : ops ≡ first ∷ rest
 
--- ... or is at its end
+-- a walk goes past its first operation, which the bytes spell, or is at its end
 abbrev pub GoesPast : List Operation → List Operation → Option (Bor (List ℕ)) → Type 0
 GoesPast ops rest None = (ops ≡ []) × (rest ≡ [])
 GoesPast ops rest (Some bytes) = Passes ops bytes.now rest
@@ -36,7 +36,7 @@ pub record Leaves (xs ys : List Operation) (bytes : List ℕ)
   pub right : IsTrue (rises ys')
   pub fewer : length xs' + length ys' < length xs + length ys
 
--- ... or there is nothing to join
+-- a step of a joining takes the first operation of the union, which the bytes spell, or there is nothing to join
 abbrev pub Steps : List Operation → List Operation → List Operation → List Operation
     → Option (Bor (List ℕ)) → Type 0
 Steps xs ys xs' ys' None = (xs ≡ []) × (ys ≡ [])

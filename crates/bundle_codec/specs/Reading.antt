@@ -1,5 +1,5 @@
--- Reading a bundle from left to right. A field is read whole and then judged, before the next one is looked
--- at, so a refusal is the fault of the first field that is cut or breaks its rule. What follows the last
+-- Reading a bundle from left to right (this project's own format). A field is read whole and then judged, before the next
+-- one is looked at, so a refusal is the fault of the first field that is cut or breaks its rule. What follows the last
 -- operation is not read.
 use Rattle.std.specs.Prelude.{ℕ, zero, suc, ◌+◌, ◌<◌, slice_index, ◌&&◌, ◌||◌, ◌≡◌, Bool, true, List, [], ◌∷◌, length, take, drop, Option, Some, None, Result, Ok, Err, nat_le, nat_lt, ◌==◌, if◌then◌else◌}
 use Rattle.std.specs.Int.{Width, w16, w64, byte_len, from_be_bytes}
@@ -17,8 +17,8 @@ use Rattle.bundle_codec.specs.declared.fault.BundleFault.{BundleFault}
 use Rattle.bundle_codec.specs.declared.fault.BundleFault.TheVariants.{Magic, Truncated, NotRising, BadId, BadKey, BadReplaced, BadTag, NotUtf8, BadText}
 use Rattle.bundle_codec.specs.Spelling.{magic}
 
--- the next step of a reading, if the ones before it did not fail
 infixl 10 ◌>>=◌
+-- the next step of a reading, if the ones before it did not fail
 abbrev pub ◌>>=◌ : {A B : Type 0} → Result A BundleFault → (A → Result B BundleFault)
     → Result B BundleFault
 (Ok x) >>= f = f x
@@ -39,16 +39,19 @@ Gives view (Err e) read = read ≡ Err e
 abbrev pub check : Bool → BundleFault → Result (Unit {0}) BundleFault
 check holds bad = if holds then Ok tt else Err bad
 
+-- one byte
 abbrev pub byte_at : (ℕ → Bool) → BundleFault → List ℕ → Result (ℕ × List ℕ) BundleFault
 byte_at rule bad [] = Err Truncated
 byte_at rule bad (b ∷ rest) = if rule b then Ok (b, rest) else Err bad
 
+-- so many bytes
 abbrev pub block_at : ℕ → (List ℕ → Bool) → BundleFault → List ℕ
     → Result (List ℕ × List ℕ) BundleFault
 block_at n rule bad bytes =
     if nat_lt (length bytes) n then Err Truncated
     else if rule (take n bytes) then Ok (take n bytes, drop n bytes) else Err bad
 
+-- a number of a width, big-endian and unsigned
 abbrev pub number_at : Width → (ℕ → Bool) → BundleFault → List ℕ → Result (ℕ × List ℕ) BundleFault
 number_at w rule bad bytes =
     if nat_lt (length bytes) (byte_len w) then Err Truncated
@@ -77,10 +80,11 @@ any x = true
 
 -- ---- an operation
 
--- 1 to 32
+-- the length of a name: 1 to 32
 abbrev pub is_name_length : ℕ → Bool
 is_name_length n = nat_le 1 n && nat_le n 32
 
+-- an id: its number, its name's length and its name
 unfoldable pub id_at : BundleFault → List ℕ → Result (Id × List ℕ) BundleFault
 id_at bad bytes = do
   number ← number_at w64 is_number bad bytes
@@ -96,11 +100,14 @@ is_verse kind n = if kind == 0 then n == 0 else is_place (Verse n None)
 abbrev pub is_letter_byte : ℕ → ℕ → Bool
 is_letter_byte kind b = b == 0 || (kind == 1 && is_letter (Some b))
 
+-- the place of these three numbers: a head where the first is 0, and else a verse, whose letter is absent where the
+-- last is 0
 abbrev pub place_of : ℕ → ℕ → ℕ → Place
 place_of zero verse letter = Head
 place_of (suc kind) verse zero = Verse verse None
 place_of (suc kind) verse (suc letter) = Verse verse (Some (suc letter))
 
+-- a place: whether it is a verse, the verse's number and its letter
 unfoldable pub place_at : BundleFault → List ℕ → Result (Place × List ℕ) BundleFault
 place_at bad bytes = do
   kind ← byte_at (λ b. nat_le b 1) bad bytes
@@ -108,6 +115,7 @@ place_at bad bytes = do
   letter ← byte_at (is_letter_byte kind.0) bad verse.1
   Ok (place_of kind.0 verse.0 letter.0, letter.1)
 
+-- a key: its chapter and its place
 unfoldable pub key_at : BundleFault → List ℕ → Result (KeyParts × List ℕ) BundleFault
 key_at bad bytes = do
   chapter ← number_at w16 (λ n. is_key n Head) bad bytes
@@ -126,20 +134,27 @@ named_at bad own before bytes = do
   _ ← check (comes_after before id.0 && nat_lt id.0.number own.number) bad
   Ok id
 
+-- the id that comes before the next one
 abbrev pub after_id : Option Id → Id → Option Id
 after_id before i = Some i
 
+-- the ids that an operation names as replaced: how many, and each of them
 unfoldable pub replaced_at : BundleFault → Id → List ℕ → Result (List Id × List ℕ) BundleFault
 replaced_at bad own bytes = do
   count ← number_at w64 any Truncated bytes
   many_at (named_at bad own) after_id count.0 None count.1
 
+-- the bytes of a text, after their count
+unfoldable pub counted_text_at : List ℕ → Result (List ℕ × List ℕ) BundleFault
+counted_text_at bytes = do
+  len ← number_at w64 any Truncated bytes
+  block_at len.0 any Truncated len.1
+
 -- the tag, and the bytes of the text; k is the place of the operation, from 1
 unfoldable pub body_at : ℕ → List ℕ → Result (List ℕ × List ℕ) BundleFault
 body_at k bytes = do
   tag ← byte_at (λ b. b == 1) (BadTag k) bytes
-  len ← number_at w64 any Truncated tag.1
-  block_at len.0 any Truncated len.1
+  counted_text_at tag.1
 
 -- the rules of the text of the k-th operation, once it is whole: it is UTF-8
 abbrev pub judge_text : ℕ → List ℕ → Result (Unit {0}) BundleFault
@@ -170,15 +185,21 @@ operation_at k before bytes = do
 abbrev pub after_operation : ℕ × Option Id → Operation → ℕ × Option Id
 after_operation s o = (s.0 + 1, Some o.id)
 
+-- so many operations, from a place and the id before it on
 abbrev pub operations_at : ℕ → ℕ × Option Id → List ℕ → Result (List Operation × List ℕ) BundleFault
 operations_at n s bytes = many_at (λ t. operation_at t.0 t.1) after_operation n s bytes
 
--- a bundle at the front, and what follows it
+-- how many operations, and each of them, rising by id
+unfoldable pub counted_operations_at : List ℕ → Result (List Operation × List ℕ) BundleFault
+counted_operations_at bytes = do
+  count ← number_at w64 any Truncated bytes
+  operations_at count.0 (1, None) count.1
+
+-- the set of the bundle at the front of the bytes, and the bytes after it; or the first fault by place
 unfoldable pub bundle_at : List ℕ → Result (List Operation × List ℕ) BundleFault
 bundle_at bytes = do
   start ← exactly_at magic Magic bytes
-  count ← number_at w64 any Truncated start.1
-  operations_at count.0 (1, None) count.1
+  counted_operations_at start.1
 
 -- the bytes after what was read
 abbrev pub after : {A : Type 0} → Result (A × List ℕ) BundleFault → Result (List ℕ) BundleFault

@@ -35,17 +35,25 @@ key k = to_be_bytes w16 k.chapter ++ place k.place
 abbrev pub ids : List Id → List ℕ
 ids named = to_be_bytes w64 (length named) ++ flat_map id named
 
--- the tag 1, the text's length in eight bytes, and the text
+-- the text's length in eight bytes, and the text
+abbrev pub counted_text : List ℕ → List ℕ
+counted_text text = to_be_bytes w64 (length text) ++ text
+
+-- the tag 1, and the text after its length
 abbrev pub body : List ℕ → List ℕ
-body text = 1 ∷ (to_be_bytes w64 (length text) ++ text)
+body text = 1 ∷ counted_text text
 
 -- the id, the book's code, the key, the ids that are named as replaced, and the text
 abbrev pub operation : Operation → List ℕ
 operation o = id o.id ++ (o.segment.book ++ (key o.segment.key ++ (ids o.replaced ++ body o.text)))
 
--- the magic, how many operations in eight bytes, and each of them, in the order of the list
+-- how many operations in eight bytes, and each of them, in the order of the list
+abbrev pub counted_operations : List Operation → List ℕ
+counted_operations ops = to_be_bytes w64 (length ops) ++ flat_map operation ops
+
+-- the magic, and the operations after their count
 unfoldable pub bundle : List Operation → List ℕ
-bundle ops = magic ++ (to_be_bytes w64 (length ops) ++ flat_map operation ops)
+bundle ops = magic ++ counted_operations ops
 
 -- ---- what the fields of eight bytes can count
 

@@ -1,4 +1,4 @@
--- What a copy holds, told as ranges of numbers under names, and what another copy lacks (this project's own format).
+-- What a copy holds, as ranges of numbers under names, and what another copy lacks (this project's own format).
 use Rattle.std.specs.Prelude.{◌≡◌, ◌≢◌, ℕ, suc, nat_le, nat_lt, ◌==◌, Bool, true, not, ◌&&◌, List, [], ◌∷◌, ◌++◌, length, map, filter, codes, IsTrue, if◌then◌else◌}
 use Rattle.std.specs.Int.{w64, to_be_bytes}
 use Rattle.std.specs.List.{list_all, list_any, flat_map, AllByRecursion}
@@ -36,7 +36,8 @@ pub record IsKnown (k : Known) : Type 0 where
   pub each : IsTrue (list_all is_range k.ranges)
   pub apart : IsTrue (are_apart k.ranges)
 
--- the names rise by their bytes
+-- a summary: names that rise by their bytes, each with ranges that lie from 1 to 10^15, at least one, no two of
+-- which touch
 pub record IsSummary (s : List Known) : Type 0 where
   pub rising : IsTrue (rises_by name_cmp (λ k. k.name) s)
   pub each : AllByRecursion IsKnown s
@@ -89,6 +90,7 @@ outside s held = filter (λ o. not (covers s o.id)) held
 unfoldable pub summary_magic : List ℕ
 summary_magic = codes "USFMSS1" ++ 10 ∷ []
 
+-- a range: its first and its last number
 abbrev pub range : NumberRange → List ℕ
 range r = to_be_bytes w64 r.first ++ to_be_bytes w64 r.last
 

@@ -21,6 +21,7 @@ abbrev pub begins_after : Option ℕ → ℕ → Bool
 begins_after None n = true
 begins_after (Some last) n = nat_lt (suc last) n
 
+-- a range that begins more than one above the end of the one before it, if there is one
 unfoldable pub range_at : Option ℕ → List ℕ → Result (NumberRange × List ℕ) BundleFault
 range_at before bytes = do
   first ← number_at w64 any bad bytes
@@ -29,9 +30,11 @@ range_at before bytes = do
       bad
   Ok (record { first = first.0; last = last.0 }, last.1)
 
+-- the end of the range before the next one
 abbrev pub after_range : Option ℕ → NumberRange → Option ℕ
 after_range before r = Some r.last
 
+-- so many ranges
 abbrev pub ranges_at : ℕ → List ℕ → Result (List NumberRange × List ℕ) BundleFault
 ranges_at n bytes = many_at range_at after_range n None bytes
 
@@ -40,6 +43,7 @@ abbrev pub name_after : Option (List ℕ) → List ℕ → Bool
 name_after None name = true
 name_after (Some before) name = is_lt (name_cmp before name)
 
+-- a name that comes after the one before it, if there is one
 unfoldable pub name_at : Option (List ℕ) → List ℕ → Result (List ℕ × List ℕ) BundleFault
 name_at before bytes = do
   len ← byte_at is_name_length bad bytes
@@ -47,6 +51,7 @@ name_at before bytes = do
   _ ← check (name_after before name.0) bad
   Ok name
 
+-- a name with its ranges, at least one
 unfoldable pub known_at : Option (List ℕ) → List ℕ → Result (Known × List ℕ) BundleFault
 known_at before bytes = do
   name ← name_at before bytes
@@ -54,13 +59,15 @@ known_at before bytes = do
   ranges ← ranges_at count.0 count.1
   Ok (record { name = name.0; ranges = ranges.0 }, ranges.1)
 
--- its name, and the bytes after it
+-- of a name that was read with its ranges, the name, and the bytes after the ranges
 abbrev pub name_read : Result (Known × List ℕ) BundleFault → Result (List ℕ × List ℕ) BundleFault
 name_read read = read >>= λ k. Ok (k.0.name, k.1)
 
+-- the name before the next one
 abbrev pub after_known : Option (List ℕ) → Known → Option (List ℕ)
 after_known before k = Some k.name
 
+-- so many names with their ranges
 abbrev pub names_at : ℕ → List ℕ → Result (List Known × List ℕ) BundleFault
 names_at n bytes = many_at known_at after_known n None bytes
 
@@ -78,10 +85,12 @@ summary_at bytes = do
 
 -- ---- whole summaries
 
+-- the names that were read, if no bytes follow them
 abbrev pub nothing_behind : List Known → List ℕ → Option (List Known)
 nothing_behind names [] = Some names
 nothing_behind names (b ∷ rest) = None
 
+-- the names of a summary that was read to the end of the bytes
 abbrev pub read_whole : Result (List Known × List ℕ) BundleFault → Option (List Known)
 read_whole (Ok read) = nothing_behind read.0 read.1
 read_whole (Err fault) = None

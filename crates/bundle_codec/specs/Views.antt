@@ -27,9 +27,11 @@ found (Err f) = []
 
 -- ---- ids and operations
 
+-- an id with the bytes of its name
 abbrev pub id_view : IdView → Id
 id_view i = record { number = i.number; name = i.name.now }
 
+-- a key, as its chapter and its place
 abbrev pub key_view : KeyView → KeyParts
 key_view k = record { chapter = k.chapter; place = k.place }
 
@@ -43,9 +45,11 @@ ids_at bytes = do
   count ← number_at w64 any Truncated bytes
   each_id_at count.0 count.1
 
+-- the ids that the bytes of a list spell
 abbrev pub ids_view : IdList → List Id
 ids_view l = found (each_id_at l.count l.bytes.now)
 
+-- an operation by the fields that were found in its bytes
 abbrev pub op_view : OpFields → Operation
 op_view f = record {
   id = id_view f.id;
@@ -58,6 +62,7 @@ op_view f = record {
 abbrev pub each_operation_at : ℕ → List ℕ → Result (List Operation × List ℕ) BundleFault
 each_operation_at n bytes = each_at (operation_at 0 None) n bytes
 
+-- the operations that the bytes spell, so many
 abbrev pub operations_in : ℕ → List ℕ → List Operation
 operations_in n bytes = found (each_operation_at n bytes)
 

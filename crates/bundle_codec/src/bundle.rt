@@ -2,13 +2,13 @@ ghost use Rattle.std.specs.Prelude.{◌≡◌, ℕ, List, [], ◌++◌, take, dr
 ghost use Rattle.op_core.specs.Ops.{Operation};
 ghost use Rattle.op_core.specs.Sets.{IsOpSet};
 ghost use Rattle.bundle_codec.specs.Spelling.{bundle, magic};
-ghost use Rattle.bundle_codec.specs.Reading.{Gives, exactly_at, bundle_at};
+ghost use Rattle.bundle_codec.specs.Reading.{Gives, exactly_at, counted_operations_at, bundle_at};
 
 use crate::fault::BundleFault;
 use crate::fields::{exactly_of, u64_at};
 use crate::operation::after_operations;
 use crate::walk::BundleOps;
-use op_core::{OpSet, SetFault};
+use op_core::OpSet;
 use std::alloc::{AllocError, Global};
 use std::marker::Model;
 
@@ -61,14 +61,12 @@ impl<'a> Bundle<'a> {
     pub fn to_set(&self, alloc: Global) -> Result<OpSet, AllocError>
         ensures { IfOk result (λ set. set ≡ self.now) }
     {
-        let mut set = OpSet::new(alloc);
+        let mut ops = Vec::new(alloc);
         for view in self.ops() {
-            match set.insert(view.to_op(alloc)?) {
-                Ok(_) => {}
-                Err(SetFault::Memory) => return Err(AllocError),
-                Err(SetFault::Clash(_)) => unreachable!(),
-            }
+            ops.push(view.to_op(alloc)?)?;
         }
+        let mut set = OpSet::new(alloc);
+        set.join_rising(ops)?;
         Ok(set)
     }
 }
@@ -83,21 +81,29 @@ fn after_magic(bytes: &[u8]) -> Result<&[u8], BundleFault>
     exactly_of(&MAGIC, BundleFault::Magic, bytes)
 }
 
-// Judges the bundle at the front, and gives the bytes after it too.
-#[tactic(auto, unfolding(crate::specs::Reading::bundle_at))]
-fn bundle_of(bytes: &[u8]) -> Result<(Bundle<'_>, &[u8]), BundleFault>
-    ensures { Gives (λ x. (x.0, x.1.now)) result (bundle_at bytes.now) }
+// Judges the operations after their count, and gives the bytes after them too.
+#[tactic(auto, unfolding(crate::specs::Reading::counted_operations_at))]
+fn counted_operations_of(bytes: &[u8]) -> Result<(Bundle<'_>, &[u8]), BundleFault>
+    ensures { Gives (λ x. (x.0, x.1.now)) result (counted_operations_at bytes.now) }
 {
-    let rest = after_magic(bytes)?;
-    let (count, operations) = u64_at(rest)?;
+    let (count, operations) = u64_at(bytes)?;
     let left = after_operations(count, operations)?;
     let (own, _) = operations.split_at(operations.len() - left.len());
     Ok((Bundle { count, bytes: own }, left))
 }
 
+// Judges the bundle at the front, and gives the bytes after it too.
+#[tactic(auto, unfolding(crate::specs::Reading::bundle_at))]
+fn bundle_of(bytes: &[u8]) -> Result<(Bundle<'_>, &[u8]), BundleFault>
+    ensures { Gives (λ x. (x.0, x.1.now)) result (bundle_at bytes.now) }
+{
+    let operations = after_magic(bytes)?;
+    counted_operations_of(operations)
+}
+
 /// The bundle that the bytes begin with, and how many bytes it takes. What follows it is not read.
 ///
-/// It takes no memory, and so there is no fault for want of it: the allocator is for a later format,
+/// It takes no memory, and so none of its faults is out of memory: the allocator is for a later format,
 /// whose judging needs some.
 ///
 /// # Errors

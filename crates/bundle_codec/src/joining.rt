@@ -15,7 +15,7 @@ use std::alloc::Global;
 /// count that they state.
 ///
 /// # Errors
-/// - `Bundle` with the refusal of the first bytes, as `decode_whole` tells it, or else with that of
+/// - `Bundle` with the refusal of the first bytes, as `decode_whole` answers it, or else with that of
 ///   the second.
 /// - `Clash` with the least id under which the two have operations that are not equal.
 /// - `Memory` where a growth was refused.

@@ -1,6 +1,6 @@
 // Operations, judged where they stand in the bytes.
 ghost use Rattle.std.specs.Prelude.{◌≡◌, None, Ok, Err, IfOk, IsOk, option_map};
-ghost use Rattle.bundle_codec.specs.Reading.{Gives, body_at, judge_text, operation_at, operations_at, after};
+ghost use Rattle.bundle_codec.specs.Reading.{Gives, counted_text_at, body_at, judge_text, operation_at, operations_at, after};
 ghost use Rattle.bundle_codec.specs.Views.{id_view, op_view};
 
 use crate::fault::BundleFault;
@@ -18,6 +18,15 @@ pub(crate) struct OpFields<'a> {
     pub(crate) text: &'a str,
 }
 
+// The bytes of a text, after their count.
+#[tactic(auto, unfolding(crate::specs::Reading::counted_text_at))]
+fn counted_text_of(bytes: &[u8]) -> Result<(&[u8], &[u8]), BundleFault>
+    ensures { Gives (λ x. (x.0.now, x.1.now)) result (counted_text_at bytes.now) }
+{
+    let (len, rest) = u64_at(bytes)?;
+    block_of(len, rest)
+}
+
 // The tag and the bytes of the text of the operation at this place.
 #[tactic(auto, unfolding(crate::specs::Reading::body_at))]
 pub(crate) fn body_of(place: u64, bytes: &[u8]) -> Result<(&[u8], &[u8]), BundleFault>
@@ -27,8 +36,16 @@ pub(crate) fn body_of(place: u64, bytes: &[u8]) -> Result<(&[u8], &[u8]), Bundle
     if tag != 1 {
         return Err(BundleFault::BadTag(place));
     }
-    let (len, rest) = u64_at(rest)?;
-    block_of(len, rest)
+    counted_text_of(rest)
+}
+
+// The bytes of a text, after their count, in bytes that were judged.
+fn counted_text_in(bytes: &[u8]) -> (&[u8], &[u8])
+    requires { IsOk (counted_text_at bytes.now) }
+    ensures { counted_text_at bytes.now ≡ Ok (result.0.now, result.1.now) }
+{
+    let (len, rest) = u64_in(bytes);
+    block_in(len, rest)
 }
 
 // The bytes of the text after the tag, in bytes that were judged.
@@ -37,8 +54,7 @@ pub(crate) fn body_in(bytes: &[u8]) -> (&[u8], &[u8])
     ensures { body_at 0 bytes.now ≡ Ok (result.0.now, result.1.now) }
 {
     let (_tag, rest) = u8_in(bytes);
-    let (len, rest) = u64_in(rest);
-    block_in(len, rest)
+    counted_text_in(rest)
 }
 
 // Judges the text of the operation at this place, once it is whole.

@@ -41,7 +41,7 @@ fn is_id(id: OpId, want: Id<'_>) -> bool {
     id.number == want.0 && id.name.text() == want.1
 }
 
-// Whether the ids are the one that is wanted, or none where none is.
+// Whether the ids are the one that is expected, or none where none is.
 fn are_named(mut named: ReplacedIds<'_>, want: Option<Id<'_>>) -> bool {
     match (named.next(), want) {
         (None, None) => true,
@@ -258,7 +258,7 @@ fn named_ids(rt: HostRuntime) -> Result<(), Fail> {
     Ok(())
 }
 
-// The operation's own number is told once the name was read.
+// An operation that names its own number is refused once the name was read.
 #[test]
 fn own_number_is_named(rt: HostRuntime) {
     let mut own = *Y;

@@ -21,7 +21,7 @@ pub fn decode_whole(alloc: Global, bytes: &[u8]) -> Result<Bundle<'_>, WholeFaul
     // A bundle is read.
     ensures only { (ops : List Operation) → IsOpSet ops → bytes.now ≡ bundle ops
         → IsOkAnd result (λ x. x ≡ ops) }
-    // Something more than a bundle is told exactly where it stands.
+    // Something more than a bundle is reported exactly where it stands.
     ensures followed { IfErr result (λ fault. fault ≡ WholeFault.Trailing → IsFollowed bytes.now) }
     ensures trailing { IsFollowed bytes.now → result ≡ Err WholeFault.Trailing }
     // Which fault it is.

@@ -64,7 +64,7 @@ pub(crate) fn push_operation(bytes: &mut Vec<u8>, op: &Op) -> Result<(), AllocEr
     bytes.extend_from_slice(&op.book().code())?;
     push_key(bytes, op.key())?;
     push_ids(bytes, op.replaced())?;
-    push_text(bytes, op.text())
+    push_body(bytes, op)
 }
 
 fn push_id(bytes: &mut Vec<u8>, id: &OpId) -> Result<(), AllocError>
@@ -99,11 +99,11 @@ fn push_key(bytes: &mut Vec<u8>, key: Key) -> Result<(), AllocError>
     bytes.extend_from_slice(&[letter])
 }
 
-// Appends the tag, the text's length and the text.
-fn push_text(bytes: &mut Vec<u8>, text: &str) -> Result<(), AllocError>
-    ensures { IfOk result (λ _. bytes.new.items ≡ bytes.old.items ++ spelled.body text.now) }
+// Appends the tag, and the text after its length.
+fn push_body(bytes: &mut Vec<u8>, op: &Op) -> Result<(), AllocError>
+    ensures { IfOk result (λ _. bytes.new.items ≡ bytes.old.items ++ spelled.body op.now.text) }
 {
-    let text = text.as_bytes();
+    let text = op.text().as_bytes();
     bytes.extend_from_slice(&[1])?;
     bytes.extend_from_slice(&(text.len() as u64).to_be_bytes())?;
     bytes.extend_from_slice(text)

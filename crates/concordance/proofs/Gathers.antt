@@ -1,133 +1,210 @@
--- One entry of a tree after the other: what it adds to the plain leaves, and the mark that it leaves after it.
-use Rattle.sty_sheet.specs.declared.kind.StyleKind.{StyleKind}
-use Rattle.std.proofs.Common.{◌≡◌, ℕ, suc, ◌+◌, ◌^◌, ◌<◌, ◌≤◌, Bool, true, false, cond, List, [], ◌∷◌, ◌++◌, length, drop, get_or, Option, None, Some, refl, sym, ap, subst, ◌∙◌, arith, append_assoc, drop-cons, add-one, length-drop, eqb-true, false-eqb}
-use Rattle.std.specs.Prelude.{is_some, ◌==◌}
-use Rattle.std.specs.Option.{option_map}
+-- The leaves that a walk gathers are those of the reading of the tree.
+use Rattle.sty_sheet.specs.declared.kind.StyleKind.TheVariants as kinds
+use Rattle.std.proofs.Common.{◌≡◌, ℕ, zero, suc, ◌+◌, ◌-◌, ◌<◌, ◌≤◌, Bool, true, false, cond, List, [], ◌∷◌, ◌++◌, drop, take, length}
+use Rattle.std.proofs.Common.{reverse, Option, None, Some, refl, sym, ap, ◌∙◌, append_assoc, arith, ⊎_elim, length-drop}
+use Rattle.std.proofs.lemmas.List.{drop_at, take-append-drop, reverse-append, length-reverse, nil_from_length}
+use Rattle.std.proofs.str.Laws.{order}
+use Rattle.std.specs.Prelude.{is_some, not, ◌&&◌}
 use Rattle.sty_sheet.specs.Records.{Record}
 use Rattle.usfm_token.specs.Tokens.{MarkParts}
-use Rattle.usfm_tree.specs.Forest.{Forest, ◌then◌, start_of, slice_here, kids_of, close_of, mark_of}
-use Rattle.usfm_tree.specs.Views.{view, forest_of, node_step, parts_step, Parts}
-use Rattle.usfm_tree.specs.declared.node.Node.{Node}
-use Rattle.usfm_tree.specs.declared.node.Node.TheOpen.{Node-F, Text, Para, Char, Note, Milestone, Leaf}
-use Rattle.usfm_tree.specs.declared.node.Node.TheFolds.{fold_out-Node}
+use Rattle.usfm_tree.specs.Events.{Event, begins, ends, events_before, events_of, ends_before}
+use Rattle.usfm_tree.specs.Forest.{Forest, nothing, text, leaf, node}
+use Rattle.usfm_tree.specs.StepViews.{entry_before}
+use Rattle.usfm_tree.specs.TakenViews.{optional_text}
+use Rattle.usfm_tree.specs.declared.step.Entry.{Entry}
+use Rattle.usfm_tree.specs.declared.step.Entry.TheVariants as entries
+use Rattle.concordance.specs.Gathered.{root, enclosed, counted, settled, closes_character, behind_milestone, gathered, EventsFit, EntryFits}
 use Rattle.concordance.specs.Passages.{Passage}
-use Rattle.concordance.specs.Plain.{is_nothing, node_end, mark_at_end}
-use Rattle.concordance.specs.Reading.{within, left_of, counts, with_text, leaves_from, TextsFit, entry_count, HasShape}
-use Rattle.concordance.specs.declared.plain.Shape.{Shape}
-use Rattle.concordance.specs.declared.plain.Shape.TheVariants as shapes
-use Rattle.concordance.specs.declared.plain.Surroundings.{Surroundings}
+use Rattle.concordance.specs.Plain.{is_nothing, node_end, mark_at_end, number_length}
+use Rattle.concordance.specs.Reading.{Surroundings, inside_of, left_of, with_text, leaves_from, TextsFit}
+use Rattle.concordance.specs.declared.plain.Enclosure.{Enclosure}
 
--- ---- what is after an entry
+-- ---- the walk is the reading
 
-pub tail_fits : (s : Shape) (f g : Forest) → HasShape s f → TextsFit (f then g) → TextsFit g
-tail_fits shapes.Text f g e h = (subst (λ x. TextsFit (x then g)) e h).1
-tail_fits shapes.Leaf f g e h = subst (λ x. TextsFit (x then g)) e.1 h
-tail_fits (shapes.Branch k) f g e h = (subst (λ x. TextsFit (x then g)) e.1 h).1
+-- what a node and those around it say of a text in it, where the node ends with its closing mark or without one
+abbrev said : Enclosure → Bool → Surroundings
+said e closed = record { in_verse_text = e.in_verse_text; in_aside = e.in_aside; in_closed = e.is_character && closed }
 
-pub tail_fewer : (s : Shape) (f g : Forest) → HasShape s f → entry_count g ≤ entry_count (f then g)
-tail_fewer shapes.Text f g e = let is : entry_count (f then g) ≡ suc (entry_count g) = ap (λ x. entry_count (x then g)) e in omega arith
-tail_fewer shapes.Leaf f g e = let is : entry_count (f then g) ≡ suc (entry_count g) = ap (λ x. entry_count (x then g)) e.1 in omega arith
-tail_fewer (shapes.Branch k) f g e =
-    let is : entry_count (f then g) ≡ suc (entry_count (kids_of f) + entry_count g) = ap (λ x. entry_count (x then g)) e.1 in omega arith
-
-pub text_fits : (f g : Forest) → HasShape shapes.Text f → TextsFit (f then g) → start_of f + length (slice_here f) < 2 ^ 64
-text_fits f g e h = (subst (λ x. TextsFit (x then g)) e h).0
-
-pub kids_fit : (k : StyleKind) (f g : Forest) → HasShape (shapes.Branch k) f → TextsFit (f then g) → TextsFit (kids_of f)
-kids_fit k f g e h = (subst (λ x. TextsFit (x then g)) e.1 h).0
-
-pub kids_fewer : (k : StyleKind) (f g : Forest) → HasShape (shapes.Branch k) f → entry_count (kids_of f) < entry_count (f then g)
-kids_fewer k f g e =
-    let is : entry_count (f then g) ≡ suc (entry_count (kids_of f) + entry_count g) = ap (λ x. entry_count (x then g)) e.1 in omega arith
-
--- ---- what an entry adds
-
-with_later : (sur : Surroundings) (b : Option MarkParts) (last : Bool) (s : ℕ) (t : List ℕ) (later : List Passage)
-    → with_text sur b last s t [] ++ later ≡ with_text sur b last s t later
-with_later sur b last s t later = by (counts sur)
+closes_is : (e : Enclosure) (c : Option MarkParts) → closes_character e c ≡ (e.is_character && is_some c)
+closes_is e c = by e.is_character c
   where
-    by : (c : Bool) → cond c (left_of sur b last s t ∷ []) [] ++ later ≡ cond c (left_of sur b last s t ∷ later) later
-    by true = refl
-    by false = refl
+    by : (is : Bool) (c : Option MarkParts)
+        → closes_character (record { in_verse_text = e.in_verse_text; in_aside = e.in_aside; is_character = is }) c ≡ (is && is_some c)
+    by true None = refl
+    by false None = refl
+    by true (Some m) = refl
+    by false (Some m) = refl
 
--- after an entry f, before others g
-pub record Taken (sheet : List Record) (sur : Surroundings) (f g : Forest) (old : List Passage) (b : Option MarkParts) (new : List Passage) (b' : Option MarkParts) : Type 0 where
-  pub leaves : new ++ leaves_from sheet sur b' g ≡ old ++ leaves_from sheet sur b (f then g)
-  pub behind : mark_at_end b' g ≡ mark_at_end b (f then g)
-
-module _ (sheet : List Record) (sur : Surroundings) (f g : Forest) (old : List Passage) (b : Option MarkParts) where
-  pub text_taken : (new : List Passage) (b' : Option MarkParts) (last : Bool) (s : ℕ) (t : List ℕ) → HasShape shapes.Text f
-      → last ≡ is_nothing g → s ≡ start_of f → t ≡ slice_here f → new ≡ old ++ with_text sur b last s t [] → b' ≡ None
-      → Taken sheet sur f g old b new b'
-  text_taken new b' last s t e l hs ht hn hb = record {
-    leaves =
-        ap (λ x. x ++ leaves_from sheet sur b' g) hn ∙ append_assoc old _ _
-        ∙ ap (λ x. old ++ (with_text sur b last s t [] ++ leaves_from sheet sur x g)) hb
-        ∙ ap (λ x. old ++ x) (with_later sur b last s t (leaves_from sheet sur None g)
-        ∙ (λ i. with_text sur b (l i) (hs i) (ht i) (leaves_from sheet sur None g))
-        ∙ ap (λ x. leaves_from sheet sur b (x then g)) (sym e));
-    behind = ap (λ x. mark_at_end x g) hb ∙ ap (λ x. mark_at_end b (x then g)) (sym e);
-  }
-
-  pub leaf_taken : (b' : Option MarkParts) → HasShape shapes.Leaf f → b' ≡ mark_of f → Taken sheet sur f g old b old b'
-  leaf_taken b' e hb =
-      let is : b' ≡ Some e.0 = hb ∙ ap mark_of e.1 in record {
-        leaves = ap (λ x. old ++ x) (ap (λ x. leaves_from sheet sur x g) is ∙ ap (λ x. leaves_from sheet sur b (x then g)) (sym e.1));
-        behind = ap (λ x. mark_at_end x g) is ∙ ap (λ x. mark_at_end b (x then g)) (sym e.1);
-      }
-
-  pub branch_taken : (new : List Passage) (b' m1 : Option MarkParts) (k : StyleKind) (ks : Forest) (closed : Bool) (around : Surroundings) → HasShape (shapes.Branch k) f → ks ≡ kids_of f → m1 ≡ mark_of f → closed ≡ is_some (close_of f) → ((m : MarkParts) → m1 ≡ Some m → around ≡ within sheet sur (record { kind = k; mark = m; is_closed = closed })) → new ≡ old ++ leaves_from sheet around m1 ks → b' ≡ node_end (mark_at_end m1 ks) (close_of f) → Taken sheet sur f g old b new b'
-  branch_taken new b' m1 k ks closed around e hk hm hc ha hn hb =
-      let m = e.0 in
-      let is_mark : m1 ≡ Some m = hm ∙ ap mark_of e.1 in
-      let is_around : around ≡ within sheet sur (record { kind = k; mark = m; is_closed = is_some (close_of f) }) =
-      ha m is_mark ∙ ap (λ c. within sheet sur (record { kind = k; mark = m; is_closed = c })) hc in
-      let is_behind : b' ≡ node_end (mark_at_end (Some m) (kids_of f)) (close_of f) =
-      hb ∙ (λ i. node_end (mark_at_end (is_mark i) (hk i)) (close_of f)) in
-      record {
-        leaves =
-            ap (λ x. x ++ leaves_from sheet sur b' g) hn ∙ append_assoc old _ _
-            ∙ ap (λ x. old ++ x) ((λ i. leaves_from sheet (is_around i) (is_mark i) (hk i) ++ leaves_from sheet sur (is_behind i) g)
-            ∙ ap (λ x. leaves_from sheet sur b (x then g)) (sym e.1));
-        behind = ap (λ x. mark_at_end x g) is_behind ∙ ap (λ x. mark_at_end b (x then g)) (sym e.1);
-      }
-
-pub some_marks : {X Y : Type 0} (f : X → Y) (o : Option X) → is_some o ≡ is_some (option_map f o)
-some_marks f None = refl
-some_marks f (Some x) = refl
-
--- ---- nodes side by side
-
--- from an entry on
-pub forest_at : (ns : List Node) (i : ℕ) (n : Node) → i < length ns → n ≡ get_or ns i n
-    → forest_of (drop i ns) ≡ (view n then forest_of (drop (i + 1) ns))
-forest_at ns i n h e = ap forest_of (drop-cons ns i n h ∙ (λ j. sym e j ∷ drop (sym (add-one i) j) ns))
-
-step_filled : (x : Node-F Forest Parts) (g : Forest) → is_nothing (node_step x then g) ≡ false
-step_filled (Text t) g = refl
-step_filled (Para b) g = refl
-step_filled (Char b) g = refl
-step_filled (Note b) g = refl
-step_filled (Milestone b) g = refl
-step_filled (Leaf l) g = refl
-
-view_filled : (n : Node) (g : Forest) → is_nothing (view n then g) ≡ false
-view_filled n g = subst (λ x. is_nothing (x then g) ≡ false) (sym (fold_out-Node Forest Parts node_step parts_step n)) (step_filled _ g)
-
-none_left : (ns : List Node) → length ns ≡ 0 → is_nothing (forest_of ns) ≡ true
-none_left [] h = refl
-none_left (n ∷ ns) h = absurd (omega arith)
-
-pub some_left : (ns : List Node) → 0 < length ns → is_nothing (forest_of ns) ≡ false
-some_left [] h = absurd (omega arith)
-some_left (n ∷ ns) h = view_filled n (forest_of ns)
-
--- whether an entry is the last
-pub last_is : (ns : List Node) (i : ℕ) → i < length ns → (i + 1 == length ns) ≡ is_nothing (forest_of (drop (i + 1) ns))
-last_is ns i h = by (i + 1 == length ns) refl
+-- a text before what follows it
+text_settled : (e : Enclosure) (b : Option MarkParts) (last closed : Bool) (s : ℕ) (t : List ℕ) (later rest : List Passage)
+    → settled (last && (e.is_character && closed)) (counted e b s t) (later ++ rest)
+    ≡ with_text (said e closed) b last s t later ++ rest
+text_settled e b last closed s t later rest = by e.in_verse_text e.in_aside
   where
-    by : (b : Bool) → (i + 1 == length ns) ≡ b → b ≡ is_nothing (forest_of (drop (i + 1) ns))
-    by true e =
-        sym (none_left (drop (i + 1) ns) (let is : i + 1 ≡ length ns = eqb-true _ _ e in let l = length-drop (i + 1) ns in omega arith))
-    by false e =
-        sym (some_left (drop (i + 1) ns) (let ne = false-eqb (i + 1) (length ns) (sym e) in let l = length-drop (i + 1) ns in omega arith))
+    by : (verse aside : Bool)
+        → settled (last && (e.is_character && closed))
+        (cond (not aside && verse) (Some (record { start = s + number_length b t; text = drop (number_length b t) t })) None)
+        (later ++ rest)
+        ≡ cond (verse && not aside) (left_of (said e closed) b last s t ∷ later) later ++ rest
+    by true true = refl
+    by true false = refl
+    by false true = refl
+    by false false = refl
+
+none_settled : (b : Bool) (later : List Passage) → settled b None later ≡ later
+none_settled b later = refl
+
+-- inside a node, up to its end
+module _ (sheet : List Record) where
+  inside : (e : Enclosure) (es : List Enclosure) (b : Option MarkParts) (w : Option Passage) (f : Forest)
+      → (c : Option MarkParts) (later : List Event)
+      → gathered sheet (e ∷ es) b w (events_before f (ends c ∷ later))
+      ≡ settled (is_nothing f && (e.is_character && is_some c)) w
+      (leaves_from sheet (said e (is_some c)) b f ++ gathered sheet es (node_end (mark_at_end b f) c) None later)
+  inside e es b w nothing c later = ap (λ x. settled x w (gathered sheet es (node_end b c) None later)) (closes_is e c)
+  inside e es b w (text s t f) c later =
+      ap (settled false w) (inside e es None (counted e b s t) f c later
+      ∙ text_settled e b (is_nothing f) (is_some c) s t (leaves_from sheet (said e (is_some c)) None f)
+      (gathered sheet es (node_end (mark_at_end None f) c) None later))
+  inside e es b w (leaf s m f) c later = ap (settled false w) (inside e es (Some m) None f c later)
+  inside e es b w (node k s x m ks c' f) c later =
+      let inner = enclosed sheet e k m in
+      let end = node_end (mark_at_end (Some m) ks) c' in
+      let kids = leaves_from sheet (said inner (is_some c')) (Some m) ks in
+      let after = leaves_from sheet (said e (is_some c)) end f in
+      let rest = gathered sheet es (node_end (mark_at_end end f) c) None later in
+      ap (settled false w) (inside inner (e ∷ es) (Some m) None ks c' (events_before f (ends c ∷ later))
+      ∙ ap (λ l. kids ++ l) (inside e es end None f c later) ∙ sym (append_assoc kids after rest))
+
+  -- under the root
+  pub whole : (b : Option MarkParts) (f : Forest)
+      → gathered sheet [] b None (events_of f) ≡ leaves_from sheet (inside_of sheet []) b f
+  whole b nothing = refl
+  whole b (text s t f) = whole None f
+  whole b (leaf s m f) = whole (Some m) f
+  whole b (node k s x m ks c f) =
+      let inner = enclosed sheet root k m in
+      let end = node_end (mark_at_end (Some m) ks) c in
+      inside inner [] (Some m) None ks c (events_of f)
+      ∙ ap (λ l. leaves_from sheet (said inner (is_some c)) (Some m) ks ++ l) (whole end f)
+
+  -- ---- the ends of nodes without closing marks
+
+  ends_taken : (n : ℕ) (es : List Enclosure) (b : Option MarkParts) (later : List Event)
+      → gathered sheet es b None (ends_before n later) ≡ gathered sheet (drop n es) b None later
+  ends_taken zero es b later = refl
+  ends_taken (suc n) [] b later = ends_taken n [] b later ∙ ap (λ l. gathered sheet l b None later) (none_left n)
+    where
+      none_left : (n : ℕ) → drop {A = Enclosure} n [] ≡ drop (suc n) []
+      none_left zero = refl
+      none_left (suc n) = refl
+  ends_taken (suc n) (e ∷ es) b later = ends_taken n es b later
+
+  ends_settle : (n : ℕ) (es : List Enclosure) (b : Option MarkParts) (w : Option Passage) (later : List Event)
+      → gathered sheet es b w (ends_before (suc n) later) ≡ settled false w (gathered sheet (drop (suc n) es) b None later)
+  ends_settle n [] b w later = ap (settled false w) (ends_taken n [] b later ∙ ap (λ l. gathered sheet l b None later) (none_left n))
+    where
+      none_left : (n : ℕ) → drop {A = Enclosure} n [] ≡ drop (suc n) []
+      none_left zero = refl
+      none_left (suc n) = refl
+  ends_settle n (e ∷ es) b w later = ap (settled false w) (ends_taken n es b later)
+
+  -- some nodes end
+  pub some_end : (n : ℕ) (es : List Enclosure) (b : Option MarkParts) (w : Option Passage) (later : List Event) → 0 < n
+      → gathered sheet es b w (ends_before n later) ≡ settled false w (gathered sheet (drop n es) b None later)
+  some_end zero es b w later some = absurd (omega arith)
+  some_end (suc n) es b w later some = ends_settle n es b w later
+
+  -- a whole milestone
+  pub milestone_taken : (es : List Enclosure) (b : Option MarkParts) (w : Option Passage) (m : MarkParts) (start : ℕ)
+      → (t : Option (List ℕ)) (c : Option MarkParts) (later : List Event)
+      → gathered sheet es b w (begins kinds.Milestone m ∷ events_before (optional_text start t) (ends c ∷ later))
+      ≡ settled false w (gathered sheet es (behind_milestone m t c) None later)
+  milestone_taken es b w m start None c later = refl
+  milestone_taken es b w m start (Some t) c later = refl
+
+  -- and nothing more is met
+  pub all_end : (n : ℕ) (es : List Enclosure) (b : Option MarkParts) (w : Option Passage)
+      → gathered sheet es b w (ends_before n []) ≡ settled false w []
+  all_end zero es b w = refl
+  all_end (suc n) es b w = ends_settle n es b w []
+
+-- a waiting text before others
+pub settled_before : (may_end : Bool) (w : Option Passage) (later : List Passage) → settled may_end w later ≡ settled may_end w [] ++ later
+settled_before may_end None later = refl
+settled_before may_end (Some p) later = refl
+
+-- the leaves after a waiting text became one
+pub leaves_after : (old new : List Passage) (may_end : Bool) (w : Option Passage) (rest rest' : List Passage)
+    → new ≡ old ++ settled may_end w [] → rest ≡ rest' → new ++ rest ≡ old ++ settled may_end w rest'
+leaves_after old new may_end w rest rest' is same =
+    (λ i. is i ++ same i) ∙ append_assoc old (settled may_end w []) rest'
+    ∙ ap (λ l. old ++ l) (sym (settled_before may_end w rest'))
+
+reverse_front : {A : Type 0} (n k : ℕ) (xs : List A) → k ≡ length xs - n → reverse (take k xs) ≡ drop n (reverse xs)
+reverse_front n k xs is = ⊎_elim below past (order n (length xs))
+  where
+    whole : reverse xs ≡ reverse (drop k xs) ++ reverse (take k xs)
+    whole = ap reverse (sym (take-append-drop k xs)) ∙ reverse-append (take k xs) (drop k xs)
+
+    back : length (reverse (drop k xs)) ≡ length xs - k
+    back = length-reverse (drop k xs) ∙ length-drop k xs
+
+    below : n < length xs → reverse (take k xs) ≡ drop n (reverse xs)
+    below lt = sym (ap (drop n) whole ∙ drop_at (reverse (drop k xs)) (reverse (take k xs)) n (omega (arith, back, is)))
+
+    past : length xs ≤ n → reverse (take k xs) ≡ drop n (reverse xs)
+    past le =
+        ap (λ j. reverse (take j xs)) (let zero_is : k ≡ 0 = omega (arith, is) in zero_is)
+        ∙ sym (nil_from_length (drop n (reverse xs)) (omega (arith, length-drop n (reverse xs), length-reverse xs)))
+
+-- a list without so many from its end, from the back
+pub reverse_take : {A : Type 0} (n : ℕ) (xs : List A) → reverse (take (length xs - n) xs) ≡ drop n (reverse xs)
+reverse_take n xs = reverse_front n (length xs - n) xs refl
+
+-- ---- texts fit
+
+fit_before : (f : Forest) (later : List Event) → TextsFit f → EventsFit later → EventsFit (events_before f later)
+fit_before nothing later h k = k
+fit_before (text s t f) later h k = (h.0, fit_before f later h.1 k)
+fit_before (leaf s m f) later h k = fit_before f later h k
+fit_before (node k s x m ks c f) later h g = fit_before ks (ends c ∷ events_before f later) h.0 (fit_before f later h.1 g)
+
+pub events_fit : (f : Forest) → TextsFit f → EventsFit (events_of f)
+events_fit f h = fit_before f [] h tt
+
+pub fit_after_ends : (n : ℕ) (later : List Event) → EventsFit (ends_before n later) → EventsFit later
+fit_after_ends zero later h = h
+fit_after_ends (suc n) later h = fit_after_ends n later h
+
+pub entry_fits : (e : Entry) (later : List Event) → EventsFit (entry_before e later) → EntryFits e
+entry_fits (entries.Text start t) later h = h.0
+entry_fits (entries.Leaf m) later h = tt
+entry_fits (entries.Begin kind m style) later h = tt
+entry_fits (entries.Close m) later h = tt
+entry_fits (entries.Milestone m start t close) later h = tt
+
+pub fit_after : (e : Entry) (later : List Event) → EventsFit (entry_before e later) → EventsFit later
+fit_after (entries.Text start t) later h = h.1
+fit_after (entries.Leaf m) later h = h
+fit_after (entries.Begin kind m style) later h = h
+fit_after (entries.Close m) later h = h
+fit_after (entries.Milestone m start None close) later h = h
+fit_after (entries.Milestone m start (Some t) close) later h = h.1
+
+-- ---- fewer are left
+
+entry_shorter : (e : Entry) (later : List Event) → length later < length (entry_before e later)
+entry_shorter (entries.Text start t) later = omega arith
+entry_shorter (entries.Leaf m) later = omega arith
+entry_shorter (entries.Begin kind m style) later = omega arith
+entry_shorter (entries.Close m) later = omega arith
+entry_shorter (entries.Milestone m start None close) later = omega arith
+entry_shorter (entries.Milestone m start (Some t) close) later = omega arith
+
+ends_longer : (n : ℕ) (later : List Event) → length later ≤ length (ends_before n later)
+ends_longer zero later = omega arith
+ends_longer (suc n) later = let l = ends_longer n later in omega arith
+
+pub step_shorter : (n : ℕ) (e : Entry) (later : List Event) → length later < length (ends_before n (entry_before e later))
+step_shorter n e later = let s = entry_shorter e later in let l = ends_longer n (entry_before e later) in omega arith

@@ -1,5 +1,5 @@
 -- Groups of keys by forms: a key more, and their order.
-use Rattle.std.proofs.Common.{◌≡◌, ℕ, zero, suc, Bool, true, false, cond, ◌||◌, List, [], ◌∷◌, ◌++◌, length, map, take, slice_get, get_or, position, Some, refl, sym, ap, subst, ◌∙◌, arith, Bor}
+use Rattle.std.proofs.Common.{◌≡◌, ℕ, zero, suc, ◌<◌, Bool, true, false, cond, ◌||◌, List, [], ◌∷◌, ◌++◌, length, map, take, slice_get, get_or, position, Some, refl, sym, ap, subst, ◌∙◌, arith, Bor, false-eqb}
 use Rattle.std.specs.Global.{Vec}
 use Rattle.std.specs.declared.cmp.Ordering.{Ordering}
 use Rattle.std.specs.declared.cmp.Ordering.TheVariants.{Less}
@@ -11,7 +11,7 @@ use Rattle.std.specs.Ordering.{is_eq, is_lt}
 use Rattle.std.specs.Str.{bytes_eq}
 use Rattle.std.proofs.lemmas.Bool.{and_from, ne_eqb, true≢false, false≢true}
 use Rattle.std.proofs.lemmas.Cmp.{on_total}
-use Rattle.std.proofs.lemmas.List.{length-append}
+use Rattle.std.proofs.lemmas.List.{length-append, map-append}
 use Rattle.std.proofs.lemmas.List.Folds.{list_any-append}
 use Rattle.std.proofs.lemmas.List.Kept.{IsStrictlySortedBy-dedup}
 use Rattle.std.proofs.lemmas.List.Quantifiers.{position-Some}
@@ -20,7 +20,7 @@ use Rattle.indexmap.specs.Layout.{set_value_at}
 use Rattle.usfm_ref.specs.Keys.{KeyParts}
 use Rattle.usfm_ref.specs.Rising.{rises_by}
 use Rattle.concordance.specs.SpellingOrder.{spelling_cmp}
-use Rattle.concordance.specs.Groups.{Group, told_by, told, is_bare, has_bare, is_told, AlsoTells}
+use Rattle.concordance.specs.Groups.{Group, told_with, told_by, told, is_bare, has_bare, is_told, AlsoTells}
 use Rattle.concordance.specs.Words.{Spelling, form_cmp}
 use Rattle.concordance.proofs.OrderLemmas.{form_total}
 
@@ -46,57 +46,57 @@ module _ (s : Spelling) where
   abbrev is_it : Spelling → Bool
   is_it t = is_eq (spelling_cmp s t)
 
-  one_more : (f : List ℕ) (ks : List KeyParts) (k : KeyParts)
-      → is_told s (map (spelled_with f) (ks ++ k ∷ [])) ≡ (is_told s (map (spelled_with f) ks) || is_it (spelled_with f k))
-  one_more f [] k = or_false _
-  one_more f (j ∷ ks) k =
-      ap (λ b. is_it (spelled_with f j) || b) (one_more f ks k)
-      ∙ or_assoc (is_it (spelled_with f j)) (is_told s (map (spelled_with f) ks)) (is_it (spelled_with f k))
+  more_keys : (f : List ℕ) (ks js : List KeyParts)
+      → is_told s (told_with f (ks ++ js)) ≡ (is_told s (told_with f ks) || is_told s (told_with f js))
+  more_keys f ks js =
+      ap (is_told s) (map-append (spelled_with f) ks js) ∙ list_any-append is_it (told_with f ks) (told_with f js)
 
-  also_one : (g h : Group) (gs : List Group) (k : KeyParts) → h.0.now ≡ g.0.now → h.1.items ≡ g.1.items ++ k ∷ []
-      → is_told s (told (h ∷ gs)) ≡ (is_told s (told (g ∷ gs)) || is_it (spelled_with g.0.now k))
-  also_one g h gs k form keys =
+  also_here : (g h : Group) (gs : List Group) (js : List KeyParts) → h.0.now ≡ g.0.now → h.1.items ≡ g.1.items ++ js
+      → is_told s (told (h ∷ gs)) ≡ (is_told s (told (g ∷ gs)) || is_told s (told_with g.0.now js))
+  also_here g h gs js form keys =
+      let more = is_told s (told_with g.0.now js) in
       list_any-append is_it (told_by h) (told gs)
-      ∙ ap (λ b. b || is_told s (told gs)) ((λ i. is_told s (map (spelled_with (form i)) (keys i))) ∙ one_more g.0.now g.1.items k)
-      ∙ or_last (is_told s (told_by g)) (is_it (spelled_with g.0.now k)) (is_told s (told gs))
-      ∙ ap (λ b. b || is_it (spelled_with g.0.now k)) (sym (list_any-append is_it (told_by g) (told gs)))
+      ∙ ap (λ b. b || is_told s (told gs)) ((λ i. is_told s (told_with (form i) (keys i))) ∙ more_keys g.0.now g.1.items js)
+      ∙ or_last (is_told s (told_by g)) more (is_told s (told gs))
+      ∙ ap (λ b. b || more) (sym (list_any-append is_it (told_by g) (told gs)))
 
-  also_later : (g : Group) (gs hs : List Group) (t : Spelling) → is_told s (told hs) ≡ (is_told s (told gs) || is_it t)
-      → is_told s (told (g ∷ hs)) ≡ (is_told s (told (g ∷ gs)) || is_it t)
-  also_later g gs hs t h =
+  also_later : (g : Group) (gs hs : List Group) (more : Bool) → is_told s (told hs) ≡ (is_told s (told gs) || more)
+      → is_told s (told (g ∷ hs)) ≡ (is_told s (told (g ∷ gs)) || more)
+  also_later g gs hs more h =
       list_any-append is_it (told_by g) (told hs) ∙ ap (λ b. is_told s (told_by g) || b) h
-      ∙ or_assoc (is_told s (told_by g)) (is_told s (told gs)) (is_it t)
-      ∙ ap (λ b. b || is_it t) (sym (list_any-append is_it (told_by g) (told gs)))
+      ∙ or_assoc (is_told s (told_by g)) (is_told s (told gs)) more
+      ∙ ap (λ b. b || more) (sym (list_any-append is_it (told_by g) (told gs)))
 
-  put_here : (gs : List Group) (at : ℕ) (f : Bor (List ℕ)) (old new : Vec KeyParts) (k : KeyParts)
-      → (get_or (keys_of gs) at f).now ≡ f.now → slice_get (values_of gs) at ≡ Some old → new.items ≡ old.items ++ k ∷ []
-      → is_told s (told (set_value_at gs at new)) ≡ (is_told s (told gs) || is_it (spelled_with f.now k))
-  put_here [] at f old new k form h e = cc
-  put_here (x ∷ gs) zero f old new k form h e =
+  put_here : (gs : List Group) (at : ℕ) (f : Bor (List ℕ)) (old new : Vec KeyParts) (js : List KeyParts)
+      → (get_or (keys_of gs) at f).now ≡ f.now → slice_get (values_of gs) at ≡ Some old → new.items ≡ old.items ++ js
+      → is_told s (told (set_value_at gs at new)) ≡ (is_told s (told gs) || is_told s (told_with f.now js))
+  put_here [] at f old new js form h e = cc
+  put_here (x ∷ gs) zero f old new js form h e =
       let same : x.1 ≡ old = cc in
-      also_one x (x.0, new) gs k refl (e ∙ ap (λ (v : Vec KeyParts). v.items ++ k ∷ []) (sym same))
-      ∙ ap (λ n. is_told s (told (x ∷ gs)) || is_it (spelled_with n k)) form
-  put_here (x ∷ gs) (suc at) f old new k form h e =
-      also_later x gs (set_value_at gs at new) (spelled_with f.now k) (put_here gs at f old new k form h e)
+      also_here x (x.0, new) gs js refl (e ∙ ap (λ (v : Vec KeyParts). v.items ++ js) (sym same))
+      ∙ ap (λ n. is_told s (told (x ∷ gs)) || is_told s (told_with n js)) form
+  put_here (x ∷ gs) (suc at) f old new js form h e =
+      also_later x gs (set_value_at gs at new) (is_told s (told_with f.now js)) (put_here gs at f old new js form h e)
 
-  new_here : (gs : List Group) (f : Bor (List ℕ)) (new : Vec KeyParts) (k : KeyParts) → new.items ≡ k ∷ []
-      → is_told s (told (gs ++ (f, new) ∷ [])) ≡ (is_told s (told gs) || is_it (spelled_with f.now k))
-  new_here [] f new k e =
-      list_any-append is_it (told_by (f, new)) [] ∙ or_false _ ∙ ap (λ ks. is_told s (map (spelled_with f.now) ks)) e ∙ or_false _
-  new_here (x ∷ gs) f new k e = also_later x gs (gs ++ (f, new) ∷ []) (spelled_with f.now k) (new_here gs f new k e)
+  new_here : (gs : List Group) (f : Bor (List ℕ)) (new : Vec KeyParts) (js : List KeyParts) → new.items ≡ js
+      → is_told s (told (gs ++ (f, new) ∷ [])) ≡ (is_told s (told gs) || is_told s (told_with f.now js))
+  new_here [] f new js e =
+      list_any-append is_it (told_by (f, new)) [] ∙ or_false _ ∙ ap (λ ks. is_told s (told_with f.now ks)) e
+  new_here (x ∷ gs) f new js e =
+      also_later x gs (gs ++ (f, new) ∷ []) (is_told s (told_with f.now js)) (new_here gs f new js e)
 
--- a key more in the group at a place
-pub put_told : (gs : List Group) (at : ℕ) (f : Bor (List ℕ)) (old new : Vec KeyParts) (k : KeyParts)
-    → Some at ≡ position (λ x. bytes_eq f.now x.now) (keys_of gs) → slice_get (values_of gs) at ≡ Some old → new.items ≡ old.items ++ k ∷ []
-    → AlsoTells (told gs) (spelled_with f.now k) (told (set_value_at gs at new))
-put_told gs at f old new k is h e s =
+-- more keys in the group at a place
+pub put_told : (gs : List Group) (at : ℕ) (f : Bor (List ℕ)) (old new : Vec KeyParts) (js : List KeyParts)
+    → Some at ≡ position (λ x. bytes_eq f.now x.now) (keys_of gs) → slice_get (values_of gs) at ≡ Some old → new.items ≡ old.items ++ js
+    → AlsoTells (told gs) (told_with f.now js) (told (set_value_at gs at new))
+put_told gs at f old new js is h e s =
     let p = position-Some (λ (x : Bor (List ℕ)). bytes_eq f.now x.now) (keys_of gs) at f (sym is) in
-    put_here s gs at f old new k (sym ((bytes_decides f.now (get_or (keys_of gs) at f).now).0 p.1)) h e
+    put_here s gs at f old new js (sym ((bytes_decides f.now (get_or (keys_of gs) at f).now).0 p.1)) h e
 
--- a group more, of one key
-pub new_told : (gs : List Group) (f : Bor (List ℕ)) (new : Vec KeyParts) (k : KeyParts) → new.items ≡ k ∷ []
-    → AlsoTells (told gs) (spelled_with f.now k) (told (gs ++ (f, new) ∷ []))
-new_told gs f new k e s = new_here s gs f new k e
+-- a group more
+pub new_told : (gs : List Group) (f : Bor (List ℕ)) (new : Vec KeyParts) (js : List KeyParts) → new.items ≡ js
+    → AlsoTells (told gs) (told_with f.now js) (told (gs ++ (f, new) ∷ []))
+new_told gs f new js e s = new_here s gs f new js e
 
 -- ---- each with a key
 
@@ -104,23 +104,34 @@ or_parts : (a b : Bool) → (a || b) ≡ false → (a ≡ false) × (b ≡ false
 or_parts true b e = absurd (true≢false e)
 or_parts false b e = (refl, e)
 
-push_keyed : (f : Bor (List ℕ)) (new : Vec KeyParts) (ks : List KeyParts) (k : KeyParts) → new.items ≡ ks ++ k ∷ []
+more_keyed : (f : Bor (List ℕ)) (new : Vec KeyParts) (ks js : List KeyParts) → new.items ≡ ks ++ js → 0 < length js
     → is_bare (f, new) ≡ false
-push_keyed f new ks k e = ne_eqb (length new.items) 0 (λ z. let l = ap length e ∙ length-append ks (k ∷ []) in omega arith)
+more_keyed f new ks js e some = ne_eqb (length new.items) 0 (λ z. let l = ap length e ∙ length-append ks js in omega arith)
 
-pub put_keyed : (gs : List Group) (at : ℕ) (new : Vec KeyParts) (ks : List KeyParts) (k : KeyParts) → new.items ≡ ks ++ k ∷ []
+pub put_keyed : (gs : List Group) (at : ℕ) (new : Vec KeyParts) (ks js : List KeyParts) → new.items ≡ ks ++ js → 0 < length js
     → has_bare gs ≡ false → has_bare (set_value_at gs at new) ≡ false
-put_keyed [] at new ks k e h = refl
-put_keyed (x ∷ gs) zero new ks k e h =
-    let q = or_parts (is_bare x) (has_bare gs) h in ap (λ b. b || has_bare gs) (push_keyed x.0 new ks k e) ∙ q.1
-put_keyed (x ∷ gs) (suc at) new ks k e h =
-    let q = or_parts (is_bare x) (has_bare gs) h in ap (λ b. b || has_bare (set_value_at gs at new)) q.0 ∙ put_keyed gs at new ks k e q.1
+put_keyed [] at new ks js e some h = refl
+put_keyed (x ∷ gs) zero new ks js e some h =
+    let q = or_parts (is_bare x) (has_bare gs) h in ap (λ b. b || has_bare gs) (more_keyed x.0 new ks js e some) ∙ q.1
+put_keyed (x ∷ gs) (suc at) new ks js e some h =
+    let q = or_parts (is_bare x) (has_bare gs) h in
+    ap (λ b. b || has_bare (set_value_at gs at new)) q.0 ∙ put_keyed gs at new ks js e some q.1
 
-pub new_keyed : (gs : List Group) (f : Bor (List ℕ)) (new : Vec KeyParts) (k : KeyParts) → new.items ≡ k ∷ [] → has_bare gs ≡ false
-    → has_bare (gs ++ (f, new) ∷ []) ≡ false
-new_keyed [] f new k e h = ap (λ b. b || false) (push_keyed f new [] k e)
-new_keyed (x ∷ gs) f new k e h =
-    let q = or_parts (is_bare x) (has_bare gs) h in ap (λ b. b || has_bare (gs ++ (f, new) ∷ [])) q.0 ∙ new_keyed gs f new k e q.1
+pub new_keyed : (gs : List Group) (f : Bor (List ℕ)) (new : Vec KeyParts) (js : List KeyParts) → new.items ≡ js → 0 < length js
+    → has_bare gs ≡ false → has_bare (gs ++ (f, new) ∷ []) ≡ false
+new_keyed [] f new js e some h = ap (λ b. b || false) (more_keyed f new [] js e some)
+new_keyed (x ∷ gs) f new js e some h =
+    let q = or_parts (is_bare x) (has_bare gs) h in
+    ap (λ b. b || has_bare (gs ++ (f, new) ∷ [])) q.0 ∙ new_keyed gs f new js e some q.1
+
+-- the keys of a group
+pub group_keyed : (gs : List Group) (i : ℕ) (g : Group) → slice_get gs i ≡ Some g → has_bare gs ≡ false → 0 < length g.1.items
+group_keyed [] i g at h = cc
+group_keyed (x ∷ gs) zero g at h =
+    let same : x ≡ g = cc in
+    let q = or_parts (is_bare x) (has_bare gs) h in
+    let n = false-eqb (length g.1.items) 0 (sym (ap is_bare (sym same) ∙ q.0)) in omega arith
+group_keyed (x ∷ gs) (suc i) g at h = group_keyed gs i g at (or_parts (is_bare x) (has_bare gs) h).1
 
 -- ---- sorted
 

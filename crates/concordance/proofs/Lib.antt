@@ -1,7 +1,6 @@
 pub mod Bars
 pub mod Gathers
 pub mod Sites
-pub mod NodesAhead
 pub mod Standing
 pub mod KeyedLemmas
 pub mod Occurring

@@ -12,14 +12,20 @@ use Rattle.concordance.specs.Views.{passage_view, passages_view}
 use Rattle.concordance.specs.declared.passage.Passage as passages
 use Rattle.concordance.proofs.Standing.{Stands, Apart, apart_from, stands_within}
 
-module _ (hay needle : List ℕ) (k : ℕ) (utf8 : IsUtf8 hay) (needle_utf8 : IsUtf8 needle) (some : 0 < length needle) (h : OccursAt hay needle k) where
+module _ (hay needle : List ℕ) (k : ℕ) (utf8 : IsUtf8 hay) (needle_utf8 : IsUtf8 needle)
+    (some : 0 < length needle) (h : OccursAt hay needle k) where
   first_is : slice_index hay k ≡ slice_index needle 0
   first_is = (let e : k + 0 ≡ k = omega arith in ap (slice_index hay) (sym e)) ∙ h.reads 0 some
 
   pub boundary_before : IsCharBoundary hay k
   boundary_before =
-      let low = h.fits in
-      (omega arith, λ lt high. (let c = (IsCharBoundary-start needle needle_utf8).1 some in let f = first_is in let high' : 128 ≤ slice_index needle 0 = omega arith in let d = c high' in omega arith))
+      let low = h.fits in (
+        omega arith,
+        λ lt high. (let c = (IsCharBoundary-start needle needle_utf8).1 some in
+            let f = first_is in
+            let high' : 128 ≤ slice_index needle 0 = omega arith in
+            let d = c high' in omega arith),
+      )
 
   pub boundary_behind : IsCharBoundary hay (k + length needle)
   boundary_behind =

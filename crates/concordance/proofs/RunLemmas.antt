@@ -194,7 +194,8 @@ next_run s t rest at later fits gap at_is run later_is some =
     let l = ap length gap ∙ length-append (front_bytes false (chars rest)) at in
     let m = ap length run ∙ length-append (front_bytes true (chars at)) later in
     let start : s + (t - length rest) + length (front_bytes false (chars rest)) ≡ s + (t - length at) = omega arith in
-    let end : s + (t - length rest) + length (front_bytes false (chars rest)) + length (front_bytes true (chars at)) ≡ s + (t - length later) = omega arith in
+    let end : s + (t - length rest) + length (front_bytes false (chars rest)) + length (front_bytes true (chars at))
+    ≡ s + (t - length later) = omega arith in
     let size : length at - length later ≡ length (front_bytes true (chars at)) = omega arith in
     let bytes : front_bytes true (chars at) ≡ take (length at - length later) at =
     sym (ap (λ n. take n at) size ∙ ap (take (length (front_bytes true (chars at)))) run

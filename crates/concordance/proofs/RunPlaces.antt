@@ -11,7 +11,8 @@ use Rattle.concordance.specs.Passages.{Passage}
 use Rattle.concordance.specs.Plain.{plain_leaves}
 use Rattle.concordance.specs.Reading.{IsText}
 use Rattle.concordance.specs.RunReading.{is_like, behind, front_bytes}
-use Rattle.concordance.specs.SpellingViews.{spelled}
+use Rattle.concordance.specs.Groups.{composed}
+use Rattle.concordance.specs.KeyedViews.{spelled}
 use Rattle.concordance.specs.Words.{is_word_char, runs_behind, runs_in, spelling_at}
 use Rattle.concordance.proofs.Holding.{Filled, filled_each}
 use Rattle.concordance.proofs.RunLemmas.{one_step, char_some, bytes_more, bytes_none, behind_more, behind_none}
@@ -137,6 +138,7 @@ all_runs_filled ps = filled_each runs_in ps (λ p. filled_behind false p.start (
 
 -- ---- spellings
 
-pub runs_spelled : (pieces : List Part) (ps : List Passage) → map spelled (map (keyed pieces) ps) ≡ map (spelling_at pieces) ps
+pub runs_spelled : (pieces : List Part) (ps : List Passage)
+    → map composed (map spelled (map (keyed pieces) ps)) ≡ map (spelling_at pieces) ps
 runs_spelled pieces [] = refl
 runs_spelled pieces (p ∷ ps) = ap (λ l. spelling_at pieces p ∷ l) (runs_spelled pieces ps)

@@ -1,5 +1,6 @@
 -- Words gathered from spellings, whatever their order and however often one is told.
-use Rattle.std.proofs.Common.{◌≡◌, ℕ, ◌<◌, Bool, true, false, cond, ◌&&◌, ◌||◌, List, [], ◌∷◌, ◌++◌, length, map, filter, append-nil, refl, sym, ap, ◌∙◌, arith}
+use Rattle.std.proofs.Common.{◌≡◌, ℕ, zero, suc, ◌<◌, Bool, true, false, cond, ◌&&◌, ◌||◌, List, [], ◌∷◌, ◌++◌, length, map, filter, take, slice_get}
+use Rattle.std.proofs.Common.{Some, append-nil, append_assoc, refl, sym, ap, ◌∙◌, arith}
 use Rattle.std.specs.declared.cmp.Ordering.{Ordering}
 use Rattle.std.specs.declared.cmp.Ordering.TheVariants.{Less, Equal, Greater}
 use Rattle.std.specs.Ordering.{is_eq, is_lt}
@@ -10,7 +11,7 @@ use Rattle.std.specs.List.{list_any, list_all}
 use Rattle.std.specs.List.Sorted.{IsPermutation}
 use Rattle.std.specs.Str.{bytes_eq}
 use Rattle.std.proofs.lemmas.Bool.{and_parts, and_from, or_right, true≢false, false≢true}
-use Rattle.std.proofs.lemmas.List.{length-map}
+use Rattle.std.proofs.lemmas.List.{length-map, map-append}
 use Rattle.std.proofs.lemmas.List.Elements.{filter-append}
 use Rattle.std.proofs.lemmas.List.Folds.{list_all-append, list_any-append}
 use Rattle.std.proofs.lemmas.List.Sorted.{list_any-IsPermutation}
@@ -21,8 +22,8 @@ use Rattle.usfm_ref.proofs.Members.{same_tested, tested_rising}
 use Rattle.usfm_ref.proofs.Orders.{key_total, key_exact}
 use Rattle.usfm_ref.proofs.Sorted.{rises-rising, is_less}
 use Rattle.concordance.specs.SpellingOrder.{spelling_cmp}
-use Rattle.concordance.specs.Groups.{Group, told_by, told, is_bare, has_bare, is_told, TellsSame}
-use Rattle.concordance.specs.Words.{Spelling, WordParts, form_cmp, keys_with, word_with, words_in}
+use Rattle.concordance.specs.Groups.{Group, told_with, told_by, told, is_bare, has_bare, is_told, AlsoTells, TellsSame, composed, form_at}
+use Rattle.concordance.specs.Words.{Spelling, WordParts, form_cmp, form_of, keys_with, word_with, words_in}
 use Rattle.concordance.proofs.OrderLemmas.{form_total, form_exact, spelling_total, spelling_exact}
 
 -- ---- rising lists
@@ -33,7 +34,8 @@ module _ {K : Type 0} (cmp : K → K → Ordering) where
   all_with p k (x ∷ xs) e h =
       let q = and_parts (p x) (list_all p xs) h in
       let rest = all_with p k xs e q.1 in
-      elim (cmp k x) as (λ r. list_all p (by_order r (k ∷ x ∷ xs) (x ∷ xs) (x ∷ with_item cmp k xs)) ≡ true) [ Less ↦ and_from _ _ e h | Equal ↦ h | Greater ↦ and_from _ _ q.0 rest ]
+      elim (cmp k x) as (λ r. list_all p (by_order r (k ∷ x ∷ xs) (x ∷ xs) (x ∷ with_item cmp k xs)) ≡ true)
+      [ Less ↦ and_from _ _ e h | Equal ↦ h | Greater ↦ and_from _ _ q.0 rest ]
 
   all_rising : (p : K → Bool) (xs : List K) → list_all p xs ≡ true → list_all p (rising cmp xs) ≡ true
   all_rising p [] h = refl
@@ -117,6 +119,58 @@ words_same ss ts same =
     ap (map (word_with ss)) (forms_same ss ts same)
     ∙ ap (λ (w : List ℕ → WordParts). map w (rising form_cmp (map (λ s. s.form) ts)))
     (λ i f. (let word : WordParts = record { form = f; keys = keys_same f ss ts same i } in word))
+
+-- ---- spellings composed
+
+told_composed : (s : Spelling) (ss : List Spelling)
+    → is_told s (map composed ss) ≡ list_any (λ t. is_eq (spelling_cmp s (composed t))) ss
+told_composed s [] = refl
+told_composed s (t ∷ ss) = ap (λ b. is_eq (spelling_cmp s (composed t)) || b) (told_composed s ss)
+
+keys_composed : (form : List ℕ) (keys : List KeyParts) → map composed (told_with form keys) ≡ told_with (form_of form) keys
+keys_composed form [] = refl
+keys_composed form (k ∷ keys) =
+    ap (λ l. (let s : Spelling = record { form = form_of form; key = k } in s) ∷ l) (keys_composed form keys)
+
+-- what tells the same does so when it is composed
+pub composed_same : (ss ts : List Spelling) → TellsSame ss ts → TellsSame (map composed ss) (map composed ts)
+composed_same ss ts same s =
+    told_composed s ss ∙ any_same (λ t. is_eq (spelling_cmp s (composed t))) ss ts same ∙ sym (told_composed s ts)
+
+-- one more
+pub noted_more : (s : Spelling) (old new : List Spelling) (t : Spelling) (rest : List Spelling) → AlsoTells old (t ∷ []) new
+    → (is_told s new || is_told s rest) ≡ (is_told s old || is_told s (t ∷ rest))
+noted_more s old new t rest also =
+    ap (λ b. b || is_told s rest) (also s) ∙ by (is_told s old) (is_eq (spelling_cmp s t)) (is_told s rest)
+  where
+    by : (a b c : Bool) → ((a || (b || false)) || c) ≡ (a || (b || c))
+    by true b c = refl
+    by false true c = refl
+    by false false c = refl
+
+pub none_more : (s : Spelling) (ss : List Spelling) → (is_told s ss || is_told s []) ≡ is_told s ss
+none_more s ss = by (is_told s ss)
+  where
+    by : (a : Bool) → (a || false) ≡ a
+    by true = refl
+    by false = refl
+
+-- the spellings of the groups up to a place, and of the one there
+pub composed_at : (gs : List Group) (i : ℕ) (g : Group) → slice_get gs i ≡ Some g
+    → map composed (told (take (suc i) gs)) ≡ map composed (told (take i gs)) ++ told_with (form_at g) g.1.items
+composed_at [] i g h = cc
+composed_at (x ∷ gs) zero g h =
+    let same : x ≡ g = cc in
+    ap (map composed) (append-nil (told_by x)) ∙ keys_composed x.0.now x.1.items ∙ ap (λ (y : Group). told_with (form_at y) y.1.items) same
+composed_at (x ∷ gs) (suc i) g h =
+    map-append composed (told_by x) (told (take (suc i) gs)) ∙ ap (λ l. map composed (told_by x) ++ l) (composed_at gs i g h)
+    ∙ sym (append_assoc (map composed (told_by x)) (map composed (told (take i gs))) (told_with (form_at g) g.1.items))
+    ∙ ap (λ l. l ++ told_with (form_at g) g.1.items) (sym (map-append composed (told_by x) (told (take i gs))))
+
+-- some more in each of two lists
+pub same_more : (ss ts more us : List Spelling) → TellsSame ss ts → AlsoTells ts more us → TellsSame (ss ++ more) us
+same_more ss ts more us same also s =
+    list_any-append (λ t. is_eq (spelling_cmp s t)) ss more ∙ ap (λ b. b || is_told s more) (same s) ∙ sym (also s)
 
 -- ---- the word of the least form first
 

@@ -7,15 +7,21 @@ use Rattle.std.specs.Global.{Vec}
 use Rattle.usfm_ref.specs.Keys.{KeyParts}
 use Rattle.usfm_ref.specs.Rising.{rises_by}
 use Rattle.concordance.specs.SpellingOrder.{spelling_cmp}
-use Rattle.concordance.specs.Words.{Spelling, form_cmp}
+use Rattle.concordance.specs.Words.{Spelling, form_cmp, form_of}
 
 -- a form, and keys at which it stands, in the order in which they were told
 abbrev pub Group : Type 0
 Group = Bor (List ℕ) × Vec KeyParts
 
-abbrev pub told_by : Group → List Spelling
-told_by g = map (λ k. record { form = g.0.now; key = k }) g.1.items
+-- a form with each of some keys, as spellings
+abbrev pub told_with : List ℕ → List KeyParts → List Spelling
+told_with form keys = map (λ k. record { form = form; key = k }) keys
 
+-- the spellings of a group: its form with each of its keys
+abbrev pub told_by : Group → List Spelling
+told_by g = told_with g.0.now g.1.items
+
+-- the spellings of all groups
 abbrev pub told : List Group → List Spelling
 told gs = flat_map told_by gs
 
@@ -23,6 +29,7 @@ told gs = flat_map told_by gs
 abbrev pub is_bare : Group → Bool
 is_bare g = length g.1.items == 0
 
+-- some group has no key
 abbrev pub has_bare : List Group → Bool
 has_bare gs = list_any is_bare gs
 
@@ -38,6 +45,14 @@ is_told s ss = list_any (λ t. is_eq (spelling_cmp s t)) ss
 abbrev pub TellsSame : List Spelling → List Spelling → Type 0
 TellsSame ss ts = (s : Spelling) → is_told s ss ≡ is_told s ts
 
--- the second list tells what the first does, and one more
-abbrev pub AlsoTells : List Spelling → Spelling → List Spelling → Type 0
-AlsoTells ss t ts = (s : Spelling) → is_told s ts ≡ (is_told s ss || is_eq (spelling_cmp s t))
+-- the last list tells what the first two do
+abbrev pub AlsoTells : List Spelling → List Spelling → List Spelling → Type 0
+AlsoTells ss more ts = (s : Spelling) → is_told s ts ≡ (is_told s ss || is_told s more)
+
+-- a spelling of a run, composed
+abbrev pub composed : Spelling → Spelling
+composed s = record { form = form_of s.form; key = s.key }
+
+-- the form of a group of a run
+abbrev pub form_at : Group → List ℕ
+form_at g = form_of g.0.now

@@ -19,12 +19,15 @@ pub record HitParts : Type 0 where
   pub start : ℕ
   pub text : List ℕ
 
+-- a passage as a hit, with the key of the piece that holds its start
 abbrev pub keyed : List Part → Passage → HitParts
 keyed ps p = record { key = key_at ps p.start; start = p.start; text = p.text }
 
--- the hits of a needle in a text, by the records of a style sheet: where it occurs in one plain leaf
+-- the hits of a needle in a text, by the records of a style sheet: where it occurs within one plain leaf, from the
+-- left, none overlapping one before it, each with the key of the piece that holds its start
 unfoldable pub hits_of : List Record → List ℕ → List ℕ → List HitParts
 hits_of sheet s needle = map (keyed (pieces_of s)) (flat_map (occurrences needle) (plain_leaves sheet s))
 
+-- a hit without its key
 abbrev pub passage_of : HitParts → Passage
 passage_of h = record { start = h.start; text = h.text }

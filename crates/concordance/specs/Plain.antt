@@ -43,13 +43,14 @@ mark_at_end behind (text s t f) = mark_at_end None f
 mark_at_end behind (leaf s m f) = mark_at_end (Some m) f
 mark_at_end behind (node k s b m ks c f) = mark_at_end (node_end (mark_at_end (Some m) ks) c) f
 
+-- whether there is no entry
 abbrev pub is_nothing : Forest → Bool
 is_nothing nothing = true
 is_nothing (text s t f) = false
 is_nothing (leaf s m f) = false
 is_nothing (node k s b m ks c f) = false
 
--- the texts, in order
+-- the texts of entries within these nodes and after a mark, if one stands there, in order
 abbrev pub sites_in : List Around → Option MarkParts → Forest → List Site
 sites_in around behind nothing = []
 sites_in around behind (text s t f) =
@@ -61,6 +62,7 @@ sites_in around behind (node k s b m ks c f) =
 
 -- ---- which of them count
 
+-- whether a kind is a note's or a milestone's
 abbrev pub is_aside_kind : StyleKind → Bool
 is_aside_kind kinds.Paragraph = false
 is_aside_kind kinds.Character = false
@@ -90,7 +92,8 @@ abbrev pub verse_length : Option VerseMark → ℕ
 verse_length None = 0
 verse_length (Some v) = v.length
 
--- those of the number directly after the mark `\v`; after `\+v` and `\v*` stands none
+-- the bytes of the number directly after the mark `\v`, with its bridge and the blanks before; after `\+v` and
+-- `\v*` stands none
 abbrev pub number_length : Option MarkParts → List ℕ → ℕ
 number_length None bytes = 0
 number_length (Some m) bytes = if bytes_eq (mark_bytes m) (codes "\\v") then verse_length (verse_in bytes) else 0
@@ -108,6 +111,7 @@ may_end_with_attributes t = t.is_last && in_closed_character t.around
 abbrev pub is_bar : ℕ → Bool
 is_bar b = b == 124
 
+-- where attributes may end a text, what stands before its first bar, and else all
 abbrev pub without_attributes : Bool → List ℕ → List ℕ
 without_attributes may_end bytes = if may_end then before_first is_bar bytes else bytes
 
@@ -117,9 +121,10 @@ trimmed t =
     let n = number_length t.behind t.bytes in
     record { start = t.start + n; text = without_attributes (may_end_with_attributes t) (drop n t.bytes) }
 
+-- the plain leaves of a tree by the records of a style sheet, in order
 abbrev pub plain_in : List Record → Forest → List Passage
 plain_in sheet tree = map trimmed (filter (is_plain sheet) (sites_in [] None tree))
 
--- the plain leaves of a text by the records of a style sheet, in order
+-- the plain leaves of a text by the records of a style sheet, in order, each without number and attributes
 unfoldable pub plain_leaves : List Record → List ℕ → List Passage
 plain_leaves sheet s = plain_in sheet (tree_of (styles_in sheet) s)

@@ -1,19 +1,23 @@
 -- The plain leaves as one reading of the tree, from the left, and what is left of the pieces on the way.
-use Rattle.std.specs.Prelude.{◌≡◌, ℕ, suc, ◌+◌, ◌^◌, ◌<◌, Bool, true, ◌==◌, nat_le, nat_lt, not, ◌&&◌, ◌||◌, List, [], ◌∷◌, ◌++◌, length, drop, Option, None, Some, is_some, IsUtf8, if◌then◌else◌}
+use Rattle.std.specs.Prelude.{ℕ, ◌+◌, ◌^◌, ◌<◌, Bool, true, ◌==◌, nat_le, nat_lt, not, ◌&&◌, ◌||◌, List, [], ◌∷◌, ◌++◌, length, drop, Option, None, Some, is_some, IsUtf8, if◌then◌else◌}
 use Rattle.std.specs.List.{list_any}
 use Rattle.sty_sheet.specs.Records.{Record}
 use Rattle.usfm_token.specs.Tokens.{MarkParts}
 use Rattle.usfm_tree.specs.Around.{Around}
-use Rattle.usfm_tree.specs.Forest.{Forest, nothing, text, leaf, node, start_of, slice_here, kids_of, close_of}
+use Rattle.usfm_tree.specs.Forest.{Forest, nothing, text, leaf, node}
 use Rattle.usfm_tree.specs.Reading.{is_character_kind}
 use Rattle.verse_cut.specs.Pieces.{Part, pieces_joined}
 use Rattle.concordance.specs.Passages.{Passage}
-use Rattle.concordance.specs.declared.plain.Shape.{Shape}
-use Rattle.concordance.specs.declared.plain.Shape.TheVariants as shapes
-use Rattle.concordance.specs.declared.plain.Surroundings.{Surroundings}
 use Rattle.concordance.specs.Plain.{is_verse_text, is_aside, in_closed_character, is_nothing, node_end, mark_at_end, number_length, without_attributes}
 
--- what the nodes around a text say of it
+-- What the nodes around a text say of it: one of them has the text of verses, one is a note or a milestone, and the innermost is a
+-- character node that ends with its closing mark.
+pub record Surroundings : Type 0 where
+  pub in_verse_text : Bool
+  pub in_aside : Bool
+  pub in_closed : Bool
+
+-- what these nodes say
 abbrev pub inside_of : List Record → List Around → Surroundings
 inside_of sheet around = record {
   in_verse_text = list_any (is_verse_text sheet) around;
@@ -21,7 +25,7 @@ inside_of sheet around = record {
   in_closed = in_closed_character around;
 }
 
--- and with one more around it
+-- what the nodes around a text say of it, with one more around it
 abbrev pub within : List Record → Surroundings → Around → Surroundings
 within sheet i a = record {
   in_verse_text = is_verse_text sheet a || i.in_verse_text;
@@ -35,6 +39,7 @@ left_of i behind is_last start bytes =
     let n = number_length behind bytes in
     record { start = start + n; text = without_attributes (is_last && i.in_closed) (drop n bytes) }
 
+-- whether a text counts, by what the nodes around it say
 abbrev pub counts : Surroundings → Bool
 counts i = i.in_verse_text && not i.in_aside
 
@@ -58,26 +63,14 @@ TextsFit (text s t f) = (s + length t < 2 ^ 64) × TextsFit f
 TextsFit (leaf s m f) = TextsFit f
 TextsFit (node k s b m ks c f) = TextsFit ks × TextsFit f
 
--- how many entries there are, with those inside others
-abbrev pub entry_count : Forest → ℕ
-entry_count nothing = 0
-entry_count (text s t f) = suc (entry_count f)
-entry_count (leaf s m f) = suc (entry_count f)
-entry_count (node k s b m ks c f) = suc (entry_count ks + entry_count f)
-
--- a single entry is a text, a leaf, or a node of a kind
-abbrev pub HasShape : Shape → Forest → Type 0
-HasShape shapes.Text f = f ≡ text (start_of f) (slice_here f) nothing
-HasShape shapes.Leaf f = (m : MarkParts) × (f ≡ leaf (start_of f) m nothing)
-HasShape (shapes.Branch kind) f = (m : MarkParts) × (f ≡ node kind (start_of f) (slice_here f) m (kids_of f) (close_of f) nothing)
-
 -- ---- pieces
 
--- where pieces begin, and where they end
+-- where pieces begin
 abbrev pub begin_of : List Part → ℕ
 begin_of [] = 0
 begin_of (p ∷ ps) = p.start
 
+-- where pieces end
 abbrev pub end_of : List Part → ℕ
 end_of ps = begin_of ps + length (pieces_joined ps)
 

@@ -28,7 +28,7 @@ is_combining SpacingMark = true
 is_combining EnclosingMark = true
 is_combining _ = false
 
--- a character of words
+-- a character of words: one that is alphabetic, or of the general categories Mn, Mc and Me
 abbrev pub is_word_char : ℕ → Bool
 is_word_char c = is_alphabetic c || is_combining (general_category c)
 
@@ -41,6 +41,7 @@ runs_behind within at (c ∷ cs) =
     if is_word_char c && not within then record { start = at; text = encode_utf8_all (take_while is_word_char (c ∷ cs)) } ∷ later
     else later
 
+-- the longest runs of word characters in a passage, in order
 abbrev pub runs_in : Passage → List Passage
 runs_in p = runs_behind false p.start (chars p.text)
 
@@ -70,6 +71,7 @@ pub record WordParts : Type 0 where
 abbrev pub form_cmp : List ℕ → List ℕ → Ordering
 form_cmp = slice_cmp nat_cmp
 
+-- the keys of the spellings with a form
 abbrev pub keys_with : List Spelling → List ℕ → List KeyParts
 keys_with ss form = map (λ s. s.key) (filter (λ s. bytes_eq s.form form) ss)
 
@@ -81,6 +83,7 @@ word_with ss form = record { form = form; keys = rising key_cmp (keys_with ss fo
 abbrev pub words_in : List Spelling → List WordParts
 words_in ss = map (word_with ss) (rising form_cmp (map (λ s. s.form) ss))
 
--- the words of a text, by the records of a style sheet
+-- the words of a text, by the records of a style sheet: the forms of the longest runs of word characters in its
+-- plain leaves, rising, each with the keys at which it stands
 unfoldable pub words_of : List Record → List ℕ → List WordParts
 words_of sheet s = words_in (map (spelling_at (pieces_of s)) (flat_map runs_in (plain_leaves sheet s)))

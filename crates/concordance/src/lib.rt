@@ -12,6 +12,7 @@
 
 mod fault;
 mod finding;
+mod form;
 mod hit;
 mod keyed;
 pub mod laws;
@@ -20,7 +21,6 @@ mod passage;
 mod places;
 mod plain;
 mod runs;
-mod spelling;
 
 pub use fault::FindFault;
 pub use finding::find;

@@ -1,15 +1,17 @@
-ghost use Rattle.std.specs.Prelude.{◌≡◌, IsTrue, IsFalse, IfOk, OnOk};
+ghost use Rattle.std.specs.Prelude.{◌≡◌, ◌<◌, length, map, IsTrue, IsFalse, IfOk, OnOk};
 ghost use Rattle.sty_sheet.specs.Views.{records_of};
 ghost use Rattle.usfm_ref.specs.Keys.{key_cmp};
 ghost use Rattle.usfm_ref.specs.Rising.{rising};
-ghost use Rattle.concordance.specs.Groups.{told, has_bare, rise, AlsoTells, TellsSame};
-ghost use Rattle.concordance.specs.SpellingViews.{spellings_view};
+ghost use Rattle.concordance.specs.Groups.{told, told_with, has_bare, rise, AlsoTells, TellsSame};
+ghost use Rattle.concordance.specs.Groups.{form_at, composed};
+ghost use Rattle.concordance.specs.KeyedViews.{hits_left, spelled};
+ghost use Rattle.concordance.specs.FormViews.{forms_view};
 ghost use Rattle.concordance.specs.Words as spec;
 
+use crate::form::Form;
 use crate::keyed::Keyed;
 use crate::plain::plain_leaves;
 use crate::runs::runs;
-use crate::spelling::{Spelling, spellings};
 use indexmap::IndexMap;
 use std::alloc::{AllocError, Global};
 use std::marker::Model;
@@ -49,41 +51,75 @@ impl Word {
     }
 }
 
-// Puts a key after those of a form.
+// Puts keys after those of a form.
 fn note<'f>(
     alloc: Global,
     groups: &mut IndexMap<&'f str, Vec<Key>>,
     form: &'f str,
-    key: Key,
+    keys: &[Key],
 ) -> Result<(), AllocError>
     requires keyed { IsFalse (has_bare groups.old.entries) }
+    requires some { 0 < length keys.now }
     ensures told { OnOk result (AlsoTells (told groups.old.entries)
-        (record { form = form.entry.now; key = key }) (told groups.new.entries)) }
+        (told_with form.entry.now keys.now) (told groups.new.entries)) }
     ensures keyed { OnOk result (IsFalse (has_bare groups.new.entries)) }
 {
     match groups.get_index_of(form) {
-        Some(at) => groups[at].push(key)?,
+        Some(at) => groups[at].extend_from_slice(keys)?,
         None => {
-            let mut keys = Vec::new(alloc);
-            keys.push(key)?;
+            let keys = Vec::from_slice(alloc, keys)?;
             groups.insert(form, keys)?;
         }
     }
     Ok(())
 }
 
-// The keys of each form of spellings.
-fn grouped<'f>(
-    alloc: Global,
-    spellings: &'f [Spelling<'_>],
-) -> Result<IndexMap<&'f str, Vec<Key>>, AllocError>
+// The keys of each run.
+fn noted<'a>(alloc: Global, runs: Keyed<'_, 'a>) -> Result<IndexMap<&'a str, Vec<Key>>, AllocError>
     ensures told { IfOk result (λ groups.
-        TellsSame (spellings_view spellings.now) (told groups.entries)) }
+        TellsSame (map spelled (hits_left runs.entry)) (told groups.entries)) }
     ensures keyed { IfOk result (λ groups. IsFalse (has_bare groups.entries)) }
 {
     let mut groups = IndexMap::new(alloc);
-    for spelling in spellings {
-        note(alloc, &mut groups, spelling.form.text(), spelling.key)?;
+    for run in runs {
+        note(alloc, &mut groups, run.text, &[run.key])?;
+    }
+    Ok(groups)
+}
+
+// The form of each run.
+fn forms_of<'a>(
+    alloc: Global,
+    runs: &IndexMap<&'a str, Vec<Key>>,
+) -> Result<Vec<Form<'a>>, AllocError>
+    ensures { IfOk result (λ forms. forms_view forms.items ≡ map form_at runs.now.entries) }
+{
+    let mut forms = Vec::with_capacity(alloc, runs.len())?;
+    for index in 0..runs.len() {
+        if let Some((run, _)) = runs.get_index(index) {
+            forms.push(Form::of(alloc, run)?)?;
+        }
+    }
+    Ok(forms)
+}
+
+// The keys of each form, from those of the runs that have it.
+fn composed<'f>(
+    alloc: Global,
+    runs: &IndexMap<&str, Vec<Key>>,
+    forms: &'f [Form<'_>],
+) -> Result<IndexMap<&'f str, Vec<Key>>, AllocError>
+    requires keyed { IsFalse (has_bare runs.now.entries) }
+    requires forms { forms_view forms.now ≡ map form_at runs.now.entries }
+    ensures told { IfOk result (λ groups.
+        TellsSame (map composed (told runs.now.entries)) (told groups.entries)) }
+    ensures keyed { IfOk result (λ groups. IsFalse (has_bare groups.entries)) }
+{
+    let mut groups = IndexMap::new(alloc);
+    for (index, form) in forms.iter().enumerate() {
+        if let Some((_, keys)) = runs.get_index(index) {
+            note(alloc, &mut groups, form.text(), keys.as_slice())?;
+        }
     }
     Ok(groups)
 }
@@ -146,8 +182,9 @@ pub fn words(alloc: Global, text: &str, sheet: &Sheet<'_>) -> Result<Vec<Word>, 
     let leaves = plain_leaves(alloc, text, sheet)?;
     let runs = runs(alloc, &leaves)?;
     let pieces = cut(alloc, text)?;
-    let spellings = spellings(alloc, Keyed::new(&runs, &pieces))?;
-    let groups = grouped(alloc, &spellings)?;
+    let noted = noted(alloc, Keyed::new(&runs, &pieces))?;
+    let forms = forms_of(alloc, &noted)?;
+    let groups = composed(alloc, &noted, &forms)?;
     let sorted = in_order(groups)?;
     gathered(alloc, &sorted)
 }

@@ -1,63 +1,49 @@
-//! The plain leaves of a text, gathered from its tree.
+//! The plain leaves of a text, gathered on a walk over its tree.
 
-ghost use Rattle.std.specs.Prelude.{◌≡◌, ◌≤◌, ◌<◌, ◌+◌, ◌^◌, ◌++◌, [], Some, None};
-ghost use Rattle.std.specs.Prelude.{length, OnOk, IfOk, Bool};
+ghost use Rattle.std.specs.Prelude.{◌≡◌, ◌≤◌, ◌<◌, ◌+◌, ◌^◌, ◌++◌, List, [], Some, None};
+ghost use Rattle.std.specs.Prelude.{length, OnOk, IfOk};
 ghost use Rattle.std.specs.List.{before_first};
 ghost use Rattle.std.specs.Option.{option_map};
 ghost use Rattle.std.specs.Str.{IsCharBoundary};
-ghost use Rattle.sty_sheet.specs.Views.{records_of};
+ghost use Rattle.sty_sheet.specs.Records.{Record, mark_style};
+ghost use Rattle.sty_sheet.specs.Views.{record_of, records_of};
 ghost use Rattle.usfm_ref.specs.Numbers.{verse_in};
 ghost use Rattle.usfm_token.specs.Tokens.{MarkParts};
 ghost use Rattle.usfm_token.specs.View.{mark_parts};
-ghost use Rattle.usfm_tree.specs.Views.{view, forest_of};
+ghost use Rattle.usfm_tree.specs.Events.{Event, ends_before};
+ghost use Rattle.usfm_tree.specs.StepViews.{IsStyled, entry_before, step_before};
+ghost use Rattle.concordance.specs.Gathered as gathered;
+ghost use Rattle.concordance.specs.Gathered.{EntryFits, innermost, settled};
 ghost use Rattle.concordance.specs.Plain as plain;
-ghost use Rattle.concordance.specs.Reading as reading;
-ghost use Rattle.concordance.specs.Reading.{TextsFit, HasShape};
-ghost use Rattle.concordance.specs.Views.{passages_view, mark_behind};
+ghost use Rattle.concordance.specs.Views.{passage_view, passages_view, mark_behind, waiting_of};
+ghost use Rattle.concordance.specs.Views.{enclosures, leaves_with};
 
 use crate::passage::Passage;
 use memchr::memchr;
 use std::alloc::{AllocError, Global};
-use sty_sheet::{Sheet, StyleKind};
+use sty_sheet::{Sheet, Style, StyleKind};
 use usfm_ref::verse_after;
 use usfm_token::Mark;
-use usfm_tree::{Node, TreeReader};
+use usfm_tree::{Entry, Step, TreeWalk};
 
-// What the nodes around a text say of it: one of them has the text of verses, one is a note or a
-// milestone, and the innermost is a character node with its closing mark.
+// An open node, as a text in it sees it: it or a node around it has the text of verses, it or one
+// around it is a note or a milestone, and it is a character node.
 #[derive(Clone, Copy)]
-pub(crate) struct Surroundings {
+pub(crate) struct Enclosure {
     pub(crate) in_verse_text: bool,
     pub(crate) in_aside: bool,
-    pub(crate) in_closed: bool,
+    pub(crate) is_character: bool,
 }
 
-// A text, a leaf, or a node of a kind that has kids.
-#[derive(Clone, Copy)]
-pub(crate) enum Shape {
-    Text,
-    Leaf,
-    Branch(StyleKind),
-}
-
-// The plain leaves so far, and the mark directly before what comes next, if one stands there.
+// The plain leaves so far; a text that will be one, while it is not known whether attributes may
+// end it; the mark directly before what comes next, if one stands there; and the open nodes, the
+// innermost last.
 #[derive(Drop)]
 pub(crate) struct Gathering<'a> {
     pub(crate) leaves: Vec<Passage<'a>>,
+    pub(crate) waiting: Option<Passage<'a>>,
     pub(crate) behind: Option<Mark<'a>>,
-}
-
-fn shape_of(node: &Node<'_>) -> Shape
-    ensures { HasShape result (view node.now) }
-{
-    match node {
-        Node::Text(_) => Shape::Text,
-        Node::Leaf(_) => Shape::Leaf,
-        Node::Para(_) => Shape::Branch(StyleKind::Paragraph),
-        Node::Char(_) => Shape::Branch(StyleKind::Character),
-        Node::Note(_) => Shape::Branch(StyleKind::Note),
-        Node::Milestone(_) => Shape::Branch(StyleKind::Milestone),
-    }
+    pub(crate) around: Vec<Enclosure>,
 }
 
 // The bytes of the number directly after the mark `\v`, with the blanks and the bridge.
@@ -89,123 +75,166 @@ fn before_bar(text: &str) -> &str
     text.split_at(end).0
 }
 
-// What the nodes around a text say, with one more around it.
-fn within(
-    surroundings: Surroundings,
-    sheet: &Sheet<'_>,
-    kind: StyleKind,
-    mark: Option<Mark<'_>>,
-    is_closed: bool,
-) -> Surroundings
-    ensures { (m : MarkParts) → option_map mark_parts mark.entry ≡ Some m
-        → result ≡ reading.within (records_of sheet.now) surroundings
-        (record { kind = kind; mark = m; is_closed = is_closed }) }
-{
-    let is_verse_text = kind == StyleKind::Paragraph && has_verse_text(sheet, mark);
-    Surroundings {
-        in_verse_text: is_verse_text || surroundings.in_verse_text,
-        in_aside: is_aside(kind) || surroundings.in_aside,
-        in_closed: kind == StyleKind::Character && is_closed,
-    }
-}
-
 fn is_aside(kind: StyleKind) -> bool
     ensures { result ≡ plain.is_aside_kind kind }
 {
     matches!(kind, StyleKind::Note | StyleKind::Milestone)
 }
 
-// Whether the style of a mark has the text of verses.
-fn has_verse_text(sheet: &Sheet<'_>, mark: Option<Mark<'_>>) -> bool
-    ensures { (m : MarkParts) → option_map mark_parts mark.entry ≡ Some m
-        → result ≡ plain.has_verse_text (records_of sheet.now) m.name }
+// A node in another, with its mark's style.
+fn enclosed(outer: Enclosure, kind: StyleKind, style: &Style<'_>) -> Enclosure
+    ensures { (sheet : List Record) (m : MarkParts)
+        → mark_style sheet m.name ≡ Some (record_of style.now)
+        → result ≡ gathered.enclosed sheet outer kind m }
 {
-    match mark {
-        None => false,
-        Some(mark) => match sheet.style_of(mark.name()) {
-            None => false,
-            Some(style) => style.verse_text(),
-        },
+    let is_verse_text = kind == StyleKind::Paragraph && style.verse_text();
+    Enclosure {
+        in_verse_text: is_verse_text || outer.in_verse_text,
+        in_aside: is_aside(kind) || outer.in_aside,
+        is_character: kind == StyleKind::Character,
+    }
+}
+
+// A text that counts, without the number before it.
+fn counted<'a>(
+    enclosure: Enclosure,
+    behind: Option<Mark<'_>>,
+    start: usize,
+    text: &'a str,
+) -> Option<Passage<'a>>
+    requires { start + length text.now < 2 ^ 64 }
+    ensures { let behind = option_map mark_parts behind.entry in
+        option_map passage_view result ≡ gathered.counted enclosure behind start text.entry.now }
+{
+    if enclosure.in_aside || !enclosure.in_verse_text {
+        return None;
+    }
+    let count = number_len(behind, text);
+    let text = text.split_at(count).1;
+    Some(Passage {
+        start: start + count,
+        text,
+    })
+}
+
+// Whether attributes may end a text before an entry: a character node ends there with its mark.
+fn attributes_may_end(innermost: Enclosure, entry: Entry<'_, '_>) -> bool
+    ensures { result ≡ gathered.attributes_may_end innermost entry.entry }
+{
+    innermost.is_character && matches!(entry, Entry::Close(_))
+}
+
+// The mark after a milestone: its `\*`, or its own mark, unless a text follows that.
+fn behind_milestone<'a>(
+    mark: Mark<'a>,
+    text: Option<&str>,
+    close: Option<Mark<'a>>,
+) -> Option<Mark<'a>>
+    ensures { let text = option_map (λ t. t.now) text.entry in
+        let close = option_map mark_parts close.entry in
+        option_map mark_parts result
+        ≡ gathered.behind_milestone (mark_parts mark.entry) text close }
+{
+    match (text, close) {
+        (_, Some(close)) => Some(close),
+        (Some(_), None) => None,
+        (None, None) => Some(mark),
     }
 }
 
 impl<'a> Gathering<'a> {
-    // Takes a text.
-    fn take_text(
-        &mut self,
-        surroundings: Surroundings,
-        start: usize,
-        text: &'a str,
-        is_last: bool,
-    ) -> Result<(), AllocError>
-        requires { start + length text.now < 2 ^ 64 }
+    // The innermost open node.
+    fn innermost(&self) -> Enclosure
+        ensures { result ≡ innermost (enclosures self.now) }
+    {
+        match self.around.last() {
+            None => Enclosure {
+                in_verse_text: false,
+                in_aside: false,
+                is_character: false,
+            },
+            Some(enclosure) => *enclosure,
+        }
+    }
+
+    // Makes the text that waits a leaf.
+    fn settle(&mut self, may_end_with_attributes: bool) -> Result<(), AllocError>
         ensures leaves { OnOk result (passages_view self.new.leaves.items
             ≡ passages_view self.old.leaves.items
-            ++ reading.with_text surroundings (mark_behind self.old) is_last start
-            text.entry.now []) }
-        ensures behind { OnOk result (mark_behind self.new ≡ None) }
+            ++ settled may_end_with_attributes (waiting_of self.old) []) }
+        ensures waiting { OnOk result (waiting_of self.new ≡ None) }
+        ensures behind { OnOk result (mark_behind self.new ≡ mark_behind self.old) }
+        ensures around { OnOk result (enclosures self.new ≡ enclosures self.old) }
     {
-        if surroundings.in_verse_text && !surroundings.in_aside {
-            let count = number_len(self.behind, text);
-            let numberless = text.split_at(count).1;
-            let text = if is_last && surroundings.in_closed {
-                before_bar(numberless)
+        if let Some(Passage { start, text }) = self.waiting {
+            let text = if may_end_with_attributes {
+                before_bar(text)
             } else {
-                numberless
+                text
             };
-            self.leaves.push(Passage {
-                start: start + count,
-                text,
-            })?;
+            self.leaves.push(Passage { start, text })?;
+            self.waiting = None;
         }
-        self.behind = None;
         Ok(())
     }
 
-    // Takes nodes that stand side by side.
-    fn take_nodes(
-        &mut self,
-        sheet: &Sheet<'_>,
-        surroundings: Surroundings,
-        nodes: &[Node<'a>],
-    ) -> Result<(), AllocError>
-        requires { TextsFit (forest_of nodes.now) }
-        ensures leaves { OnOk result (passages_view self.new.leaves.items
-            ≡ passages_view self.old.leaves.items
-            ++ reading.leaves_from (records_of sheet.now) surroundings (mark_behind self.old)
-            (forest_of nodes.now)) }
-        ensures behind { OnOk result (mark_behind self.new
-            ≡ plain.mark_at_end (mark_behind self.old) (forest_of nodes.now)) }
+    // Ends so many nodes without closing marks.
+    fn end(&mut self, count: usize) -> Result<(), AllocError>
+        ensures { OnOk result ((sheet : List Record) (later : List Event)
+            → leaves_with sheet self.new later
+            ≡ leaves_with sheet self.old (ends_before count later)) }
     {
-        for (index, node) in nodes.iter().enumerate() {
-            match shape_of(node) {
-                Shape::Text => {
-                    let is_last = index + 1 == nodes.len();
-                    self.take_text(surroundings, node.start(), node.slice(), is_last)?;
-                }
-                Shape::Leaf => self.behind = node.mark(),
-                Shape::Branch(kind) => {
-                    let around = within(
-                        surroundings,
-                        sheet,
-                        kind,
-                        node.mark(),
-                        node.close().is_some(),
-                    );
-                    self.behind = node.mark();
-                    self.take_nodes(sheet, around, node.kids())?;
-                    match node.close() {
-                        None => {}
-                        Some(close) => self.behind = Some(close),
-                    }
-                }
+        if count > 0 {
+            self.settle(false)?;
+            self.around
+                .truncate(self.around.len().saturating_sub(count));
+        }
+        Ok(())
+    }
+
+    // Takes an entry.
+    fn enter(&mut self, entry: Entry<'a, '_>) -> Result<(), AllocError>
+        requires { EntryFits entry }
+        ensures { OnOk result ((sheet : List Record) (later : List Event)
+            → IsStyled sheet entry.entry → leaves_with sheet self.new later
+            ≡ leaves_with sheet self.old (entry_before entry.entry later)) }
+    {
+        let innermost = self.innermost();
+        self.settle(attributes_may_end(innermost, entry))?;
+        match entry {
+            Entry::Text(start, text) => {
+                self.waiting = counted(innermost, self.behind, start, text);
+                self.behind = None;
+            }
+            Entry::Leaf(mark) => self.behind = Some(mark),
+            Entry::Begin(kind, mark, style) => {
+                self.around.push(enclosed(innermost, kind, style))?;
+                self.behind = Some(mark);
+            }
+            Entry::Close(mark) => {
+                self.around.pop();
+                self.behind = Some(mark);
+            }
+            Entry::Milestone(mark, _, text, close) => {
+                self.behind = behind_milestone(mark, text, close);
             }
         }
         Ok(())
     }
+
+    // Takes a step of a walk.
+    fn take(&mut self, step: Step<'a, '_>) -> Result<(), AllocError>
+        requires { EntryFits step.entry }
+        ensures { OnOk result ((sheet : List Record) (later : List Event)
+            → IsStyled sheet step.entry.entry → leaves_with sheet self.new later
+            ≡ leaves_with sheet self.old (step_before step.entry later)) }
+    {
+        self.end(step.ended)?;
+        self.enter(step.entry)
+    }
 }
 
-// The plain leaves of a text, in order. No more of the tree is kept than a node under the root.
+// The plain leaves of a text, in order.
 pub(crate) fn plain_leaves<'a>(
     alloc: Global,
     text: &'a str,
@@ -216,21 +245,20 @@ pub(crate) fn plain_leaves<'a>(
 {
     let mut gathering = Gathering {
         leaves: Vec::new(alloc),
+        waiting: None,
         behind: None,
+        around: Vec::new(alloc),
     };
-    let root = Surroundings {
-        in_verse_text: false,
-        in_aside: false,
-        in_closed: false,
-    };
-    let mut reader = TreeReader::new(alloc, text, sheet);
-    loop {
-        let nodes = reader.next_nodes()?;
-        if nodes.is_empty() {
-            break;
-        }
-        gathering.take_nodes(sheet, root, nodes.as_slice())?;
+    let mut walk = TreeWalk::new(alloc, text, sheet);
+    while let Some(step) = walk.next_step()? {
+        gathering.take(step)?;
     }
-    let Gathering { leaves, behind: _ } = gathering;
+    gathering.settle(false)?;
+    let Gathering {
+        leaves,
+        waiting: _,
+        behind: _,
+        around: _,
+    } = gathering;
     Ok(leaves)
 }

@@ -8,8 +8,8 @@ use Rattle.conflict_report.specs.Reports.{report}
 use Rattle.conflict_report.specs.declared.fault.ReportFault.{ReportFault}
 use Rattle.conflict_report.specs.declared.fault.ReportFault.TheVariants.{Memory, WriteFailed}
 
--- What an answer says of what the sink took: all of the report, the front of it that is reported, or nothing where there was no
--- memory.
+-- What an answer says of what the sink took: all of the report, the front of it whose length is answered, or
+-- nothing where there was no memory.
 abbrev pub AnswersReport : List Operation → Option (List ℕ) → Option (List ℕ) → Result (Unit {0}) ReportFault → Type 0
 AnswersReport held before after (Ok done) = Appends before after (report held)
 AnswersReport held before after (Err Memory) = after ≡ before

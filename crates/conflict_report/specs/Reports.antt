@@ -31,7 +31,7 @@ conflict_line g count = codes "conflict " ++ (ref_text g.book g.key ++ 32 ∷ (d
 abbrev pub text_line : Operation → List ℕ
 text_line o = codes "text " ++ (decimal o.id.number ++ 32 ∷ (o.id.name ++ 32 ∷ (decimal (length o.text) ++ 10 ∷ [])))
 
--- that line, the text, and a line feed
+-- a text's line, the text, and a line feed
 abbrev pub text_lines : Operation → List ℕ
 text_lines o = text_line o ++ (o.text ++ 10 ∷ [])
 
@@ -46,7 +46,7 @@ conflict_lines g texts =
 
 -- ---- the report
 
--- what is reported of a segment
+-- what is reported of a segment: nothing unless it shows two or more distinct texts
 abbrev pub conflict_at : List Operation → Segment → List ℕ
 conflict_at held g = conflict_lines g (distinct_texts held g)
 

@@ -9,11 +9,13 @@ use Rattle.usfm_ref.proofs.Orders.{same_segment-is, same_segment-refl, same_byte
 use Rattle.op_core.specs.Ids.{Id, same_id}
 use Rattle.op_core.specs.Ops.{Operation, same_op}
 
+-- ids that the test finds the same are equal
 pub id_from_same : (a b : Id) → same_id a b ≡ true → a ≡ b
 id_from_same a b h =
     let p = and_parts _ _ h in
     λ i. record { number = eqb-true a.number b.number p.0 i; name = same_bytes-is a.name b.name p.1 i }
 
+-- the test finds an id the same as itself
 pub same_id-refl : (a : Id) → same_id a a ≡ true
 same_id-refl a = and_from _ _ (eq-eqb a.number a.number refl) (same_bytes-refl a.name)
 
@@ -27,6 +29,7 @@ same_ids-refl : (a : List Id) → pointwise same_id a a ≡ true
 same_ids-refl [] = refl
 same_ids-refl (x ∷ a) = and_from _ _ (same_id-refl x) (same_ids-refl a)
 
+-- operations that the test finds equal are equal
 pub same_op-is : (o p : Operation) → same_op o p ≡ true → o ≡ p
 same_op-is o p h =
     let a = and_parts _ (same_bytes o.text p.text) h in
@@ -39,8 +42,10 @@ same_op-is o p h =
       text = same_bytes-is o.text p.text a.1 i;
     }
 
+-- the test finds an operation equal to itself
 pub same_op-refl : (o : Operation) → same_op o o ≡ true
 same_op-refl o = and_from _ _ (and_from _ _ (and_from _ _ (same_id-refl o.id) (same_segment-refl o.segment)) (same_ids-refl o.replaced)) (same_bytes-refl o.text)
 
+-- the test of equal operations is an equivalence
 pub same_op_equiv : IsEquivalence same_op
 same_op_equiv = decided same_op (λ o p. (same_op-is o p, λ e. subst (λ (q : Operation). same_op o q ≡ true) e (same_op-refl o)))

@@ -1,4 +1,4 @@
--- Laws of sets of operations.
+-- Laws of sets of operations: of a join semilattice, and of what a multi-value register shows (INRIA RR-7506).
 use Rattle.std.specs.Prelude.{◌≡◌, ◌≢◌, ℕ, true, List, [], ◌∷◌, None, Some, Result, Ok, Err, Option, ◌⊎◌, IsTrue, is_ok}
 use Rattle.std.specs.List.{list_any, Contains}
 use Rattle.std.specs.Option.{option_or}
@@ -34,7 +34,7 @@ pub record ClashAt (a b : List Operation) (id : Id) : Type 0 where
   pub differ : one ≢ other
   pub below : (q : Id) → IsTrue (id_below q id) → AgreeAt a b q
 
--- what is told as a clash is one, and the least
+-- what is found as a clash is one, and the least
 abbrev pub ClashIsLeast : Type 0
 ClashIsLeast = (a b : List Operation) (id : Id) → IsOpSet a → IsOpSet b → clash a b ≡ Some id → ClashAt a b id
 
@@ -42,6 +42,7 @@ ClashIsLeast = (a b : List Operation) (id : Id) → IsOpSet a → IsOpSet b → 
 abbrev pub NoClashAgrees : Type 0
 NoClashAgrees = (a b : List Operation) → IsOpSet a → IsOpSet b → clash a b ≡ None → (id : Id) → AgreeAt a b id
 
+-- a set joined with itself is the set, and does not clash with itself
 abbrev pub JoinWithItself : Type 0
 JoinWithItself = (a : List Operation) → IsOpSet a → (join a a ≡ a) × (clash a a ≡ None)
 
@@ -64,6 +65,7 @@ pub data Joining : Type 0 where
   Part : (set : List Operation) → Joining
   Joined : (left right : Joining) → Joining
 
+-- each part of a way to join is a set
 abbrev pub AreSets : Joining → Type 0
 AreSets (Part set) = IsOpSet set
 AreSets (Joined left right) = AreSets left × AreSets right
@@ -89,7 +91,7 @@ with_both (Ok a) (Ok b) f = f a b
 with_both (Ok a) (Err id) f = Err id
 with_both (Err id) b f = Err id
 
--- what a way of joining makes
+-- what a way of joining makes: the union, or the clash that refuses it
 abbrev pub union_by : Joining → Result (List Operation) Id
 union_by (Part set) = Ok set
 union_by (Joined left right) = with_both (union_by left) (union_by right) (λ a b. joined_or_clash a b (clash a b))

@@ -21,8 +21,8 @@ pub record Operation : Type 0 where
 abbrev pub is_segment : Segment → Bool
 is_segment g = is_book_code g.book && is_key g.key.chapter g.key.place
 
--- each part within its ranges; the replaced ids rise, and each has a smaller number than the operation; the text fits the
--- segment
+-- each part within its ranges; the replaced ids rise, and each has a smaller number than the operation; the text is
+-- UTF-8 and fits the segment
 pub record IsOperation (o : Operation) : Type 0 where
   pub id : IsTrue (is_id o.id)
   pub segment : IsTrue (is_segment o.segment)

@@ -13,7 +13,7 @@ use Rattle.op_core.specs.Ops.{Operation, IsOperation, same_op}
 abbrev pub rises : List Operation → Bool
 rises ops = rises_by id_cmp (λ o. o.id) ops
 
--- a set of operations: no two have one id
+-- a set of operations, rising by id: no two have one id
 pub record IsOpSet (held : List Operation) : Type 0 where
   pub rising : IsTrue (rises held)
   pub each : AllByRecursion IsOperation held
@@ -26,12 +26,12 @@ get held id = find (λ o. same_id id o.id) held
 abbrev pub meet : Operation → Operation → Operation
 meet held new = held
 
--- the set with one operation more
+-- a set with one operation more; where its id is held, what stays of the two
 abbrev pub put : Operation → List Operation → List Operation
 put o [] = o ∷ []
 put o (p ∷ rest) = by_order (id_cmp o.id p.id) (o ∷ p ∷ rest) (meet p o ∷ rest) (p ∷ put o rest)
 
--- the union
+-- the union of two sets: the first with each operation of the other one
 abbrev pub join : List Operation → List Operation → List Operation
 join held [] = held
 join held (o ∷ rest) = put o (join held rest)
@@ -41,7 +41,7 @@ abbrev pub differs : Option Operation → Operation → Bool
 differs None o = false
 differs (Some p) o = not (same_op p o)
 
--- the least id with two operations that are not equal
+-- the least id under which two sets hold operations that are not equal, if there is one
 abbrev pub clash : List Operation → List Operation → Option Id
 clash held other = option_map (λ o. o.id) (find (λ o. differs (get held o.id) o) other)
 

@@ -16,6 +16,7 @@ use Rattle.op_core.specs.Ops.{Operation, in_segment, is_verse_in, names}
 abbrev pub is_replaced : List Operation → Segment → Id → Bool
 is_replaced held g id = list_any (λ p. in_segment g p && names p id) held
 
+-- whether an operation is of the segment, and no operation of the segment names its id as replaced
 abbrev pub is_shown : List Operation → Segment → Operation → Bool
 is_shown held g o = in_segment g o && not (is_replaced held g o.id)
 
@@ -23,11 +24,13 @@ is_shown held g o = in_segment g o && not (is_replaced held g o.id)
 abbrev pub shown : List Operation → Segment → List Operation
 shown held g = filter (is_shown held g) held
 
+-- the last operation, if there is one
 abbrev pub last : List Operation → Option Operation
 last [] = None
 last (o ∷ []) = Some o
 last (o ∷ p ∷ rest) = last (p ∷ rest)
 
+-- the id of the last operation, if there is one
 abbrev pub last_id : List Operation → Option Id
 last_id ops = option_map (λ o. o.id) (last ops)
 
@@ -36,7 +39,7 @@ abbrev pub text_in : Option Operation → List ℕ
 text_in None = []
 text_in (Some o) = o.text
 
--- the text of the greatest shown id
+-- the text of the greatest shown id, empty where none is shown
 abbrev pub text_of : List Operation → Segment → List ℕ
 text_of held g = text_in (last (shown held g))
 
@@ -49,8 +52,8 @@ is_verse_with_text held book chapter o =
 abbrev pub has_verse_text : List Operation → List ℕ → ℕ → Bool
 has_verse_text held book chapter = list_any (is_verse_with_text held book chapter) held
 
--- whether the segment is a chapter's head without a text while a verse of the chapter has one: without a
--- line of its own, such a chapter's verses would be read as verses of the chapter before
+-- whether the segment is the head of a chapter from 1 on without a text while a verse of the chapter has one:
+-- without a line of its own, such a chapter's verses would be read as verses of the chapter before
 abbrev pub wants_chapter_line : List Operation → Segment → Bool
 wants_chapter_line held g =
     is_head g.key.place && nat_le 1 g.key.chapter && is_empty (text_of held g)
@@ -62,10 +65,13 @@ pub data Pick : Type 0 where
   Greatest : (o : Operation) → Pick
   Empty : Pick
 
+-- an operation as a pick, or the empty pick where there is none
 abbrev pub greatest : Option Operation → Pick
 greatest None = Empty
 greatest (Some o) = Greatest o
 
+-- what is picked for a segment: the chapter's own line where it is wanted, else the shown operation with the
+-- greatest id, and nothing where none is shown
 abbrev pub pick : List Operation → Segment → Pick
 pick held g = cond (wants_chapter_line held g) (Line g.key.chapter) (greatest (last (shown held g)))
 
@@ -75,6 +81,7 @@ picked Nothing = Empty
 picked (Held op) = Greatest op.now
 picked (ChapterLine chapter) = Line chapter
 
+-- the text of a pick: the chapter's own line, the operation's text, or the empty text
 abbrev pub picked_text : Pick → List ℕ
 picked_text (Line chapter) = chapter_line chapter
 picked_text (Greatest o) = o.text

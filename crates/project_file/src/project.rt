@@ -36,7 +36,7 @@ pub fn create(alloc: Global, name: &str) -> Result<Vec<u8>, CreateFault>
 ///
 /// # Errors
 /// - `BadProject` (110) where the magic or the name is cut or wrong.
-/// - `Bundle` with the refusal of what follows the name, as `bundle_codec::decode_whole` tells it: 60
+/// - `Bundle` with the refusal of what follows the name, as `bundle_codec::decode_whole` answers it: 60
 ///   to 68, and 70 where something follows the bundle.
 /// - `Memory` (1) where a growth was refused.
 pub fn load(alloc: Global, bytes: &[u8]) -> Result<Replica, LoadFault>
@@ -44,7 +44,7 @@ pub fn load(alloc: Global, bytes: &[u8]) -> Result<Replica, LoadFault>
     ensures loaded { IfOk result (λ s. projects.project_at bytes.now ≡ Ok s) }
     ensures valid { IfOk result IsState }
     ensures spelled { IfOk result (λ s. bytes.now ≡ projects.project s) }
-    // A project file is loaded, unless memory is wanting.
+    // A project file is loaded, or out of memory is answered.
     ensures only { (s : State) → IsState s → bytes.now ≡ projects.project s
         → MatchResult result (λ loaded. loaded ≡ s) (λ fault. fault ≡ LoadFault.Memory) }
     // Which refusal it is.

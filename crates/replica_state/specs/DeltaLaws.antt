@@ -1,4 +1,4 @@
--- Laws of deltas: what a replica holds outside the summary of another one.
+-- Laws of deltas (this project's own rule): what a replica holds outside the summary of another one.
 use Rattle.std.specs.Prelude.{◌≡◌, List, [], length, Ok}
 use Rattle.op_core.specs.Sets.{join}
 use Rattle.bundle_codec.specs.Summaries.{Known, IsSummaryOf, outside}

@@ -28,12 +28,13 @@ next_id s =
     if has_numbers s.held 1 then Some
     (record { number = next_number s.held; name = s.name }) else None
 
+-- the operation of an edit by its id, or that no number is left
 abbrev pub edit_by : Option Id → Segment → List Id → List ℕ → Result Operation EditFault
 edit_by None g replaced text = Err NumbersUsedUp
 edit_by (Some id) g replaced text = Ok (edit_with id g replaced text)
 
--- why an edit of the segment may not begin: the text does not fit it; or its book has no operation, and it is not the
--- book's head
+-- why an edit of the segment may not begin: the text does not fit it; or else its book has no operation, and it is
+-- not the book's head
 abbrev pub edit_fault : List Operation → Segment → List ℕ → Option EditFault
 edit_fault held g text =
     if not (text_fits g.book g.key text) then Some BadSegment
@@ -43,16 +44,18 @@ edit_fault held g text =
 abbrev pub first_not_shown : List Operation → Segment → List Id → Option Id
 first_not_shown held g ids = find (λ id. not (is_among (shown_ids held g) id)) ids
 
+-- the operation of an edit, unless there is a fault
 abbrev pub unless : Option EditFault → Result Operation EditFault → Result Operation EditFault
 unless None edit = edit
 unless (Some fault) edit = Err fault
 
--- the operation of an edit, which names all ids that the segment shows
+-- the operation of an edit, by the next id, which names all ids that the segment shows; or the first refusal
 abbrev pub edit_op : State → Segment → List ℕ → Result Operation EditFault
 edit_op s g text =
     unless (edit_fault s.held g text) (edit_by (next_id s) g (shown_ids s.held g) text)
 
--- the operation of an edit over given ids, which names these
+-- the operation of an edit over given ids, which names these; or the first refusal, where an id that is not shown
+-- comes before that no number is left
 abbrev pub edit_over_op : State → Segment → List ℕ → List Id → Result Operation EditFault
 edit_over_op s g text given =
     unless (edit_fault s.held g text)

@@ -1,4 +1,4 @@
--- Laws of imports.
+-- Laws of imports (this project's own rule).
 use Rattle.std.specs.Prelude.{◌≡◌, ℕ, true, List, Ok}
 use Rattle.std.specs.List.{list_any}
 use Rattle.usfm_ref.specs.Keys.{book_head}

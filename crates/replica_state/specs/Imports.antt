@@ -20,6 +20,7 @@ use Rattle.replica_state.specs.Edits.{has_numbers, edit_with}
 use Rattle.replica_state.specs.declared.fault.ImportFault.{ImportFault}
 use Rattle.replica_state.specs.declared.fault.ImportFault.TheVariants.{BadFile, NumbersUsedUp}
 
+-- the text of a piece, empty where there is none
 abbrev pub text_in : Option Part → List ℕ
 text_in None = []
 text_in (Some p) = p.text
@@ -28,7 +29,7 @@ text_in (Some p) = p.text
 abbrev pub piece_of : List Part → KeyParts → Option Part
 piece_of pieces key = find (λ p. is_eq (key_cmp key p.key)) pieces
 
--- its text, empty if there is none
+-- the text of the piece of a key, empty where there is none
 abbrev pub piece_at : List Part → KeyParts → List ℕ
 piece_at pieces key = text_in (piece_of pieces key)
 
@@ -50,12 +51,14 @@ is_due held book pieces key =
     not (same_bytes (picked_at held book key) (piece_at pieces key))
     || loses_line held book pieces key
 
--- the keys where either may hold: those with an operation, the heads of their chapters, and those of the file
+-- the keys that an import may edit, rising: those with an operation, the heads of their chapters, and those of the
+-- file
 abbrev pub walked_keys : List Operation → List ℕ → List Part → List KeyParts
 walked_keys held book pieces =
     rising key_cmp
     (map head_of (keys_of held book) ++ (keys_of held book ++ map (λ p. p.key) pieces))
 
+-- the keys that an import edits, rising
 abbrev pub due_keys : List Operation → List ℕ → List Part → List KeyParts
 due_keys held book pieces = filter (is_due held book pieces) (walked_keys held book pieces)
 
@@ -68,7 +71,7 @@ edits_from number s book pieces (key ∷ keys) =
     (shown_ids s.held (segment book key)) (piece_at pieces key)
     ∷ edits_from (suc number) s book pieces keys
 
--- the edits, if numbers are left for them
+-- the operations of the edits, if numbers are left for them
 abbrev pub edits_numbered : State → List ℕ → List Part → List KeyParts
     → Result (List Operation) ImportFault
 edits_numbered s book pieces keys =
@@ -76,11 +79,13 @@ edits_numbered s book pieces keys =
     then Ok (edits_from (next_number s.held) s book pieces keys)
     else Err NumbersUsedUp
 
+-- the operations of an import of the book that its file begins with, or that it begins with none
 abbrev pub import_into : State → List Part → Result (List ℕ) BookFault
     → Result (List Operation) ImportFault
 import_into s pieces (Err fault) = Err (BadFile fault)
 import_into s pieces (Ok book) = edits_numbered s book pieces (due_keys s.held book pieces)
 
--- the operations of an import
+-- the operations of an import: the edits of the due keys to the file's pieces, by rising numbers; or that the file
+-- begins with no book, or else that no number is left
 abbrev pub import_ops : State → List ℕ → Result (List Operation) ImportFault
 import_ops s file = import_into s (pieces_of file) (book_in file)

@@ -1,4 +1,4 @@
--- Laws of replicas.
+-- Laws of replicas (this project's own rule).
 use Rattle.std.specs.Prelude.{◌≡◌, ℕ, List, map}
 use Rattle.std.specs.List.{AllByRecursion}
 use Rattle.op_core.specs.Ops.{Operation}

@@ -5,6 +5,7 @@ use Rattle.op_core.specs.Names.{is_name}
 use Rattle.op_core.specs.Ops.{Operation}
 use Rattle.op_core.specs.Sets.{IsOpSet}
 
+-- a replica: its name, and the set of operations that it holds
 pub record State : Type 0 where
   pub name : List ℕ
   pub held : List Operation

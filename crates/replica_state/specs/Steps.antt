@@ -28,6 +28,7 @@ pub data Reply : Type 0 where
   Edited : (answer : Result Id EditFault) → Reply
   Imported : (answer : Result ℕ ImportFault) → Reply
 
+-- a step of a replica: what it is after a command, and what is answered
 pub record Step : Type 0 where
   pub after : State
   pub reply : Reply
@@ -36,6 +37,7 @@ pub record Step : Type 0 where
 abbrev pub with_ops : State → List Operation → State
 with_ops s ops = record { name = s.name; held = join s.held ops }
 
+-- the step of a bundle: its operations are joined to the held ones, unless the two clash
 abbrev pub received : State → List Operation → Option Id → Step
 received s bundle None = record {
   after = with_ops s bundle;
@@ -43,15 +45,17 @@ received s bundle None = record {
 }
 received s bundle (Some id) = record { after = s; reply = Received (Err (receiving.Clash id)) }
 
+-- the step of an edit: its operation is joined to the held ones, unless it is refused
 abbrev pub edited : State → Result Operation EditFault → Step
 edited s (Ok o) = record { after = with_ops s (o ∷ []); reply = Edited (Ok o.id) }
 edited s (Err fault) = record { after = s; reply = Edited (Err fault) }
 
+-- the step of an import: its operations are joined to the held ones, unless it is refused
 abbrev pub imported : State → Result (List Operation) ImportFault → Step
 imported s (Ok ops) = record { after = with_ops s ops; reply = Imported (Ok (length ops)) }
 imported s (Err fault) = record { after = s; reply = Imported (Err fault) }
 
--- the step of a command
+-- the step of a command: what a replica is after it, and what it answers; a refused command changes nothing
 abbrev pub step : State → Command → Step
 step s (Receive bundle) = received s bundle (clash s.held bundle)
 step s (Edit g text) = edited s (edit_op s g text)

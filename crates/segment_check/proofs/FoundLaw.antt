@@ -50,7 +50,7 @@ module _ (sheet : List Record) (s : List ℕ) where
     same : (p : ℕ) (test : Spot → Bool) → at ≤ p → stands_at tree p test ≡ stands_at left p test
     cuts : Cuts (pieces_of s) st.key at at ts
 
-  -- a text tells nothing
+  -- of a text nothing is said
   knows_text : (before : List Site) (at : ℕ) (st : State) (left : List Spot) (t : List ℕ) (ts : List Lexeme) → AreLexemes (words t ∷ ts)
       → Knows before at st left (words t ∷ ts) → Knows before (at + length t) st left ts
   knows_text before at st left t ts each k = record {
@@ -98,7 +98,7 @@ module _ (sheet : List Record) (s : List ℕ) where
       cuts = cuts_later (pieces_of s) on.key at (at + length (mark_bytes m)) (at + length (mark_bytes m)) ts (omega arith) cut_on;
     }
 
-    -- what is reported of the mark is what its tree tells there
+    -- what is reported of the mark is what its tree says there
     told_here : (test : Spot → Bool) (field : Told → Bool) → ((x : Spot) → field (told_of sheet x) ≡ test x) → field (untold at) ≡ false
         → field (told_first at st.told) ≡ stands_at tree at test
     told_here test field is none =

@@ -3,6 +3,7 @@ use Rattle.std.specs.Prelude.{ℕ, List, codes}
 use Rattle.segment_check.specs.declared.code.Code.{Code}
 use Rattle.segment_check.specs.declared.code.Code.TheVariants as code
 
+-- the name of a code
 abbrev pub code_name : Code → List ℕ
 code_name code.UnknownMarker = codes "unknown-marker"
 code_name code.StrayClose = codes "stray-close"

@@ -37,7 +37,8 @@ holds_of sheet tree scene code.NotRising = not_rising scene
 holds_of sheet tree scene code.Overlap = overlap scene
 holds_of sheet tree scene code.NotUnder = stands_at tree scene.here.at (not_under sheet)
 
--- what is found at a mark
+-- a finding for each code whose condition holds of a mark, with the mark's start and the key of the piece that
+-- holds it
 abbrev pub found_at : List Record → List Spot → List Part → Scene → List Finding
 found_at sheet tree pieces scene =
     map (λ c. record { code = c; start = scene.here.at; key = key_at pieces scene.here.at })
@@ -47,6 +48,6 @@ found_at sheet tree pieces scene =
 unfoldable pub spots_of : List Record → List ℕ → List Spot
 spots_of sheet s = spots [] (tree_of (styles_in sheet) s)
 
--- the findings in a text
+-- the findings in a text: at each of its marks, in order, each code whose condition holds
 unfoldable pub findings : List Record → List ℕ → List Finding
 findings sheet s = flat_map (found_at sheet (spots_of sheet s) (pieces_of s)) (scenes_of s)

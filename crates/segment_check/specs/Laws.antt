@@ -12,7 +12,7 @@ use Rattle.segment_check.specs.TreeViews.{told_of}
 use Rattle.segment_check.specs.declared.code.Code.{Code}
 use Rattle.segment_check.specs.declared.code.Code.TheVariants as code
 
--- the reading of the marks from the left, with what the tree tells of them, gives the findings
+-- the reading of the marks from the left, with what the tree says of them, gives the findings
 abbrev pub FindingsAreRead : Type 0
 FindingsAreRead =
     (sheet : List Record) (s : List ℕ)

@@ -36,6 +36,7 @@ abbrev pub fails_bridge : List ℕ → VerseMark → Bool
 fails_bridge after v =
     option_map_or (λ last. not (bridges_forward v last)) v.last (hyphen_at after v.length)
 
+-- a mark `\v` with a verse after it, whose bridge fails
 abbrev pub has_bad_bridge : MarkParts → List ℕ → Bool
 has_bad_bridge m after = option_map_or (fails_bridge after) (verse_behind m after) false
 
@@ -58,6 +59,7 @@ is_after (Some a) (Some b) = nat_lt b a
 abbrev pub reaches : ℕ × Option ℕ → VerseMark → Bool
 reaches last v = nat_lt v.number last.0 || (v.number == last.0 && not (is_after v.letter last.1))
 
+-- a verse has a bridge whose last verse reaches another verse
 abbrev pub bridge_reaches : VerseMark → VerseMark → Bool
 bridge_reaches e v = option_map_or (λ last. reaches last v) e.last false
 

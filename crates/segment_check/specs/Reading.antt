@@ -19,12 +19,13 @@ use Rattle.segment_check.specs.declared.told.Told.{Told}
 abbrev pub Last : Type 0
 Last = ℕ × Option ℕ
 
--- all that the first reaches is reached by the second
+-- of last verses with one number, all that one with the first letter reaches is reached by one with the second
 abbrev pub is_letter_within : Option ℕ → Option ℕ → Bool
 is_letter_within last None = true
 is_letter_within None (Some b) = false
 is_letter_within (Some a) (Some b) = nat_le a b
 
+-- all that the first of two last verses reaches is reached by the second
 abbrev pub is_within : Last → Last → Bool
 is_within last other =
     nat_lt last.0 other.0 || (last.0 == other.0 && is_letter_within last.1 other.1)
@@ -35,16 +36,18 @@ further None last = last
 further (Some reach) None = Some reach
 further (Some reach) (Some last) = if is_within last reach then Some reach else Some last
 
+-- there is a last verse, and it reaches the verse
 abbrev pub any_reaches : Option Last → VerseMark → Bool
 any_reaches reach v = option_map_or (λ last. reaches last v) reach false
 
 -- Where a reading stands: the key of the open piece; of the bridges of its chapter so far the last verse that reaches most; and
--- what a tree tells of the marks that are left.
+-- what a tree says of the marks that are left.
 pub record State : Type 0 where
   pub key : KeyParts
   pub reach : Option Last
   pub told : List Told
 
+-- of a mark that begins at a place none of these conditions holds
 abbrev pub untold : ℕ → Told
 untold start = record {
   start = start;
@@ -56,11 +59,13 @@ untold start = record {
   not_under = false;
 }
 
--- what is reported of the mark that begins at a place, and of those after it
+-- what the tree says of the mark that begins at a place: the first that is left, if it is of that place, and else
+-- that nothing holds
 abbrev pub told_first : ℕ → List Told → Told
 told_first at [] = untold at
 told_first at (t ∷ ts) = if t.start == at then t else untold at
 
+-- what the tree says of the marks after the one that begins at a place
 abbrev pub told_rest : ℕ → List Told → List Told
 told_rest at [] = []
 told_rest at (t ∷ ts) = if t.start == at then ts else t ∷ ts
@@ -69,14 +74,18 @@ told_rest at (t ∷ ts) = if t.start == at then ts else t ∷ ts
 abbrev pub is_above : KeyParts → Option KeyParts → Bool
 is_above key k = option_map_or (key_below key) k false
 
+-- the key of the open piece after a mark: the mark's key, if it has one and that is above
 abbrev pub key_then : KeyParts → Option KeyParts → KeyParts
 key_then key None = key
 key_then key (Some k) = if key_below key k then k else key
 
+-- the last verse that reaches most, after a mark that opens a piece: a verse adds its bridge, and a chapter begins
+-- anew
 abbrev pub reach_with : Option Last → Option VerseMark → Option Last
 reach_with reach None = None
 reach_with reach (Some v) = further reach v.last
 
+-- which conditions hold of a mark from a state on: those that the tree says, and those of its number
 abbrev pub held_at : State → ℕ → MarkParts → List ℕ → Held
 held_at st at m after =
     let key = key_by st.key.chapter (chapter_behind m after) (verse_behind m after) in record {
@@ -97,6 +106,7 @@ behind st at m after =
       told = told_rest at st.told;
     }
 
+-- whether the condition of a code is among those that hold of a mark
 abbrev pub holds_in : Held → Code → Bool
 holds_in held code.UnknownMarker = held.told.unknown_marker
 holds_in held code.StrayClose = held.told.stray_close
@@ -109,6 +119,7 @@ holds_in held code.NotRising = held.not_rising
 holds_in held code.Overlap = held.overlap
 holds_in held code.NotUnder = held.told.not_under
 
+-- the findings at a place with a key: one for each code whose condition holds
 abbrev pub findings_with : Held → ℕ → KeyParts → List Finding
 findings_with held start key =
     map (λ c. record { code = c; start = start; key = key }) (filter (holds_in held) all_codes)
@@ -130,9 +141,10 @@ found_from st at (mark m ∷ ts) =
     found_with st at m (text_after ts)
     ++ found_from (behind st at m (text_after ts)) (at + length (mark_bytes m)) ts
 
+-- the state before all marks: the open piece is that of the book head, and no bridge was read
 abbrev pub start_state : List Told → State
 start_state told = record { key = book_head; reach = None; told = told }
 
--- what is found in a text, where a tree tells this of its marks
+-- what is found in a text, where a tree says this of its marks
 unfoldable pub found_in : List Told → List ℕ → List Finding
 found_in told s = found_from (start_state told) 0 (tokens_of s)

@@ -19,27 +19,28 @@ scenes_behind before [] = []
 scenes_behind before (s ∷ ss) =
     record { before = before; here = s } ∷ scenes_behind (before ++ s ∷ []) ss
 
--- the marks of a text
+-- the marks of a text, each with all marks before it
 unfoldable pub scenes_of : List ℕ → List Scene
 scenes_of s = scenes_behind [] (sites_from 0 (tokens_of s))
 
--- the greatest number of the chapter marks before
+-- the chapter in force before a mark: the greatest number of the chapter marks before it, and 0 where none stands
 abbrev pub chapter_of : Scene → ℕ
 chapter_of scene = chapter_in_force 0 scene.before
 
--- its key, if it has one
+-- the key of a mark with all marks before it, if it has one
 abbrev pub key_of : Scene → Option KeyParts
 key_of scene = key_behind 0 scene.before scene.here
 
--- whether it would open a piece by a key: one greater than the book head and than the key of every mark before it
+-- whether a mark would open a piece by a key: one greater than the book head and than the key of every mark before
+-- it
 abbrev pub opens_by : Scene → KeyParts → Bool
 opens_by scene k = opens (keyed_behind 0 [] scene.before) (record { key = k; at = scene.here.at })
 
--- whether it opens a piece
+-- whether a mark opens a piece
 abbrev pub opens_piece : Scene → Bool
 opens_piece scene = option_map_or (opens_by scene) (key_of scene) false
 
--- neither nested nor closing, and of this name
+-- whether a mark is neither nested nor closing, and has this name
 abbrev pub is_plain_mark : List ℕ → MarkParts → Bool
 is_plain_mark name m = not (m.nested || m.closing) && bytes_eq m.name name
 

@@ -14,9 +14,11 @@ use Rattle.usfm_tree.specs.Reading.{Role, plain, alone, spans, opens, closes, ro
 use Rattle.usfm_tree.specs.SheetViews.{styles_in}
 use Rattle.segment_check.specs.Spots.{Spot}
 
+-- the node is a note
 abbrev pub is_note : Around → Bool
 is_note a = is_note_kind a.kind
 
+-- the node is a paragraph
 abbrev pub is_paragraph : Around → Bool
 is_paragraph a = is_paragraph_kind a.kind
 
@@ -62,7 +64,7 @@ too_deep sheet spot =
 abbrev pub under_in : Option Record → List (List ℕ)
 under_in style = option_map_or (λ r. r.under) style []
 
--- and those of a mark's record
+-- the words of OccursUnder of the record that a mark of this name has, if it has one
 abbrev pub under_words : List Record → List ℕ → List (List ℕ)
 under_words sheet name = under_in (mark_style sheet name)
 
@@ -70,6 +72,7 @@ under_words sheet name = under_in (mark_style sheet name)
 abbrev pub nearest : (Around → Bool) → List Around → List (List ℕ)
 nearest test around = option_to_list (option_map (λ a. a.mark.name) (find test around))
 
+-- the node is a paragraph or a note
 abbrev pub holds_characters : Around → Bool
 holds_characters a = is_paragraph a || is_note a
 
@@ -88,6 +91,7 @@ allow kinds.Character around = allow_character around
 allow kinds.Note around = nearest is_paragraph around
 allow kinds.Milestone around = []
 
+-- a word is one of some names
 abbrev pub is_among : List (List ℕ) → List ℕ → Bool
 is_among names word = list_any (bytes_eq word) names
 
@@ -95,6 +99,7 @@ is_among names word = list_any (bytes_eq word) names
 abbrev pub forbids : List (List ℕ) → List (List ℕ) → Bool
 forbids words names = not (length words == 0) && not (list_any (is_among names) words)
 
+-- a kind that OccursUnder may restrict: a character or a note
 abbrev pub is_restricted_kind : StyleKind → Bool
 is_restricted_kind kind = is_character_kind kind || is_note_kind kind
 

@@ -1,4 +1,4 @@
--- What a tree tells of its marks, as a walk from the root down sees it.
+-- What a tree says of its marks, as a walk from the root down sees it.
 use Rattle.sty_sheet.specs.declared.kind.StyleKind.{StyleKind}
 use Rattle.sty_sheet.specs.declared.kind.StyleKind.TheVariants as kinds
 use Rattle.std.specs.Prelude.{◌≡◌, ℕ, ◌-◌, ◌==◌, Bool, true, false, not, ◌&&◌, List, [], ◌∷◌, ◌++◌, length, map, codes, Option, None, Some, find, if◌then◌else◌}
@@ -15,7 +15,7 @@ use Rattle.segment_check.specs.declared.inside.Allowed.{Allowed}
 use Rattle.segment_check.specs.declared.inside.Inside.{Inside}
 use Rattle.segment_check.specs.declared.told.Told.{Told}
 
--- what holds of a mark
+-- which of the conditions of the tree hold of a mark
 abbrev pub told_of : List Record → Spot → Told
 told_of sheet spot = record {
   start = spot.start;
@@ -27,14 +27,16 @@ told_of sheet spot = record {
   not_under = not_under sheet spot;
 }
 
+-- what holds of each mark of entries within these nodes
 abbrev pub told_in : List Record → List Around → Forest → List Told
 told_in sheet around f = map (told_of sheet) (spots around f)
 
--- and of all marks of a tree
+-- what holds of each mark of a tree
 abbrev pub told_under : List Record → Forest → List Told
 told_under sheet tree = told_in sheet [] tree
 
--- what nodes around decide
+-- what the nodes around a place decide: whether one is a note, how many nodes more may stand inside, the name of
+-- the innermost if it is a character node, and those of the nearest paragraph or note and of the nearest paragraph
 pub record Surroundings : Type 0 where
   pub in_note : Bool
   pub room : ℕ
@@ -42,10 +44,12 @@ pub record Surroundings : Type 0 where
   pub holder : Option (List ℕ)
   pub paragraph : Option (List ℕ)
 
+-- the name of the innermost node, if it is a character node
 abbrev pub direct_character : List Around → Option (List ℕ)
 direct_character [] = None
 direct_character (a ∷ around) = if is_character_kind a.kind then Some a.mark.name else None
 
+-- what these nodes around a place decide
 abbrev pub surroundings_of : List Around → Surroundings
 surroundings_of around = record {
   in_note = list_any is_note around;
@@ -55,6 +59,7 @@ surroundings_of around = record {
   paragraph = option_map (λ a. a.mark.name) (find is_paragraph around);
 }
 
+-- what the nodes around a place decide, as a walk keeps it
 abbrev pub inside_view : Inside → Surroundings
 inside_view i = record {
   in_note = i.in_note;
@@ -80,7 +85,7 @@ allowing_character i = elim i.character [
   | Some name ↦ name ∷ codes "NEST" ∷ []
 ]
 
--- and those that allow a node of a kind
+-- the words that allow a node of a kind there
 abbrev pub allowing : StyleKind → Surroundings → List (List ℕ)
 allowing kinds.Paragraph i = []
 allowing kinds.Character i = allowing_character i
@@ -96,7 +101,7 @@ allowed_names a =
 abbrev pub is_misplaced : List (List ℕ) → Surroundings → StyleKind → Bool
 is_misplaced words i kind = is_restricted_kind kind && forbids words (allowing kind i)
 
--- what holds of a mark, by what the nodes around decide
+-- which of the conditions of the tree hold of a mark, by what the nodes around it decide
 abbrev pub told_by : List Record → Surroundings → ℕ → MarkParts → Option StyleKind → Bool → Told
 told_by sheet i start m kind is_closed = record {
   start = start;
@@ -108,7 +113,7 @@ told_by sheet i start m kind is_closed = record {
   not_under = option_map_or (is_misplaced (under_words sheet m.name) i) kind false;
 }
 
--- within nodes that decide this, the marks of entries are reported after what was told before
+-- within nodes that decide this, what holds of the marks of entries comes after what was said before
 abbrev pub Tells : List Record → Surroundings → Forest → List Told → List Told → Type 0
 Tells sheet i f old new =
     (around : List Around) → i ≡ surroundings_of around → new ≡ old ++ told_in sheet around f

@@ -1,9 +1,10 @@
 //! What holds of the findings in all texts, by whatever style sheet. Each function does nothing:
 //! its contract is the law.
 
-ghost use Rattle.segment_check.specs.Laws.{CodesRise, FindingsAreRead, LeavesAreTooDeep, NoTwoAlike, StartsAreTokens, StartsNeverFall};
+ghost use Rattle.segment_check.specs.Laws.{CodesRise, FindingsAreRead, LeavesAreTooDeep, NoTwoAlike};
+ghost use Rattle.segment_check.specs.Laws.{StartsAreTokens, StartsNeverFall};
 
-/// The reading of the marks from the left, with what the tree tells of them, gives the findings.
+/// The reading of the marks from the left, with what the tree says of them, gives the findings.
 pub fn findings_are_read()
     ensures { FindingsAreRead }
 {}

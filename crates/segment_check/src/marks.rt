@@ -31,7 +31,7 @@ struct Held {
 }
 
 // Where a walk over the marks of a text stands: the key of the piece that is open, the last verse
-// of its chapter that a bridge reaches so far, and what the tree tells of the marks that are left.
+// of its chapter that a bridge reaches so far, and what the tree says of the marks that are left.
 #[derive(Drop)]
 struct Walk<'t> {
     key: Key,
@@ -57,7 +57,7 @@ impl Walk<'_> {
     ghost use Rattle.segment_check.specs.Reading.{behind, found_with, held_at, told_first, told_rest};
     ghost use Rattle.segment_check.specs.WalkViews.{state_of};
 
-    // Takes what the tree tells of the mark that begins here.
+    // Takes what the tree says of the mark that begins here.
     fn take_told(&mut self, start: usize) -> Told
         ensures first { result ≡ told_first start (state_of self.old).told }
         ensures rest { let st = state_of self.old in
@@ -225,7 +225,7 @@ fn push_held(
     Ok(())
 }
 
-// The findings at the marks of a text, where the tree tells this of its marks.
+// The findings at the marks of a text, where the tree says this of its marks.
 pub(crate) fn find_marks(
     alloc: Global,
     text: &str,

@@ -1,4 +1,4 @@
-// What a tree tells of one of its marks: which of the tree's codes hold there.
+// What a tree says of one of its marks: which of the tree's codes hold there.
 #[derive(Clone, Copy, Debug)]
 pub(crate) struct Told {
     pub(crate) start: usize,

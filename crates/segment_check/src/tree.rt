@@ -1,11 +1,12 @@
-//! What a tree tells of its marks.
+//! What a tree says of its marks.
 
 ghost use Rattle.std.specs.Prelude.{◌≡◌, false, IfOk, OnOk};
 ghost use Rattle.std.specs.List.{list_any};
 ghost use Rattle.std.specs.Option.{option_map, option_map_or};
 ghost use Rattle.segment_check.specs.TreeConditions as conditions;
 ghost use Rattle.segment_check.specs.TreeConditions.{is_among, is_restricted_kind, under_in};
-ghost use Rattle.segment_check.specs.TreeViews.{Tells, allowed_names, inside_view, is_misplaced, kind_here};
+ghost use Rattle.segment_check.specs.TreeViews.{Tells, allowed_names, inside_view, is_misplaced};
+ghost use Rattle.segment_check.specs.TreeViews.{kind_here};
 ghost use Rattle.segment_check.specs.TreeViews.{told_by, told_under};
 ghost use Rattle.sty_sheet.specs.Views.{record_of, records_of, words_left};
 ghost use Rattle.usfm_token.specs.View.{mark_parts};
@@ -110,7 +111,7 @@ fn tell_mark(
     }
 }
 
-// Tells of all marks of nodes that stand side by side, in order.
+// Adds what holds of all marks of nodes that stand side by side, in order.
 fn tell_nodes<'a>(
     told: &mut Vec<Told>,
     sheet: &Sheet<'_>,
@@ -135,7 +136,7 @@ fn tell_nodes<'a>(
     Ok(())
 }
 
-// What the tree of a text tells of its marks, in order. No more of the tree is kept than a node
+// What the tree of a text says of its marks, in order. No more of the tree is kept than a node
 // under the root.
 pub(crate) fn tell_tree(
     alloc: Global,

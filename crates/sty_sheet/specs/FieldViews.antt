@@ -3,6 +3,7 @@ use Rattle.sty_sheet.specs.Fields as fields
 use Rattle.sty_sheet.specs.declared.field.Field.{Field}
 use Rattle.sty_sheet.specs.declared.field.Field.TheVariants as field
 
+-- a field with the bytes of its value
 abbrev pub field_view : Field → fields.Field
 field_view field.Passed = fields.passed
 field_view (field.Marker value) = fields.marker value.now

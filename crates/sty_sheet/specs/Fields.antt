@@ -19,10 +19,11 @@ pub data Field : Type 0 where
   style_type : List ℕ → Field
   text_type : List ℕ → Field
 
--- the same word, without ASCII case
+-- whether two words are the same, without ASCII case
 abbrev pub is_word : List ℕ → List ℕ → Bool
 is_word word bs = str_eq_ignore_ascii_case word bs
 
+-- the field of a name with a value; one that has none of these six names is passed over
 abbrev pub field_named : List ℕ → List ℕ → Field
 field_named key value =
     if is_word (codes "Marker") key then marker value
@@ -33,7 +34,7 @@ field_named key value =
     else if is_word (codes "TextType") key then text_type value
     else passed
 
--- after the backslash: the field's name up to a blank, and its value, without the blanks around it
+-- the field after a backslash: its name up to a blank, and its value without the blanks around it
 abbrev pub field_behind : List ℕ → Field
 field_behind bs = field_named (first_word bs) (trimmed (behind_word bs))
 
@@ -42,6 +43,7 @@ abbrev pub field_of_body : List ℕ → Field
 field_of_body [] = passed
 field_of_body (b ∷ bs) = if b == 92 then field_behind bs else passed
 
+-- the field of a line, or that the line is passed over
 abbrev pub field_of : List ℕ → Field
 field_of line = field_of_body (body line)
 
@@ -49,6 +51,7 @@ field_of line = field_of_body (body line)
 abbrev pub fields_of : List ℕ → List Field
 fields_of text = map field_of (lines (behind_feff text))
 
+-- the style type that a value names, if it is one of the four
 abbrev pub kind_named : List ℕ → Option StyleKind
 kind_named value =
     if is_word (codes "Paragraph") value then Some kinds.Paragraph
@@ -59,26 +62,32 @@ kind_named value =
 
 -- the value of a field of each name
 
+-- the value of a Name, if the field is one
 abbrev pub as_name : Field → Option (List ℕ)
 as_name (name value) = Some value
 as_name other = None
 
+-- the value of an Endmarker, if the field is one
 abbrev pub as_endmarker : Field → Option (List ℕ)
 as_endmarker (endmarker value) = Some value
 as_endmarker other = None
 
+-- the value of an OccursUnder, if the field is one
 abbrev pub as_occurs_under : Field → Option (List ℕ)
 as_occurs_under (occurs_under value) = Some value
 as_occurs_under other = None
 
+-- the value of a StyleType, if the field is one
 abbrev pub as_style_type : Field → Option (List ℕ)
 as_style_type (style_type value) = Some value
 as_style_type other = None
 
+-- the value of a TextType, if the field is one
 abbrev pub as_text_type : Field → Option (List ℕ)
 as_text_type (text_type value) = Some value
 as_text_type other = None
 
+-- whether the field is a Marker
 abbrev pub is_marker : Field → Bool
 is_marker (marker value) = true
 is_marker other = false

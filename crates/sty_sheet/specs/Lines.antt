@@ -10,18 +10,19 @@ use Rattle.std.specs.Str.{bytes_eq}
 abbrev pub is_blank : ℕ → Bool
 is_blank b = b == 32 || b == 9 || b == 13 || b == 10
 
+-- whether a byte is no blank
 abbrev pub not_blank : ℕ → Bool
 not_blank b = not (is_blank b)
 
--- without the blanks at the front
+-- a text without the blanks at its front
 abbrev pub behind_blanks : List ℕ → List ℕ
 behind_blanks bs = drop (prefix_len is_blank bs) bs
 
--- without the blanks at both ends
+-- a text without the blanks at both ends
 abbrev pub trimmed : List ℕ → List ℕ
 trimmed bs = let front = behind_blanks bs in take (length front - suffix_len is_blank front) front
 
--- up to the first blank
+-- what stands before the first blank
 abbrev pub first_word : List ℕ → List ℕ
 first_word bs = take_while not_blank bs
 
@@ -29,6 +30,7 @@ first_word bs = take_while not_blank bs
 abbrev pub behind_word : List ℕ → List ℕ
 behind_word bs = drop (prefix_len not_blank bs) bs
 
+-- whether bytes begin with this front
 abbrev pub begins : List ℕ → List ℕ → Bool
 begins front bs = bytes_eq (take (length front) bs) front
 
@@ -45,9 +47,11 @@ abbrev pub comment_at : Bool → List ℕ → ℕ
 comment_at may [] = 0
 comment_at may (b ∷ bs) = if may && b == 35 then 0 else suc (comment_at (is_blank b) bs)
 
+-- a line without the comment at its end, if one begins there
 abbrev pub uncommented : List ℕ → List ℕ
 uncommented bs = take (comment_at true bs) bs
 
--- what counts of a line
+-- what counts of a line: what stands after its blanks and one '#!', and before a comment, which a '#' begins at the
+-- start or after a blank
 abbrev pub body : List ℕ → List ℕ
 body line = uncommented (behind_bang (behind_blanks line))

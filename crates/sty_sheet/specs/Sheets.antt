@@ -17,6 +17,7 @@ use Rattle.sty_sheet.specs.declared.fault.SheetFault.TheVariants.{FieldBeforeMar
 abbrev pub misplaced : Bool → ℕ → Option SheetFault
 misplaced seen n = if seen then None else Some (FieldBeforeMarker n)
 
+-- the fault of a StyleType in line n, if its value names no style type
 abbrev pub kind_fault : ℕ → List ℕ → Option SheetFault
 kind_fault n value = elim (kind_named value) [ None ↦ Some (BadStyleType n) | Some kind ↦ None ]
 
@@ -30,7 +31,8 @@ field_fault seen n (name value) = misplaced seen n
 field_fault seen n (style_type value) = option_or (misplaced seen n) (kind_fault n value)
 field_fault seen n (text_type value) = misplaced seen n
 
--- the first fault, where the lines are counted from n on
+-- the first fault of fields, if there is one, where lines are counted from n on and a marker line was seen before
+-- or none was: a field before the first marker, a marker without a name, or an unknown style type
 abbrev pub first_fault : Bool → ℕ → List Field → Option SheetFault
 first_fault seen n [] = None
 first_fault seen n (f ∷ fs) =
@@ -43,11 +45,11 @@ abbrev pub latest : (Field → Option (List ℕ)) → List Field → Option (Lis
 latest read [] = None
 latest read (f ∷ fs) = option_or (latest read fs) (read f)
 
--- that value, or the empty text
+-- the last value that a field of one name has, or the empty text
 abbrev pub value_of : (Field → Option (List ℕ)) → List Field → List ℕ
 value_of read fs = unwrap_or (latest read fs) []
 
--- the record of a marker with these fields: a field that is repeated counts last
+-- the record of a marker with these fields: of each name the last field counts
 abbrev pub record_with : List ℕ → List Field → Record
 record_with m fs = record {
   marker = m;
@@ -68,6 +70,7 @@ all_records [] = []
 all_records (marker value ∷ fs) = record_with (first_word value) (own_fields fs) ∷ all_records fs
 all_records (other ∷ fs) = all_records fs
 
+-- whether a record is of the marker
 abbrev pub of_marker : List ℕ → Record → Bool
 of_marker m r = bytes_eq m r.marker
 
@@ -81,6 +84,7 @@ abbrev pub each_once : List Record → List Record
 each_once [] = []
 each_once (r ∷ rs) = last_record r rs ∷ filter (λ q. not (of_marker r.marker q)) (each_once rs)
 
+-- the fault, if there is one, and else the records of these fields, each marker once
 abbrev pub sheet_with : Option SheetFault → List Field → Result (List Record) SheetFault
 sheet_with (Some fault) fs = Err fault
 sheet_with None fs = Ok (each_once (all_records fs))

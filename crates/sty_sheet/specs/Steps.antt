@@ -11,10 +11,12 @@ use Rattle.sty_sheet.specs.declared.fault.SheetFault.{SheetFault}
 use Rattle.sty_sheet.specs.declared.fault.SheetFault.TheVariants.{Memory, FieldBeforeMarker, EmptyMarker, BadStyleType}
 use Rattle.sty_sheet.specs.declared.reader.Reader.{Reader}
 
+-- what a reader has: the records that are whole, and the one that it is reading, if one was begun
 pub record Reading : Type 0 where
   pub whole : List Record
   pub begun : Option Record
 
+-- what a reader has, as records
 abbrev pub reading_of : Reader → Reading
 reading_of r = record { whole = records_in r.records; begun = option_map record_of r.begun }
 
@@ -33,14 +35,16 @@ abbrev pub put : List Record → Record → List Record
 put [] r = r ∷ []
 put (q ∷ qs) r = if bytes_eq r.marker q.marker then r ∷ qs else q ∷ put qs r
 
+-- the records with the one that was begun, if one was
 abbrev pub put_begun : List Record → Option Record → List Record
 put_begun rs None = rs
 put_begun rs (Some r) = put rs r
 
--- with the record that was begun
+-- all records of a reading: those that are whole, and the one that was begun
 abbrev pub finished : Reading → List Record
 finished s = put_begun s.whole s.begun
 
+-- a reading with one more field in the record that was begun
 abbrev pub extended : Reading → Field → Reading
 extended s f = record { whole = s.whole; begun = option_map (with_field f) s.begun }
 
@@ -48,7 +52,7 @@ extended s f = record { whole = s.whole; begun = option_map (with_field f) s.beg
 abbrev pub began : List ℕ → Reading → Reading
 began m s = record { whole = finished s; begun = Some (record_with m []) }
 
--- after one more field, which is no fault
+-- a reading after one more field, which is no fault
 abbrev pub after : Reading → Field → Reading
 after s (marker value) = began (first_word value) s
 after s passed = s

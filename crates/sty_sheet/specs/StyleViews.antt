@@ -4,6 +4,7 @@ use Rattle.std.specs.Option.{option_map}
 use Rattle.sty_sheet.specs.Records.{Record, closes_milestone, words_of}
 use Rattle.sty_sheet.specs.declared.style.Style.{Style}
 
+-- a style, as the record of its marker
 abbrev pub record_of : Style → Record
 record_of s = record {
   marker = s.marker.now;

@@ -14,7 +14,7 @@ use Rattle.sty_sheet.specs.declared.under.UnderWords.{UnderWords}
 abbrev pub records_of : Sheet → List Record
 records_of sheet = map record_of (values sheet.styles)
 
--- the same while the sheet is read
+-- the records that were read so far, in the order in which their markers first stand
 abbrev pub records_in : Records → List Record
 records_in records = map record_of (values records.styles)
 

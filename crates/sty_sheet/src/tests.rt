@@ -77,8 +77,10 @@ fn check_words(rt: &impl Abort, style: &Style<'_>, words: &[&str]) {
 
 #[test]
 fn reads_fields(rt: HostRuntime) -> Result<(), SheetFault> {
-    let text =
-        "\\Marker add\n\\Endmarker a* b\n\\OccursUnder p  q1\tNEST\n\\StyleType character\n\\TextType versetext\n\\Marker x\n\\Endmarker *\n\\TextType Verse";
+    let text = "\
+        \\Marker add\n\\Endmarker a* b\n\\OccursUnder p  q1\tNEST\n\
+        \\StyleType character\n\\TextType versetext\n\\Marker x\n\\Endmarker *\n\
+        \\TextType Verse";
     let sheet = Sheet::read(rt.alloc(), text)?;
     let mut styles = sheet.iter();
     if let (Some(add), Some(x)) = (styles.next(), styles.next()) {
@@ -107,8 +109,10 @@ fn style_marker<'s>(sheet: &Sheet<'s>, name: &str) -> Option<&'s str> {
 
 #[test]
 fn finds_styles(rt: HostRuntime) -> Result<(), SheetFault> {
-    let text =
-        "\\Marker qt-s\n\\Endmarker qt-e\n\\StyleType Milestone\n\\Marker nd\n\\Endmarker nd*\n\\StyleType Character\n\\Marker qs\n\\StyleType Milestone\n\\Endmarker nd\n";
+    let text = "\
+        \\Marker qt-s\n\\Endmarker qt-e\n\\StyleType Milestone\n\\Marker nd\n\
+        \\Endmarker nd*\n\\StyleType Character\n\\Marker qs\n\\StyleType Milestone\n\
+        \\Endmarker nd\n";
     let sheet = Sheet::read(rt.alloc(), text)?;
     assert_eq!(rt; style_marker(&sheet, "qt-e"), Some("qt-s"));
     assert_eq!(rt; style_marker(&sheet, "nd"), Some("nd"));
@@ -121,8 +125,9 @@ fn finds_styles(rt: HostRuntime) -> Result<(), SheetFault> {
 
 #[test]
 fn finds_the_first_milestone(rt: HostRuntime) -> Result<(), SheetFault> {
-    let text =
-        "\\Marker a\n\\Endmarker z\n\\StyleType Milestone\n\\Marker b\n\\Endmarker z*\n\\StyleType Milestone\n\\Marker a\n";
+    let text = "\
+        \\Marker a\n\\Endmarker z\n\\StyleType Milestone\n\\Marker b\n\\Endmarker z*\n\
+        \\StyleType Milestone\n\\Marker a\n";
     let (both, _) = text.split_at(text.len() - 10);
     let sheet = Sheet::read(rt.alloc(), both)?;
     assert_eq!(rt; style_marker(&sheet, "z"), Some("a"));

@@ -20,12 +20,12 @@ use Rattle.usfm_cli.specs.declared.fault.Fault.{Fault}
 same_held : (s t : State) → IsState s → IsState t → HoldTheSame s t → s.held ≡ t.held
 same_held s t hs ht same = same_unions (Part s.held) (Part t.held) s.held t.held hs.set ht.set (record { there = same.there; back = same.back }) refl refl
 
--- what a command that only tells writes is what it tells
+-- what a command that only reports writes is what it reports
 told_is_written : (s : State) (r : Result (List ℕ) Fault) → output_of (written (done_if s r)) ≡ r
 told_is_written s (Ok text) = refl
 told_is_written s (Err fault) = refl
 
--- what is written for a project's file is told of what the project holds
+-- what is written for a project's file is what is reported of the operations that the project holds
 exported : (file : List ℕ) (s : State) (book : List ℕ) → project_at file ≡ Ok s → output_of (executed file (Export book)) ≡ export_text s.held book
 exported file s book loads = ap (λ r. output_of (of_loaded r (Export book))) loads ∙ told_is_written s (export_text s.held book)
 

@@ -18,7 +18,7 @@ use Rattle.usfm_cli.specs.Faults.{of_find, of_book_text as fault_of_text}
 use Rattle.usfm_cli.specs.Looking.{by_records, of_book_text, hit_lines, unless_empty, searched, is_after_sheet}
 use Rattle.usfm_cli.specs.declared.fault.Fault.{Fault}
 
--- bytes that are text are told as text
+-- bytes that are text are judged to be text
 pub is_told_as_text : (bytes text : List ℕ) → bytes ≡ text → IsUtf8 text → is_utf8 bytes ≡ false → ⊥
 is_told_as_text bytes text e is refused = false≢true (sym refused ∙ ap is_utf8 e ∙ is_utf8-from_IsUtf8 text is)
 
@@ -31,7 +31,7 @@ pub some_needle : (needle : List ℕ) (found : Result (List ℕ) Fault) → need
 some_needle [] found some = absurd (some refl)
 some_needle (b ∷ needle) found some = refl
 
--- memory may be wanted of a search
+-- a search may answer out of memory
 pub search_is_late : (needle found : List ℕ) → MayWantMemory is_after_sheet (unless_empty needle (Ok found))
 search_is_late [] found = refl
 search_is_late (b ∷ needle) found = tt
@@ -40,7 +40,7 @@ pub search_refused : (A : Type 0) (needle found : List ℕ) (wanted : Result (Li
 search_refused A needle found wanted finding.Memory e h = subst (MayWantMemory is_after_sheet) (sym e) (search_is_late needle found)
 search_refused A needle found wanted finding.EmptyNeedle e h = e ∙ ap (λ (n : List ℕ). unless_empty n (Ok found)) (h refl)
 
--- a book without an operation is refused, and memory may be wanted of one that has some
+-- a book without an operation is refused, and of one that has some out of memory may be answered
 pub search_without_text : (A B : Type 0) (held : List Operation) (book sheet needle : List ℕ) (records : List Record)
     (fault : TextFault) → is_utf8 sheet ≡ true → sheet_of sheet ≡ Ok records → AnswersText {A = A} held book (Err fault)
     → Gives {A = B} is_after_sheet (searched held book sheet needle) (Err (fault_of_text fault))

@@ -6,7 +6,8 @@ use Rattle.usfm_export.specs.Books.{IsBookOf}
 use Rattle.bundle_codec.specs.Reading.{AreBytes}
 use Rattle.usfm_cli.specs.Streams.{union_in, book_of_stream}
 
--- the source gave bundles, and the sink took such a book of their union
+-- the source gave bundles, and the sink took the export of a book of their union, which cuts back into the picked
+-- texts
 pub record WritesBook (book : List ℕ) (to_come left : Option (List ℕ)) (before after : Option (List ℕ)) : Type 0 where
   pub given : List ℕ
   pub consumed : Consumes to_come left given
@@ -16,7 +17,8 @@ pub record WritesBook (book : List ℕ) (to_come left : Option (List ℕ)) (befo
   pub written : Appends before after text
   pub is_book : IsBookOf union book text
 
--- What a stream gives for a book is such a book of the union of its bundles.
+-- What a stream gives for a book is the export of that book of the union of its bundles, which cuts back into the
+-- picked texts.
 abbrev pub FoldedBooksCutBack : Type 0
 FoldedBooksCutBack =
     (book input text : List ℕ) → AreBytes input → book_of_stream book input ≡ Ok text →

@@ -42,7 +42,8 @@ id_text id = decimal id.number ++ 32 ∷ id.name
 abbrev pub shown_line : Operation → List ℕ
 shown_line o = line_of (codes "op") (id_text o.id ++ 32 ∷ decimal (length o.text)) ++ o.text ++ 10 ∷ []
 
--- what is told of a step: how many operations are new, the id that an edit made, how many edits an import made
+-- what a command writes of a step: how many operations are new, the id that an edit made, how many edits an import
+-- made; or the step's refusal
 abbrev pub told : Reply → Result (List ℕ) Fault
 told (Received (Ok count)) = Ok (line_of (codes "new") (decimal count))
 told (Received (Err fault)) = Err (of_receiving fault)
@@ -51,6 +52,7 @@ told (Edited (Err fault)) = Err (of_edit fault)
 told (Imported (Ok count)) = Ok (line_of (codes "added") (decimal count))
 told (Imported (Err fault)) = Err (of_import fault)
 
+-- the replica after a command with what the command writes, or the refusal
 abbrev pub done_if : State → Result (List ℕ) Fault → Result Done Fault
 done_if after (Ok output) = Ok (record { after = after; output = output })
 done_if after (Err fault) = Err fault
@@ -59,7 +61,7 @@ done_if after (Err fault) = Err fault
 abbrev pub done : Step → Result Done Fault
 done taken = done_if taken.after (told taken.reply)
 
--- bytes that are to be a text are refused where they are none
+-- what is done with bytes that are to be a text, which are refused where they are not UTF-8
 abbrev pub with_text : List ℕ → Result Done Fault → Result Done Fault
 with_text bytes next = if is_utf8 bytes then next else Err (NotText (utf8_valid_len bytes))
 
@@ -68,17 +70,19 @@ abbrev pub with_bundle : State → Result (List Operation) WholeFault → Result
 with_bundle s (Ok ops) = done (step s (steps.Receive ops))
 with_bundle s (Err fault) = Err (of_whole fault)
 
--- the step of an import, of an edit, of an edit over given ids, with texts as they came
+-- the step of an import, unless the file is not UTF-8
 abbrev pub import_done : State → List ℕ → Result Done Fault
 import_done s file = with_text file (done (step s (steps.Import file)))
 
+-- the step of an edit, unless its text is not UTF-8
 abbrev pub edit_done : State → Segment → List ℕ → Result Done Fault
 edit_done s g text = with_text text (done (step s (steps.Edit g text)))
 
+-- the step of an edit over given ids, unless its text is not UTF-8
 abbrev pub edit_over_done : State → Segment → List ℕ → List Id → Result Done Fault
 edit_over_done s g text ids = with_text text (done (step s (steps.EditOver g text ids)))
 
--- what a segment shows, operation by operation
+-- what a segment shows, operation by operation: a line, the text and a line feed for each
 abbrev pub shown_text : List Operation → Segment → List ℕ
 shown_text held g = flat_map shown_line (shown held g)
 
@@ -91,7 +95,8 @@ abbrev pub delta_for : List Operation → Option (List Known) → Result (List �
 delta_for held (Some known) = Ok (bundle (outside known held))
 delta_for held None = Err BadSummary
 
--- What a command does to a replica, or why it is refused. From `Shown` on they leave it as it is.
+-- The replica after a command and what the command writes, or why it is refused. From `Shown` on commands leave the
+-- replica as it is.
 abbrev pub outcome : State → Command → Result Done Fault
 outcome s (Import file) = import_done s file.now
 outcome s (Edit book key text) = edit_done s (segment book key) text.now
@@ -107,7 +112,7 @@ outcome s (Check book sheet) = done_if s (checked s.held book sheet.now)
 outcome s (Find book sheet needle) = done_if s (searched s.held book sheet.now needle.now)
 outcome s (Words book sheet) = done_if s (listed s.held book sheet.now)
 
--- whether a command only tells, and changes no replica
+-- whether a command only reports, and changes no replica
 abbrev pub only_tells : Command → Bool
 only_tells (Import file) = false
 only_tells (Edit book key text) = false
@@ -125,13 +130,16 @@ only_tells (Words book sheet) = true
 
 -- ---- refusals, and out of memory
 
+-- none of the faults
 abbrev pub no_fault : Fault → Bool
 no_fault fault = false
 
+-- the fault is a clash
 abbrev pub is_clash : Fault → Bool
 is_clash (Clash id) = true
 is_clash fault = false
 
+-- the fault is that no number is left
 abbrev pub is_numbers_used_up : Fault → Bool
 is_numbers_used_up NumbersUsedUp = true
 is_numbers_used_up fault = false
@@ -154,19 +162,20 @@ is_late (Check book sheet) = is_after_sheet
 is_late (Find book sheet needle) = is_after_sheet
 is_late (Words book sheet) = is_after_sheet
 
--- memory may be wanted where nothing is refused, or what is refused is found so late
+-- out of memory may be answered where nothing is refused, or where what is refused is found so late
 abbrev pub MayWantMemory : {T : Type 0} → (Fault → Bool) → Result T Fault → Type 0
 MayWantMemory late (Ok x) = Unit {0}
 MayWantMemory late (Err fault) = IsTrue (late fault)
 
--- What is answered of what a command that only tells is to write: it, or the refusal; or that memory was wanted, where it may be.
+-- What is answered of what a command that only reports is to write: it, or the refusal; or out of memory, where
+-- that may be answered.
 abbrev pub Gives : {A : Type 0} → (Fault → Bool) → Result (List ℕ) Fault → Result (Vec ℕ A) Fault → Type 0
 Gives late wanted (Ok output) = wanted ≡ Ok output.items
 Gives late wanted (Err Memory) = MayWantMemory late wanted
 Gives late wanted (Err fault) = wanted ≡ Err fault
 
--- What is answered of what is wanted, where the replica is then so: what is written, or the refusal; or that memory was
--- wanted, where it may be.
+-- What is answered of what is wanted, where the replica is then so: what is written, or the refusal; or out of
+-- memory, where that may be answered.
 abbrev pub Answers : {A : Type 0} → (Fault → Bool) → Result Done Fault → State → Result (Vec ℕ A) Fault → Type 0
 Answers late wanted after (Ok output) = wanted ≡ Ok (record { after = after; output = output.items })
 Answers late wanted after (Err Memory) = MayWantMemory late wanted

@@ -1,4 +1,4 @@
--- Laws of projects under commands.
+-- Laws of projects under commands (this project's own rule).
 use Rattle.std.specs.Prelude.{◌≡◌, ℕ, List, [], Result, Ok, Err}
 use Rattle.std.specs.List.{Contains}
 use Rattle.op_core.specs.Laws.{IsAmong}
@@ -11,12 +11,12 @@ use Rattle.usfm_cli.specs.declared.command.Command.{Command}
 use Rattle.usfm_cli.specs.declared.command.Command.TheVariants.{Export, Report}
 use Rattle.usfm_cli.specs.declared.fault.Fault.{Fault}
 
--- what is written
+-- what a command writes, or its refusal
 abbrev pub output_of : Result Written Fault → Result (List ℕ) Fault
 output_of (Ok w) = Ok w.output
 output_of (Err fault) = Err fault
 
--- both hold the same operations
+-- two replicas hold the same operations
 pub record HoldTheSame (s t : State) : Type 0 where
   pub there : (o : Operation) → Contains s.held o → Contains t.held o
   pub back : (o : Operation) → Contains t.held o → Contains s.held o

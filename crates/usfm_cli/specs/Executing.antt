@@ -14,6 +14,7 @@ pub record Written : Type 0 where
   pub project : List ℕ
   pub output : List ℕ
 
+-- the file of the replica after a command with what the command writes, or the refusal
 abbrev pub written : Result Done Fault → Result Written Fault
 written (Ok d) = Ok (record { project = project d.after; output = d.output })
 written (Err fault) = Err fault
@@ -23,28 +24,29 @@ abbrev pub of_loaded : Result State LoadFault → Command → Result Written Fau
 of_loaded (Ok s) command = written (outcome s command)
 of_loaded (Err fault) command = Err (of_loading fault)
 
--- what a command makes of a project's file, or why it is refused
+-- what a command makes of a project's file: the file of the replica after it, and what it writes; or why it is
+-- refused
 abbrev pub executed : List ℕ → Command → Result Written Fault
 executed bytes command = of_loaded (project_at bytes) command
 
 -- ---- commands one after another
 
--- a refused command leaves the file as it is
+-- a project's file after a command, which a refused command leaves as it is
 abbrev pub file_or : List ℕ → Result Written Fault → List ℕ
 file_or bytes (Ok w) = w.project
 file_or bytes (Err fault) = bytes
 
--- a project's file after commands, in their order
+-- a project's file after commands, in their order, of which a refused one leaves it as it is
 abbrev pub file_after : List ℕ → List Command → List ℕ
 file_after bytes [] = bytes
 file_after bytes (command ∷ later) = file_after (file_or bytes (executed bytes command)) later
 
--- a refused command leaves the replica as it is
+-- a replica after a command, which a refused command leaves as it is
 abbrev pub state_or : State → Result Done Fault → State
 state_or s (Ok d) = d.after
 state_or s (Err fault) = s
 
--- a replica after commands, in their order
+-- a replica after commands, in their order, of which a refused one leaves it as it is
 abbrev pub state_after : State → List Command → State
 state_after s [] = s
 state_after s (command ∷ later) = state_after (state_or s (outcome s command)) later

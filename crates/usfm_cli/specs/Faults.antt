@@ -32,21 +32,26 @@ use Rattle.usfm_cli.specs.declared.reading.ReadFault.TheVariants as reading
 use Rattle.usfm_cli.specs.declared.fault.Fault.{Fault}
 use Rattle.usfm_cli.specs.declared.fault.Fault.TheVariants.{Memory, NotText, Reference, NoId, FieldBeforeMarker, EmptyMarker, BadStyleType, Naming, Clash, Bundle, Trailing, BadSummary, BadSegment, NumbersUsedUp, NoBook, NotShown, WriteFailed, EmptyNeedle, BadProject, ReadFailed, TooLong}
 
+-- the fault of a command whose bytes are no text
 abbrev pub of_text : TokenFault → Fault
 of_text (token.NotUtf8 valid) = NotText valid
 
+-- the fault of a command whose file does not begin with a book
 abbrev pub of_book : BookFault → Fault
 of_book opening.NoId = NoId
 of_book opening.BadBook = Reference reference.BadBook
 
+-- the fault of a command whose bytes are not one whole bundle
 abbrev pub of_whole : WholeFault → Fault
 of_whole (whole.Bundle fault) = Bundle fault
 of_whole whole.Trailing = Trailing
 
+-- the fault of a bundle that is not received
 abbrev pub of_receiving : ReceiveFault → Fault
 of_receiving receiving.Memory = Memory
 of_receiving (receiving.Clash id) = Clash id
 
+-- the fault of an edit that is refused
 abbrev pub of_edit : EditFault → Fault
 of_edit edit.Memory = Memory
 of_edit edit.BadSegment = BadSegment
@@ -54,42 +59,51 @@ of_edit edit.NoBook = NoBook
 of_edit (edit.NotShown id) = NotShown id
 of_edit edit.NumbersUsedUp = NumbersUsedUp
 
+-- the fault of an import that is refused
 abbrev pub of_import : ImportFault → Fault
 of_import importing.Memory = Memory
 of_import (importing.BadFile fault) = of_book fault
 of_import importing.NumbersUsedUp = NumbersUsedUp
 
+-- the fault of a command whose style sheet is refused
 abbrev pub of_sheet : SheetFault → Fault
 of_sheet sheet.Memory = Memory
 of_sheet (sheet.FieldBeforeMarker line) = FieldBeforeMarker line
 of_sheet (sheet.EmptyMarker line) = EmptyMarker line
 of_sheet (sheet.BadStyleType line) = BadStyleType line
 
+-- the fault of a command whose summary is refused
 abbrev pub of_summary : SummaryFault → Fault
 of_summary summing.Memory = Memory
 of_summary summing.BadSummary = BadSummary
 
+-- the fault of a search that is refused
 abbrev pub of_find : FindFault → Fault
 of_find finding.Memory = Memory
 of_find finding.EmptyNeedle = EmptyNeedle
 
+-- the fault of a book that is not written
 abbrev pub of_export : ExportFault → Fault
 of_export writing.NoBook = NoBook
 of_export (writing.WriteFailed gone) = WriteFailed gone
 
+-- the fault of a book whose text is not given
 abbrev pub of_book_text : TextFault → Fault
 of_book_text giving.Memory = Memory
 of_book_text giving.NoBook = NoBook
 
+-- the fault of a project's file that is not loaded
 abbrev pub of_loading : LoadFault → Fault
 of_loading loading.Memory = Memory
 of_loading loading.BadProject = BadProject
 of_loading (loading.Bundle fault) = of_whole fault
 
+-- the fault of a project that is not made
 abbrev pub of_creating : CreateFault → Fault
 of_creating creating.Memory = Memory
 of_creating creating.BadName = Naming ids.BadName
 
+-- the fault of an input that is not read
 abbrev pub of_reading : ReadFault → Fault
 of_reading reading.Memory = Memory
 of_reading reading.ReadFailed = ReadFailed

@@ -9,7 +9,7 @@ use Rattle.usfm_cli.specs.declared.fault.Fault.{Fault}
 use Rattle.usfm_cli.specs.declared.fault.Fault.TheVariants.{Memory, WriteFailed, ReadFailed, TooLong}
 
 -- What an answer says of the text that is to be written, or of its refusal, and of what the sink took: all of the
--- text, the front of it that is told, or nothing.
+-- text, the front of it whose length is answered, or nothing.
 abbrev pub AnswersText : Result (List ℕ) Fault → Option (List ℕ) → Option (List ℕ) → Result (Unit {0}) Fault → Type 0
 AnswersText wanted before after (Ok done) = (text : List ℕ) × (wanted ≡ Ok text) × Appends before after text
 AnswersText wanted before after (Err (WriteFailed gone)) =
@@ -18,7 +18,7 @@ AnswersText wanted before after (Err Memory) = after ≡ before
 AnswersText wanted before after (Err fault) = (wanted ≡ Err fault) × (after ≡ before)
 
 -- What an answer says of the bytes that the source gave: where a read failed, where they are too long and where
--- memory was wanted, that nothing was written; else that they are all of them, and what the book of that stream
+-- memory ran out, that nothing was written; else that they are all of them, and what the book of that stream
 -- says.
 abbrev pub AnswersStream : List ℕ → List ℕ → Option (List ℕ) → Option (List ℕ) → Option (List ℕ) → Result (Unit {0}) Fault → Type 0
 AnswersStream book given left before after (Err ReadFailed) = (length given ≤ most_bytes) × (after ≡ before)

@@ -1,4 +1,4 @@
--- The line that tells of a fault (this project's own rule): `fault`, the fault's number, its details, each after
+-- The line that reports a fault (this project's own rule): `fault`, the fault's number, its details, each after
 -- one space, and a line feed.
 use Rattle.std.specs.Prelude.{ℕ, List, [], ◌∷◌, ◌++◌, codes}
 use Rattle.std.specs.List.{flat_map}
@@ -10,6 +10,7 @@ use Rattle.bundle_codec.specs.declared.fault.BundleFault.TheVariants.{Magic, Tru
 use Rattle.usfm_cli.specs.declared.fault.Fault.{Fault}
 use Rattle.usfm_cli.specs.declared.fault.Fault.TheVariants.{Memory, NotText, Reference, NoId, FieldBeforeMarker, EmptyMarker, BadStyleType, Naming, Clash, Bundle, Trailing, BadSummary, BadSegment, NumbersUsedUp, NoBook, NotShown, WriteFailed, EmptyNeedle, BadProject, ReadFailed, TooLong, FileFailed}
 
+-- the number of a fault of a bundle
 abbrev pub bundle_number : BundleFault → ℕ
 bundle_number Magic = 60
 bundle_number Truncated = 61
@@ -21,7 +22,7 @@ bundle_number (BadTag at) = 66
 bundle_number (NotUtf8 at) = 67
 bundle_number (BadText at) = 68
 
--- the place of the operation, counted from 1
+-- the details of a fault of a bundle: the place of the operation, counted from 1, where it has one
 abbrev pub bundle_details : BundleFault → List (List ℕ)
 bundle_details Magic = []
 bundle_details Truncated = []
@@ -33,6 +34,7 @@ bundle_details (BadTag at) = decimal at ∷ []
 bundle_details (NotUtf8 at) = decimal at ∷ []
 bundle_details (BadText at) = decimal at ∷ []
 
+-- the number of a fault
 abbrev pub fault_number : Fault → ℕ
 fault_number Memory = 1
 fault_number (NotText valid) = 10
@@ -59,7 +61,8 @@ fault_number ReadFailed = 120
 fault_number TooLong = 121
 fault_number FileFailed = 130
 
--- an id by its number and its name, a count of bytes, a line and the place of an operation in decimal
+-- the details of a fault: an id by its number and its name; a count of bytes, a line or the place of an operation
+-- in decimal
 abbrev pub fault_details : Fault → List (List ℕ)
 fault_details (NotText valid) = decimal valid ∷ []
 fault_details (FieldBeforeMarker line) = decimal line ∷ []
@@ -71,6 +74,7 @@ fault_details (Bundle fault) = bundle_details fault
 fault_details (WriteFailed gone) = decimal gone ∷ []
 fault_details other = []
 
+-- the line of a fault: `fault`, its number, each detail after one space, and a line feed
 abbrev pub fault_text : Fault → List ℕ
 fault_text fault =
     codes "fault " ++ decimal (fault_number fault) ++ flat_map (λ detail. 32 ∷ detail) (fault_details fault) ++ 10 ∷ []

@@ -1,4 +1,5 @@
--- What commands tell of a book by a style sheet (this project's own rule): its findings, the hits of a needle, and its words.
+-- What commands report of a book by a style sheet (this project's own rule): its findings, the hits of a needle, and its
+-- words.
 use Rattle.std.specs.Prelude.{ℕ, Bool, true, false, List, [], ◌∷◌, ◌++◌, Result, Ok, Err, if◌then◌else◌}
 use Rattle.std.specs.Fmt.{decimal}
 use Rattle.std.specs.List.{flat_map}
@@ -19,16 +20,16 @@ use Rattle.usfm_cli.specs.Faults.{of_sheet}
 use Rattle.usfm_cli.specs.declared.fault.Fault.{Fault}
 use Rattle.usfm_cli.specs.declared.fault.Fault.TheVariants.{NotText, NoBook, EmptyNeedle}
 
--- what is told by the records of a sheet, or the sheet's fault
+-- what is written by the records of a sheet, or the sheet's fault
 abbrev pub by_records : Result (List Record) SheetFault → (List Record → Result (List ℕ) Fault) → Result (List ℕ) Fault
 by_records (Ok records) next = next records
 by_records (Err fault) next = Err (of_sheet fault)
 
--- what is told by the records of a sheet that is given as bytes, or why they are no sheet
+-- what is written by the records of a sheet that is given as bytes, or why they are no sheet
 abbrev pub by_sheet : List ℕ → (List Record → Result (List ℕ) Fault) → Result (List ℕ) Fault
 by_sheet bytes next = if is_utf8 bytes then by_records (sheet_of bytes) next else Err (NotText (utf8_valid_len bytes))
 
--- what is told of the export of a book, if it has an operation
+-- what is written of the export of a book, or that the book has no operation
 abbrev pub of_book_text : List Operation → List ℕ → (List ℕ → Result (List ℕ) Fault) → Result (List ℕ) Fault
 of_book_text held book next = if has_book held book then next (export held book) else Err NoBook
 
@@ -38,6 +39,7 @@ of_book_text held book next = if has_book held book then next (export held book)
 abbrev pub finding_line : List ℕ → Finding → List ℕ
 finding_line book f = ref_text book f.key ++ 32 ∷ code_name f.code ++ 32 ∷ decimal f.start ++ 10 ∷ []
 
+-- a line for each finding
 abbrev pub finding_lines : List ℕ → List Finding → List ℕ
 finding_lines book found = flat_map (finding_line book) found
 
@@ -52,6 +54,7 @@ checked held book sheet =
 abbrev pub hit_line : List ℕ → HitParts → List ℕ
 hit_line book h = ref_text book h.key ++ 32 ∷ decimal h.start ++ 10 ∷ []
 
+-- a line for each hit
 abbrev pub hit_lines : List ℕ → List HitParts → List ℕ
 hit_lines book hits = flat_map (hit_line book) hits
 
@@ -71,6 +74,7 @@ searched held book sheet needle =
 abbrev pub word_line : WordParts → List ℕ
 word_line w = w.form ++ flat_map (λ k. 32 ∷ key_text k) w.keys ++ 10 ∷ []
 
+-- a line for each word
 abbrev pub word_lines : List WordParts → List ℕ
 word_lines words = flat_map word_line words
 

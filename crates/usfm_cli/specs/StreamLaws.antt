@@ -1,4 +1,4 @@
--- Laws of streams of bundles.
+-- Laws of streams of bundles (this project's own rule).
 use Rattle.std.specs.Prelude.{◌≡◌, ℕ, List, [], Ok}
 use Rattle.op_core.specs.Ops.{Operation}
 use Rattle.op_core.specs.Laws.{SameTogether}

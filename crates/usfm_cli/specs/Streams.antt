@@ -31,6 +31,8 @@ union_within zero held (b ∷ bytes) = Ok held
 union_within (suc bound) held (b ∷ bytes) =
     with_set (bundle_at (b ∷ bytes)) (λ set rest. unless_clash (clash held set) (union_within bound (join held set) rest))
 
+-- the union of a set and of all bundles that the bytes spell, each joined before the next is read; or the first
+-- refusal
 abbrev pub union_in : List Operation → List ℕ → Result (List Operation) Fault
 union_in held bytes = union_within (length bytes) held bytes
 

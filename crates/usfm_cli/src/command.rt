@@ -1,4 +1,4 @@
-// What a project may be told to do.
+// The commands of a project.
 ghost use Rattle.std.specs.Prelude.{◌≡◌};
 ghost use Rattle.usfm_cli.specs.Commands.{only_tells};
 
@@ -25,7 +25,7 @@ pub enum Command<'a> {
     },
     /// Takes in a bundle: `new N`.
     Receive(&'a [u8]),
-    /// Tells what a segment shows: for each operation `op NUMBER NAME LENGTH`, its text and a line
+    /// Lists what a segment shows: for each operation `op NUMBER NAME LENGTH`, its text and a line
     /// feed.
     Shown(Book, Key),
     /// Gives the bundle of all operations.
@@ -36,9 +36,9 @@ pub enum Command<'a> {
     Summary,
     /// Gives the bundle of the operations that lie outside a summary: what another copy lacks.
     Delta(&'a [u8]),
-    /// Tells the conflicts, and the operations that are awaited.
+    /// Reports the conflicts, and the operations that are awaited.
     Report,
-    /// Tells what is found in a book by a style sheet: for each finding `REF CODE START`.
+    /// Reports what is found in a book by a style sheet: for each finding `REF CODE START`.
     Check(Book, &'a [u8]),
     /// Finds a needle in a book by a style sheet: for each hit `REF START`.
     Find(Book, &'a [u8], &'a str),
@@ -47,7 +47,7 @@ pub enum Command<'a> {
 }
 
 impl Command<'_> {
-    // Whether it only tells, and changes nothing.
+    // Whether it only reports, and changes nothing.
     pub(crate) fn only_tells(&self) -> bool
         ensures { result ≡ only_tells self.now }
     {

@@ -46,7 +46,7 @@ impl Outcome {
 
 /// Does a command on a project, given as the bytes of its file: reads the project, does the command's
 /// step, and answers the file of the project after it and what the command writes. A command that
-/// only tells gives the project's bytes back as they are.
+/// only reports gives the project's bytes back as they are.
 ///
 /// # Errors
 /// First those of the project: `BadProject` (110) where the bytes do not begin as a project does, and
@@ -67,7 +67,7 @@ pub fn exec(alloc: Global, project: &[u8], command: &Command<'_>) -> Result<Outc
     // A file that is no project is refused for that, whatever memory there is.
     ensures no_project { IfErr (project_at project.now) (λ fault.
         result ≡ Err (of_loading fault)) }
-    // A command that only tells gives the file back as it is.
+    // A command that only reports gives the file back as it is.
     ensures told { IfOk result (λ made.
         IsTrue (only_tells command.now) → made.project ≡ project.now) }
     // The file after it is that of the replica after the command's step.

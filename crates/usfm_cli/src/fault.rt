@@ -16,7 +16,7 @@ use usfm_ref::RefFault;
 use usfm_token::TokenFault;
 use verse_cut::BookFault;
 
-/// Why a command was refused. `fault_line` tells it with its number.
+/// Why a command was refused. `fault_line` writes it with its number.
 #[derive(Clone, Copy, Debug, PartialEq, Eq, Error)]
 pub enum Fault {
     /// 1: a growth was refused.

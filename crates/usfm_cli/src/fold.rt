@@ -49,7 +49,7 @@ pub fn fold_stream<R: ByteSource, W: ByteSink>(
 }
 
 // A replica that received the bundles that the bytes spell, each before the next is read. It makes no
-// operation, so its name is never told.
+// operation, so its name is never seen.
 fn receive_all(alloc: Global, input: &[u8]) -> Result<Replica, Fault>
     ensures { UnionAnswers input.now result }
 {

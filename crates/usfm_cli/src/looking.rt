@@ -1,4 +1,4 @@
-// What commands tell of a book by a style sheet.
+// What commands report of a book by a style sheet.
 ghost use Rattle.std.specs.Prelude.{◌≡◌, ◌∷◌, ◌++◌, IfOk, OnOk};
 ghost use Rattle.std.specs.List.{flat_map};
 ghost use Rattle.usfm_ref.specs.References.{key_text};

@@ -10,10 +10,10 @@ use usfm_export::within;
 
 /// What bytes are read from.
 ///
-/// Contracts know the bytes to come, where the source tells them, and the counts of its reads and
+/// Contracts speak of the bytes to come, where they are known, and of the counts of its reads and
 /// of its failures. Both counts stay at `u64::MAX`.
 pub trait ByteSource {
-    /// The bytes still to come, where the source tells them.
+    /// The bytes still to come, where they are known.
     ghost to_come: { Self → Option (List ℕ) };
 
     /// How often the source was read.
@@ -37,7 +37,7 @@ pub trait ByteSource {
 
 /// A reader of std as a source.
 ///
-/// A reader that tells more bytes than the buffer holds has failed: the source answers an error and
+/// A reader that reports more bytes than the buffer holds has failed: the source answers an error and
 /// counts it.
 #[derive(Drop)]
 pub struct StdSource<R> {

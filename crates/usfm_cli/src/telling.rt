@@ -1,4 +1,4 @@
-// The line that tells of a fault.
+// The line that reports a fault.
 ghost use Rattle.std.specs.Prelude.{◌≡◌, ◌<◌, ◌≤◌, ◌+◌, ◌++◌, ◌∷◌, [], length, codes};
 ghost use Rattle.std.specs.List.{flat_map};
 ghost use Rattle.std.specs.Fmt.{decimal};
@@ -10,7 +10,7 @@ use op_core::{IdFault, OpId};
 use usfm_export::ShortLine;
 use usfm_ref::RefFault;
 
-/// The line that tells of a fault: `fault`, its number, its details, each after one space, and a line
+/// The line that reports a fault: `fault`, its number, its details, each after one space, and a line
 /// feed. The details are an operation's id as its number and its name, the place of an operation in
 /// its bundle or a line of a sheet, counted from 1, the bytes gone out, or the length of the longest
 /// front that is text.

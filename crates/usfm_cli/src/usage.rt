@@ -55,7 +55,7 @@ pub(crate) fn program<'a>(alloc: Global) -> Result<Command<'a>, AllocError> {
 }
 
 // The program with one more subcommand. What it has by then stays out of the proof of `program`, which
-// would tell it once more at each of them.
+// would repeat it at each of them.
 fn with<'a>(
     program: Command<'a>,
     made: Result<Command<'a>, AllocError>,

@@ -33,7 +33,7 @@ pub enum Line {
         key: Key,
         ids: Vec<OpId>,
     },
-    /// `shown PROJECT REF`: tell what a segment shows.
+    /// `shown PROJECT REF`: list what a segment shows.
     Shown {
         project: String,
         book: Book,
@@ -62,7 +62,7 @@ pub enum Line {
         project: String,
         summary: String,
     },
-    /// `check PROJECT BOOK SHEET`: tell what is found in a book by a style sheet.
+    /// `check PROJECT BOOK SHEET`: report what is found in a book by a style sheet.
     Check {
         project: String,
         book: Book,
@@ -81,7 +81,7 @@ pub enum Line {
         book: Book,
         sheet: String,
     },
-    /// `report PROJECT`: tell the conflicts, and what is awaited.
+    /// `report PROJECT`: report the conflicts, and what is awaited.
     Report {
         project: String,
     },
@@ -96,7 +96,7 @@ pub enum LineFault {
     Help(String),
     /// The words are no line of the program: the message and the usage, for standard error.
     Usage(String),
-    /// The line has its shape, and a value of it is refused; or memory was wanted.
+    /// The line has its shape, and a value of it is refused; or out of memory.
     Refused(Fault),
 }
 

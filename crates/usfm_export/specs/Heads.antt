@@ -15,7 +15,7 @@ lacks_head (Some before) key = not (before.chapter == key.chapter) && not (is_he
 abbrev pub with_head : Option KeyParts → KeyParts → List KeyParts
 with_head before key = if lacks_head before key then head_of key ∷ key ∷ [] else key ∷ []
 
--- each of some keys so
+-- keys, each after the head of its chapter where it lacks that
 abbrev pub with_heads : Option KeyParts → List KeyParts → List KeyParts
 with_heads before [] = []
 with_heads before (key ∷ keys) = with_head before key ++ with_heads (Some key) keys

@@ -4,7 +4,7 @@ ghost use Rattle.std.specs.Fmt.{decimal};
 
 use std::marker::Model;
 
-/// The most bytes of a short line. The longest tells of a fault: `fault 51 `, a number of 16 digits, a
+/// The most bytes of a short line. The longest reports a fault: `fault 51 `, a number of 16 digits, a
 /// space, a name of 32 bytes and a line feed.
 pub const MOST_LINE_BYTES: usize = 59;
 

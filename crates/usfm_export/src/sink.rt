@@ -9,10 +9,10 @@ use std::io::Write;
 
 /// What bytes are written to.
 ///
-/// Contracts know the bytes taken, where the sink tells them, and the count of its failures, which
+/// Contracts speak of the bytes taken, where they are known, and of the count of its failures, which
 /// stays at `u64::MAX`.
 pub trait ByteSink {
-    /// The bytes taken so far, where the sink tells them.
+    /// The bytes taken so far, where they are known.
     ghost taken: { Self → Option (List ℕ) };
 
     /// How often a write answered an error, of whatever kind, or took 0 bytes of a piece that was
@@ -32,7 +32,7 @@ pub trait ByteSink {
 
 /// A writer of std as a sink.
 ///
-/// A writer that tells more bytes than it was given has failed: the sink answers an error and counts
+/// A writer that reports more bytes than it was given has failed: the sink answers an error and counts
 /// it.
 #[derive(Drop)]
 pub struct StdSink<W> {

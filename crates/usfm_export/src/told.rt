@@ -1,4 +1,4 @@
-// What readers and writers of std tell.
+// What readers and writers of std answer.
 ghost use Rattle.std.specs.Prelude.{◌≡◌, ◌≤◌, IfOk};
 
 use std::io;

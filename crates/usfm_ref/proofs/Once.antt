@@ -1,4 +1,4 @@
--- Items sorted and told once, seen by what contracts see of them, are the rising ones.
+-- Items sorted and listed once, seen by what contracts see of them, are the rising ones.
 use Rattle.std.proofs.Common.{◌≡◌, Bool, true, false, cond, ◌||◌, List, [], ◌∷◌, map, refl, sym, ap, ◌∙◌}
 use Rattle.std.specs.declared.cmp.Ordering.{Ordering}
 use Rattle.std.specs.declared.cmp.Ordering.TheVariants.{Less, Equal}
@@ -57,7 +57,7 @@ module _ {X K : Type 0} (view : X → K) (cmp : K → K → Ordering) (o : IsTot
     any_dedup q [] = refl
     any_dedup q (x ∷ xs) = any_dedup_from q x xs
 
-    -- seen, items sorted and told once are the rising ones
+    -- seen, items sorted and listed once are the rising ones
     pub sorted_once : (items sorted once : List X) → IsPermutation items sorted → IsSorted seen_cmp sorted → IsFiltered (DiffersFromLast eq) [] sorted once → map view once ≡ rising cmp (map view items)
     sorted_once items sorted once p s f =
         ap (map view) (dedup_is eq sorted once f)

@@ -10,7 +10,7 @@ use Rattle.std.specs.Cmp.Lexicographic.{slice_cmp, pointwise}
 abbrev pub is_code_char : ℕ → Bool
 is_code_char c = (nat_le 65 c && nat_le c 90) || (nat_le 48 c && nat_le c 57)
 
--- three such bytes
+-- a book's code: three bytes, each one of A to Z or 0 to 9
 abbrev pub is_book_code : List ℕ → Bool
 is_book_code [] = false
 is_book_code (a ∷ []) = false
@@ -18,11 +18,11 @@ is_book_code (a ∷ b ∷ []) = false
 is_book_code (a ∷ b ∷ c ∷ []) = is_code_char a && is_code_char b && is_code_char c
 is_book_code (a ∷ b ∷ c ∷ d ∷ rest) = false
 
--- the same bytes
+-- whether two texts have the same bytes
 abbrev pub same_bytes : List ℕ → List ℕ → Bool
 same_bytes = pointwise ◌==◌
 
--- the codes of the canon, in its order
+-- the codes of the 66 books of the canon, Genesis to Revelation, in their order
 abbrev pub canon : List (List ℕ)
 canon =
     codes "GEN" ∷ codes "EXO" ∷ codes "LEV" ∷ codes "NUM" ∷ codes "DEU" ∷ codes "JOS" ∷ codes "JDG" ∷ codes "RUT" ∷ codes "1SA" ∷ codes "2SA"
@@ -45,6 +45,6 @@ code_cmp = slice_cmp nat_cmp
 abbrev pub has_canon : List (List ℕ × ℕ) → Bool
 has_canon known = list_all (λ e. rank_of e.0 == e.1) known && list_all (λ one. list_any (λ e. is_eq (code_cmp one e.0)) known) canon
 
--- the order of books: by the canon, and then by bytes
+-- the order of books: by their places in the canon, and then by the bytes of their codes
 abbrev pub book_cmp : List ℕ → List ℕ → Ordering
 book_cmp a b = ordering_then (nat_cmp (rank_of a) (rank_of b)) (code_cmp a b)

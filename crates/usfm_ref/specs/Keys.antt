@@ -7,7 +7,7 @@ use Rattle.std.specs.Ordering.{nat_cmp, ordering_then}
 use Rattle.usfm_ref.specs.declared.key.Place.{Place}
 use Rattle.usfm_ref.specs.declared.key.Place.TheVariants.{Head, Verse}
 
--- a chapter and a place in it
+-- a key: a chapter, and a place in it
 pub record KeyParts : Type 0 where
   pub chapter : ℕ
   pub place : Place
@@ -30,6 +30,7 @@ is_key chapter place = nat_le chapter 999 && is_place place
 abbrev pub chapter_head : ℕ → KeyParts
 chapter_head chapter = record { chapter = chapter; place = Head }
 
+-- the head of the book, which is the head of chapter 0
 abbrev pub book_head : KeyParts
 book_head = chapter_head 0
 
@@ -37,6 +38,7 @@ book_head = chapter_head 0
 abbrev pub head_of : KeyParts → KeyParts
 head_of key = chapter_head key.chapter
 
+-- whether a place is a head
 abbrev pub is_head : Place → Bool
 is_head Head = true
 is_head (Verse number letter) = false
@@ -45,7 +47,7 @@ is_head (Verse number letter) = false
 abbrev pub is_verse_of : ℕ → KeyParts → Bool
 is_verse_of chapter key = (key.chapter == chapter) && not (is_head key.place)
 
--- no letter comes before a
+-- an absent letter comes before all letters, and these go from a to z
 abbrev pub letter_cmp : Option ℕ → Option ℕ → Ordering
 letter_cmp None None = Equal
 letter_cmp None (Some b) = Less
@@ -63,17 +65,20 @@ place_cmp (Verse n l) (Verse m k) = ordering_then (nat_cmp n m) (letter_cmp l k)
 abbrev pub key_cmp : KeyParts → KeyParts → Ordering
 key_cmp a b = ordering_then (nat_cmp a.chapter b.chapter) (place_cmp a.place b.place)
 
+-- whether two letters are the same, or neither is there
 abbrev pub same_letter : Option ℕ → Option ℕ → Bool
 same_letter None None = true
 same_letter None (Some b) = false
 same_letter (Some a) None = false
 same_letter (Some a) (Some b) = a == b
 
+-- whether two places are both heads, or verses with the same number and the same letter
 abbrev pub same_place : Place → Place → Bool
 same_place Head Head = true
 same_place Head (Verse n l) = false
 same_place (Verse n l) Head = false
 same_place (Verse n l) (Verse m k) = (n == m) && same_letter l k
 
+-- whether two keys have the same chapter and the same place
 abbrev pub same_key : KeyParts → KeyParts → Bool
 same_key a b = (a.chapter == b.chapter) && same_place a.place b.place

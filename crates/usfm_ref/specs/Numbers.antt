@@ -52,7 +52,8 @@ pub record StartsWithBridge (bytes : List ℕ) (last : ℕ × Option ℕ) (rest 
   pub bytes_are : bytes ≡ 45 ∷ behind
   pub last_is : StartsWithNumber behind last.0 last.1 rest
 
--- What stands after a verse's number: the bridge to its last verse and a rest, or no bridge and all of it is the rest.
+-- What stands after a verse's number: the bridge to its last verse and a rest, or no bridge and all of it is the
+-- rest. A bridge is read wherever one stands.
 abbrev pub BridgesTo : List ℕ → Option (ℕ × Option ℕ) → List ℕ → Type 0
 BridgesTo bytes None rest = (rest ≡ bytes) × ((last : ℕ × Option ℕ) (after : List ℕ) → StartsWithBridge bytes last after → ⊥)
 BridgesTo bytes (Some last) rest = StartsWithBridge bytes last rest
@@ -92,7 +93,7 @@ is_last (Some verse) = is_verse verse
 
 -- ---- the same, as a reading from the left: what is read, if it stands at the front, and the bytes after it
 
--- after one blank or more
+-- what stands after one blank or more at the front
 unfoldable pub blanks_at : List ℕ → Option (List ℕ)
 blanks_at bytes = let n = prefix_len is_blank bytes in if nat_le 1 n then Some (drop n bytes) else None
 
@@ -124,7 +125,7 @@ unfoldable pub bridge_at : List ℕ → Option ((ℕ × Option ℕ) × List ℕ)
 bridge_at [] = None
 bridge_at (b ∷ rest) = if b == 45 then verse_at rest else None
 
--- the chapter in the text after its mark
+-- the number of a chapter in the text directly after its mark, if one stands there
 unfoldable pub chapter_in : List ℕ → Option ℕ
 chapter_in text = option_map (λ c. c.0) (option_and_then chapter_at (blanks_at text))
 
@@ -133,7 +134,7 @@ abbrev pub bridged : List ℕ → ℕ × Option ℕ → List ℕ → Option ((�
 bridged text verse behind None = record { number = verse.0; letter = verse.1; last = None; length = length text - length behind }
 bridged text verse behind (Some b) = record { number = verse.0; letter = verse.1; last = Some b.0; length = length text - length b.1 }
 
--- the verse in the text after its mark
+-- the verse in the text directly after its mark, if one stands there, with its bridge and how many bytes were read
 unfoldable pub verse_in : List ℕ → Option VerseMark
 verse_in text = option_map (λ v. bridged text v.0 v.1 (bridge_at v.1)) (option_and_then verse_at (blanks_at text))
 
@@ -143,13 +144,14 @@ verse_in text = option_map (λ v. bridged text v.0 v.1 (bridge_at v.1)) (option_
 abbrev pub OneChapter : Type 0
 OneChapter = (text : List ℕ) (a b : ℕ) → ReadsChapter text a → ReadsChapter text b → a ≡ b
 
--- a text has at most one verse's mark
+-- a text has at most one verse's mark, with one bridge or none and one length
 abbrev pub OneVerse : Type 0
 OneVerse = (text : List ℕ) (a b : VerseMark) → ReadsVerse text a → ReadsVerse text b → a ≡ b
 
--- the reading from the left gives what the grammar does
+-- the reading from the left gives a chapter's number exactly where the grammar has it
 abbrev pub ChaptersAreRead : Type 0
 ChaptersAreRead = (text : List ℕ) (number : ℕ) → (chapter_in text ≡ Some number) ↔ ReadsChapter text number
 
+-- the reading from the left gives a verse with its bridge and its length exactly where the grammar has it
 abbrev pub VersesAreRead : Type 0
 VersesAreRead = (text : List ℕ) (mark : VerseMark) → (verse_in text ≡ Some mark) ↔ ReadsVerse text mark

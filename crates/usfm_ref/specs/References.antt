@@ -20,13 +20,15 @@ abbrev pub place_text : Place → List ℕ
 place_text Head = []
 place_text (Verse number letter) = codes ":" ++ (decimal number ++ option_to_list letter)
 
+-- the text of a key: its chapter in decimal, and what is written of its place
 abbrev pub key_text : KeyParts → List ℕ
 key_text key = decimal key.chapter ++ place_text key.place
 
+-- the text of a reference: the book's code, a space, and the text of the key
 abbrev pub ref_text : List ℕ → KeyParts → List ℕ
 ref_text book key = book ++ (codes " " ++ key_text key)
 
--- The text is the reference to a right book and a right key.
+-- The text is the reference to a book by its code and to a key within its ranges.
 pub record IsRefTo (text : List ℕ) (book : List ℕ) (key : KeyParts) : Type 0 where
   pub is_book : IsTrue (is_book_code book)
   pub is_key : IsTrue (is_key key.chapter key.place)
@@ -74,16 +76,17 @@ abbrev pub ref_to : List ℕ → Option KeyParts → Result (List ℕ × KeyPart
 ref_to book None = Err BadRef
 ref_to book (Some key) = Ok (book, key)
 
--- the reference that all of the text is
+-- the reference that all of the text is; else that its first three bytes are no book's code, or else that what
+-- follows is not a space and a key
 unfoldable pub ref_in : List ℕ → Result (List ℕ × KeyParts) RefFault
 ref_in text = if is_book_code (take 3 text) then ref_to (take 3 text) (key_behind (drop 3 text)) else Err BadBook
 
 -- ---- the laws
 
--- what is written is read again
+-- a reference that was written is read again
 abbrev pub ReadsWhatIsWritten : Type 0
 ReadsWhatIsWritten = (book : List ℕ) (key : KeyParts) → IsTrue (is_book_code book) → IsTrue (is_key key.chapter key.place) → ref_in (ref_text book key) ≡ Ok (book, key)
 
--- what is read is written again, and its book and key are right
+-- a reference that was read is written with the same bytes, and its book and key are right
 abbrev pub WritesWhatIsRead : Type 0
 WritesWhatIsRead = (text : List ℕ) (book : List ℕ) (key : KeyParts) → ref_in text ≡ Ok (book, key) → IsRefTo text book key

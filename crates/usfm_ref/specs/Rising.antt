@@ -1,4 +1,4 @@
--- Lists in a rising order. The order is given, and how an item's key is read.
+-- Lists in a rising order (this project's own rule). The order is given, and how an item's key is read.
 use Rattle.std.specs.Prelude.{Bool, true, ◌&&◌, List, [], ◌∷◌}
 use Rattle.std.specs.List.{list_all}
 use Rattle.std.specs.declared.cmp.Ordering.{Ordering}

@@ -42,6 +42,7 @@ slice_of (words t) = t
 abbrev pub joined : List Lexeme → List ℕ
 joined ts = flat_map slice_of ts
 
+-- each byte is one that a name may have
 abbrev pub AreNameBytes : List ℕ → Type 0
 AreNameBytes name = EachIndex name (λ k. is_name_byte (slice_index name k) ≡ true)
 
@@ -53,6 +54,7 @@ IsMark m = AreNameBytes m.name
 abbrev pub IsLongest : MarkParts → List ℕ → Type 0
 IsLongest m rest = (other : MarkParts) (after : List ℕ) → IsMark other → mark_bytes m ++ rest ≡ mark_bytes other ++ after → length (mark_bytes other) ≤ length (mark_bytes m)
 
+-- whether a byte is a backslash (92)
 abbrev pub is_backslash : ℕ → Bool
 is_backslash b = b == 92
 
@@ -60,6 +62,7 @@ is_backslash b = b == 92
 abbrev pub IsText : List ℕ → Type 0
 IsText t = (0 < length t) × EachIndex t (λ k. slice_index t k ≢ 92)
 
+-- there is nothing, or a mark is the first
 abbrev pub BeginsWithNoText : List Lexeme → Type 0
 BeginsWithNoText [] = Unit {0}
 BeginsWithNoText (mark m ∷ ts) = Unit {0}
@@ -71,13 +74,15 @@ AreLexemes [] = Unit {0}
 AreLexemes (mark m ∷ ts) = IsMark m × IsLongest m (joined ts) × AreLexemes ts
 AreLexemes (words t ∷ ts) = IsText t × BeginsWithNoText ts × AreLexemes ts
 
--- ts is what s is cut into: its slices join to s
+-- ts is what s is cut into: its slices join to s, each mark is the longest at its place, and what stands between
+-- two marks is one text
 pub record AreTokensOf (ts : List Lexeme) (s : List ℕ) : Type 0 where
   pub join : joined ts ≡ s
   pub each : AreLexemes ts
 
 -- The same, as a reading from the left.
 
+-- what stands after a '+' (43) at the front, and all where none stands there
 abbrev pub behind_plus : List ℕ → List ℕ
 behind_plus bs = if slice_index bs 0 == 43 then drop 1 bs else bs
 
@@ -134,6 +139,6 @@ TokensJoin = (a b : List ℕ) → BeginsMark b → tokens_of (a ++ b) ≡ tokens
 abbrev pub TokensPart : Type 0
 TokensPart = (s : List ℕ) (ts us : List Lexeme) → tokens_of s ≡ ts ++ us → tokens_of (joined ts) ≡ ts
 
--- and so are the last
+-- the last tokens of a text are those of their own bytes
 abbrev pub TokensRest : Type 0
 TokensRest = (s : List ℕ) (ts us : List Lexeme) → tokens_of s ≡ ts ++ us → tokens_of (joined us) ≡ us

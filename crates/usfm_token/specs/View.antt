@@ -8,13 +8,16 @@ use Rattle.usfm_token.specs.declared.mark.Mark.{Mark}
 use Rattle.usfm_token.specs.declared.token.Token.{Token}
 use Rattle.usfm_token.specs.declared.token.Token.TheVariants as token
 
+-- the parts of a mark
 abbrev pub mark_parts : Mark → MarkParts
 mark_parts m = record { nested = m.nested; name = m.name.now; closing = m.closing }
 
+-- a token: a mark by its parts, or a text by its bytes
 abbrev pub lexeme : Token → Lexeme
 lexeme (token.Mark m) = mark (mark_parts m)
 lexeme (token.Text t) = words t.now
 
+-- tokens, each as the parts of a mark or the bytes of a text
 abbrev pub lexemes : List Token → List Lexeme
 lexemes ts = map lexeme ts
 

@@ -7,6 +7,7 @@ use Rattle.usfm_tree.specs.Forest.{nothing}
 use Rattle.usfm_tree.specs.Reading.{Styles, kids, kids_of_list, placed, tree_of}
 use Rattle.usfm_tree.specs.ReaderViews.{frame_of}
 use Rattle.usfm_tree.specs.declared.open.Open.{Open}
+use Rattle.usfm_tree.specs.declared.reader.Begun.{Begun}
 
 none_left : (styles : Styles) → (kids_of_list styles [] []).0 ≡ nothing
 unfolding kids
@@ -28,6 +29,6 @@ whole_left styles source =
     let zero_is : length source - length source ≡ 0 = omega arith in
     ap (λ k. (kids_of_list styles [] (placed k (tokens_of source))).0) zero_is
 
-pub no_frames : (os : List Open) → length os ≡ 0 → reverse (map frame_of os) ≡ []
+pub no_frames : (os : List (Open Begun)) → length os ≡ 0 → reverse (map frame_of os) ≡ []
 no_frames [] none = refl
 no_frames (o ∷ os) none = absurd (omega (arith, none))

@@ -153,7 +153,7 @@ resume-open styles sofar fs t l k c m h =
     let closed = take_close styles os inner.1 in
     resume-entry styles sofar fs (t ∷ l) closed.1 (spanning k t.start m inner.0 closed.0 nothing) h
 
-close_by_is : (os : List Open) (t : Placed) (l : List Placed) (r : Role) → close_by os t l r ≡ (closing_mark r (ended os r), cond (is_some (closing_mark r (ended os r))) l (t ∷ l))
+pub close_by_is : (os : List Open) (t : Placed) (l : List Placed) (r : Role) → close_by os t l r ≡ (closing_mark r (ended os r), cond (is_some (closing_mark r (ended os r))) l (t ∷ l))
 close_by_is os t l (plain b) = refl
 close_by_is os t l (alone m) = refl
 close_by_is os t l (spans m) = refl
@@ -181,42 +181,40 @@ is_some-option_map f (Some x) = refl
 
 -- A token that ends nothing.
 
-abbrev Settled : Styles → List Frame → Placed → Role → Type 0
-Settled styles fs t r = (role styles t.token ≡ r) × (ended (opens_of fs) r ≡ 0)
-
-enters : (styles : Styles) (fs : List Frame) (t : Placed) (l : List Placed) (r : Role) → role styles t.token ≡ r → ended (opens_of fs) r ≡ 0 → kids_of_list styles (opens_of fs) (t ∷ l) ≡ enter styles (kids_of_list styles) (opens_of fs) t l r
-enters styles fs t l r is none =
-    kids-enter styles (opens_of fs) t l (ap (λ q. nat_lt 0 (ended (opens_of fs) q)) is ∙ ap (nat_lt 0) none)
-    ∙ ap (enter styles (kids_of_list styles) (opens_of fs) t l) is
+pub enters : (styles : Styles) (os : List Open) (t : Placed) (l : List Placed) (r : Role) → role styles t.token ≡ r
+    → ended os r ≡ 0 → kids_of_list styles os (t ∷ l) ≡ enter styles (kids_of_list styles) os t l r
+enters styles os t l r is none =
+    kids-enter styles os t l (ap (λ q. nat_lt 0 (ended os q)) is ∙ ap (nat_lt 0) none)
+    ∙ ap (enter styles (kids_of_list styles) os t l) is
 
 pub resume-text : (styles : Styles) (sofar : Forest) (fs : List Frame) (t : Placed) (l : List Placed) (b : List ℕ) → role styles t.token ≡ plain b → resume styles sofar fs (t ∷ l) ≡ resume styles (sofar then text t.start b nothing) fs l
-resume-text styles sofar fs t l b is = resume-entry styles sofar fs (t ∷ l) l (text t.start b nothing) (enters styles fs t l (plain b) is refl)
+resume-text styles sofar fs t l b is = resume-entry styles sofar fs (t ∷ l) l (text t.start b nothing) (enters styles (opens_of fs) t l (plain b) is refl)
 
 pub resume-alone : (styles : Styles) (sofar : Forest) (fs : List Frame) (t : Placed) (l : List Placed) (m : MarkParts) → role styles t.token ≡ alone m → resume styles sofar fs (t ∷ l) ≡ resume styles (sofar then leaf t.start m nothing) fs l
-resume-alone styles sofar fs t l m is = resume-entry styles sofar fs (t ∷ l) l (leaf t.start m nothing) (enters styles fs t l (alone m) is refl)
+resume-alone styles sofar fs t l m is = resume-entry styles sofar fs (t ∷ l) l (leaf t.start m nothing) (enters styles (opens_of fs) t l (alone m) is refl)
 
 pub resume-stray : (styles : Styles) (sofar : Forest) (fs : List Frame) (t : Placed) (l : List Placed) (m : MarkParts) → role styles t.token ≡ closes m → ended (opens_of fs) (closes m) ≡ 0 → resume styles sofar fs (t ∷ l) ≡ resume styles (sofar then leaf t.start m nothing) fs l
-resume-stray styles sofar fs t l m is none = resume-entry styles sofar fs (t ∷ l) l (leaf t.start m nothing) (enters styles fs t l (closes m) is none)
+resume-stray styles sofar fs t l m is none = resume-entry styles sofar fs (t ∷ l) l (leaf t.start m nothing) (enters styles (opens_of fs) t l (closes m) is none)
 
 pub resume-deep : (styles : Styles) (sofar : Forest) (fs : List Frame) (t : Placed) (l : List Placed) (k : StyleKind) (c : Option (List ℕ)) (m : MarkParts) → role styles t.token ≡ opens k c m → ended (opens_of fs) (opens k c m) ≡ 0 → has_room (opens_of fs) ≡ false → resume styles sofar fs (t ∷ l) ≡ resume styles (sofar then leaf t.start m nothing) fs l
 resume-deep styles sofar fs t l k c m is none full =
     resume-entry styles sofar fs (t ∷ l) l (leaf t.start m nothing)
-    (enters styles fs t l (opens k c m) is none ∙ ap (λ b. cond b (opened styles (kids_of_list styles) (open_of k c m) (opens_of fs) t m (kids_of_list styles (open_of k c m ∷ opens_of fs) l)) (followed (leaf t.start m) (kids_of_list styles (opens_of fs) l))) full)
+    (enters styles (opens_of fs) t l (opens k c m) is none ∙ ap (λ b. cond b (opened styles (kids_of_list styles) (open_of k c m) (opens_of fs) t m (kids_of_list styles (open_of k c m ∷ opens_of fs) l)) (followed (leaf t.start m) (kids_of_list styles (opens_of fs) l))) full)
 
 pub resume-begin : (styles : Styles) (sofar : Forest) (fs : List Frame) (t : Placed) (l : List Placed) (k : StyleKind) (c : Option (List ℕ)) (m : MarkParts) → role styles t.token ≡ opens k c m → ended (opens_of fs) (opens k c m) ≡ 0 → has_room (opens_of fs) ≡ true → resume styles sofar fs (t ∷ l) ≡ resume styles nothing (record { open_node = open_of k c m; start = t.start; mark = m; before = sofar } ∷ fs) l
 resume-begin styles sofar fs t l k c m is none room =
     resume-open styles sofar fs t l k c m
-    (enters styles fs t l (opens k c m) is none ∙ ap (λ b. cond b (opened styles (kids_of_list styles) (open_of k c m) (opens_of fs) t m (kids_of_list styles (open_of k c m ∷ opens_of fs) l)) (followed (leaf t.start m) (kids_of_list styles (opens_of fs) l))) room)
+    (enters styles (opens_of fs) t l (opens k c m) is none ∙ ap (λ b. cond b (opened styles (kids_of_list styles) (open_of k c m) (opens_of fs) t m (kids_of_list styles (open_of k c m ∷ opens_of fs) l)) (followed (leaf t.start m) (kids_of_list styles (opens_of fs) l))) room)
 
 pub resume-deep_span : (styles : Styles) (sofar : Forest) (fs : List Frame) (t : Placed) (l : List Placed) (m : MarkParts) → role styles t.token ≡ spans m → has_room (opens_of fs) ≡ false → resume styles sofar fs (t ∷ l) ≡ resume styles (sofar then leaf t.start m nothing) fs l
 resume-deep_span styles sofar fs t l m is full =
     resume-entry styles sofar fs (t ∷ l) l (leaf t.start m nothing)
-    (enters styles fs t l (spans m) is refl ∙ ap (λ b. cond b (spanned (kids_of_list styles) (opens_of fs) t m (milestone_takes l)) (followed (leaf t.start m) (kids_of_list styles (opens_of fs) l))) full)
+    (enters styles (opens_of fs) t l (spans m) is refl ∙ ap (λ b. cond b (spanned (kids_of_list styles) (opens_of fs) t m (milestone_takes l)) (followed (leaf t.start m) (kids_of_list styles (opens_of fs) l))) full)
 
 pub resume-span : (styles : Styles) (sofar : Forest) (fs : List Frame) (t : Placed) (l : List Placed) (m : MarkParts) → role styles t.token ≡ spans m → has_room (opens_of fs) ≡ true → resume styles sofar fs (t ∷ l) ≡ resume styles (sofar then spanning kinds.Milestone t.start m (milestone_takes l).kids (milestone_takes l).close nothing) fs (milestone_takes l).rest
 resume-span styles sofar fs t l m is room =
     resume-entry styles sofar fs (t ∷ l) (milestone_takes l).rest (spanning kinds.Milestone t.start m (milestone_takes l).kids (milestone_takes l).close nothing)
-    (enters styles fs t l (spans m) is refl ∙ ap (λ b. cond b (spanned (kids_of_list styles) (opens_of fs) t m (milestone_takes l)) (followed (leaf t.start m) (kids_of_list styles (opens_of fs) l))) room)
+    (enters styles (opens_of fs) t l (spans m) is refl ∙ ap (λ b. cond b (spanned (kids_of_list styles) (opens_of fs) t m (milestone_takes l)) (followed (leaf t.start m) (kids_of_list styles (opens_of fs) l))) room)
 
 -- a tree, as the reading from nothing
 pub resume-start : (styles : Styles) (s : List ℕ) → resume styles nothing [] (placed 0 (tokens_of s)) ≡ tree_of styles s

@@ -6,6 +6,7 @@ use Rattle.std.specs.List.{flat_map}
 use Rattle.usfm_token.specs.Tokens.{MarkParts, mark_bytes}
 use Rattle.sty_sheet.specs.declared.kind.StyleKind.{StyleKind}
 use Rattle.usfm_tree.specs.declared.open.Open.{Open}
+use Rattle.usfm_tree.specs.declared.reader.Begun.{Begun}
 use Rattle.usfm_tree.specs.Forest.{Forest, nothing, text, leaf, node, ◌then◌, leaves_of, close_leaves, bytes_of, close_bytes, span_bytes}
 use Rattle.usfm_tree.specs.ReaderViews.{Span, span_of, Adjoins}
 
@@ -28,10 +29,10 @@ close_is (Some m) = append-nil (mark_bytes m)
 pub span_is : (k : StyleKind) (s : ℕ) (b : List ℕ) (m : MarkParts) (ks : Forest) (c : Option MarkParts) → bytes_of (node k s b m ks c nothing) ≡ span_bytes m ks c
 span_is k s b m ks c = ap (λ l. mark_bytes m ++ l) (flat_map-append (λ (t : List ℕ). t) (leaves_of ks) (close_leaves c ++ []) ∙ ap (λ l. bytes_of ks ++ l) (close_is c))
 
-pub spans_push : (os : List Open) (o : Open) → reverse (map span_of (os ++ o ∷ [])) ≡ span_of o ∷ reverse (map span_of os)
+pub spans_push : (os : List (Open Begun)) (o : Open Begun) → reverse (map span_of (os ++ o ∷ [])) ≡ span_of o ∷ reverse (map span_of os)
 spans_push os o = ap reverse (map-append span_of os (o ∷ [])) ∙ reverse-append (map span_of os) (span_of o ∷ [])
 
-pub adjoins_pop : (items new_items : List Open) (o : Open) (sofar : Forest) (rest : List ℕ) → items ≡ new_items ++ o ∷ [] → Adjoins (reverse (map span_of items)) sofar rest → Adjoins (span_of o ∷ reverse (map span_of new_items)) sofar rest
+pub adjoins_pop : (items new_items : List (Open Begun)) (o : Open Begun) (sofar : Forest) (rest : List ℕ) → items ≡ new_items ++ o ∷ [] → Adjoins (reverse (map span_of items)) sofar rest → Adjoins (span_of o ∷ reverse (map span_of new_items)) sofar rest
 adjoins_pop items new_items o sofar rest popped h =
     let F : List Span → Type 0 = λ ss. Adjoins ss sofar rest in
     subst F (ap (λ l. reverse (map span_of l)) popped ∙ spans_push new_items o) h

@@ -9,7 +9,7 @@ use Rattle.usfm_tree.specs.Reading.{Styles, tree_of}
 abbrev pub LeavesJoin : Type 0
 LeavesJoin = (styles : Styles) (s : List ℕ) → bytes_of (tree_of styles s) ≡ s
 
--- they are the tokens of the text
+-- the leaves of a tree are the tokens of its text
 abbrev pub LeavesAreTokens : Type 0
 LeavesAreTokens = (styles : Styles) (s : List ℕ) → leaves_of (tree_of styles s) ≡ map slice_of (tokens_of s)
 

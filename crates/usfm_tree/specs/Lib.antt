@@ -1,5 +1,6 @@
 pub mod Ahead
 pub mod Around
+pub mod Events
 pub mod Forest
 pub mod Laws
 pub mod LeavesViews
@@ -9,6 +10,8 @@ pub mod Reading
 pub mod RoleViews
 pub mod SheetViews
 pub mod Stack
+pub mod StepViews
 pub mod TakenViews
 pub mod TreeViews
 pub mod Views
+pub mod WalkViews

@@ -8,13 +8,15 @@ use Rattle.usfm_tree.specs.Stack.{Frame}
 use Rattle.usfm_tree.specs.Reading as reading
 use Rattle.usfm_tree.specs.Views.{forest_of}
 use Rattle.usfm_tree.specs.declared.open.Open.{Open}
+use Rattle.usfm_tree.specs.declared.reader.Begun.{Begun}
 use Rattle.usfm_tree.specs.declared.reader.Reader.{Reader}
 
-abbrev pub open_view : Open → reading.Open
-open_view o = record { kind = o.kind; nested = o.mark.nested; closer = option_map (λ n. n.now) o.closer }
+-- an open node: its kind, whether its mark has '+', and the name that closes it
+abbrev pub open_view : {K : Type 0} → Open K → reading.Open
+open_view o = record { kind = o.kind; nested = o.nested; closer = option_map (λ n. n.now) o.closer }
 
 -- the innermost first
-abbrev pub opens_in : List Open → List reading.Open
+abbrev pub opens_in : {K : Type 0} → List (Open K) → List reading.Open
 opens_in os = reverse (map open_view os)
 
 -- an open node, by its bytes: the text from its mark on, and what stands before it in its parent
@@ -23,8 +25,9 @@ pub record Span : Type 0 where
   pub mark : MarkParts
   pub before : Forest
 
-abbrev pub span_of : Open → Span
-span_of o = record { from = o.from.now; mark = mark_parts o.mark; before = forest_of o.before.items }
+-- an open node of the reader, by its bytes
+abbrev pub span_of : Open Begun → Span
+span_of o = record { from = o.kept.from.now; mark = mark_parts o.kept.mark; before = forest_of o.kept.before.items }
 
 -- the mark of each open node, what was read after it, and the rest are the text from that mark on
 abbrev pub Adjoins : List Span → Forest → List ℕ → Type 0
@@ -35,12 +38,13 @@ Adjoins (s ∷ ss) sofar rest = (s.from ≡ mark_bytes s.mark ++ (bytes_of sofar
 abbrev pub EndsIn : List ℕ → List ℕ → Type 0
 EndsIn from rest = (x : List ℕ) × (from ≡ x ++ rest)
 
-abbrev pub frame_of : Open → Frame
+-- an open node of the reader, with where it begins and what stands before it in its parent
+abbrev pub frame_of : Open Begun → Frame
 frame_of o = record {
   open_node = open_view o;
-  start = o.start;
-  mark = mark_parts o.mark;
-  before = forest_of o.before.items;
+  start = o.kept.start;
+  mark = mark_parts o.kept.mark;
+  before = forest_of o.kept.before.items;
 }
 
 -- the open nodes, the innermost first
@@ -51,5 +55,6 @@ frames_of r = reverse (map frame_of r.open_nodes.items)
 abbrev pub sofar_of : Reader → Forest
 sofar_of r = forest_of r.kids.items
 
+-- the open nodes by their bytes, the innermost first
 abbrev pub spans_of : Reader → List Span
 spans_of r = reverse (map span_of r.open_nodes.items)

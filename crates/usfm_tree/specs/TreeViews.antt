@@ -4,8 +4,10 @@ use Rattle.usfm_tree.specs.Forest.{Forest}
 use Rattle.usfm_tree.specs.Views.{forest_of}
 use Rattle.usfm_tree.specs.declared.tree.Tree.{Tree}
 
+-- what stands under the root of a tree
 abbrev pub forest_in : Tree → Forest
 forest_in tree = forest_of tree.kids.items
 
+-- the text that a tree was read from
 abbrev pub source_of : Tree → List ℕ
 source_of tree = tree.source.now

@@ -24,6 +24,7 @@ pub record Parts : Type 0 where
   pub kids : Forest
   pub close : Option MarkParts
 
+-- the parts of a node, where its kids were seen as forests before
 abbrev pub parts_step : Branch-F Forest Parts → Parts
 parts_step b = record {
   start = b.start;
@@ -33,9 +34,11 @@ parts_step b = record {
   close = option_map mark_parts b.close;
 }
 
+-- a node of a kind with these parts, and nothing after it
 abbrev pub alone : StyleKind → Parts → Forest
 alone kind b = node kind b.start b.slice b.mark b.kids b.close nothing
 
+-- a node as a forest of one, where its kids were seen as forests before
 abbrev pub node_step : Node-F Forest Parts → Forest
 node_step (Text t) = text t.start t.slice.now nothing
 node_step (Para b) = alone kinds.Paragraph b
@@ -52,6 +55,7 @@ view = fold-Node Forest Parts node_step parts_step
 abbrev pub forest_of : List Node → Forest
 forest_of ns = side_by_side (map view ns)
 
+-- the parts of a branch
 abbrev pub branch_parts : Branch → Parts
 branch_parts = fold-Branch Forest Parts node_step parts_step
 

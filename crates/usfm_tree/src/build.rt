@@ -41,7 +41,8 @@ pub(crate) fn text_kids<'a>(
     start: usize,
     slice: Option<&'a str>,
 ) -> Result<Vec<Node<'a>>, AllocError>
-    ensures { IfOk result (λ kids. forest_of kids.items ≡ optional_text start (option_map (λ n. n.now) slice.entry)) }
+    ensures { IfOk result (λ kids. forest_of kids.items
+        ≡ optional_text start (option_map (λ n. n.now) slice.entry)) }
 {
     let mut kids = Vec::new(alloc);
     if let Some(slice) = slice {
@@ -57,7 +58,8 @@ pub(crate) fn milestone_node<'a>(
     kids: Vec<Node<'a>>,
     close: Option<Mark<'a>>,
 ) -> Node<'a>
-    ensures { view result ≡ node StyleKind.Milestone start slice.entry.now (mark_parts mark.entry) (forest_of kids.entry.items) (option_map mark_parts close.entry) nothing }
+    ensures { view result ≡ node StyleKind.Milestone start slice.entry.now (mark_parts mark.entry)
+        (forest_of kids.entry.items) (option_map mark_parts close.entry) nothing }
 {
     Node::Milestone(Branch {
         start,

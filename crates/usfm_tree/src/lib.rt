@@ -4,7 +4,7 @@
 //! mark ends the innermost node that it closes, and a milestone takes its attributes and `\*`.
 //! Whatever text comes, it has a tree: a mark that begins no node and a closing mark that closes none
 //! are leaves. So the leaves of each tree, marks, texts and closing marks in order, join to the text.
-//! A tree is read whole, or some nodes under the root at a time.
+//! A tree is read whole, or some nodes under the root at a time, or walked over without making nodes.
 //!
 //! The USFM 3.0 documentation has paragraph markers without and character and note markers with
 //! closing markers, `+` for nested ones, and milestones. What an opening or a closing mark ends where
@@ -21,14 +21,19 @@ mod part;
 mod read;
 mod reader;
 mod role;
+mod step;
 mod stream;
 mod taken;
 mod tree;
+mod unwind;
+mod walk;
 
 pub use leaves::Leaves;
 pub use node::{Branch, Leaf, Node, Words};
+pub use step::{Entry, Step};
 pub use stream::TreeReader;
 pub use tree::Tree;
+pub use walk::TreeWalk;
 
 #[cfg(test)]
 mod tests;

@@ -9,7 +9,6 @@ ghost use Rattle.usfm_tree.specs.Reading as reading;
 ghost use Rattle.usfm_tree.specs.RoleViews.{role_view};
 ghost use Rattle.usfm_tree.specs.ReaderViews.{opens_in, open_view};
 
-use crate::node::Node;
 use crate::role::Role;
 use sty_sheet::StyleKind;
 use usfm_token::Mark;
@@ -17,26 +16,22 @@ use usfm_token::Mark;
 // How deep a node may stand: the kids of the root stand at depth 1.
 pub(crate) const DEEPEST: usize = 64;
 
-// A node that is open: the text from its mark on, and what stands before it in its parent.
+// A node that is open: what ends it, and what its reader keeps of it.
 #[derive(Drop)]
-pub(crate) struct Open<'a, 's> {
+pub(crate) struct Open<'s, K> {
     pub(crate) kind: StyleKind,
     pub(crate) closer: Option<&'s str>,
-    pub(crate) start: usize,
-    pub(crate) mark: Mark<'a>,
-    pub(crate) from: &'a str,
-    pub(crate) before: Vec<Node<'a>>,
+    pub(crate) nested: bool,
+    pub(crate) kept: K,
 }
 
 // Whether a closing mark is of this node.
-fn is_closed_by(node: &Open<'_, '_>, mark: Mark<'_>) -> bool
+fn is_closed_by<K>(node: &Open<'_, K>, mark: Mark<'_>) -> bool
     ensures { result ≡ reading.is_closed_by (mark_parts mark.entry) (open_view node.now) }
 {
     match node.closer {
         None => false,
-        Some(closer) => !closer.is_empty()
-            && closer == mark.name()
-            && mark.nested() == node.mark.nested(),
+        Some(closer) => !closer.is_empty() && closer == mark.name() && mark.nested() == node.nested,
     }
 }
 
@@ -54,7 +49,7 @@ fn is_note(kind: StyleKind) -> bool
 
 // How many open nodes a closing mark ends, the innermost being the last.
 #[tactic(auto, using(crate::proofs::ReaderLemmas::opens_in_last))]
-fn closed_by(nodes: &[Open<'_, '_>], mark: Mark<'_>) -> usize
+fn closed_by<K>(nodes: &[Open<'_, K>], mark: Mark<'_>) -> usize
     ensures value { result ≡ reading.closed_by (mark_parts mark.entry) (opens_in nodes.now) }
     ensures within { result ≤ length nodes.now }
 {
@@ -73,7 +68,7 @@ fn closed_by(nodes: &[Open<'_, '_>], mark: Mark<'_>) -> usize
 
 // How many open nodes a note mark ends.
 #[tactic(auto, using(crate::proofs::ReaderLemmas::opens_in_last))]
-fn to_note(nodes: &[Open<'_, '_>]) -> usize
+fn to_note<K>(nodes: &[Open<'_, K>]) -> usize
     ensures value { result ≡ reading.to_note (opens_in nodes.now) }
     ensures within { result ≤ length nodes.now }
 {
@@ -89,7 +84,7 @@ fn to_note(nodes: &[Open<'_, '_>]) -> usize
 
 // How many open nodes, the innermost on, are of characters.
 #[tactic(auto, using(crate::proofs::ReaderLemmas::opens_in_last))]
-fn leading_characters(nodes: &[Open<'_, '_>]) -> usize
+fn leading_characters<K>(nodes: &[Open<'_, K>]) -> usize
     ensures value { result ≡ prefix_len reading.is_character (opens_in nodes.now) }
     ensures within { result ≤ length nodes.now }
 {
@@ -104,7 +99,7 @@ fn leading_characters(nodes: &[Open<'_, '_>]) -> usize
 
 // How many open nodes a token ends.
 #[tactic(auto, using(crate::proofs::ReaderLemmas::length_opens_in))]
-pub(crate) fn ended(nodes: &[Open<'_, '_>], role: Role<'_, '_>) -> usize
+pub(crate) fn ended<K>(nodes: &[Open<'_, K>], role: Role<'_, '_>) -> usize
     ensures value { result ≡ reading.ended (opens_in nodes.now) (role_view role.entry) }
     ensures within { result ≤ length nodes.now }
 {

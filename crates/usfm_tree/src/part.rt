@@ -37,7 +37,8 @@ impl<'a> Tree<'a> {
     ///
     /// `AllocError` where there is no memory for the tree.
     pub fn read(alloc: Global, source: &'a str, sheet: &Sheet<'_>) -> Result<Tree<'a>, AllocError>
-        ensures tree { IfOk result (λ tree. forest_in tree ≡ tree_of (styles_of sheet.now) source.now) }
+        ensures tree { IfOk result (λ tree. forest_in tree
+            ≡ tree_of (styles_of sheet.now) source.now) }
         ensures source { IfOk result (λ tree. source_of tree ≡ source.now) }
         ensures leaves { IfOk result (λ tree. bytes_of (forest_in tree) ≡ source.now) }
         ensures runs { IfOk result (λ tree. Runs 0 (forest_in tree)) }
@@ -58,7 +59,8 @@ impl<'a> Tree<'a> {
     /// so on, counted from 0. `None` where it leads nowhere, and for the empty path. The node's slice
     /// is that of the text from the node's start on. It takes no memory.
     pub fn part(&self, path: &[usize]) -> Option<&Node<'a>>
-        ensures value { option_map (λ n. view n.now) result ≡ part_at path.now (forest_in self.now) }
+        ensures value { option_map (λ n. view n.now) result
+            ≡ part_at path.now (forest_in self.now) }
         ensures stands { IfSome result (λ n. StandsIn (source_of self.now) (view n.now)) }
     {
         part_in(self.kids.as_slice(), path)

@@ -66,7 +66,8 @@ pub(crate) fn read_nodes<'a, 's>(
     source: &'a str,
     sheet: &'s Sheet<'s>,
 ) -> Result<Vec<Node<'a>>, AllocError>
-    ensures { IfOk result (λ kids. forest_of kids.items ≡ tree_of (styles_of sheet.now) source.now) }
+    ensures { IfOk result (λ kids. forest_of kids.items
+        ≡ tree_of (styles_of sheet.now) source.now) }
 {
     let (kids, _end) = read_some(alloc, source, source, sheet, true)?;
     Ok(kids)

@@ -24,7 +24,7 @@ abbrev pub ends_code : List ℕ → Bool
 ends_code [] = true
 ends_code (b ∷ rest) = is_blank b || b == 92
 
--- The text begins with `\id` and the book's code, which ends.
+-- The text begins with `\id` and the book's code, after which a blank, a backslash or the end stands.
 pub record IsHeaded (book text : List ℕ) : Type 0 where
   pub rest : List ℕ
   pub begins : BeginsWithId text (book ++ rest)
@@ -44,14 +44,16 @@ LeadsWith k (m ∷ ms) = (m.at ≡ 0) × (m.key ≡ k) × All (λ later. key_bel
 abbrev pub FitsKey : KeyParts → List ℕ → Type 0
 FitsKey k text = (text ≡ []) ⊎ LeadsWith k (keyed_marks k.chapter text)
 
+-- a text fits the head of the book, if the key is that one, or else fits the key
 abbrev pub FitsBy : List ℕ → KeyParts → List ℕ → Bool → Type 0
 FitsBy book k text true = FitsHead book text
 FitsBy book k text false = FitsKey k text
 
--- a text fits a book and a key
+-- a text fits a book and a key: as the head of that book where the key is the book head, and else as a text of the
+-- key
 abbrev pub Fits : List ℕ → KeyParts → List ℕ → Type 0
 Fits book k text = FitsBy book k text (same_key k book_head)
 
--- Each piece of a text that begins with a book's code fits the book and its key.
+-- Each piece of a text that begins with `\id` and a book's code fits the book and the piece's key.
 abbrev pub PiecesFit : Type 0
 PiecesFit = (book text : List ℕ) → IsTrue (is_book_code book) → IsHeaded book text → All (λ p. Fits book p.key p.text) (pieces_of text)

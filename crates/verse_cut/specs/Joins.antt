@@ -14,10 +14,11 @@ pub record KeyText : Type 0 where
   pub key : KeyParts
   pub text : List ℕ
 
+-- the texts, one after the other
 abbrev pub texts_joined : List KeyText → List ℕ
 texts_joined ts = flat_map (λ t. t.text) ts
 
--- those with a text that is not empty
+-- of keys with texts, those whose text is not empty
 abbrev pub filled : List KeyText → List KeyText
 filled ts = filter (λ t. not (is_empty t.text)) ts
 
@@ -70,11 +71,13 @@ pub record IsJoinOf (book text : List ℕ) : Type 0 where
   pub rise : TextsRise (at_book_head head ∷ later)
   pub heads : HeadsAreThere later
 
--- Each text that begins with a book's code is the join of its pieces, which are such texts as cut back from their join.
+-- Each text that begins with `\id` and a book's code is the join of its pieces, which are such texts as cut back
+-- from their join.
 abbrev pub BooksAreJoins : Type 0
 BooksAreJoins = (book text : List ℕ) → IsTrue (is_book_code book) → IsHeaded book text → IsJoinOf book text
 
--- A join begins with the code that its head begins with.
+-- A head and texts that fit, by rising key, join to a text that begins with `\id` and the book's code where the
+-- head does.
 abbrev pub JoinsKeepTheirBook : Type 0
 JoinsKeepTheirBook = (book head : List ℕ) (ts : List KeyText) → IsHeaded book head → TextsFit book ts → TextsRise (at_book_head head ∷ ts) → IsHeaded book (head ++ texts_joined ts)
 
@@ -82,6 +85,6 @@ JoinsKeepTheirBook = (book head : List ℕ) (ts : List KeyText) → IsHeaded boo
 abbrev pub chapter_line : ℕ → List ℕ
 chapter_line chapter = codes "\\c " ++ decimal chapter ++ 10 ∷ []
 
--- That line fits the head of the chapter.
+-- The line of the head of a chapter from 1 to 999 fits that head.
 abbrev pub ChapterLinesFit : Type 0
 ChapterLinesFit = (book : List ℕ) (chapter : ℕ) → 1 ≤ chapter → chapter ≤ 999 → Fits book (chapter_head chapter) (chapter_line chapter)

@@ -9,7 +9,7 @@ use Rattle.usfm_ref.specs.declared.key.Place.TheVariants.{Verse}
 use Rattle.usfm_ref.specs.declared.number.VerseMark.{VerseMark}
 use Rattle.usfm_token.specs.Tokens.{MarkParts, Lexeme, mark, words}
 
--- j comes before k
+-- the key j comes before the key k
 abbrev pub key_below : KeyParts → KeyParts → Bool
 key_below j k = is_lt (key_cmp j k)
 
@@ -17,8 +17,8 @@ key_below j k = is_lt (key_cmp j k)
 abbrev pub verse_key : ℕ → VerseMark → KeyParts
 verse_key chapter v = record { chapter = chapter; place = Verse v.number v.letter }
 
--- The key of a mark with the text directly after it, where a verse stands in the chapter: a chapter's mark has that of its
--- head, a verse's mark that of the verse, and every other mark none.
+-- The key of a mark with the text directly after it, where a verse stands in the chapter: of `\c` with a number the
+-- head of that chapter, of `\v` with a number that verse; no other mark, no nested and no closing one has a key.
 abbrev pub mark_key : ℕ → MarkParts → List ℕ → Option KeyParts
 mark_key chapter m after =
     if m.nested || m.closing then None

@@ -1,5 +1,5 @@
--- The marks of a text, their keys, and those that open a piece. Each is told by all marks before it (this project's own
--- rule).
+-- The marks of a text, their keys, and those that open a piece. Each is judged by all marks before it (this project's
+-- own rule).
 use Rattle.std.specs.Prelude.{ℕ, ◌+◌, max, Bool, true, ◌||◌, ◌&&◌, List, [], ◌∷◌, ◌++◌, length, codes, Option, None, Some, if◌then◌else◌}
 use Rattle.std.specs.Str.{bytes_eq}
 use Rattle.usfm_ref.specs.Keys.{KeyParts, book_head}
@@ -13,7 +13,7 @@ pub record Site : Type 0 where
   pub parts : MarkParts
   pub after : List ℕ
 
--- where a mark with a key starts
+-- a mark that has a key: the key, and where the mark starts
 pub record Keyed : Type 0 where
   pub key : KeyParts
   pub at : ℕ
@@ -24,24 +24,27 @@ sites_from at [] = []
 sites_from at (mark m ∷ ts) = record { at = at; parts = m; after = text_after ts } ∷ sites_from (at + length (mark_bytes m)) ts
 sites_from at (words t ∷ ts) = sites_from (at + length t) ts
 
--- the number of a chapter's mark, if it is one
+-- the number of a mark `\c`, if the mark is one and has a number
 abbrev pub chapter_number : Site → Option ℕ
 chapter_number s =
     if s.parts.nested || s.parts.closing then None else (if bytes_eq s.parts.name (codes "c") then chapter_in s.after else None)
 
+-- the greater of two numbers, the first of which may be absent
 abbrev pub greater_of : Option ℕ → ℕ → ℕ
 greater_of None n = n
 greater_of (Some m) n = max n m
 
--- the greatest of a chapter and the numbers of the chapter marks among marks
+-- the chapter in force after some marks: the greatest of the start chapter and the numbers of all `\c` marks among
+-- them
 abbrev pub chapter_in_force : ℕ → List Site → ℕ
 chapter_in_force chapter [] = chapter
 chapter_in_force chapter (s ∷ ss) = greater_of (chapter_number s) (chapter_in_force chapter ss)
 
--- the key of a mark that stands after others
+-- the key of a mark that stands after others, if it has one
 abbrev pub key_behind : ℕ → List Site → Site → Option KeyParts
 key_behind chapter before s = mark_key (chapter_in_force chapter before) s.parts s.after
 
+-- marks with one more at their front, which starts at a place, if that one has a key
 abbrev pub with_key : Option KeyParts → ℕ → List Keyed → List Keyed
 with_key None at ms = ms
 with_key (Some k) at ms = record { key = k; at = at } ∷ ms
@@ -64,6 +67,7 @@ is_above_all k (m ∷ before) = key_below m.key k && is_above_all k before
 abbrev pub opens : List Keyed → Keyed → Bool
 opens before m = key_below book_head m.key && is_above_all m.key before
 
+-- of marks that stand after others, those that open a piece
 abbrev pub opening_behind : List Keyed → List Keyed → List Keyed
 opening_behind before [] = []
 opening_behind before (m ∷ ms) =

@@ -16,7 +16,8 @@ abbrev pub pieces_between : List ℕ → KeyParts → ℕ → List Keyed → Lis
 pieces_between s k at [] = record { key = k; start = at; text = drop at s } ∷ []
 pieces_between s k at (m ∷ ms) = record { key = k; start = at; text = take (m.at - at) (drop at s) } ∷ pieces_between s m.key m.at ms
 
--- the pieces of a text; the first begins at 0, perhaps empty, and has the key of the book head
+-- the pieces of a text, between the marks that open one; the first begins at 0, perhaps empty, and has the key of
+-- the book head
 unfoldable pub pieces_of : List ℕ → List Part
 pieces_of s = pieces_between s book_head 0 (opening (keyed_marks 0 s))
 
@@ -50,6 +51,7 @@ OneCut = (ps : List Part) (s : List ℕ) → IsCutOf ps s ↔ (ps ≡ pieces_of 
 abbrev pub KeysRise : List Part → Type 0
 KeysRise ps = IsTrue (rises_by key_cmp (λ p. p.key) ps)
 
+-- the keys of a text's pieces rise
 abbrev pub PiecesRise : Type 0
 PiecesRise = (s : List ℕ) → KeysRise (pieces_of s)
 
@@ -57,5 +59,6 @@ PiecesRise = (s : List ℕ) → KeysRise (pieces_of s)
 abbrev pub LieIn : List ℕ → List Part → Type 0
 LieIn s ps = All (λ p. slice_range s p.start (p.start + length p.text) ≡ p.text) ps
 
+-- each piece of a text is the text's bytes from the piece's start on
 abbrev pub PiecesLie : Type 0
 PiecesLie = (s : List ℕ) → LieIn s (pieces_of s)

@@ -22,9 +22,11 @@ key_of chapter (mark m) ts = mark_key chapter m (text_after ts)
 abbrev pub Later : Type 0
 Later = List ℕ × List Part
 
+-- bytes that go to the open piece, before what later tokens give to it
 abbrev pub goes_on : List ℕ → Later → Later
 goes_on bytes later = (bytes ++ later.0, later.1)
 
+-- bytes that open a piece of a key at a place; what later tokens give to the open piece goes to it
 abbrev pub opens_at : KeyParts → ℕ → List ℕ → Later → Later
 opens_at k at bytes later = ([], record { key = k; start = at; text = bytes ++ later.0 } ∷ later.1)
 
@@ -44,27 +46,30 @@ cut_from greatest at (t ∷ ts) =
 abbrev pub pieces_with : KeyParts → ℕ → List ℕ → Later → List Part
 pieces_with k start sofar later = record { key = k; start = start; text = sofar ++ later.0 } ∷ later.1
 
+-- the pieces of a text, as they are read from the left
 unfoldable pub cut_of : List ℕ → List Part
 cut_of s = pieces_with book_head 0 [] (cut_from book_head 0 (tokens_of s))
 
+-- the reading from the left gives the pieces of a text
 abbrev pub CutIsRead : Type 0
 CutIsRead = (s : List ℕ) → cut_of s ≡ pieces_of s
 
 -- ---- headings
 
--- after a U+FEFF, if one stands at the front
+-- what stands after a U+FEFF, if one stands at the front, and else all
 abbrev pub behind_bom : List ℕ → List ℕ
 behind_bom text = if same_bytes (take 3 text) byte_order_mark then drop 3 text else text
 
+-- whether the first byte is a blank
 abbrev pub begins_blank : List ℕ → Bool
 begins_blank [] = false
 begins_blank (b ∷ rest) = is_blank b
 
--- after `\id` and one blank, if they stand at the front
+-- what stands after `\id` and one blank, if they stand at the front
 abbrev pub id_at : List ℕ → Option (List ℕ)
 id_at bytes = if same_bytes (take 3 bytes) (codes "\\id") && begins_blank (drop 3 bytes) then Some (drop 4 bytes) else None
 
--- and after at most one U+FEFF
+-- what stands after at most one U+FEFF, `\id` and one blank, if they stand at the front
 unfoldable pub behind_id : List ℕ → Option (List ℕ)
 behind_id text = id_at (behind_bom text)
 
@@ -72,10 +77,12 @@ behind_id text = id_at (behind_bom text)
 abbrev pub code_leads : List ℕ → List ℕ → Bool
 code_leads code bytes = same_bytes (take (length code) bytes) code && ends_code (drop (length code) bytes)
 
+-- whether there are bytes, and a code stands at their front and ends
 abbrev pub code_behind : List ℕ → Option (List ℕ) → Bool
 code_behind code None = false
 code_behind code (Some bytes) = code_leads code bytes
 
+-- whether a text begins with `\id` and the book's code, which ends
 abbrev pub is_headed : List ℕ → List ℕ → Bool
 is_headed book text = code_behind book (behind_id text)
 
@@ -83,15 +90,18 @@ is_headed book text = code_behind book (behind_id text)
 abbrev pub leading_book : List ℕ → Option (List ℕ)
 leading_book bytes = if is_book_code (take 3 bytes) && ends_code (drop 3 bytes) then Some (take 3 bytes) else None
 
+-- a book's code, or the refusal that there is none
 abbrev pub book_or_bad : Option (List ℕ) → Result (List ℕ) BookFault
 book_or_bad None = Err BadBook
 book_or_bad (Some book) = Ok book
 
+-- the book whose code stands at the front of what follows an `\id`, or that there is no `\id`, or no such code
 abbrev pub book_at : Option (List ℕ) → Result (List ℕ) BookFault
 book_at None = Err NoId
 book_at (Some bytes) = book_or_bad (leading_book bytes)
 
--- the book that a text begins with, or why it begins with none
+-- the book that a text begins with; else that it does not begin with `\id` and a blank, or else that no book's code
+-- follows
 unfoldable pub book_in : List ℕ → Result (List ℕ) BookFault
 book_in text = book_at (behind_id text)
 
@@ -107,6 +117,7 @@ abbrev pub is_quiet : KeyParts → List Lexeme → Bool
 is_quiet k [] = true
 is_quiet k (t ∷ ts) = not_above k (key_of k.chapter t ts) && is_quiet k ts
 
+-- whether there is a key, and it is k
 abbrev pub is_key : KeyParts → Option KeyParts → Bool
 is_key k None = false
 is_key k (Some q) = same_key q k
@@ -116,6 +127,7 @@ abbrev pub leads : KeyParts → List Lexeme → Bool
 leads k [] = false
 leads k (t ∷ ts) = is_key k (key_of k.chapter t ts) && is_quiet k ts
 
+-- whether a text is empty
 abbrev pub is_empty : List ℕ → Bool
 is_empty [] = true
 is_empty (b ∷ rest) = false
@@ -126,5 +138,6 @@ text_fits book k text =
     if same_key k book_head then is_headed book text && is_quiet book_head (tokens_of text)
     else is_empty text || leads k (tokens_of text)
 
+-- the test that reads from the left holds exactly of the texts that fit a book and a key
 abbrev pub FitsIsRead : Type 0
 FitsIsRead = (book : List ℕ) (k : KeyParts) (text : List ℕ) → IsTrue (text_fits book k text) ↔ Fits book k text

@@ -18,7 +18,8 @@ IsFirst None ts = ts ≡ []
 IsFirst (Some t) [] = ⊥
 IsFirst (Some t) (x ∷ ts) = lexeme t ≡ x
 
--- A token stands at the front of here, before after, and has the key, where a verse stands in the chapter.
+-- A token stands at the front of `here`, with `behind` after it, and has the key, where a verse stands in the
+-- chapter.
 pub record TakesToken (chapter : ℕ) (here behind : List ℕ) (key : Option KeyParts) : Type 0 where
   pub token : Lexeme
   pub front : tokens_of here ≡ token ∷ tokens_of behind
@@ -37,8 +38,8 @@ pub record GoesToEnd (key : KeyParts) (text : List ℕ) : Type 0 where
   pub is_quiet : is_quiet key (tokens_of text) ≡ true
   pub cuts : (at : ℕ) → cut_from key at (tokens_of text) ≡ (text, [])
 
--- The first mark in the text with a key above this one stands at here, before after. What stands before it goes to the
--- open piece, and it opens the next.
+-- The first mark in the text with a key above this one stands at the front of `here`, with `behind` after it. What
+-- stands before `here` goes to the open piece, and the mark opens the next.
 pub record OpensAt (key : KeyParts) (text here behind : List ℕ) (found : KeyParts) : Type 0 where
   pub not_quiet : is_quiet key (tokens_of text) ≡ false
   pub join : read_of text here ++ here ≡ text

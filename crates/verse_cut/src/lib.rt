@@ -1,4 +1,4 @@
-//! Cuts a USFM book into pieces, each at its key, and tells which texts fit a key.
+//! Cuts a USFM book into pieces, each at its key, and says which texts fit a key.
 //!
 //! A mark `\c` or `\v` with a number has a key. It opens a piece where its key is greater than the
 //! head of the book and than the keys of all marks before it, so keys rise from piece to piece,

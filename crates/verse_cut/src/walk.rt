@@ -19,8 +19,8 @@ pub(crate) struct Opening<'a> {
     pub(crate) behind: &'a str,
 }
 
-// The tokens of a text. Each is found once: the next one is kept, since a mark's key is told by the
-// text after it.
+// The tokens of a text. Each is found once: the next one is kept, since a mark's key depends on
+// the text after it.
 #[derive(Drop)]
 pub(crate) struct Walk<'a> {
     here: &'a str,
@@ -45,7 +45,7 @@ impl<'a> Walk<'a> {
         }
     }
 
-    // Takes the next token, and tells its key, if it is a mark that has one, for a verse in the
+    // Takes the next token, and gives its key, if it is a mark that has one, for a verse in the
     // chapter.
     fn step(&mut self, chapter: u16) -> Option<Option<Key>>
         requires { chapter ≤ 999 }

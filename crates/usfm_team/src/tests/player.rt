@@ -1,4 +1,4 @@
-// Projects that are told what a table says, row by row, as the program tells it to one.
+// Projects that do what a table says, row by row, by the call that the program makes.
 use super::trees::SHEET;
 use op_core::OpId;
 use std::alloc::Global;
@@ -7,14 +7,14 @@ use std::test::Fail;
 use usfm_cli::{Command, create, exec, fault_line};
 use usfm_ref::{Book, read_ref};
 
-// Whose project a row is told to.
+// Whose project a row is for.
 #[derive(Clone, Copy, Debug)]
 pub(crate) enum Who {
     Ana,
     Ben,
 }
 
-// What a project is told, with references, ids and codes as words.
+// What a project does, with references, ids and codes as words.
 #[derive(Clone, Copy, Debug)]
 pub(crate) enum Step<'a> {
     Import(&'a [u8]),
@@ -81,7 +81,7 @@ impl Player {
         }
     }
 
-    // What a command that only tells writes, or the line of its fault: the file stays as it is.
+    // What a command that only reports writes, or the line of its fault: the file stays as it is.
     fn asked(&mut self, rt: &impl Abort, command: &Command<'_>) -> Result<Vec<u8>, Fail> {
         let before = self.file.clone()?;
         let answer = self.told(command)?;

@@ -1,17 +1,13 @@
 use Rattle.std.proofs.Common.{arith}
-use Rattle.bundle_codec.proofs.FieldSteps.{body_tag, body_length, body_text, body_is}
+use Rattle.bundle_codec.proofs.FieldSteps.{body_tag, body_text, body_is}
 use Rattle.bundle_codec.proofs.operation.body_in.Goals as goal
 
 pub u8_in-tag-requires : goal.u8_in-tag-requires
 u8_in-tag-requires c = body_tag c.args.bytes.now (λ i. omega (arith, c.type_inv.bytes i)) c.requires
 
-pub u64_in-len-requires : goal.u64_in-len-requires
-u64_in-len-requires c = body_length c.args.bytes.now (λ i. omega (arith, c.type_inv.bytes i)) c.requires _ _ c.u8_in-tag.ensures
-
-pub block_in-requires : goal.block_in-requires
-block_in-requires c =
-    body_text c.args.bytes.now (λ i. omega (arith, c.type_inv.bytes i)) c.requires _ _ c.u8_in-tag.ensures _ _ c.u64_in-len.ensures
+pub counted_text_in-requires : goal.counted_text_in-requires
+counted_text_in-requires c = body_text c.args.bytes.now (λ i. omega (arith, c.type_inv.bytes i)) c.requires _ _ c.u8_in-tag.ensures
 
 pub returns : goal.returns
 returns c = body_is c.args.bytes.now
-    (λ i. omega (arith, c.type_inv.bytes i)) c.requires _ _ c.u8_in-tag.ensures _ _ c.u64_in-len.ensures _ _ c.block_in.ensures
+    (λ i. omega (arith, c.type_inv.bytes i)) c.requires _ _ c.u8_in-tag.ensures _ _ c.counted_text_in.ensures

@@ -28,14 +28,16 @@ pub part-text-requires-clause-start : goal.part-text-requires-clause-start
 part-text-requires-clause-start c =
     boundary_before c.args.passage.text.now c.args.finder.now c.in-Some.at
     (subst IsUtf8 c.as_bytes.ensures.value c.as_bytes.ensures.utf8) c.requires.utf8 c.requires.some
-    (head_occurs c.args.passage.text.now c.args.finder.now c.loop-at.at-iterator c.next.new.self c.in-Some.at c.in-Some.ensures.steps c.loop-at.invariant.2.occur)
+    (head_occurs c.args.passage.text.now c.args.finder.now c.loop-at.at-iterator c.next.new.self c.in-Some.at
+    c.in-Some.ensures.steps c.loop-at.invariant.2.occur)
 
 pub part-text-requires-clause-end : goal.part-text-requires-clause-end
 part-text-requires-clause-end c =
     subst (λ (n : List ℕ). IsCharBoundary c.args.passage.text.now (c.in-Some.at + length n)) (sym c.needle-len.ensures)
     (boundary_behind c.args.passage.text.now c.args.finder.now c.in-Some.at
     (subst IsUtf8 c.as_bytes.ensures.value c.as_bytes.ensures.utf8) c.requires.utf8 c.requires.some
-    (head_occurs c.args.passage.text.now c.args.finder.now c.loop-at.at-iterator c.next.new.self c.in-Some.at c.in-Some.ensures.steps c.loop-at.invariant.2.occur))
+    (head_occurs c.args.passage.text.now c.args.finder.now c.loop-at.at-iterator c.next.new.self c.in-Some.at
+    c.in-Some.ensures.steps c.loop-at.invariant.2.occur))
 
 pub loop-at-preserved : goal.loop-at-preserved
 loop-at-preserved c = (
@@ -43,13 +45,16 @@ loop-at-preserved c = (
   tt,
   record {
     found =
-        one_more c.args.passage.start c.in-Some.at c.args.passage.text.now c.args.finder.now c.loop-at.found.items c.push.new.self.items _ c.loop-at.at-iterator c.next.new.self _ c.in_ok-push.ensures.items c.in-Some.ensures.steps
-        (head_occurs c.args.passage.text.now c.args.finder.now c.loop-at.at-iterator c.next.new.self c.in-Some.at c.in-Some.ensures.steps c.loop-at.invariant.2.occur)
+        one_more c.args.passage.start c.in-Some.at c.args.passage.text.now c.args.finder.now c.loop-at.found.items
+        c.push.new.self.items _ c.loop-at.at-iterator c.next.new.self _ c.in_ok-push.ensures.items c.in-Some.ensures.steps
+        (head_occurs c.args.passage.text.now c.args.finder.now c.loop-at.at-iterator c.next.new.self c.in-Some.at
+        c.in-Some.ensures.steps c.loop-at.invariant.2.occur)
         refl
         (c.part-text.ensures ∙ ap
         (λ (n : List ℕ). slice_range c.args.passage.text.now c.in-Some.at (c.in-Some.at + length n)) c.needle-len.ensures)
         c.loop-at.invariant.2.found;
     occur =
-        tail_occurs c.args.passage.text.now c.args.finder.now c.loop-at.at-iterator c.next.new.self c.in-Some.at c.in-Some.ensures.steps c.loop-at.invariant.2.occur;
+        tail_occurs c.args.passage.text.now c.args.finder.now c.loop-at.at-iterator c.next.new.self c.in-Some.at
+        c.in-Some.ensures.steps c.loop-at.invariant.2.occur;
   },
 )

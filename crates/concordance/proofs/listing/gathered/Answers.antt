@@ -15,10 +15,14 @@ loop-index-preserved c =
       | in-Some+in_ok-word_of+in_ok-push w ↦
           ap (λ ws. ws.items) w.words-is ∙ w.in_ok-push.ensures.items
           ∙ (λ i. c.loop-index.invariant i
-          ++ (let word : WordParts = record { form = w.in_ok-word_of.ensures.form i; keys = (w.in_ok-word_of.ensures.keys ∙ ap (rising key_cmp) w.deref.ensures.value) i } in word) ∷ [])
+          ++ (let word : WordParts = record {
+            form = w.in_ok-word_of.ensures.form i;
+            keys = (w.in_ok-word_of.ensures.keys ∙ ap (rising key_cmp) w.deref.ensures.value) i;
+          } in word) ∷ [])
           ∙ sym (ap (λ n. map word_told (take n groups)) (add-one c.loop-index.index)
           ∙ map_at word_told groups c.loop-index.index (w.in-Some.form.now, w.in-Some.keys.now) (sym w.in-Some.ensures.entry))
-      | in_default w ↦ absurd (false≢true (w.in_default.ensures.found.1 (subst (λ n. c.loop-index.index < n) c.len-index-end.ensures.len c.loop-index-test.true)))
+      | in_default w ↦ absurd (false≢true (w.in_default.ensures.found.1
+          (subst (λ n. c.loop-index.index < n) c.len-index-end.ensures.len c.loop-index-test.true)))
     ]
 
 pub returns : goal.returns

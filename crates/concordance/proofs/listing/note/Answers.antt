@@ -1,36 +1,37 @@
 use Rattle.std.proofs.Common.{◌≡◌, ◌∙◌, ◌++◌, ◌∷◌, [], ap, sym, subst, refl, false, Option, None, Some, is_some, List}
 use Rattle.std.proofs.lemmas.Bool.{false≢true}
 use Rattle.indexmap.proofs.CallerLemmas.{insert_entry-new}
-use Rattle.concordance.specs.Groups.{Group, told, has_bare, AlsoTells}
-use Rattle.concordance.proofs.GroupSteps.{spelled_with, put_told, new_told, put_keyed, new_keyed, text_eq}
+use Rattle.concordance.specs.Groups.{Group, told, told_with, has_bare, AlsoTells}
+use Rattle.concordance.proofs.GroupSteps.{put_told, new_told, put_keyed, new_keyed, text_eq}
 use Rattle.concordance.proofs.listing.note.Goals as goal
 
 none_of : {X : Type 0} (o : Option X) → false ≡ is_some o → o ≡ None
 none_of None h = refl
 none_of (Some x) h = absurd (false≢true h)
 
-pub returns-in_ok-push-in-Some-clause-told : goal.returns-in_ok-push-in-Some-clause-told
-returns-in_ok-push-in-Some-clause-told c =
-    put_told c.args.groups.now.entries c.in-Some.at c.args.form c.index_mut.result.now c.push.new.self c.args.key c.in-Some.ensures.index c.index_mut.ensures.value c.in_ok-push-in-Some.ensures.items
+pub returns-in_ok-extend_from_slice-in-Some-clause-told : goal.returns-in_ok-extend_from_slice-in-Some-clause-told
+returns-in_ok-extend_from_slice-in-Some-clause-told c =
+    put_told c.args.groups.now.entries c.in-Some.at c.args.form c.index_mut.result.now c.extend_from_slice.new.self c.args.keys.now
+    c.in-Some.ensures.index c.index_mut.ensures.value c.in_ok-extend_from_slice-in-Some.ensures.items
 
-pub returns-in_ok-push-in-Some-clause-keyed : goal.returns-in_ok-push-in-Some-clause-keyed
-returns-in_ok-push-in-Some-clause-keyed c =
-    put_keyed c.args.groups.now.entries c.in-Some.at c.push.new.self c.index_mut.result.now.items c.args.key c.in_ok-push-in-Some.ensures.items c.requires.keyed
+pub returns-in_ok-extend_from_slice-in-Some-clause-keyed : goal.returns-in_ok-extend_from_slice-in-Some-clause-keyed
+returns-in_ok-extend_from_slice-in-Some-clause-keyed c =
+    put_keyed c.args.groups.now.entries c.in-Some.at c.extend_from_slice.new.self c.index_mut.result.now.items c.args.keys.now
+    c.in_ok-extend_from_slice-in-Some.ensures.items c.requires.some c.requires.keyed
 
 pub returns-in_ok-insert-in-None-clause-told : goal.returns-in_ok-insert-in-None-clause-told
 returns-in_ok-insert-in-None-clause-told c =
-    let is : c.insert.new.self.entries ≡ c.args.groups.now.entries ++ (c.args.form, c.push-in-None.new.self) ∷ [] =
+    let is : c.insert.new.self.entries ≡ c.args.groups.now.entries ++ (c.args.form, c.in_ok-keys-in-None.keys) ∷ [] =
     c.in_ok-insert-in-None.ensures.entries
-    ∙ insert_entry-new text_eq c.args.groups.now c.args.form c.push-in-None.new.self (none_of _ c.in-None.ensures.found) in
-    subst (λ (gs : List Group). AlsoTells (told c.args.groups.now.entries) (spelled_with c.args.form.now c.args.key) (told gs)) (sym is)
-    (new_told c.args.groups.now.entries c.args.form c.push-in-None.new.self c.args.key
-    (c.in_ok-push-in-None.ensures.items ∙ ap (λ ks. ks ++ c.args.key ∷ []) c.new-keys.ensures.items))
+    ∙ insert_entry-new text_eq c.args.groups.now c.args.form c.in_ok-keys-in-None.keys (none_of _ c.in-None.ensures.found) in
+    subst (λ (gs : List Group). AlsoTells (told c.args.groups.now.entries) (told_with c.args.form.now c.args.keys.now) (told gs)) (sym is)
+    (new_told c.args.groups.now.entries c.args.form c.in_ok-keys-in-None.keys c.args.keys.now c.in_ok-keys-in-None.ensures.items)
 
 pub returns-in_ok-insert-in-None-clause-keyed : goal.returns-in_ok-insert-in-None-clause-keyed
 returns-in_ok-insert-in-None-clause-keyed c =
-    let is : c.insert.new.self.entries ≡ c.args.groups.now.entries ++ (c.args.form, c.push-in-None.new.self) ∷ [] =
+    let is : c.insert.new.self.entries ≡ c.args.groups.now.entries ++ (c.args.form, c.in_ok-keys-in-None.keys) ∷ [] =
     c.in_ok-insert-in-None.ensures.entries
-    ∙ insert_entry-new text_eq c.args.groups.now c.args.form c.push-in-None.new.self (none_of _ c.in-None.ensures.found) in
+    ∙ insert_entry-new text_eq c.args.groups.now c.args.form c.in_ok-keys-in-None.keys (none_of _ c.in-None.ensures.found) in
     ap has_bare is
-    ∙ new_keyed c.args.groups.now.entries c.args.form c.push-in-None.new.self c.args.key
-    (c.in_ok-push-in-None.ensures.items ∙ ap (λ ks. ks ++ c.args.key ∷ []) c.new-keys.ensures.items) c.requires.keyed
+    ∙ new_keyed c.args.groups.now.entries c.args.form c.in_ok-keys-in-None.keys c.args.keys.now c.in_ok-keys-in-None.ensures.items c.requires.some
+    c.requires.keyed

@@ -20,7 +20,8 @@ eq_is a b = (let e : equal.ghosts.eq a b ≡ same_key a b = search rules in e) �
 pub returns-clause-keys : goal.returns-clause-keys
 returns-clause-keys c =
     sym (map-id c.dedup.new.self.items)
-    ∙ sorted_once (λ (k : KeyParts). k) key_cmp key_total key_exact equal.ghosts.eq eq_is c.in_ok-keys.keys.items c.sort_unstable.new.self.items c.dedup.new.self.items
+    ∙ sorted_once (λ (k : KeyParts). k) key_cmp key_total key_exact equal.ghosts.eq eq_is c.in_ok-keys.keys.items
+    c.sort_unstable.new.self.items c.dedup.new.self.items
     c.sort_unstable.ensures.permutation
     (subst (λ (t : KeyParts → KeyParts → Ordering). IsSorted t c.sort_unstable.new.self.items)
     (λ i a b. cmp_is a b i) c.sort_unstable.ensures.sorted) c.dedup.ensures.filtered

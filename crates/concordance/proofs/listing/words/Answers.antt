@@ -4,16 +4,16 @@ use Rattle.std.specs.Prelude.{IfOk}
 use Rattle.sty_sheet.specs.Views.{records_of}
 use Rattle.verse_cut.specs.Pieces.{pieces_of}
 use Rattle.verse_cut.specs.Views.{parts_of}
-use Rattle.concordance.specs.Groups.{told}
+use Rattle.concordance.specs.Groups.{told, composed}
+use Rattle.concordance.specs.KeyedViews.{hits_left, spelled}
 use Rattle.concordance.specs.Plain.{plain_leaves}
 use Rattle.concordance.specs.Reading.{EndsWithin, IsText, hold_all}
-use Rattle.concordance.specs.SpellingViews.{spelled, spellings_view}
 use Rattle.concordance.specs.Views.{passages_view}
 use Rattle.concordance.specs.Words.{WordParts, runs_in, spelling_at, words_in, words_of}
 use Rattle.concordance.proofs.Holding.{all_fit, pieces_hold}
 use Rattle.concordance.proofs.RunPlaces.{all_runs_apart, all_runs_filled, runs_spelled}
 use Rattle.concordance.proofs.Standing.{leaves_apart}
-use Rattle.concordance.proofs.WordLists.{words_same}
+use Rattle.concordance.proofs.WordLists.{composed_same, words_same}
 use Rattle.concordance.proofs.listing.words.Goals.{After-deref-3}
 use Rattle.concordance.proofs.listing.words.Goals as goal
 
@@ -43,12 +43,15 @@ unfolding words_of
 returns c =
     let at = (goal.at.returns c).After-deref-3 in
     let sheet = records_of c.args.sheet.now in
-    let spelled_all : spellings_view c.deref-4.result.now ≡ map (spelling_at (pieces_of c.args.text.now)) (flat_map runs_in (plain_leaves sheet c.args.text.now)) =
-    ap spellings_view c.deref-4.ensures.value ∙ c.in_ok-spellings.ensures ∙ ap (map spelled) c.new.ensures
+    let text = c.args.text.now in
+    let hits = map spelled (hits_left c.new.result) in
+    let spelled_all : map composed hits ≡ map (spelling_at (pieces_of text)) (flat_map runs_in (plain_leaves sheet text)) =
+    ap (λ h. map composed (map spelled h)) c.new.ensures
     ∙ runs_spelled (parts_of c.deref-3.result.now) (passages_view c.deref-2.result.now)
     ∙ (λ i. map (spelling_at ((ap parts_of c.deref-3.ensures.value ∙ c.in_ok-pieces.ensures.value) i)) (found at i)) in
-    let all : words_in (told c.in_ok-sorted.sorted.entries) ≡ words_of sheet c.args.text.now =
-    sym (words_same (spellings_view c.deref-4.result.now) (told c.in_ok-sorted.sorted.entries)
-    (λ s. c.in_ok-groups.ensures.told s ∙ c.in_ok-sorted.ensures.told s))
+    let all : words_in (told c.in_ok-sorted.sorted.entries) ≡ words_of sheet text =
+    sym (words_same (map composed hits) (told c.in_ok-sorted.sorted.entries)
+    (λ s. composed_same hits (told c.in_ok-noted.noted.entries) c.in_ok-noted.ensures.told s
+    ∙ c.in_ok-groups.ensures.told s ∙ c.in_ok-sorted.ensures.told s))
     ∙ ap words_in spelled_all in
     subst (λ (ws : List WordParts). IfOk c.gathered.result (λ words. words.items ≡ ws)) all c.gathered.ensures

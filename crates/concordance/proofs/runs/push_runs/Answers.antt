@@ -19,7 +19,8 @@ returns-then-is_empty-clause-runs c =
 
 pub split_at-requires : goal.split_at-requires
 split_at-requires c =
-    boundary_at_rest c.behind_front-at.result.now _ c.behind_front-rest.result.now c.behind_front-rest.ensures.front c.behind_front-rest.utf8
+    boundary_at_rest c.behind_front-at.result.now _ c.behind_front-rest.result.now
+    c.behind_front-rest.ensures.front c.behind_front-rest.utf8
 
 -- a character stands where a text is not empty
 some : (bs : List ℕ) → false ≡ (length bs == 0) → IsUtf8 bs → 0 < length (chars bs)
@@ -46,13 +47,17 @@ loop-at-preserved c =
     ∙ length-append (front_bytes true (chars c.behind_front-at.result.now)) c.behind_front-rest.result.now in
     let next =
     next_run c.args.passage.start
-    (length c.args.passage.text.now) c.loop-at.rest.now c.behind_front-at.result.now c.behind_front-rest.result.now c.loop-at.invariant.1.within
+    (length c.args.passage.text.now) c.loop-at.rest.now c.behind_front-at.result.now c.behind_front-rest.result.now
+    c.loop-at.invariant.1.within
     c.behind_front-at.ensures.front c.behind_front-at.ensures.rest c.behind_front-rest.ensures.front c.behind_front-rest.ensures.rest h in
     let later =
     runs_behind false (c.args.passage.start + (length c.args.passage.text.now - length c.behind_front-rest.result.now))
     (chars c.behind_front-rest.result.now) in
     let run : Passage =
-    record { start = c.args.passage.start + (length c.args.passage.text.now - length c.behind_front-at.result.now); text = take (length c.behind_front-at.result.now - length c.behind_front-rest.result.now) c.behind_front-at.result.now } in
+    record {
+      start = c.args.passage.start + (length c.args.passage.text.now - length c.behind_front-at.result.now);
+      text = take (length c.behind_front-at.result.now - length c.behind_front-rest.result.now) c.behind_front-at.result.now;
+    } in
     let told : passages_view c.push.new.self.items ≡ passages_view c.loop-at.runs.items ++ run ∷ [] =
     ap passages_view c.in_ok-push.ensures.items ∙ map-append passage_view c.loop-at.runs.items _
     ∙ ap (λ (t : List ℕ). passages_view c.loop-at.runs.items ++ (let one : Passage = record { start = run.start; text = t } in one)

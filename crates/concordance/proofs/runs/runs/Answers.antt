@@ -34,7 +34,8 @@ module _ (ps : List Passage) (i : ℕ) (d : Passage) (l : i < length ps) where
 pub loop-passage-preserved : goal.loop-passage-preserved
 loop-passage-preserved c = record {
   text =
-      text_more c.args.passages.now c.loop-passage.passage-index _ c.loop-passage-test.true c.loop-passage.invariant.text c.in_ok-push_runs.ensures.utf8;
+      text_more c.args.passages.now c.loop-passage.passage-index _ c.loop-passage-test.true
+      c.loop-passage.invariant.text c.in_ok-push_runs.ensures.utf8;
   found =
       runs_more c.args.passages.now c.loop-passage.passage-index _ c.loop-passage-test.true (passages_view c.loop-passage.found.items)
       (passages_view c.push_runs.new.runs.items) c.loop-passage.invariant.found c.in_ok-push_runs.ensures.runs;

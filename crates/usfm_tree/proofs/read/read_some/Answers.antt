@@ -41,7 +41,7 @@ here c = left_front (length c.args.source.now) (rest_of c.loop-token.tokens) (re
 -- what the reading was before the ends, it is after them
 unwound : (c : In_ok-unwind) → resume (styles_of c.args.sheet.now) (sofar_of c.unwind.new.self) (frames_of c.unwind.new.self) (cond c.in_ok-unwind.field-0 (left_of (length c.args.source.now) (rest_of c.next.new.self)) (record { start = length c.args.source.now - length (rest_of c.loop-token.tokens); token = lexeme c.in-Some.token } ∷ left_of (length c.args.source.now) (rest_of c.next.new.self))) ≡ forest_left (styles_of c.args.sheet.now) c.args.source.now c.args.from.now
 unwound c =
-    sym (c.in_ok-unwind.ensures.resumes (styles_of c.args.sheet.now) (record { start = length c.args.source.now - length (rest_of c.loop-token.tokens); token = lexeme c.in-Some.token }) (left_of (length c.args.source.now) (rest_of c.next.new.self)) (sym c.role_of-role.ensures))
+    sym (c.in_ok-unwind.ensures.resumes (styles_of c.args.sheet.now) (record { start = length c.args.source.now - length (rest_of c.loop-token.tokens); token = lexeme c.in-Some.token }) (left_of (length c.args.source.now) (rest_of c.next.new.self)) (sym c.role_of-role.ensures.role))
     ∙ ap (resume (styles_of c.args.sheet.now) (sofar_of c.loop-token.reader) (frames_of c.loop-token.reader)) (sym (here c).0)
     ∙ c.loop-token.invariant.resumes
 
@@ -72,7 +72,7 @@ loop-token-preserved c =
       within = omega (arith, ap length c.new-tokens-in-loop-token.ensures, c.in_ok-after.ensures.within, ap length c.rest-in-loop-token.ensures, (here d).1);
       resumes =
           ap (λ l. resume S (sofar_of c.take.new.self) (frames_of c.take.new.self) (left_of n l)) c.new-tokens-in-loop-token.ensures
-          ∙ sym (c.in_ok-after.ensures.enters S t (sym c.role_of-role.ensures) (ap (λ l. n - length l) (sym c.rest-at.ensures)))
+          ∙ sym (c.in_ok-after.ensures.enters S t (sym c.role_of-role.ensures.role) (ap (λ l. n - length l) (sym c.rest-at.ensures)))
           ∙ ap (λ l. resume S (sofar_of c.unwind.new.self) (frames_of c.unwind.new.self) (t ∷ left_of n l)) c.rest-in-loop-token.ensures
           ∙ ap (λ b. resume S (sofar_of c.unwind.new.self) (frames_of c.unwind.new.self) (cond b (left_of n behind) (t ∷ left_of n behind))) (sym c.if-branch.false)
           ∙ unwound d;
@@ -82,7 +82,7 @@ loop-token-preserved c =
 token_is : (c : After-role_of-role) → rest_of c.loop-token.tokens ≡ reading.role_bytes (role_view c.role_of-role.result) ++ rest_of c.next.new.self
 token_is c =
     front_bytes (rest_of c.loop-token.tokens) (rest_of c.next.new.self) (lexeme c.in-Some.token) c.in-Some.ensures.steps
-    ∙ ap (λ b. b ++ rest_of c.next.new.self) (sym (role_slice (styles_of c.args.sheet.now) (lexeme c.in-Some.token)) ∙ ap reading.role_bytes (sym c.role_of-role.ensures))
+    ∙ ap (λ b. b ++ rest_of c.next.new.self) (sym (role_slice (styles_of c.args.sheet.now) (lexeme c.in-Some.token)) ∙ ap reading.role_bytes (sym c.role_of-role.ensures.role))
 
 pub unwind-requires-clause-token : goal.unwind-requires-clause-token
 unwind-requires-clause-token c =

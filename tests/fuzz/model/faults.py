@@ -1,0 +1,23 @@
+"""Refusals."""
+
+
+class Fault(Exception):
+    """Why something was refused: a number, and its details."""
+
+    def __init__(self, number: int, *details: object) -> None:
+        super().__init__(number, *details)
+        self.number = number
+        self.details = details
+
+    def line(self) -> bytes:
+        """The line that the program writes on standard error."""
+        return " ".join(["fault", str(self.number), *map(str, self.details)]).encode() + b"\n"
+
+
+def text_of(data: bytes) -> bytes:
+    """The same bytes where they are UTF-8; else the refusal with the number of valid bytes before."""
+    try:
+        data.decode("utf-8")
+    except UnicodeDecodeError as error:
+        raise Fault(10, error.start) from None
+    return data

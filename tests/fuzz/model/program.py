@@ -1,0 +1,148 @@
+"""The program: the words of a line, the files of a folder, and what comes of them."""
+from dataclasses import dataclass
+from typing import Callable, Optional, Sequence, Union
+
+from .bundles import write_project
+from .faults import Fault
+from .references import read_book, read_id, read_name, read_ref
+from .replicas import Replica, fold, load, save
+
+LONGEST = 268_435_456
+
+
+@dataclass(frozen=True)
+class Zeros:
+    """The content of a file that has so many zero bytes, and is too long to be kept here."""
+
+    length: int
+
+
+Content = Union[bytes, Zeros]
+
+# The files of a folder by their names.
+Folder = dict[str, Content]
+
+
+@dataclass(frozen=True)
+class Answer:
+    """What a run gives. The text on standard error is none where no rule says it, as with usage."""
+
+    status: int
+    output: bytes
+    error: Optional[bytes]
+
+
+USAGE = Answer(2, b"", None)
+
+# How the words of each subcommand are read. A file's name and a needle are taken as they are.
+FILE = NEEDLE = str
+SHAPES: dict[str, tuple[Callable, ...]] = {
+    "init": (FILE, read_name),
+    "import": (FILE, FILE),
+    "edit": (FILE, read_ref),
+    "edit-over": (FILE, read_ref),
+    "shown": (FILE, read_ref),
+    "receive": (FILE, FILE),
+    "send": (FILE,),
+    "summary": (FILE,),
+    "delta": (FILE, FILE),
+    "export": (FILE, read_book),
+    "report": (FILE,),
+    "check": (FILE, read_book, FILE),
+    "find": (FILE, read_book, FILE, NEEDLE),
+    "words": (FILE, read_book, FILE),
+    "fold": (read_book,),
+}
+
+
+def run(folder: Folder, words: Sequence[str], given: Content) -> Answer:
+    """What the program answers to these words in a folder, which it may change, with this standard input."""
+    values = [it for it in words if it != "--"]
+    if not has_shape(values):
+        return USAGE
+    try:
+        return Answer(0, act(folder, values[0], values[1:], given), b"")
+    except Fault as fault:
+        return Answer(1, b"", fault.line())
+
+
+def has_shape(words: Sequence[str]) -> bool:
+    """Whether these are a subcommand and as many words as it takes."""
+    if not words or words[0] not in SHAPES:
+        return False
+    count = len(words) - 1
+    least = len(SHAPES[words[0]])
+    return count >= least if words[0] == "edit-over" else count == least
+
+
+def act(folder: Folder, command: str, words: Sequence[str], given: Content) -> bytes:
+    """Does a command whose line has its shape, and answers what it writes."""
+    shape = SHAPES[command]
+    values = [read(word) for read, word in zip(shape, words)]
+    ids = [read_id(word) for word in words[len(shape) :]]
+    if command == "fold":
+        return fold(read_content(given), values[0])
+    if command == "init":
+        return begin(folder, *values)
+    project = values[0]
+    before = read_file(folder, project)
+    if command in ("import", "receive", "delta"):
+        values[1] = read_file(folder, values[1])
+    elif command in ("check", "find", "words"):
+        values[2] = read_file(folder, values[2])
+    elif command in ("edit", "edit-over"):
+        given = read_content(given)
+    replica = load(before)
+    output = execute(replica, command, values[1:], given, ids)
+    folder[project] = save(replica)
+    return output
+
+
+def execute(replica: Replica, command: str, values: Sequence, given: bytes, ids: Sequence) -> bytes:
+    """Does a command on a replica, with the values of its words and the bytes of its files."""
+    if command == "edit":
+        book, key = values[0]
+        return replica.edit(book, key, given)
+    if command == "edit-over":
+        book, key = values[0]
+        return replica.edit_over(book, key, given, ids)
+    if command == "shown":
+        book, key = values[0]
+        return replica.shown(book, key)
+    calls = {
+        "import": replica.import_book,
+        "receive": replica.receive,
+        "send": replica.send,
+        "summary": replica.summary,
+        "delta": replica.delta,
+        "export": replica.export,
+        "report": replica.report,
+        "check": replica.check,
+        "find": replica.find,
+        "words": replica.words,
+    }
+    return calls[command](*values)
+
+
+def begin(folder: Folder, project: str, name: str) -> bytes:
+    """Begins a project where nothing stands under its name."""
+    if project in folder:
+        raise Fault(130)
+    folder[project] = write_project(name, {})
+    return b""
+
+
+def read_file(folder: Folder, name: str) -> bytes:
+    """The bytes of a file."""
+    if name not in folder:
+        raise Fault(120)
+    return read_content(folder[name])
+
+
+def read_content(content: Content) -> bytes:
+    """The bytes of a file or of standard input, where these are not too many."""
+    if isinstance(content, Zeros):
+        if content.length > LONGEST:
+            raise Fault(121)
+        return bytes(content.length)
+    return content

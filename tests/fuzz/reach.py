@@ -1,0 +1,55 @@
+"""Counts what plays meet, so that a part of the rules that no play reaches is seen."""
+from collections import Counter
+
+from making.plays import Play, Wanted
+from model.checks import CODES
+
+FAULTS = [10, 20, 21, 30, 40, 41, 42, 50, 51, 52, *range(60, 69), 70, 71]
+FAULTS += [80, 81, 82, 83, 100, 110, 120, 121, 130]
+
+
+class Reach:
+    """How often each thing was met."""
+
+    def __init__(self) -> None:
+        self.counts: Counter[str] = Counter()
+
+    def add(self, play: Play, wanted: list[Wanted]) -> None:
+        """Counts what a play meets."""
+        for step, want in zip(play, wanted):
+            words = [it for it in step.words if it != "--"]
+            command = words[0] if words else "no words"
+            self.counts[f"status {want.answer.status}"] += 1
+            if want.answer.status == 1:
+                self.counts[f"fault {want.answer.error.split()[1].decode()}"] += 1
+            elif want.answer.status == 0:
+                self.counts[f"{command} done"] += 1
+                self.add_output(command, want.answer.output)
+
+    def add_output(self, command: str, output: bytes) -> None:
+        """Counts the lines of what a command writes."""
+        lines = output.split(b"\n")[:-1]
+        if command == "check":
+            self.counts.update(line.split()[2].decode() for line in lines)
+        elif command == "report":
+            for kind in (b"conflict ", b"awaited "):
+                self.counts[kind.decode().strip()] += sum(line.startswith(kind) for line in lines)
+            self.counts["report without a line"] += not lines
+        elif command == "find":
+            self.counts["hit"] += len(lines)
+        elif command == "words":
+            self.counts["word"] += len(lines)
+            self.counts["word of several segments"] += sum(line.count(b" ") > 1 for line in lines)
+            self.counts["word not of ASCII"] += sum(not line.isascii() for line in lines)
+        elif command in ("import", "receive"):
+            self.counts[output.split()[0].decode() + (" 0" if output.split()[1] == b"0" else " more")] += 1
+        elif command == "shown":
+            self.counts[f"shown with {'no' if not output else 'an'} operation"] += 1
+
+    def unmet(self) -> list[str]:
+        """The faults and the codes that no play met."""
+        return [it for it in [f"fault {number}" for number in FAULTS] + list(CODES) if not self.counts[it]]
+
+    def table(self) -> str:
+        """The table of all counts."""
+        return "\n".join(f"{self.counts[it]:8} {it}" for it in sorted(self.counts) if self.counts[it])

@@ -1,0 +1,128 @@
+"""A sheet, bundles and a summary that the worked examples use, and the team that plays them."""
+from typing import Callable
+
+from model.bundles import write_bundle
+from model.faults import Fault
+from model.operations import Operation, set_of
+from model.program import Folder, run
+from model.references import HEAD, Id, Key, Verse
+
+SHEET = rb"""# sheet of the worked rows
+\Marker id
+\StyleType Paragraph
+\Marker c
+\StyleType Paragraph
+\Marker v
+\StyleType Character
+\Marker p
+\StyleType Paragraph
+\TextType VerseText
+\Marker add
+\Endmarker add*
+\OccursUnder p NEST
+\StyleType Character
+\Marker nd
+\Endmarker nd*
+\OccursUnder p NEST
+\StyleType Character
+\Marker wj
+\Endmarker wj*
+\OccursUnder p NEST
+\StyleType Character
+\Marker w
+\Endmarker w*
+\OccursUnder p NEST
+\StyleType Character
+\Marker f
+\Endmarker f*
+\OccursUnder p
+\StyleType Note
+\Marker ft
+\Endmarker ft*
+\OccursUnder f
+\StyleType Character
+\Marker qt-s
+\Endmarker qt-e
+\StyleType Milestone
+"""
+
+# 1 ana on MAT 0 and 2 ana on MAT 1:1; 3 ben and 3 ana on MAT 1:1, each naming 2 ana.
+FIRST = bytes.fromhex(
+    "5553464d5352310a 0000000000000002"
+    "0000000000000001 03 616e61 4d4154 0000 00 0000 00 0000000000000000 01 0000000000000008 5c6964204d41540a"
+    "0000000000000002 03 616e61 4d4154 0001 01 0001 00 0000000000000000 01 0000000000000008 5c76203120496e0a"
+)
+BENS = bytes.fromhex(
+    "5553464d5352310a 0000000000000001 0000000000000003 03 62656e 4d4154 0001 01 0001 00"
+    "0000000000000001 0000000000000002 03 616e61 01 0000000000000008 5c7620312041740a"
+)
+ANAS = bytes.fromhex(
+    "5553464d5352310a 0000000000000001 0000000000000003 03 616e61 4d4154 0001 01 0001 00"
+    "0000000000000001 0000000000000002 03 616e61 01 0000000000000008 5c76203120546f0a"
+)
+SUMMARY = bytes.fromhex(
+    "5553464d5353310a 0000000000000001 03 616e61 0000000000000002"
+    "0000000000000001 0000000000000003 0000000000000005 0000000000000005"
+)
+EMPTY = bytes.fromhex("5553464d504a310a 03 616e61 5553464d5352310a 0000000000000000")
+
+# An operation clashes with the one of the first bundle.
+CLASHING = write_bundle(
+    set_of(
+        [
+            Operation(Id(1, "cy"), "MAT", Key(1, HEAD), (), b"\\c 1\n"),
+            Operation(Id(1, "dan"), "MAT", Key(1, Verse(2)), (), b"\\v 2 b\n"),
+            Operation(Id(2, "ana"), "MAT", Key(1, Verse(1)), (), b"\\v 1 Xx\n"),
+        ]
+    )
+)
+BOOK = b"\\id MAT\n\\c 1\n\\v 1 In\n"
+CONFLICT = b"conflict MAT 1:1 2\ntext 3 ben 8\n\\v 1 At\n\ntext 3 ana 8\n\\v 1 To\n\n"
+
+
+def answer_of(call: Callable, *given: object) -> object:
+    """What a call gives, or the line of its fault."""
+    try:
+        return call(*given)
+    except Fault as fault:
+        return fault.line()
+
+
+class Team:
+    """Replicas in a folder, each in a file of its name."""
+
+    def __init__(self, *names: str) -> None:
+        self.folder: Folder = {}
+        for name in names:
+            self.does("init", name, name)
+
+    def does(self, *words: str, given: bytes = b"") -> bytes:
+        """What a run writes, or its fault's line."""
+        answer = run(self.folder, words, given)
+        return answer.output or answer.error
+
+    def imports(self, name: str, text: bytes) -> bytes:
+        self.folder["file"] = text
+        return self.does("import", name, "file")
+
+    def receives(self, name: str, bundle: bytes) -> bytes:
+        self.folder["file"] = bundle
+        return self.does("receive", name, "file")
+
+    def delta(self, name: str, summary: bytes) -> bytes:
+        self.folder["file"] = summary
+        return self.does("delta", name, "file")
+
+    def edits(self, name: str, ref: str, text: bytes) -> bytes:
+        return self.does("edit", name, ref, given=text)
+
+    def export(self, name: str) -> bytes:
+        return self.does("export", name, "MAT")
+
+    def report(self, name: str) -> bytes:
+        return self.does("report", name)
+
+    def by_sheet(self, *words: str) -> bytes:
+        """A command by the sheet, which comes after the book."""
+        self.folder["sheet"] = SHEET
+        return self.does(*words[:3], "sheet", *words[3:])
