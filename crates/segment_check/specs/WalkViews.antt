@@ -1,7 +1,16 @@
 -- What a contract sees of a walk over marks.
+use Rattle.std.specs.Prelude.{List, [], ◌∷◌, Option, None, Some}
+use Rattle.usfm_token.specs.Tokens.{Lexeme}
+use Rattle.usfm_token.specs.View.{lexeme}
+use Rattle.usfm_token.specs.declared.token.Token.{Token}
 use Rattle.segment_check.specs.Reading.{State}
 use Rattle.segment_check.specs.declared.marks.Walk.{Walk}
 
 -- where a walk stands, as a state of the reading
 abbrev pub state_of : Walk → State
 state_of w = record { key = w.key; reach = w.reach; told = w.told.now }
+
+-- the token, if there is one, before others; and else nothing
+abbrev pub before : Option Token → List Lexeme → List Lexeme
+before None ts = []
+before (Some t) ts = lexeme t ∷ ts

@@ -9,3 +9,4 @@ pub mod BookLaws
 pub mod CutLaws
 pub mod ChapterLines
 pub mod Steps
+pub mod Skips

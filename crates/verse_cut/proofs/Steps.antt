@@ -1,18 +1,13 @@
 -- What one token does to a walk over a text, and what a walk makes of a cut.
-use Rattle.std.proofs.Common.{◌≡◌, ℕ, ◌+◌, ◌-◌, Bool, true, false, not, cond, ◌&&◌, ◌||◌, List, [], ◌∷◌, ◌++◌, length, take, codes, Option, None, Some, option_map, sym, refl, ap, ◌∙◌, arith, append_assoc, length-append, add-zero}
+use Rattle.std.proofs.Common.{◌≡◌, ℕ, ◌+◌, ◌-◌, true, not, cond, ◌&&◌, List, [], ◌∷◌, ◌++◌, length, take, Some, sym, refl, ap, ◌∙◌, arith, append_assoc, length-append, add-zero}
 use Rattle.std.proofs.lemmas.List.{append-nil, take_at}
-use Rattle.std.specs.Str.{bytes_eq}
-use Rattle.usfm_ref.specs.Keys.{KeyParts, book_head, chapter_head}
-use Rattle.usfm_ref.specs.Numbers.{blanks_at, chapter_in, verse_in}
-use Rattle.usfm_ref.specs.declared.number.VerseMark.{VerseMark}
-use Rattle.usfm_token.specs.Tokens.{Lexeme, mark, words, slice_of, tokens_of}
-use Rattle.usfm_token.specs.View.{lexeme}
-use Rattle.usfm_token.specs.declared.token.Token.{Token}
+use Rattle.usfm_ref.specs.Keys.{KeyParts, book_head}
+use Rattle.usfm_token.specs.Tokens.{Lexeme, slice_of, tokens_of}
 use Rattle.usfm_token.proofs.Walk.{no_tokens, token_front}
-use Rattle.verse_cut.specs.Keys.{key_below, verse_key}
+use Rattle.verse_cut.specs.Keys.{key_below}
 use Rattle.verse_cut.specs.Pieces.{pieces_of}
 use Rattle.verse_cut.specs.Reading.{key_of, Later, goes_on, opens_at, cut_from, pieces_with, cut_of, not_above, is_quiet}
-use Rattle.verse_cut.specs.Walks.{before, read_of, parts_at, GoesToEnd, OpensAt}
+use Rattle.verse_cut.specs.Walks.{read_of, parts_at, GoesToEnd, OpensAt}
 use Rattle.verse_cut.proofs.MarkLaws.{cut_is_read}
 use Rattle.verse_cut.proofs.Quiet.{by_key, stays}
 
@@ -73,63 +68,26 @@ goes_end key text here on none =
           ∙ (λ i. ((append-nil (read_of text here) ∙ all) i, []));
     }
 
--- ---- the text after a mark with a key
-
-no_chapter : chapter_in [] ≡ None
-unfolding chapter_in blanks_at
-no_chapter = refl
-
-no_verse : verse_in [] ≡ None
-unfolding verse_in blanks_at
-no_verse = refl
-
-no_number : (c : ℕ) (q : KeyParts) (e f g : Bool) → cond e None (cond f (option_map chapter_head (chapter_in [])) (cond g (option_map (verse_key c) (verse_in [])) None)) ≡ Some q → ⊥
-no_number c q e f g h = by e f g (chapter_in []) no_chapter (verse_in []) no_verse h
-  where
-    by : (e f g : Bool) (n : Option ℕ) → n ≡ None → (v : Option VerseMark) → v ≡ None → cond e None (cond f (option_map chapter_head n) (cond g (option_map (verse_key c) v) None)) ≡ Some q → ⊥
-    by true f g n p v r h = absurd (cc)
-    by false true g None p v r h = absurd (cc)
-    by false true g (Some n) p v r h = absurd (cc)
-    by false false false n p v r h = absurd (cc)
-    by false false true n p None r h = absurd (cc)
-    by false false true n p (Some v) r h = absurd (cc)
-
--- a text stands after a mark with a key
-pub record IsBehindText (ts rest : List Lexeme) : Type 0 where
-  pub text : List ℕ
-  pub is : ts ≡ words text ∷ rest
-
-pub key_has_text : (c : ℕ) (q : KeyParts) (t : Lexeme) (next : Option Token) (rest : List Lexeme) → key_of c t (before next rest) ≡ Some q → IsBehindText (before next rest) rest
-key_has_text c q (words w) next rest h = absurd (cc)
-key_has_text c q (mark m) None rest h = absurd (no_number c q (m.nested || m.closing) (bytes_eq m.name (codes "c")) (bytes_eq m.name (codes "v")) h)
-key_has_text c q (mark m) (Some t) rest h = by (lexeme t) refl h
-  where
-    by : (l : Lexeme) → lexeme t ≡ l → key_of c (mark m) (lexeme t ∷ rest) ≡ Some q → IsBehindText (lexeme t ∷ rest) rest
-    by (words w) is h = record { text = w; is = ap (λ (x : Lexeme). x ∷ rest) is }
-    by (mark n) is h = absurd (no_number c q (m.nested || m.closing) (bytes_eq m.name (codes "c")) (bytes_eq m.name (codes "v")) (ap (λ (x : Lexeme). key_of c (mark m) (x ∷ rest)) (sym is) ∙ h))
+-- ---- a piece that opens
 
 -- a mark whose key is above all before opens a piece
-module _ (key found : KeyParts) (text here mid behind : List ℕ) (t : Lexeme) (w : List ℕ) (on : Goes key text here) (front : tokens_of here ≡ t ∷ tokens_of mid) (next : tokens_of mid ≡ words w ∷ tokens_of behind) where
-  here_is : here ≡ (slice_of t ++ w) ++ behind
-  here_is = token_front here mid t front ∙ ap (λ r. slice_of t ++ r) (token_front mid behind (words w) next) ∙ sym (append_assoc (slice_of t) w behind)
+module _ (key found : KeyParts) (text here behind : List ℕ) (t : Lexeme) (on : Goes key text here) (front : tokens_of here ≡ t ∷ tokens_of behind) where
+  here_is : here ≡ slice_of t ++ behind
+  here_is = token_front here behind t front
 
-  mine : read_of here behind ≡ slice_of t ++ w
-  mine = read_more here (slice_of t ++ w) behind here_is
+  mine : read_of here behind ≡ slice_of t
+  mine = read_more here (slice_of t) behind here_is
 
-  opened : (a : ℕ) → key_of key.chapter t (tokens_of mid) ≡ Some found → key_below key found ≡ true → cut_from key a (tokens_of here) ≡ ([], parts_at found a here behind)
+  opened : (a : ℕ) → key_of key.chapter t (tokens_of behind) ≡ Some found → key_below key found ≡ true → cut_from key a (tokens_of here) ≡ ([], parts_at found a here behind)
   opened a is above =
-      let far : ℕ → Later = λ b. cut_from found b (tokens_of behind) in
-      let place : a + length (slice_of t) + length w ≡ a + length (slice_of t ++ w) = omega (arith, length-append (slice_of t) w) in
       ap (cut_from key a) front
-      ∙ ap (by_key key a (slice_of t) (a + length (slice_of t)) (tokens_of mid)) is
-      ∙ ap (λ e. cond e (opens_at found a (slice_of t) (cut_from found (a + length (slice_of t)) (tokens_of mid))) (goes_on (slice_of t) (cut_from key (a + length (slice_of t)) (tokens_of mid)))) above
-      ∙ ap (λ ts. opens_at found a (slice_of t) (cut_from found (a + length (slice_of t)) ts)) next
-      ∙ (λ i. ([], record { key = found; start = a; text = sym (append_assoc (slice_of t) w (far (place i)).0) i } ∷ (far (place i)).1))
-      ∙ ap (λ r. ([], pieces_with found a r (far (a + length r)))) (sym mine)
+      ∙ ap (by_key key a (slice_of t) (a + length (slice_of t)) (tokens_of behind)) is
+      ∙ ap (λ e. cond e (opens_at found a (slice_of t) (cut_from found (a + length (slice_of t)) (tokens_of behind))) (goes_on (slice_of t) (cut_from key (a + length (slice_of t)) (tokens_of behind)))) above
+      ∙ ap (λ r. ([], pieces_with found a r (cut_from found (a + length r) (tokens_of behind)))) (sym mine)
 
-  pub goes_open : key_of key.chapter t (tokens_of mid) ≡ Some found → key_below key found ≡ true → OpensAt key text here behind found
+  pub goes_open : key_of key.chapter t (tokens_of behind) ≡ Some found → key_below key found ≡ true → OpensAt key text here behind found
   goes_open is above = record {
-    not_quiet = on.quiet ∙ ap (is_quiet key) front ∙ ap (λ o. not_above key o && is_quiet key (tokens_of mid)) is ∙ ap (λ e. not e && is_quiet key (tokens_of mid)) above;
+    not_quiet = on.quiet ∙ ap (is_quiet key) front ∙ ap (λ o. not_above key o && is_quiet key (tokens_of behind)) is ∙ ap (λ e. not e && is_quiet key (tokens_of behind)) above;
     join = on.join;
     mark_join = ap (λ r. r ++ behind) mine ∙ sym here_is;
     cuts = λ at.

@@ -1,22 +1,29 @@
 -- What a walk over the tokens of a text takes, and what it leaves of a cut.
-use Rattle.std.specs.Prelude.{◌≡◌, ℕ, ◌+◌, ◌-◌, true, false, List, [], ◌∷◌, ◌++◌, length, take, Option, None, Some}
+use Rattle.std.specs.Prelude.{◌≡◌, ℕ, ◌+◌, ◌-◌, Bool, true, false, ◌||◌, ◌&&◌, ◌==◌, List, [], ◌∷◌, ◌++◌, length, take, drop, Option, None, Some}
+use Rattle.std.specs.List.{position_or_len}
 use Rattle.usfm_ref.specs.Keys.{KeyParts}
-use Rattle.usfm_token.specs.Tokens.{Lexeme, tokens_of}
+use Rattle.usfm_token.specs.Tokens.{Lexeme, is_backslash, tokens_of}
 use Rattle.usfm_token.specs.View.{lexeme}
 use Rattle.usfm_token.specs.declared.token.Token.{Token}
 use Rattle.verse_cut.specs.Pieces.{Part}
 use Rattle.verse_cut.specs.Reading.{key_of, cut_from, pieces_with, is_quiet}
-
--- the token, if there is one, before others; and else nothing
-abbrev pub before : Option Token → List Lexeme → List Lexeme
-before None ts = []
-before (Some t) ts = lexeme t ∷ ts
 
 -- the token is the first
 abbrev pub IsFirst : Option Token → List Lexeme → Type 0
 IsFirst None ts = ts ≡ []
 IsFirst (Some t) [] = ⊥
 IsFirst (Some t) (x ∷ ts) = lexeme t ≡ x
+
+-- a backslash (92) stands at the front, before a `c` (99) or a `v` (118), with which the names of the marks that have a
+-- key begin
+abbrev pub may_have_key : List ℕ → Bool
+may_have_key [] = false
+may_have_key (b ∷ []) = false
+may_have_key (b ∷ (first ∷ rest)) = b == 92 && (first == 99 || first == 118)
+
+-- what stands from the first mark on
+abbrev pub from_mark : List ℕ → List ℕ
+from_mark text = drop (position_or_len is_backslash text) text
 
 -- A token stands at the front of `here`, with `behind` after it, and has the key, where a verse stands in the
 -- chapter.

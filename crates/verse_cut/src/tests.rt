@@ -88,6 +88,8 @@ fn texts_fit(rt: HostRuntime) -> Result<(), RefFault> {
         (1, Some(1), "\\v 1 a \\c 2", false),
         (1, Some(1), "\\v 2 b", false),
         (1, Some(1), "\\v 1 a \\v 2 b", false),
+        (1, Some(1), "\\v 1 a\\p\\v 2 b", false),
+        (1, Some(1), "\\v 1 \\vp 9\\vp*\\p\\cl 9", true),
         (5, Some(3), "\\v 3 \\c 3 \\v 9", false),
         (5, Some(3), "\\v 3 a \\+v 9 \\v* 9", true),
     ];

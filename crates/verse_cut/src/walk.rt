@@ -1,17 +1,16 @@
 //! A walk over the marks of a text, with their keys.
 
-ghost use Rattle.std.specs.Prelude.{◌≡◌, ◌≤◌, ◌&&◌, List, [], MatchOption};
+ghost use Rattle.std.specs.Prelude.{◌≡◌, ◌<◌, ◌≤◌, ◌&&◌, List, [], length, drop, MatchOption};
 ghost use Rattle.usfm_token.specs.Tokens.{Lexeme, tokens_of};
-ghost use Rattle.usfm_token.specs.View.{lexeme, rest_of};
+ghost use Rattle.usfm_token.specs.View.{lexeme};
 ghost use Rattle.verse_cut.specs.Keys.{key_below, text_after};
 ghost use Rattle.verse_cut.specs.Reading.{key_of};
-ghost use Rattle.verse_cut.specs.Walks.{IsFirst, before};
+ghost use Rattle.verse_cut.specs.Walks.{IsFirst, from_mark, may_have_key};
 
 use usfm_ref::{Key, Place, chapter_after, verse_after};
 use usfm_token::{Token, TokenIter};
 
-// A mark that opens a piece: the text from its front on, its key, and what stands after the text
-// with its number.
+// A mark that opens a piece: the text from its front on, its key, and what stands after it.
 #[derive(Clone, Copy)]
 pub(crate) struct Opening<'a> {
     pub(crate) here: &'a str,
@@ -19,14 +18,11 @@ pub(crate) struct Opening<'a> {
     pub(crate) behind: &'a str,
 }
 
-// The tokens of a text. Each is found once: the next one is kept, since a mark's key depends on
-// the text after it.
+// What is left of a text. A token is read only where a mark may have a key: few marks do, and
+// `memchr` passes over all else.
 #[derive(Drop)]
 pub(crate) struct Walk<'a> {
     here: &'a str,
-    next: Option<Token<'a>>,
-    tokens: TokenIter<'a>,
-    ghost ahead: { tokens_of here.now ≡ before next (tokens_of (rest_of tokens)) },
 }
 
 impl<'a> Walk<'a> {
@@ -36,13 +32,7 @@ impl<'a> Walk<'a> {
     pub(crate) fn new(text: &'a str) -> Self
         ensures { result.here.now ≡ text.now }
     {
-        let mut tokens = TokenIter::new(text);
-        let next = tokens.next();
-        Walk {
-            here: text,
-            next,
-            tokens,
-        }
+        Walk { here: text }
     }
 
     // Takes the next token, and gives its key, if it is a mark that has one, for a verse in the
@@ -52,10 +42,10 @@ impl<'a> Walk<'a> {
         ensures { MatchOption result (tokens_of self.old.here.now ≡ [])
             (λ key. TakesToken chapter self.old.here.now self.new.here.now key) }
     {
-        let token = self.next?;
-        self.here = self.tokens.rest();
-        self.next = self.tokens.next();
-        Some(key_of(chapter, token, self.next))
+        let mut tokens = TokenIter::new(self.here);
+        let token = tokens.next()?;
+        self.here = tokens.rest();
+        Some(key_of(chapter, token, tokens.next()))
     }
 
     // Whether the mark at the front has the key. The walk stands after it.
@@ -74,19 +64,42 @@ impl<'a> Walk<'a> {
         let chapter = key.chapter;
         loop {
             let here = self.here;
+            if here.is_empty() {
+                return None;
+            }
+            if !may_have_key(here) {
+                self.here = next_mark(here);
+                continue;
+            }
             if let Some(found) = self.step(chapter)? {
                 if is_below(key, found) {
-                    // Its number stands in a text, which has no key.
-                    let behind = self.tokens.rest();
                     return Some(Opening {
                         here,
                         key: found,
-                        behind,
+                        behind: self.here,
                     });
                 }
             }
         }
     }
+}
+
+// Whether a mark stands at the front whose name begins with `c` or `v`.
+fn may_have_key(text: &str) -> bool
+    ensures { result ≡ may_have_key text.now }
+{
+    matches!(text.as_bytes(), [b'\\', b'c' | b'v', ..])
+}
+
+// The text from the first mark after its first byte on.
+fn next_mark(text: &str) -> &str
+    requires { 0 < length text.now }
+    ensures { result.now ≡ from_mark (drop 1 text.now) }
+{
+    let later = &text.as_bytes()[1..];
+    let passed = memchr::memchr(b'\\', later).unwrap_or(later.len());
+    let (_, here) = text.split_at(1 + passed);
+    here
 }
 
 fn is_below(key: Key, other: Key) -> bool
