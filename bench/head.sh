@@ -9,7 +9,7 @@ plain=$work/plain
 # A generated book of a kind, prose or marks, of so many bytes.
 make_text() { awk -v kind="$1" -v size="$2" -f "$top/bench/book.awk"; }
 
-# Builds the plain program for the processor that Rattle builds for. Words behind go to rustc.
+# Builds the plain program for the processor that Rattle builds for. The words after go to rustc.
 build_plain() {
     rustc -C opt-level=3 -C target-cpu=x86-64-v2 -C codegen-units=1 "$@" -o "$plain" "$here/plain.rs"
 }

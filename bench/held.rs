@@ -1,5 +1,5 @@
 //! What a replica holds, in plain Rust: operations in the order of their ids, each with the names that it has, and what
-//! each segment shows. It takes bundles in, and tells its summary and what lies outside another one's.
+//! each segment shows. It takes bundles in, and gives its summary and what lies outside another one's.
 
 #[path = "operations.rs"]
 mod operations;
@@ -8,7 +8,7 @@ use operations::fitting::{Key, Place};
 use operations::{Fault, Reader};
 use std::collections::{BTreeMap, HashMap, HashSet};
 
-/// The text of a name, and zeros behind it.
+/// The text of a name, and zeros after it.
 pub type Name = [u8; 32];
 
 #[derive(Clone, Copy, PartialEq, Eq, PartialOrd, Ord, Hash)]
@@ -53,7 +53,7 @@ impl Held {
         }
     }
 
-    /// Takes in the bundle at the front of some bytes. Answers how many of its operations are new, and the bytes behind it.
+    /// Takes in the bundle at the front of some bytes. Answers how many of its operations are new, and the bytes after it.
     pub fn receive<'a>(&mut self, bytes: &'a [u8]) -> Result<(usize, &'a [u8]), Fault> {
         let mut reader = Reader { rest: bytes };
         let mut new = Vec::new();
@@ -80,7 +80,7 @@ impl Held {
         Ok((count, reader.rest))
     }
 
-    /// Where an operation of this id stands, or would stand. Most that come are behind all that are held.
+    /// Where an operation of this id stands, or would stand. Most that come are after all that are held.
     fn place(&self, id: &Id) -> Result<usize, usize> {
         match self.ops.last() {
             Some(last) if *id <= last.id => self.ops.binary_search_by(|held| held.id.cmp(id)),

@@ -53,7 +53,7 @@ def write_bundles(count, names):
 
 
 def once(program, words):
-    """Nanoseconds of the least round, what else the program told, and its peak kilobytes."""
+    """Nanoseconds of the least round, what else the program wrote, and its peak kilobytes."""
     child = subprocess.Popen([program, *words], stdout=subprocess.PIPE, text=True)
     told = child.stdout.read().split()
     _, status, usage = os.wait4(child.pid, 0)
@@ -64,7 +64,7 @@ def once(program, words):
 
 
 def turn_about(programs, words, turns):
-    """The least nanoseconds of each program, and what they told, in which they have to agree."""
+    """The least nanoseconds of each program, and what they wrote, in which they have to agree."""
     least = [float("inf")] * len(programs)
     answers = []
     for _ in range(turns):
@@ -78,7 +78,7 @@ def turn_about(programs, words, turns):
 
 
 def compare_jobs(programs, jobs, turns=7, limit=1.5):
-    """Tells the least time and the peak memory of both programs for each job, which has a label and its words. Answers
+    """Prints the least time and the peak memory of both programs for each job, which has a label and its words. Answers
     whether the proved one takes at most so many times as long in each."""
     held = True
     for label, words in jobs:

@@ -125,7 +125,7 @@ fn number_at(bytes: &[u8], lettered: bool) -> Option<(u16, u8, usize)> {
     ends.then_some((number, letter.copied().unwrap_or(0), length))
 }
 
-// The number behind blanks, and the length of all with a bridge.
+// The number after blanks, and the length of all with a bridge.
 fn number_behind(text: &str, lettered: bool) -> Option<(u16, u8, usize)> {
     let bytes = text.as_bytes();
     let blanks = bytes.iter().take_while(|b| is_blank(**b)).count();

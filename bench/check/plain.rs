@@ -108,7 +108,7 @@ impl<'a> Checker<'a, '_> {
         }
     }
 
-    /// Tells of the mark before, behind which this text stands.
+    /// Settles what is found at the mark before, after which this text stands.
     fn settle(&mut self, after: &str) {
         let Some((start, mark, told)) = self.last.take() else { return };
         let (mut number, mut verse, mut key) = (false, None, None);

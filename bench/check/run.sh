@@ -9,7 +9,7 @@
 # The plain checker reads the tree whole and then walks it. The proved one is done with each node under the root
 # before it reads the next, so that its memory does not grow with the tree.
 #
-# The two are run turn about, and of each the least time of a round counts; how the time grows is told by
+# The two are run turn about, and of each the least time of a round counts; how the time grows is measured by
 # processes of one round. The exit status is 1 where the two find different things, the proved check takes
 # more than 1.5 times as long, or ten times the text or the words more than 12 times as long.
 #

@@ -4,7 +4,7 @@
 # size: for needles that stand in most lines, in some verses, in few, in attributes alone, and nowhere.
 # Needs rt, rustc and awk, and takes some minutes.
 #
-# The two are run turn about, and of each the least time of a round counts; how the time grows is told by
+# The two are run turn about, and of each the least time of a round counts; how the time grows is measured by
 # processes of one round. The exit status is 1 where the two find different hits, the proved search takes
 # more than 1.5 times as long, or ten times the text more than 12 times as long.
 #

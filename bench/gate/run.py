@@ -1,5 +1,5 @@
 #!/usr/bin/env python3
-"""Runs the gate, and tells where its time goes: the processor seconds of each crate's proof and edits.
+"""Runs the gate, and shows where its time goes: the processor seconds of each crate's proof and edits.
 
     bench/gate/run.py [WORD ..]      the gate under these words, such as: taskset -c 0,1
 

@@ -2,7 +2,7 @@
 # Times sets of operations (bench.rt.txt) against sets in plain Rust by maps (plain.rs), both built for the processor
 # that Rattle builds for: so many single inserts with the making of the operations, two thirds of them each in a new
 # segment and the others over what a segment shows; the join of a first set of six tenths of them into an empty one,
-# and then of two more, which lie behind it or overlap. Needs rt and rustc, and takes some minutes.
+# and then of two more, which lie after it or overlap. Needs rt and rustc, and takes some minutes.
 #
 # The two are run turn about, and of each the least time of a round counts. The exit status is 1 where the two show
 # different ids, or a job takes the proved program longer than the plain one.
@@ -28,7 +28,7 @@ if [ "$(grep -hv inserts "$work"/{plain,proved}.out | sort -u | wc -l)" != 1 ]; 
     exit 1
 fi
 
-# The least number behind a word in a file of outputs.
+# The least number after a word in a file of outputs.
 least() { sed -n "s/.*\b$2 \([0-9]*\).*/\1/p" "$1" | sort -n | head -n 1; }
 
 status=0

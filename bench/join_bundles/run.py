@@ -5,7 +5,7 @@
 
 The proved call is built by `rt run` (bench.rt.txt, in a folder of its own), the plain one by `rustc -O` (plain.rs).
 Half of the operations are in both bundles. The least time of a round counts, and the greatest resident memory of a
-process that joins once, beside what the inputs and the output fill (no peak is told below the 19 MB or so that this
+process that joins once, beside what the inputs and the output fill (no peak shows below the 19 MB or so that this
 script itself holds). The exit status is 1 where the two programs join
 to different bytes, or the proved one takes more than 1.5 times as long.
 """

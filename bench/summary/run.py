@@ -5,7 +5,7 @@
 
 The operations of eight people came in random order, in bundles of 1,000 (generate.py). The proved call is built by
 `rt run` (bench.rt.txt, in a folder of its own), the plain one by `rustc -O` (plain.rs). Both start from a set whose
-operations hold their names, of up to 32 bytes, and look a name up once for each run of it. Told are the least time of
+operations hold their names, of up to 32 bytes, and look a name up once for each run of it. It prints the least time of
 a round, and the peak of resident memory of the process, which took the bundles in. The exit status is 1 where the two
 programs make different summaries, or the proved one takes more than twice as long.
 """

@@ -4,7 +4,7 @@
 # size. The plain list keeps the words in a map. It tests each word for Normalization Form C, which the psalters are in.
 # Needs rt, rustc and awk, and takes some minutes.
 #
-# The two are run turn about, and of each the least time of a round counts; how the time grows is told by
+# The two are run turn about, and of each the least time of a round counts; how the time grows is measured by
 # processes of one round. The exit status is 1 where the two list different words, the proved list takes
 # more than 1.5 times as long, or ten times the text more than 12 times as long.
 #

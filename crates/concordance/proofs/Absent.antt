@@ -13,7 +13,7 @@ use Rattle.concordance.specs.Plain.{plain_leaves}
 use Rattle.concordance.proofs.Occurring.{stands_at}
 use Rattle.concordance.proofs.Standing.{Stands, Apart, leaves_apart}
 
--- what a search tells
+-- what a search answers
 pub found_somewhere : (s needle : List ℕ) (r : Option ℕ) → FindsNeedle s needle 0 r → is_some r ≡ true → matches s needle 0 ≡ [] → ⊥
 found_somewhere s needle None h e none = absurd (true≢false (sym e))
 found_somewhere s needle (Some k) h e none = let l = ap length (sym none ∙ matches-first s needle 0 k h.0 h.1) in absurd (omega arith)

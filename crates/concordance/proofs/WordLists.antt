@@ -1,4 +1,4 @@
--- Words gathered from spellings, whatever their order and however often one is told.
+-- Words gathered from spellings, whatever their order and however often one comes.
 use Rattle.std.proofs.Common.{◌≡◌, ℕ, zero, suc, ◌<◌, Bool, true, false, cond, ◌&&◌, ◌||◌, List, [], ◌∷◌, ◌++◌, length, map, filter, take, slice_get}
 use Rattle.std.proofs.Common.{Some, append-nil, append_assoc, refl, sym, ap, ◌∙◌, arith}
 use Rattle.std.specs.declared.cmp.Ordering.{Ordering}
@@ -48,7 +48,7 @@ module _ {K : Type 0} (cmp : K → K → Ordering) where
       let q = and_parts (is_lt (cmp k x)) (list_all (λ x. is_lt (cmp k x)) xs) h in
       ap (λ r. by_order r (k ∷ x ∷ xs) (x ∷ xs) (x ∷ with_item cmp k xs)) (is_less _ q.0)
 
--- ---- the words do not hang on the order of the spellings, nor on how often one is told
+-- ---- the words do not hang on the order of the spellings, nor on how often one comes
 
 any_forms : (f : List ℕ) (ss : List Spelling)
     → list_any (λ g. is_eq (form_cmp f g)) (map (λ s. s.form) ss) ≡ list_any (λ s. is_eq (form_cmp f s.form)) ss
@@ -67,7 +67,7 @@ any_keys f k (s ∷ ss) = by (any_keys f k ss) (bytes_eq s.form f)
     by rest true = ap (λ b. is_eq (key_cmp k s.key) || b) rest
     by rest false = rest
 
--- what is told in one list and also in another
+-- what is said in one list and also in another
 abbrev Also : List Spelling → List Spelling → Type 0
 Also ss ts = (s : Spelling) → is_told s ss ≡ true → is_told s ts ≡ true
 
@@ -132,7 +132,7 @@ keys_composed form [] = refl
 keys_composed form (k ∷ keys) =
     ap (λ l. (let s : Spelling = record { form = form_of form; key = k } in s) ∷ l) (keys_composed form keys)
 
--- what tells the same does so when it is composed
+-- what says the same does so when it is composed
 pub composed_same : (ss ts : List Spelling) → TellsSame ss ts → TellsSame (map composed ss) (map composed ts)
 composed_same ss ts same s =
     told_composed s ss ∙ any_same (λ t. is_eq (spelling_cmp s (composed t))) ss ts same ∙ sym (told_composed s ts)
@@ -300,7 +300,7 @@ some_keys g h =
     let l = length-map g.1.items (λ k. (let s : Spelling = record { form = g.0.now; key = k } in s)) in
     let n = false-eqb (length g.1.items) 0 (sym h) in omega arith
 
--- groups with rising forms tell a word each
+-- groups with rising forms say a word each
 pub groups_words : (gs : List Group) → rises_by form_cmp (λ g. g.0.now) gs ≡ true → has_bare gs ≡ false
     → words_in (told gs) ≡ map word_told gs
 groups_words [] r h = refl

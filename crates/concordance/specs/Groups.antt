@@ -1,4 +1,4 @@
--- The keys of each form, gathered: what they tell.
+-- The keys of each form, gathered: what they say.
 use Rattle.std.specs.Prelude.{◌≡◌, ℕ, ◌==◌, Bool, ◌||◌, List, map, length}
 use Rattle.std.specs.List.{flat_map, list_any}
 use Rattle.std.specs.Ordering.{is_eq}
@@ -9,7 +9,7 @@ use Rattle.usfm_ref.specs.Rising.{rises_by}
 use Rattle.concordance.specs.SpellingOrder.{spelling_cmp}
 use Rattle.concordance.specs.Words.{Spelling, form_cmp, form_of}
 
--- a form, and keys at which it stands, in the order in which they were told
+-- a form, and keys at which it stands, in the order in which they came
 abbrev pub Group : Type 0
 Group = Bor (List ℕ) × Vec KeyParts
 
@@ -41,11 +41,11 @@ rise gs = rises_by form_cmp (λ g. g.0.now) gs
 abbrev pub is_told : Spelling → List Spelling → Bool
 is_told s ss = list_any (λ t. is_eq (spelling_cmp s t)) ss
 
--- two lists tell the same spellings, whatever their order and however often
+-- two lists say the same spellings, whatever their order and however often
 abbrev pub TellsSame : List Spelling → List Spelling → Type 0
 TellsSame ss ts = (s : Spelling) → is_told s ss ≡ is_told s ts
 
--- the last list tells what the first two do
+-- the last list says what the first two do
 abbrev pub AlsoTells : List Spelling → List Spelling → List Spelling → Type 0
 AlsoTells ss more ts = (s : Spelling) → is_told s ts ≡ (is_told s ss || is_told s more)
 
