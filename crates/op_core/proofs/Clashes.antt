@@ -4,15 +4,15 @@ use Rattle.std.specs.declared.cmp.Ordering.{Ordering}
 use Rattle.std.specs.declared.cmp.Ordering.TheVariants.{Less, Equal, Greater}
 use Rattle.std.specs.List.{list_all, find}
 use Rattle.std.specs.Option.{option_map}
-use Rattle.std.proofs.lemmas.Bool.{and_parts, cond-false, cond-true, false≢true, true≢false, not-true}
+use Rattle.std.proofs.lemmas.Bool.{and_parts, cond-false, cond-true, false≢true, true≢false, not-true, not-false}
 use Rattle.op_core.specs.Ids.{Id, id_cmp, same_id, id_below}
-use Rattle.op_core.specs.Ops.{Operation, same_op}
+use Rattle.op_core.specs.Ops.{Operation, agree}
 use Rattle.op_core.specs.Sets.{rises, get, differs, clash}
 use Rattle.op_core.specs.Laws.{AgreeAt, ClashAt}
 use Rattle.op_core.proofs.Rising.{id_exact}
 use Rattle.op_core.specs.Equal.{id_from_same, same_id-refl}
 use Rattle.op_core.proofs.Union.{AllAbove, above_trans, rises_parts, get_above, apart_below, apart_above, less_below, greater_below}
-use Rattle.op_core.specs.Equal.{same_op-is, same_op-refl}
+use Rattle.op_core.proofs.Agreement.{agree-is, agree-from, agree_turned}
 
 -- an operation that differs from what held holds under its id
 abbrev Differs : List Operation → Operation → Bool
@@ -29,7 +29,7 @@ pub get_id : (ops : List Operation) (q : Id) (z : Operation) → get ops q ≡ S
 get_id [] q z g = cc g
 get_id (o ∷ ops) q z g = get_cases q o ops z g (λ e f. ap (λ (p : Operation). p.id) (sym f) ∙ sym e) (λ g. get_id ops q z g)
 
-above_of_get : (i : Id) (ops : List Operation) (q : Id) (z : Operation) → AllAbove i ops → get ops q ≡ Some z → id_below i q ≡ true
+pub above_of_get : (i : Id) (ops : List Operation) (q : Id) (z : Operation) → AllAbove i ops → get ops q ≡ Some z → id_below i q ≡ true
 above_of_get i [] q z h g = cc g
 above_of_get i (o ∷ ops) q z h g =
     let p = and_parts (id_below i o.id) (list_all (λ p. id_below i p.id) ops) h in
@@ -86,10 +86,10 @@ met xs ys o g d = by (get xs o.id) refl d
     by None e d = absurd (false≢true d)
     by (Some x) e d =
         let at : get ys x.id ≡ Some o = ap (get ys) (get_id xs o.id x e) ∙ g in
-        record { other = x; held = e; differs' = ap (λ (r : Option Operation). differs r x) at ∙ back (same_op o x) refl }
+        record { other = x; held = e; differs' = ap (λ (r : Option Operation). differs r x) at ∙ back (agree o x) refl }
       where
-        back : (b : Bool) → same_op o x ≡ b → not b ≡ true
-        back true s = let same = same_op-is o x s in absurd (true≢false (sym (subst (λ (y : Operation). same_op y o ≡ true) same (same_op-refl o)) ∙ not-true (same_op x o) d))
+        back : (b : Bool) → agree o x ≡ b → not b ≡ true
+        back true s = absurd (true≢false (sym (agree-from x o (agree_turned o x (agree-is o x s))) ∙ not-true (agree x o) d))
         back false s = refl
 
 -- the first of ys that differs from xs has the id of the first of xs that differs from ys
@@ -116,25 +116,15 @@ clash_comm xs ys hx hy = by (find (Differs xs) ys) refl (find (Differs ys) xs) r
     by None e (Some x) f = same_first ys xs x hy (first_is (Differs ys) xs x hx f) None e
 
 -- an operation that is equal to one of its id
-same_of_no_difference : (p o : Operation) → differs (Some p) o ≡ false → p ≡ o
-same_of_no_difference p o h = by (same_op p o) refl h
-  where
-    by : (b : Bool) → same_op p o ≡ b → not b ≡ false → p ≡ o
-    by true e h = same_op-is p o e
-    by false e h = absurd (true≢false h)
-
 -- the first that differs is a clash
 clash_at : (xs ys : List Operation) (o : Operation) → FirstIs (Differs xs) ys o → ClashAt xs ys o.id
 clash_at xs ys o f = by (get xs o.id) refl f.passes
   where
-    apart : (p : Operation) → differs (Some p) o ≡ true → p ≢ o
-    apart p d s = true≢false (sym (subst (λ (q : Operation). same_op p q ≡ true) s (same_op-refl p)) ∙ not-true (same_op p o) d)
-
-    agree : (q : Id) → id_below q o.id ≡ true → AgreeAt xs ys q
-    agree q l u v gu gv =
+    below : (q : Id) → id_below q o.id ≡ true → AgreeAt xs ys q
+    below q l u v gu gv =
         let is : v.id ≡ q = get_id ys q v gv in
         let at : get xs v.id ≡ Some u = ap (get xs) is ∙ gu in
-        same_of_no_difference u v (ap (λ (r : Option Operation). differs r v) (sym at) ∙ f.before q v gv l)
+        not-false (agree u v) (ap (λ (r : Option Operation). differs r v) (sym at) ∙ f.before q v gv l)
 
     by : (r : Option Operation) → get xs o.id ≡ r → differs r o ≡ true → ClashAt xs ys o.id
     by None e d = absurd (false≢true d)
@@ -143,8 +133,8 @@ clash_at xs ys o f = by (get xs o.id) refl f.passes
       other = o;
       one_held = e;
       other_held = f.held;
-      differ = apart p d;
-      below = agree;
+      differ = not-true (agree p o) d;
+      below = below;
     }
 
 pub clash_is : (xs ys : List Operation) (id : Id) → rises ys ≡ true → clash xs ys ≡ Some id → ClashAt xs ys id

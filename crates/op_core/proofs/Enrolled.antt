@@ -1,5 +1,5 @@
 -- New operations taken in one after another, rising.
-use Rattle.std.proofs.Common.{◌≡◌, ℕ, nat_lt, zero, suc, ◌<◌, ◌≤◌, ◌+◌, Bool, true, false, not, cond, ◌||◌, List, [], ◌∷◌, ◌++◌, Option, Some, None, length, get_or, take, drop, arith, add-one, append_assoc, refl, sym, ap, subst, ◌∙◌}
+use Rattle.std.proofs.Common.{◌≡◌, ◌⊎◌, inl, inr, ℕ, nat_lt, zero, suc, ◌<◌, ◌≤◌, ◌+◌, Bool, true, false, not, cond, ◌||◌, List, [], ◌∷◌, ◌++◌, Option, Some, None, length, get_or, take, drop, arith, add-one, append_assoc, refl, sym, ap, subst, ◌∙◌}
 use Rattle.std.specs.declared.cmp.Ordering.TheVariants.{Less}
 use Rattle.std.specs.Ordering.{is_eq, is_lt, nat_cmp, ordering_then}
 use Rattle.std.specs.List.{list_all, list_any, AllByRecursion}
@@ -15,12 +15,12 @@ use Rattle.op_core.specs.Ids.{Id, id_below, same_id, ids_rise}
 use Rattle.op_core.specs.Names.{name_cmp}
 use Rattle.op_core.specs.Equal.{id_from_same}
 use Rattle.op_core.specs.Ops.{Operation, IsOperation, in_segment, names}
-use Rattle.op_core.specs.Sets.{rises, get, put, join, IsOpSet}
+use Rattle.op_core.specs.Sets.{rises, get, met, put, join, IsOpSet}
 use Rattle.op_core.specs.Shown.{is_replaced}
 use Rattle.op_core.specs.Lists.{shown_ids}
 use Rattle.op_core.specs.Index.{is_in, AreInside, register_of, shown_room_in, missing_room_in, unheld, AreApart, shown_needed, missing_needed, HasRoomFor, Prepares, AdmitsIn, IsIndex}
 use Rattle.op_core.specs.declared.chapter.Chapter.{Chapter}
-use Rattle.op_core.proofs.Union.{AllAbove, rises_parts, get_above, above_trans, apart_above, rises-put, rises-join, get-put, get-join, same_gets, or_none, or_assoc}
+use Rattle.op_core.proofs.Union.{AllAbove, rises_parts, get_above, above_trans, apart_above, rises-put, rises-join, get-put, get-join, same_gets, or_none, met_none, met_assoc, met_or}
 use Rattle.op_core.proofs.Clashes.{get_cases}
 use Rattle.op_core.proofs.Inside.{is_of, in-get}
 use Rattle.op_core.proofs.Kept.{any_shown, in_segment-is, index_put}
@@ -107,7 +107,7 @@ module _ (held front behind : List Operation) (o : Operation) (hh : rises held �
 
   -- the union so far does not have the operation
   pub not_yet : get held o.id ≡ None → get (join held front) o.id ≡ None
-  not_yet g = get-join held front o.id hh parted.front ∙ (λ i. option_or (g i) (get_below o.id front parted.below i))
+  not_yet g = get-join held front o.id hh parted.front ∙ (λ i. met (g i) (get_below o.id front parted.below i))
 
   -- what is smaller than it and new is so far in
   so_far : (n : Id) → id_below n o.id ≡ true → get (front ++ o ∷ behind) n ≡ get front n
@@ -125,20 +125,24 @@ module _ (held front behind : List Operation) (o : Operation) (hh : rises held �
       or_false true = refl
       or_false false = refl
 
-      by : (r : Option Operation) → get (front ++ o ∷ behind) n ≡ r → (is_of g (get held n) || is_of g r) ≡ is_of g (option_or (get held n) r)
-      by None e = or_false (is_of g (get held n)) ∙ ap (is_of g) (sym (or_none (get held n)))
+      by : (r : Option Operation) → get (front ++ o ∷ behind) n ≡ r → (is_of g (get held n) || is_of g r) ≡ is_of g (met (get held n) r)
+      by None e = or_false (is_of g (get held n)) ∙ ap (is_of g) (sym (met_none (get held n)))
       by (Some z) e =
           let none : get held n ≡ None = apart_at held (front ++ o ∷ behind) n z apart e in
           rw none refl
+
+  at_most_one : (q : Id) (b : Bool) → same_id q o.id ≡ b → (get front q ≡ None) ⊎ (cond b (Some o) None ≡ None)
+  at_most_one q true e = inl (ap (get front) (id_from_same q o.id e) ∙ get_below o.id front parted.below)
+  at_most_one q false e = inr refl
 
   pub one_more : put o (join held front) ≡ join held (front ++ o ∷ [])
   one_more =
       let rising : rises (front ++ o ∷ []) ≡ true = front_rises (front ++ o ∷ []) behind (subst (λ (xs : List Operation). rises xs ≡ true) (sym (append_assoc front (o ∷ []) behind)) hn) in
       same_gets _ _ (rises-put o (join held front) (rises-join held front hh)) (rises-join held (front ++ o ∷ []) hh) (λ q.
       get-put o (join held front) q (rises-join held front hh)
-      ∙ ap (λ r. option_or r (cond (same_id q o.id) (Some o) None)) (get-join held front q hh parted.front)
-      ∙ or_assoc (get held q) (get front q) _
-      ∙ ap (option_or (get held q)) (sym (get-append front (o ∷ []) q))
+      ∙ ap (λ r. met r (cond (same_id q o.id) (Some o) None)) (get-join held front q hh parted.front)
+      ∙ met_assoc (get held q) (get front q) _
+      ∙ ap (met (get held q)) (met_or (get front q) (cond (same_id q o.id) (Some o) None) (at_most_one q (same_id q o.id) refl) ∙ sym (get-append front (o ∷ []) q))
       ∙ sym (get-join held (front ++ o ∷ []) q hh rising))
 
 -- what the union so far has, one of the two lists has
@@ -147,10 +151,11 @@ inside_either held front behind hh hn g q e =
     (λ i. in-get held g q hh i || (in-get (front ++ behind) g q hn ∙ ap (is_of g) (get-append front behind q)) i)
     ∙ by (get held q) (get front q) (sym (in-get (join held front) g q (rises-join held front hh) ∙ ap (is_of g) (get-join held front q hh (front_rises front behind hn))) ∙ e)
   where
-    by : (a b : Option Operation) → is_of g (option_or a b) ≡ true → (is_of g a || is_of g (option_or b (get behind q))) ≡ true
+    by : (a b : Option Operation) → is_of g (met a b) ≡ true → (is_of g a || is_of g (option_or b (get behind q))) ≡ true
     by None None e = absurd (false≢true e)
     by None (Some z) e = e
-    by (Some x) b e = ap (λ t. t || is_of g (option_or b (get behind q))) e
+    by (Some x) None e = ap (λ t. t || is_of g (get behind q)) e
+    by (Some x) (Some y) e = ap (λ t. t || in_segment g y) e
 
 -- so what a segment shows so far is of the operations of one of them
 pub shown_inside : (held new : List Operation) (n : ℕ) (g : Segment) (ids : List Id) → rises held ≡ true → rises new ≡ true → ids ≡ shown_ids (join held (take n new)) g → AreInside held new g ids

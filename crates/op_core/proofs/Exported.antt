@@ -23,7 +23,7 @@ use Rattle.verse_cut.specs.Reading.{is_empty, text_fits}
 use Rattle.verse_cut.specs.Joins.{chapter_line}
 use Rattle.verse_cut.proofs.ChapterLines.{chapter_lines_fit}
 use Rattle.verse_cut.proofs.FitLaws.{fits_is_read}
-use Rattle.op_core.specs.Ops.{Operation, IsOperation, in_segment, is_verse_in}
+use Rattle.op_core.specs.Ops.{Operation, IsOperation, in_segment, is_verse_in, MayBeText, or_empty}
 use Rattle.op_core.specs.Sets.{IsOpSet}
 use Rattle.op_core.specs.Shown.{is_replaced, is_shown, shown, last, text_in, text_of, is_verse_with_text, has_verse_text, wants_chapter_line, greatest, pick, picked_text}
 use Rattle.op_core.specs.Export.{of_book, keys_in, exported_keys}
@@ -156,7 +156,7 @@ verse_parts book chapter o h =
 -- of what is picked
 pub pick_cases : (held : List Operation) (book : List ℕ) (key : KeyParts) (P : List ℕ → Type 0) → IsOpSet held →
     (key ≡ chapter_head key.chapter → 1 ≤ key.chapter → key.chapter ≤ 999 → P (chapter_line key.chapter)) →
-    ((o : Operation) → IsOf (segment book key) o → P o.text) → P [] →
+    ((o : Operation) → IsOf (segment book key) o → P (or_empty o.text)) → P [] →
     P (picked_at held book key)
 pick_cases held book key P set line own none = by (wants_chapter_line held (segment book key)) refl
   where
@@ -179,8 +179,12 @@ pub pick_fits : (held : List Operation) (book : List ℕ) (key : KeyParts) → I
 pick_fits held book key set =
     pick_cases held book key (λ t. (t ≡ []) ⊎ Fits book key t) set
     (λ head some small. inr (subst (λ k. Fits book k (chapter_line key.chapter)) (sym head) (chapter_lines_fit book key.chapter some small)))
-    (λ o is. inr ((fits_is_read book key o.text).0 (subst (λ (g : Segment). text_fits g.book g.key o.text ≡ true) is.segment is.is_operation.fits)))
+    (λ o is. own o.text (subst (λ (g : Segment). MayBeText g o.text) is.segment is.is_operation.text))
     (inl refl)
+  where
+    own : (t : Option (List ℕ)) → MayBeText (segment book key) t → (or_empty t ≡ []) ⊎ Fits book key (or_empty t)
+    own None h = inl refl
+    own (Some t) h = inr ((fits_is_read book key t).0 h.fits)
 
 -- and it is UTF-8
 line_is_text : (n : ℕ) → n ≤ 999 → IsUtf8 (chapter_line n)
@@ -193,7 +197,11 @@ line_is_text n h =
 
 pub pick_is_text : (held : List Operation) (book : List ℕ) (key : KeyParts) → IsOpSet held → IsUtf8 (picked_at held book key)
 pick_is_text held book key set =
-    pick_cases held book key IsUtf8 set (λ head some small. line_is_text key.chapter small) (λ o is. is.is_operation.text) IsUtf8-nil
+    pick_cases held book key IsUtf8 set (λ head some small. line_is_text key.chapter small) (λ o is. own o.segment o.text is.is_operation.text) IsUtf8-nil
+  where
+    own : (g : Segment) (t : Option (List ℕ)) → MayBeText g t → IsUtf8 (or_empty t)
+    own g None h = IsUtf8-nil
+    own g (Some t) h = h.utf8
 
 -- ---- the keys of an export
 

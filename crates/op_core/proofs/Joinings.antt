@@ -1,14 +1,18 @@
 -- Sets joined in some order, grouping and repetition hold what one of them holds.
-use Rattle.std.proofs.Common.{◌≡◌, ℕ, zero, suc, ◌<◌, List, [], ◌∷◌, length, get_or, Option, Some, None, Result, Ok, Err, ◌⊎◌, inl, inr, arith, refl, sym, ap, subst, ◌∙◌, is_ok}
+use Rattle.std.proofs.Common.{◌≡◌, true, ℕ, zero, suc, ◌<◌, List, [], ◌∷◌, length, get_or, Option, Some, None, Result, Ok, Err, ◌⊎◌, inl, inr, arith, refl, sym, ap, subst, ◌∙◌, is_ok}
 use Rattle.std.specs.List.{Contains, AllByRecursion}
-use Rattle.std.specs.Option.{option_or}
+use Rattle.std.proofs.lemmas.Bool.{false≢true}
 use Rattle.op_core.specs.Ids.{Id}
-use Rattle.op_core.specs.Ops.{Operation}
-use Rattle.op_core.specs.Sets.{IsOpSet, get, join, clash}
+use Rattle.op_core.specs.Ops.{Operation, is_full, with_text, agree}
+use Rattle.op_core.specs.Sets.{IsOpSet, get, meet, met, join, clash}
+use Rattle.op_core.specs.Thinned.{all_full}
 use Rattle.op_core.specs.Laws.{Joining, AreSets, IsInOne, SameOperations, joined_or_clash, with_both, union_by, RefusedAlike}
 use Rattle.op_core.specs.Laws.Joining.{Part, Joined}
 use Rattle.op_core.proofs.Union.{IsOpSet-join, get-join, same_gets, agree_from_no_clash, held_itself}
 use Rattle.op_core.proofs.Clashes.{get_cases, get_id, clash_is}
+use Rattle.op_core.proofs.Agreement.{Agree, agree_full, agree_itself, agree-from, kept_text}
+use Rattle.op_core.proofs.Gets.{all_at}
+use Rattle.op_core.proofs.Legal.{full-join}
 
 -- an operation that is held under an id is in the set
 pub Contains-get : (xs : List Operation) (q : Id) (o : Operation) → get xs q ≡ Some o → Contains xs o
@@ -46,10 +50,20 @@ made l r a h = by (union_by l) refl (union_by r) refl h
     by (Err id) ex y ey h = cc h
 
 pub IsOpSet-union_by : (way : Joining) (a : List Operation) → AreSets way → union_by way ≡ Ok a → IsOpSet a
-IsOpSet-union_by (Part set) a s h = let e : set ≡ a = cc h in subst IsOpSet e s
+IsOpSet-union_by (Part set) a s h = let e : set ≡ a = cc h in subst IsOpSet e s.set
 IsOpSet-union_by (Joined l r) a s h =
     let m = made l r a h in
     subst IsOpSet (sym m.union) (IsOpSet-join m.left m.right (IsOpSet-union_by l m.left s.0 m.left_is) (IsOpSet-union_by r m.right s.1 m.right_is))
+
+pub full-union_by : (way : Joining) (a : List Operation) → AreSets way → union_by way ≡ Ok a → all_full a ≡ true
+full-union_by (Part set) a s h = let e : set ≡ a = cc h in subst (λ (xs : List Operation). all_full xs ≡ true) e s.full
+full-union_by (Joined l r) a s h =
+    let m = made l r a h in
+    subst (λ (xs : List Operation). all_full xs ≡ true) (sym m.union) (full-join m.left m.right (full-union_by l m.left s.0 m.left_is) (full-union_by r m.right s.1 m.right_is))
+
+-- a full operation leaves what it meets as it is
+met_full : (p q : Operation) → is_full q ≡ true → meet p q ≡ p
+met_full p q f = ap (with_text p) (kept_text p.text q.text f)
 
 -- what a union holds is in one of the sets
 pub held_from_one : (way : Joining) (a : List Operation) (q : Id) (o : Operation) → AreSets way → union_by way ≡ Ok a → get a q ≡ Some o → IsInOne way o
@@ -58,30 +72,45 @@ held_from_one (Joined l r) a q o s h g =
     let m = made l r a h in
     let sl = IsOpSet-union_by l m.left s.0 m.left_is in
     let sr = IsOpSet-union_by r m.right s.1 m.right_is in
-    either (get m.left q) (get m.right q) (held_from_one l m.left q o s.0 m.left_is) (held_from_one r m.right q o s.1 m.right_is)
+    let fr = full-union_by r m.right s.1 m.right_is in
+    either (get m.left q) (get m.right q) (held_from_one l m.left q o s.0 m.left_is) (held_from_one r m.right q o s.1 m.right_is) (λ y e. all_at is_full m.right q y fr e)
     (sym (get-join m.left m.right q sl.rising sr.rising) ∙ ap (λ (xs : List Operation). get xs q) (sym m.union) ∙ g)
   where
-    either : (x y : Option Operation) → (x ≡ Some o → IsInOne l o) → (y ≡ Some o → IsInOne r o) → option_or x y ≡ Some o → IsInOne l o ⊎ IsInOne r o
-    either None y f g e = inr (g e)
-    either (Some p) y f g e = inl (f e)
+    either : (x y : Option Operation) → (x ≡ Some o → IsInOne l o) → (y ≡ Some o → IsInOne r o)
+        → ((z : Operation) → y ≡ Some z → is_full z ≡ true) → met x y ≡ Some o → IsInOne l o ⊎ IsInOne r o
+    either None y f g k e = inr (g e)
+    either (Some p) None f g k e = inl (f e)
+    either (Some p) (Some z) f g k e = inl (f (ap Some (sym (met_full p z (k z refl))) ∙ e))
 
 -- what is in one of the sets is held by the union
 pub one_is_held : (way : Joining) (a : List Operation) (o : Operation) → AreSets way → union_by way ≡ Ok a → IsInOne way o → get a o.id ≡ Some o
-one_is_held (Part set) a o s h i = let e : set ≡ a = cc h in ap (λ (xs : List Operation). get xs o.id) (sym e) ∙ get-Contains set o s i
+one_is_held (Part set) a o s h i = let e : set ≡ a = cc h in ap (λ (xs : List Operation). get xs o.id) (sym e) ∙ get-Contains set o s.set i
 one_is_held (Joined l r) a o s h i =
     let m = made l r a h in
     let sl = IsOpSet-union_by l m.left s.0 m.left_is in
     let sr = IsOpSet-union_by r m.right s.1 m.right_is in
+    let fl = full-union_by l m.left s.0 m.left_is in
+    let fr = full-union_by r m.right s.1 m.right_is in
     ap (λ (xs : List Operation). get xs o.id) m.union ∙ get-join m.left m.right o.id sl.rising sr.rising
-    ∙ either (get m.left o.id) (get m.right o.id) (one_is_held l m.left o s.0 m.left_is) (one_is_held r m.right o s.1 m.right_is) (agree_from_no_clash m.left m.right m.agree o.id) i
+    ∙ either (get m.left o.id) (get m.right o.id) (one_is_held l m.left o s.0 m.left_is) (one_is_held r m.right o s.1 m.right_is) (agree_from_no_clash m.left m.right m.agree o.id) (λ x e. all_at is_full m.left o.id x fl e) (λ y e. all_at is_full m.right o.id y fr e) i
   where
-    later : (x y : Option Operation) → ((p q : Operation) → x ≡ Some p → y ≡ Some q → p ≡ q) → y ≡ Some o → option_or x y ≡ Some o
-    later None y f e = e
-    later (Some p) y f e = ap Some (f p o refl e)
+    first : (x y : Option Operation) → x ≡ Some o → ((z : Operation) → y ≡ Some z → is_full z ≡ true) → met x y ≡ Some o
+    first x None e k = ap (λ (r : Option Operation). met r None) e
+    first x (Some z) e k = ap (λ (r : Option Operation). met r (Some z)) e ∙ ap Some (met_full o z (k z refl))
 
-    either : (x y : Option Operation) → (IsInOne l o → x ≡ Some o) → (IsInOne r o → y ≡ Some o) → ((p q : Operation) → x ≡ Some p → y ≡ Some q → p ≡ q) → IsInOne l o ⊎ IsInOne r o → option_or x y ≡ Some o
-    either x y f g agree (inl i) = ap (λ (z : Option Operation). option_or z y) (f i)
-    either x y f g agree (inr i) = later x y agree (g i)
+    later : (x y : Option Operation) → ((p q : Operation) → x ≡ Some p → y ≡ Some q → Agree p q)
+        → ((z : Operation) → x ≡ Some z → is_full z ≡ true) → ((z : Operation) → y ≡ Some z → is_full z ≡ true) → y ≡ Some o
+        → met x y ≡ Some o
+    later None y f j k e = e
+    later (Some p) y f j k e =
+        let same : p ≡ o = agree_full p o (f p o refl e) (j p refl) (k o e) in
+        ap (met (Some p)) e ∙ ap Some (met_full p o (k o e) ∙ same)
+
+    either : (x y : Option Operation) → (IsInOne l o → x ≡ Some o) → (IsInOne r o → y ≡ Some o)
+        → ((p q : Operation) → x ≡ Some p → y ≡ Some q → Agree p q) → ((z : Operation) → x ≡ Some z → is_full z ≡ true)
+        → ((z : Operation) → y ≡ Some z → is_full z ≡ true) → IsInOne l o ⊎ IsInOne r o → met x y ≡ Some o
+    either x y f g agree j k (inl i) = first x y (f i) k
+    either x y f g agree j k (inr i) = later x y agree j k (g i)
 
 pub same_unions : (one other : Joining) (a b : List Operation) → AreSets one → AreSets other → SameOperations one other → union_by one ≡ Ok a → union_by other ≡ Ok b → a ≡ b
 same_unions one other a b s t same ha hb = same_gets a b (IsOpSet-union_by one a s ha).rising (IsOpSet-union_by other b t hb).rising (λ q. by q (get a q) refl (get b q) refl)
@@ -116,7 +145,8 @@ joined_if_one (Joined l r) s one =
     by x y ex ey (Some id) e =
         let c = clash_is x y id (IsOpSet-union_by r y s.1 ey).rising e in
         let same = get_id x id c.one c.one_held ∙ sym (get_id y id c.other c.other_held) in
-        absurd (c.differ (one c.one c.other (inl (held_from_one l x id c.one s.0 ex c.one_held)) (inr (held_from_one r y id c.other s.1 ey c.other_held)) same))
+        let is = one c.one c.other (inl (held_from_one l x id c.one s.0 ex c.one_held)) (inr (held_from_one r y id c.other s.1 ey c.other_held)) same in
+        absurd (false≢true (sym c.differ ∙ ap (agree c.one) (sym is) ∙ agree-from c.one c.one (agree_itself c.one)))
 
 pub refused_alike : RefusedAlike
 refused_alike one other s t same = by (union_by one) refl (union_by other) refl

@@ -13,7 +13,7 @@ use Rattle.usfm_ref.proofs.Sorted.{rises_filter, tied_back}
 use Rattle.op_core.specs.Ids.{Id, id_cmp, same_id, ids_rise}
 use Rattle.op_core.specs.Equal.{id_from_same}
 use Rattle.op_core.specs.Ops.{Operation, IsOperation, in_segment, names}
-use Rattle.op_core.specs.Sets.{rises, get, put}
+use Rattle.op_core.specs.Sets.{rises, get, meet, put}
 use Rattle.op_core.specs.Shown.{is_replaced, shown}
 use Rattle.op_core.specs.Lists.{ids_of, shown_ids}
 use Rattle.op_core.specs.Index.{is_in, is_missing, register_of, shown_in, missing_in, IsIndex, Prepares, Admits, AdmitsIn}
@@ -78,11 +78,12 @@ rest_none o p ops e g = sym (cond-false (same_id o.id p.id) (Some p) (get ops o.
 
 pub any_put : (p : Operation → Bool) (o : Operation) (ops : List Operation) → get ops o.id ≡ None → list_any p (put o ops) ≡ (p o || list_any p ops)
 any_put p o [] g = refl
-any_put p o (x ∷ ops) g = elim (id_cmp o.id x.id) as (λ r. id_cmp o.id x.id ≡ r → list_any p (by_order r (o ∷ x ∷ ops) (x ∷ ops) (x ∷ put o ops)) ≡ (p o || list_any p (x ∷ ops))) [
-  | Less ↦ λ e. refl
-  | Equal ↦ λ e. absurd (tied_held o x ops e g)
-  | Greater ↦ λ e. ap (λ b. p x || b) (any_put p o ops (rest_none o x ops e g)) ∙ swap_or (p x) (p o) (list_any p ops)
-] refl
+any_put p o (x ∷ ops) g =
+    elim (id_cmp o.id x.id) as (λ r. id_cmp o.id x.id ≡ r → list_any p (by_order r (o ∷ x ∷ ops) (meet x o ∷ ops) (x ∷ put o ops)) ≡ (p o || list_any p (x ∷ ops))) [
+      | Less ↦ λ e. refl
+      | Equal ↦ λ e. absurd (tied_held o x ops e g)
+      | Greater ↦ λ e. ap (λ b. p x || b) (any_put p o ops (rest_none o x ops e g)) ∙ swap_or (p x) (p o) (list_any p ops)
+    ] refl
   where
     swap_or : (a b c : Bool) → (a || (b || c)) ≡ (b || (a || c))
     swap_or true true c = refl

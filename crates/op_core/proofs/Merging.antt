@@ -13,7 +13,7 @@ use Rattle.usfm_ref.proofs.Sorted.{is_less}
 use Rattle.usfm_ref.proofs.Sorted as sorted
 use Rattle.op_core.specs.Ids.{Id, id_cmp, id_below, same_id}
 use Rattle.op_core.specs.Ops.{Operation}
-use Rattle.op_core.specs.Sets.{rises, get, put, join}
+use Rattle.op_core.specs.Sets.{rises, get, meet, put, join}
 use Rattle.op_core.specs.Index.{AreApart, IsBefore}
 use Rattle.op_core.proofs.Rising.{id_total, same_id-cmp, below_trans}
 use Rattle.op_core.proofs.Union.{AllAbove, rises_parts, above_trans, join_push, same_gets, rises-join, get-join}
@@ -56,11 +56,12 @@ at_place o (p ∷ ops) n e h g = by (λ f. at_place o ops (place o.id ops) refl 
 
 put_under : (y : Operation) (xs zs : List Operation) → AllAbove y.id zs → put y (xs ++ zs) ≡ put y xs ++ zs
 put_under y [] zs h = put_front y zs h
-put_under y (x ∷ xs) zs h = elim (id_cmp y.id x.id) as (λ r. by_order r (y ∷ x ∷ (xs ++ zs)) (x ∷ (xs ++ zs)) (x ∷ put y (xs ++ zs)) ≡ by_order r (y ∷ x ∷ xs) (x ∷ xs) (x ∷ put y xs) ++ zs) [
-  | Less ↦ refl
-  | Equal ↦ refl
-  | Greater ↦ ap (λ ws. x ∷ ws) (put_under y xs zs h)
-]
+put_under y (x ∷ xs) zs h =
+    elim (id_cmp y.id x.id) as (λ r. by_order r (y ∷ x ∷ (xs ++ zs)) (meet x y ∷ (xs ++ zs)) (x ∷ put y (xs ++ zs)) ≡ by_order r (y ∷ x ∷ xs) (meet x y ∷ xs) (x ∷ put y xs) ++ zs) [
+      | Less ↦ refl
+      | Equal ↦ refl
+      | Greater ↦ ap (λ ws. x ∷ ws) (put_under y xs zs h)
+    ]
 
 join_under : (xs zs ys : List Operation) → AllByRecursion (λ y. AllAbove y.id zs) ys → join (xs ++ zs) ys ≡ join xs ys ++ zs
 join_under xs zs [] h = refl

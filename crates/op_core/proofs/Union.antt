@@ -1,5 +1,5 @@
 -- Sets of operations, by what they hold at each id.
-use Rattle.std.proofs.Common.{Bor, ◌≡◌, ℕ, suc, ◌+◌, Bool, true, false, not, cond, ◌&&◌, List, [], ◌∷◌, ◌++◌, map, T, arith, refl, sym, ap, subst, ◌∙◌, Option, Some, None}
+use Rattle.std.proofs.Common.{Bor, ◌≡◌, ◌⊎◌, inl, inr, ℕ, suc, ◌+◌, Bool, true, false, not, cond, ◌&&◌, List, [], ◌∷◌, ◌++◌, map, T, arith, refl, sym, ap, subst, ◌∙◌, Option, Some, None}
 use Rattle.std.specs.declared.cmp.Ordering.TheVariants.{Less, Equal, Greater}
 use Rattle.std.specs.Ordering.{is_eq, is_lt, ordering_reverse}
 use Rattle.std.specs.List.{list_all, position_or_len, insert, AllByRecursion}
@@ -7,15 +7,15 @@ use Rattle.std.specs.Option.{option_or, option_copied, is_some}
 use Rattle.std.specs.FinMap.Entries.{by_order, is_sorted, find, below_all, same_entries}
 use Rattle.std.proofs.lemmas.Bool.{and_parts, and_from, true≢false, false≢true, cond-true, cond-false}
 use Rattle.op_core.specs.Ids.{Id, id_cmp, same_id, id_below}
-use Rattle.op_core.specs.Ops.{Operation, IsOperation}
-use Rattle.op_core.specs.Sets.{rises, get, put, join, IsOpSet, differs, clash}
+use Rattle.op_core.specs.Ops.{Operation, IsOperation, MayBeText, is_full, with_text, agree}
+use Rattle.op_core.specs.Sets.{rises, get, meet_text, meet, met, put, join, IsOpSet, differs, clash}
 use Rattle.std.specs.List.{find as find_in}
 use Rattle.std.specs.Option.{option_map}
 use Rattle.std.proofs.lemmas.Bool.{not-false}
-use Rattle.op_core.specs.Ops.{same_op}
+use Rattle.op_core.proofs.Agreement.{Agree, agree-is, agree-from, agree_itself, meet_comm, kept_text}
 use Rattle.usfm_ref.proofs.Sorted.{Above, is_less, above_trans as above_trans_by}
 use Rattle.op_core.proofs.Rising.{id_total, id_exact, same_id-cmp}
-use Rattle.op_core.specs.Equal.{id_from_same, same_id-refl, same_op-is, same_op-refl}
+use Rattle.op_core.specs.Equal.{id_from_same, same_id-refl}
 
 abbrev pub AllAbove : Id → List Operation → Type 0
 AllAbove id ops = Above id_cmp id_total (λ (o : Operation). o.id) id ops
@@ -50,41 +50,69 @@ module _ (o p : Operation) where
   pub equal_ids : id_cmp o.id p.id ≡ Equal → o.id ≡ p.id
   equal_ids h = id_exact o.id p.id h
 
--- what is held at an id, or else what o is there
-or_here : (x y z : Option Operation) (b : Bool) → (b ≡ true → y ≡ None) → cond b z y ≡ option_or y (cond b z None)
-or_here x y z true h = rw (h refl) refl
-or_here x None z false h = refl
-or_here x (Some y) z false h = refl
+-- ---- what meets
 
-or_later : (b : Bool) (p : Operation) (x y : Option Operation) → cond b (Some p) (option_or x y) ≡ option_or (cond b (Some p) x) y
-or_later true p x y = refl
-or_later false p x y = refl
+pub text_assoc : (a b c : Option (List ℕ)) → meet_text (meet_text a b) c ≡ meet_text a (meet_text b c)
+text_assoc None b c = refl
+text_assoc (Some a) None c = refl
+text_assoc (Some a) (Some b) None = refl
+text_assoc (Some a) (Some b) (Some c) = refl
 
-pub or_none : (x : Option Operation) → option_or x None ≡ x
-or_none None = refl
-or_none (Some x) = refl
+pub text_itself : (a : Option (List ℕ)) → meet_text a a ≡ a
+text_itself None = refl
+text_itself (Some a) = refl
 
-pub get-put : (o : Operation) (ops : List Operation) (q : Id) → rises ops ≡ true → get (put o ops) q ≡ option_or (get ops q) (cond (same_id q o.id) (Some o) None)
+pub met_assoc : (x y z : Option Operation) → met (met x y) z ≡ met x (met y z)
+met_assoc None y z = refl
+met_assoc (Some x) None z = refl
+met_assoc (Some x) (Some y) None = refl
+met_assoc (Some x) (Some y) (Some z) = ap (λ t. Some (with_text x t)) (text_assoc x.text y.text z.text)
+
+met_itself : (x : Option Operation) → met x x ≡ x
+met_itself None = refl
+met_itself (Some x) = ap (λ t. Some (with_text x t)) (text_itself x.text)
+
+pub met_none : (x : Option Operation) → met x None ≡ x
+met_none None = refl
+met_none (Some x) = refl
+
+-- ---- one operation more
+
+here : (x z : Option Operation) (b : Bool) → (b ≡ true → x ≡ None) → cond b z x ≡ met x (cond b z None)
+here x z true h = rw (h refl) refl
+here x z false h = sym (met_none x)
+
+tied : (p o : Operation) (x : Option Operation) (b d : Bool) → b ≡ d
+    → cond b (Some (meet p o)) x ≡ met (cond b (Some p) x) (cond d (Some o) None)
+tied p o x true true e = refl
+tied p o x false false e = sym (met_none x)
+tied p o x true false e = cc
+tied p o x false true e = cc
+
+later : (p : Operation) (x z : Option Operation) (b d : Bool) → (b ≡ true → d ≡ false)
+    → cond b (Some p) (met x (cond d z None)) ≡ met (cond b (Some p) x) (cond d z None)
+later p x z true d h = rw (h refl) refl
+later p x z false d h = refl
+
+pub get-put : (o : Operation) (ops : List Operation) (q : Id) → rises ops ≡ true
+    → get (put o ops) q ≡ met (get ops q) (cond (same_id q o.id) (Some o) None)
 get-put o [] q h = refl
 get-put o (p ∷ ops) q h =
     let parts = rises_parts p ops h in
-    elim (id_cmp o.id p.id) as (λ r. id_cmp o.id p.id ≡ r → get (by_order r (o ∷ p ∷ ops) (p ∷ ops) (p ∷ put o ops)) q ≡ option_or (get (p ∷ ops) q) (cond (same_id q o.id) (Some o) None)) [
-      | Less ↦ λ e. or_here None (get (p ∷ ops) q) (Some o) (same_id q o.id) (λ s.
+    elim (id_cmp o.id p.id) as (λ r. id_cmp o.id p.id ≡ r → get (by_order r (o ∷ p ∷ ops) (meet p o ∷ ops) (p ∷ put o ops)) q ≡ met (get (p ∷ ops) q) (cond (same_id q o.id) (Some o) None)) [
+      | Less ↦ λ e. here (get (p ∷ ops) q) (Some o) (same_id q o.id) (λ s.
           ap (get (p ∷ ops)) (id_from_same q o.id s)
           ∙ get_above o.id (p ∷ ops) (and_from _ _ (less_below o p e) (above_trans o.id p.id ops (less_below o p e) parts.0)))
-      | Equal ↦ λ e. tied (same_id q p.id) (same_id q o.id) (ap (same_id q) (sym (equal_ids o p e)))
-      | Greater ↦ λ e. ap (cond (same_id q p.id) (Some p)) (get-put o ops q parts.1) ∙ or_later (same_id q p.id) p (get ops q) _
+      | Equal ↦ λ e. tied p o (get ops q) (same_id q p.id) (same_id q o.id) (ap (same_id q) (sym (equal_ids o p e)))
+      | Greater ↦ λ e. ap (cond (same_id q p.id) (Some p)) (get-put o ops q parts.1)
+          ∙ later p (get ops q) (Some o) (same_id q p.id) (same_id q o.id) (λ s. ap (λ i. same_id i o.id) (id_from_same q p.id s) ∙ apart_below p.id o.id (greater_below o p e))
     ] refl
-  where
-    tied : (b d : Bool) → b ≡ d → cond b (Some p) (get ops q) ≡ option_or (cond b (Some p) (get ops q)) (cond d (Some o) None)
-    tied true d e = refl
-    tied false d e = rw (← e) (sym (or_none (get ops q)))
 
 pub above-put : (id : Id) (o : Operation) (ops : List Operation) → id_below id o.id ≡ true → AllAbove id ops → AllAbove id (put o ops)
 above-put id o [] p h = and_from _ _ p refl
 above-put id o (x ∷ ops) p h =
     let q = and_parts (id_below id x.id) (list_all (λ p. id_below id p.id) ops) h in
-    elim (id_cmp o.id x.id) as (λ r. AllAbove id (by_order r (o ∷ x ∷ ops) (x ∷ ops) (x ∷ put o ops))) [
+    elim (id_cmp o.id x.id) as (λ r. AllAbove id (by_order r (o ∷ x ∷ ops) (meet x o ∷ ops) (x ∷ put o ops))) [
       | Less ↦ and_from _ _ p h
       | Equal ↦ h
       | Greater ↦ and_from _ _ q.0 (above-put id o ops p q.1)
@@ -94,19 +122,21 @@ pub rises-put : (o : Operation) (ops : List Operation) → rises ops ≡ true �
 rises-put o [] h = refl
 rises-put o (p ∷ ops) h =
     let parts = rises_parts p ops h in
-    elim (id_cmp o.id p.id) as (λ r. id_cmp o.id p.id ≡ r → rises (by_order r (o ∷ p ∷ ops) (p ∷ ops) (p ∷ put o ops)) ≡ true) [
+    elim (id_cmp o.id p.id) as (λ r. id_cmp o.id p.id ≡ r → rises (by_order r (o ∷ p ∷ ops) (meet p o ∷ ops) (p ∷ put o ops)) ≡ true) [
       | Less ↦ λ e. and_from _ _ (and_from _ _ (less_below o p e) (above_trans o.id p.id ops (less_below o p e) parts.0)) h
       | Equal ↦ λ e. h
       | Greater ↦ λ e. and_from _ _ (above-put p.id o ops (greater_below o p e) parts.0) (rises-put o ops parts.1)
     ] refl
 
-pub each-put : (P : Operation → Type 0) (o : Operation) (ops : List Operation) → P o → AllByRecursion P ops → AllByRecursion P (put o ops)
-each-put P o [] p h = (p, tt)
-each-put P o (x ∷ ops) p h = elim (id_cmp o.id x.id) as (λ r. AllByRecursion P (by_order r (o ∷ x ∷ ops) (x ∷ ops) (x ∷ put o ops))) [
-  | Less ↦ (p, h)
-  | Equal ↦ h
-  | Greater ↦ (h.0, each-put P o ops p h.1)
-]
+pub each-put : (P : Operation → Type 0) → ((p o : Operation) → P p → P o → P (meet p o)) → (o : Operation) (ops : List Operation) → P o
+    → AllByRecursion P ops → AllByRecursion P (put o ops)
+each-put P m o [] p h = (p, tt)
+each-put P m o (x ∷ ops) p h =
+    elim (id_cmp o.id x.id) as (λ r. AllByRecursion P (by_order r (o ∷ x ∷ ops) (meet x o ∷ ops) (x ∷ put o ops))) [
+      | Less ↦ (p, h)
+      | Equal ↦ (m x o h.0 p, h.1)
+      | Greater ↦ (h.0, each-put P m o ops p h.1)
+    ]
 
 -- the operations with their ids
 entries : List Operation → List (Id × Operation)
@@ -140,62 +170,80 @@ pub rises-join : (xs ys : List Operation) → rises xs ≡ true → rises (join 
 rises-join xs [] h = h
 rises-join xs (o ∷ ys) h = rises-put o (join xs ys) (rises-join xs ys h)
 
-pub each-join : (P : Operation → Type 0) (xs ys : List Operation) → AllByRecursion P xs → AllByRecursion P ys → AllByRecursion P (join xs ys)
-each-join P xs [] h g = h
-each-join P xs (o ∷ ys) h g = each-put P o (join xs ys) g.0 (each-join P xs ys h g.1)
+pub each-join : (P : Operation → Type 0) → ((p o : Operation) → P p → P o → P (meet p o)) → (xs ys : List Operation) → AllByRecursion P xs
+    → AllByRecursion P ys → AllByRecursion P (join xs ys)
+each-join P m xs [] h g = h
+each-join P m xs (o ∷ ys) h g = each-put P m o (join xs ys) g.0 (each-join P m xs ys h g.1)
 
-or_last : (x y z : Option Operation) (b : Bool) → (b ≡ true → y ≡ None) → option_or (option_or x y) (cond b z None) ≡ option_or x (cond b z y)
-or_last None y z true h = rw (h refl) refl
-or_last None y z false h = or_none y
-or_last (Some x) y z b h = refl
+last_met : (x y z : Option Operation) (b : Bool) → (b ≡ true → y ≡ None) → met (met x y) (cond b z None) ≡ met x (cond b z y)
+last_met x y z true h = rw (h refl) (ap (λ v. met v z) (met_none x))
+last_met x y z false h = met_none _
 
-pub get-join : (xs ys : List Operation) (q : Id) → rises xs ≡ true → rises ys ≡ true → get (join xs ys) q ≡ option_or (get xs q) (get ys q)
-get-join xs [] q hx hy = sym (or_none (get xs q))
+pub get-join : (xs ys : List Operation) (q : Id) → rises xs ≡ true → rises ys ≡ true → get (join xs ys) q ≡ met (get xs q) (get ys q)
+get-join xs [] q hx hy = sym (met_none (get xs q))
 get-join xs (o ∷ ys) q hx hy =
     let parts = rises_parts o ys hy in
     get-put o (join xs ys) q (rises-join xs ys hx)
-    ∙ ap (λ x. option_or x (cond (same_id q o.id) (Some o) None)) (get-join xs ys q hx parts.1)
-    ∙ or_last (get xs q) (get ys q) (Some o) (same_id q o.id) (λ s. ap (get ys) (id_from_same q o.id s) ∙ get_above o.id ys parts.0)
+    ∙ ap (λ x. met x (cond (same_id q o.id) (Some o) None)) (get-join xs ys q hx parts.1)
+    ∙ last_met (get xs q) (get ys q) (Some o) (same_id q o.id) (λ s. ap (get ys) (id_from_same q o.id s) ∙ get_above o.id ys parts.0)
+
+pub join_assoc : (xs ys zs : List Operation) → rises xs ≡ true → rises ys ≡ true → rises zs ≡ true → join (join xs ys) zs ≡ join xs (join ys zs)
+join_assoc xs ys zs hx hy hz = same_gets _ _ (rises-join (join xs ys) zs (rises-join xs ys hx)) (rises-join xs (join ys zs) hx) (λ q.
+    get-join (join xs ys) zs q (rises-join xs ys hx) hz
+    ∙ ap (λ x. met x (get zs q)) (get-join xs ys q hx hy)
+    ∙ met_assoc (get xs q) (get ys q) (get zs q)
+    ∙ ap (met (get xs q)) (sym (get-join ys zs q hy hz))
+    ∙ sym (get-join xs (join ys zs) q hx (rises-join ys zs hy)))
+
+pub join_itself : (xs : List Operation) → rises xs ≡ true → join xs xs ≡ xs
+join_itself xs h = same_gets _ _ (rises-join xs xs h) h (λ q. get-join xs xs q h h ∙ met_itself (get xs q))
+
+-- what is held by at most one of two
+pub met_or : (x y : Option Operation) → (x ≡ None) ⊎ (y ≡ None) → met x y ≡ option_or x y
+met_or None y h = refl
+met_or (Some x) None h = refl
+met_or (Some x) (Some y) (inl h) = cc
+met_or (Some x) (Some y) (inr h) = cc
+
+pub or_none : (x : Option Operation) → option_or x None ≡ x
+or_none None = refl
+or_none (Some x) = refl
 
 pub or_assoc : (x y z : Option Operation) → option_or (option_or x y) z ≡ option_or x (option_or y z)
 or_assoc None y z = refl
 or_assoc (Some x) y z = refl
 
-or_itself : (x : Option Operation) → option_or x x ≡ x
-or_itself None = refl
-or_itself (Some x) = refl
-
-pub join_assoc : (xs ys zs : List Operation) → rises xs ≡ true → rises ys ≡ true → rises zs ≡ true → join (join xs ys) zs ≡ join xs (join ys zs)
-join_assoc xs ys zs hx hy hz = same_gets _ _ (rises-join (join xs ys) zs (rises-join xs ys hx)) (rises-join xs (join ys zs) hx) (λ q.
-    get-join (join xs ys) zs q (rises-join xs ys hx) hz
-    ∙ ap (λ x. option_or x (get zs q)) (get-join xs ys q hx hy)
-    ∙ or_assoc (get xs q) (get ys q) (get zs q)
-    ∙ ap (option_or (get xs q)) (sym (get-join ys zs q hy hz))
-    ∙ sym (get-join xs (join ys zs) q hx (rises-join ys zs hy)))
-
-pub join_itself : (xs : List Operation) → rises xs ≡ true → join xs xs ≡ xs
-join_itself xs h = same_gets _ _ (rises-join xs xs h) h (λ q. get-join xs xs q h h ∙ or_itself (get xs q))
-
--- what is held at an id by both is one operation
-abbrev pub AgreeAt : List Operation → List Operation → Type 0
-AgreeAt xs ys = (q : Id) (x y : Operation) → get xs q ≡ Some x → get ys q ≡ Some y → x ≡ y
-
-or_comm : (a b : Option Operation) → ((x y : Operation) → a ≡ Some x → b ≡ Some y → x ≡ y) → option_or a b ≡ option_or b a
-or_comm None None h = refl
-or_comm None (Some y) h = refl
-or_comm (Some x) None h = refl
-or_comm (Some x) (Some y) h = ap Some (h x y refl refl)
-
-pub join_comm : (xs ys : List Operation) → rises xs ≡ true → rises ys ≡ true → AgreeAt xs ys → join xs ys ≡ join ys xs
-join_comm xs ys hx hy h = same_gets _ _ (rises-join xs ys hx) (rises-join ys xs hy) (λ q.
-    get-join xs ys q hx hy ∙ or_comm (get xs q) (get ys q) (h q) ∙ sym (get-join ys xs q hy hx))
-
--- at an id that is held, nothing is added
-pub put_held : (o p : Operation) (ops : List Operation) → rises ops ≡ true → get ops o.id ≡ Some p → put o ops ≡ ops
-put_held o p ops h g = same_gets _ _ (rises-put o ops h) h (λ q. get-put o ops q h ∙ kept (get ops q) (same_id q o.id) (λ s. ap (get ops) (id_from_same q o.id s) ∙ g))
+-- what meets is within its ranges
+meet-IsOperation : (p o : Operation) → IsOperation p → IsOperation o → IsOperation (meet p o)
+meet-IsOperation p o h g = record { id = h.id; segment = h.segment; ids = h.ids; falls = h.falls; text = text p.text o.text h.text }
   where
-    kept : (x : Option Operation) (b : Bool) → (b ≡ true → x ≡ Some p) → option_or x (cond b (Some o) None) ≡ x
-    kept (Some x) b h = refl
+    text : (a b : Option (List ℕ)) → MayBeText p.segment a → MayBeText p.segment (meet_text a b)
+    text None b h = tt
+    text (Some a) None h = tt
+    text (Some a) (Some b) h = h
+
+-- what two sets hold agrees, at every id
+abbrev pub AgreeAtAll : List Operation → List Operation → Type 0
+AgreeAtAll xs ys = (q : Id) (x y : Operation) → get xs q ≡ Some x → get ys q ≡ Some y → Agree x y
+
+met_comm : (a b : Option Operation) → ((x y : Operation) → a ≡ Some x → b ≡ Some y → Agree x y) → met a b ≡ met b a
+met_comm None None h = refl
+met_comm None (Some y) h = refl
+met_comm (Some x) None h = refl
+met_comm (Some x) (Some y) h = ap Some (meet_comm x y (h x y refl refl))
+
+pub join_comm : (xs ys : List Operation) → rises xs ≡ true → rises ys ≡ true → AgreeAtAll xs ys → join xs ys ≡ join ys xs
+join_comm xs ys hx hy h = same_gets _ _ (rises-join xs ys hx) (rises-join ys xs hy) (λ q.
+    get-join xs ys q hx hy ∙ met_comm (get xs q) (get ys q) (h q) ∙ sym (get-join ys xs q hy hx))
+
+-- a full operation of a held id adds nothing
+pub put_held : (o p : Operation) (ops : List Operation) → rises ops ≡ true → get ops o.id ≡ Some p → is_full o ≡ true → put o ops ≡ ops
+put_held o p ops h g f =
+    same_gets _ _ (rises-put o ops h) h (λ q. get-put o ops q h ∙ kept (get ops q) (same_id q o.id) (λ s. ap (get ops) (id_from_same q o.id s) ∙ g))
+  where
+    kept : (x : Option Operation) (b : Bool) → (b ≡ true → x ≡ Some p) → met x (cond b (Some o) None) ≡ x
+    kept (Some x) true h = ap (λ t. Some (with_text x t)) (kept_text x.text o.text f)
+    kept (Some x) false h = refl
     kept None true h = cc (h refl)
     kept None false h = refl
 
@@ -206,7 +254,7 @@ inserted o p ops n h = let e : 1 + n ≡ suc n = omega arith in rw e (ap (λ xs.
 pub put_insert : (o : Operation) (ops : List Operation) → get ops o.id ≡ None → put o ops ≡ insert ops (position_or_len (λ p. not (id_below p.id o.id)) ops) o
 put_insert o [] g = refl
 put_insert o (p ∷ ops) g =
-    elim (id_cmp o.id p.id) as (λ r. id_cmp o.id p.id ≡ r → by_order r (o ∷ p ∷ ops) (p ∷ ops) (p ∷ put o ops) ≡ insert (p ∷ ops) (position_or_len (λ p. not (id_below p.id o.id)) (p ∷ ops)) o) [
+    elim (id_cmp o.id p.id) as (λ r. id_cmp o.id p.id ≡ r → by_order r (o ∷ p ∷ ops) (meet p o ∷ ops) (p ∷ put o ops) ≡ insert (p ∷ ops) (position_or_len (λ p. not (id_below p.id o.id)) (p ∷ ops)) o) [
       | Less ↦ λ e.
           let above : id_below p.id o.id ≡ false = ap is_lt (id_total.antisymm p.id o.id ∙ ap ordering_reverse e) in
           rw above refl
@@ -220,18 +268,19 @@ put_at o ops id at e g h =
     ap (λ n. insert ops n o) (h ∙ ap (λ (i : Id). position_or_len (λ p. not (id_below p.id i)) ops) e) ∙ sym (put_insert o ops (sym (g ∙ ap (get ops) e)))
 
 pub IsOpSet-put : (o : Operation) (ops : List Operation) → IsOperation o → IsOpSet ops → IsOpSet (put o ops)
-IsOpSet-put o ops h g = record { rising = rises-put o ops g.rising; each = each-put IsOperation o ops h g.each }
+IsOpSet-put o ops h g = record { rising = rises-put o ops g.rising; each = each-put IsOperation meet-IsOperation o ops h g.each }
 
 pub join_push : (xs ys : List Operation) (o : Operation) → join xs (ys ++ o ∷ []) ≡ join (put o xs) ys
 join_push xs [] o = refl
 join_push xs (y ∷ ys) o = ap (put y) (join_push xs ys o)
 
 pub IsOpSet-join : (xs ys : List Operation) → IsOpSet xs → IsOpSet ys → IsOpSet (join xs ys)
-IsOpSet-join xs ys h g = record { rising = rises-join xs ys h.rising; each = each-join IsOperation xs ys h.each g.each }
+IsOpSet-join xs ys h g = record { rising = rises-join xs ys h.rising; each = each-join IsOperation meet-IsOperation xs ys h.each g.each }
 
-pub put_kept : (o : Operation) (ops : List Operation) (id : Id) (r : Option (Bor Operation)) → rises ops ≡ true → id ≡ o.id → option_copied r ≡ get ops id → is_some r ≡ true → put o ops ≡ ops
-put_kept o ops id None h e g n = absurd (false≢true n)
-put_kept o ops id (Some b) h e g n = put_held o b.now ops h (ap (get ops) (sym e) ∙ sym g)
+pub put_kept : (o : Operation) (ops : List Operation) (id : Id) (r : Option (Bor Operation)) → rises ops ≡ true → id ≡ o.id
+    → option_copied r ≡ get ops id → is_some r ≡ true → is_full o ≡ true → put o ops ≡ ops
+put_kept o ops id None h e g n f = absurd (false≢true n)
+put_kept o ops id (Some b) h e g n f = put_held o b.now ops h (ap (get ops) (sym e) ∙ sym g) f
 
 pub put_new : (o : Operation) (ops : List Operation) (id : Id) (at : ℕ) (r : Option (Bor Operation)) → id ≡ o.id → option_copied r ≡ get ops id → is_some r ≡ false → at ≡ position_or_len (λ p. not (id_below p.id id)) ops → insert ops at o ≡ put o ops
 put_new o ops id at None e g n h = put_at o ops id at e g h
@@ -240,22 +289,26 @@ put_new o ops id at (Some b) e g n h = absurd (true≢false n)
 -- ---- clashes
 
 -- where no operation of ys differs from what xs holds, the two agree
-agree_at : (xs ys : List Operation) → find_in (λ (o : Operation). differs (get xs o.id) o) ys ≡ None → (q : Id) (x y : Operation) → get xs q ≡ Some x → get ys q ≡ Some y → x ≡ y
-agree_at xs [] none q x y gx gy = cc
+agree_at : (xs ys : List Operation) → find_in (λ (o : Operation). differs (get xs o.id) o) ys ≡ None → (q : Id) (x y : Operation)
+    → get xs q ≡ Some x → get ys q ≡ Some y → Agree x y
+agree_at xs [] none q x y gx gy = cc gy
 agree_at xs (o ∷ ys) none q x y gx gy = by (λ n g. agree_at xs ys n q x y gx g) (differs (get xs o.id) o) refl none
   where
-    held : (find_in (λ (o : Operation). differs (get xs o.id) o) ys ≡ None → get ys q ≡ Some y → x ≡ y) → (b : Bool) → same_id q o.id ≡ b → differs (get xs o.id) o ≡ false → find_in (λ (o : Operation). differs (get xs o.id) o) ys ≡ None → cond b (Some o) (get ys q) ≡ Some y → x ≡ y
+    held : (find_in (λ (o : Operation). differs (get xs o.id) o) ys ≡ None → get ys q ≡ Some y → Agree x y) → (b : Bool)
+        → same_id q o.id ≡ b → differs (get xs o.id) o ≡ false → find_in (λ (o : Operation). differs (get xs o.id) o) ys ≡ None
+        → cond b (Some o) (get ys q) ≡ Some y → Agree x y
     held rest true e d n g =
         let at : get xs o.id ≡ Some x = ap (get xs) (sym (id_from_same q o.id e)) ∙ gx in
-        let same : same_op x o ≡ true = not-false (same_op x o) (ap (λ (r : Option Operation). differs r o) (sym at) ∙ d) in
-        same_op-is x o same ∙ cc g
+        let same : agree x o ≡ true = not-false (agree x o) (ap (λ (r : Option Operation). differs r o) (sym at) ∙ d) in
+        let is : o ≡ y = cc g in subst (Agree x) is (agree-is x o same)
     held rest false e d n g = rest n g
 
-    by : (find_in (λ (o : Operation). differs (get xs o.id) o) ys ≡ None → get ys q ≡ Some y → x ≡ y) → (b : Bool) → differs (get xs o.id) o ≡ b → cond b (Some o) (find_in (λ (o : Operation). differs (get xs o.id) o) ys) ≡ None → x ≡ y
+    by : (find_in (λ (o : Operation). differs (get xs o.id) o) ys ≡ None → get ys q ≡ Some y → Agree x y) → (b : Bool)
+        → differs (get xs o.id) o ≡ b → cond b (Some o) (find_in (λ (o : Operation). differs (get xs o.id) o) ys) ≡ None → Agree x y
     by rest true d n = cc n
     by rest false d n = held rest (same_id q o.id) refl d n gy
 
-pub agree_from_no_clash : (xs ys : List Operation) → clash xs ys ≡ None → AgreeAt xs ys
+pub agree_from_no_clash : (xs ys : List Operation) → clash xs ys ≡ None → AgreeAtAll xs ys
 agree_from_no_clash xs ys h = agree_at xs ys (unmapped (find_in (λ (o : Operation). differs (get xs o.id) o) ys) h)
   where
     unmapped : (r : Option Operation) → option_map (λ (o : Operation). o.id) r ≡ None → r ≡ None
@@ -278,7 +331,8 @@ held_itself (x ∷ xs) h =
 none_differs : (xs ys : List Operation) → AllByRecursion (λ o. get xs o.id ≡ Some o) ys → find_in (λ (o : Operation). differs (get xs o.id) o) ys ≡ None
 none_differs xs [] h = refl
 none_differs xs (o ∷ ys) h =
-    let same : differs (get xs o.id) o ≡ false = ap (λ (r : Option Operation). differs r o) h.0 ∙ ap not (same_op-refl o) in
+    let same : differs (get xs o.id) o ≡ false = ap (λ (r : Option Operation). differs r o) h.0
+    ∙ ap not (agree-from o o (agree_itself o)) in
     cond-false (differs (get xs o.id) o) (Some o) _ same ∙ none_differs xs ys h.1
 
 pub no_clash_itself : (xs : List Operation) → rises xs ≡ true → clash xs xs ≡ None

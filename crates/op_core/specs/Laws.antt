@@ -1,12 +1,12 @@
 -- Laws of sets of operations: of a join semilattice, and of what a multi-value register shows (INRIA RR-7506).
-use Rattle.std.specs.Prelude.{◌≡◌, ◌≢◌, ℕ, true, List, [], ◌∷◌, None, Some, Result, Ok, Err, Option, ◌⊎◌, IsTrue, is_ok}
+use Rattle.std.specs.Prelude.{◌≡◌, ◌≢◌, ℕ, true, false, List, [], ◌∷◌, None, Some, Result, Ok, Err, Option, ◌⊎◌, IsTrue, is_ok}
 use Rattle.std.specs.List.{list_any, Contains}
-use Rattle.std.specs.Option.{option_or}
 use Rattle.usfm_ref.specs.Segments.{Segment}
 use Rattle.op_core.specs.Ids.{Id, id_below}
-use Rattle.op_core.specs.Ops.{Operation, in_segment}
-use Rattle.op_core.specs.Sets.{IsOpSet, get, join, clash}
+use Rattle.op_core.specs.Ops.{Operation, in_segment, agree}
+use Rattle.op_core.specs.Sets.{IsOpSet, get, met, join, clash}
 use Rattle.op_core.specs.Shown.{shown}
+use Rattle.op_core.specs.Thinned.{IsFullSet}
 use Rattle.op_core.specs.Export.{export}
 
 -- each grouping of three sets has the same union
@@ -21,17 +21,17 @@ JoinCommutes = (a b : List Operation) → IsOpSet a → IsOpSet b → clash a b 
 abbrev pub ClashCommutes : Type 0
 ClashCommutes = (a b : List Operation) → IsOpSet a → IsOpSet b → clash a b ≡ clash b a
 
--- two sets agree at an id if both hold no other operation under it than one
+-- two sets agree at an id if what they hold under it agrees, where both hold something
 abbrev pub AgreeAt : List Operation → List Operation → Id → Type 0
-AgreeAt a b id = (o p : Operation) → get a id ≡ Some o → get b id ≡ Some p → o ≡ p
+AgreeAt a b id = (o p : Operation) → get a id ≡ Some o → get b id ≡ Some p → agree o p ≡ true
 
--- two sets clash at an id: each holds an operation under it, the two are not equal, and below it the sets agree
+-- two sets clash at an id: each holds an operation under it, the two do not agree, and below it the sets agree
 pub record ClashAt (a b : List Operation) (id : Id) : Type 0 where
   pub one : Operation
   pub other : Operation
   pub one_held : get a id ≡ Some one
   pub other_held : get b id ≡ Some other
-  pub differ : one ≢ other
+  pub differ : agree one other ≡ false
   pub below : (q : Id) → IsTrue (id_below q id) → AgreeAt a b q
 
 -- what is found as a clash is one, and the least
@@ -46,9 +46,10 @@ NoClashAgrees = (a b : List Operation) → IsOpSet a → IsOpSet b → clash a b
 abbrev pub JoinWithItself : Type 0
 JoinWithItself = (a : List Operation) → IsOpSet a → (join a a ≡ a) × (clash a a ≡ None)
 
--- the union is a set that holds at each id what one of the two holds there, and nothing else
+-- the union is a set that holds at each id what one of the two holds there, or what the two meet in, and nothing else
 abbrev pub JoinHoldsBoth : Type 0
-JoinHoldsBoth = (a b : List Operation) → IsOpSet a → IsOpSet b → IsOpSet (join a b) × ((id : Id) → get (join a b) id ≡ option_or (get a id) (get b id))
+JoinHoldsBoth =
+    (a b : List Operation) → IsOpSet a → IsOpSet b → IsOpSet (join a b) × ((id : Id) → get (join a b) id ≡ met (get a id) (get b id))
 
 -- sets that hold the same operation at each id are equal
 abbrev pub SameHeldSameSet : Type 0
@@ -65,9 +66,9 @@ pub data Joining : Type 0 where
   Part : (set : List Operation) → Joining
   Joined : (left right : Joining) → Joining
 
--- each part of a way to join is a set
+-- each part of a way to join is a set without thinned operations
 abbrev pub AreSets : Joining → Type 0
-AreSets (Part set) = IsOpSet set
+AreSets (Part set) = IsFullSet set
 AreSets (Joined left right) = AreSets left × AreSets right
 
 -- the operation is in one of the sets that are joined
@@ -96,15 +97,15 @@ abbrev pub union_by : Joining → Result (List Operation) Id
 union_by (Part set) = Ok set
 union_by (Joined left right) = with_both (union_by left) (union_by right) (λ a b. joined_or_clash a b (clash a b))
 
--- Sets whose operations are together the same, joined in whatever order, grouping and repetition, have one
--- union, and so one export of every book.
+-- Sets without thinned operations, which are together the same, joined in whatever order, grouping and repetition,
+-- have one union, and so one export of every book.
 abbrev pub EqualUnionsExportAlike : Type 0
 EqualUnionsExportAlike =
     (one other : Joining) (a b : List Operation) → AreSets one → AreSets other → SameOperations one other →
     union_by one ≡ Ok a → union_by other ≡ Ok b →
     (a ≡ b) × ((book : List ℕ) → export a book ≡ export b book)
 
--- Sets whose operations are together the same are joined either way, or refused either way.
+-- Sets without thinned operations, which are together the same, are joined either way, or refused either way.
 abbrev pub RefusedAlike : Type 0
 RefusedAlike =
     (one other : Joining) → AreSets one → AreSets other → SameOperations one other → is_ok (union_by one) ≡ is_ok (union_by other)

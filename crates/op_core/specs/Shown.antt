@@ -10,7 +10,7 @@ pub use Rattle.verse_cut.specs.Joins.{chapter_line}
 use Rattle.op_core.specs.declared.picked.Picked.{Picked}
 use Rattle.op_core.specs.declared.picked.Picked.TheVariants.{Nothing, Held, ChapterLine}
 use Rattle.op_core.specs.Ids.{Id}
-use Rattle.op_core.specs.Ops.{Operation, in_segment, is_verse_in, names}
+use Rattle.op_core.specs.Ops.{Operation, in_segment, is_verse_in, names, own_text}
 
 -- whether an operation of the segment names the id
 abbrev pub is_replaced : List Operation → Segment → Id → Bool
@@ -34,10 +34,10 @@ last (o ∷ p ∷ rest) = last (p ∷ rest)
 abbrev pub last_id : List Operation → Option Id
 last_id ops = option_map (λ o. o.id) (last ops)
 
--- the text of an operation, empty if there is none
+-- the text of an operation, empty if there is none or its text is left out
 abbrev pub text_in : Option Operation → List ℕ
 text_in None = []
-text_in (Some o) = o.text
+text_in (Some o) = own_text o
 
 -- the text of the greatest shown id, empty where none is shown
 abbrev pub text_of : List Operation → Segment → List ℕ
@@ -84,5 +84,5 @@ picked (ChapterLine chapter) = Line chapter
 -- the text of a pick: the chapter's own line, the operation's text, or the empty text
 abbrev pub picked_text : Pick → List ℕ
 picked_text (Line chapter) = chapter_line chapter
-picked_text (Greatest o) = o.text
+picked_text (Greatest o) = own_text o
 picked_text Empty = []

@@ -1,12 +1,18 @@
 // The index of a set, chapter by chapter.
 ghost use Rattle.std.specs.Prelude.{◌≡◌, ◌≤◌, IsTrue, OnOk, OnErr};
 ghost use Rattle.usfm_ref.specs.Segments.{segment};
-ghost use Rattle.op_core.specs.Ids.{ids_rise};
+ghost use Rattle.op_core.specs.Ids.{ids_rise, same_id};
+ghost use Rattle.op_core.specs.Thinned as thinned;
+ghost use Rattle.std.specs.List.{list_any};
+ghost use Rattle.std.specs.Prelude.{not, length, filter};
 ghost use Rattle.op_core.specs.Sets as sets;
 ghost use Rattle.op_core.specs.Sets.{IsOpSet};
-ghost use Rattle.op_core.specs.Index.{register_of, shown_in, missing_in, shown_room_in, missing_room_in, IsOrderly, IsIndex, AreApart, AreInside, HasRoomFor, Prepares, AdmitsIn, unheld};
+ghost use Rattle.op_core.specs.Index.{register_of, shown_in, missing_in, shown_room_in, missing_room_in};
+ghost use Rattle.op_core.specs.Index.{IsOrderly, IsIndex, AreApart, AreInside, HasRoomFor, Prepares};
+ghost use Rattle.op_core.specs.Index.{AdmitsIn, unheld};
 
 use crate::chapter::{Chapter, admit_at_key, prepare_key};
+use crate::ids::has_id;
 use crate::op::Op;
 use crate::place::{Near, head_of, place_chapter, shown_of};
 use crate::register::unheld;
@@ -187,4 +193,35 @@ pub(crate) fn admit(
         &mut near.register,
         compared,
     );
+}
+
+// Leaves out the text of each operation that one of its segment names, and says how many had one.
+pub(crate) fn leave_past(
+    ops: &mut [Op],
+    chapters: &[Chapter],
+    near: &mut Near,
+    compared: &mut u64,
+) -> u64
+    requires set { IsOpSet ops.old }
+    requires index { IsIndex ops.old chapters.now }
+    ensures thin { ops.new ≡ thinned.thin ops.old }
+    ensures count { result ≡ length (filter (thinned.is_left_out ops.old) ops.old) }
+{
+    let mut count: u64 = 0;
+    for i in 0..ops.len() {
+        if is_past(chapters, &ops[i], near, compared) && ops[i].leave_text() {
+            count += 1;
+        }
+    }
+    count
+}
+
+// Whether the operation's segment does not show it.
+fn is_past(chapters: &[Chapter], op: &Op, near: &mut Near, compared: &mut u64) -> bool
+    requires orderly { IsOrderly chapters.now }
+    requires rising { IsTrue (ids_rise (shown_in (register_of op.now.segment chapters.now))) }
+    ensures { result ≡ not (list_any (same_id op.now.id) (shown_in (register_of op.now.segment chapters.now))) }
+{
+    let shown = shown_of(chapters, op.book(), op.key(), near, compared);
+    !has_id(shown, op.id(), compared)
 }

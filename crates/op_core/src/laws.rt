@@ -3,6 +3,7 @@ ghost use Rattle.std.specs.Prelude.{◌≡◌};
 ghost use Rattle.op_core.specs.CutsBack as cuts_back;
 ghost use Rattle.op_core.specs.Ids.{Id, id_cmp};
 ghost use Rattle.op_core.specs.Laws as laws;
+ghost use Rattle.op_core.specs.ThinLaws as thin_laws;
 
 use crate::op_id::OpId;
 
@@ -46,7 +47,7 @@ pub fn clash_commutes()
     ensures { laws.ClashCommutes }
 {}
 
-/// A clash is real, and the least: both sets hold the id, by operations that are not equal, and below
+/// A clash is real, and the least: both sets hold the id, by operations that do not agree, and below
 /// it they agree.
 pub fn clash_is_least()
     ensures { laws.ClashIsLeast }
@@ -57,13 +58,14 @@ pub fn no_clash_agrees()
     ensures { laws.NoClashAgrees }
 {}
 
-/// Two ways of joining sets whose operations are together the same are refused alike.
+/// Two ways of joining sets without thinned operations, which are together the same, are refused
+/// alike.
 pub fn refused_alike()
     ensures { laws.RefusedAlike }
 {}
 
-/// Sets whose operations are together the same, joined in whatever order, grouping and repetition,
-/// have one union, and so one export of every book.
+/// Sets without thinned operations, which are together the same, joined in whatever order, grouping
+/// and repetition, have one union, and so one export of every book.
 pub fn equal_unions_export_alike()
     ensures { laws.EqualUnionsExportAlike }
 {}
@@ -82,4 +84,169 @@ pub fn picks_are_exported()
 /// The export of a book of a set is UTF-8.
 pub fn exports_are_text()
     ensures { cuts_back.ExportsAreText }
+{}
+
+/// Two operations agree if they are equal, or if one is thinned and they are equal but for their texts.
+pub fn agree_means()
+    ensures { thin_laws.AgreeMeans }
+{}
+
+/// There is no clash exactly where what two sets hold at each id agrees.
+pub fn no_clash_means()
+    ensures { thin_laws.NoClashMeans }
+{}
+
+/// The union of legal sets without a clash is legal.
+pub fn join_is_legal()
+    ensures { thin_laws.JoinIsLegal }
+{}
+
+/// What is joined stands for what is joined in full, and is not refused.
+pub fn join_stands()
+    ensures { thin_laws.JoinStands }
+{}
+
+/// What is thinned stands for the same full set.
+pub fn thin_stands()
+    ensures { thin_laws.ThinStands }
+{}
+
+/// Thinning again changes nothing.
+pub fn thin_once()
+    ensures { thin_laws.ThinOnce }
+{}
+
+/// A set without thinned operations stands for itself.
+pub fn full_stands()
+    ensures { thin_laws.FullStands }
+{}
+
+/// A legal subset by ids stands for the same subset.
+pub fn subset_stands()
+    ensures { thin_laws.SubsetStands }
+{}
+
+/// A legal subset by anything but the texts stands for the same subset.
+pub fn filter_stands()
+    ensures { thin_laws.FilterStands }
+{}
+
+/// A delta of a legal set is legal.
+pub fn delta_is_legal()
+    ensures { thin_laws.DeltaIsLegal }
+{}
+
+/// A delta stands for the same operations of the full set.
+pub fn delta_stands()
+    ensures { thin_laws.DeltaStands }
+{}
+
+/// A set shows what the full set shows, with the texts.
+pub fn shows_same()
+    ensures { thin_laws.ShowsSame }
+{}
+
+/// A set picks what the full set picks.
+pub fn picks_same()
+    ensures { thin_laws.PicksSame }
+{}
+
+/// Texts, ids, numbers and awaited ids are those of the full set.
+pub fn says_same()
+    ensures { thin_laws.SaysSame }
+{}
+
+/// A new full operation keeps what stands for what.
+pub fn put_stands()
+    ensures { thin_laws.PutStands }
+{}
+
+/// Sets that stand for full ones without a clash are joined in any order.
+pub fn stand_ins_join()
+    ensures { thin_laws.StandInsJoin }
+{}
+
+/// Of full sets one grouping is refused where the other is.
+pub fn full_groupings_alike()
+    ensures { thin_laws.FullGroupingsAlike }
+{}
+
+/// Sets with equal skeletons stand for one set.
+pub fn same_skeleton_one_whole()
+    ensures { thin_laws.SameSkeletonOneWhole }
+{}
+
+/// Sets with equal skeletons show the same.
+pub fn same_skeleton_shows_same()
+    ensures { thin_laws.SameSkeletonShowsSame }
+{}
+
+/// Legal sets with equal skeletons that do not clash show the same.
+pub fn skeleton_shows()
+    ensures { thin_laws.SkeletonShows }
+{}
+
+/// They pick the same.
+pub fn skeleton_picks()
+    ensures { thin_laws.SkeletonPicks }
+{}
+
+/// Of a set without thinned operations, what is sent is what is lacked alone.
+pub fn full_delta()
+    ensures { thin_laws.FullDelta }
+{}
+
+/// What is sent to a set is not refused there, and adds what the whole adds, but for texts.
+pub fn delta_joins()
+    ensures { thin_laws.DeltaJoins }
+{}
+
+/// What is sent adds to full sets what the whole adds.
+pub fn deltas_add()
+    ensures { thin_laws.DeltasAdd }
+{}
+
+/// Sets of one family are joined without a clash, and the union is of it.
+pub fn family_joins()
+    ensures { thin_laws.FamilyJoins }
+{}
+
+/// What is thinned is of the same family.
+pub fn family_thins()
+    ensures { thin_laws.FamilyThins }
+{}
+
+/// Sets of one family with the same ids, joined in any way, show the same.
+pub fn unions_alike()
+    ensures { thin_laws.UnionsAlike }
+{}
+
+/// A full operation of a held id that agrees with what is held changes nothing.
+pub fn put_held()
+    ensures { thin_laws.PutHeld }
+{}
+
+/// Texts of operations that are named may be left out.
+pub fn thin_where_is_legal()
+    ensures { thin_laws.ThinWhereIsLegal }
+{}
+
+/// What is new is joined first, and then texts are left out.
+pub fn join_in_two_steps()
+    ensures { thin_laws.JoinInTwoSteps }
+{}
+
+/// A held operation is named exactly where its segment does not show it.
+pub fn past_is_not_shown()
+    ensures { thin_laws.PastIsNotShown }
+{}
+
+/// They export the same.
+pub fn skeleton_exports()
+    ensures { thin_laws.SkeletonExports }
+{}
+
+/// A set that stands for a full one of a family is of the family.
+pub fn family_of_whole()
+    ensures { thin_laws.FamilyOfWhole }
 {}

@@ -1,6 +1,7 @@
 // Two rising lists of operations, walked side by side.
-ghost use Rattle.std.specs.Prelude.{◌≡◌, ◌<◌, ◌+◌, ◌≤◌, OnOk, IfOk, [], ◌++◌, IsTrue, is_none, length, filter, take, drop, reverse, vec_len, vec_capacity};
-ghost use Rattle.std.specs.List.{AllByRecursion};
+ghost use Rattle.std.specs.Prelude.{◌≡◌, ◌<◌, ◌+◌, ◌≤◌, OnOk, IfOk, [], ◌++◌, IsTrue, is_none, length};
+ghost use Rattle.std.specs.Prelude.{filter, take, drop, reverse, vec_len, vec_capacity};
+ghost use Rattle.std.specs.List.{AllByRecursion, list_any};
 ghost use Rattle.op_core.specs.Ops.{IsOperation};
 ghost use Rattle.op_core.specs.Sets as sets;
 ghost use Rattle.op_core.specs.Index.{AreApart, IsBefore};
@@ -11,7 +12,7 @@ use crate::place::{find_near, place_last};
 use std::alloc::{AllocError, Global};
 use std::cmp::Ordering;
 
-// The least id under which two rising lists have operations that are not equal.
+// The least id under which two rising lists have operations that do not agree.
 pub(crate) fn clash(held: &[Op], other: &[Op], compared: &mut u64) -> Option<OpId>
     requires held { IsTrue (sets.rises held.now) }
     requires other { IsTrue (sets.rises other.now) }
@@ -28,7 +29,7 @@ pub(crate) fn clash(held: &[Op], other: &[Op], compared: &mut u64) -> Option<OpI
             Ordering::Less => left = later,
             Ordering::Greater => right = others,
             Ordering::Equal => {
-                if x != y {
+                if !x.agrees(y) {
                     return Some(x.id());
                 }
                 left = later;
@@ -37,6 +38,20 @@ pub(crate) fn clash(held: &[Op], other: &[Op], compared: &mut u64) -> Option<OpI
         }
     }
     None
+}
+
+// Whether one of the operations has an id that is not held.
+pub(crate) fn has_new(held: &[Op], new: &[Op], compared: &mut u64) -> bool
+    requires { IsTrue (sets.rises held.now) }
+    ensures { result ≡ list_any (λ o. is_none (sets.get held.now o.id)) new.now }
+{
+    let mut near = 0;
+    for op in new {
+        if find_near(held, op.id(), &mut near, compared).is_none() {
+            return true;
+        }
+    }
+    false
 }
 
 // Takes out of a rising list the operations whose ids are held.

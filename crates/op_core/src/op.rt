@@ -1,11 +1,12 @@
-ghost use Rattle.std.specs.Prelude.{◌≡◌, IsTrue, string_bytes};
+ghost use Rattle.std.specs.Prelude.{◌≡◌, IsTrue, string_bytes, option_map, Some, None};
 ghost use Rattle.std.specs.Cmp.{partial_equiv_from_equiv};
 ghost use Rattle.std.specs.Cmp.Lexicographic.{pointwise};
 ghost use Rattle.std.specs.List.{list_all};
 ghost use Rattle.usfm_ref.specs.Segments.{segment};
 ghost use Rattle.verse_cut.specs.Reading.{text_fits};
 ghost use Rattle.op_core.specs.Ids as ids;
-ghost use Rattle.op_core.specs.Ops.{IsOperation, in_segment};
+ghost use Rattle.op_core.specs.Ops.{IsOperation, in_segment, bare, agree, same_bare};
+ghost use Rattle.op_core.specs.Ops as ops;
 
 use crate::op_id::OpId;
 use std::marker::Model;
@@ -19,19 +20,19 @@ pub struct Op {
     book: Book,
     key: Key,
     replaced: Vec<OpId>,
-    text: String,
+    text: Option<String>,
 }
 
 impl Model for Op {
-    ghost use Rattle.std.specs.Prelude.{string_bytes};
+    ghost use Rattle.std.specs.Prelude.{string_bytes, option_map};
     ghost use Rattle.usfm_ref.specs.Segments.{segment};
     ghost use Rattle.op_core.specs.Ops.{Operation, IsOperation};
 
     ghost Value = { Operation };
 
-    ghost view = { λ a. record { id = a.id; segment = segment a.book a.key; replaced = a.replaced.items; text = string_bytes a.text } };
+    ghost view = { λ a. record { id = a.id; segment = segment a.book a.key; replaced = a.replaced.items; text = option_map (λ t. string_bytes t) a.text } };
 
-    ghost invariant = { λ a. IsOperation (record { id = a.id; segment = segment a.book a.key; replaced = a.replaced.items; text = string_bytes a.text }) };
+    ghost invariant = { λ a. IsOperation (record { id = a.id; segment = segment a.book a.key; replaced = a.replaced.items; text = option_map (λ t. string_bytes t) a.text }) };
 }
 
 impl Op {
@@ -41,7 +42,7 @@ impl Op {
     pub fn new(id: OpId, book: Book, key: Key, replaced: Vec<OpId>, text: String) -> Op
         requires falls { IsTrue (ids.names_fall id replaced.items) }
         requires fits { IsTrue (text_fits book key (string_bytes text)) }
-        ensures { result ≡ record { id = id; segment = segment book key; replaced = replaced.items; text = string_bytes text } }
+        ensures { result ≡ record { id = id; segment = segment book key; replaced = replaced.items; text = Some (string_bytes text) } }
     {
         // Each part is looked at, which shows that it is within its ranges.
         let _ = &id.number;
@@ -54,7 +55,26 @@ impl Op {
             book,
             key,
             replaced,
-            text,
+            text: Some(text),
+        }
+    }
+
+    /// The operation of these parts whose text is left out. The replaced ids have to rise, each with
+    /// a smaller number than the operation's.
+    pub fn thinned(id: OpId, book: Book, key: Key, replaced: Vec<OpId>) -> Op
+        requires falls { IsTrue (ids.names_fall id replaced.items) }
+        ensures { result ≡ record { id = id; segment = segment book key; replaced = replaced.items; text = None } }
+    {
+        let _ = &id.number;
+        let _ = book.code();
+        let _ = &key.chapter;
+        look_at_each(&replaced);
+        Op {
+            id,
+            book,
+            key,
+            replaced,
+            text: None,
         }
     }
 
@@ -87,11 +107,50 @@ impl Op {
         &self.replaced
     }
 
-    /// Its text, lent from it.
-    pub fn text(&self) -> &str
-        ensures { result.now ≡ self.now.text }
+    /// Its text, lent from it, and none exactly for a thinned one.
+    pub fn text(&self) -> Option<&str>
+        ensures { option_map (λ t. t.now) result ≡ self.now.text }
     {
-        self.text.as_str()
+        match &self.text {
+            None => None,
+            Some(text) => Some(text.as_str()),
+        }
+    }
+
+    /// Its text, lent from it, and the empty text for a thinned one.
+    pub fn text_or_empty(&self) -> &str
+        ensures { result.now ≡ ops.own_text self.now }
+    {
+        match &self.text {
+            None => "",
+            Some(text) => text.as_str(),
+        }
+    }
+
+    // Leaves its text out, and says whether it had one.
+    pub(crate) fn leave_text(&mut self) -> bool
+        ensures bare { self.new ≡ bare self.old }
+        ensures was { result ≡ ops.is_full self.old }
+    {
+        let was = self.text.is_some();
+        self.text = None;
+        was
+    }
+
+    // Whether the two are equal, or at least one is thinned and they are equal but for their texts.
+    pub(crate) fn agrees(&self, other: &Op) -> bool
+        ensures { result ≡ agree self.now other.now }
+    {
+        self.same_parts(other) && texts_agree(self.text(), other.text())
+    }
+
+    // Whether the two are equal but for their texts.
+    fn same_parts(&self, other: &Op) -> bool
+        ensures { result ≡ same_bare self.now other.now }
+    {
+        self.id == other.id
+            && other.in_segment(self.book, self.key)
+            && same_ids(&self.replaced, &other.replaced)
     }
 
     // Whether the operation is of the segment.
@@ -112,10 +171,26 @@ impl PartialEq for Op {
     ghost laws = { partial_equiv_from_equiv same_op_equiv };
 
     fn eq(&self, other: &Op) -> bool {
-        self.id == other.id
-            && other.in_segment(self.book, self.key)
-            && same_ids(&self.replaced, &other.replaced)
-            && self.text.as_bytes() == other.text.as_bytes()
+        self.same_parts(other) && same_text(self.text(), other.text())
+    }
+}
+
+fn same_text(left: Option<&str>, right: Option<&str>) -> bool
+    ensures { result ≡ ops.same_text (option_map (λ t. t.now) left.entry) (option_map (λ t. t.now) right.entry) }
+{
+    match (left, right) {
+        (None, None) => true,
+        (Some(left), Some(right)) => left.as_bytes() == right.as_bytes(),
+        _ => false,
+    }
+}
+
+fn texts_agree(left: Option<&str>, right: Option<&str>) -> bool
+    ensures { result ≡ ops.texts_agree (option_map (λ t. t.now) left.entry) (option_map (λ t. t.now) right.entry) }
+{
+    match (left, right) {
+        (Some(left), Some(right)) => left.as_bytes() == right.as_bytes(),
+        _ => true,
     }
 }
 

@@ -7,9 +7,11 @@ ghost use Rattle.usfm_ref.specs.Keys as keys;
 ghost use Rattle.usfm_ref.specs.Keys.{key_cmp};
 ghost use Rattle.usfm_ref.specs.Segments.{segment, segment_cmp};
 ghost use Rattle.usfm_ref.specs.Rising.{rises_by};
-ghost use Rattle.op_core.specs.Ids.{id_below};
+ghost use Rattle.op_core.specs.Ids.{id_below, same_id};
+ghost use Rattle.op_core.specs.Thinned as thinned;
 ghost use Rattle.op_core.specs.Sets as sets;
-ghost use Rattle.op_core.specs.Index.{place_of, register_at, register_of, registers_of, shown_in, is_in, IsOrderly, Counts};
+ghost use Rattle.op_core.specs.Index.{place_of, register_at, register_of, registers_of, shown_in, is_in};
+ghost use Rattle.op_core.specs.Index.{IsOrderly, Counts};
 
 use crate::chapter::Chapter;
 use crate::ids::is_below;
@@ -89,6 +91,21 @@ pub(crate) fn op_at<'a>(ops: &'a [Op], at: usize, id: OpId) -> Option<&'a Op>
         }
     }
     None
+}
+
+// Leaves out the text of the operation of an id, if there is one, and says whether it had one.
+pub(crate) fn leave_text_at(ops: &mut [Op], at: usize, id: OpId) -> bool
+    requires rising { IsTrue (sets.rises ops.old) }
+    requires place { at ≡ position_or_len (λ o. not (id_below o.id id)) ops.old }
+    ensures thin { ops.new ≡ thinned.thin_where (same_id id) ops.old }
+    ensures was { result ≡ thinned.has_text (sets.get ops.old id) }
+{
+    if at < ops.len() {
+        if ops[at].id() == id {
+            return ops[at].leave_text();
+        }
+    }
+    false
 }
 
 // Whether an operation of the segment has the id.

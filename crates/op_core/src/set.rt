@@ -1,8 +1,11 @@
-ghost use Rattle.std.specs.Prelude.{◌≡◌, ◌≢◌, ◌&&◌, ◌||◌, ◌+◌, ◌≤◌, ◌↔◌, [], ◌∷◌, length, map, not, is_none, None, IsTrue, IsOk, IfOk, IfErr, OnOk, OnErr};
+ghost use Rattle.std.specs.Prelude.{◌≡◌, ◌≢◌, ◌&&◌, ◌||◌, ◌+◌, ◌≤◌, ◌↔◌, [], ◌∷◌, length, map, not, is_none};
+ghost use Rattle.std.specs.Prelude.{None, IsTrue, IsOk, IfOk, IfErr, OnOk, OnErr};
 ghost use Rattle.std.specs.Option.{option_copied};
 ghost use Rattle.usfm_ref.specs.Segments.{segment};
 ghost use Rattle.op_core.specs.Ids.{Id, same_id};
+ghost use Rattle.op_core.specs.Ops as ops;
 ghost use Rattle.op_core.specs.Sets as sets;
+ghost use Rattle.op_core.specs.Thinned as thinned;
 ghost use Rattle.op_core.specs.Shown as texts;
 ghost use Rattle.op_core.specs.Lists as lists;
 ghost use Rattle.op_core.specs.Index.{is_missed, is_missed_in};
@@ -10,13 +13,17 @@ ghost use Rattle.op_core.specs.NextIds as next_ids;
 ghost use Rattle.std.specs.List.{AllByRecursion, list_any};
 ghost use Rattle.usfm_ref.specs.Keys.{is_verse_of};
 
+mod thinning;
+
 use crate::books::Books;
 use crate::chapter::Chapter;
 use crate::fault::SetFault;
 use crate::finder::Finder;
 use crate::index::enroll;
 use crate::keys::Keys;
-use crate::merge::{clash, leave_held, look_at_each, merge, place_first, reserve_ops, tail_of};
+use crate::merge::{
+    clash, has_new, leave_held, look_at_each, merge, place_first, reserve_ops, tail_of,
+};
 use crate::op::Op;
 use crate::op_id::OpId;
 use crate::ops::Ops;
@@ -42,12 +49,14 @@ impl Model for OpSet {
     ghost use Rattle.op_core.specs.Ops.{Operation};
     ghost use Rattle.op_core.specs.Sets.{IsOpSet};
     ghost use Rattle.op_core.specs.Index.{IsIndex};
+    ghost use Rattle.op_core.specs.Thinned.{is_legal};
+    ghost use Rattle.std.specs.Prelude.{IsTrue};
 
     ghost Value = { List Operation };
 
     ghost view = { λ s. s.ops.items };
 
-    ghost invariant = { λ s. IsOpSet s.ops.items × IsIndex s.ops.items s.chapters.items };
+    ghost invariant = { λ s. IsOpSet s.ops.items × IsIndex s.ops.items s.chapters.items × IsTrue (is_legal s.ops.items) };
 }
 
 impl OpSet {
@@ -81,6 +90,7 @@ impl OpSet {
     pub fn iter(&self) -> Ops<'_>
         ensures items { result ≡ self.now }
         ensures set { sets.IsOpSet self.now }
+        ensures legal { IsTrue (thinned.is_legal self.now) }
     {
         Ops::new(&self.ops)
     }
@@ -109,13 +119,14 @@ impl OpSet {
         Finder::new(&self.ops)
     }
 
-    /// Adds an operation, and says whether it is new. One that is held already, alike, is dropped,
-    /// and then nothing grows.
+    /// Adds an operation with its text, and says whether it is new. Where its id is held, what is
+    /// held stays, thinned if it was, and nothing grows.
     ///
     /// # Errors
-    /// `Clash` with the operation's id where a held operation has that id and is not equal;
+    /// `Clash` with the operation's id where a held operation has that id and does not agree with it;
     /// `Memory` where a growth was refused. The set is then unchanged, and the operation dropped.
     pub fn insert(&mut self, op: Op) -> Result<bool, SetFault>
+        requires full { IsTrue (ops.is_full op) }
         ensures ok { OnOk result (self.new ≡ sets.put op self.old) }
         ensures new { IfOk result (λ new. new ≡ is_none (sets.get self.old op.id)) }
         ensures agrees { OnOk result (sets.clash self.old (op ∷ []) ≡ None) }
@@ -126,7 +137,7 @@ impl OpSet {
         let id = op.id();
         let at = place_last(&self.ops, id, &mut self.compared);
         if let Some(held) = op_at(&self.ops, at, id) {
-            return if *held == op {
+            return if held.agrees(&op) {
                 Ok(false)
             } else {
                 Err(SetFault::Clash(id))
@@ -147,11 +158,11 @@ impl OpSet {
         Ok(true)
     }
 
-    /// Adds the operations of another set, and says how many are new. Where each of them is held
-    /// already, alike, nothing grows.
+    /// Adds the operations of another set, and says how many are new. An operation that either set
+    /// has thinned is thinned in the union. Where the id of each is held already, nothing grows.
     ///
     /// # Errors
-    /// `Clash` with the least id under which the two sets hold operations that are not equal;
+    /// `Clash` with the least id under which the two sets hold operations that do not agree;
     /// `Memory` where a growth was refused. The set is then unchanged, and the other one dropped.
     pub fn join(&mut self, other: OpSet) -> Result<u64, SetFault>
         ensures ok { OnOk result (self.new ≡ sets.join self.old other) }
@@ -164,19 +175,28 @@ impl OpSet {
         if let Some(id) = clash(&self.ops, &other.ops, &mut self.compared) {
             return Err(SetFault::Clash(id));
         }
+        if !has_new(&self.ops, &other.ops, &mut self.compared) {
+            self.leave_thinned(&other.ops);
+            return Ok(0);
+        }
         let mut new = other.ops;
+        let thinned = thinning::ids(*self.ops.allocator(), &new)?;
         leave_held(&mut new, &self.ops, &mut self.compared);
-        Ok(self.join_rising(new)?)
+        let count = self.join_rising(new)?;
+        self.leave_texts(&thinned);
+        Ok(count)
     }
 
-    /// Adds operations that rise by id and of which none is held, and says how many they are. What
-    /// lies after the first of them is moved once, however many they are. No operation takes no memory.
+    /// Adds operations that rise by id and of which none is held, and says how many they are. In the
+    /// union each thinned operation has to be named by one of its segment. What lies after the first
+    /// of them is moved once, however many they are. No operation takes no memory.
     ///
     /// # Errors
     /// Out of memory alone. The set is then unchanged, and the operations dropped.
     pub fn join_rising(&mut self, new: Vec<Op>) -> Result<u64, AllocError>
         requires rising { IsTrue (sets.rises new.items) }
         requires apart { AllByRecursion (λ o. sets.get self.old o.id ≡ None) new.items }
+        requires legal { IsTrue (thinned.is_legal (sets.join self.old new.items)) }
         ensures ok { OnOk result (self.new ≡ sets.join self.old new.items) }
         ensures count { IfOk result (λ n. n ≡ length new.items) }
         ensures none { new.items ≡ [] → IsOk result }
@@ -343,7 +363,7 @@ impl OpSet {
     {
         match self.greatest(book, key) {
             None => true,
-            Some(op) => op.text().is_empty(),
+            Some(op) => op.text_or_empty().is_empty(),
         }
     }
 

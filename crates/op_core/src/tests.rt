@@ -39,7 +39,18 @@ pub(crate) fn op(
 
 // Inserts an operation. The contract of `insert` stays out of the proofs of the tests that call this.
 pub(crate) fn put(set: &mut OpSet, op: Op) -> Result<bool, Fail> {
+    if op.text().is_none() {
+        return Err(Fail::from("the operation is thinned"));
+    }
     Ok(set.insert(op)?)
+}
+
+// Why an operation is not inserted.
+fn set_fault(set: &mut OpSet, op: Op) -> Option<SetFault> {
+    if op.text().is_none() {
+        return None;
+    }
+    set.insert(op).err()
 }
 
 // Joins a set to another one, likewise.
@@ -164,7 +175,7 @@ fn sets_are_joined(rt: HostRuntime) -> Result<(), Fail> {
     assert_eq!(rt; set.iter().count(), 3);
     let shown = set.shown(alloc, Book::read("MAT")?, verse(1)?)?;
     assert_eq!(rt; shown.len(), 1);
-    assert!(rt; shown[0].id() == op_id(3, "ben")? && shown[0].text() == "\\v 1 At\n");
+    assert!(rt; shown[0].id() == op_id(3, "ben")? && shown[0].text() == Some("\\v 1 At\n"));
     Ok(())
 }
 
@@ -237,5 +248,69 @@ fn segments_stand_apart(rt: HostRuntime) -> Result<(), Fail> {
     .ok_or("key")?;
     put(&mut early, op(alloc, ana2, zero, &[], "\\v 1 a\n")?)?;
     assert!(rt; matches!(&early.pick(mat, head(0)?), Picked::Nothing));
+    Ok(())
+}
+
+// The text of a held operation is left out.
+fn is_thinned(set: &OpSet, id: &OpId) -> bool {
+    set.get(id).is_some_and(|op| op.text().is_none())
+}
+
+#[test]
+fn replaced_texts_are_left_out(rt: HostRuntime) -> Result<(), Fail> {
+    let alloc = rt.alloc();
+    let ana2 = op_id(2, "ana")?;
+    let mut set = joined_set(alloc)?;
+    assert_eq!(rt; set.thin(), 1);
+    assert_eq!(rt; set.thin(), 0);
+    assert!(rt; is_thinned(&set, &ana2) && !is_thinned(&set, &op_id(1, "ana")?));
+    let mat = Book::read("MAT")?;
+    let picked = set.pick(mat, verse(1)?);
+    assert!(rt; matches!(&picked, Picked::Held(op) if op.text_or_empty() == "\\v 1 At\n"));
+    Ok(())
+}
+
+#[test]
+fn what_is_thinned_stays_thinned(rt: HostRuntime) -> Result<(), Fail> {
+    let alloc = rt.alloc();
+    let ana2 = op_id(2, "ana")?;
+    let mut set = joined_set(alloc)?;
+    assert_eq!(rt; set.thin(), 1);
+    // A thinned operation agrees with every text of its segment.
+    let other = op(alloc, ana2, verse(1)?, &[], "\\v 1 Xx\n")?;
+    assert!(rt; !put(&mut set, other)? && is_thinned(&set, &ana2));
+    assert_eq!(rt; join(&mut set, clashing_set(alloc)?)?, 2);
+    assert!(rt; set.len() == 5 && is_thinned(&set, &ana2));
+    // Of another segment it does not.
+    let moved = op(alloc, ana2, verse(2)?, &[], "\\v 2 x\n")?;
+    assert!(rt; set_fault(&mut set, moved) == Some(SetFault::Clash(ana2)));
+    Ok(())
+}
+
+#[test]
+fn what_another_set_thinned_is_thinned(rt: HostRuntime) -> Result<(), Fail> {
+    let alloc = rt.alloc();
+    let ana2 = op_id(2, "ana")?;
+    for held in [first_set(alloc)?, joined_set(alloc)?] {
+        let mut set = held;
+        let mut thinner = joined_set(alloc)?;
+        assert_eq!(rt; thinner.thin(), 1);
+        let new = 3 - set.len() as u64;
+        assert_eq!(rt; join(&mut set, thinner)?, new);
+        assert!(rt; set.len() == 3 && is_thinned(&set, &ana2));
+    }
+    Ok(())
+}
+
+// 3 ben on MAT 1:2 names 2 ana of MAT 1:1, which stays shown there.
+#[test]
+fn what_another_segment_names_stays_full(rt: HostRuntime) -> Result<(), Fail> {
+    let alloc = rt.alloc();
+    let ana2 = op_id(2, "ana")?;
+    let mut set = first_set(alloc)?;
+    let over = op(alloc, op_id(3, "ben")?, verse(2)?, &[ana2], "\\v 2 b\n")?;
+    assert!(rt; put(&mut set, over)?);
+    assert_eq!(rt; set.thin(), 0);
+    assert!(rt; !is_thinned(&set, &ana2));
     Ok(())
 }
