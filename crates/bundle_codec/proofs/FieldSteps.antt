@@ -1,16 +1,17 @@
 -- A walk over the fields of a key and of a text, in bytes that were judged.
-use Rattle.std.proofs.Common.{◌≡◌, ◌≢◌, ℕ, zero, suc, ◌^◌, ◌<◌, true, List, [], ◌∷◌, ◌++◌, length, None, Some, Ok, IsOk, refl, sym, ap, ◌∙◌, append_assoc, arith}
+use Rattle.std.proofs.Common.{◌≡◌, ◌≢◌, ℕ, zero, suc, ◌^◌, ◌<◌, true, false, List, [], ◌∷◌, ◌++◌, length, Option, None, Some, Ok, IsOk, refl, sym, ap, subst, ◌∙◌, append_assoc, arith}
 use Rattle.std.specs.Int.{w16, w64, to_be_bytes}
 use Rattle.std.proofs.lemmas.Bool.{and_parts}
 use Rattle.usfm_ref.specs.declared.key.Place.{Place}
 use Rattle.usfm_ref.specs.declared.key.Place.TheVariants.{Head, Verse}
 use Rattle.usfm_ref.specs.Keys.{is_place, is_key}
+use Rattle.op_core.specs.Ops.{or_empty}
 use Rattle.bundle_codec.specs.declared.fault.BundleFault.{BundleFault}
 use Rattle.bundle_codec.specs.declared.fault.BundleFault.TheVariants.{Truncated}
 use Rattle.bundle_codec.specs.Spelling.{place, key, counted_text, body}
-use Rattle.bundle_codec.specs.Reading.{AreBytes, any, byte_at, block_at, number_at, place_of, place_at, key_at, counted_text_at, body_at}
-use Rattle.bundle_codec.proofs.Readers.{byte_reads, block_reads, number_reads, wide16, wide64}
-use Rattle.bundle_codec.proofs.Spelled.{kind_of, verse_of, letter_of, place_from, place_spelled, place_reads, key_reads, counted_text_reads, body_reads, key_below}
+use Rattle.bundle_codec.specs.Reading.{◌>>=◌, AreBytes, any, byte_at, block_at, number_at, place_of, place_at, key_at, counted_text_at, body_at}
+use Rattle.bundle_codec.proofs.FieldReaders.{byte_reads, block_reads, number_reads, wide16, wide64}
+use Rattle.bundle_codec.proofs.FieldsSpelled.{kind_of, verse_of, letter_of, place_from, place_spelled, place_reads, key_reads, counted_text_reads, tag_of, after_tag, IsBody, body_spelled, body_reads, key_below}
 use Rattle.bundle_codec.proofs.Steps.{Front, front, is_ok, at_front, same_value, same_rest}
 
 -- ---- a place
@@ -144,23 +145,57 @@ module _ (bytes : List ℕ) (fine : AreBytes bytes) (h : IsOk (counted_text_at b
 
 -- ---- a tag and a text
 
-module _ (bytes : List ℕ) (fine : AreBytes bytes) (h : IsOk (body_at 0 bytes)) where
-  body_front : Front (body_at 0) body (λ text. length text < 2 ^ 64) bytes
-  body_front = front (body_reads 0) bytes fine h
+module _ (bytes : List ℕ) (fine : AreBytes bytes) (h : IsOk (body_at false 0 bytes)) where
+  body_front : Front (body_at false 0) body (IsBody false) bytes
+  body_front = front (body_reads false 0) bytes fine h
 
-  tag_spelled : byte_at any Truncated bytes ≡ Ok (1, counted_text body_front.first ++ body_front.left)
-  tag_spelled = at_front (byte_reads any Truncated) 1 (counted_text body_front.first ++ body_front.left) bytes body_front.parts refl
+  tag_spelled : byte_at any Truncated bytes ≡ Ok (tag_of body_front.first, after_tag body_front.first ++ body_front.left)
+  tag_spelled = at_front (byte_reads any Truncated) (tag_of body_front.first) (after_tag body_front.first ++ body_front.left) bytes
+      (body_front.parts ∙ ap (λ (w : List ℕ). w ++ body_front.left) (sym (body_spelled body_front.first))) refl
 
   pub body_tag : IsOk (byte_at any Truncated bytes)
   body_tag = is_ok (byte_at any Truncated bytes) _ tag_spelled
 
   module _ (tag : ℕ) (rest : List ℕ) (one : byte_at any Truncated bytes ≡ Ok (tag, rest)) where
-    body_text_spelled : counted_text_at rest ≡ Ok (body_front.first, body_front.left)
-    body_text_spelled = at_front counted_text_reads body_front.first body_front.left rest
-        (same_rest (byte_at any Truncated bytes) _ _ _ _ tag_spelled one) body_front.fits
+    tag_is : tag ≡ tag_of body_front.first
+    tag_is = same_value (byte_at any Truncated bytes) _ _ _ _ tag_spelled one
 
-    pub body_text : IsOk (counted_text_at rest)
-    body_text = is_ok (counted_text_at rest) _ body_text_spelled
+    rest_is : rest ≡ after_tag body_front.first ++ body_front.left
+    rest_is = same_rest (byte_at any Truncated bytes) _ _ _ _ tag_spelled one
 
-    pub body_is : (found left : List ℕ) → counted_text_at rest ≡ Ok (found, left) → body_at 0 bytes ≡ Ok (found, left)
-    body_is found left two = body_front.is_read ∙ sym body_text_spelled ∙ two
+    pub body_none : tag ≡ 0 → body_at false 0 bytes ≡ Ok (None, rest)
+    body_none e = by body_front.first refl
+      where
+        by : (text : Option (List ℕ)) → body_front.first ≡ text → body_at false 0 bytes ≡ Ok (None, rest)
+        by None f = body_front.is_read
+            ∙ (λ i. Ok (f i, sym (rest_is ∙ ap (λ (x : Option (List ℕ)). after_tag x ++ body_front.left) f) i))
+        by (Some text) f = absurd (omega (arith, tag_is, e, ap tag_of f))
+
+    -- a text that follows the tag
+    record Text : Type 0 where
+      text : List ℕ
+      is : body_front.first ≡ Some text
+      spelled : counted_text_at rest ≡ Ok (text, body_front.left)
+
+    some_text : tag ≢ 0 → Text
+    some_text ne = by body_front.first refl
+      where
+        by : (text : Option (List ℕ)) → body_front.first ≡ text → Text
+        by None f = absurd (ne (tag_is ∙ ap tag_of f))
+        by (Some text) f = record {
+          text = text;
+          is = f;
+          spelled = at_front counted_text_reads text body_front.left rest
+              (rest_is ∙ ap (λ (x : Option (List ℕ)). after_tag x ++ body_front.left) f)
+              (subst (λ (x : Option (List ℕ)). length (or_empty x) < 2 ^ 64) f body_front.fits.1);
+        }
+
+    pub body_text : tag ≢ 0 → IsOk (counted_text_at rest)
+    body_text ne = is_ok (counted_text_at rest) _ (some_text ne).spelled
+
+    pub body_is : tag ≢ 0 → (found left : List ℕ) → counted_text_at rest ≡ Ok (found, left)
+        → body_at false 0 bytes ≡ Ok (Some found, left)
+    body_is ne found left two =
+        let t = some_text ne in
+        body_front.is_read ∙ ap (λ (x : Option (List ℕ)). Ok (x, body_front.left)) t.is
+        ∙ ap (λ r. r >>= λ x. Ok (Some x.0, x.1)) (sym t.spelled ∙ two)

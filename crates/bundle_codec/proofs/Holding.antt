@@ -1,5 +1,6 @@
 -- A map from names to ranges, with the ids of a set added one after another.
 use Rattle.std.proofs.Common.{◌≡◌, ℕ, ◌<◌, Bool, true, false, cond, ◌&&◌, ◌||◌, eqb, leb, List, [], ◌∷◌, ◌++◌, Option, Some, None, Result, Ok, Err, Vec, option_map, map, IsTrue, refl, sym, ap, subst, ◌∙◌, append_assoc, arith, inl, inr}
+use Rattle.std.proofs.Math.Bool.{and-true}
 use Rattle.std.specs.List.{list_all, AllByRecursion}
 use Rattle.std.specs.Option.{unwrap_or, is_some}
 use Rattle.std.specs.Ordering.{is_eq}
@@ -110,10 +111,6 @@ all_below n (r ∷ rs) each has =
     ap (λ b. b || has_number rs r.last) (lies_yes r.last r (range_bounds r p.0).1.0 (omega arith)) in
     and_from _ _ (lt-ltb r.last n (has r.last here)) (all_below n rs p.1 (λ k e. has k (or_later (lies_in k r) (has_number rs k) e)))
 
-and_true : (b : Bool) → (b && true) ≡ b
-and_true true = refl
-and_true false = refl
-
 and_false : (b : Bool) → (b && false) ≡ false
 and_false true = refl
 and_false false = refl
@@ -122,7 +119,7 @@ module _ (done : List Operation) (o : Operation) (rest : List Operation) (rising
   more_held : (q : List ℕ) (k : ℕ) → same_bytes q o.id.name ≡ true
       → is_some (get (done ++ o ∷ []) (id_of k q)) ≡ (is_some (get done (id_of k q)) || eqb k o.id.number)
   more_held q k same = held_append done o (id_of k q) ∙ ap (λ b. is_some (get done (id_of k q)) || (eqb k o.id.number && b)) same
-      ∙ ap (λ b. is_some (get done (id_of k q)) || b) (and_true (eqb k o.id.number))
+      ∙ ap (λ b. is_some (get done (id_of k q)) || b) (and-true (eqb k o.id.number))
 
   as_held : (q : List ℕ) (k : ℕ) → same_bytes q o.id.name ≡ false
       → is_some (get (done ++ o ∷ []) (id_of k q)) ≡ is_some (get done (id_of k q))

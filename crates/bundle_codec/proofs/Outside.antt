@@ -1,5 +1,6 @@
--- The operations of a set that lie outside a summary.
-use Rattle.std.proofs.Common.{◌≡◌, ℕ, suc, ◌+◌, ◌-◌, ◌≤◌, true, false, not, List, [], ◌∷◌, ◌++◌, length, take, drop, filter, Bool, cond, refl, sym, ap, ◌∙◌, arith}
+-- The operations of a set that lie outside a summary, and those that go with them.
+use Rattle.std.proofs.Common.{◌≡◌, ℕ, suc, ◌+◌, ◌-◌, ◌≤◌, Bool, true, false, cond, ◌&&◌, List, [], ◌∷◌, ◌++◌, length, filter, drop, sym, ap, ◌∙◌, arith}
+use Rattle.std.proofs.Math.Bool.{and-true}
 use Rattle.std.specs.Int.{w64, to_be_bytes}
 use Rattle.std.specs.List.{AllByRecursion, flat_map}
 use Rattle.std.proofs.lemmas.List.{append-nil}
@@ -7,10 +8,11 @@ use Rattle.usfm_ref.proofs.Sorted.{rises_filter}
 use Rattle.op_core.specs.Ids.{id_cmp}
 use Rattle.op_core.specs.Ops.{Operation}
 use Rattle.op_core.specs.Sets.{IsOpSet}
+use Rattle.op_core.specs.Thinned.{all_full, is_sent}
 use Rattle.op_core.proofs.Rising.{id_total}
-use Rattle.bundle_codec.specs.Spelling.{magic, operation, bundle}
+use Rattle.bundle_codec.specs.Spelling.{magic_of, operation, bundle}
 use Rattle.bundle_codec.specs.Summaries.{Known, covers, outside}
-use Rattle.bundle_codec.proofs.Wholes.{counted}
+use Rattle.bundle_codec.proofs.Refronted.{begun, refronted}
 
 all_filter : {A : Type 0} (P : A → Type 0) (p : A → Bool) (xs : List A) → AllByRecursion P xs → AllByRecursion P (filter p xs)
 all_filter P p [] h = tt
@@ -19,67 +21,53 @@ all_filter P p (x ∷ xs) h = let rest = all_filter P p xs h.1 in
 
 pub outside_set : (s : List Known) (held : List Operation) → IsOpSet held → IsOpSet (outside s held)
 outside_set s held set = record {
-  rising = rises_filter id_cmp id_total (λ (o : Operation). o.id) (λ o. not (covers s o.id)) held set.rising;
-  each = all_filter _ (λ o. not (covers s o.id)) held set.each;
+  rising = rises_filter id_cmp id_total (λ (o : Operation). o.id) (is_sent held (covers s)) held set.rising;
+  each = all_filter _ (is_sent held (covers s)) held set.each;
 }
 
-module _ (s : List Known) (o : Operation) (rest : List Operation) where
-  pub outside_in : covers s o.id ≡ true → outside s (o ∷ rest) ≡ outside s rest
-  outside_in h = rw h refl
-
-  pub outside_out : covers s o.id ≡ false → outside s (o ∷ rest) ≡ o ∷ outside s rest
-  outside_out h = rw h refl
-
-pub outside_fewer : (s : List Known) (held : List Operation) → length (outside s held) ≤ length held
-outside_fewer s [] = omega arith
-outside_fewer s (o ∷ held) = let rest = outside_fewer s held in
-    elim (covers s o.id) as (λ b. length (cond (not b) (o ∷ outside s held) (outside s held)) ≤ length (o ∷ held))
+fewer : (p : Operation → Bool) (held : List Operation) → length (filter p held) ≤ length held
+fewer p [] = omega arith
+fewer p (o ∷ held) = let rest = fewer p held in
+    elim (p o) as (λ b. length (cond b (o ∷ filter p held) (filter p held)) ≤ length (o ∷ held))
     [ true ↦ omega (arith, rest) | false ↦ omega (arith, rest) ]
 
--- a covered operation is counted off
-module _ (s : List Known) (o : Operation) (rest it all : List Operation) (n : ℕ) (parts : it ≡ o ∷ rest) (in_it : covers s o.id ≡ true)
-    (so_far : n + length (outside s it) ≡ length (outside s all) + length it) where
-  same : length (outside s it) ≡ length (outside s rest)
-  same = ap (λ (ops : List Operation). length (outside s ops)) parts ∙ ap length (outside_in s o rest in_it)
+-- ---- a walk over operations that writes those that pass, and counts the others off
 
+pub record Written (p : Operation → Bool) (all rest : List Operation) (bytes : List ℕ) (full : Bool) (count : ℕ) : Type 0 where
+  pub written : bytes ++ flat_map operation (filter p rest) ≡ begun ++ flat_map operation (filter p all)
+  pub format : (full && all_full (filter p rest)) ≡ all_full (filter p all)
+  pub counted : count + length (filter p rest) ≡ length (filter p all) + length rest
+
+module _ (p : Operation → Bool) (all it rest : List Operation) (o : Operation) (bytes : List ℕ) (full : Bool) (count : ℕ) (next : it ≡ o ∷ rest)
+    (w : Written p all it bytes full count) where
   longer : length it ≡ suc (length rest)
-  longer = ap length parts
+  longer = ap length next
 
-  pub counted_some : 1 ≤ n
-  counted_some = omega (arith, same, longer, so_far, outside_fewer s rest)
+  module _ (off : p o ≡ false) where
+    same : filter p it ≡ filter p rest
+    same = ap (filter p) next ∙ ap (λ b. cond b (o ∷ filter p rest) (filter p rest)) off
 
-  pub counted_off : (n - 1) + length (outside s rest) ≡ length (outside s all) + length rest
-  counted_off = omega (arith, same, longer, so_far, counted_some)
+    pub counted_some : 1 ≤ count
+    counted_some = omega (arith, ap length same, longer, w.counted, fewer p rest)
 
--- ---- a walk over the set that writes what is not covered, and counts the covered off
-
-abbrev begun : List ℕ
-begun = magic ++ to_be_bytes w64 0
-
-pub record Written (s : List Known) (all rest : List Operation) (coverage : List Known) (bytes : List ℕ) (count : ℕ) : Type 0 where
-  pub same : coverage ≡ s
-  pub written : bytes ++ flat_map operation (outside s rest) ≡ begun ++ flat_map operation (outside s all)
-  pub counted : count + length (outside s rest) ≡ length (outside s all) + length rest
-
-module _ (s : List Known) (all : List Operation) where
-  module _ (it rest : List Operation) (o : Operation) (coverage : List Known) (bytes : List ℕ) (count : ℕ) (next : it ≡ o ∷ rest)
-      (w : Written s all it coverage bytes count) where
-    pub written_some : covers s o.id ≡ true → 1 ≤ count
-    written_some in_it = counted_some s o rest it all count next in_it w.counted
-
-    pub written_off : covers s o.id ≡ true → (now : List Known) → now ≡ coverage → Written s all rest now bytes (count - 1)
-    written_off in_it now same = record {
-      same = same ∙ w.same;
-      written = ap (λ (ops : List Operation). bytes ++ flat_map operation ops) (sym (outside_in s o rest in_it))
-          ∙ ap (λ (ops : List Operation). bytes ++ flat_map operation (outside s ops)) (sym next) ∙ w.written;
-      counted = counted_off s o rest it all count next in_it w.counted;
+    pub goes_past : Written p all rest bytes full (count - 1)
+    goes_past = record {
+      written = ap (λ (ops : List Operation). bytes ++ flat_map operation ops) (sym same) ∙ w.written;
+      format = ap (λ (ops : List Operation). full && all_full ops) (sym same) ∙ w.format;
+      counted = omega (arith, ap length same, longer, w.counted, counted_some);
     }
 
-  module _ (it : List Operation) (coverage : List Known) (bytes : List ℕ) (count : ℕ) (end : it ≡ [])
-      (w : Written s all it coverage bytes count) where
-    pub written_all : bytes ≡ begun ++ flat_map operation (outside s all)
-    written_all = sym (append-nil bytes) ∙ ap (λ (ops : List Operation). bytes ++ flat_map operation (outside s ops)) (sym end) ∙ w.written
+-- at the end all that pass are written
+module _ (p : Operation → Bool) (all it : List Operation) (bytes : List ℕ) (full : Bool) (count : ℕ) (end : it ≡ [])
+    (w : Written p all it bytes full count) where
+  none : filter p it ≡ []
+  none = ap (filter p) end
 
-    pub is_bundle : (made : List ℕ) → made ≡ take 8 bytes ++ (to_be_bytes w64 count ++ drop 16 bytes) → made ≡ bundle (outside s all)
-    is_bundle made h = counted (outside s all) 0 bytes written_all count made
-        (omega (arith, w.counted, ap (λ (ops : List Operation). length (outside s ops)) end, ap length end)) h
+  pub written_all : bytes ≡ begun ++ flat_map operation (filter p all)
+  written_all =
+      sym (append-nil bytes) ∙ ap (λ (ops : List Operation). bytes ++ flat_map operation ops) (sym none) ∙ w.written
+
+  pub is_bundle : (made : List ℕ) → made ≡ (magic_of full ++ to_be_bytes w64 count) ++ drop 16 bytes → made ≡ bundle (filter p all)
+  is_bundle made h = refronted (filter p all) bytes written_all full count made
+      (sym (and-true full) ∙ ap (λ (ops : List Operation). full && all_full ops) (sym none) ∙ w.format)
+      (omega (arith, w.counted, ap length none, ap length end)) h

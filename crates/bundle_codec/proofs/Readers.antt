@@ -1,14 +1,12 @@
--- What a reader and a spelling have to do with each other, for fields and for what is made of fields.
-use Rattle.std.proofs.Common.{◌≡◌, ℕ, zero, suc, ◌+◌, ◌^◌, ◌<◌, ◌≤◌, Bool, true, false, cond, eqb, ltb, List, [], ◌∷◌, ◌++◌, length, take, drop, Result, Ok, Err, refl, sym, ap, subst, ◌∙◌, append_assoc, arith, inl, inr, ◌⊎◌}
-use Rattle.std.specs.Int.{Width, w16, w64, byte_len, from_be_bytes, to_be_bytes}
+-- What a reader and a spelling have to do with each other, for what is made of fields.
+use Rattle.std.proofs.Common.{◌≡◌, ℕ, zero, suc, ◌+◌, Bool, true, false, cond, List, [], ◌∷◌, ◌++◌, length, take, drop, Result, Ok, Err, refl, sym, ap, subst, ◌∙◌, append_assoc, arith, inl, inr, ◌⊎◌}
 use Rattle.std.specs.List.{flat_map}
-use Rattle.std.proofs.lemmas.Bool.{cases_lt, ltb-false, le-ltb, eqb-true, eq-eqb, lt-ltb}
-use Rattle.std.proofs.lemmas.List.{take_at, drop_at, take-append-drop, length-append, length-take, length-take-le, get_or-drop, get_or-take, get_or_past, take-append-le, drop-append-le}
+use Rattle.std.proofs.lemmas.Bool.{cases_lt}
+use Rattle.std.proofs.lemmas.List.{length-take, get_or-drop, get_or-take, get_or_past}
 use Rattle.std.proofs.lemmas.List.Concat.{flat_map-cons}
-use Rattle.std.proofs.lemmas.Nat.{be_bytes_2, be_bytes_8, from_be_bytes-to_be_bytes_2, from_be_bytes-to_be_bytes_8}
 use Rattle.bundle_codec.specs.declared.fault.BundleFault.{BundleFault}
 use Rattle.bundle_codec.specs.declared.fault.BundleFault.TheVariants.{Truncated}
-use Rattle.bundle_codec.specs.Reading.{◌>>=◌, AreBytes, check, byte_at, block_at, number_at, exactly_at, many_at}
+use Rattle.bundle_codec.specs.Reading.{◌>>=◌, AreBytes, check, many_at}
 
 pub AreBytes-drop : (n : ℕ) (bytes : List ℕ) → AreBytes bytes → AreBytes (drop n bytes)
 AreBytes-drop n bytes h i = rw get_or-drop (h (n + i))
@@ -63,7 +61,7 @@ cut_then first then a b x mid c rest one on =
     ]
 
 -- and for what is made of the value
-cut_made : {A C : Type 0} (read : Reader A) (make : A → C) (a b : List ℕ) (x : A) (rest : List ℕ) → Cut read a b x rest
+pub cut_made : {A C : Type 0} (read : Reader A) (make : A → C) (a b : List ℕ) (x : A) (rest : List ℕ) → Cut read a b x rest
     → Cut (λ bytes. read bytes >>= λ y. Ok (make y.0, y.1)) a b (make x) rest
 cut_made read make a b x rest one =
     elim one [
@@ -72,7 +70,7 @@ cut_made read make a b x rest one =
     ]
 
 -- a reader of the same value and the same rest
-cut_as : {A : Type 0} (read : Reader A) (a b : List ℕ) (x y : A) (mid rest : List ℕ) → ◌≡◌ {A = A × List ℕ} (x, mid) (y, rest)
+pub cut_as : {A : Type 0} (read : Reader A) (a b : List ℕ) (x y : A) (mid rest : List ℕ) → ◌≡◌ {A = A × List ℕ} (x, mid) (y, rest)
     → Cut read a b x mid → Cut read a b y rest
 cut_as read a b x y mid rest e one = subst (λ (p : _ × List ℕ). Cut read a b p.0 p.1) e one
 
@@ -159,6 +157,39 @@ checked false bad reads = record {
   cut = λ a b c rest e. absurd cc;
 }
 
+-- a judgement of what was read, of which a value is then made
+pub judged : {A C : Type 0} {read : Reader A} {spell : A → List ℕ} {Fits : A → Type 0} (back : C → A) (make : A → C)
+    (judge : A → Result (Unit {0}) BundleFault) → Reads read spell Fits
+    → ((x : A) → Fits x → judge x ≡ Ok tt → back (make x) ≡ x) → ((c : C) → make (back c) ≡ c)
+    → Reads (λ bytes. read bytes >>= λ x. judge x.0 >>= λ _. Ok (make x.0, x.1)) (λ c. spell (back c))
+    (λ c. Fits (back c) × (judge (back c) ≡ Ok tt))
+judged {read = read} {spell = spell} {Fits = Fits} back make judge reads again_made made_again = record {
+  takes = λ bytes c rest fits e.
+      let a = bind_ok (read bytes) (λ x. judge x.0 >>= λ _. Ok (make x.0, x.1)) (c, rest) e in
+      let b = bind_ok (judge a.0.0) (λ _. Ok (make a.0.0, a.0.1)) (c, rest) a.2 in
+      let t = reads.takes bytes a.0.0 a.0.1 fits a.1 in
+      subst (λ (y : _ × List ℕ). Takes bytes (spell (back y.0)) y.1 × (Fits (back y.0) × (judge (back y.0) ≡ Ok tt)))
+      (ok_is (make a.0.0, a.0.1) (c, rest) b.2)
+      (subst (λ (x : _). Takes bytes (spell x) a.0.1 × (Fits x × (judge x ≡ Ok tt))) (sym (again_made a.0.0 t.1 b.1)) (t.0, (t.1, b.1)));
+  again = λ c rest fits.
+      ap (λ r. r >>= λ x. judge x.0 >>= λ _. Ok (make x.0, x.1)) (reads.again (back c) rest fits.0)
+      ∙ ap (λ r. r >>= λ _. Ok (make (back c), rest)) fits.1
+      ∙ ap (λ m. Ok (m, rest)) (made_again c);
+  cut = λ a b c rest e.
+      let f = bind_ok (read (a ++ b)) (λ x. judge x.0 >>= λ _. Ok (make x.0, x.1)) (c, rest) e in
+      let g = bind_ok (judge f.0.0) (λ _. Ok (make f.0.0, f.0.1)) (c, rest) f.2 in
+      let same = ok_is (make f.0.0, f.0.1) (c, rest) g.2 in
+      elim (reads.cut a b f.0.0 f.0.1 f.1) [
+        | inl short ↦ inl (ap (λ r. r >>= λ x. judge x.0 >>= λ _. Ok (make x.0, x.1)) short)
+        | inr on ↦ inr (
+          on.0,
+          ap (λ r. r >>= λ x. judge x.0 >>= λ _. Ok (make x.0, x.1)) on.1 ∙ ap (λ r. r >>= λ _. Ok (make f.0.0, on.0)) g.1
+              ∙ ap (λ m. Ok (m, on.0)) (ap (λ (p : _ × List ℕ). p.0) same),
+          sym (ap (λ (p : _ × List ℕ). p.1) same) ∙ on.2,
+        )
+      ];
+}
+
 -- the same in other words
 pub reads_as : {C : Type 0} {read : Reader C} {spell : C → List ℕ} {Fits : C → Type 0} (spell' : C → List ℕ) (Fits' : C → Type 0)
     → Reads read spell Fits
@@ -170,171 +201,6 @@ reads_as {read = read} {spell = spell} spell' Fits' reads to from same = record 
       (record { parts = t.0.parts ∙ ap (λ (w : List ℕ). w ++ rest) (same c f); rest_fits = t.0.rest_fits }, f);
   again = λ c rest fits. ap (λ (w : List ℕ). read (w ++ rest)) (sym (same c fits)) ∙ reads.again c rest (from c fits);
   cut = λ a b c rest e. reads.cut a b c rest e;
-}
-
--- ---- fields
-
-takes_byte : (rule : ℕ → Bool) (bad : BundleFault) (bytes : List ℕ) (x : ℕ) (rest : List ℕ) → AreBytes bytes
-    → byte_at rule bad bytes ≡ Ok (x, rest) → Takes bytes (x ∷ []) rest × (rule x ≡ true)
-takes_byte rule bad [] x rest fits e = absurd cc
-takes_byte rule bad (b ∷ bytes) x rest fits e =
-    let p = passed (rule b) bad (Ok (b, bytes)) (x, rest) e in
-    let q = ok_is (b, bytes) (x, rest) p.1 in
-    subst (λ (y : ℕ × List ℕ). Takes (b ∷ bytes) (y.0 ∷ []) y.1 × (rule y.0 ≡ true)) q
-    (record { parts = refl; rest_fits = AreBytes-rest b bytes fits }, p.0)
-
-cut_byte : (rule : ℕ → Bool) (bad : BundleFault) (a b : List ℕ) (x : ℕ) (rest : List ℕ) → byte_at rule bad (a ++ b) ≡ Ok (x, rest)
-    → Cut (byte_at rule bad) a b x rest
-cut_byte rule bad [] b x rest e = inl refl
-cut_byte rule bad (c ∷ a) b x rest e =
-    let p = passed (rule c) bad (Ok (c, a ++ b)) (x, rest) e in
-    let q = ok_is (c, a ++ b) (x, rest) p.1 in
-    inr (a, rw p.0 (ap (λ n. Ok (n, a)) (ap (λ (p : ℕ × List ℕ). p.0) q)), sym (ap (λ (p : ℕ × List ℕ). p.1) q))
-
-pub byte_reads : (rule : ℕ → Bool) (bad : BundleFault) → Reads (byte_at rule bad) (λ b. b ∷ []) (λ b. rule b ≡ true)
-byte_reads rule bad = record {
-  takes = takes_byte rule bad;
-  again = λ b rest fits. rw fits refl;
-  cut = cut_byte rule bad;
-}
-
-pub block_reads : (n : ℕ) (rule : List ℕ → Bool) (bad : BundleFault)
-    → Reads (block_at n rule bad) (λ b. b) (λ b. (length b ≡ n) × (rule b ≡ true))
-block_reads n rule bad = record {
-  takes = λ bytes x rest fits e.
-      let g = not_first (ltb (length bytes) n) Truncated _ (x, rest) e in
-      let long : n ≤ length bytes = ltb-false _ _ g.0 in
-      let p = passed (rule (take n bytes)) bad (Ok (take n bytes, drop n bytes)) (x, rest) g.1 in
-      let q = ok_is (take n bytes, drop n bytes) (x, rest) p.1 in
-      subst (λ (y : List ℕ × List ℕ). Takes bytes y.0 y.1 × ((length y.0 ≡ n) × (rule y.0 ≡ true))) q
-      (record { parts = sym (take-append-drop n bytes); rest_fits = AreBytes-drop n bytes fits }, (length-take-le n bytes long, p.0));
-  again = λ x rest fits.
-      let long : ltb (length (x ++ rest)) n ≡ false = le-ltb _ _ (omega (arith, length-append x rest, fits.0)) in
-      rw (long, take_at x rest n fits.0, drop_at x rest n fits.0, fits.1) refl;
-  cut = λ a b x rest e.
-      let g = not_first (ltb (length (a ++ b)) n) Truncated _ (x, rest) e in
-      let p = passed (rule (take n (a ++ b))) bad (Ok (take n (a ++ b), drop n (a ++ b))) (x, rest) g.1 in
-      let q = ok_is (take n (a ++ b), drop n (a ++ b)) (x, rest) p.1 in
-      elim (cases_lt (length a) n) [
-        | inl lt ↦ inl (rw (lt-ltb (length a) n lt) refl)
-        | inr le ↦
-            let front : take n (a ++ b) ≡ take n a = take-append-le n a b le in
-            let back : drop n (a ++ b) ≡ drop n a ++ b = drop-append-le n a b le in
-            let holds : rule (take n a) ≡ true = ap rule (sym front) ∙ p.0 in
-            let is : take n a ≡ x = sym front ∙ ap (λ (p : List ℕ × List ℕ). p.0) q in
-            inr (drop n a, rw (le-ltb (length a) n le, holds, is) refl, sym (ap (λ (p : List ℕ × List ℕ). p.1) q) ∙ back)
-      ];
-}
-
-pub record IsWide (w : Width) (limit : ℕ) : Type 0 where
-  pub len : (n : ℕ) → length (to_be_bytes w n) ≡ byte_len w
-  pub back : (bytes : List ℕ) → length bytes ≡ byte_len w → AreBytes bytes → to_be_bytes w (from_be_bytes w bytes) ≡ bytes
-  pub again : (n : ℕ) → n < limit → from_be_bytes w (to_be_bytes w n) ≡ n
-  pub below : (bytes : List ℕ) → AreBytes bytes → from_be_bytes w bytes < limit
-
-pub wide16 : IsWide w16 (2 ^ 16)
-wide16 = record {
-  len = λ n. refl;
-  back = λ bytes len fits. be_bytes_2 bytes _ len fits refl;
-  again = λ n lt. from_be_bytes-to_be_bytes_2 n lt;
-  below = λ bytes fits. omega (arith, fits 0, fits 1);
-}
-
-pub wide64 : IsWide w64 (2 ^ 64)
-wide64 = record {
-  len = λ n. refl;
-  back = λ bytes len fits. be_bytes_8 bytes _ len fits refl;
-  again = λ n lt. from_be_bytes-to_be_bytes_8 n lt;
-  below = λ bytes fits. omega (arith, fits 0, fits 1, fits 2, fits 3, fits 4, fits 5, fits 6, fits 7);
-}
-
--- a number is a block whose bytes are read as one
-abbrev number_of : Width → (ℕ → Bool) → BundleFault → Reader ℕ
-number_of w rule bad bytes = block_at (byte_len w) (λ b. rule (from_be_bytes w b)) bad bytes >>= λ b. Ok (from_be_bytes w b.0, b.1)
-
-two_tests : {A B : Type 0} (short holds : Bool) (c d : BundleFault) (x : A) (f : A → Result B BundleFault)
-    → cond short (Err c) (cond holds (f x) (Err d)) ≡ (cond short (Err c) (cond holds (Ok x) (Err d)) >>= f)
-two_tests true holds c d x f = refl
-two_tests false true c d x f = refl
-two_tests false false c d x f = refl
-
-number-block : (w : Width) (rule : ℕ → Bool) (bad : BundleFault) (bytes : List ℕ) → number_at w rule bad bytes ≡ number_of w rule bad bytes
-number-block w rule bad bytes = two_tests (ltb (length bytes) (byte_len w)) (rule (from_be_bytes w (take (byte_len w) bytes))) Truncated bad
-    (take (byte_len w) bytes, drop (byte_len w) bytes) (λ b. Ok (from_be_bytes w b.0, b.1))
-
-abbrev rule_of : Width → (ℕ → Bool) → List ℕ → Bool
-rule_of w rule b = rule (from_be_bytes w b)
-
-AreBytes-front : (bytes front rest : List ℕ) → AreBytes bytes → bytes ≡ front ++ rest → AreBytes front
-AreBytes-front bytes front rest fits e =
-    subst AreBytes (ap (take (length front)) e ∙ take_at front rest (length front) refl) (AreBytes-take (length front) bytes fits)
-
-cut_number : (w : Width) (rule : ℕ → Bool) (bad : BundleFault) (a b : List ℕ) (n : ℕ) (rest : List ℕ)
-    → Cut (number_of w rule bad) a b n rest → Cut (number_at w rule bad) a b n rest
-cut_number w rule bad a b n rest one = subst
-    (λ (r : Result (ℕ × List ℕ) BundleFault). (r ≡ Err Truncated) ⊎ ((l : List ℕ) × (r ≡ Ok (n, l)) × (rest ≡ l ++ b)))
-    (sym (number-block w rule bad a)) one
-
-pub number_reads : (w : Width) (limit : ℕ) (wide : IsWide w limit) (rule : ℕ → Bool) (bad : BundleFault)
-    → Reads (number_at w rule bad) (to_be_bytes w) (λ n. (n < limit) × (rule n ≡ true))
-number_reads w limit wide rule bad = record {
-  takes = λ bytes n rest fits e.
-      let a = bind_ok (block_at (byte_len w) (rule_of w rule) bad bytes) (λ b. Ok (from_be_bytes w b.0, b.1)) (n, rest)
-      (sym (number-block w rule bad bytes) ∙ e) in
-      let t = (block_reads (byte_len w) (rule_of w rule) bad).takes bytes a.0.0 a.0.1 fits a.1 in
-      let q = ok_is (from_be_bytes w a.0.0, a.0.1) (n, rest) a.2 in
-      let fine : AreBytes a.0.0 = AreBytes-front bytes a.0.0 a.0.1 fits t.0.parts in
-      let text : to_be_bytes w (from_be_bytes w a.0.0) ≡ a.0.0 = wide.back a.0.0 t.1.0 fine in
-      subst (λ (y : ℕ × List ℕ). Takes bytes (to_be_bytes w y.0) y.1 × ((y.0 < limit) × (rule y.0 ≡ true))) q (
-        record { parts = t.0.parts ∙ ap (λ (v : List ℕ). v ++ a.0.1) (sym text); rest_fits = t.0.rest_fits },
-        (wide.below a.0.0 fine, t.1.1),
-      );
-  again = λ n rest fits.
-      let back = wide.again n fits.0 in
-      let one = (block_reads (byte_len w) (rule_of w rule) bad).again (to_be_bytes w n) rest (wide.len n, ap rule back ∙ fits.1) in
-      number-block w rule bad (to_be_bytes w n ++ rest) ∙ ap (λ r. r >>= λ b. Ok (from_be_bytes w b.0, b.1)) one
-      ∙ ap (λ m. Ok (m, rest)) back;
-  cut = λ a b n rest e.
-      let f = bind_ok (block_at (byte_len w) (rule_of w rule) bad (a ++ b)) (λ b. Ok (from_be_bytes w b.0, b.1)) (n, rest)
-      (sym (number-block w rule bad (a ++ b)) ∙ e) in
-      let q = ok_is (from_be_bytes w f.0.0, f.0.1) (n, rest) f.2 in
-      let one = cut_made (block_at (byte_len w) (rule_of w rule) bad) (from_be_bytes w) a b f.0.0 f.0.1
-      ((block_reads (byte_len w) (rule_of w rule) bad).cut a b f.0.0 f.0.1 f.1) in
-      cut_number w rule bad a b n rest (cut_as (number_of w rule bad) a b (from_be_bytes w f.0.0) n f.0.1 rest q one);
-}
-
-takes_exactly : (text : List ℕ) (bad : BundleFault) (bytes : List ℕ) (x : Unit {0}) (rest : List ℕ) → AreBytes bytes
-    → exactly_at text bad bytes ≡ Ok (x, rest) → Takes bytes text rest
-takes_exactly [] bad bytes x rest fits e =
-    let is : bytes ≡ rest = ap (λ (p : Unit {0} × List ℕ). p.1) (ok_is (tt, bytes) (x, rest) e) in
-    record { parts = is; rest_fits = subst AreBytes is fits }
-takes_exactly (m ∷ text) bad [] x rest fits e = absurd cc
-takes_exactly (m ∷ text) bad (b ∷ bytes) x rest fits e =
-    let p = passed (eqb b m) bad (exactly_at text bad bytes) (x, rest) e in
-    let t = takes_exactly text bad bytes x rest (AreBytes-rest b bytes fits) p.1 in
-    record { parts = ap (λ (w : List ℕ). b ∷ w) t.parts ∙ ap (λ (c : ℕ). c ∷ (text ++ rest)) (eqb-true b m p.0); rest_fits = t.rest_fits }
-
-exactly_again : (text : List ℕ) (bad : BundleFault) (rest : List ℕ) → exactly_at text bad (text ++ rest) ≡ Ok (tt, rest)
-exactly_again [] bad rest = refl
-exactly_again (m ∷ text) bad rest = rw (eq-eqb m m refl) (exactly_again text bad rest)
-
-cut_exactly : (text : List ℕ) (bad : BundleFault) (a b : List ℕ) (x : Unit {0}) (rest : List ℕ)
-    → exactly_at text bad (a ++ b) ≡ Ok (x, rest) → Cut (exactly_at text bad) a b x rest
-cut_exactly [] bad a b x rest e = inr (a, refl, sym (ap (λ (p : Unit {0} × List ℕ). p.1) (ok_is (tt, a ++ b) (x, rest) e)))
-cut_exactly (m ∷ text) bad [] b x rest e = inl refl
-cut_exactly (m ∷ text) bad (c ∷ a) b x rest e =
-    let p = passed (eqb c m) bad (exactly_at text bad (a ++ b)) (x, rest) e in
-    elim (cut_exactly text bad a b x rest p.1) [
-      | inl short ↦ inl (rw p.0 short)
-      | inr on ↦ inr (on.0, rw p.0 on.1, on.2)
-    ]
-
--- these bytes
-pub exactly_reads : (text : List ℕ) (bad : BundleFault) → Reads (exactly_at text bad) (λ _. text) (λ _. Unit {0})
-exactly_reads text bad = record {
-  takes = λ bytes x rest fits e. (takes_exactly text bad bytes x rest fits e, tt);
-  again = λ x rest fits. exactly_again text bad rest;
-  cut = cut_exactly text bad;
 }
 
 -- ---- many values

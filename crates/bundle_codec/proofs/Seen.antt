@@ -1,18 +1,21 @@
 -- What is seen of bytes that were judged is what was read of them.
-use Rattle.std.proofs.Common.{true, ◌≡◌, ℕ, ◌-◌, ◌^◌, ◌<◌, ◌≤◌, List, [], ◌∷◌, ◌++◌, length, take, drop, Option, None, Result, Ok, Err, refl, sym, ap, subst, ◌∙◌, arith}
+use Rattle.std.proofs.Common.{Bool, true, false, ◌≡◌, ℕ, ◌-◌, ◌^◌, ◌<◌, ◌≤◌, List, [], ◌∷◌, ◌++◌, length, take, drop, Option, None, Result, Ok, Err, IsTrue, refl, sym, ap, subst, ◌∙◌, arith}
 use Rattle.std.specs.List.{flat_map}
 use Rattle.std.specs.Int.{w64}
 use Rattle.std.proofs.lemmas.List.{take_at, drop_at, length-append, append-nil}
 use Rattle.op_core.specs.Ids.{Id, is_id}
 use Rattle.op_core.specs.Ops.{Operation}
 use Rattle.op_core.specs.Sets.{IsOpSet}
+use Rattle.op_core.specs.Thinned.{is_legal, all_full}
 use Rattle.bundle_codec.specs.declared.fault.BundleFault.{BundleFault}
-use Rattle.bundle_codec.specs.declared.fault.BundleFault.TheVariants.{Truncated}
+use Rattle.bundle_codec.specs.declared.fault.BundleFault.TheVariants.{Memory, Magic, Truncated, NotRising, BadId, BadKey, BadReplaced, BadTag, NotUtf8, BadText, Unsupported}
 use Rattle.bundle_codec.specs.Spelling.{id, operation, bundle}
-use Rattle.bundle_codec.specs.Reading.{AreBytes, ◌>>=◌, any, number_at, many_at, id_at, named_at, after_id, operation_at, after_operation, operations_at, counted_operations_at, bundle_at, after}
-use Rattle.bundle_codec.specs.Views.{each_at, found, each_id_at, each_operation_at, operations_in, Spells}
-use Rattle.bundle_codec.proofs.Readers.{Each, Reader, Reads, many_reads, number_reads, wide64, bind_ok, ok_is}
-use Rattle.bundle_codec.proofs.Spelled.{IsNamed, Follows, FollowsAt, IsSpelled, id_reads, named_reads, operation_reads, operations_follow, counted_operations_reads, bundle_reads}
+use Rattle.bundle_codec.specs.Reading.{AreBytes, ◌>>=◌, any, number_at, many_at, id_at, named_at, after_id, operation_at, after_operation, operations_at, counted_operations_at, fields_at, judge_thinned, bundle_at, RefusesBundle, after}
+use Rattle.bundle_codec.specs.Views.{each_at, found, each_id_at, each_operation_at, operations_in, SpellsSet, Spells}
+use Rattle.bundle_codec.proofs.Readers.{Each, Reader, Reads, many_reads, bind_ok, ok_is}
+use Rattle.bundle_codec.proofs.FieldReaders.{number_reads, wide64}
+use Rattle.bundle_codec.proofs.FieldsSpelled.{IsNamed, id_reads, named_reads}
+use Rattle.bundle_codec.proofs.Spelled.{Follows, FollowsAt, IsSpelled, IsSpelledIn, any_tag, operation_reads, operations_follow, counted_operations_reads, of_set, fields_reads, judged_right, bundle_reads}
 use Rattle.bundle_codec.proofs.OneSpelling.{AreCounted-from_length}
 
 -- ---- bytes that are left
@@ -80,47 +83,59 @@ replaced_seen bad own n bytes rest fits e =
 -- ---- a bundle
 
 -- the operations that follow their count, and what follows them
-pub record Parts (bytes : List ℕ) (n : ℕ) (operations left : List ℕ) : Type 0 where
+pub record Parts (full : Bool) (bytes : List ℕ) (n : ℕ) (operations left : List ℕ) : Type 0 where
   pub ops : List Operation
-  pub read : counted_operations_at bytes ≡ Ok (ops, left)
+  pub read : counted_operations_at full bytes ≡ Ok (ops, left)
   pub own : operations ≡ flat_map operation ops ++ left
   pub count : length ops ≡ n
-  pub set : IsSpelled ops
+  pub set : IsSpelledIn full ops
 
-pub counted_parts : (bytes : List ℕ) (n : ℕ) (operations left : List ℕ) → AreBytes bytes
-    → number_at w64 any Truncated bytes ≡ Ok (n, operations) → after (operations_at n (1, None) operations) ≡ Ok left
-    → Parts bytes n operations left
+pub counted_parts : (full : Bool) (bytes : List ℕ) (n : ℕ) (operations left : List ℕ) → AreBytes bytes
+    → number_at w64 any Truncated bytes ≡ Ok (n, operations) → after (operations_at full n (1, None) operations) ≡ Ok left
+    → Parts full bytes n operations left
 unfolding counted_operations_at
-counted_parts bytes n operations left fits first second =
+counted_parts full bytes n operations left fits first second =
     let a = (number_reads w64 (2 ^ 64) wide64 any Truncated).takes bytes n operations fits first in
-    let b = after_ok (operations_at n (1, None) operations) left second in
-    let t = (many_reads (λ s. operation_at s.0 s.1) after_operation operation FollowsAt (λ s. operation_reads s.0 s.1) n (1, None)).takes
-    operations b.0 left a.0.rest_fits b.1 in
-    let read : counted_operations_at bytes ≡ Ok (b.0, left) = ap (λ r. r >>= λ k. operations_at k.0 (1, None) k.1) first ∙ b.1 in
-    record { ops = b.0; read = read; own = t.0.parts; count = t.1.0; set = (counted_operations_reads.takes bytes b.0 left fits read).1 }
-
--- the operations are what their own bytes spell, and no more
-own_read : (bytes : List ℕ) (n : ℕ) (operations left : List ℕ) (p : Parts bytes n operations left)
-    → each_operation_at n (without operations left) ≡ Ok (p.ops, [])
-own_read bytes n operations left p =
-    let again = each_again (λ (s : ℕ × Option Id). operation_at s.0 s.1) after_operation (operation_at 0 None) operation FollowsAt
-    (Follows None) (λ s. operation_reads s.0 s.1) (operation_reads 0 None) (λ s o f. (refl, f.1)) n (1, None) p.ops [] p.count
-    (operations_follow p.ops p.set) in
-    ap (each_operation_at n) (without_is operations (flat_map operation p.ops) left p.own ∙ sym (append-nil (flat_map operation p.ops)))
-    ∙ again
-
-pub own_part : (bytes : List ℕ) (n : ℕ) (operations left : List ℕ) (p : Parts bytes n operations left)
-    → operations_in n (without operations left) ≡ p.ops
-own_part bytes n operations left p = found_is (each_operation_at n (without operations left)) p.ops [] (own_read bytes n operations left p)
-
-pub own_spells : (bytes : List ℕ) (n : ℕ) (operations left : List ℕ) → Parts bytes n operations left → Spells n (without operations left)
-own_spells bytes n operations left p =
-    let own = own_part bytes n operations left p in
+    let b = after_ok (operations_at full n (1, None) operations) left second in
+    let t = (many_reads (λ s. operation_at full s.0 s.1) after_operation operation (FollowsAt full)
+    (λ s. operation_reads full s.0 s.1) n (1, None)).takes operations b.0 left a.0.rest_fits b.1 in
+    let read : counted_operations_at full bytes ≡ Ok (b.0, left) = ap (λ r. r >>= λ k. operations_at full k.0 (1, None) k.1) first ∙ b.1 in
     record {
-      read = own_read bytes n operations left p ∙ ap (λ (ops : List Operation). Ok (ops, [])) (sym own);
-      count = sym (ap length own ∙ p.count);
-      set = subst IsOpSet (sym own) p.set.0;
+      ops = b.0;
+      read = read;
+      own = t.0.parts;
+      count = t.1.0;
+      set = ((counted_operations_reads full).takes bytes b.0 left fits read).1;
     }
+
+module _ (full : Bool) (bytes : List ℕ) (n : ℕ) (operations left : List ℕ) (p : Parts full bytes n operations left) where
+  -- the operations are what their own bytes spell, and no more
+  own_read : each_operation_at n (without operations left) ≡ Ok (p.ops, [])
+  own_read =
+      let again = each_again (λ (s : ℕ × Option Id). operation_at full s.0 s.1) after_operation (operation_at false 0 None) operation
+      (FollowsAt full) (Follows false None) (λ s. operation_reads full s.0 s.1) (operation_reads false 0 None)
+      (λ s o f. (refl, (any_tag o.text, f.1.1))) n (1, None) p.ops [] p.count (operations_follow full p.ops p.set) in
+      ap (each_operation_at n) (without_is operations (flat_map operation p.ops) left p.own ∙ sym (append-nil (flat_map operation p.ops)))
+      ∙ again
+
+  pub own_part : operations_in n (without operations left) ≡ p.ops
+  own_part = found_is (each_operation_at n (without operations left)) p.ops [] own_read
+
+  pub own_spells : SpellsSet n (without operations left)
+  own_spells = record {
+    read = own_read ∙ ap (λ (ops : List Operation). Ok (ops, [])) (sym own_part);
+    count = sym (ap length own_part ∙ p.count);
+    set = subst IsOpSet (sym own_part) p.set.0.0;
+  }
+
+-- what is judged right is a legal set, and of the format that the bytes have
+pub judged_spells : (full : Bool) (bytes : List ℕ) (n : ℕ) (operations : List ℕ) (rest : List ℕ) → AreBytes bytes
+    → fields_at bytes ≡ Ok ((full, operations_in n operations), rest) → judge_thinned full (operations_in n operations) ≡ Ok tt
+    → SpellsSet n operations → Spells full n operations
+judged_spells full bytes n operations rest fits e right spells =
+    let ops = operations_in n operations in
+    let p = judged_right full ops (fields_reads.takes bytes (full, ops) rest fits e).1.1 right in
+    record { spells = spells; legal = p.1; format = p.0 }
 
 -- ---- what `decode` answers
 
@@ -129,26 +144,60 @@ spelled_in : (bytes : List ℕ) → length bytes < 2 ^ 64 → (ops : List Operat
     → IsSpelled ops
 spelled_in bytes short ops rest set is = (set, AreCounted-from_length ops (omega (arith, ap length is, length-append (bundle ops) rest)))
 
+-- a legal set that is spelled at the front is read
+pub reads_set : (bytes : List ℕ) → length bytes < 2 ^ 64 → (ops : List Operation) (rest : List ℕ) → IsOpSet ops → IsTrue (is_legal ops)
+    → bytes ≡ bundle ops ++ rest → bundle_at bytes ≡ Ok (ops, rest)
+reads_set bytes short ops rest set legal is =
+    ap bundle_at is ∙ bundle_reads.again ops rest (spelled_in bytes short ops rest set is, legal)
+
 module _ (bytes : List ℕ) (fits : AreBytes bytes) (ops : List Operation) (left : List ℕ) (e : bundle_at bytes ≡ Ok (ops, left)) where
   pub read_parts : bytes ≡ bundle ops ++ left
   read_parts = (bundle_reads.takes bytes ops left fits e).0.parts
 
   pub is_set : IsOpSet ops
-  is_set = (bundle_reads.takes bytes ops left fits e).1.0
+  is_set = (bundle_reads.takes bytes ops left fits e).1.0.0
+
+  pub is_right : IsTrue (is_legal ops)
+  is_right = (bundle_reads.takes bytes ops left fits e).1.1
 
   pub is_spelled : without bytes left ≡ bundle ops
   is_spelled = without_is bytes (bundle ops) left read_parts
 
-  pub is_only : length bytes < 2 ^ 64 → (others : List Operation) (rest : List ℕ) → IsOpSet others → bytes ≡ bundle others ++ rest
-      → ops ≡ others
-  is_only short others rest set is =
-      let p = ok_is (ops, left) (others, rest)
-      (sym e ∙ ap bundle_at is ∙ bundle_reads.again others rest (spelled_in bytes short others rest set is)) in
+  pub is_only : length bytes < 2 ^ 64 → (others : List Operation) (rest : List ℕ) → IsOpSet others → IsTrue (is_legal others)
+      → bytes ≡ bundle others ++ rest → ops ≡ others
+  is_only short others rest set legal is =
+      let p = ok_is (ops, left) (others, rest) (sym e ∙ reads_set bytes short others rest set legal is) in
       ap (λ (x : List Operation × List ℕ). x.0) p
 
-pub not_refused : (bytes : List ℕ) (f : BundleFault) → bundle_at bytes ≡ Err f → length bytes < 2 ^ 64
-    → (others : List Operation) (rest : List ℕ) → IsOpSet others → bytes ≡ bundle others ++ rest → ⊥
-not_refused bytes f e short others rest set is =
-    let two : bundle_at bytes ≡ Ok (others, rest) =
-    ap bundle_at is ∙ bundle_reads.again others rest (spelled_in bytes short others rest set is) in
-    absurd cc
+no_fault : {A : Type 0} (r : Result A BundleFault) (f : BundleFault) {x : A} → r ≡ Ok x → r ≡ Err f → ⊥
+no_fault (Ok y) f e g = absurd cc
+no_fault (Err d) f e g = absurd cc
+
+-- Of what is spelled nothing is refused, but that memory may be, where an operation is thinned.
+pub not_refused : (bytes : List ℕ) (f : BundleFault) → RefusesBundle bytes f → length bytes < 2 ^ 64
+    → (others : List Operation) (rest : List ℕ) → IsOpSet others → IsTrue (is_legal others) → bytes ≡ bundle others ++ rest
+    → (f ≡ Memory) × (all_full others ≡ false)
+unfolding bundle
+not_refused bytes f e short others rest set legal is = refused f e
+  where
+    read : bundle_at bytes ≡ Ok (others, rest)
+    read = reads_set bytes short others rest set legal is
+
+    refused : (g : BundleFault) → RefusesBundle bytes g → (g ≡ Memory) × (all_full others ≡ false)
+    refused Memory t =
+        let again : fields_at bytes ≡ Ok ((all_full others, others), rest) =
+        ap fields_at is ∙ fields_reads.again (of_set others) rest (spelled_in bytes short others rest set is, λ h. h) in (
+          refl,
+          sym (ap (λ (x : (Bool × List Operation) × List ℕ). x.0.0) (ok_is ((false, t.ops), t.rest) (of_set others, rest)
+              (sym t.read ∙ again))),
+        )
+    refused Magic t = absurd (no_fault (bundle_at bytes) Magic read t)
+    refused Truncated t = absurd (no_fault (bundle_at bytes) Truncated read t)
+    refused (NotRising k) t = absurd (no_fault (bundle_at bytes) (NotRising k) read t)
+    refused (BadId k) t = absurd (no_fault (bundle_at bytes) (BadId k) read t)
+    refused (BadKey k) t = absurd (no_fault (bundle_at bytes) (BadKey k) read t)
+    refused (BadReplaced k) t = absurd (no_fault (bundle_at bytes) (BadReplaced k) read t)
+    refused (BadTag k) t = absurd (no_fault (bundle_at bytes) (BadTag k) read t)
+    refused (NotUtf8 k) t = absurd (no_fault (bundle_at bytes) (NotUtf8 k) read t)
+    refused (BadText k) t = absurd (no_fault (bundle_at bytes) (BadText k) read t)
+    refused (Unsupported k) t = absurd (no_fault (bundle_at bytes) (Unsupported k) read t)

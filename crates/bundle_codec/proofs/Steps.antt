@@ -1,9 +1,8 @@
 -- A walk over bytes that were judged. Where a whole value can be read, so can each of its parts, one after
 -- the other, and without its rule.
-use Rattle.std.proofs.Common.{◌≡◌, ◌≢◌, ℕ, suc, ◌-◌, ◌^◌, ◌<◌, true, List, [], ◌∷◌, ◌++◌, length, None, Result, Ok, Err, IsOk, refl, sym, ap, subst, ◌∙◌, append_assoc, arith}
+use Rattle.std.proofs.Common.{◌≡◌, ◌≢◌, ℕ, suc, ◌-◌, ◌^◌, ◌<◌, true, false, List, [], ◌∷◌, ◌++◌, length, Option, None, Result, Ok, Err, IsOk, refl, sym, ap, subst, ◌∙◌, append_assoc, arith}
 use Rattle.std.specs.Int.{w64, to_be_bytes}
 use Rattle.std.specs.List.{list_all}
-use Rattle.std.specs.Str.{IsUtf8}
 use Rattle.std.proofs.lemmas.Bool.{and_parts, and_from}
 use Rattle.usfm_ref.specs.Books.{is_book_code}
 use Rattle.usfm_ref.specs.Keys.{KeyParts, is_key}
@@ -14,10 +13,12 @@ use Rattle.op_core.specs.Ops.{Operation}
 use Rattle.bundle_codec.specs.declared.fault.BundleFault.{BundleFault}
 use Rattle.bundle_codec.specs.declared.fault.BundleFault.TheVariants.{Truncated, BadKey}
 use Rattle.bundle_codec.specs.Spelling.{id, key, ids, body, operation}
-use Rattle.bundle_codec.specs.Reading.{AreBytes, ◌>>=◌, any, byte_at, block_at, number_at, many_at, id_at, key_at, body_at, operation_at, after}
+use Rattle.bundle_codec.specs.Reading.{AreBytes, ◌>>=◌, any, byte_at, block_at, number_at, many_at, id_at, key_at, body_at, may_be_utf8, operation_at, after}
 use Rattle.bundle_codec.specs.Views.{each_at, found, each_id_at, ids_at}
-use Rattle.bundle_codec.proofs.Readers.{Each, Reader, Reads, step, reads_as, block_reads, number_reads, many_reads, wide64, ok_is}
-use Rattle.bundle_codec.proofs.Spelled.{Follows, number_below, code_length, id_reads, key_reads, body_reads, operation_reads}
+use Rattle.bundle_codec.proofs.Readers.{Each, Reader, Reads, step, reads_as, many_reads, ok_is}
+use Rattle.bundle_codec.proofs.FieldReaders.{block_reads, number_reads, wide64}
+use Rattle.bundle_codec.proofs.FieldsSpelled.{number_below, id_reads, key_reads, body_reads}
+use Rattle.bundle_codec.proofs.Spelled.{Follows, code_length, text_from, operation_reads}
 
 pub is_ok : {A : Type 0} (r : Result A BundleFault) (x : A) → r ≡ Ok x → IsOk r
 is_ok r x e = rw e refl
@@ -200,9 +201,9 @@ ids_reads =
 
 -- ---- an operation
 
-module _ (bytes : List ℕ) (fine : AreBytes bytes) (h : IsOk (operation_at 0 None bytes)) where
-  op_front : Front (operation_at 0 None) operation (Follows None) bytes
-  op_front = front (operation_reads 0 None) bytes fine h
+module _ (bytes : List ℕ) (fine : AreBytes bytes) (h : IsOk (operation_at false 0 None bytes)) where
+  op_front : Front (operation_at false 0 None) operation (Follows false None) bytes
+  op_front = front (operation_reads false 0 None) bytes fine h
 
   abbrev o : Operation
   o = op_front.first
@@ -217,12 +218,12 @@ module _ (bytes : List ℕ) (fine : AreBytes bytes) (h : IsOk (operation_at 0 No
   after_id = (o.segment.book ++ (key o.segment.key ++ (ids o.replaced ++ body o.text))) ++ op_front.left
 
   segment_fits : (is_book_code o.segment.book ≡ true) × (is_key o.segment.key.chapter o.segment.key.place ≡ true)
-  segment_fits = and_parts (is_book_code o.segment.book) (is_key o.segment.key.chapter o.segment.key.place) op_front.fits.1.0.segment
+  segment_fits = and_parts (is_book_code o.segment.book) (is_key o.segment.key.chapter o.segment.key.place) op_front.fits.1.1.0.segment
 
   id_spelled : id_at Truncated bytes ≡ Ok (o.id, after_id)
   id_spelled = at_front (id_reads Truncated) o.id after_id bytes
       (op_front.parts ∙ append_assoc (id o.id) (o.segment.book ++ (key o.segment.key ++ (ids o.replaced ++ body o.text))) op_front.left)
-      op_front.fits.1.0.id
+      op_front.fits.1.1.0.id
 
   pub op_id : IsOk (id_at Truncated bytes)
   op_id = is_ok (id_at Truncated bytes) _ id_spelled
@@ -251,25 +252,27 @@ module _ (bytes : List ℕ) (fine : AreBytes bytes) (h : IsOk (operation_at 0 No
         ids_spelled : ids_at rest3 ≡ Ok (o.replaced, body o.text ++ op_front.left)
         ids_spelled = at_front ids_reads o.replaced (body o.text ++ op_front.left) rest3
             (same_rest (key_at (BadKey 0) rest2) _ _ _ _ key_spelled three ∙ append_assoc (ids o.replaced) (body o.text) op_front.left)
-            (op_front.fits.1.1.replaced, op_front.fits.1.0.ids)
+            (op_front.fits.1.1.1.replaced, op_front.fits.1.1.0.ids)
 
         pub op_ids : IsOk (ids_at rest3)
         op_ids = is_ok (ids_at rest3) _ ids_spelled
 
         module _ (named : List Id) (rest4 : List ℕ) (four : ids_at rest3 ≡ Ok (named, rest4)) where
-          body_spelled : body_at 0 rest4 ≡ Ok (o.text, op_front.left)
+          body_spelled : body_at false 0 rest4 ≡ Ok (o.text, op_front.left)
           body_spelled =
-              at_front (body_reads 0) o.text op_front.left rest4 (same_rest (ids_at rest3) _ _ _ _ ids_spelled four) op_front.fits.1.1.text
+              at_front (body_reads false 0) o.text op_front.left rest4
+              (same_rest (ids_at rest3) _ _ _ _ ids_spelled four) (op_front.fits.1.0, op_front.fits.1.1.1.text)
 
-          pub op_body : IsOk (body_at 0 rest4)
-          op_body = is_ok (body_at 0 rest4) _ body_spelled
+          pub op_body : IsOk (body_at false 0 rest4)
+          op_body = is_ok (body_at false 0 rest4) _ body_spelled
 
-          module _ (text rest5 : List ℕ) (five : body_at 0 rest4 ≡ Ok (text, rest5)) where
+          module _ (text : Option (List ℕ)) (rest5 : List ℕ) (five : body_at false 0 rest4 ≡ Ok (text, rest5)) where
             text_same : o.text ≡ text
-            text_same = sym (same_value (body_at 0 rest4) _ _ _ _ body_spelled five)
+            text_same = sym (same_value (body_at false 0 rest4) _ _ _ _ body_spelled five)
 
-            pub op_text : IsUtf8 text
-            op_text = subst IsUtf8 text_same op_front.fits.1.0.text
+            pub op_text : may_be_utf8 text ≡ true
+            op_text = subst (λ (x : Option (List ℕ)). may_be_utf8 x ≡ true) text_same
+                (text_from o.segment o.text op_front.fits.1.1.0.text).0
 
             o_same : o ≡ record { id = i; segment = segment code k; replaced = named; text = text }
             o_same = λ j. record {
@@ -280,5 +283,6 @@ module _ (bytes : List ℕ) (fine : AreBytes bytes) (h : IsOk (operation_at 0 No
               text = text_same j;
             }
 
-            pub op_is : operation_at 0 None bytes ≡ Ok (record { id = i; segment = segment code k; replaced = named; text = text }, rest5)
-            op_is = op_front.is_read ∙ (λ j. Ok (o_same j, sym (same_rest (body_at 0 rest4) _ _ _ _ body_spelled five) j))
+            pub op_is : operation_at false 0 None bytes
+                ≡ Ok (record { id = i; segment = segment code k; replaced = named; text = text }, rest5)
+            op_is = op_front.is_read ∙ (λ j. Ok (o_same j, sym (same_rest (body_at false 0 rest4) _ _ _ _ body_spelled five) j))

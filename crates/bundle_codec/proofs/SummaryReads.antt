@@ -14,8 +14,9 @@ use Rattle.bundle_codec.specs.declared.summaries.range.NumberRange.{NumberRange}
 use Rattle.bundle_codec.specs.Reading.{AreBytes, any, number_at, is_name_length}
 use Rattle.bundle_codec.specs.Summaries.{Known, IsKnown, IsSummary, is_range, are_apart, summary_magic, range, known, summary}
 use Rattle.bundle_codec.specs.SummaryReading.{bad, begins_after, range_at, after_range, ranges_at, name_after, name_at, known_at, after_known, summary_at}
-use Rattle.bundle_codec.proofs.Readers.{Each, Reads, step, ends, checked, reads_as, byte_reads, block_reads, number_reads, exactly_reads, wide64, many_reads}
-use Rattle.bundle_codec.proofs.Spelled.{name_length}
+use Rattle.bundle_codec.proofs.Readers.{Each, Reads, step, ends, checked, reads_as, many_reads}
+use Rattle.bundle_codec.proofs.FieldReaders.{byte_reads, block_reads, number_reads, exactly_reads, wide64}
+use Rattle.bundle_codec.proofs.FieldsSpelled.{name_length}
 
 pub name_total : IsTotalOrder name_cmp
 name_total = nat_list_cmp_total

@@ -1,11 +1,11 @@
 -- The summary of a set as a function of it: for each name the ranges of its numbers.
-use Rattle.std.proofs.Common.{◌≡◌, ◌≢◌, ℕ, suc, ◌<◌, ◌≤◌, Bool, true, false, cond, ◌&&◌, ◌||◌, eqb, leb, ltb, List, [], ◌∷◌, map, filter, Some, is_eq, is_lt, refl, sym, ap, subst, ◌∙◌, arith, inl, inr}
+use Rattle.std.proofs.Common.{◌≡◌, ◌≢◌, ℕ, Bool, true, false, cond, ◌&&◌, ◌||◌, eqb, List, [], ◌∷◌, map, filter, Some, is_eq, is_lt, refl, sym, ap, subst, ◌∙◌}
 use Rattle.std.specs.declared.cmp.Ordering.{Ordering}
 use Rattle.std.specs.declared.cmp.Ordering.TheVariants.{Less, Equal, Greater}
 use Rattle.std.specs.List.{list_all, list_any, AllByRecursion}
 use Rattle.std.specs.Option.{is_some}
 use Rattle.std.specs.FinMap.Entries.{by_order}
-use Rattle.std.proofs.lemmas.Bool.{and_parts, and_from, leb-true, ltb-true, lt-ltb, eqb-true, eqb-false, true≢false, cases_lt}
+use Rattle.std.proofs.lemmas.Bool.{and_parts, and_from, lt-ltb, true≢false}
 use Rattle.usfm_ref.specs.Books.{same_bytes}
 use Rattle.usfm_ref.specs.Rising.{rises_by, rising, with_item}
 use Rattle.usfm_ref.proofs.Orders.{same_bytes-is, same_bytes-refl}
@@ -15,139 +15,12 @@ use Rattle.op_core.specs.Ids.{Id, id_below, is_number}
 use Rattle.op_core.specs.Ops.{Operation, IsOperation}
 use Rattle.op_core.specs.Sets.{IsOpSet, get, rises}
 use Rattle.op_core.proofs.Union.{held_itself}
-use Rattle.bundle_codec.specs.declared.summaries.range.NumberRange.{NumberRange}
-use Rattle.bundle_codec.specs.Summaries.{Known, IsKnown, IsSummaryOf, is_range, are_apart, has_number, covers, numbers_of, with_first, ranges_of, summary_of}
-use Rattle.bundle_codec.proofs.SummaryReads.{range_bounds, name_total}
-use Rattle.bundle_codec.proofs.Lasts.{range_from, one_number}
+use Rattle.bundle_codec.specs.Summaries.{Known, IsKnown, IsSummaryOf, has_number, covers, numbers_of, ranges_of, summary_of}
+use Rattle.bundle_codec.proofs.SummaryReads.{name_total}
 use Rattle.bundle_codec.proofs.Holding.{below_strict, id_of}
-use Rattle.bundle_codec.proofs.Covered.{lies_in, lies_yes, lies_bounds, lies_not, same_tied}
+use Rattle.bundle_codec.proofs.Covered.{same_tied}
 use Rattle.bundle_codec.proofs.OneSummary.{same_summary}
-
--- ---- ranges of rising numbers
-
--- all are above a number
-abbrev Over : ℕ → List ℕ → Type 0
-Over n ns = list_all (λ m. ltb n m) ns ≡ true
-
--- each is above those before it, and from 1 to 10^15
-abbrev AreNumbers : List ℕ → Type 0
-AreNumbers [] = Unit {0}
-AreNumbers (n ∷ ns) = (is_number n ≡ true) × (Over n ns × AreNumbers ns)
-
--- ranges that begin above a number
-abbrev From : ℕ → List NumberRange → Type 0
-From n rs = list_all (λ (r : NumberRange). ltb n r.first) rs ≡ true
-
-record Made (ns : List ℕ) (rs : List NumberRange) : Type 0 where
-  each : list_all is_range rs ≡ true
-  apart : are_apart rs ≡ true
-  from : (n : ℕ) → Over n ns → From n rs
-  has : (k : ℕ) → has_number rs k ≡ list_any (eqb k) ns
-
-or_assoc : (a b c : Bool) → ((a || b) || c) ≡ (a || (b || c))
-or_assoc true b c = refl
-or_assoc false b c = refl
-
-lies_one : (n k : ℕ) → lies_in k (one_number n) ≡ eqb k n
-lies_one n k = by (eqb k n) refl
-  where
-    by : (c : Bool) → eqb k n ≡ c → lies_in k (one_number n) ≡ c
-    by true e = let same = eqb-true k n e in lies_yes k (one_number n) (omega (arith, same)) (omega (arith, same))
-    by false e = let other = eqb-false k n e in lies_not k (one_number n) (λ h. other (omega (arith, h.0, h.1)))
-
-over : (n k m : ℕ) → n ≤ k → (k ≡ n → ⊥) → suc n ≡ m → m ≤ k
-over n k m le ne e = elim (cases_lt n k) [ inl lt ↦ omega (arith, lt, e) | inr more ↦ absurd (ne (omega (arith, le, more))) ]
-
--- one number before a range that it touches
-lies_longer : (n k : ℕ) (r : NumberRange) → is_range r ≡ true → suc n ≡ r.first
-    → lies_in k (record { first = n; last = r.last }) ≡ (eqb k n || lies_in k r)
-lies_longer n k r h e = by (eqb k n) (lies_in k r) (range_bounds r h) refl refl
-  where
-    by : (c d : Bool) → (1 ≤ r.first) × ((r.first ≤ r.last) × (r.last ≤ 1000000000000000)) → eqb k n ≡ c → lies_in k r ≡ d
-        → lies_in k (record { first = n; last = r.last }) ≡ (c || d)
-    by true d o g f =
-        let same = eqb-true k n g in lies_yes k (record { first = n; last = r.last }) (omega (arith, same)) (omega (arith, same, e, o.1.0))
-    by false true o g f = let p = lies_bounds k r f in lies_yes k (record { first = n; last = r.last }) (omega (arith, p.0, e)) p.1
-    by false false o g f =
-        let other = eqb-false k n g in
-        lies_not k (record { first = n; last = r.last }) (λ p. true≢false (sym (lies_yes k r (over n k r.first p.0 other e) p.1) ∙ f))
-
-from_more : (n m : ℕ) (rs : List NumberRange) → n ≤ m → From m rs → From n rs
-from_more n m [] le h = refl
-from_more n m (r ∷ rs) le h =
-    let p = and_parts (ltb m r.first) (list_all (λ (x : NumberRange). ltb m x.first) rs) h in
-    and_from _ _ (lt-ltb n r.first (omega (arith, le, ltb-true _ _ p.0))) (from_more n m rs le p.1)
-
--- ranges after the first are more than one above a number that the first does not touch
-apart_from : (n : ℕ) (r : NumberRange) (rs : List NumberRange) → is_range r ≡ true → ltb n r.first ≡ true → (suc n ≡ r.first → ⊥)
-    → list_all (λ (s : NumberRange). ltb (suc r.last) s.first) rs ≡ true
-    → list_all (λ (s : NumberRange). ltb (suc n) s.first) (r ∷ rs) ≡ true
-apart_from n r rs h lt ne behind =
-    let b = range_bounds r h in
-    and_from _ _ (lt-ltb (suc n) r.first (gap n r.first (ltb-true _ _ lt) ne))
-    (from_more (suc n) (suc r.last) rs (omega (arith, ltb-true _ _ lt, b.1.0)) behind)
-  where
-    gap : (n m : ℕ) → n < m → (suc n ≡ m → ⊥) → suc n < m
-    gap n m lt ne = elim (cases_lt (suc n) m) [ inl more ↦ more | inr le ↦ absurd (ne (omega (arith, lt, le))) ]
-
-number_bounds : (n : ℕ) → is_number n ≡ true → (1 ≤ n) × (n ≤ 1000000000000000)
-number_bounds n h = let p = and_parts (leb 1 n) (leb n 1000000000000000) h in (leb-true _ _ p.0, leb-true _ _ p.1)
-
-made_first : (n : ℕ) (ns : List ℕ) (rs : List NumberRange) → is_number n ≡ true → Over n ns → Made ns rs → Made (n ∷ ns) (with_first n rs)
-made_first n ns [] num over m =
-    let b = number_bounds n num in
-    record {
-      each = and_from _ _ (range_from (one_number n) b.0 (omega arith) b.1) refl;
-      apart = refl;
-      from = λ k h. and_from _ _ (and_parts (ltb k n) (list_all (λ x. ltb k x) ns) h).0 refl;
-      has = λ k. (λ i. lies_one n k i || m.has k i);
-    }
-made_first n ns (r ∷ rs) num over m = by (eqb (suc n) r.first) refl
-  where
-    by : (c : Bool) → eqb (suc n) r.first ≡ c → Made (n ∷ ns) (cond c (record { first = n; last = r.last } ∷ rs) (one_number n ∷ r ∷ rs))
-    by true e =
-        let b = number_bounds n num in
-        let touch = eqb-true (suc n) r.first e in
-        let f = and_parts (is_range r) (list_all is_range rs) m.each in
-        let o = range_bounds r f.0 in
-        let a = and_parts (list_all (λ (s : NumberRange). ltb (suc r.last) s.first) rs) (are_apart rs) m.apart in
-        record {
-          each = and_from _ _ (range_from (record { first = n; last = r.last }) b.0 (omega (arith, touch, o.1.0)) o.1.1) f.1;
-          apart = and_from _ _ a.0 a.1;
-          from = λ k h.
-              let p = and_parts (ltb k n) (list_all (λ x. ltb k x) ns) h in
-              and_from _ _ p.0 (and_parts (ltb k r.first) (list_all (λ (x : NumberRange). ltb k x.first) rs) (m.from k p.1)).1;
-          has = λ k. ap (λ b. b || has_number rs k) (lies_longer n k r f.0 touch) ∙ or_assoc (eqb k n) (lies_in k r) (has_number rs k)
-              ∙ ap (λ b. eqb k n || b) (m.has k);
-        }
-    by false e =
-        let b = number_bounds n num in
-        let ne = eqb-false (suc n) r.first e in
-        let f = and_parts (is_range r) (list_all is_range rs) m.each in
-        let a = and_parts (list_all (λ (s : NumberRange). ltb (suc r.last) s.first) rs) (are_apart rs) m.apart in
-        let above = and_parts (ltb n r.first) (list_all (λ (x : NumberRange). ltb n x.first) rs) (m.from n over) in
-        record {
-          each = and_from _ _ (range_from (one_number n) b.0 (omega arith) b.1) m.each;
-          apart = and_from _ _ (apart_from n r rs f.0 above.0 ne a.0) m.apart;
-          from = λ k h. let p = and_parts (ltb k n) (list_all (λ x. ltb k x) ns) h in and_from _ _ p.0 (m.from k p.1);
-          has = λ k. (λ i. lies_one n k i || m.has k i);
-        }
-
-made : (ns : List ℕ) → AreNumbers ns → Made ns (ranges_of ns)
-made [] h = record { each = refl; apart = refl; from = λ n o. refl; has = λ k. refl }
-made (n ∷ ns) h = made_first n ns (ranges_of ns) h.0 h.1.0 (made ns h.1.1)
-
-with_first_some : (n : ℕ) (rs : List NumberRange) → with_first n rs ≢ []
-with_first_some n [] e = absurd cc
-with_first_some n (r ∷ rs) e = by (eqb (suc n) r.first) e
-  where
-    by : (c : Bool) → cond c (record { first = n; last = r.last } ∷ rs) (one_number n ∷ r ∷ rs) ≢ []
-    by true e = absurd cc
-    by false e = absurd cc
-
-ranges_some : (ns : List ℕ) → ns ≢ [] → ranges_of ns ≢ []
-ranges_some [] some = absurd (some refl)
-ranges_some (n ∷ ns) some = with_first_some n (ranges_of ns)
+use Rattle.bundle_codec.proofs.RisingRanges.{Over, AreNumbers, Made, have_numbers, made, ranges_some}
 
 -- ---- the numbers of a name
 
@@ -276,10 +149,50 @@ module _ (q : List ℕ) where
       by false c e f rest = ap (λ b. is_q o.id.name || b)
           (rest (sym (λ i. is_some (cond (e i && same_bytes q o.id.name) (Some o) (get ops (id_of n q)))) ∙ h)) ∙ or_true (is_q o.id.name)
 
-module _ (held : List Operation) (set : IsOpSet held) where
+module _ (held : List Operation) where
   abbrev told : List ℕ → Known
   told q = record { name = q; ranges = ranges_of (numbers_of held q) }
 
+  covers_told : (id : Id) (xs : List (List ℕ))
+      → covers (map told xs) id ≡ (list_any (is_q id.name) xs && has_number (ranges_of (numbers_of held id.name)) id.number)
+  covers_told id [] = refl
+  covers_told id (x ∷ xs) =
+      by (same_bytes x id.name) refl (has_number (ranges_of (numbers_of held id.name)) id.number) refl (covers_told id xs)
+    where
+      by : (b : Bool) → same_bytes x id.name ≡ b → (c : Bool) → has_number (ranges_of (numbers_of held id.name)) id.number ≡ c
+          → covers (map told xs) id ≡ (list_any (is_q id.name) xs && has_number (ranges_of (numbers_of held id.name)) id.number)
+          → ((same_bytes x id.name && has_number (ranges_of (numbers_of held x)) id.number) || covers (map told xs) id)
+          ≡ ((same_bytes x id.name || list_any (is_q id.name) xs) && has_number (ranges_of (numbers_of held id.name)) id.number)
+      by true e true f rest =
+          let here : has_number (ranges_of (numbers_of held x)) id.number ≡ true =
+          ap (λ (w : List ℕ). has_number (ranges_of (numbers_of held w)) id.number) (same_bytes-is x id.name e) ∙ f in
+          rw (e, here, f) refl
+      by true e false f rest =
+          let here : has_number (ranges_of (numbers_of held x)) id.number ≡ false =
+          ap (λ (w : List ℕ). has_number (ranges_of (numbers_of held w)) id.number) (same_bytes-is x id.name e) ∙ f in
+          let none : covers (map told xs) id ≡ false =
+          rest ∙ ap (λ b. list_any (is_q id.name) xs && b) f ∙ and_none (list_any (is_q id.name) xs) in
+          rw (e, here, f, none) refl
+      by false e c f rest = ap (λ b. (b && has_number (ranges_of (numbers_of held x)) id.number) || covers (map told xs) id) e ∙ rest
+          ∙ ap (λ b. (b || list_any (is_q id.name) xs) && has_number (ranges_of (numbers_of held id.name)) id.number) (sym e)
+
+  -- the summary of a list covers exactly its ids
+  pub covers_its_ids : (id : Id) → covers (summary_of held) id ≡ is_some (get held id)
+  covers_its_ids id =
+      covers_told id (rising name_cmp (map (λ (o : Operation). o.id.name) held))
+      ∙ ap (λ b. list_any (is_q id.name) (rising name_cmp (map (λ (o : Operation). o.id.name) held)) && b)
+      (have_numbers (numbers_of held id.name) id.number ∙ among id.name id.number held)
+      ∙ by (is_some (get held id)) refl
+    where
+      by : (b : Bool) → is_some (get held id) ≡ b
+          → (list_any (is_q id.name) (rising name_cmp (map (λ (o : Operation). o.id.name) held)) && is_some (get held id))
+          ≡ is_some (get held id)
+      by true e = ap (λ b. b && is_some (get held id))
+          (any_rising id.name (map (λ (o : Operation). o.id.name) held) (named_held id.name id.number held e))
+      by false e = ap (λ b. list_any (is_q id.name) (rising name_cmp (map (λ (o : Operation). o.id.name) held)) && b) e
+          ∙ and_none (list_any (is_q id.name) (rising name_cmp (map (λ (o : Operation). o.id.name) held))) ∙ sym e
+
+module _ (held : List Operation) (set : IsOpSet held) where
   right : (q : List ℕ) → Made (numbers_of held q) (ranges_of (numbers_of held q))
   right q = made (numbers_of held q) (are_numbers q held set.rising set.each)
 
@@ -288,7 +201,7 @@ module _ (held : List Operation) (set : IsOpSet held) where
     name : is_name q ≡ true
     some : numbers_of held q ≢ []
 
-  good_known : (q : List ℕ) → Good q → IsKnown (told q)
+  good_known : (q : List ℕ) → Good q → IsKnown (told held q)
   good_known q g = record { name = g.name; some = ranges_some (numbers_of held q) g.some; each = (right q).each; apart = (right q).apart }
 
   good_each : (ops : List Operation) → AllByRecursion IsOperation ops → AllByRecursion (λ o. get held o.id ≡ Some o) ops
@@ -316,58 +229,21 @@ module _ (held : List Operation) (set : IsOpSet held) where
   all_rising [] h = tt
   all_rising (x ∷ xs) h = all_item x (rising name_cmp xs) h.0 (all_rising xs h.1)
 
-  each_known : (xs : List (List ℕ)) → AllByRecursion Good xs → AllByRecursion IsKnown (map told xs)
+  each_known : (xs : List (List ℕ)) → AllByRecursion Good xs → AllByRecursion IsKnown (map (told held) xs)
   each_known [] h = tt
   each_known (x ∷ xs) h = (good_known x h.0, each_known xs h.1)
 
   below_told : (q : List ℕ) (xs : List (List ℕ)) → list_all (λ x. is_lt (name_cmp q x)) xs ≡ true
-      → list_all (λ (k : Known). is_lt (name_cmp q k.name)) (map told xs) ≡ true
+      → list_all (λ (k : Known). is_lt (name_cmp q k.name)) (map (told held) xs) ≡ true
   below_told q [] h = refl
   below_told q (x ∷ xs) h =
       let p = and_parts (is_lt (name_cmp q x)) (list_all (λ y. is_lt (name_cmp q y)) xs) h in and_from _ _ p.0 (below_told q xs p.1)
 
-  rises_told : (xs : List (List ℕ)) → rises_by name_cmp (λ x. x) xs ≡ true → rises_by name_cmp (λ (k : Known). k.name) (map told xs) ≡ true
+  rises_told : (xs : List (List ℕ)) → rises_by name_cmp (λ x. x) xs ≡ true
+      → rises_by name_cmp (λ (k : Known). k.name) (map (told held) xs) ≡ true
   rises_told [] h = refl
   rises_told (x ∷ xs) h = let p = and_parts (list_all (λ y. is_lt (name_cmp x y)) xs) (rises_by name_cmp (λ y. y) xs) h in
       and_from _ _ (below_told x xs p.0) (rises_told xs p.1)
-
-  covers_told : (id : Id) (xs : List (List ℕ))
-      → covers (map told xs) id ≡ (list_any (is_q id.name) xs && has_number (ranges_of (numbers_of held id.name)) id.number)
-  covers_told id [] = refl
-  covers_told id (x ∷ xs) =
-      by (same_bytes x id.name) refl (has_number (ranges_of (numbers_of held id.name)) id.number) refl (covers_told id xs)
-    where
-      by : (b : Bool) → same_bytes x id.name ≡ b → (c : Bool) → has_number (ranges_of (numbers_of held id.name)) id.number ≡ c
-          → covers (map told xs) id ≡ (list_any (is_q id.name) xs && has_number (ranges_of (numbers_of held id.name)) id.number)
-          → ((same_bytes x id.name && has_number (ranges_of (numbers_of held x)) id.number) || covers (map told xs) id)
-          ≡ ((same_bytes x id.name || list_any (is_q id.name) xs) && has_number (ranges_of (numbers_of held id.name)) id.number)
-      by true e true f rest =
-          let here : has_number (ranges_of (numbers_of held x)) id.number ≡ true =
-          ap (λ (w : List ℕ). has_number (ranges_of (numbers_of held w)) id.number) (same_bytes-is x id.name e) ∙ f in
-          rw (e, here, f) refl
-      by true e false f rest =
-          let here : has_number (ranges_of (numbers_of held x)) id.number ≡ false =
-          ap (λ (w : List ℕ). has_number (ranges_of (numbers_of held w)) id.number) (same_bytes-is x id.name e) ∙ f in
-          let none : covers (map told xs) id ≡ false =
-          rest ∙ ap (λ b. list_any (is_q id.name) xs && b) f ∙ and_none (list_any (is_q id.name) xs) in
-          rw (e, here, f, none) refl
-      by false e c f rest = ap (λ b. (b && has_number (ranges_of (numbers_of held x)) id.number) || covers (map told xs) id) e ∙ rest
-          ∙ ap (λ b. (b || list_any (is_q id.name) xs) && has_number (ranges_of (numbers_of held id.name)) id.number) (sym e)
-
-  exactly_told : (id : Id) → covers (summary_of held) id ≡ is_some (get held id)
-  exactly_told id =
-      covers_told id (rising name_cmp (map (λ (o : Operation). o.id.name) held))
-      ∙ ap (λ b. list_any (is_q id.name) (rising name_cmp (map (λ (o : Operation). o.id.name) held)) && b)
-      ((right id.name).has id.number ∙ among id.name id.number held)
-      ∙ by (is_some (get held id)) refl
-    where
-      by : (b : Bool) → is_some (get held id) ≡ b
-          → (list_any (is_q id.name) (rising name_cmp (map (λ (o : Operation). o.id.name) held)) && is_some (get held id))
-          ≡ is_some (get held id)
-      by true e = ap (λ b. b && is_some (get held id))
-          (any_rising id.name (map (λ (o : Operation). o.id.name) held) (named_held id.name id.number held e))
-      by false e = ap (λ b. list_any (is_q id.name) (rising name_cmp (map (λ (o : Operation). o.id.name) held)) && b) e
-          ∙ and_none (list_any (is_q id.name) (rising name_cmp (map (λ (o : Operation). o.id.name) held))) ∙ sym e
 
   pub summary_of_is : IsSummaryOf held (summary_of held)
   summary_of_is = record {
@@ -377,7 +253,7 @@ module _ (held : List Operation) (set : IsOpSet held) where
       each = each_known (rising name_cmp (map (λ (o : Operation). o.id.name) held))
           (all_rising (map (λ (o : Operation). o.id.name) held) (good_each held set.each (held_itself held set.rising)));
     };
-    exactly = exactly_told;
+    exactly = covers_its_ids held;
   }
 
   pub same_as_told : (s : List Known) → IsSummaryOf held s → s ≡ summary_of held

@@ -1,15 +1,17 @@
 -- Whole bundles, and the bundle of the union of two (this project's own format).
-use Rattle.std.specs.Prelude.{◌≡◌, ◌≢◌, ◌<◌, ◌^◌, ℕ, List, [], ◌∷◌, ◌++◌, length, Option, Some, None, Result, Ok, Err, IsOk}
+use Rattle.std.specs.Prelude.{◌≡◌, ◌≢◌, ◌<◌, ◌^◌, ◌⊎◌, ℕ, List, [], ◌∷◌, ◌++◌, length, Option, Some, None, Result, Ok, Err, IsOk, IsTrue}
 use Rattle.op_core.specs.Ids.{Id}
 use Rattle.op_core.specs.Ops.{Operation}
 use Rattle.op_core.specs.Sets.{IsOpSet, join, clash}
+use Rattle.op_core.specs.Thinned.{is_legal}
 use Rattle.bundle_codec.specs.declared.fault.BundleFault.{BundleFault}
+use Rattle.bundle_codec.specs.declared.fault.BundleFault.TheVariants as bundle_faults
 use Rattle.bundle_codec.specs.declared.fault.WholeFault.{WholeFault}
 use Rattle.bundle_codec.specs.declared.fault.WholeFault.TheVariants as whole
 use Rattle.bundle_codec.specs.declared.fault.JoinFault.{JoinFault}
 use Rattle.bundle_codec.specs.declared.fault.JoinFault.TheVariants.{Memory, Bundle, Clash}
 use Rattle.bundle_codec.specs.Spelling.{bundle}
-use Rattle.bundle_codec.specs.Reading.{bundle_at}
+use Rattle.bundle_codec.specs.Reading.{bundle_at, TakesMemory, RefusesBundle}
 
 -- ---- a bundle and nothing after it
 
@@ -32,6 +34,7 @@ whole_at bytes = whole_if (bundle_at bytes)
 pub record IsBundle (bytes : List ℕ) : Type 0 where
   pub ops : List Operation
   pub set : IsOpSet ops
+  pub legal : IsTrue (is_legal ops)
   pub spelled : bytes ≡ bundle ops
   pub short : length bytes < 2 ^ 64
 
@@ -40,8 +43,19 @@ pub record IsFollowed (bytes : List ℕ) : Type 0 where
   pub ops : List Operation
   pub rest : List ℕ
   pub set : IsOpSet ops
+  pub legal : IsTrue (is_legal ops)
   pub some : rest ≢ []
   pub spelled : bytes ≡ bundle ops ++ rest
+
+-- a growth was refused
+abbrev pub out_of_memory : WholeFault
+out_of_memory = whole.Bundle bundle_faults.Memory
+
+-- A refusal is the one that there is. Out of memory is answered only where a bundle's own fields are right and an operation
+-- is thinned.
+abbrev pub RefusesWhole : List ℕ → WholeFault → Type 0
+RefusesWhole bytes (whole.Bundle fault) = RefusesBundle bytes fault
+RefusesWhole bytes whole.Trailing = whole_at bytes ≡ Err whole.Trailing
 
 -- ---- the bundle of a union
 
@@ -62,8 +76,18 @@ of_both (Ok a) (Ok b) = union_or_clash a b (clash a b)
 abbrev pub bundles_joined : List ℕ → List ℕ → Result (List ℕ) JoinFault
 bundles_joined x y = of_both (whole_at x) (whole_at y)
 
--- A refusal is the one that there is. Out of memory is answered for two bundles alone.
+-- Memory is taken to judge the first, or to judge the second where the first is a bundle, or to join two bundles.
+abbrev pub JoinTakesMemory : List ℕ → List ℕ → Type 0
+JoinTakesMemory x y =
+    TakesMemory x ⊎ (IsOk (whole_at x) × (TakesMemory y ⊎ IsOk (whole_at y)))
+
+-- why two bundles are not joined, where one of them is refused: out of memory is that of the joining
+abbrev pub join_fault : WholeFault → JoinFault
+join_fault (whole.Bundle bundle_faults.Memory) = Memory
+join_fault fault = Bundle fault
+
+-- A refusal is the one that there is. Out of memory is answered only where some is taken.
 abbrev pub RefusesJoin : List ℕ → List ℕ → JoinFault → Type 0
-RefusesJoin x y Memory = IsOk (whole_at x) × IsOk (whole_at y)
+RefusesJoin x y Memory = JoinTakesMemory x y
 RefusesJoin x y (Bundle fault) = bundles_joined x y ≡ Err (Bundle fault)
 RefusesJoin x y (Clash id) = bundles_joined x y ≡ Err (Clash id)

@@ -1,8 +1,10 @@
 -- Laws of bundles (this project's own format). Joining them is associative, commutative and idempotent, as joining is in
 -- a join semilattice (INRIA RR-7506).
-use Rattle.std.specs.Prelude.{◌≡◌, ◌≢◌, ◌<◌, ◌^◌, ℕ, List, [], ◌++◌, length, Result, Ok, Err}
+use Rattle.std.specs.Prelude.{◌≡◌, ◌≢◌, ◌<◌, ◌^◌, ℕ, List, [], ◌++◌, length, Result, Ok, Err, IsTrue}
+use Rattle.op_core.specs.Ids.{Id}
 use Rattle.op_core.specs.Ops.{Operation}
 use Rattle.op_core.specs.Sets.{IsOpSet}
+use Rattle.op_core.specs.Thinned.{all_full, IsOf}
 use Rattle.bundle_codec.specs.declared.fault.BundleFault.TheVariants.{Truncated}
 use Rattle.bundle_codec.specs.declared.fault.JoinFault.{JoinFault}
 use Rattle.bundle_codec.specs.declared.fault.JoinFault.TheVariants.{Clash}
@@ -51,16 +53,56 @@ AnswerAlike (Ok one) (Ok other) = one ≡ other
 AnswerAlike (Err (Clash id)) (Err (Clash other)) = Unit {0}
 AnswerAlike one other = ⊥
 
+-- two joinings, where both are answered, give the same bytes
+abbrev pub GiveTheSame : Result (List ℕ) JoinFault → Result (List ℕ) JoinFault → Type 0
+GiveTheSame (Ok one) (Ok other) = one ≡ other
+GiveTheSame one other = Unit {0}
+
+-- two joinings are answered, and give the same bytes
+abbrev pub BothGive : Result (List ℕ) JoinFault → Result (List ℕ) JoinFault → Type 0
+BothGive (Ok one) (Ok other) = one ≡ other
+BothGive one other = ⊥
+
+-- the bytes are a bundle without thinned operations
+pub record IsFullBundle (bytes : List ℕ) : Type 0 where
+  pub is : IsBundle bytes
+  pub full : IsTrue (all_full is.ops)
+
+-- the bytes are a bundle, and its operations are of a family, in which no id stands for two
+pub record IsBundleOf (family : Id → Operation) (bytes : List ℕ) : Type 0 where
+  pub is : IsBundle bytes
+  pub of : IsOf family is.ops
+
 -- what is made, if it is, is no more bytes than a slice can have
 abbrev pub IsHeld : Result (List ℕ) JoinFault → Type 0
 IsHeld (Ok made) = length made < 2 ^ 64
 IsHeld (Err fault) = Unit {0}
 
--- Both groupings of three bundles give the same bytes, and one is refused with a clash exactly where the other is.
+-- Both groupings of three bundles without thinned operations give the same bytes, and one is refused with a clash exactly
+-- where the other is.
 abbrev pub BundlesAssociate : Type 0
 BundlesAssociate =
-    (x y z : List ℕ) → IsBundle x → IsBundle y → IsBundle z →
+    (x y z : List ℕ) → IsFullBundle x → IsFullBundle y → IsFullBundle z →
     IsHeld (bundles_joined x y) → IsHeld (bundles_joined y z) →
     AnswerAlike
+    (then_joined (bundles_joined x y) (λ made. bundles_joined made z))
+    (then_joined (bundles_joined y z) (λ made. bundles_joined x made))
+
+-- Where both groupings of three bundles give bytes, thinned or not, these are the same.
+abbrev pub GroupingsGiveTheSame : Type 0
+GroupingsGiveTheSame =
+    (x y z : List ℕ) → IsBundle x → IsBundle y → IsBundle z →
+    IsHeld (bundles_joined x y) → IsHeld (bundles_joined y z) →
+    GiveTheSame
+    (then_joined (bundles_joined x y) (λ made. bundles_joined made z))
+    (then_joined (bundles_joined y z) (λ made. bundles_joined x made))
+
+-- Both groupings of three bundles of one family, thinned or not, give the same bytes, and none is refused.
+abbrev pub BundlesOfOneFamily : Type 0
+BundlesOfOneFamily =
+    (family : Id → Operation) (x y z : List ℕ) →
+    IsBundleOf family x → IsBundleOf family y → IsBundleOf family z →
+    IsHeld (bundles_joined x y) → IsHeld (bundles_joined y z) →
+    BothGive
     (then_joined (bundles_joined x y) (λ made. bundles_joined made z))
     (then_joined (bundles_joined y z) (λ made. bundles_joined x made))

@@ -1,14 +1,19 @@
 -- What a copy holds, as ranges of numbers under names, and what another copy lacks (this project's own format).
-use Rattle.std.specs.Prelude.{◌≡◌, ◌≢◌, ℕ, suc, nat_le, nat_lt, ◌==◌, Bool, true, not, ◌&&◌, List, [], ◌∷◌, ◌++◌, length, map, filter, codes, IsTrue, if◌then◌else◌}
+use Rattle.std.specs.Prelude.{◌≡◌, ◌≢◌, ℕ, suc, nat_le, nat_lt, ◌==◌, Bool, true, ◌&&◌, List, [], ◌∷◌, ◌++◌, length, map, filter, codes, IsTrue, if◌then◌else◌}
 use Rattle.std.specs.Int.{w64, to_be_bytes}
 use Rattle.std.specs.List.{list_all, list_any, flat_map, AllByRecursion}
 use Rattle.std.specs.Option.{is_some}
-use Rattle.usfm_ref.specs.Books.{same_bytes}
+use Rattle.std.specs.Ordering.{ordering_then}
+use Rattle.std.specs.BTreeSet.{BTreeSet, contains}
+use Rattle.usfm_ref.specs.Books.{same_bytes, book_cmp}
+use Rattle.usfm_ref.specs.Keys.{KeyParts, key_cmp}
+use Rattle.usfm_ref.specs.Segments.{Segment}
 use Rattle.usfm_ref.specs.Rising.{rises_by, rising}
 use Rattle.op_core.specs.Names.{is_name, name_cmp}
 use Rattle.op_core.specs.Ids.{Id}
 use Rattle.op_core.specs.Ops.{Operation}
 use Rattle.op_core.specs.Sets.{get}
+use Rattle.op_core.specs.Thinned.{delta}
 use Rattle.bundle_codec.specs.declared.fault.SummaryFault.{SummaryFault}
 use Rattle.bundle_codec.specs.declared.fault.SummaryFault.TheVariants.{Memory, BadSummary}
 use Rattle.bundle_codec.specs.declared.summaries.range.NumberRange.{NumberRange}
@@ -80,9 +85,14 @@ summary_of held =
     map (λ name. record { name = name; ranges = ranges_of (numbers_of held name) })
     (rising name_cmp (map (λ o. o.id.name) held))
 
--- the operations whose ids lie outside a summary
+-- the operations whose ids lie outside a summary, and where one of these is thinned, all others of its segment
 abbrev pub outside : List Known → List Operation → List Operation
-outside s held = filter (λ o. not (covers s o.id)) held
+outside s held = delta held (covers s)
+
+-- whether some books with keys are those of a segment too
+abbrev pub has_segment : BTreeSet (List ℕ × KeyParts) → Segment → Bool
+has_segment segments g =
+    contains (λ a b. ordering_then (book_cmp a.0 b.0) (key_cmp a.1 b.1)) segments (g.book, g.key)
 
 -- ---- its one spelling. Numbers are big-endian and unsigned, in eight bytes.
 

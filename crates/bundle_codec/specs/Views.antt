@@ -1,10 +1,12 @@
 -- What is lent from the bytes of a bundle that was judged, without where it lies in memory.
-use Rattle.std.specs.Prelude.{◌≡◌, ℕ, List, [], length, None, Result, Ok, Err, IsOk}
+use Rattle.std.specs.Prelude.{◌≡◌, ℕ, Bool, false, List, [], length, Option, None, option_map, Result, Ok, Err, IsOk, IsTrue}
+use Rattle.std.specs.Borrow.{Bor}
 use Rattle.std.specs.Int.{w64}
 use Rattle.usfm_ref.specs.Segments.{segment}
 use Rattle.op_core.specs.Ids.{Id}
 use Rattle.op_core.specs.Ops.{Operation, IsOperation}
 use Rattle.op_core.specs.Sets.{IsOpSet}
+use Rattle.op_core.specs.Thinned.{is_legal, all_full}
 use Rattle.bundle_codec.specs.declared.fault.BundleFault.{BundleFault}
 use Rattle.bundle_codec.specs.declared.fault.BundleFault.TheVariants.{Truncated}
 use Rattle.bundle_codec.specs.declared.ids.IdView.{IdView}
@@ -26,6 +28,10 @@ found (Ok x) = x.0
 found (Err f) = []
 
 -- ---- ids and operations
+
+-- the bytes of what is lent, if something is
+abbrev pub lent : Option (Bor (List ℕ)) → Option (List ℕ)
+lent text = option_map (λ t. t.now) text
 
 -- an id with the bytes of its name
 abbrev pub id_view : IdView → Id
@@ -55,22 +61,28 @@ op_view f = record {
   id = id_view f.id;
   segment = segment f.code.now (key_view f.key);
   replaced = ids_view f.replaced;
-  text = f.text.now;
+  text = lent f.text;
 }
 
--- so many operations, whatever their order and their places
+-- so many operations, of either format, whatever their order and their places
 abbrev pub each_operation_at : ℕ → List ℕ → Result (List Operation × List ℕ) BundleFault
-each_operation_at n bytes = each_at (operation_at 0 None) n bytes
+each_operation_at n bytes = each_at (operation_at false 0 None) n bytes
 
 -- the operations that the bytes spell, so many
 abbrev pub operations_in : ℕ → List ℕ → List Operation
 operations_in n bytes = found (each_operation_at n bytes)
 
 -- the bytes after the count spell a set of so many operations, and no more
-pub record Spells (n : ℕ) (bytes : List ℕ) : Type 0 where
+pub record SpellsSet (n : ℕ) (bytes : List ℕ) : Type 0 where
   pub read : each_operation_at n bytes ≡ Ok (operations_in n bytes, [])
   pub count : n ≡ length (operations_in n bytes)
   pub set : IsOpSet (operations_in n bytes)
+
+-- the bytes after the count spell a legal set of so many operations, and no more, and the format is the set's
+pub record Spells (full : Bool) (n : ℕ) (bytes : List ℕ) : Type 0 where
+  pub spells : SpellsSet n bytes
+  pub legal : IsTrue (is_legal (operations_in n bytes))
+  pub format : full ≡ all_full (operations_in n bytes)
 
 -- the fields are those of an operation, which the bytes spell
 pub record SpellsOne (f : OpFields) (bytes : List ℕ) : Type 0 where

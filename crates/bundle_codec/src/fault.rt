@@ -1,4 +1,6 @@
 ghost use Rattle.std.specs.Prelude.{◌≡◌};
+ghost use Rattle.bundle_codec.specs.Joining.{join_fault};
+ghost use Rattle.bundle_codec.specs.declared.fault.BundleFault.TheVariants as bundle;
 ghost use Rattle.bundle_codec.specs.declared.fault.WholeFault.TheVariants as whole;
 ghost use Rattle.bundle_codec.specs.declared.fault.JoinFault.TheVariants as joining;
 ghost use Rattle.bundle_codec.specs.declared.fault.SummaryFault.TheVariants as summing;
@@ -8,10 +10,15 @@ use std::alloc::AllocError;
 use thiserror::Error;
 
 /// Why bytes do not begin with a bundle: the first field, from left to right, that is cut or breaks
-/// its rule. An operation's place is counted from 1.
+/// its rule, or else the first thinned operation that none names. An operation's place is counted
+/// from 1.
 #[derive(Clone, Copy, Debug, PartialEq, Eq, Error)]
 pub enum BundleFault {
-    /// The bytes differ from `USFMSR1` and a line feed, with which a bundle begins.
+    /// A growth was refused, where all fields are right and an operation is thinned.
+    #[error("out of memory")]
+    Memory,
+    /// The bytes differ from `USFMSR1` and from `USFMSR2`, each with a line feed, with one of which a
+    /// bundle begins.
     #[error("not a bundle")]
     Magic,
     /// The bytes end inside a field. A proper front of a bundle, the empty one too, is refused so.
@@ -31,7 +38,7 @@ pub enum BundleFault {
     /// that is not smaller than the operation's.
     #[error("operation {0}: not the ids that it can replace")]
     BadReplaced(u64),
-    /// An operation's tag is not 1.
+    /// An operation's tag is not 1, and in format 2 not 0 either.
     #[error("operation {0}: an unknown tag")]
     BadTag(u64),
     /// An operation's text is not UTF-8.
@@ -40,6 +47,10 @@ pub enum BundleFault {
     /// An operation's text does not fit its book and key.
     #[error("operation {0}: its text does not fit its book and key")]
     BadText(u64),
+    /// An operation is thinned and no operation of the bundle in its segment names it; or, with the
+    /// place 0, a bundle of format 2 has no thinned operation.
+    #[error("operation {0}: thinned, and none of its segment names it")]
+    Unsupported(u64),
 }
 
 /// Why bytes are not one whole bundle.
@@ -62,7 +73,7 @@ pub enum JoinFault {
     /// The first bytes, or else the second, are not one whole bundle.
     #[error("{0}")]
     Bundle(WholeFault),
-    /// Two operations that are not equal have this id.
+    /// Two operations that do not agree have this id.
     #[error("two operations that differ have one id: {} {}", .0.number, .0.name.text())]
     Clash(OpId),
 }
@@ -76,6 +87,14 @@ pub enum SummaryFault {
     /// The bytes are not one whole summary.
     #[error("not a summary")]
     BadSummary,
+}
+
+impl From<AllocError> for BundleFault {
+    ghost from_gives = { λ _ fault. fault ≡ bundle.Memory };
+
+    fn from(_: AllocError) -> BundleFault {
+        BundleFault::Memory
+    }
 }
 
 impl From<BundleFault> for WholeFault {
@@ -95,10 +114,13 @@ impl From<AllocError> for JoinFault {
 }
 
 impl From<WholeFault> for JoinFault {
-    ghost from_gives = { λ from fault. fault ≡ joining.Bundle from };
+    ghost from_gives = { λ from fault. fault ≡ join_fault from };
 
     fn from(fault: WholeFault) -> JoinFault {
-        JoinFault::Bundle(fault)
+        match fault {
+            WholeFault::Bundle(BundleFault::Memory) => JoinFault::Memory,
+            _ => JoinFault::Bundle(fault),
+        }
     }
 }
 

@@ -24,8 +24,19 @@ pub fn bundle_with_itself()
     ensures { laws.BundleWithItself }
 {}
 
-/// Both groupings of three bundles give the same bytes, and one is refused with a clash exactly where
-/// the other is.
+/// Both groupings of three bundles without thinned operations give the same bytes, and one is refused
+/// with a clash exactly where the other is.
 pub fn bundles_associate()
     ensures { laws.BundlesAssociate }
+{}
+
+/// Where both groupings of three bundles give bytes, these are the same, with thinned operations too.
+pub fn groupings_give_the_same()
+    ensures { laws.GroupingsGiveTheSame }
+{}
+
+/// Both groupings of three bundles of one family, in which no id stands for two operations, give the
+/// same bytes.
+pub fn bundles_of_one_family()
+    ensures { laws.BundlesOfOneFamily }
 {}

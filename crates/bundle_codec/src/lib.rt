@@ -11,6 +11,7 @@ pub mod laws;
 mod merging;
 mod operation;
 mod summaries;
+mod thinning;
 mod view;
 mod walk;
 mod whole;

@@ -3,6 +3,7 @@ ghost use Rattle.std.specs.Prelude.{◌≡◌, ◌++◌, ◌∷◌, List, [], Ma
 ghost use Rattle.std.specs.List.{flat_map};
 ghost use Rattle.op_core.specs.Ops.{Operation};
 ghost use Rattle.op_core.specs.Sets as sets;
+ghost use Rattle.op_core.specs.Thinned.{all_full};
 ghost use Rattle.bundle_codec.specs.Spelling.{operation};
 ghost use Rattle.bundle_codec.specs.Merging as merging;
 
@@ -45,18 +46,21 @@ impl<'a> Walk<'a> {
         self.next.as_ref()
     }
 
-    // Goes past the next operation, and gives the bytes that spell it.
-    fn pass(&mut self) -> Option<&'a [u8]>
+    // Goes past the next operation, and gives it.
+    fn pass(&mut self) -> Option<OpView<'a>>
         ensures { merging.GoesPast self.old self.new result }
     {
-        let spelled = self.next.as_ref()?.spelled();
+        let op = self.next.take()?;
         self.next = self.rest.next();
-        Some(spelled)
+        Some(op)
     }
 }
 
-// Goes past the first operation of the union, and gives the bytes that spell it.
-fn pass_least<'a>(left: &mut Walk<'a>, right: &mut Walk<'a>) -> Result<Option<&'a [u8]>, JoinFault>
+// Goes past the first operation of the union, and gives it.
+fn pass_least<'a>(
+    left: &mut Walk<'a>,
+    right: &mut Walk<'a>,
+) -> Result<Option<OpView<'a>>, JoinFault>
     requires left { IsTrue (sets.rises left.old) }
     requires right { IsTrue (sets.rises right.old) }
     ensures next { IfOk result (merging.Steps left.old right.old left.new right.new) }
@@ -69,37 +73,53 @@ fn pass_least<'a>(left: &mut Walk<'a>, right: &mut Walk<'a>) -> Result<Option<&'
             Ordering::Less => Ok(left.pass()),
             Ordering::Greater => Ok(right.pass()),
             Ordering::Equal => {
-                if !x.is_same(y) {
+                if !x.agrees(y) {
                     let id = x.id();
                     return Err(JoinFault::Clash(id));
                 }
-                right.pass();
-                Ok(left.pass())
+                Ok(pass_both(left, right))
             }
         },
     }
 }
 
-// Appends the operations of the union, each with the bytes that spell it, and says how many they are.
+// Goes past the first operations of both, which agree, and gives the thinned one where one is thinned.
+fn pass_both<'a>(left: &mut Walk<'a>, right: &mut Walk<'a>) -> Option<OpView<'a>>
+    ensures { merging.Meets left.old right.old left.new right.new result }
+{
+    let one = left.pass()?;
+    let other = right.pass()?;
+    if other.text().is_none() {
+        Some(other)
+    } else {
+        Some(one)
+    }
+}
+
+// Appends the operations of the union, each with the bytes that spell it, and says whether each has
+// its text, and how many they are.
 pub(crate) fn push_union<'a>(
     bytes: &mut Vec<u8>,
     left: BundleOps<'a>,
     right: BundleOps<'a>,
-) -> Result<u64, JoinFault>
+) -> Result<(bool, u64), JoinFault>
     requires left { IsTrue (sets.rises left) }
     requires right { IsTrue (sets.rises right) }
     ensures pushed { let union = sets.join left.entry right.entry in
         IfOk result (λ _. bytes.new.items ≡ bytes.old.items ++ flat_map operation union) }
-    ensures count { IfOk result (λ count. count ≡ length (sets.join left.entry right.entry)) }
+    ensures full { IfOk result (λ r. r.0 ≡ all_full (sets.join left.entry right.entry)) }
+    ensures count { IfOk result (λ r. r.1 ≡ length (sets.join left.entry right.entry)) }
     ensures agrees { IfOk result (λ _. sets.clash left.entry right.entry ≡ None) }
     ensures refused { IfErr result (merging.RefusesUnion (sets.clash left.entry right.entry)) }
 {
     let mut left = Walk::new(left);
     let mut right = Walk::new(right);
+    let mut full = true;
     let mut count = 0;
-    'union: while let Some(spelled) = pass_least(&mut left, &mut right)? {
-        bytes.extend_from_slice(spelled)?;
+    'union: while let Some(op) = pass_least(&mut left, &mut right)? {
+        bytes.extend_from_slice(op.spelled())?;
+        full = full && op.text().is_some();
         count += 1;
     }
-    Ok(count)
+    Ok((full, count))
 }

@@ -1,7 +1,9 @@
 // Operations, judged where they stand in the bytes.
-ghost use Rattle.std.specs.Prelude.{◌≡◌, None, Ok, Err, IfOk, IsOk, option_map};
-ghost use Rattle.bundle_codec.specs.Reading.{Gives, counted_text_at, body_at, judge_text, operation_at, operations_at, after};
-ghost use Rattle.bundle_codec.specs.Views.{id_view, op_view};
+ghost use Rattle.std.specs.Prelude.{◌≡◌, None, false, Ok, Err, IfOk, IsOk, IsTrue, option_map};
+ghost use Rattle.usfm_ref.specs.Books.{is_book_code};
+ghost use Rattle.usfm_ref.specs.Keys.{is_key};
+ghost use Rattle.bundle_codec.specs.Reading.{Gives, is_tag, counted_text_at, text_after, body_at, judge_text, may_fit, operation_at, operations_at, after};
+ghost use Rattle.bundle_codec.specs.Views.{id_view, key_view, op_view, lent};
 
 use crate::fault::BundleFault;
 use crate::fields::{block_in, block_of, text_of, u8_at, u8_in, u64_at, u64_in};
@@ -15,7 +17,7 @@ pub(crate) struct OpFields<'a> {
     pub(crate) code: &'a [u8],
     pub(crate) key: KeyView,
     pub(crate) replaced: IdList<'a>,
-    pub(crate) text: &'a str,
+    pub(crate) text: Option<&'a str>,
 }
 
 // The bytes of a text, after their count.
@@ -27,16 +29,38 @@ fn counted_text_of(bytes: &[u8]) -> Result<(&[u8], &[u8]), BundleFault>
     block_of(len, rest)
 }
 
-// The tag and the bytes of the text of the operation at this place.
+// Whether the tag may stand in a bundle of the format: 1 in both, and 0 in format 2.
+fn is_tag_of(full: bool, tag: u8) -> bool
+    ensures { result ≡ is_tag full tag }
+{
+    tag == 1 || (!full && tag == 0)
+}
+
+// What follows a tag: nothing after 0, and else the bytes of a text.
+fn text_after(tag: u8, bytes: &[u8]) -> Result<(Option<&[u8]>, &[u8]), BundleFault>
+    ensures { Gives (λ x. (lent x.0, x.1.now)) result (text_after tag bytes.now) }
+{
+    if tag == 0 {
+        return Ok((None, bytes));
+    }
+    let (text, rest) = counted_text_of(bytes)?;
+    Ok((Some(text), rest))
+}
+
+// The tag and the bytes of the text of the operation at this place, if it has one.
 #[tactic(auto, unfolding(crate::specs::Reading::body_at))]
-pub(crate) fn body_of(place: u64, bytes: &[u8]) -> Result<(&[u8], &[u8]), BundleFault>
-    ensures { Gives (λ x. (x.0.now, x.1.now)) result (body_at place bytes.now) }
+pub(crate) fn body_of(
+    full: bool,
+    place: u64,
+    bytes: &[u8],
+) -> Result<(Option<&[u8]>, &[u8]), BundleFault>
+    ensures { Gives (λ x. (lent x.0, x.1.now)) result (body_at full place bytes.now) }
 {
     let (tag, rest) = u8_at(bytes)?;
-    if tag != 1 {
+    if !is_tag_of(full, tag) {
         return Err(BundleFault::BadTag(place));
     }
-    counted_text_of(rest)
+    text_after(tag, rest)
 }
 
 // The bytes of a text, after their count, in bytes that were judged.
@@ -48,32 +72,55 @@ fn counted_text_in(bytes: &[u8]) -> (&[u8], &[u8])
     block_in(len, rest)
 }
 
-// The bytes of the text after the tag, in bytes that were judged.
-pub(crate) fn body_in(bytes: &[u8]) -> (&[u8], &[u8])
-    requires { IsOk (body_at 0 bytes.now) }
-    ensures { body_at 0 bytes.now ≡ Ok (result.0.now, result.1.now) }
+// The bytes of the text after the tag, if it has one, in bytes that were judged.
+pub(crate) fn body_in(bytes: &[u8]) -> (Option<&[u8]>, &[u8])
+    requires { IsOk (body_at false 0 bytes.now) }
+    ensures { body_at false 0 bytes.now ≡ Ok (lent result.0, result.1.now) }
 {
-    let (_tag, rest) = u8_in(bytes);
-    counted_text_in(rest)
+    let (tag, rest) = u8_in(bytes);
+    if tag == 0 {
+        return (None, rest);
+    }
+    let (text, rest) = counted_text_in(rest);
+    (Some(text), rest)
 }
 
-// Judges the text of the operation at this place, once it is whole.
-fn judged_text(place: u64, text: &[u8]) -> Result<&str, BundleFault>
-    ensures rules { Gives (λ _. tt) result (judge_text place text.now) }
-    ensures text { IfOk result (λ s. s.now ≡ text.now) }
+// Judges the text of the operation at this place, if it has one, once it is whole.
+fn judged_text<'a>(place: u64, text: Option<&'a [u8]>) -> Result<Option<&'a str>, BundleFault>
+    ensures rules { Gives (λ _. tt) result (judge_text place (lent text.entry)) }
+    ensures text { IfOk result (λ s. lent s ≡ lent text.entry) }
 {
-    text_of(text).ok_or(BundleFault::NotUtf8(place))
+    let Some(bytes) = text else {
+        return Ok(None);
+    };
+    match text_of(bytes) {
+        None => Err(BundleFault::NotUtf8(place)),
+        Some(text) => Ok(Some(text)),
+    }
 }
 
-// Judges the operation at this place, after one of the id `before`.
+// Whether a text that is not left out fits a code and a key that were judged.
+fn may_fit_segment(code: &[u8], key: KeyView, text: Option<&str>) -> bool
+    requires code { IsTrue (is_book_code code.now) }
+    requires key { IsTrue (is_key key.chapter key.place) }
+    ensures { result ≡ may_fit code.now (key_view key) (lent text.entry) }
+{
+    match text {
+        None => true,
+        Some(text) => fits_segment(code, key, text),
+    }
+}
+
+// Judges the operation at this place of a bundle of the format, after one of the id `before`.
 #[tactic(auto, unfolding(crate::specs::Reading::operation_at))]
 fn fields_of<'a>(
+    full: bool,
     place: u64,
     before: &Option<IdView<'_>>,
     bytes: &'a [u8],
 ) -> Result<(OpFields<'a>, &'a [u8]), BundleFault>
     ensures { Gives (λ x. (op_view x.0, x.1.now)) result
-        (operation_at place (option_map id_view before.now) bytes.now) }
+        (operation_at full place (option_map id_view before.now) bytes.now) }
 {
     let (id, rest) = id_of(BundleFault::BadId(place), bytes)?;
     if !comes_after(before, &id) {
@@ -85,9 +132,9 @@ fn fields_of<'a>(
     }
     let (key, rest) = key_of(BundleFault::BadKey(place), rest)?;
     let (replaced, rest) = replaced_of(BundleFault::BadReplaced(place), &id, rest)?;
-    let (text, rest) = body_of(place, rest)?;
+    let (text, rest) = body_of(full, place, rest)?;
     let text = judged_text(place, text)?;
-    if !fits_segment(code, key, text) {
+    if !may_fit_segment(code, key, text) {
         return Err(BundleFault::BadText(place));
     }
     let fields = OpFields {
@@ -100,14 +147,14 @@ fn fields_of<'a>(
     Ok((fields, rest))
 }
 
-// Judges so many operations, and gives the bytes after them.
-pub(crate) fn after_operations(count: u64, bytes: &[u8]) -> Result<&[u8], BundleFault>
-    ensures { Gives (λ r. r.now) result (after (operations_at count (1, None) bytes.now)) }
+// Judges so many operations of a bundle of the format, and gives the bytes after them.
+pub(crate) fn after_operations(full: bool, count: u64, bytes: &[u8]) -> Result<&[u8], BundleFault>
+    ensures { Gives (λ r. r.now) result (after (operations_at full count (1, None) bytes.now)) }
 {
     let mut before = None;
     let mut rest = bytes;
     for i in 0..count {
-        let (fields, left) = fields_of(i + 1, &before, rest)?;
+        let (fields, left) = fields_of(full, i + 1, &before, rest)?;
         before = Some(fields.id);
         rest = left;
     }

@@ -1,5 +1,6 @@
 mod joining;
 mod summaries;
+mod thinned;
 
 use super::*;
 use op_core::{Op, OpId, OpSet};
@@ -19,6 +20,10 @@ const Y: &[u8; 74] =
 const Z: &[u8; 74] =
     b"USFMSR1\n\0\0\0\0\0\0\0\x01\0\0\0\0\0\0\0\x03\x03anaMAT\0\x01\x01\0\x01\0\0\0\0\0\0\0\0\x01\0\0\0\0\0\0\0\x02\x03ana\x01\0\0\0\0\0\0\0\x08\\v 1 To\n";
 
+// 2 ana on MAT 1:1, thinned, and 3 ben as in Y.
+const V2: &[u8; 104] =
+    b"USFMSR2\n\0\0\0\0\0\0\0\x02\0\0\0\0\0\0\0\x02\x03anaMAT\0\x01\x01\0\x01\0\0\0\0\0\0\0\0\0\0\0\0\0\0\0\0\0\x03\x03benMAT\0\x01\x01\0\x01\0\0\0\0\0\0\0\0\x01\0\0\0\0\0\0\0\x02\x03ana\x01\0\0\0\0\0\0\0\x08\\v 1 At\n";
+
 const VERSE: Place = Place::Verse {
     number: 1,
     letter: None,
@@ -26,16 +31,19 @@ const VERSE: Place = Place::Verse {
 
 type Id<'a> = (u64, &'a str);
 
-// The parts of an operation on MAT: its id, chapter, place, replaced ids and text.
-type Parts<'a> = (Id<'a>, u16, Place, Option<Id<'a>>, &'a str);
+// The parts of an operation on MAT: its id, chapter, place, replaced ids and text, if it has one.
+type Parts<'a> = (Id<'a>, u16, Place, Option<Id<'a>>, Option<&'a str>);
 
-const ID: Parts<'static> = ((1, "ana"), 0, Place::Head, None, "\\id MAT\n");
+const ID: Parts<'static> = ((1, "ana"), 0, Place::Head, None, Some("\\id MAT\n"));
 
-const IN: Parts<'static> = ((2, "ana"), 1, VERSE, None, "\\v 1 In\n");
+const IN: Parts<'static> = ((2, "ana"), 1, VERSE, None, Some("\\v 1 In\n"));
 
-const AT: Parts<'static> = ((3, "ben"), 1, VERSE, Some((2, "ana")), "\\v 1 At\n");
+// What V2 has in its place.
+const THINNED: Parts<'static> = ((2, "ana"), 1, VERSE, None, None);
 
-const TO: Parts<'static> = ((3, "ana"), 1, VERSE, Some((2, "ana")), "\\v 1 To\n");
+const AT: Parts<'static> = ((3, "ben"), 1, VERSE, Some((2, "ana")), Some("\\v 1 At\n"));
+
+const TO: Parts<'static> = ((3, "ana"), 1, VERSE, Some((2, "ana")), Some("\\v 1 To\n"));
 
 fn is_id(id: OpId, want: Id<'_>) -> bool {
     id.number == want.0 && id.name.text() == want.1
@@ -109,7 +117,7 @@ fn is_bundle(alloc: Global, bytes: &[u8], want: &[Parts<'_>]) -> Result<bool, Fa
 fn first_text(alloc: Global, bytes: &[u8]) -> Result<&str, Fail> {
     let (bundle, _) = decode(alloc, bytes)?;
     let view = bundle.ops().next().ok_or("no operation")?;
-    Ok(view.text())
+    Ok(view.text().ok_or("no text")?)
 }
 
 fn fault_of(alloc: Global, bytes: &[u8]) -> Option<BundleFault> {
@@ -120,6 +128,7 @@ const VECTORS: &[(&[u8], &[Parts<'static>])] = &[
     (B1, &[ID, IN]),
     (Y, &[AT]),
     (Z, &[TO]),
+    (V2, &[THINNED, AT]),
     (b"USFMSR1\n\0\0\0\0\0\0\0\0", &[]),
 ];
 
@@ -133,14 +142,20 @@ fn vectors(rt: HostRuntime) -> Result<(), Fail> {
     Ok(())
 }
 
+// The front of a bundle, and what each of its views says that it is spelled by.
+fn spelled_again(alloc: Global, bytes: &[u8]) -> Result<Vec<u8>, Fail> {
+    let (bundle, _) = decode(alloc, bytes)?;
+    let mut spelled = bytes[..16].to_vec(alloc)?;
+    for view in bundle.ops() {
+        spelled.extend_from_slice(view.spelled())?;
+    }
+    Ok(spelled)
+}
+
 #[test]
 fn spelled_bytes(rt: HostRuntime) -> Result<(), Fail> {
-    let (bundle, _) = decode(rt.alloc(), B1)?;
-    let mut bytes = B1[..16].to_vec(rt.alloc())?;
-    for view in bundle.ops() {
-        bytes.extend_from_slice(view.spelled())?;
-    }
-    assert!(rt; bytes.as_slice() == B1.as_slice());
+    assert!(rt; spelled_again(rt.alloc(), B1)?.as_slice() == B1.as_slice());
+    assert!(rt; spelled_again(rt.alloc(), V2)?.as_slice() == V2.as_slice());
     Ok(())
 }
 
@@ -158,6 +173,9 @@ fn set(rt: HostRuntime) -> Result<(), Fail> {
     let (bundle, _) = decode(rt.alloc(), B1)?;
     let set = bundle.to_set(rt.alloc())?;
     assert!(rt; is_set(&set, &[ID, IN]));
+    let (bundle, _) = decode(rt.alloc(), V2)?;
+    let set = bundle.to_set(rt.alloc())?;
+    assert!(rt; is_set(&set, &[THINNED, AT]));
     Ok(())
 }
 
@@ -165,7 +183,10 @@ const FRONTS: &[(&[u8], BundleFault)] = &[
     (b"USFMSR", BundleFault::Truncated),
     (b"USFMSR1", BundleFault::Truncated),
     (b"USFMX", BundleFault::Magic),
-    (b"USFMSR2", BundleFault::Magic),
+    (b"USFMSR2", BundleFault::Truncated),
+    (b"USFMSR2\n", BundleFault::Truncated),
+    (b"USFMSR3", BundleFault::Magic),
+    (b"USFMSR2\r", BundleFault::Magic),
 ];
 
 #[test]
@@ -173,6 +194,10 @@ fn every_front_is_cut(rt: HostRuntime) {
     for n in 0..108usize {
         let fault = fault_of(rt.alloc(), &B1[..n]);
         assert!(rt; fault == Some(BundleFault::Truncated), "{n}");
+    }
+    for n in 0..104usize {
+        let fault = fault_of(rt.alloc(), &V2[..n]);
+        assert!(rt; fault == Some(BundleFault::Truncated), "{n} of V2");
     }
     for (bytes, fault) in FRONTS {
         assert!(rt;

@@ -1,8 +1,9 @@
-ghost use Rattle.std.specs.Prelude.{◌≡◌, IfOk};
+ghost use Rattle.std.specs.Prelude.{◌≡◌, ◌<◌, ◌^◌, length, IfOk};
 ghost use Rattle.op_core.specs.Ids.{id_cmp};
-ghost use Rattle.op_core.specs.Ops.{IsOperation, in_segment, same_op};
-ghost use Rattle.bundle_codec.specs.Spelling.{operation};
-ghost use Rattle.bundle_codec.specs.Views.{op_view, SpellsOne};
+ghost use Rattle.op_core.specs.Ops.{IsOperation, in_segment, same_op, agree};
+ghost use Rattle.op_core.specs.Ops as ops;
+ghost use Rattle.bundle_codec.specs.Spelling.{operation, head};
+ghost use Rattle.bundle_codec.specs.Views.{lent, op_view, SpellsOne};
 
 use crate::ids::{ReplacedIds, compared, made, same_ids};
 use crate::keys::book_in;
@@ -72,9 +73,9 @@ impl<'a> OpView<'a> {
         ReplacedIds::new(self.fields.replaced)
     }
 
-    /// Its text, a slice of the bundle's bytes.
-    pub fn text(&self) -> &'a str
-        ensures { result.now ≡ self.now.text }
+    /// Its text, a slice of the bundle's bytes, and none exactly where it is thinned.
+    pub fn text(&self) -> Option<&'a str>
+        ensures { lent result ≡ self.now.text }
     {
         self.fields.text
     }
@@ -100,22 +101,49 @@ impl<'a> OpView<'a> {
         compared(&self.fields.id, &other.fields.id)
     }
 
+    // The bytes before its tag, which spell all of it but its text.
+    fn head(&self) -> &'a [u8]
+        ensures bytes { result.now ≡ head self.now }
+        ensures valid { IsOperation self.now }
+        ensures short { length (operation self.now) < 2 ^ 64 }
+    {
+        // The tag, and before a text its length.
+        let body = match self.text() {
+            None => 1,
+            Some(text) => text.len() + 9,
+        };
+        let own = self.bytes;
+        let (head, _) = own.split_at(own.len() - body);
+        head
+    }
+
     // Whether the two are equal. An operation has one spelling.
-    pub(crate) fn is_same(&self, other: &OpView<'_>) -> bool
+    fn is_same(&self, other: &OpView<'_>) -> bool
         ensures { result ≡ same_op self.now other.now }
     {
         let own = self.bytes;
         own == other.bytes
     }
 
-    /// Whether it is equal to an operation that is not lent from the bytes. It takes no memory.
-    pub fn is_equal(&self, op: &Op) -> bool
-        ensures { result ≡ same_op op.now self.now }
+    // Whether the two are equal, or at least one is thinned and they are equal but for their texts.
+    pub(crate) fn agrees(&self, other: &OpView<'_>) -> bool
+        ensures { result ≡ agree self.now other.now }
+    {
+        match (self.text(), other.text()) {
+            (Some(_), Some(_)) => self.is_same(other),
+            _ => self.head() == other.head(),
+        }
+    }
+
+    /// Whether it and an operation that is not lent from the bytes are equal, or at least one of them
+    /// is thinned and they are equal but for their texts. It takes no memory.
+    pub fn agrees_with(&self, op: &Op) -> bool
+        ensures { result ≡ agree op.now self.now }
     {
         op.id() == self.id()
             && self.is_beside(op)
             && same_ids(op.replaced(), self.replaced())
-            && op.text().as_bytes() == self.text().as_bytes()
+            && texts_agree(op.text(), self.text())
     }
 
     /// The operation as a value of its own, copied out of the bytes.
@@ -126,7 +154,23 @@ impl<'a> OpView<'a> {
         ensures { IfOk result (λ op. op ≡ self.now) }
     {
         let replaced = self.replaced().collect(alloc)?;
-        let text = String::from_str(alloc, self.text())?;
-        Ok(Op::new(self.id(), self.book(), self.key(), replaced, text))
+        let (id, book, key) = (self.id(), self.book(), self.key());
+        match self.text() {
+            None => Ok(Op::thinned(id, book, key, replaced)),
+            Some(text) => {
+                let text = String::from_str(alloc, text)?;
+                Ok(Op::new(id, book, key, replaced, text))
+            }
+        }
+    }
+}
+
+// Whether two texts are equal, or at least one is left out.
+fn texts_agree(left: Option<&str>, right: Option<&str>) -> bool
+    ensures { result ≡ ops.texts_agree (lent left.entry) (lent right.entry) }
+{
+    match (left, right) {
+        (Some(left), Some(right)) => left.as_bytes() == right.as_bytes(),
+        _ => true,
     }
 }

@@ -1,8 +1,8 @@
 // A walk over operations that were judged before. It tests neither lengths nor rules again.
-ghost use Rattle.std.specs.Prelude.{◌≡◌, None, Ok, IsOk};
+ghost use Rattle.std.specs.Prelude.{◌≡◌, None, false, Ok, IsOk, IsTrue};
 ghost use Rattle.std.specs.Iterator.{YieldsFirst, item_count};
-ghost use Rattle.bundle_codec.specs.Reading.{operation_at};
-ghost use Rattle.bundle_codec.specs.Views.{op_view, each_id_at, each_operation_at, operations_in};
+ghost use Rattle.bundle_codec.specs.Reading.{operation_at, may_be_utf8};
+ghost use Rattle.bundle_codec.specs.Views.{lent, op_view, each_id_at, each_operation_at, operations_in};
 
 use crate::fault::BundleFault;
 use crate::fields::block_in;
@@ -59,10 +59,21 @@ impl<'a> Iterator for BundleOps<'a> {
     }
 }
 
+// The text of these bytes, if there is one, which were judged to be UTF-8.
+fn text_in(bytes: Option<&[u8]>) -> Option<&str>
+    requires { IsTrue (may_be_utf8 (lent bytes)) }
+    ensures { lent result ≡ lent bytes.entry }
+{
+    match bytes {
+        None => None,
+        Some(bytes) => Some(unsafe { str::from_utf8_unchecked(bytes) }),
+    }
+}
+
 // The fields of the operation at the front of bytes that were judged.
 fn fields_in(bytes: &[u8]) -> (OpFields<'_>, &[u8])
-    requires { IsOk (operation_at 0 None bytes.now) }
-    ensures value { operation_at 0 None bytes.now ≡ Ok (op_view result.0, result.1.now) }
+    requires { IsOk (operation_at false 0 None bytes.now) }
+    ensures value { operation_at false 0 None bytes.now ≡ Ok (op_view result.0, result.1.now) }
     ensures ids { IsOk (each_id_at result.0.replaced.count result.0.replaced.bytes.now) }
 {
     let (id, rest) = id_in(bytes);
@@ -70,8 +81,7 @@ fn fields_in(bytes: &[u8]) -> (OpFields<'_>, &[u8])
     let (key, rest) = key_in(BundleFault::BadKey(0), rest);
     let (replaced, rest) = replaced_in(rest);
     let (text, rest) = body_in(rest);
-    // The text was judged to be UTF-8.
-    let text = unsafe { str::from_utf8_unchecked(text) };
+    let text = text_in(text);
     let fields = OpFields {
         id,
         code,
@@ -84,8 +94,8 @@ fn fields_in(bytes: &[u8]) -> (OpFields<'_>, &[u8])
 
 // The operation at the front of bytes that were judged.
 fn operation_in(bytes: &[u8]) -> (OpView<'_>, &[u8])
-    requires { IsOk (operation_at 0 None bytes.now) }
-    ensures { operation_at 0 None bytes.now ≡ Ok (result.0, result.1.now) }
+    requires { IsOk (operation_at false 0 None bytes.now) }
+    ensures { operation_at false 0 None bytes.now ≡ Ok (result.0, result.1.now) }
 {
     let (fields, rest) = fields_in(bytes);
     let (own, _) = bytes.split_at(bytes.len() - rest.len());

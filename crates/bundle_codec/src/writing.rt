@@ -1,6 +1,7 @@
 // Sets of operations, written as bundles.
-ghost use Rattle.std.specs.Prelude.{◌≡◌, ◌≤◌, ◌++◌, Ok, IfOk, take, drop, vec_len};
+ghost use Rattle.std.specs.Prelude.{◌≡◌, ◌≤◌, ◌+◌, ◌++◌, Ok, IfOk, length, take, drop, vec_len};
 ghost use Rattle.std.specs.Int.{w64, to_be_bytes};
+ghost use Rattle.op_core.specs.Thinned.{all_full};
 ghost use Rattle.bundle_codec.specs.Spelling as spelled;
 ghost use Rattle.bundle_codec.specs.Joining.{whole_at};
 
@@ -9,7 +10,8 @@ use op_core::{Op, OpId, OpSet};
 use std::alloc::{AllocError, Global};
 use usfm_ref::{Key, Place};
 
-/// The bundle of a set of operations. There is one for each set.
+/// The bundle of a set of operations, of format 1 where each has its text, and else of format 2. There
+/// is one for each set.
 ///
 /// # Errors
 /// Out of memory alone.
@@ -31,30 +33,59 @@ pub fn encode(alloc: Global, set: &OpSet) -> Result<Vec<u8>, AllocError>
 pub fn encode_after(mut bytes: Vec<u8>, set: &OpSet) -> Result<Vec<u8>, AllocError>
     ensures { IfOk result (λ whole. whole.items ≡ bytes.items ++ spelled.bundle set.now) }
 {
-    push_front(&mut bytes, set.len() as u64)?;
+    push_front(&mut bytes, is_full(set), set.len() as u64)?;
     for op in set.iter() {
         push_operation(&mut bytes, op)?;
     }
     Ok(bytes)
 }
 
-// Appends the magic and the count, with which a bundle begins.
-#[tactic(auto, unfolding(crate::specs::Spelling::magic))]
-pub(crate) fn push_front(bytes: &mut Vec<u8>, count: u64) -> Result<(), AllocError>
-    ensures { let front = spelled.magic ++ to_be_bytes w64 count in
-        IfOk result (λ _. bytes.new.items ≡ bytes.old.items ++ front) }
+// Whether each operation of the set has its text.
+fn is_full(set: &OpSet) -> bool
+    ensures { result ≡ all_full set.now }
 {
-    bytes.extend_from_slice(&MAGIC)?;
-    bytes.extend_from_slice(&count.to_be_bytes())
+    for op in set.iter() {
+        if op.text().is_none() {
+            return false;
+        }
+    }
+    true
 }
 
-// Writes the count of a bundle over the one that stands in its bytes.
-pub(crate) fn set_count(bytes: &mut Vec<u8>, count: u64)
-    requires { 16 ≤ vec_len bytes.old }
-    ensures { bytes.new.items
-        ≡ take 8 bytes.old.items ++ (to_be_bytes w64 count ++ drop 16 bytes.old.items) }
+// Appends the magic of the format and the count, with which a bundle begins.
+pub(crate) fn push_front(bytes: &mut Vec<u8>, full: bool, count: u64) -> Result<(), AllocError>
+    ensures { let front = spelled.magic_of full ++ to_be_bytes w64 count in
+        IfOk result (λ _. bytes.new.items ≡ bytes.old.items ++ front) }
 {
-    bytes[8..16].copy_from_slice(&count.to_be_bytes());
+    bytes.extend_from_slice(&front_of(full, count))
+}
+
+// Writes the format and the count of a bundle over those that stand in its bytes.
+pub(crate) fn set_front(bytes: &mut Vec<u8>, full: bool, count: u64)
+    requires { 16 ≤ vec_len bytes.old }
+    ensures { let front = spelled.magic_of full ++ to_be_bytes w64 count in
+        bytes.new.items ≡ front ++ drop 16 bytes.old.items }
+{
+    bytes[0..16].copy_from_slice(&front_of(full, count));
+}
+
+// The magic of the format and the count.
+#[tactic(auto, unfolding(crate::specs::Spelling::magic_of))]
+fn front_of(full: bool, count: u64) -> [u8; 16]
+    ensures { result ≡ spelled.magic_of full ++ to_be_bytes w64 count }
+{
+    let mut front = [0; 16];
+    front[..6].copy_from_slice(&MAGIC);
+    front[6..8].copy_from_slice(&[digit_of(full), b'\n']);
+    front[8..].copy_from_slice(&count.to_be_bytes());
+    front
+}
+
+// The digit of a format.
+fn digit_of(full: bool) -> u8
+    ensures { result ≡ spelled.digit full }
+{
+    if full { b'1' } else { b'2' }
 }
 
 pub(crate) fn push_operation(bytes: &mut Vec<u8>, op: &Op) -> Result<(), AllocError>
@@ -99,11 +130,14 @@ fn push_key(bytes: &mut Vec<u8>, key: Key) -> Result<(), AllocError>
     bytes.extend_from_slice(&[letter])
 }
 
-// Appends the tag, and the text after its length.
+// Appends the tag, and the text after its length, if it has one.
 fn push_body(bytes: &mut Vec<u8>, op: &Op) -> Result<(), AllocError>
     ensures { IfOk result (λ _. bytes.new.items ≡ bytes.old.items ++ spelled.body op.now.text) }
 {
-    let text = op.text().as_bytes();
+    let Some(text) = op.text() else {
+        return bytes.extend_from_slice(&[0]);
+    };
+    let text = text.as_bytes();
     bytes.extend_from_slice(&[1])?;
     bytes.extend_from_slice(&(text.len() as u64).to_be_bytes())?;
     bytes.extend_from_slice(text)

@@ -8,7 +8,7 @@ use op_core::OpId;
 use std::alloc::{AllocError, Global};
 use std::marker::Model;
 
-// Tells which ids a summary covers. A search begins where the last one ended, since the ids of a set
+// Says which ids a summary covers. A search begins where the last one ended, since the ids of a set
 // mostly stand in runs of one name, and the numbers of a name rise.
 #[derive(Drop)]
 pub(crate) struct Coverage<'a> {

@@ -1,16 +1,23 @@
 // What a summary lacks of a set, written as a bundle.
-ghost use Rattle.std.specs.Prelude.{◌≡◌, Ok, IfOk};
+ghost use Rattle.std.specs.Prelude.{◌≡◌, ◌&&◌, ◌||◌, not, Ok, IfOk};
+ghost use Rattle.usfm_ref.specs.Segments.{Segment};
+ghost use Rattle.op_core.specs.Ops.{is_thinned};
+ghost use Rattle.op_core.specs.Thinned.{is_lacked, lacks_thinned};
 ghost use Rattle.bundle_codec.specs.Spelling as spelled;
 ghost use Rattle.bundle_codec.specs.Joining.{whole_at};
-ghost use Rattle.bundle_codec.specs.Summaries.{outside};
+ghost use Rattle.bundle_codec.specs.Summaries.{covers, outside, has_segment};
 
 use super::Summary;
-use crate::writing::{push_front, push_operation, set_count};
-use op_core::OpSet;
+use super::coverage::Coverage;
+use crate::writing::{push_front, push_operation, set_front};
+use op_core::{Op, OpSet};
 use std::alloc::{AllocError, Global};
+use std::collections::BTreeSet;
+use usfm_ref::{Book, Key};
 
-/// The bundle of the operations of a set whose ids lie outside a summary. They are lent from the set
-/// and written one by one; no second set is made.
+/// The bundle of the operations of a set whose ids lie outside a summary; and where one of these is
+/// thinned, of all operations of its segment, so that what names it goes with it. They are lent from
+/// the set and written one by one; no second set is made.
 ///
 /// # Errors
 /// Out of memory alone.
@@ -20,17 +27,55 @@ pub fn encode_outside(alloc: Global, set: &OpSet, summary: &Summary) -> Result<V
     ensures again { IfOk result (λ bytes. whole_at bytes.items ≡ Ok (outside summary.now set.now)) }
 {
     let mut bytes = Vec::new(alloc);
-    push_front(&mut bytes, 0)?;
+    push_front(&mut bytes, true, 0)?;
+    let whole = lacked_segments(alloc, set, summary)?;
     let mut coverage = summary.coverage(alloc)?;
-    // All operations but those that are covered.
+    let mut full = true;
+    // All operations but those that stay.
     let mut count = set.len();
     for op in set.iter() {
-        if coverage.covers(&op.id()) {
-            count -= 1;
-        } else {
+        if is_sent(&mut coverage, &whole, op) {
             push_operation(&mut bytes, op)?;
+            full = full && op.text().is_some();
+        } else {
+            count -= 1;
         }
     }
-    set_count(&mut bytes, count as u64);
+    set_front(&mut bytes, full, count as u64);
     Ok(bytes)
+}
+
+// Whether the operation lies outside, or is of one of the segments that are sent whole.
+fn is_sent(coverage: &mut Coverage<'_>, whole: &BTreeSet<(Book, Key)>, op: &Op) -> bool
+    ensures answer { result
+        ≡ (not (covers coverage.old op.now.id) || has_segment whole.now op.now.segment) }
+    ensures same { coverage.new ≡ coverage.old }
+{
+    let covered = coverage.covers(&op.id());
+    !covered || whole.contains(&(op.book(), op.key()))
+}
+
+// The segments of which a thinned operation lies outside a summary. Memory is taken for these alone.
+fn lacked_segments(
+    alloc: Global,
+    set: &OpSet,
+    summary: &Summary,
+) -> Result<BTreeSet<(Book, Key)>, AllocError>
+    ensures { IfOk result (λ segments. (g : Segment) →
+        has_segment segments g ≡ lacks_thinned set.now (covers summary.now) g) }
+{
+    let mut segments = BTreeSet::new(alloc);
+    for op in set.iter() {
+        if is_lacked_thinned(summary, op) {
+            segments.insert((op.book(), op.key()))?;
+        }
+    }
+    Ok(segments)
+}
+
+// Whether the operation is thinned and lies outside a summary.
+fn is_lacked_thinned(summary: &Summary, op: &Op) -> bool
+    ensures { result ≡ (is_thinned op.now && is_lacked (covers summary.now) op.now) }
+{
+    op.text().is_none() && !summary.covers(&op.id())
 }

@@ -3,7 +3,7 @@ use Rattle.std.specs.Int.{w64}
 use Rattle.bundle_codec.specs.declared.fault.BundleFault.TheVariants.{Truncated}
 use Rattle.bundle_codec.specs.Reading.{◌>>=◌, any, replaced_at, many_at, named_at, after_id}
 use Rattle.bundle_codec.specs.Views.{id_view}
-use Rattle.bundle_codec.proofs.Readers.{number_reads, wide64}
+use Rattle.bundle_codec.proofs.FieldReaders.{number_reads, wide64}
 use Rattle.bundle_codec.proofs.Seen.{replaced_seen}
 use Rattle.bundle_codec.proofs.ids.replaced_of.Goals as goal
 

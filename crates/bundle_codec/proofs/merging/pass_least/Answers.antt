@@ -2,11 +2,11 @@ use Rattle.std.proofs.Common.{Some, sym, ap, ◌∙◌}
 use Rattle.bundle_codec.proofs.Merges.{steps_other, steps_less, steps_greater, steps_tied, clashes}
 use Rattle.bundle_codec.proofs.merging.pass_least.Goals as goal
 
-pub returns-then-not-is_same-clause-refused : goal.returns-then-not-is_same-clause-refused
-returns-then-not-is_same-clause-refused c =
+pub returns-then-not-agrees-clause-refused : goal.returns-then-not-agrees-clause-refused
+returns-then-not-agrees-clause-refused c =
     clashes c.args.left.now c.args.right.now _ _ c.in-Some-Some.x.now c.in-Some-Some.y.now c.in-Some-Some.ensures.1
     c.in-Some-Some.ensures'.1 c.requires.left c.requires.right
-    (sym c.compare_id.ensures ∙ c.in-Equal.is) (sym c.is_same.ensures ∙ c.if-not-is_same.true)
+    (sym c.compare_id.ensures ∙ c.in-Equal.is) (sym c.agrees.ensures ∙ c.if-not-agrees.true)
     ∙ ap Some (sym c.id-id.ensures.id)
 
 pub returns-in-None-default-clause-next : goal.returns-in-None-default-clause-next
@@ -25,10 +25,9 @@ returns-in-Greater-clause-next c =
     c.in-Some-Some.ensures'.1 c.requires.left c.requires.right
     c.pass-in-Greater.new.self c.pass-in-Greater.result (sym c.compare_id.ensures ∙ c.in-Greater.is) c.pass-in-Greater.ensures
 
-pub returns-else-not-is_same-clause-next : goal.returns-else-not-is_same-clause-next
-returns-else-not-is_same-clause-next c =
+pub returns-else-not-agrees-clause-next : goal.returns-else-not-agrees-clause-next
+returns-else-not-agrees-clause-next c =
     steps_tied c.args.left.now c.args.right.now _ _ c.in-Some-Some.x.now c.in-Some-Some.y.now c.in-Some-Some.ensures.1
     c.in-Some-Some.ensures'.1 c.requires.left c.requires.right
-    c.pass-in-Equal-2.new.self c.pass-in-Equal.new.self c.pass-in-Equal-2.result c.pass-in-Equal.result
-    (sym c.compare_id.ensures ∙ c.in-Equal.is)
-    (sym c.is_same.ensures ∙ c.if-not-is_same.false) c.pass-in-Equal.ensures c.pass-in-Equal-2.ensures
+    c.pass_both.new.left c.pass_both.new.right c.pass_both.result (sym c.compare_id.ensures ∙ c.in-Equal.is)
+    (sym c.agrees.ensures ∙ c.if-not-agrees.false) c.pass_both.ensures

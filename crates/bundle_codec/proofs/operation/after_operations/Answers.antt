@@ -8,18 +8,19 @@ use Rattle.bundle_codec.proofs.operation.after_operations.Goals as goal
 pub returns-in_err-fields : goal.returns-in_err-fields
 returns-in_err-fields c =
     let p = err_from_is_err_and c.from_residual.result c.from_residual.ensures.1 in
-    rw (p.1, p.2) (fails (λ s. operation_at s.0 s.1) after_operation c.args.count c.loop-i.i
+    rw (p.1, p.2) (fails (λ s. operation_at c.args.full s.0 s.1) after_operation c.args.count c.loop-i.i
     (c.loop-i.i + 1, option_map id_view c.loop-i.before) c.loop-i.rest.now c.in_err-fields.field-0.0
-    (after (operations_at c.args.count (1, None) c.args.bytes.now)) c.loop-i-test.true c.in_err-fields.ensures c.loop-i.invariant)
+    (after (operations_at c.args.full c.args.count (1, None) c.args.bytes.now)) c.loop-i-test.true
+    c.in_err-fields.ensures c.loop-i.invariant)
 
 pub loop-i-preserved : goal.loop-i-preserved
 loop-i-preserved c =
-    let on = goes_on (λ s. operation_at s.0 s.1) after_operation c.args.count c.loop-i.i
+    goes_on (λ s. operation_at c.args.full s.0 s.1) after_operation c.args.count c.loop-i.i
     (c.loop-i.i + 1, option_map id_view c.loop-i.before) c.loop-i.rest.now (op_view c.in_ok-fields.fields) c.in_ok-fields.left.now
-    (after (operations_at c.args.count (1, None) c.args.bytes.now)) c.loop-i-test.true c.in_ok-fields.ensures c.loop-i.invariant in
-    on
+    (after (operations_at c.args.full c.args.count (1, None) c.args.bytes.now)) c.loop-i-test.true
+    c.in_ok-fields.ensures c.loop-i.invariant
 
 pub returns : goal.returns
-returns c = is_done (λ s. operation_at s.0 s.1) after_operation c.args.count c.loop-i.i
+returns c = is_done (λ s. operation_at c.args.full s.0 s.1) after_operation c.args.count c.loop-i.i
     (c.loop-i.i + 1, option_map id_view c.loop-i.before) c.loop-i.rest.now
-    (after (operations_at c.args.count (1, None) c.args.bytes.now)) c.loop-i-test.false c.loop-i.invariant
+    (after (operations_at c.args.full c.args.count (1, None) c.args.bytes.now)) c.loop-i-test.false c.loop-i.invariant

@@ -5,4 +5,5 @@ use Rattle.bundle_codec.proofs.operation.after_operations.Given as goal
 
 abbrev pub invariant-loop-i : goal.invariant-loop-i
 invariant-loop-i l =
-    after (operations_at (l.count - l.i) (l.i + 1, option_map id_view l.before) l.rest) ≡ after (operations_at l.count (1, None) l.bytes)
+    after (operations_at l.full (l.count - l.i) (l.i + 1, option_map id_view l.before) l.rest)
+    ≡ after (operations_at l.full l.count (1, None) l.bytes)

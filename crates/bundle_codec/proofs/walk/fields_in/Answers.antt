@@ -21,13 +21,13 @@ body_in-requires c = op_body c.args.bytes.now
     (λ i. omega (arith, c.type_inv.bytes i)) c.requires _ _ c.id_in.ensures.value _ _ c.block_in.ensures _ _ c.key_in.ensures _ _
     c.replaced_in.ensures.value
 
-pub from_utf8_unchecked-text-requires : goal.from_utf8_unchecked-text-requires
-from_utf8_unchecked-text-requires c = op_text c.args.bytes.now
+pub text_in-text-requires : goal.text_in-text-requires
+text_in-text-requires c = op_text c.args.bytes.now
     (λ i. omega (arith, c.type_inv.bytes i)) c.requires _ _ c.id_in.ensures.value _ _ c.block_in.ensures _ _ c.key_in.ensures _ _
     c.replaced_in.ensures.value _ _ c.body_in.ensures
 
 pub returns-clause-value : goal.returns-clause-value
 returns-clause-value c =
-    rw c.from_utf8_unchecked-text.ensures
+    rw c.text_in-text.ensures
     (op_is c.args.bytes.now (λ i. omega (arith, c.type_inv.bytes i)) c.requires _ _ c.id_in.ensures.value _ _ c.block_in.ensures _ _
     c.key_in.ensures _ _ c.replaced_in.ensures.value _ _ c.body_in.ensures)

@@ -7,6 +7,7 @@ pub returns-clause-again : goal.returns-clause-again
 returns-clause-again c = whole_reads c.in_ok-bytes.bytes.items (record {
   ops = c.args.set.now;
   set = c.iter.ensures.set;
+  legal = c.iter.ensures.legal;
   spelled = c.in_ok-bytes.ensures ∙ ap (λ front. front ++ bundle c.args.set.now) c.new.ensures.items;
   short = omega (arith, c.in_ok-bytes.bytes.ok.0, c.in_ok-bytes.bytes.small);
 })

@@ -1,35 +1,55 @@
-use Rattle.std.proofs.Common.{sym, ◌∙◌, arith}
-use Rattle.bundle_codec.specs.Summaries.{covers, outside}
-use Rattle.bundle_codec.proofs.Wholes.{has_front, whole_reads}
-use Rattle.bundle_codec.proofs.Outside.{outside_set, written_some, written_off, written_all, is_bundle}
+use Rattle.std.proofs.Common.{◌≡◌, Bool, not, ◌||◌, List, sym, ◌∙◌, arith}
+use Rattle.usfm_ref.specs.Segments.{Segment}
+use Rattle.op_core.specs.Ops.{Operation}
+use Rattle.op_core.specs.Thinned.{is_sent, lacks_thinned}
+use Rattle.op_core.proofs.Legal.{delta_legal}
+use Rattle.bundle_codec.specs.Summaries.{Known, covers, outside, has_segment}
+use Rattle.bundle_codec.proofs.Refronted.{has_front}
+use Rattle.bundle_codec.proofs.Wholes.{whole_reads}
+use Rattle.bundle_codec.proofs.LackedSegments.{Segments}
+use Rattle.bundle_codec.proofs.Outside.{outside_set, counted_some, goes_past, written_all, is_bundle}
 use Rattle.bundle_codec.proofs.summaries.outside.encode_outside.Goals as goal
 
+-- whether an operation is sent, as it is tested
+asked : (set : List Operation) (summary coverage : List Known) (whole : Segments) (o : Operation) (r : Bool) → coverage ≡ summary
+    → ((g : Segment) → has_segment whole g ≡ lacks_thinned set (covers summary) g)
+    → r ≡ (not (covers coverage o.id) || has_segment whole o.segment) → is_sent set (covers summary) o ≡ r
+asked set summary coverage whole o r same lacks e = sym (e ∙ (λ i. not (covers (same i) o.id) || lacks o.segment i))
+
 pub overflow_sub-count : goal.overflow_sub-count
-overflow_sub-count c = written_some c.args.summary.now c.args.set.now c.loop-op.op-iterator c.next.new.self c.in-Some.op.now
-    c.loop-op.coverage c.loop-op.bytes.items c.loop-op.count c.in-Some.ensures.steps c.loop-op.invariant
-    (sym (λ i. covers (c.loop-op.invariant.same i) (c.id.ensures.id i)) ∙ sym c.covers.ensures.answer ∙ c.if-covers.true)
+overflow_sub-count c =
+    counted_some (is_sent c.args.set.now (covers c.args.summary.now)) c.args.set.now c.loop-op.op-iterator c.next.new.self c.in-Some.op.now
+    c.loop-op.bytes.items c.loop-op.full c.loop-op.count c.in-Some.ensures.steps c.loop-op.invariant.1
+    (asked c.args.set.now c.args.summary.now c.loop-op.coverage c.in_ok-whole.whole c.in-Some.op.now c.is_sent.result c.loop-op.invariant.0
+    c.in_ok-whole.ensures c.is_sent.ensures.answer ∙ c.if-is_sent.false)
 
-pub loop-op-preserved-then-covers : goal.loop-op-preserved-then-covers
-loop-op-preserved-then-covers c = written_off c.args.summary.now c.args.set.now c.loop-op.op-iterator c.next.new.self c.in-Some.op.now
-    c.loop-op.coverage c.loop-op.bytes.items c.loop-op.count c.in-Some.ensures.steps c.loop-op.invariant
-    (sym (λ i. covers (c.loop-op.invariant.same i) (c.id.ensures.id i)) ∙ sym c.covers.ensures.answer ∙ c.if-covers.true)
-    c.covers.new.self c.covers.ensures.same
+pub loop-op-preserved : goal.loop-op-preserved
+loop-op-preserved c = (
+  c.is_sent.ensures.same ∙ c.loop-op.invariant.0,
+  goes_past (is_sent c.args.set.now (covers c.args.summary.now)) c.args.set.now c.loop-op.op-iterator c.next.new.self c.in-Some.op.now
+      c.loop-op.bytes.items c.loop-op.full c.loop-op.count c.in-Some.ensures.steps c.loop-op.invariant.1
+      (asked c.args.set.now c.args.summary.now c.loop-op.coverage c.in_ok-whole.whole c.in-Some.op.now c.is_sent.result c.loop-op.invariant.0
+      c.in_ok-whole.ensures c.is_sent.ensures.answer ∙ c.if-is_sent.false),
+)
 
-pub set_count-requires : goal.set_count-requires
-set_count-requires c =
-    let all = written_all c.args.summary.now c.args.set.now c.loop-op.op-iterator c.loop-op.coverage c.loop-op.bytes.items c.loop-op.count
-    c.in-None.ensures.steps.0 c.loop-op.invariant in
-    omega (arith, has_front (outside c.args.summary.now c.args.set.now) 0 c.loop-op.bytes.items all, c.loop-op.bytes.ok.0)
+pub set_front-requires : goal.set_front-requires
+set_front-requires c =
+    let all = written_all (is_sent c.args.set.now (covers c.args.summary.now)) c.args.set.now c.loop-op.op-iterator c.loop-op.bytes.items
+    c.loop-op.full c.loop-op.count c.in-None.ensures.steps.0 c.loop-op.invariant.1 in
+    omega (arith, has_front (outside c.args.summary.now c.args.set.now) c.loop-op.bytes.items all, c.loop-op.bytes.ok.0)
 
 pub returns-clause-spelled : goal.returns-clause-spelled
-returns-clause-spelled c = is_bundle c.args.summary.now c.args.set.now c.loop-op.op-iterator c.loop-op.coverage c.loop-op.bytes.items
-    c.loop-op.count c.in-None.ensures.steps.0 c.loop-op.invariant c.set_count.new.bytes.items c.set_count.ensures
+returns-clause-spelled c =
+    is_bundle (is_sent c.args.set.now (covers c.args.summary.now)) c.args.set.now c.loop-op.op-iterator c.loop-op.bytes.items c.loop-op.full
+    c.loop-op.count c.in-None.ensures.steps.0 c.loop-op.invariant.1 c.set_front.new.bytes.items c.set_front.ensures
 
 pub returns-clause-again : goal.returns-clause-again
-returns-clause-again c = whole_reads c.set_count.new.bytes.items (record {
+returns-clause-again c = whole_reads c.set_front.new.bytes.items (record {
   ops = outside c.args.summary.now c.args.set.now;
   set = outside_set c.args.summary.now c.args.set.now c.iter-op-items.ensures.set;
-  spelled = is_bundle c.args.summary.now c.args.set.now c.loop-op.op-iterator c.loop-op.coverage c.loop-op.bytes.items c.loop-op.count
-      c.in-None.ensures.steps.0 c.loop-op.invariant c.set_count.new.bytes.items c.set_count.ensures;
-  short = omega (arith, c.set_count.new.bytes.ok.0, c.set_count.new.bytes.small);
+  legal = delta_legal c.args.set.now (covers c.args.summary.now) c.iter-op-items.ensures.set.rising c.iter-op-items.ensures.legal;
+  spelled =
+      is_bundle (is_sent c.args.set.now (covers c.args.summary.now)) c.args.set.now c.loop-op.op-iterator c.loop-op.bytes.items c.loop-op.full
+      c.loop-op.count c.in-None.ensures.steps.0 c.loop-op.invariant.1 c.set_front.new.bytes.items c.set_front.ensures;
+  short = omega (arith, c.set_front.new.bytes.ok.0, c.set_front.new.bytes.small);
 })
