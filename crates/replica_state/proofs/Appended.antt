@@ -1,7 +1,9 @@
 -- A replica after an import: the edits stand after all that it held, and each is what its segment shows last.
-use Rattle.std.proofs.Common.{◌≡◌, ℕ, suc, ◌<◌, Bool, true, false, not, cond, ◌&&◌, ◌||◌, List, [], ◌∷◌, ◌++◌, filter, nat_lt, arith, refl, sym, ap, ◌∙◌, append-nil}
+use Rattle.std.proofs.Common.{◌≡◌, ℕ, suc, ◌<◌, Bool, true, false, not, cond, ◌&&◌, ◌||◌, List, [], ◌∷◌, ◌++◌}
+use Rattle.std.proofs.Common.{filter, nat_lt, Option, Some, None, arith, refl, sym, ap, ◌∙◌, append-nil}
 use Rattle.std.specs.Cmp.{Equal-is, tied_itself}
 use Rattle.std.specs.List.{AllByRecursion, list_all, list_any}
+use Rattle.std.specs.Option.{option_or}
 use Rattle.std.specs.Ordering.{is_eq, is_lt}
 use Rattle.std.proofs.lemmas.Bool.{and_parts, and_from, cond-true, cond-false}
 use Rattle.std.proofs.lemmas.List.Elements.{filter-append}
@@ -15,17 +17,18 @@ use Rattle.usfm_ref.proofs.Sorted.{is_less}
 use Rattle.verse_cut.specs.Pieces.{Part}
 use Rattle.op_core.specs.Ids.{Id, same_id, id_below, ids_rise}
 use Rattle.op_core.specs.Ops.{Operation, IsOperation, in_segment, names}
-use Rattle.op_core.specs.Sets.{rises, join}
+use Rattle.op_core.specs.Sets.{rises, get, join, met}
 use Rattle.op_core.specs.Shown.{is_replaced, is_shown, last, text_in, text_of}
 use Rattle.op_core.specs.Lists.{shown_ids}
 use Rattle.op_core.specs.NextIds.{greatest_number, next_number}
+use Rattle.op_core.proofs.Enrolled.{apart_at}
 use Rattle.op_core.proofs.NextIds.{shown_fall}
 use Rattle.op_core.proofs.Shows.{not_named, names_none}
 use Rattle.op_core.proofs.Union.{rises_parts, rises-join, get-join, same_gets}
 use Rattle.op_core.proofs.Walk.{last_push}
 use Rattle.replica_state.specs.States.{State, IsState}
 use Rattle.replica_state.specs.Imports.{piece_at, edits_from}
-use Rattle.replica_state.proofs.Imports.{edit_at, numbers_above, edits_rise}
+use Rattle.replica_state.proofs.Imports.{edit_at, numbers_above, edits_rise, edits_are_new}
 
 -- whether a key is among keys
 abbrev pub is_there : KeyParts → List KeyParts → Bool
@@ -44,6 +47,12 @@ key_is q k h = key_exact q k ((Equal-is _).0 h)
 and_none : (a b : Bool) → b ≡ false → (a && b) ≡ false
 and_none true b h = h
 and_none false b h = refl
+
+-- where one of the two is none, the other is what is met
+one_of_both : (x y : Option Operation) → ((o : Operation) → y ≡ Some o → x ≡ None) → met x y ≡ option_or x y
+one_of_both None y apart = refl
+one_of_both (Some x) None apart = refl
+one_of_both (Some x) (Some y) apart = cc (apart y refl)
 
 -- nothing names an id where no operation that does is left
 any_none : (g : Segment) (id : Id) (ops : List Operation) → filter (λ o. in_segment g o && names o id) ops ≡ []
@@ -78,6 +87,8 @@ module _ (s : State) (state : IsState s) (book : List ℕ) (pieces : List Part) 
       let new = edits (next_number s.held) keys in
       same_gets _ _ (rises-join s.held new state.set.rising) (rises_behind s.held (next_number s.held) keys state.set.rising (omega arith))
       (λ q. get-join s.held new q state.set.rising (edits_rise s book pieces (next_number s.held) keys)
+      ∙ one_of_both (get s.held q) (get new q)
+      (λ o g. apart_at s.held new q o (edits_are_new s book pieces (next_number s.held) keys (omega arith)) g)
       ∙ sym (find-append (λ (o : Operation). same_id q o.id) s.held new))
 
   -- ---- nothing names an id beyond

@@ -1,5 +1,6 @@
 -- The ids of edits: the next one is new, and what an edit names has smaller numbers.
-use Rattle.std.proofs.Common.{◌≡◌, ℕ, ◌<◌, Bool, true, false, not, cond, ◌||◌, List, [], ◌∷◌, Option, Some, None, filter, map, arith, refl, sym, ap, subst}
+use Rattle.std.proofs.Common.{◌≡◌, ℕ, ◌<◌, Bool, true, false, not, cond, ◌||◌, List, [], ◌∷◌}
+use Rattle.std.proofs.Common.{Option, Some, None, filter, map, arith, refl, sym, ap, subst}
 use Rattle.std.specs.declared.cmp.Ordering.{Ordering}
 use Rattle.std.specs.declared.cmp.Ordering.TheVariants.{Less, Equal, Greater}
 use Rattle.std.specs.FinMap.Entries.{by_order}
@@ -10,13 +11,15 @@ use Rattle.usfm_ref.specs.Rising.{rising, with_item}
 use Rattle.usfm_ref.specs.Segments.{Segment}
 use Rattle.op_core.specs.Ids.{Id, names_fall}
 use Rattle.op_core.specs.Ops.{Operation}
-use Rattle.op_core.specs.Sets.{get}
+use Rattle.op_core.specs.Sets.{get, join}
+use Rattle.op_core.specs.Thinned.{is_legal}
 use Rattle.op_core.specs.Export.{of_book, has_book, keys_in}
 use Rattle.op_core.specs.Lists.{shown_ids, keys_of}
 use Rattle.op_core.specs.NextIds.{greatest_number, next_number, is_among, given_ids}
+use Rattle.op_core.proofs.Left.{join_full_legal}
 use Rattle.op_core.proofs.NextIds.{beyond, shown_fall, some_fall}
 use Rattle.replica_state.specs.States.{State, IsState}
-use Rattle.replica_state.specs.Edits.{has_numbers, next_id}
+use Rattle.replica_state.specs.Edits.{has_numbers, edit_with, next_id}
 
 -- the next id is beyond all that are held
 pub next_beyond : (s : State) (id : Id) → Some id ≡ next_id s → greatest_number s.held < id.number
@@ -37,6 +40,12 @@ next_falls s g id is e = shown_fall s.held g id is.set.rising (next_beyond s id 
 pub next_falls_given : (s : State) (g : Segment) (given : List Id) (id : Id) → IsState s → Some id ≡ next_id s
     → names_fall id (given_ids s.held g given) ≡ true
 next_falls_given s g given id is e = some_fall id (is_among given) (shown_ids s.held g) (next_falls s g id is e)
+
+-- a replica with an edit that is new is legal
+pub edit_legal : (s : State) (id : Id) (g : Segment) (replaced : List Id) (text : List ℕ) → IsState s → get s.held id ≡ None
+    → is_legal (join s.held (edit_with id g replaced text ∷ [])) ≡ true
+edit_legal s id g replaced text is none =
+    join_full_legal s.held (edit_with id g replaced text ∷ []) is.set.rising refl is.legal refl (none, tt)
 
 -- ---- whether a book has an operation
 
@@ -63,7 +72,7 @@ book_has_keys (o ∷ held) book = by (book_has_keys held book) (of_book book o)
     by rest true = ap not (sym (one_is_there o.segment.key (rising key_cmp (keys_in held book))))
     by rest false = rest
 
--- what a walk's first call tells
+-- what a walk's first call gives
 pub first_is : (s : List KeyParts) (r : Option KeyParts) (t : List KeyParts) → YieldsFirst (λ (l : List KeyParts). l) s r t
     → is_some r ≡ not (is_none_left s)
 first_is s None t h = ap (λ l. not (is_none_left l)) (sym h.0)

@@ -1,5 +1,6 @@
 -- The edits of an import.
-use Rattle.std.proofs.Common.{◌≡◌, ℕ, suc, ◌+◌, ◌<◌, Bool, true, false, not, cond, ◌&&◌, ◌||◌, List, [], ◌∷◌, ◌++◌, take, length, get_or, Option, None, Some, arith, refl, sym, ap, ◌∙◌}
+use Rattle.std.proofs.Common.{◌≡◌, ℕ, suc, ◌+◌, ◌<◌, Bool, true, false, not, cond, ◌&&◌, ◌||◌, List, [], ◌∷◌}
+use Rattle.std.proofs.Common.{◌++◌, take, length, get_or, Option, None, Some, arith, refl, sym, ap, ◌∙◌}
 use Rattle.std.specs.Cmp.{nat_cmp_is}
 use Rattle.std.specs.declared.cmp.Ordering.TheVariants.{Less}
 use Rattle.std.specs.List.{AllByRecursion, list_all}
@@ -14,13 +15,15 @@ use Rattle.verse_cut.specs.Pieces.{Part}
 use Rattle.op_core.specs.Names.{name_cmp}
 use Rattle.op_core.specs.Ids.{Id, id_below}
 use Rattle.op_core.specs.Ops.{Operation}
-use Rattle.op_core.specs.Sets.{rises, get}
+use Rattle.op_core.specs.Sets.{rises, get, join}
 use Rattle.op_core.specs.Shown.{wants_chapter_line, chapter_line, last, shown, Line, greatest, pick, picked_text}
 use Rattle.op_core.specs.Lists.{shown_ids}
 use Rattle.op_core.specs.NextIds.{greatest_number}
+use Rattle.op_core.specs.Thinned.{is_legal, all_full}
 use Rattle.op_core.proofs.Enrolled.{more_items}
+use Rattle.op_core.proofs.Left.{join_full_legal}
 use Rattle.op_core.proofs.NextIds.{beyond}
-use Rattle.replica_state.specs.States.{State}
+use Rattle.replica_state.specs.States.{State, IsState}
 use Rattle.replica_state.specs.Edits.{edit_with}
 use Rattle.replica_state.specs.Imports.{text_in, piece_of, piece_at, has_verse, loses_line, is_due, edits_from}
 
@@ -47,6 +50,17 @@ module _ (s : State) (book : List ℕ) (pieces : List Part) where
       → AllByRecursion (λ o. get s.held o.id ≡ None) (edits_from n s book pieces keys)
   edits_are_new n [] l = tt
   edits_are_new n (k ∷ keys) l = (beyond s.held (record { number = n; name = s.name }) l, edits_are_new (suc n) keys (omega arith))
+
+  pub edits_full : (n : ℕ) (keys : List KeyParts) → all_full (edits_from n s book pieces keys) ≡ true
+  edits_full n [] = refl
+  edits_full n (k ∷ keys) = edits_full (suc n) keys
+
+  -- a replica with the edits is legal
+  pub edits_legal : (n : ℕ) (keys : List KeyParts) → IsState s → greatest_number s.held < n
+      → is_legal (join s.held (edits_from n s book pieces keys)) ≡ true
+  edits_legal n keys state l =
+      join_full_legal s.held (edits_from n s book pieces keys) state.set.rising (edits_rise n keys) state.legal (edits_full n keys)
+      (edits_are_new n keys l)
 
   edits_push : (n : ℕ) (keys : List KeyParts) (key : KeyParts)
       → edits_from n s book pieces (keys ++ key ∷ []) ≡ edits_from n s book pieces keys ++ edit_at (n + length keys) key ∷ []

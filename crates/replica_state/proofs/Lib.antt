@@ -11,3 +11,7 @@ pub mod ImportedTexts
 pub mod Exports
 pub mod OwnExports
 pub mod DeltasJoined
+pub mod Leaving
+pub mod Thinning
+pub mod ThinnedRuns
+pub mod World

@@ -1,5 +1,6 @@
 -- The import of the export of a book whose head has an operation adds nothing.
-use Rattle.std.proofs.Common.{◌≡◌, ◌≢◌, ℕ, ◌+◌, ◌≤◌, Bool, true, false, not, cond, ◌&&◌, ◌||◌, nat_le, ◌==◌, List, [], ◌∷◌, filter, Some, Result, Ok, arith, refl, sym, ap, subst, ◌∙◌}
+use Rattle.std.proofs.Common.{◌≡◌, ◌≢◌, ℕ, ◌+◌, ◌≤◌, Bool, true, false, not, cond, ◌&&◌, ◌||◌, nat_le, ◌==◌, List}
+use Rattle.std.proofs.Common.{[], ◌∷◌, filter, Option, None, Some, Result, Ok, arith, refl, sym, ap, subst, ◌∙◌}
 use Rattle.std.specs.List.{AllByRecursion, list_any}
 use Rattle.std.specs.Ordering.{is_eq}
 use Rattle.std.specs.Option.{is_some}
@@ -20,18 +21,21 @@ use Rattle.verse_cut.proofs.Headings.{book_only}
 use Rattle.verse_cut.proofs.KeyOrder.{above_book_head}
 use Rattle.op_core.specs.Ids.{is_number}
 use Rattle.op_core.specs.Names.{is_name}
-use Rattle.op_core.specs.Ops.{Operation, IsOperation, in_segment, is_verse_in}
+use Rattle.op_core.specs.Ops.{Operation, IsOperation, MayBeText, in_segment, is_full, is_verse_in, or_empty, own_text}
 use Rattle.op_core.specs.Shown.{last, shown, text_in, text_of, wants_chapter_line, is_verse_with_text}
 use Rattle.op_core.specs.Export.{exported_keys, export}
 use Rattle.op_core.specs.CutsBack.{picked_at, later_texts}
 use Rattle.op_core.specs.NextIds.{greatest_number}
+use Rattle.op_core.specs.Thinned.{all_full}
 use Rattle.op_core.proofs.CutsBack.{exports_cut_back, keys_rise, split, texts_fit, texts_rise}
 use Rattle.op_core.proofs.Exported.{IsOf, shown_last, picked_own, picks_are_exported, wants_line}
+use Rattle.op_core.proofs.Legal.{shown_full}
 use Rattle.op_core.proofs.Shows.{shows_one}
 use Rattle.replica_state.specs.States.{State, IsState}
 use Rattle.replica_state.specs.Edits.{has_numbers}
 use Rattle.replica_state.specs.Imports as spec
-use Rattle.replica_state.specs.Imports.{piece_of, piece_at, has_verse, is_due, loses_line, walked_keys, due_keys, edits_numbered, import_into}
+use Rattle.replica_state.specs.Imports.{piece_of, piece_at, has_verse, is_due, loses_line}
+use Rattle.replica_state.specs.Imports.{walked_keys, due_keys, edits_numbered, import_into}
 use Rattle.replica_state.specs.ImportLaws.{OwnExportsAddNothing}
 use Rattle.replica_state.specs.Steps.{Import, Imported, imported, step}
 use Rattle.replica_state.proofs.Exports.{behind_head, later_at}
@@ -42,6 +46,19 @@ some_last : (ops : List Operation) → ops ≢ [] → (o : Operation) × (last o
 some_last [] h = absurd (h refl)
 some_last (o ∷ []) h = (o, refl)
 some_last (o ∷ p ∷ ops) h = some_last (p ∷ ops) (λ e. cc e)
+
+-- the last of operations with their texts has its own
+full_last : (ops : List Operation) (o : Operation) → all_full ops ≡ true → last ops ≡ Some o → is_full o ≡ true
+full_last [] o h e = absurd (cc)
+full_last (p ∷ []) o h e = let is : p ≡ o = cc in ap is_full (sym is) ∙ (and_parts (is_full p) true h).0
+full_last (p ∷ q ∷ rest) o h e = full_last (q ∷ rest) o (and_parts (is_full p) (all_full (q ∷ rest)) h).1 e
+
+text_has_fit : (o : Operation) → IsOperation o → is_full o ≡ true → text_fits o.segment.book o.segment.key (own_text o) ≡ true
+text_has_fit o h full = by o.text h.text full
+  where
+    by : (t : Option (List ℕ)) → MayBeText o.segment t → is_some t ≡ true → text_fits o.segment.book o.segment.key (or_empty t) ≡ true
+    by None h e = cc e
+    by (Some t) h e = h.fits
 
 none_pass : (p : KeyParts → Bool) (ks : List KeyParts) → ((q : KeyParts) → p q ≡ false) → filter p ks ≡ []
 none_pass p [] f = refl
@@ -90,15 +107,19 @@ module _ (s : State) (state : IsState s) (book : List ℕ) (begun : list_any (in
       ∙ (and_parts (is_book_code first.0.segment.book)
       (is_key first.0.segment.key.chapter first.0.segment.key.place) of_head.is_operation.segment).0
 
-  head_text : picked_at s.held book book_head ≡ first.0.text
+  head_text : picked_at s.held book book_head ≡ own_text first.0
   head_text = picked_own s.held (segment book book_head) refl ∙ ap text_in first.1
 
   headed : IsHeaded book file
   headed =
-      let fits : text_fits book book_head first.0.text ≡ true =
-      ap (λ (g : Segment). text_fits g.book g.key first.0.text) (sym of_head.segment) ∙ of_head.is_operation.fits in
+      let full =
+      full_last (shown s.held (segment book book_head)) first.0 (shown_full s.held (segment book book_head) state.legal) first.1
+      in
+      let fits : text_fits book book_head (own_text first.0) ≡ true =
+      ap (λ (g : Segment). text_fits g.book g.key (own_text first.0)) (sym of_head.segment)
+      ∙ text_has_fit first.0 of_head.is_operation full in
       let begins : IsHeaded book (picked_at s.held book book_head) =
-      subst (IsHeaded book) (sym head_text) ((fits_is_read book book_head first.0.text).0 fits).0 in
+      subst (IsHeaded book) (sym head_text) ((fits_is_read book book_head (own_text first.0)).0 fits).0 in
       subst (IsHeaded book) (sym (split s.held book (exported_keys s.held book) (keys_rise s.held book)
       (picks_are_exported s.held book book_head)))
       (joins_keep_their_book book (picked_at s.held book book_head) (later_texts s.held book) begins (texts_fit s.held book state.set)

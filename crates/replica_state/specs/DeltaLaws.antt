@@ -1,16 +1,19 @@
--- Laws of deltas (this project's own rule): what a replica holds outside the summary of another one.
-use Rattle.std.specs.Prelude.{◌≡◌, List, [], length, Ok}
+-- Laws of deltas (this project's own rule): what a replica sends for the summary of another one. Those of replicas with thinned
+-- operations stand with the laws of thinning.
+use Rattle.std.specs.Prelude.{◌≡◌, List, [], length, Ok, IsTrue}
 use Rattle.op_core.specs.Sets.{join}
+use Rattle.op_core.specs.Thinned.{all_full}
 use Rattle.bundle_codec.specs.Summaries.{Known, IsSummaryOf, outside}
 use Rattle.replica_state.specs.States.{State, IsState}
 use Rattle.replica_state.specs.Receives.{lacked}
 use Rattle.replica_state.specs.Steps.{Receive, Received, step}
 
--- A replica that receives another one's delta for its own summary holds the union of both sets, and never refuses it. It
--- counts as new what it lacked.
+-- A replica that receives the delta for its own summary, of another one without thinned operations, holds the union of both
+-- sets, and never refuses it. It counts as new what it lacked.
 abbrev pub DeltasGiveUnion : Type 0
 DeltasGiveUnion =
-    (own other : State) (s : List Known) → IsState own → IsState other → IsSummaryOf own.held s →
+    (own other : State) (s : List Known) → IsState own → IsState other →
+    IsTrue (all_full other.held) → IsSummaryOf own.held s →
     step own (Receive (outside s other.held)) ≡ record {
       after = record { name = own.name; held = join own.held other.held };
       reply = Received (Ok (length (lacked own.held other.held)));

@@ -1,6 +1,7 @@
 -- Edits of a replica: a write of a multi-value register that names the writes which it replaces (Shapiro, Preguiça,
 -- Baquero and Zawirski, INRIA RR-7506). What may be edited, and the numbers of edits, are this project's own rule.
-use Rattle.std.specs.Prelude.{ℕ, ◌+◌, nat_le, Bool, not, ◌||◌, List, Option, None, Some, option_map, Result, Ok, Err, if◌then◌else◌}
+use Rattle.std.specs.Prelude.{ℕ, ◌+◌, nat_le, Bool, not, ◌||◌, List, Option, None}
+use Rattle.std.specs.Prelude.{Some, option_map, Result, Ok, Err, if◌then◌else◌}
 use Rattle.std.specs.List.{find}
 use Rattle.usfm_ref.specs.Keys.{book_head, same_key}
 use Rattle.usfm_ref.specs.Segments.{Segment}
@@ -12,7 +13,8 @@ use Rattle.op_core.specs.Lists.{shown_ids}
 use Rattle.op_core.specs.NextIds.{greatest_number, next_number, is_among, given_ids}
 use Rattle.replica_state.specs.States.{State}
 use Rattle.replica_state.specs.declared.fault.EditFault.{EditFault}
-use Rattle.replica_state.specs.declared.fault.EditFault.TheVariants.{BadSegment, NoBook, NotShown, NumbersUsedUp}
+use Rattle.replica_state.specs.declared.fault.EditFault.TheVariants.{BadSegment, NoBook}
+use Rattle.replica_state.specs.declared.fault.EditFault.TheVariants.{NotShown, NumbersUsedUp}
 
 -- whether numbers up to 10^15 are left for so many operations more
 abbrev pub has_numbers : List Operation → ℕ → Bool
@@ -20,7 +22,8 @@ has_numbers held count = nat_le (greatest_number held + count) 1000000000000000
 
 -- the operation of an id that gives a segment a text
 abbrev pub edit_with : Id → Segment → List Id → List ℕ → Operation
-edit_with id g replaced text = record { id = id; segment = g; replaced = replaced; text = text }
+edit_with id g replaced text =
+    record { id = id; segment = g; replaced = replaced; text = Some text }
 
 -- the id of the replica's next operation, if a number is left for it
 abbrev pub next_id : State → Option Id

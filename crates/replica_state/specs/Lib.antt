@@ -7,3 +7,5 @@ pub mod Runs
 pub mod Laws
 pub mod ImportLaws
 pub mod DeltaLaws
+pub mod ThinLaws
+pub mod World

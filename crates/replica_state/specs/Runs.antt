@@ -1,7 +1,7 @@
 -- Commands one after another.
 use Rattle.std.specs.Prelude.{List, [], ◌∷◌, IsOk}
 use Rattle.replica_state.specs.States.{State}
-use Rattle.replica_state.specs.Steps.{Command, Reply, Received, Edited, Imported, step}
+use Rattle.replica_state.specs.Steps.{Command, Reply, Received, Edited, Imported, Thinned, step}
 
 -- what a replica is after commands, in their order
 abbrev pub after : State → List Command → State
@@ -13,6 +13,7 @@ abbrev pub IsTaken : Reply → Type 0
 IsTaken (Received answer) = IsOk answer
 IsTaken (Edited answer) = IsOk answer
 IsTaken (Imported answer) = IsOk answer
+IsTaken (Thinned count) = Unit {0}
 
 -- no command of a run is refused
 abbrev pub NoneRefused : State → List Command → Type 0

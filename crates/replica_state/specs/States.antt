@@ -4,6 +4,7 @@ use Rattle.std.specs.Prelude.{ℕ, List, [], IsTrue}
 use Rattle.op_core.specs.Names.{is_name}
 use Rattle.op_core.specs.Ops.{Operation}
 use Rattle.op_core.specs.Sets.{IsOpSet}
+use Rattle.op_core.specs.Thinned.{is_legal}
 
 -- a replica: its name, and the set of operations that it holds
 pub record State : Type 0 where
@@ -14,7 +15,8 @@ pub record State : Type 0 where
 abbrev pub begun : List ℕ → State
 begun name = record { name = name; held = [] }
 
--- a right name, and no two operations with one id
+-- a right name, no two operations with one id, and no thinned operation that no held one of its segment names
 pub record IsState (s : State) : Type 0 where
   pub name : IsTrue (is_name s.name)
   pub set : IsOpSet s.held
+  pub legal : IsTrue (is_legal s.held)

@@ -1,10 +1,11 @@
 -- The steps of a replica: what it is after a command, and what is answered (this project's own rule, over the joining of
 -- states in INRIA RR-7506).
-use Rattle.std.specs.Prelude.{ℕ, List, [], ◌∷◌, length, Option, None, Some, Result, Ok, Err}
+use Rattle.std.specs.Prelude.{ℕ, List, [], ◌∷◌, length, filter, Option, None, Some, Result, Ok, Err}
 use Rattle.usfm_ref.specs.Segments.{Segment}
 use Rattle.op_core.specs.Ids.{Id}
 use Rattle.op_core.specs.Ops.{Operation}
 use Rattle.op_core.specs.Sets.{join, clash}
+use Rattle.op_core.specs.Thinned.{thin, is_left_out}
 use Rattle.replica_state.specs.States.{State}
 use Rattle.replica_state.specs.Receives.{lacked}
 use Rattle.replica_state.specs.Edits.{edit_op, edit_over_op}
@@ -15,18 +16,21 @@ use Rattle.replica_state.specs.declared.fault.ReceiveFault.{ReceiveFault}
 use Rattle.replica_state.specs.declared.fault.ReceiveFault.TheVariants as receiving
 
 -- what a replica may be told to do: to take in the operations of a bundle, to give a segment a text, over all or over given
--- ids, and to take in a book's file
+-- ids, to take in a book's file, and to leave out the texts that were replaced
 pub data Command : Type 0 where
   Receive : (bundle : List Operation) → Command
   Edit : (g : Segment) (text : List ℕ) → Command
   EditOver : (g : Segment) (text : List ℕ) (given : List Id) → Command
   Import : (file : List ℕ) → Command
+  Thin : Command
 
--- what is answered: how many operations are new, or the clash; the id that an edit made; how many edits an import made
+-- what is answered: how many operations are new, or the clash; the id that an edit made; how many edits an import made; how
+-- many texts were left out
 pub data Reply : Type 0 where
   Received : (answer : Result ℕ ReceiveFault) → Reply
   Edited : (answer : Result Id EditFault) → Reply
   Imported : (answer : Result ℕ ImportFault) → Reply
+  Thinned : (count : ℕ) → Reply
 
 -- a step of a replica: what it is after a command, and what is answered
 pub record Step : Type 0 where
@@ -55,9 +59,21 @@ abbrev pub imported : State → Result (List Operation) ImportFault → Step
 imported s (Ok ops) = record { after = with_ops s ops; reply = Imported (Ok (length ops)) }
 imported s (Err fault) = record { after = s; reply = Imported (Err fault) }
 
+-- the replica without the texts of the operations that a held one of their segment names
+abbrev pub without_replaced_texts : State → State
+without_replaced_texts s = record { name = s.name; held = thin s.held }
+
+-- the step of a thinning: it answers how many texts it left out, and is never refused
+abbrev pub thinned : State → Step
+thinned s = record {
+  after = without_replaced_texts s;
+  reply = Thinned (length (filter (is_left_out s.held) s.held));
+}
+
 -- the step of a command: what a replica is after it, and what it answers; a refused command changes nothing
 abbrev pub step : State → Command → Step
 step s (Receive bundle) = received s bundle (clash s.held bundle)
 step s (Edit g text) = edited s (edit_op s g text)
 step s (EditOver g text given) = edited s (edit_over_op s g text given)
 step s (Import file) = imported s (import_ops s file)
+step s Thin = thinned s

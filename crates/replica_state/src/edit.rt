@@ -1,5 +1,5 @@
 // Edits of a replica.
-ghost use Rattle.std.specs.Prelude.{◌≡◌, ◌≢◌, ◌∷◌, [], None, Err, IfOk, IfErr, IsTrue, OnOk, OnErr, filter, length, not};
+ghost use Rattle.std.specs.Prelude.{◌≡◌, ◌≢◌, ◌∷◌, [], None, Err, IfOk, IfErr, IsOk, IsTrue, OnOk, OnErr, filter, length, not};
 ghost use Rattle.std.specs.List.{AllByRecursion, find};
 ghost use Rattle.std.specs.Option.{option_copied};
 ghost use Rattle.usfm_ref.specs.Keys.{book_head, same_key};
@@ -9,7 +9,8 @@ ghost use Rattle.op_core.specs.Export.{has_book};
 ghost use Rattle.op_core.specs.Ids.{names_fall};
 ghost use Rattle.op_core.specs.Lists.{shown_ids};
 ghost use Rattle.op_core.specs.NextIds.{given_ids, is_among};
-ghost use Rattle.op_core.specs.Sets.{get, rises};
+ghost use Rattle.op_core.specs.Sets.{get, join, rises};
+ghost use Rattle.op_core.specs.Thinned.{is_legal};
 ghost use Rattle.replica_state.specs.Edits as edits;
 ghost use Rattle.replica_state.specs.States.{IsState};
 ghost use Rattle.replica_state.specs.Steps.{step, Edit, EditOver, Edited, with_ops};
@@ -170,12 +171,15 @@ impl Replica {
         Ok(())
     }
 
-    // Adds operations that rise by id and of which none is held, and says how many they are.
+    // Adds operations that rise by id and of which none is held, and says how many they are. Nothing
+    // grows where there are none.
     pub(crate) fn join_new(&mut self, new: Vec<Op>) -> Result<u64, AllocError>
         requires rising { IsTrue (rises new.items) }
         requires apart { AllByRecursion (λ o. get self.old.held o.id ≡ None) new.items }
+        requires legal { IsTrue (is_legal (join self.old.held new.items)) }
         ensures ok { OnOk result (self.new ≡ with_ops self.old new.items) }
         ensures count { IfOk result (λ n. n ≡ length new.items) }
+        ensures none { new.items ≡ [] → IsOk result }
         ensures err { OnErr result (self.new ≡ self.old) }
     {
         let count = self.set.join_rising(new)?;

@@ -14,7 +14,7 @@ pub enum ReceiveFault {
     /// A growth was refused.
     #[error("out of memory")]
     Memory,
-    /// The replica and the bundle have operations of this id that are not equal.
+    /// The replica and the bundle have operations of this id that do not agree.
     #[error("two operations that differ have one id: {} {}", .0.number, .0.name.text())]
     Clash(OpId),
 }

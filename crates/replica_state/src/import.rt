@@ -121,7 +121,7 @@ impl Replica {
         let piece = piece_at(pieces, key);
         match self.set.pick(book, key) {
             Picked::Nothing => Ok(!piece.is_empty()),
-            Picked::Held(op) => Ok(op.text() != piece),
+            Picked::Held(op) => Ok(op.text_or_empty() != piece),
             Picked::ChapterLine(chapter) => {
                 let line = chapter_line(self.alloc, chapter)?;
                 if is_same(line.as_str(), piece) {

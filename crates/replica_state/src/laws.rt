@@ -1,11 +1,14 @@
 //! Laws of replicas, over the definitions alone. Each function does nothing: its contract is the law.
 ghost use Rattle.replica_state.specs.Laws as laws;
 
+pub mod calls;
 pub mod deltas;
 pub mod imports;
+pub mod thinning;
+pub mod worlds;
 
-/// Replicas that received bundles with the same operations together, in whatever order, grouping and
-/// repetition, hold the same operations, and export the same bytes of every book.
+/// Replicas that received bundles without thinned operations, with the same operations together, in
+/// whatever order, grouping and repetition, hold the same operations, and export the same bytes of every book.
 pub fn same_bundles_same_books()
     ensures { laws.SameBundlesSameBooks }
 {}

@@ -6,6 +6,7 @@ ghost use Rattle.bundle_codec.specs.Joining.{whole_at};
 ghost use Rattle.bundle_codec.specs.Spelling.{bundle};
 ghost use Rattle.bundle_codec.specs.Summaries.{IsSummaryOf, summary_of, outside};
 ghost use Rattle.replica_state.specs.States.{IsState, begun};
+ghost use Rattle.replica_state.specs.Steps.{step, Thin, Thinned};
 
 use bundle_codec::{Summary, encode, encode_after, encode_outside};
 use op_core::{Books, Keys, Op, OpId, OpSet, Picked, ReplicaName};
@@ -134,7 +135,9 @@ impl Replica {
     }
 
     /// The bundle of the held operations whose ids lie outside a summary: what the copy with that
-    /// summary lacks. They are lent and written one by one; no second set is made.
+    /// summary lacks. Where one of them is thinned, it also has all others that are held of its
+    /// segment, so that one that names it goes along. They are lent and written one by one; no second
+    /// set is made.
     ///
     /// # Errors
     /// Out of memory alone.
@@ -145,6 +148,18 @@ impl Replica {
             whole_at bytes.items ≡ Ok (outside summary.now self.now.held)) }
     {
         encode_outside(alloc, &self.set, summary)
+    }
+
+    /// Leaves out the text of every operation that a held operation of its segment names as replaced,
+    /// and says how many texts it left out. What is shown, picked, awaited and summed up stays. It
+    /// takes no memory.
+    pub fn thin(&mut self) -> u64
+        ensures { step self.old Thin ≡ record { after = self.new; reply = Thinned result } }
+    {
+        let count = self.set.thin();
+        // The set's operations show that they are within their rules.
+        let _ = self.set.iter();
+        count
     }
 
     /// How many comparisons the calls made that change the replica: each of two ids or of two segments

@@ -4,6 +4,7 @@ mod deltas;
 mod editing;
 mod player;
 mod receiving;
+mod thinning;
 
 // 1 ana on MAT 0, and 2 ana on MAT 1:1; neither names anything.
 pub(crate) const B1: &[u8] =
@@ -16,6 +17,10 @@ pub(crate) const Y: &[u8] =
 // 3 ana on MAT 1:1, naming 2 ana.
 pub(crate) const Z: &[u8] =
     b"USFMSR1\n\0\0\0\0\0\0\0\x01\0\0\0\0\0\0\0\x03\x03anaMAT\0\x01\x01\0\x01\0\0\0\0\0\0\0\0\x01\0\0\0\0\0\0\0\x02\x03ana\x01\0\0\0\0\0\0\0\x08\\v 1 To\n";
+
+// 2 ana on MAT 1:1, thinned, and 3 ben as in Y.
+pub(crate) const V2: &[u8] =
+    b"USFMSR2\n\0\0\0\0\0\0\0\x02\0\0\0\0\0\0\0\x02\x03anaMAT\0\x01\x01\0\x01\0\0\0\0\0\0\0\0\0\0\0\0\0\0\0\0\0\x03\x03benMAT\0\x01\x01\0\x01\0\0\0\0\0\0\0\0\x01\0\0\0\0\0\0\0\x02\x03ana\x01\0\0\0\0\0\0\0\x08\\v 1 At\n";
 
 // 1 cy on MAT 1, 1 dan on MAT 1:2, and 2 ana on MAT 1:1 with another text than in B1.
 pub(crate) const CLASHING: &[u8] =

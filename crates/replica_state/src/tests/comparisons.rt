@@ -1,5 +1,5 @@
 // How many comparisons an operation costs a replica of many segments.
-use super::player::{begun, op_of, received};
+use super::player::{begun, op_of, put, received};
 use crate::Replica;
 use bundle_codec::encode;
 use op_core::{OpId, OpSet, ReplicaName};
@@ -30,7 +30,7 @@ fn insert(
     over: &[OpId],
 ) -> Result<(), Fail> {
     let op = op_of(alloc, id_of(number)?, at, over, "")?;
-    set.insert(op)?;
+    put(set, op)?;
     Ok(())
 }
 

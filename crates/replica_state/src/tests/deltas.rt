@@ -5,7 +5,7 @@ use super::player::{Row, play};
 use std::test::Fail;
 
 // ana, 1 to 3 and 5.
-const S1: &[u8] =
+pub(crate) const S1: &[u8] =
     b"USFMSS1\n\0\0\0\0\0\0\0\x01\x03ana\0\0\0\0\0\0\0\x02\0\0\0\0\0\0\0\x01\0\0\0\0\0\0\0\x03\0\0\0\0\0\0\0\x05\0\0\0\0\0\0\0\x05";
 
 // 4 ana on MAT 1:2.

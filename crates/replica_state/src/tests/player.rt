@@ -1,4 +1,4 @@
-// Replicas that are told what a table says, row by row.
+// Replicas that do what a table says, row by row.
 use crate::{EditFault, ImportFault, ReceiveFault, Replica};
 use bundle_codec::{Summary, decode, encode};
 use op_core::{Op, OpId, OpSet, Picked, ReplicaName};
@@ -7,7 +7,7 @@ use std::process::Abort;
 use std::test::Fail;
 use usfm_ref::{Book, Key, read_ref};
 
-// Whose replica a row is told to.
+// Whose replica does a row.
 #[derive(Clone, Copy)]
 pub(crate) enum Who {
     Ana,
@@ -29,7 +29,7 @@ pub(crate) enum Refusal<'a> {
 // The id of an edit as a word, or its refusal.
 pub(crate) type Made<'a> = Result<&'a str, Refusal<'a>>;
 
-// What a replica is told or asked, with references and ids as words, and what it has to answer.
+// What a replica does or is asked, with references and ids as words, and what it has to answer.
 #[derive(Clone, Copy)]
 pub(crate) enum Step<'a> {
     // A bundle, and how many of its operations are new.
@@ -40,12 +40,16 @@ pub(crate) enum Step<'a> {
     Hold(&'a [Parts<'a>]),
     // The other's delta for its summary, and how many operations that has.
     Lacks(u64),
+    // The other's whole bundle, and how many of its operations are new.
+    Whole(u64),
     // A file, and how many edits it takes.
     Import(&'a str, Result<u64, ImportFault>),
     // A segment's text.
     Edit(&'a str, &'a str, Made<'a>),
     // A segment's text, and the ids that it is over.
     Over(&'a str, &'a str, &'a [&'a str], Made<'a>),
+    // How many texts a thinning leaves out.
+    Thin(u64),
     Named(&'a str),
     NoBooks,
     Books(&'a [&'a str]),
@@ -104,12 +108,20 @@ pub(crate) fn op_of(
     Ok(Op::new(id, book, key, named.to_vec(alloc)?, text))
 }
 
+// Inserts an operation. The contract of `insert` stays out of the proofs of the tests that call this.
+pub(crate) fn put(set: &mut OpSet, op: Op) -> Result<bool, Fail> {
+    if op.text().is_none() {
+        return Err(Fail::from("the operation is thinned"));
+    }
+    Ok(set.insert(op)?)
+}
+
 fn bundle_of(alloc: Global, ops: &[Parts<'_>]) -> Result<Vec<u8>, Fail> {
     let mut set = OpSet::new(alloc);
     for (id, at, named, text) in ops {
         let named = ids_of(alloc, *named)?;
         let op = op_of(alloc, OpId::read(*id)?, read_ref(*at)?, &named, *text)?;
-        set.insert(op)?;
+        put(&mut set, op)?;
     }
     Ok(encode(alloc, &set)?)
 }
@@ -159,16 +171,18 @@ fn edits_over(
     is_made(own.edit_over(book, key, text, &over), wanted)
 }
 
-// Whether the replica answers what it is told as the step says.
+// Whether the replica answers as the step says.
 fn does(alloc: Global, own: &mut Replica, other: &Replica, step: &Step<'_>) -> Result<bool, Fail> {
     match *step {
         Step::Receive(bytes, new) => Ok(received(alloc, own, bytes)? == new),
         Step::Clash(bytes, id) => clashes(alloc, own, bytes, id),
         Step::Hold(ops) => holds(alloc, own, ops),
         Step::Lacks(count) => lacks(alloc, own, other, count),
+        Step::Whole(count) => Ok(received(alloc, own, &other.bundle(alloc)?)? == count),
         Step::Import(file, wanted) => Ok(own.import(file) == wanted),
         Step::Edit(at, text, wanted) => edits(own, at, text, wanted),
         Step::Over(at, text, over, wanted) => edits_over(alloc, own, at, text, over, wanted),
+        Step::Thin(count) => Ok(own.thin() == count),
         _ => tells(alloc, own, other, step),
     }
 }
@@ -195,7 +209,7 @@ fn are_keys(replica: &Replica, code: &str, wanted: &[&str]) -> Result<bool, Fail
 }
 
 fn is_op(op: &Op, id: &str, text: &str) -> Result<bool, Fail> {
-    Ok(op.id() == OpId::read(id)? && op.text() == text)
+    Ok(op.id() == OpId::read(id)? && op.text() == Some(text))
 }
 
 fn are_ops(ops: &[&Op], wanted: &[(&str, &str)]) -> Result<bool, Fail> {

@@ -8,5 +8,5 @@ returns-in-Some-2-clause-refused c =
     let kept = c.loop-view.invariant in
     let held = sym (c.in-Some-find.ensures.found ∙ (λ i. get (kept.0 i) (c.id-id.ensures.id i))) in
     clashes c.args.self.now.held c.args.bundle.now c.loop-view.new.items c.loop-view.view-iterator c.next.new.self c.in-Some.view
-    c.in-Some-find.op.now kept.1 c.in-Some.ensures.steps held (sym c.is_equal.ensures ∙ c.if-is_equal.false)
+    c.in-Some-find.op.now kept.1 c.in-Some.ensures.steps held (sym c.agrees_with.ensures ∙ c.if-agrees_with.false)
     ∙ ap Some (sym c.id-id.ensures.id)

@@ -1,4 +1,4 @@
-use Rattle.std.proofs.Common.{◌≡◌, List, None, sym, ap, subst, arith, ◌∙◌}
+use Rattle.std.proofs.Common.{◌≡◌, true, List, None, sym, ap, subst, arith, ◌∙◌}
 use Rattle.std.specs.List.{AllByRecursion}
 use Rattle.usfm_ref.specs.Keys.{key_cmp}
 use Rattle.usfm_ref.specs.Rising.{rises_by}
@@ -7,11 +7,12 @@ use Rattle.verse_cut.specs.Reading.{text_fits}
 use Rattle.verse_cut.specs.Views.{parts_of}
 use Rattle.verse_cut.specs.declared.cutter.Piece.{Piece}
 use Rattle.op_core.specs.Ops.{Operation}
-use Rattle.op_core.specs.Sets.{rises, get}
+use Rattle.op_core.specs.Sets.{rises, get, join}
+use Rattle.op_core.specs.Thinned.{is_legal}
 use Rattle.op_core.specs.NextIds.{next_number}
 use Rattle.replica_state.specs.Imports.{piece_at}
 use Rattle.replica_state.proofs.FilePieces.{book_is_code, piece_fits}
-use Rattle.replica_state.proofs.Imports.{edits_rise, edits_are_new}
+use Rattle.replica_state.proofs.Imports.{edits_rise, edits_are_new, edits_legal}
 use Rattle.replica_state.proofs.KeyLists.{parts_rise}
 use Rattle.replica_state.proofs.replica.Replica.import.Goals as goal
 
@@ -44,3 +45,9 @@ join_new-requires-clause-apart c =
     subst (AllByRecursion (λ (o : Operation). get c.args.self.now.held o.id ≡ None)) (sym c.in_ok-edits.ensures.ops)
     (edits_are_new c.args.self.now c.in_ok-book.book (parts_of c.deref-2.result.now) (next_number c.args.self.now.held) c.deref-3.result.now
     (omega arith))
+
+pub join_new-requires-clause-legal : goal.join_new-requires-clause-legal
+join_new-requires-clause-legal c =
+    subst (λ (ops : List Operation). is_legal (join c.args.self.now.held ops) ≡ true) (sym c.in_ok-edits.ensures.ops)
+    (edits_legal c.args.self.now c.in_ok-book.book (parts_of c.deref-2.result.now) (next_number c.args.self.now.held) c.deref-3.result.now
+    c.in_ok-edits.ensures.state (omega arith))
