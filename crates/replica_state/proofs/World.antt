@@ -1,0 +1,16 @@
+pub mod PieceRanges
+pub mod Held
+pub mod Next
+pub mod Moves
+pub mod Runs
+pub mod Flights
+pub mod Alike
+pub mod Twins
+pub mod Moments
+pub mod Exchanges
+pub mod Shows
+pub mod Exact
+pub mod Sets
+pub mod Bytes
+pub mod Calls
+pub mod Reads

@@ -1,0 +1,65 @@
+-- How the calls of replicas are the events of a world (this project's own rule).
+use Rattle.std.specs.Prelude.{◌≡◌, ◌≢◌, ◌<◌, ◌^◌, ℕ, false, List, [], ◌∷◌, ◌++◌}
+use Rattle.std.specs.Prelude.{length, Result, Ok, Err, Some, slice_get, MatchResult}
+use Rattle.std.specs.List.{AllByRecursion}
+use Rattle.op_core.specs.Ids.{Id}
+use Rattle.op_core.specs.Ops.{Operation}
+use Rattle.op_core.specs.Thinned.{all_full}
+use Rattle.bundle_codec.specs.declared.fault.BundleFault.TheVariants.{Truncated}
+use Rattle.bundle_codec.specs.declared.fault.WholeFault.{WholeFault}
+use Rattle.bundle_codec.specs.declared.fault.WholeFault.TheVariants.{Bundle}
+use Rattle.bundle_codec.specs.Spelling.{bundle}
+use Rattle.bundle_codec.specs.Joining.{out_of_memory}
+use Rattle.replica_state.specs.declared.fault.ReceiveFault.{ReceiveFault}
+use Rattle.replica_state.specs.declared.fault.ReceiveFault.TheVariants.{Clash}
+use Rattle.replica_state.specs.States.{State}
+use Rattle.replica_state.specs.Steps.{Reply}
+use Rattle.replica_state.specs.World.{World, Event, Receives, IsWithin, after, happens, replica}
+use Rattle.replica_state.specs.World.Invisible.{reply}
+
+-- the replica is that of its name in the world
+abbrev pub IsIn : World → State → Type 0
+IsIn w s = replica w s.name ≡ s
+
+-- In each world in which the replica stands, an event makes of it what the call did.
+abbrev pub IsEvent : Event → State → State → Type 0
+IsEvent e s t = (w : World) → IsIn w s → IsIn (happens w e) t
+
+-- what the call answers is the reply to the event
+abbrev pub IsReply : Event → State → Reply → Type 0
+IsReply e s r = (w : World) → IsIn w s → reply w e ≡ Some r
+
+-- In each world in which the replica stands and the bundle was made, the event of its receiving makes of the replica what
+-- the call did, and its reply is what the call answers.
+pub record IsReceiving (bundle : List Operation) (s t : State) (r : Reply) : Type 0 where
+  pub after : (w : World) (k : ℕ) → IsIn w s → slice_get w.bundles k ≡ Some bundle →
+      IsIn (happens w (Receives s.name k)) t
+  pub reply : (w : World) (k : ℕ) → IsIn w s → slice_get w.bundles k ≡ Some bundle →
+      reply w (Receives s.name k) ≡ Some r
+
+-- In no world in which the replica stands, and the bundle was made, is its receiving refused as a clash.
+abbrev pub NeverClashes : List Operation → State → Result ℕ ReceiveFault → Type 0
+NeverClashes bundle s answer =
+    (events : List Event) (k : ℕ) (id : Id) → IsIn (after events) s →
+    slice_get (after events).bundles k ≡ Some bundle → answer ≢ Err (Clash id)
+
+-- The event makes a bundle of these operations, and the bytes are its own.
+pub record IsSending (e : Event) (s : State) (ops : List Operation) (bytes : List ℕ) : Type 0 where
+  pub makes : (w : World) → IsIn w s → (happens w e).bundles ≡ ops ∷ w.bundles
+  pub spelled : bytes ≡ bundle ops
+
+-- Of the bytes of a bundle that was made in a world that bundle is read. Memory can be refused only where one of its
+-- operations is thinned.
+abbrev pub ReadsWhole : List ℕ → Result (List Operation) WholeFault → Type 0
+ReadsWhole bytes read =
+    (events : List Event) (k : ℕ) (ops : List Operation) → AllByRecursion IsWithin events →
+    slice_get (after events).bundles k ≡ Some ops → bytes ≡ bundle ops →
+    MatchResult read (λ x. x ≡ ops) (λ fault. (fault ≡ out_of_memory) × (all_full ops ≡ false))
+
+-- A proper front of the bytes of a bundle that was made in a world is refused as cut.
+abbrev pub RefusesCut : List ℕ → Result (List Operation) WholeFault → Type 0
+RefusesCut bytes read =
+    (events : List Event) (k : ℕ) (ops : List Operation) (more : List ℕ) →
+    AllByRecursion IsWithin events →
+    slice_get (after events).bundles k ≡ Some ops → length (bundle ops) < 2 ^ 64 →
+    bundle ops ≡ bytes ++ more → more ≢ [] → read ≡ Err (Bundle Truncated)

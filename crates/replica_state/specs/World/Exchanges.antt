@@ -1,0 +1,124 @@
+-- What exchanges bring, after every list of events (this project's own rule): bundles in flight, deltas for summaries,
+-- and relays of bundles from replica to replica.
+use Rattle.std.specs.Prelude.{◌≡◌, ℕ, Bool, true, false, ◌&&◌, List, [], ◌∷◌, ◌++◌, Some, slice_get}
+use Rattle.std.specs.List.{list_all}
+use Rattle.usfm_ref.specs.Books.{same_bytes}
+use Rattle.op_core.specs.Ids.{Id}
+use Rattle.op_core.specs.Ops.{Operation}
+use Rattle.op_core.specs.Sets.{join}
+use Rattle.op_core.specs.Lists.{is_held}
+use Rattle.op_core.specs.Thinned.{is_legal, skeleton, of_ids}
+use Rattle.bundle_codec.specs.Summaries.{summary_of, outside}
+use Rattle.replica_state.specs.World.{World, Event, Summarizes, Bundles, Receives, after, is_apart}
+use Rattle.replica_state.specs.World.Schedules.{Holds}
+
+-- two replicas hold a union of two sets, but for texts left out
+pub record HoldUnion (w : World) (a b : List ℕ) (s t : List Operation) : Type 0 where
+  pub first : skeleton (w.held a) ≡ skeleton (join s t)
+  pub second : skeleton (w.held b) ≡ skeleton (join s t)
+
+-- Two replicas hold s and t. With no other event at the two, first a and then b receives the other's delta for its own
+-- summary: both hold the union, but for texts left out.
+abbrev pub DeltasJoin : Type 0
+DeltasJoin =
+    (last between first past : List Event) (a b : List ℕ) (k n : ℕ) → same_bytes a b ≡ false →
+    list_all (λ e. is_apart a e && is_apart b e) (last ++ (between ++ first)) ≡ true →
+    let s = (after past).held a in let t = (after past).held b in
+    slice_get (after (first ++ past)).bundles k ≡ Some (outside (summary_of s) t) →
+    let heard = Receives a k ∷ (first ++ past) in
+    slice_get (after (between ++ heard)).bundles n ≡ Some (outside (summary_of t) s) →
+    HoldUnion (after (last ++ (Receives b n ∷ (between ++ heard)))) a b s t
+
+-- So they do where a makes its delta after it has received the other's.
+abbrev pub DeltasJoinInTurn : Type 0
+DeltasJoinInTurn =
+    (last between first past : List Event) (a b : List ℕ) (k n : ℕ) → same_bytes a b ≡ false →
+    list_all (λ e. is_apart a e && is_apart b e) (last ++ (between ++ first)) ≡ true →
+    let s = (after past).held a in let t = (after past).held b in
+    slice_get (after (first ++ past)).bundles k ≡ Some (outside (summary_of s) t) →
+    let heard = Receives a k ∷ (first ++ past) in
+    slice_get (after (between ++ heard)).bundles n
+    ≡ Some (outside (summary_of t) ((after heard).held a)) →
+    HoldUnion (after (last ++ (Receives b n ∷ (between ++ heard)))) a b s t
+
+-- A bundle of any ids that is legal is made, and can be received from then on.
+abbrev pub BundlesStay : Type 0
+BundlesStay =
+    (later past : List Event) (name : List ℕ) (kept : Id → Bool) →
+    is_legal (of_ids kept ((after past).held name)) ≡ true →
+    (k : ℕ) × (slice_get (after (later ++ Bundles name kept ∷ past)).bundles k
+    ≡ Some (of_ids kept ((after past).held name)))
+
+-- A summary is made, and is there from then on.
+abbrev pub SummariesStay : Type 0
+SummariesStay =
+    (later past : List Event) (name : List ℕ) →
+    (k : ℕ) × (slice_get (after (later ++ Summarizes name ∷ past)).summaries k
+    ≡ Some (summary_of ((after past).held name)))
+
+-- ---- hearings, and relays
+
+-- the second moment is the first, or comes after it
+abbrev pub IsBefore : List Event → List Event → Type 0
+IsBefore past events = (more : List Event) × (events ≡ more ++ past)
+
+-- what a teller is asked for: its whole bundle, or its delta for the summary that the hearer made at a moment
+pub data Request : Type 0 where
+  Whole : Request
+  Lacking : (asked : List Event) → Request
+
+-- one hearing: the hearer, what it asked for, the moment before the bundle is made, the bundle, and the moment before
+-- the hearer receives it
+pub record Hearing : Type 0 where
+  pub hearer : List ℕ
+  pub request : Request
+  pub sent : List Event
+  pub bundle : ℕ
+  pub got : List Event
+
+-- what the bundle is to hold, of what is held
+abbrev pub told : List ℕ → Request → List Operation → List Operation
+told hearer Whole held = held
+told hearer (Lacking asked) held = outside (summary_of ((after asked).held hearer)) held
+
+-- the ids of what the bundle is to hold
+abbrev pub wanted : List ℕ → Request → List Operation → Id → Bool
+wanted hearer request held id = is_held (told hearer request held) id
+
+-- the summary that is asked with was made before the bundle
+abbrev pub IsAsked : List ℕ → Request → List Event → Type 0
+IsAsked hearer Whole sent = Unit {0}
+IsAsked hearer (Lacking asked) sent = IsBefore (Summarizes hearer ∷ asked) sent
+
+-- the teller makes the bundle, whole or for a summary that the hearer made before, and the hearer then receives it
+pub record Hears (teller : List ℕ) (h : Hearing) : Type 0 where
+  pub asked : IsAsked h.hearer h.request h.sent
+  pub sends : let held = (after h.sent).held teller in
+      IsBefore (Bundles teller (wanted h.hearer h.request held) ∷ h.sent) h.got
+  pub is : let held = (after h.sent).held teller in
+      slice_get (after h.got).bundles h.bundle ≡ Some (told h.hearer h.request held)
+
+-- At every moment such a bundle is made, and there to be received from then on.
+abbrev pub CanBeHeard : Type 0
+CanBeHeard =
+    (later sent : List Event) (teller hearer : List ℕ) (request : Request) →
+    let held = (after sent).held teller in
+    (k : ℕ)
+    × (slice_get (after (later ++ Bundles teller (wanted hearer request held) ∷ sent)).bundles k
+    ≡ Some (told hearer request held))
+
+-- the moment after the hearing
+abbrev pub heard : Hearing → List Event
+heard h = Receives h.hearer h.bundle ∷ h.got
+
+-- hearings, each of which begins at the replica where, and after the event in which, the one before ended
+abbrev pub IsRelay : List ℕ → List Event → List Hearing → List ℕ → List Event → Type 0
+IsRelay a from [] b to = (a ≡ b) × IsBefore from to
+IsRelay a from (h ∷ hearings) b to =
+    IsBefore from h.sent × Hears a h × IsRelay h.hearer (heard h) hearings b to
+
+-- Where a relay leads, what was held is held.
+abbrev pub RelayTells : Type 0
+RelayTells =
+    (a b : List ℕ) (from to : List Event) (hearings : List Hearing) → IsRelay a from hearings b to →
+    (o : Operation) → Holds ((after from).held a) o → Holds ((after to).held b) o
