@@ -12,7 +12,7 @@ use Rattle.usfm_ref.specs.Segments.{Segment}
 use Rattle.usfm_ref.proofs.Orders.{same_bytes-is}
 use Rattle.usfm_ref.proofs.Sorted.{parts, back, is_less, rises_filter}
 use Rattle.op_core.specs.Ids.{Id, id_cmp, id_below}
-use Rattle.op_core.specs.Ops.{Operation}
+use Rattle.op_core.specs.Ops.{Operation, own_text}
 use Rattle.op_core.specs.Sets.{rises, IsOpSet}
 use Rattle.op_core.specs.Shown.{is_shown, shown}
 use Rattle.op_core.proofs.Rising.{id_total}
@@ -20,20 +20,21 @@ use Rattle.conflict_report.specs.Reports.{is_repeated, distinct_texts}
 
 -- whether one of the operations has the text
 abbrev pub has_text : List ℕ → List Operation → Bool
-has_text text ops = list_any (λ p. same_bytes p.text text) ops
+has_text text ops = list_any (λ p. same_bytes (own_text p) text) ops
 
 -- the operations whose text no later one has
 abbrev pub latest : List Operation → List Operation
 latest [] = []
-latest (o ∷ later) = cond (has_text o.text later) (latest later) (o ∷ latest later)
+latest (o ∷ later) = cond (has_text (own_text o) later) (latest later) (o ∷ latest later)
 
 -- they have the texts that the operations have
 pub any_latest : (text : List ℕ) (ops : List Operation) → has_text text (latest ops) ≡ has_text text ops
 any_latest text [] = refl
-any_latest text (o ∷ later) = by (any_latest text later) (has_text o.text later) refl (same_bytes o.text text) refl
+any_latest text (o ∷ later) = by (any_latest text later) (has_text (own_text o) later) refl (same_bytes (own_text o) text) refl
   where
-    by : has_text text (latest later) ≡ has_text text later → (b : Bool) → has_text o.text later ≡ b → (s : Bool) → same_bytes o.text text ≡ s → has_text text (cond b (latest later) (o ∷ latest later)) ≡ (s || has_text text later)
-    by rest true e true f = rest ∙ ap (λ (t : List ℕ). has_text t later) (sym (same_bytes-is o.text text f)) ∙ e
+    by : has_text text (latest later) ≡ has_text text later → (b : Bool) → has_text (own_text o) later ≡ b → (s : Bool)
+        → same_bytes (own_text o) text ≡ s → has_text text (cond b (latest later) (o ∷ latest later)) ≡ (s || has_text text later)
+    by rest true e true f = rest ∙ ap (λ (t : List ℕ). has_text t later) (sym (same_bytes-is (own_text o) text f)) ∙ e
     by rest true e false f = rest
     by rest false e s f = ap (λ b. b || has_text text (latest later)) f ∙ ap (λ b. s || b) rest
 
@@ -43,19 +44,22 @@ above_back : (a b : Id) → id_below a b ≡ true → id_below b a ≡ false
 above_back a b h = ap is_lt (back id_cmp id_total (λ (i : Id). i) a b Less (is_less _ h))
 
 -- one that is below all others
-repeated_above : (o : Operation) (ops : List Operation) → list_all (λ p. id_below o.id p.id) ops ≡ true → is_repeated ops o ≡ has_text o.text ops
+repeated_above : (o : Operation) (ops : List Operation) → list_all (λ p. id_below o.id p.id) ops ≡ true
+    → is_repeated ops o ≡ has_text (own_text o) ops
 repeated_above o [] h = refl
 repeated_above o (p ∷ ops) h =
     let a = and_parts (id_below o.id p.id) (list_all (λ p. id_below o.id p.id) ops) h in
-    λ i. (a.0 i && same_bytes p.text o.text) || repeated_above o ops a.1 i
+    λ i. (a.0 i && same_bytes (own_text p) (own_text o)) || repeated_above o ops a.1 i
 
 -- no other one repeats its text
-kept_above : (o : Operation) (later ops : List Operation) → list_all (λ p. id_below o.id p.id) ops ≡ true → filter (λ p. not (is_repeated (o ∷ later) p)) ops ≡ filter (λ p. not (is_repeated later p)) ops
+kept_above : (o : Operation) (later ops : List Operation) → list_all (λ p. id_below o.id p.id) ops ≡ true
+    → filter (λ p. not (is_repeated (o ∷ later) p)) ops ≡ filter (λ p. not (is_repeated later p)) ops
 kept_above o later [] h = refl
 kept_above o later (q ∷ ops) h =
     let a = and_parts (id_below o.id q.id) (list_all (λ p. id_below o.id p.id) ops) h in
     let below = above_back o.id q.id a.0 in
-    λ i. cond (not ((below i && same_bytes o.text q.text) || is_repeated later q)) (q ∷ kept_above o later ops a.1 i) (kept_above o later ops a.1 i)
+    λ i. cond (not ((below i && same_bytes (own_text o) (own_text q)) || is_repeated later q)) (q ∷ kept_above o later ops a.1 i)
+    (kept_above o later ops a.1 i)
 
 turned : {X : Type 0} (b : Bool) (x y : X) → cond b x y ≡ cond (not b) y x
 turned true x y = refl
@@ -67,8 +71,9 @@ latest_is (o ∷ later) h =
     let p = parts id_cmp id_total (λ (x : Operation). x.id) o later h in
     let rest = latest_is later p.1 ∙ sym (kept_above o later later p.0) in
     let itself = ap is_lt (tied_itself id_total o.id) in
-    let first : is_repeated (o ∷ later) o ≡ has_text o.text later = λ i. (itself i && same_bytes o.text o.text) || repeated_above o later p.0 i in
-    turned (has_text o.text later) (latest later) (o ∷ latest later) ∙ (λ i. cond (not (sym first i)) (o ∷ rest i) (rest i))
+    let first : is_repeated (o ∷ later) o ≡ has_text (own_text o) later =
+    λ i. (itself i && same_bytes (own_text o) (own_text o)) || repeated_above o later p.0 i in
+    turned (has_text (own_text o) later) (latest later) (o ∷ latest later) ∙ (λ i. cond (not (sym first i)) (o ∷ rest i) (rest i))
 
 -- ---- a walk from the back
 
@@ -84,23 +89,30 @@ pub record IsWalked (all left distinct : List Operation) : Type 0 where
 pub walked_start : (all left distinct : List Operation) → left ≡ all → distinct ≡ [] → IsWalked all left distinct
 walked_start all left distinct e none = record { behind = []; joined = append-nil left ∙ e; told = none }
 
-any_now : (text : List ℕ) (ops : List (Bor Operation)) → list_any (λ op. same_bytes op.now.text text) ops ≡ has_text text (now_of ops)
+any_now : (text : List ℕ) (ops : List (Bor Operation)) → list_any (λ op. same_bytes (own_text op.now) text) ops ≡ has_text text (now_of ops)
 any_now text [] = refl
-any_now text (op ∷ ops) = ap (λ b. same_bytes op.now.text text || b) (any_now text ops)
+any_now text (op ∷ ops) = ap (λ b. same_bytes (own_text op.now) text || b) (any_now text ops)
 
 any_reverse : (text : List ℕ) (ops : List Operation) → has_text text (reverse ops) ≡ has_text text ops
-any_reverse text ops = sym (list_any-IsPermutation (λ (p : Operation). same_bytes p.text text) ops (reverse ops) (IsPermutation-reverse ops))
+any_reverse text ops =
+    sym (list_any-IsPermutation (λ (p : Operation). same_bytes (own_text p) text) ops (reverse ops) (IsPermutation-reverse ops))
 
-module _ (all : List Operation) (left rest : List (Bor Operation)) (op : Bor Operation) (distinct : List (Bor Operation)) (e : left ≡ rest ++ op ∷ []) (w : IsWalked all (now_of left) (now_of distinct)) where
-  seen : (b : Bool) → b ≡ list_any (λ o. same_bytes o.now.text op.now.text) distinct → has_text op.now.text w.behind ≡ b
-  seen b h = sym (h ∙ any_now op.now.text distinct ∙ ap (has_text op.now.text) w.told ∙ any_reverse op.now.text (latest w.behind) ∙ any_latest op.now.text w.behind)
+module _ (all : List Operation) (left rest : List (Bor Operation)) (op : Bor Operation) (distinct : List (Bor Operation))
+    (e : left ≡ rest ++ op ∷ []) (w : IsWalked all (now_of left) (now_of distinct)) where
+  seen : (b : Bool) → b ≡ list_any (λ o. same_bytes (own_text o.now) (own_text op.now)) distinct → has_text (own_text op.now) w.behind ≡ b
+  seen b h =
+      sym (h ∙ any_now (own_text op.now) distinct ∙ ap (has_text (own_text op.now)) w.told ∙ any_reverse (own_text op.now) (latest w.behind)
+      ∙ any_latest (own_text op.now) w.behind)
 
   joined_more : now_of rest ++ op.now ∷ w.behind ≡ all
   joined_more =
-      sym (append_assoc (now_of rest) (op.now ∷ []) w.behind) ∙ ap (λ (ops : List Operation). ops ++ w.behind) (sym (map-append (λ (o : Bor Operation). o.now) rest (op ∷ [])) ∙ ap now_of (sym e)) ∙ w.joined
+      sym (append_assoc (now_of rest) (op.now ∷ []) w.behind)
+      ∙ ap (λ (ops : List Operation). ops ++ w.behind) (sym (map-append (λ (o : Bor Operation). o.now) rest (op ∷ [])) ∙ ap now_of (sym e))
+      ∙ w.joined
 
   -- its text is reported already
-  pub walked_past : true ≡ list_any (λ o. same_bytes o.now.text op.now.text) distinct → IsWalked all (now_of rest) (now_of distinct)
+  pub walked_past : true ≡ list_any (λ o. same_bytes (own_text o.now) (own_text op.now)) distinct
+      → IsWalked all (now_of rest) (now_of distinct)
   walked_past h = record {
     behind = op.now ∷ w.behind;
     joined = joined_more;
@@ -108,18 +120,22 @@ module _ (all : List Operation) (left rest : List (Bor Operation)) (op : Bor Ope
   }
 
   -- its text is new
-  pub walked_more : false ≡ list_any (λ o. same_bytes o.now.text op.now.text) distinct → IsWalked all (now_of rest) (now_of (distinct ++ op ∷ []))
+  pub walked_more : false ≡ list_any (λ o. same_bytes (own_text o.now) (own_text op.now)) distinct
+      → IsWalked all (now_of rest) (now_of (distinct ++ op ∷ []))
   walked_more h = record {
     behind = op.now ∷ w.behind;
     joined = joined_more;
-    told = map-append (λ (o : Bor Operation). o.now) distinct (op ∷ []) ∙ ap (λ (ops : List Operation). ops ++ op.now ∷ []) w.told ∙ sym (reverse-append (op.now ∷ []) (latest w.behind)) ∙ ap reverse (sym (cond-false _ _ _ (seen false h)));
+    told = map-append (λ (o : Bor Operation). o.now) distinct (op ∷ []) ∙ ap (λ (ops : List Operation). ops ++ op.now ∷ []) w.told
+        ∙ sym (reverse-append (op.now ∷ []) (latest w.behind)) ∙ ap reverse (sym (cond-false _ _ _ (seen false h)));
   }
 
 no_items : {X : Type 0} (xs : List X) → length xs ≡ 0 → xs ≡ []
 no_items [] h = refl
 no_items (x ∷ xs) h = absurd (omega arith)
 
-pub walked_end : (held : List Operation) (g : Segment) (left distinct : List (Bor Operation)) → IsOpSet held → length left ≡ 0 → IsWalked (shown held g) (now_of left) (now_of distinct) → now_of distinct ≡ distinct_texts held g
+pub walked_end : (held : List Operation) (g : Segment) (left distinct : List (Bor Operation)) → IsOpSet held → length left ≡ 0
+    → IsWalked (shown held g) (now_of left) (now_of distinct) → now_of distinct ≡ distinct_texts held g
 walked_end held g left distinct set none w =
     let all : w.behind ≡ shown held g = ap (λ (ops : List (Bor Operation)). now_of ops ++ w.behind) (sym (no_items left none)) ∙ w.joined in
-    w.told ∙ ap (λ (ops : List Operation). reverse (latest ops)) all ∙ ap reverse (latest_is (shown held g) (rises_filter id_cmp id_total (λ (o : Operation). o.id) (is_shown held g) held set.rising))
+    w.told ∙ ap (λ (ops : List Operation). reverse (latest ops)) all
+    ∙ ap reverse (latest_is (shown held g) (rises_filter id_cmp id_total (λ (o : Operation). o.id) (is_shown held g) held set.rising))

@@ -1,3 +1,5 @@
 mod Latest
 mod Gathered
 mod Emptiness
+pub mod SameReports
+pub mod Worlds

@@ -7,7 +7,7 @@ use Rattle.usfm_ref.specs.Books.{same_bytes}
 use Rattle.usfm_ref.specs.References.{ref_text}
 use Rattle.usfm_ref.specs.Segments.{Segment, segment}
 use Rattle.op_core.specs.Ids.{Id, id_below}
-use Rattle.op_core.specs.Ops.{Operation}
+use Rattle.op_core.specs.Ops.{Operation, own_text}
 use Rattle.op_core.specs.Shown.{shown}
 use Rattle.op_core.specs.Lists.{awaited, books_of, keys_of}
 
@@ -15,7 +15,7 @@ use Rattle.op_core.specs.Lists.{awaited, books_of, keys_of}
 
 -- whether one of the operations has the same text and a greater id
 abbrev pub is_repeated : List Operation → Operation → Bool
-is_repeated ops o = list_any (λ p. id_below o.id p.id && same_bytes p.text o.text) ops
+is_repeated ops o = list_any (λ p. id_below o.id p.id && same_bytes (own_text p) (own_text o)) ops
 
 -- the distinct texts that a segment shows, each by the operation with the greatest id that has it, ids falling
 abbrev pub distinct_texts : List Operation → Segment → List Operation
@@ -29,11 +29,11 @@ conflict_line g count = codes "conflict " ++ (ref_text g.book g.key ++ 32 ∷ (d
 
 -- `text`, the number and the name of the text's id, and how many bytes it has
 abbrev pub text_line : Operation → List ℕ
-text_line o = codes "text " ++ (decimal o.id.number ++ 32 ∷ (o.id.name ++ 32 ∷ (decimal (length o.text) ++ 10 ∷ [])))
+text_line o = codes "text " ++ (decimal o.id.number ++ 32 ∷ (o.id.name ++ 32 ∷ (decimal (length (own_text o)) ++ 10 ∷ [])))
 
 -- a text's line, the text, and a line feed
 abbrev pub text_lines : Operation → List ℕ
-text_lines o = text_line o ++ (o.text ++ 10 ∷ [])
+text_lines o = text_line o ++ (own_text o ++ 10 ∷ [])
 
 -- `awaited`, and the number and the name of an id
 abbrev pub awaited_line : Id → List ℕ

@@ -1,6 +1,7 @@
 // The parts that a report is written in.
 ghost use Rattle.std.specs.Prelude.{◌≡◌, ◌++◌, ◌∷◌, [], OnOk, IfOk, IfErr, string_bytes};
 ghost use Rattle.usfm_ref.specs.Segments.{segment};
+ghost use Rattle.op_core.specs.Ops.{own_text};
 ghost use Rattle.usfm_export.specs.Counts.{failures_after};
 ghost use Rattle.usfm_export.specs.Writing.{TakesAll, TakesFront};
 ghost use Rattle.conflict_report.specs.Parts.{part_bytes, bytes_of};
@@ -27,7 +28,8 @@ pub(crate) fn conflict_line(
     key: Key,
     count: usize,
 ) -> Result<String, AllocError>
-    ensures { IfOk result (λ line. string_bytes line ≡ reports.conflict_line (segment book key) count) }
+    ensures { IfOk result (λ line.
+        string_bytes line ≡ reports.conflict_line (segment book key) count) }
 {
     let reference = write_ref(alloc, book, key)?;
     format!(in alloc; "conflict {reference} {count}\n")
@@ -40,7 +42,7 @@ pub(crate) fn text_line(alloc: Global, op: &Op) -> Result<String, AllocError>
     let id = op.id();
     let number = id.number;
     let name = id.name.text();
-    let bytes = op.text().len();
+    let bytes = op.text_or_empty().len();
     format!(in alloc; "text {number} {name} {bytes}\n")
 }
 
@@ -83,11 +85,12 @@ fn write_part<W: ByteSink>(sink: &mut W, gone: u64, part: &Part<'_>) -> Result<u
 
 fn write_text<W: ByteSink>(sink: &mut W, gone: u64, op: &Op) -> Result<u64, WriteFault>
     ensures all { IfOk result (λ total.
-        TakesAll (W.taken sink.old) (W.taken sink.new) (op.now.text ++ 10 ∷ []) gone total) }
+        TakesAll (W.taken sink.old) (W.taken sink.new) (own_text op.now ++ 10 ∷ []) gone total) }
     ensures front { IfErr result (λ fault.
-        TakesFront (W.taken sink.old) (W.taken sink.new) (op.now.text ++ 10 ∷ []) gone fault.gone) }
+        TakesFront (W.taken sink.old) (W.taken sink.new) (own_text op.now ++ 10 ∷ [])
+        gone fault.gone) }
     ensures failed { W.failures sink.new ≡ failures_after result (W.failures sink.old) }
 {
-    let with_text = write_more(sink, gone, op.text().as_bytes())?;
+    let with_text = write_more(sink, gone, op.text_or_empty().as_bytes())?;
     write_more(sink, with_text, b"\n")
 }

@@ -21,7 +21,11 @@ const Y: [u8; 74] =
 const Z: [u8; 74] =
     *b"USFMSR1\n\0\0\0\0\0\0\0\x01\0\0\0\0\0\0\0\x03\x03anaMAT\0\x01\x01\0\x01\0\0\0\0\0\0\0\0\x01\0\0\0\0\0\0\0\x02\x03ana\x01\0\0\0\0\0\0\0\x08\\v 1 To\n";
 
-// What a replica with these three reports.
+// 2 ana on MAT 1:1, thinned, and 3 ben on it as in Y.
+const V2: [u8; 104] =
+    *b"USFMSR2\n\0\0\0\0\0\0\0\x02\0\0\0\0\0\0\0\x02\x03anaMAT\0\x01\x01\0\x01\0\0\0\0\0\0\0\0\0\0\0\0\0\0\0\0\0\x03\x03benMAT\0\x01\x01\0\x01\0\0\0\0\0\0\0\0\x01\0\0\0\0\0\0\0\x02\x03ana\x01\0\0\0\0\0\0\0\x08\\v 1 At\n";
+
+// What a replica with B1, Y and Z reports.
 const CONFLICT: &[u8] = b"conflict MAT 1:1 2\ntext 3 ben 8\n\\v 1 At\n\ntext 3 ana 8\n\\v 1 To\n\n";
 
 fn begun(alloc: Global, name: &str) -> Result<Replica, Fail> {
@@ -84,6 +88,17 @@ fn bundles_in_each_order(rt: HostRuntime) -> Result<(), Fail> {
         assert_report(&rt, alloc, &ana, CONFLICT)?;
     }
     Ok(())
+}
+
+#[test]
+fn thinning_changes_no_report(rt: HostRuntime) -> Result<(), Fail> {
+    let alloc = rt.alloc();
+    let mut ana = received(alloc, "ana", &[B1.as_slice(), Y.as_slice(), Z.as_slice()])?;
+    assert_eq!(rt; ana.thin(), 1);
+    assert_report(&rt, alloc, &ana, CONFLICT)?;
+    let ben = received(alloc, "ben", &[V2.as_slice(), Z.as_slice()])?;
+    assert_report(&rt, alloc, &ben, CONFLICT)?;
+    assert_report(&rt, alloc, &received(alloc, "ben", &[V2.as_slice()])?, b"")
 }
 
 #[test]

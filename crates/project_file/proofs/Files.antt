@@ -1,9 +1,10 @@
 -- Project files: what is spelled is read, and what is read is spelled so.
-use Rattle.std.proofs.Common.{◌≡◌, ℕ, ◌<◌, ◌^◌, List, [], ◌∷◌, ◌++◌, length, Option, Some, None, Result, Ok, Err, Vec, IfOk, refl, sym, ap, subst, ◌∙◌, append_assoc, arith}
+use Rattle.std.proofs.Common.{◌≡◌, ℕ, ◌<◌, ◌^◌, List, [], ◌∷◌, ◌++◌, length, Option, Some, None, Result, Ok, Err, Vec, IfOk, IsTrue, refl, sym, ap, subst, ◌∙◌, append_assoc, arith}
 use Rattle.std.proofs.lemmas.List.{length-append}
 use Rattle.op_core.specs.Ids.{Id}
 use Rattle.op_core.specs.Ops.{Operation}
 use Rattle.op_core.specs.Sets.{IsOpSet, clash}
+use Rattle.op_core.specs.Thinned.{is_legal}
 use Rattle.op_core.proofs.Fronts.{join_none}
 use Rattle.op_core.proofs.SideBySide.{clash_none}
 use Rattle.bundle_codec.specs.declared.fault.WholeFault.{WholeFault}
@@ -14,9 +15,8 @@ use Rattle.bundle_codec.proofs.Wholes.{whole_reads, whole_is}
 use Rattle.replica_state.specs.States.{State, IsState, begun}
 use Rattle.replica_state.specs.Steps.{with_ops}
 use Rattle.project_file.specs.declared.fault.LoadFault.{LoadFault}
-use Rattle.project_file.specs.declared.fault.LoadFault.TheVariants.{Bundle}
-use Rattle.project_file.specs.Projects.{magic, project, front_at, state_of, behind_front, project_at}
-use Rattle.project_file.proofs.Fronts.{IsFront, front_again, front_is, bytes_behind}
+use Rattle.project_file.specs.Projects.{magic, project, front_at, state_of, after_front, project_at}
+use Rattle.project_file.proofs.Fronts.{IsFront, front_again, front_is, bytes_after}
 
 -- ---- what is spelled is read
 
@@ -28,19 +28,22 @@ short_bundle s h = omega (arith, length-append magic (length s.name ∷ (s.name 
 pub project_again : (s : State) → IsState s → length (project s) < 2 ^ 64 → project_at (project s) ≡ Ok s
 unfolding project
 project_again s v short =
-    ap behind_front (front_again s.name (bundle s.held) v.name)
-    ∙ ap (state_of s.name) (whole_reads (bundle s.held) (record { ops = s.held; set = v.set; spelled = refl; short = short_bundle s short }))
+    ap after_front (front_again s.name (bundle s.held) v.name)
+    ∙ ap (state_of s.name) (whole_reads (bundle s.held)
+    (record { ops = s.held; set = v.set; legal = v.legal; spelled = refl; short = short_bundle s short }))
 
 pub read_again : (bytes : List ℕ) (s : State) → length bytes < 2 ^ 64 → IsState s → bytes ≡ project s → project_at bytes ≡ Ok s
 read_again bytes s short v e = ap project_at e ∙ project_again s v (omega (arith, ap length e))
 
 -- so for a file that was made, unless none was
-pub file_read_again : {A E : Type 0} (made : Result (Vec ℕ A) E) (s : State) → IsState s → IfOk made (λ file. file.items ≡ project s) → IfOk made (λ file. project_at file.items ≡ Ok s)
+pub file_read_again : {A E : Type 0} (made : Result (Vec ℕ A) E) (s : State) → IsState s → IfOk made (λ file. file.items ≡ project s)
+    → IfOk made (λ file. project_at file.items ≡ Ok s)
 file_read_again (Ok file) s v e = read_again file.items s (omega (arith, file.ok.0, file.small)) v e
 file_read_again (Err fault) s v e = tt
 
 -- a project file is refused with no fault
-pub not_refused : (bytes : List ℕ) (fault : LoadFault) → length bytes < 2 ^ 64 → project_at bytes ≡ Err fault → (s : State) → IsState s → bytes ≡ project s → ⊥
+pub not_refused : (bytes : List ℕ) (fault : LoadFault) → length bytes < 2 ^ 64 → project_at bytes ≡ Err fault → (s : State) → IsState s
+    → bytes ≡ project s → ⊥
 not_refused bytes fault short f s v e = let read = read_again bytes s short v e in absurd cc
 
 -- bytes that a slice can have are the project file of at most one replica
@@ -65,24 +68,27 @@ pub record IsFileOf (bytes : List ℕ) (s : State) : Type 0 where
   pub valid : IsState s
   pub spelled : bytes ≡ project s
 
-IsFileOf-from_parts : (bytes name rest : List ℕ) (held : List Operation) → IsFront bytes name rest → IsOpSet held → rest ≡ bundle held → IsFileOf bytes (record { name = name; held = held })
+IsFileOf-from_parts : (bytes name rest : List ℕ) (held : List Operation) → IsFront bytes name rest → IsOpSet held → IsTrue (is_legal held)
+    → rest ≡ bundle held
+    → IsFileOf bytes (record { name = name; held = held })
 unfolding project
-IsFileOf-from_parts bytes name rest held f set e = record {
-  valid = record { name = f.valid; set = set };
+IsFileOf-from_parts bytes name rest held f set legal e = record {
+  valid = record { name = f.valid; set = set; legal = legal };
   spelled = f.spelled ∙ ap (λ (w : List ℕ). magic ++ (length name ∷ (name ++ w))) e;
 }
 
 pub project_is : (bytes : List ℕ) (s : State) → AreBytes bytes → project_at bytes ≡ Ok s → IsFileOf bytes s
 project_is bytes s fits e = by_front (front_at bytes) refl e
   where
-    by_whole : (name rest : List ℕ) → IsFront bytes name rest → (r : Result (List Operation) WholeFault) → whole_at rest ≡ r → state_of name r ≡ Ok s → IsFileOf bytes s
+    by_whole : (name rest : List ℕ) → IsFront bytes name rest → (r : Result (List Operation) WholeFault) → whole_at rest ≡ r
+        → state_of name r ≡ Ok s → IsFileOf bytes s
     by_whole name rest f (Err fault) w e = cc e
     by_whole name rest f (Ok held) w e =
-        let b = whole_is rest held (bytes_behind bytes name rest fits f) w in
+        let b = whole_is rest held (bytes_after bytes name rest fits f) w in
         let same : ◌≡◌ {A = State} (record { name = name; held = held }) s = cc e in
-        subst (IsFileOf bytes) same (IsFileOf-from_parts bytes name rest held f b.0 b.1)
+        subst (IsFileOf bytes) same (IsFileOf-from_parts bytes name rest held f b.0 b.1.0 b.1.1)
 
-    by_front : (front : Option (List ℕ × List ℕ)) → front_at bytes ≡ front → behind_front front ≡ Ok s → IsFileOf bytes s
+    by_front : (front : Option (List ℕ × List ℕ)) → front_at bytes ≡ front → after_front front ≡ Ok s → IsFileOf bytes s
     by_front None f e = cc e
     by_front (Some front) f e = by_whole front.0 front.1 (front_is bytes front.0 front.1 f) (whole_at front.1) refl e
 
@@ -91,15 +97,14 @@ project_is bytes s fits e = by_front (front_at bytes) refl e
 pub no_clash : (name : List ℕ) (r : State) (held : List Operation) (id : Id) → r ≡ begun name → clash r.held held ≡ Some id → ⊥
 no_clash name r held id e f = let none : clash r.held held ≡ None = ap (λ (s : State). clash s.held held) e ∙ clash_none held in absurd cc
 
-module _ (bytes name rest : List ℕ) (held : List Operation) (s : State) (front : front_at bytes ≡ Some (name, rest)) (whole : whole_at rest ≡ Ok held) (set : IsOpSet held) (new : s ≡ with_ops (begun name) held) where
+module _ (bytes name rest : List ℕ) (held : List Operation) (s : State) (front : front_at bytes ≡ Some (name, rest))
+    (whole : whole_at rest ≡ Ok held) (set : IsOpSet held) (new : s ≡ with_ops (begun name) held) where
   held_is : s ≡ record { name = name; held = held }
   held_is = new ∙ (λ i. record { name = name; held = join_none held set.rising i })
 
   pub loaded_is : project_at bytes ≡ Ok s
-  loaded_is = ap behind_front front ∙ ap (state_of name) whole ∙ ap Ok (sym held_is)
+  loaded_is = ap after_front front ∙ ap (state_of name) whole ∙ ap Ok (sym held_is)
 
-  pub is_file : rest ≡ bundle held → IsFileOf bytes s
-  is_file e = subst (IsFileOf bytes) (sym held_is) (IsFileOf-from_parts bytes name rest held (front_is bytes name rest front) set e)
-
-pub bundle_refused : (bytes name rest : List ℕ) (fault : WholeFault) → front_at bytes ≡ Some (name, rest) → whole_at rest ≡ Err fault → project_at bytes ≡ Err (Bundle fault)
-bundle_refused bytes name rest fault front whole = ap behind_front front ∙ ap (state_of name) whole
+  pub is_file : IsTrue (is_legal held) → rest ≡ bundle held → IsFileOf bytes s
+  is_file legal e =
+      subst (IsFileOf bytes) (sym held_is) (IsFileOf-from_parts bytes name rest held (front_is bytes name rest front) set legal e)

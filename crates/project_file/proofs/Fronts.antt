@@ -20,9 +20,9 @@ pub record IsFront (bytes name rest : List ℕ) : Type 0 where
 name_again : (name rest : List ℕ) → IsTrue (is_name name) → name_at (length name ∷ (name ++ rest)) ≡ Some (name, rest)
 name_again name rest h =
     let front : take (length name) (name ++ rest) ≡ name = take_at name rest (length name) refl in
-    let behind : drop (length name) (name ++ rest) ≡ rest = drop_at name rest (length name) refl in
+    let later : drop (length name) (name ++ rest) ≡ rest = drop_at name rest (length name) refl in
     let fits : leb (length name) (length (name ++ rest)) ≡ true = le-leb _ _ (omega (arith, length-append name rest)) in
-    rw (fits, front, behind, h) refl
+    rw (fits, front, later, h) refl
 
 pub front_again : (name rest : List ℕ) → IsTrue (is_name name) → front_at (magic ++ (length name ∷ (name ++ rest))) ≡ Some (name, rest)
 unfolding front_at magic
@@ -40,26 +40,27 @@ name_is (n ∷ bytes) name rest e =
     let p = if_some (leb n (length bytes) && is_name (take n bytes)) (take n bytes, drop n bytes) (name, rest) e in
     let tests = and_parts (leb n (length bytes)) (is_name (take n bytes)) p.0 in
     let front : take n bytes ≡ name = ap (λ (x : List ℕ × List ℕ). x.0) p.1 in
-    let behind : drop n bytes ≡ rest = ap (λ (x : List ℕ × List ℕ). x.1) p.1 in
+    let later : drop n bytes ≡ rest = ap (λ (x : List ℕ × List ℕ). x.1) p.1 in
     let long : length name ≡ n = ap length (sym front) ∙ length-take-le n bytes (leb-true n (length bytes) tests.0) in
-    (λ i. sym long i ∷ (sym (take-append-drop n bytes) ∙ (λ i. front i ++ behind i)) i, ap is_name (sym front) ∙ tests.1)
+    (λ i. sym long i ∷ (sym (take-append-drop n bytes) ∙ (λ i. front i ++ later i)) i, ap is_name (sym front) ∙ tests.1)
 
-behind_magic : (begins : Bool) (bytes name rest : List ℕ) → starts_with eqb bytes magic ≡ begins → front_at bytes ≡ Some (name, rest) → IsFront bytes name rest
+past_magic : (begins : Bool) (bytes name rest : List ℕ) → starts_with eqb bytes magic ≡ begins → front_at bytes ≡ Some (name, rest)
+    → IsFront bytes name rest
 unfolding front_at
-behind_magic true bytes name rest h e =
+past_magic true bytes name rest h e =
     let named = name_is (drop (length magic) bytes) name rest (rw h at e) in
     let begins : bytes ≡ magic ++ drop (length magic) bytes = (starts_is Decides-eqb bytes magic (starts_with eqb bytes magic) refl).0 h in
     record { spelled = begins ∙ ap (λ (w : List ℕ). magic ++ w) named.0; valid = named.1 }
-behind_magic false bytes name rest h e = let none : None ≡ Some (name, rest) = rw h at e in cc none
+past_magic false bytes name rest h e = let none : None ≡ Some (name, rest) = rw h at e in cc none
 
 pub front_is : (bytes name rest : List ℕ) → front_at bytes ≡ Some (name, rest) → IsFront bytes name rest
-front_is bytes name rest e = behind_magic (starts_with eqb bytes magic) bytes name rest refl e
+front_is bytes name rest e = past_magic (starts_with eqb bytes magic) bytes name rest refl e
 
 -- ---- bytes
 
-pub bytes_behind : (bytes name rest : List ℕ) → AreBytes bytes → IsFront bytes name rest → AreBytes rest
+pub bytes_after : (bytes name rest : List ℕ) → AreBytes bytes → IsFront bytes name rest → AreBytes rest
 unfolding magic
-bytes_behind bytes name rest fits f =
+bytes_after bytes name rest fits f =
     let whole : AreBytes (magic ++ (length name ∷ (name ++ rest))) = subst AreBytes f.spelled fits in
-    let behind : AreBytes (name ++ rest) = AreBytes-drop 9 (magic ++ (length name ∷ (name ++ rest))) whole in
-    subst AreBytes (drop_at name rest (length name) refl) (AreBytes-drop (length name) (name ++ rest) behind)
+    let later : AreBytes (name ++ rest) = AreBytes-drop 9 (magic ++ (length name ∷ (name ++ rest))) whole in
+    subst AreBytes (drop_at name rest (length name) refl) (AreBytes-drop (length name) (name ++ rest) later)

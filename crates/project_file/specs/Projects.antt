@@ -39,11 +39,11 @@ state_of name (Ok held) = Ok (record { name = name; held = held })
 state_of name (Err fault) = Err (Bundle fault)
 
 -- the replica of the name at the front and of the one bundle that all bytes after it are, or the first fault
-abbrev pub behind_front : Option (List ℕ × List ℕ) → Result State LoadFault
-behind_front None = Err BadProject
-behind_front (Some front) = state_of front.0 (whole_at front.1)
+abbrev pub after_front : Option (List ℕ × List ℕ) → Result State LoadFault
+after_front None = Err BadProject
+after_front (Some front) = state_of front.0 (whole_at front.1)
 
 -- the replica whose project file the bytes are, to their end; or the first fault: that the magic or the name is cut
 -- or wrong, or else that of the bundle
 abbrev pub project_at : List ℕ → Result State LoadFault
-project_at bytes = behind_front (front_at bytes)
+project_at bytes = after_front (front_at bytes)

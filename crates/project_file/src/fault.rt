@@ -1,8 +1,8 @@
 ghost use Rattle.std.specs.Prelude.{◌≡◌};
 ghost use Rattle.project_file.specs.declared.fault.CreateFault.TheVariants as creating;
-ghost use Rattle.project_file.specs.declared.fault.LoadFault.TheVariants as loading;
+ghost use Rattle.project_file.specs.Answers.{refusal_of};
 
-use bundle_codec::WholeFault;
+use bundle_codec::{BundleFault, WholeFault};
 use std::alloc::AllocError;
 use thiserror::Error;
 
@@ -41,9 +41,12 @@ impl From<AllocError> for CreateFault {
 }
 
 impl From<WholeFault> for LoadFault {
-    ghost from_gives = { λ from fault. fault ≡ loading.Bundle from };
+    ghost from_gives = { λ from fault. fault ≡ refusal_of from };
 
     fn from(fault: WholeFault) -> LoadFault {
-        LoadFault::Bundle(fault)
+        match fault {
+            WholeFault::Bundle(BundleFault::Memory) => LoadFault::Memory,
+            fault => LoadFault::Bundle(fault),
+        }
     }
 }

@@ -32,13 +32,15 @@ pub fn create(alloc: Global, name: &str) -> Result<Vec<u8>, CreateFault>
 
 /// The replica whose project file the bytes are. It is a copy: nothing is lent from the bytes.
 ///
-/// The bytes are judged before any memory is taken, and nothing goes by a count that they state.
+/// The name is judged before any memory is taken, and so is the bundle, but for what a thinned
+/// operation may be. Nothing goes by a count that the bytes state.
 ///
 /// # Errors
 /// - `BadProject` (110) where the magic or the name is cut or wrong.
 /// - `Bundle` with the refusal of what follows the name, as `bundle_codec::decode_whole` answers it: 60
-///   to 68, and 70 where something follows the bundle.
-/// - `Memory` (1) where a growth was refused.
+///   to 69, and 70 where something follows the bundle.
+/// - `Memory` (1) where a growth was refused. It may stand in the place of 69 and 70 where each field of
+///   the bundle is right and an operation is thinned, and of no other refusal.
 pub fn load(alloc: Global, bytes: &[u8]) -> Result<Replica, LoadFault>
     // What is loaded is a replica, and the bytes are its project file.
     ensures loaded { IfOk result (λ s. projects.project_at bytes.now ≡ Ok s) }

@@ -12,14 +12,18 @@ const ANA: [u8; 28] = *b"USFMPJ1\n\x03anaUSFMSR1\n\0\0\0\0\0\0\0\0";
 const B1: [u8; 108] =
     *b"USFMSR1\n\0\0\0\0\0\0\0\x02\0\0\0\0\0\0\0\x01\x03anaMAT\0\0\0\0\0\0\0\0\0\0\0\0\0\0\x01\0\0\0\0\0\0\0\x08\\id MAT\n\0\0\0\0\0\0\0\x02\x03anaMAT\0\x01\x01\0\x01\0\0\0\0\0\0\0\0\0\x01\0\0\0\0\0\0\0\x08\\v 1 In\n";
 
+// 2 ana on MAT 1:1, thinned, and 3 ben on it, naming 2 ana.
+const V2: [u8; 104] =
+    *b"USFMSR2\n\0\0\0\0\0\0\0\x02\0\0\0\0\0\0\0\x02\x03anaMAT\0\x01\x01\0\x01\0\0\0\0\0\0\0\0\0\0\0\0\0\0\0\0\0\x03\x03benMAT\0\x01\x01\0\x01\0\0\0\0\0\0\0\0\x01\0\0\0\0\0\0\0\x02\x03ana\x01\0\0\0\0\0\0\0\x08\\v 1 At\n";
+
 const CUT: LoadFault = LoadFault::Bundle(WholeFault::Bundle(BundleFault::Truncated));
 
 const TRAILING: LoadFault = LoadFault::Bundle(WholeFault::Trailing);
 
 // The bytes of a front, with others after them.
-fn joined(alloc: Global, front: &[u8], behind: &[u8]) -> Result<Vec<u8>, AllocError> {
+fn joined(alloc: Global, front: &[u8], later: &[u8]) -> Result<Vec<u8>, AllocError> {
     let mut bytes = front.to_vec(alloc)?;
-    bytes.extend_from_slice(behind)?;
+    bytes.extend_from_slice(later)?;
     Ok(bytes)
 }
 
@@ -42,7 +46,21 @@ fn created(rt: HostRuntime) -> Result<(), Fail> {
 fn loaded_and_saved(rt: HostRuntime) -> Result<(), Fail> {
     let alloc = rt.alloc();
     assert_loads(&rt, alloc, &ANA)?;
-    assert_loads(&rt, alloc, &joined(alloc, &ANA[..12], &B1)?)
+    assert_loads(&rt, alloc, &joined(alloc, &ANA[..12], &B1)?)?;
+    assert_loads(&rt, alloc, &joined(alloc, &ANA[..12], &V2)?)
+}
+
+#[test]
+fn thinned_and_not_named(rt: HostRuntime) -> Result<(), Fail> {
+    let alloc = rt.alloc();
+    let of_one = joined(alloc, &ANA[..12], b"USFMSR2\n\0\0\0\0\0\0\0\x01")?;
+    let alone = joined(alloc, &of_one, &V2[16..46])?;
+    let of_none = joined(alloc, &ANA[..12], b"USFMSR2\n\0\0\0\0\0\0\0\0")?;
+    for (bytes, place) in [(&alone, 1), (&of_none, 0)] {
+        let unsupported = LoadFault::Bundle(WholeFault::Bundle(BundleFault::Unsupported(place)));
+        assert_eq!(rt; load(alloc, bytes).err(), Some(unsupported));
+    }
+    Ok(())
 }
 
 #[test]

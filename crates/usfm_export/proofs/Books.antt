@@ -7,4 +7,5 @@ use Rattle.op_core.proofs.CutsBack.{exports_cut_back, exports_are_text}
 use Rattle.usfm_export.specs.Books.{IsBookOf}
 
 pub is_book : (held : List Operation) (book : List ℕ) → IsOpSet held → IsBookOf held book (export held book)
-is_book held book set = record { set = set; text_is = refl; is_text = exports_are_text held book set; cuts_back = exports_cut_back held book set }
+is_book held book set =
+    record { set = set; text_is = refl; is_text = exports_are_text held book set; cuts_back = exports_cut_back held book set }

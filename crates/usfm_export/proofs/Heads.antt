@@ -31,7 +31,8 @@ any_kept : {X : Type 0} (p : X → Bool) (xs : List X) → list_any p xs ≡ is_
 any_kept p [] = refl
 any_kept p (x ∷ xs) = by (any_kept p xs) (p x)
   where
-    by : list_any p xs ≡ is_some_list (filter p xs) → (b : Bool) → (b || list_any p xs) ≡ is_some_list (cond b (x ∷ filter p xs) (filter p xs))
+    by : list_any p xs ≡ is_some_list (filter p xs) → (b : Bool)
+        → (b || list_any p xs) ≡ is_some_list (cond b (x ∷ filter p xs) (filter p xs))
     by rest true = refl
     by rest false = rest
 
@@ -41,21 +42,26 @@ some_mapped f (x ∷ xs) = refl
 
 some_with_item : (k : KeyParts) (xs : List KeyParts) → is_some_list (with_item key_cmp k xs) ≡ true
 some_with_item k [] = refl
-some_with_item k (x ∷ xs) = elim (key_cmp k x) as (λ r. is_some_list (by_order r (k ∷ x ∷ xs) (x ∷ xs) (x ∷ with_item key_cmp k xs)) ≡ true) [ Less ↦ refl | Equal ↦ refl | Greater ↦ refl ]
+some_with_item k (x ∷ xs) =
+    elim (key_cmp k x) as (λ r. is_some_list (by_order r (k ∷ x ∷ xs) (x ∷ xs) (x ∷ with_item key_cmp k xs)) ≡ true)
+    [ Less ↦ refl | Equal ↦ refl | Greater ↦ refl ]
 
 some_rising : (ks : List KeyParts) → is_some_list (rising key_cmp ks) ≡ is_some_list ks
 some_rising [] = refl
 some_rising (k ∷ ks) = some_with_item k (rising key_cmp ks)
 
 has_book_is : (held : List Operation) (book : List ℕ) → has_book held book ≡ is_some_list (keys_of held book)
-has_book_is held book = any_kept (of_book book) held ∙ sym (some_mapped (λ (o : Operation). o.segment.key) (filter (of_book book) held)) ∙ sym (some_rising (keys_in held book))
+has_book_is held book =
+    any_kept (of_book book) held ∙ sym (some_mapped (λ (o : Operation). o.segment.key) (filter (of_book book) held))
+    ∙ sym (some_rising (keys_in held book))
 
 -- what the first step of a walk over a book's keys says
-pub has_key : (held : List Operation) (book : List ℕ) (ks rest : List KeyParts) (first : Option KeyParts) → ks ≡ keys_of held book → MatchOption first ((ks ≡ []) × (rest ≡ [])) (λ k. ks ≡ k ∷ rest) → is_some first ≡ has_book held book
+pub has_key : (held : List Operation) (book : List ℕ) (ks rest : List KeyParts) (first : Option KeyParts) → ks ≡ keys_of held book
+    → MatchOption first ((ks ≡ []) × (rest ≡ [])) (λ k. ks ≡ k ∷ rest) → is_some first ≡ has_book held book
 has_key held book ks rest None e step = sym (has_book_is held book ∙ ap is_some_list (sym e ∙ step.0))
 has_key held book ks rest (Some k) e step = sym (has_book_is held book ∙ ap is_some_list (sym e ∙ step))
 
--- ---- what is told of a rising list is told of the list
+-- ---- what holds of a rising list holds of the list
 
 any_with_item : (f : KeyParts → Bool) (k : KeyParts) (xs : List KeyParts) → list_any f (with_item key_cmp k xs) ≡ (f k || list_any f xs)
 any_with_item f k [] = refl
@@ -70,7 +76,8 @@ any_with_item f k (x ∷ xs) = by (any_with_item f k xs) (key_cmp k x) refl
     swap true false c = refl
     swap false b c = refl
 
-    by : list_any f (with_item key_cmp k xs) ≡ (f k || list_any f xs) → (r : Ordering) → key_cmp k x ≡ r → list_any f (by_order r (k ∷ x ∷ xs) (x ∷ xs) (x ∷ with_item key_cmp k xs)) ≡ (f k || (f x || list_any f xs))
+    by : list_any f (with_item key_cmp k xs) ≡ (f k || list_any f xs) → (r : Ordering) → key_cmp k x ≡ r
+        → list_any f (by_order r (k ∷ x ∷ xs) (x ∷ xs) (x ∷ with_item key_cmp k xs)) ≡ (f k || (f x || list_any f xs))
     by rest Less e = refl
     by rest Equal e = twice (f x) (list_any f xs) ∙ ap (λ (i : KeyParts). f i || (f x || list_any f xs)) (sym (key_exact k x e))
     by rest Greater e = ap (λ b. f x || b) rest ∙ swap (f x) (f k) (list_any f xs)
@@ -93,7 +100,7 @@ module _ (p : KeyParts → Bool) where
   abbrev either : KeyParts → Bool
   either k = p (head_of k) || p k
 
-  -- after a head that was told already
+  -- after a head that came already
   told : (x y w r : Bool) → (x || w) ≡ (x || r) → (x || (y || w)) ≡ (x || ((x || y) || r))
   told true y w r e = refl
   told false y w r e = ap (λ b. y || b) e
@@ -111,17 +118,24 @@ module _ (p : KeyParts → Bool) where
   same_of_head : (k : KeyParts) → is_head k.place ≡ true → p (head_of k) ≡ p k
   same_of_head k h = ap p (is_own_head k.chapter k.place h)
 
-  any_later : (b : KeyParts) (ks : List KeyParts) → (p (head_of b) || list_any p (with_heads (Some b) ks)) ≡ (p (head_of b) || list_any either ks)
+  any_later : (b : KeyParts) (ks : List KeyParts)
+      → (p (head_of b) || list_any p (with_heads (Some b) ks)) ≡ (p (head_of b) || list_any either ks)
   any_later b [] = refl
   any_later b (k ∷ ks) = by (any_later k ks) (b.chapter == k.chapter) refl (is_head k.place) refl
     where
-      by : (p (head_of k) || list_any p (with_heads (Some k) ks)) ≡ (p (head_of k) || list_any either ks) → (c : Bool) → (b.chapter == k.chapter) ≡ c → (h : Bool) → is_head k.place ≡ h
-          → (p (head_of b) || list_any p (cond (not c && not h) (head_of k ∷ k ∷ []) (k ∷ []) ++ with_heads (Some k) ks)) ≡ (p (head_of b) || (either k || list_any either ks))
+      by : (p (head_of k) || list_any p (with_heads (Some k) ks)) ≡ (p (head_of k) || list_any either ks) → (c : Bool)
+          → (b.chapter == k.chapter) ≡ c → (h : Bool) → is_head k.place ≡ h
+          → (p (head_of b) || list_any p (cond (not c && not h) (head_of k ∷ k ∷ []) (k ∷ []) ++ with_heads (Some k) ks)) ≡ (p
+          (head_of b) || (either k || list_any either ks))
       by rest true e h f =
           let same : p (head_of k) ≡ p (head_of b) = ap (λ (c : ℕ). p (key_at c Head)) (sym (eqb-true b.chapter k.chapter e)) in
-          subst (λ (x : Bool). (x || (p k || list_any p (with_heads (Some k) ks))) ≡ (x || (either k || list_any either ks))) same (told (p (head_of k)) (p k) (list_any p (with_heads (Some k) ks)) (list_any either ks) rest)
-      by rest false e false f = ap (λ b'. p (head_of b) || b') (both (p (head_of k)) (p k) (list_any p (with_heads (Some k) ks)) (list_any either ks) rest)
-      by rest false e true f = ap (λ b'. p (head_of b) || b') (one (p (head_of k)) (p k) (list_any p (with_heads (Some k) ks)) (list_any either ks) (same_of_head k f) rest)
+          subst (λ (x : Bool). (x || (p k || list_any p (with_heads (Some k) ks))) ≡ (x || (either k || list_any either ks))) same
+          (told (p (head_of k)) (p k) (list_any p (with_heads (Some k) ks)) (list_any either ks) rest)
+      by rest false e false f =
+          ap (λ b'. p (head_of b) || b') (both (p (head_of k)) (p k) (list_any p (with_heads (Some k) ks)) (list_any either ks) rest)
+      by rest false e true f =
+          ap (λ b'. p (head_of b) || b') (one (p (head_of k)) (p k) (list_any p (with_heads (Some k) ks)) (list_any either ks)
+          (same_of_head k f) rest)
 
   any_heads : (ks : List KeyParts) → list_any p (with_heads None ks) ≡ list_any either ks
   any_heads [] = refl
@@ -134,7 +148,8 @@ module _ (p : KeyParts → Bool) where
 
   any_paired : (ks : List KeyParts) → list_any p (flat_map (λ key. head_of key ∷ key ∷ []) ks) ≡ list_any either ks
   any_paired [] = refl
-  any_paired (k ∷ ks) = grouped (p (head_of k)) (p k) (list_any p (flat_map (λ key. head_of key ∷ key ∷ []) ks)) ∙ ap (λ b. either k || b) (any_paired ks)
+  any_paired (k ∷ ks) =
+      grouped (p (head_of k)) (p k) (list_any p (flat_map (λ key. head_of key ∷ key ∷ []) ks)) ∙ ap (λ b. either k || b) (any_paired ks)
     where
       grouped : (a b c : Bool) → (a || (b || c)) ≡ ((a || b) || c)
       grouped true b c = refl
@@ -157,7 +172,8 @@ head_first c (Verse n l) h = ap (λ (o : Ordering). is_lt (ordering_then o Less)
 before_head : (b k : KeyParts) → (b.chapter == k.chapter) ≡ false → is_lt (key_cmp b k) ≡ true → is_lt (key_cmp b (head_of k)) ≡ true
 before_head b k e l = by (nat_cmp b.chapter k.chapter) refl l
   where
-    by : (o : Ordering) → nat_cmp b.chapter k.chapter ≡ o → is_lt (ordering_then o (place_cmp b.place k.place)) ≡ true → is_lt (ordering_then o (place_cmp b.place Head)) ≡ true
+    by : (o : Ordering) → nat_cmp b.chapter k.chapter ≡ o → is_lt (ordering_then o (place_cmp b.place k.place)) ≡ true
+        → is_lt (ordering_then o (place_cmp b.place Head)) ≡ true
     by Less f l = refl
     by Equal f l = absurd (true≢false (sym (eq-eqb b.chapter k.chapter (exact_unsigned b.chapter k.chapter f)) ∙ e))
     by Greater f l = absurd (true≢false (sym l))
@@ -167,10 +183,12 @@ over_heads b [] h r = refl
 over_heads b (k ∷ ks) h r =
     let q = first_above key_cmp key_total (λ (x : KeyParts). x) b k ks h in
     let s = parts key_cmp key_total (λ (x : KeyParts). x) k ks r in
-    let later = above_trans key_cmp key_total (λ (x : KeyParts). x) b k (with_heads (Some k) ks) (is_less _ q.0) (over_heads k ks s.0 s.1) in
+    let later = above_trans key_cmp key_total (λ (x : KeyParts). x) b k (with_heads (Some k) ks) (is_less _ q.0)
+    (over_heads k ks s.0 s.1) in
     by q.0 (and_from _ _ q.0 later) (b.chapter == k.chapter) refl (is_head k.place)
   where
-    by : is_lt (key_cmp b k) ≡ true → Over b (k ∷ with_heads (Some k) ks) → (c : Bool) → (b.chapter == k.chapter) ≡ c → (h : Bool) → Over b (cond (not c && not h) (head_of k ∷ k ∷ []) (k ∷ []) ++ with_heads (Some k) ks)
+    by : is_lt (key_cmp b k) ≡ true → Over b (k ∷ with_heads (Some k) ks) → (c : Bool) → (b.chapter == k.chapter) ≡ c → (h : Bool)
+        → Over b (cond (not c && not h) (head_of k ∷ k ∷ []) (k ∷ []) ++ with_heads (Some k) ks)
     by l own true e h = own
     by l own false e true = own
     by l own false e false = and_from _ _ (before_head b k e l) own
@@ -195,11 +213,13 @@ rise_heads before (k ∷ ks) h =
         no false true e = sym e
         no false false e = refl
 
-    by : Over k (with_heads (Some k) ks) → keys_rise (k ∷ with_heads (Some k) ks) ≡ true → (t : Bool) → lacks_head before k ≡ t → keys_rise (cond t (head_of k ∷ k ∷ []) (k ∷ []) ++ with_heads (Some k) ks) ≡ true
+    by : Over k (with_heads (Some k) ks) → keys_rise (k ∷ with_heads (Some k) ks) ≡ true → (t : Bool) → lacks_head before k ≡ t
+        → keys_rise (cond t (head_of k ∷ k ∷ []) (k ∷ []) ++ with_heads (Some k) ks) ≡ true
     by over own false e = own
     by over own true e =
         let first : is_lt (key_cmp (head_of k) k) ≡ true = head_first k.chapter k.place (no_head before e) in
-        and_from _ _ (and_from _ _ first (above_trans key_cmp key_total (λ (x : KeyParts). x) (head_of k) k (with_heads (Some k) ks) (is_less _ first) over)) own
+        and_from _ _ (and_from _ _ first (above_trans key_cmp key_total (λ (x : KeyParts). x) (head_of k) k (with_heads (Some k) ks)
+        (is_less _ first) over)) own
 
 -- the keys with an operation, each chapter's after its head, are those of the export
 pub heads_are : (held : List Operation) (book : List ℕ) → with_heads None (keys_of held book) ≡ exported_keys held book

@@ -4,7 +4,8 @@ use Rattle.std.proofs.lemmas.List.{drop-set-lt, drop-drop, drop-replicate}
 use Rattle.usfm_export.specs.Padded.{IsPadded}
 
 -- one byte more of the text, at the place of the first zero
-pub IsPadded-set : (width : ℕ) (bytes : List ℕ) (len byte : ℕ) → len < width → IsPadded width bytes len → IsPadded width (set bytes len byte) (len + 1)
+pub IsPadded-set : (width : ℕ) (bytes : List ℕ) (len byte : ℕ) → len < width → IsPadded width bytes len
+    → IsPadded width (set bytes len byte) (len + 1)
 IsPadded-set width bytes len byte room h =
     let fewer : width - len - 1 ≡ width - (len + 1) = omega arith in
     record {

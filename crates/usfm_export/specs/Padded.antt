@@ -18,4 +18,5 @@ length-text width bytes len h =
 -- the text with its zeros is the bytes
 pub padded-text : (width : ℕ) (bytes : List ℕ) (len : ℕ) → IsPadded width bytes len → padded width (take len bytes) ≡ bytes
 padded-text width bytes len h =
-    ap (λ (n : ℕ). take len bytes ++ replicate (width - n) 0) (length-text width bytes len h) ∙ (ap (λ (zeros : List ℕ). take len bytes ++ zeros) (sym h.zeros) ∙ take-append-drop len bytes)
+    ap (λ (n : ℕ). take len bytes ++ replicate (width - n) 0) (length-text width bytes len h)
+    ∙ (ap (λ (zeros : List ℕ). take len bytes ++ zeros) (sym h.zeros) ∙ take-append-drop len bytes)

@@ -46,7 +46,8 @@ pub fn write_book<W: ByteSink>(
     sink: &mut W,
 ) -> Result<(), ExportFault>
     ensures answers { AnswersBook replica.now.held book (W.taken sink.old) (W.taken sink.new) result }
-    ensures is_book { OnOk result (IsBookOf replica.now.held book (exports.export replica.now.held book)) }
+    ensures is_book { OnOk result
+        (IsBookOf replica.now.held book (exports.export replica.now.held book)) }
     ensures failed { W.failures sink.new ≡ sink_failures result (W.failures sink.old) }
 {
     if !has_book(replica, book) {
@@ -72,7 +73,8 @@ fn write_keys<W: ByteSink>(replica: &Replica, book: Book, sink: &mut W) -> Resul
     ensures all { OnOk result
         (Appends (W.taken sink.old) (W.taken sink.new) (exports.export replica.now.held book)) }
     ensures front { IfErr result (λ fault.
-        TakesFront (W.taken sink.old) (W.taken sink.new) (exports.export replica.now.held book) 0 fault.gone) }
+        TakesFront (W.taken sink.old) (W.taken sink.new) (exports.export replica.now.held book)
+        0 fault.gone) }
     ensures failed { W.failures sink.new ≡ failures_after result (W.failures sink.old) }
 {
     let mut gone = 0;
@@ -95,9 +97,11 @@ fn write_key<W: ByteSink>(
     gone: u64,
 ) -> Result<u64, WriteFault>
     ensures all { IfOk result (λ total.
-        TakesAll (W.taken sink.old) (W.taken sink.new) (texts_at replica.now.held book (with_head before key)) gone total) }
+        TakesAll (W.taken sink.old) (W.taken sink.new)
+        (texts_at replica.now.held book (with_head before key)) gone total) }
     ensures front { IfErr result (λ fault.
-        TakesFront (W.taken sink.old) (W.taken sink.new) (texts_at replica.now.held book (with_head before key)) gone fault.gone) }
+        TakesFront (W.taken sink.old) (W.taken sink.new)
+        (texts_at replica.now.held book (with_head before key)) gone fault.gone) }
     ensures failed { W.failures sink.new ≡ failures_after result (W.failures sink.old) }
 {
     if !lacks_head(before, key) {
@@ -110,13 +114,16 @@ fn write_key<W: ByteSink>(
 // Writes a picked text of a book of which `gone` bytes are gone out, and answers how many are then.
 fn write_picked<W: ByteSink>(sink: &mut W, gone: u64, choice: Picked<'_>) -> Result<u64, WriteFault>
     ensures all { IfOk result (λ total.
-        TakesAll (W.taken sink.old) (W.taken sink.new) (picked_text (picked choice.entry)) gone total) }
+        TakesAll (W.taken sink.old) (W.taken sink.new) (picked_text (picked choice.entry))
+        gone total) }
     ensures front { IfErr result (λ fault.
-        TakesFront (W.taken sink.old) (W.taken sink.new) (picked_text (picked choice.entry)) gone fault.gone) }
+        TakesFront (W.taken sink.old) (W.taken sink.new) (picked_text (picked choice.entry))
+        gone fault.gone) }
     ensures failed { W.failures sink.new ≡ failures_after result (W.failures sink.old) }
 {
     match choice {
-        Picked::Held(op) => write_more(sink, gone, op.text().as_bytes()),
+        // What is picked is shown, so it has its text.
+        Picked::Held(op) => write_more(sink, gone, op.text_or_empty().as_bytes()),
         Picked::ChapterLine(chapter) => write_more(sink, gone, chapter_line(chapter).bytes()),
         Picked::Nothing => Ok(gone),
     }

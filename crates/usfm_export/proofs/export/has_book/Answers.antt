@@ -3,4 +3,6 @@ use Rattle.usfm_export.proofs.Heads.{has_key}
 use Rattle.usfm_export.proofs.export.has_book.Goals as goal
 
 pub returns-clause-has : goal.returns-clause-has
-returns-clause-has c = c.is_some.ensures ∙ has_key c.args.replica.now.held c.args.book c.keys.result c.next.new.self c.next.result c.keys.ensures c.next.ensures.steps
+returns-clause-has c =
+    c.is_some.ensures
+    ∙ has_key c.args.replica.now.held c.args.book c.keys.result c.next.new.self c.next.result c.keys.ensures c.next.ensures.steps

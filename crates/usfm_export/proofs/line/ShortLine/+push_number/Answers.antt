@@ -8,8 +8,16 @@ use Rattle.usfm_export.proofs.line.ShortLine.+push_number.Goals.{then-number-ge1
 pub push_number-requires : goal.push_number-requires
 push_number-requires t c =
     let n : ℕ = c.args.number in
-    let last : List ℕ = (48 + n % 10) ∷ [] in
-    (omega arith, omega (arith, c.requires, ap length (decimal_step n c.if-number-ge10.true (omega arith)), length-append (decimal (n / 10)) last))
+    let last : List ℕ = (48 + n % 10) ∷ [] in (
+      omega arith,
+      omega (
+        arith,
+        c.requires,
+        ap length (decimal_step n c.if-number-ge10.true (omega arith)),
+        length-append (decimal (n / 10))
+            last,
+      ),
+    )
 
 -- the last digit
 pub push-requires : goal.push-requires
@@ -19,7 +27,15 @@ push-requires t c =
     let line : List ℕ = c.args.self.now in
     elim c.if-number-ge10.branch [
       | then-number-ge10 w ↦
-          omega (arith, c.requires, ap length w.self-is, w.push_number.ensures.len, ap length (decimal_step n w.if-number-ge10.true (omega arith)), length-append (decimal (n / 10)) last)
+          omega (
+            arith,
+            c.requires,
+            ap length w.self-is,
+            w.push_number.ensures.len,
+            ap length
+                (decimal_step n w.if-number-ge10.true (omega arith)),
+            length-append (decimal (n / 10)) last,
+          )
       | else-number-ge10 w ↦
           omega (arith, c.requires, ap length w.self-is, ap length (decimal_digit n w.if-number-ge10.false))
     ]
@@ -31,7 +47,8 @@ returns-clause-appended t c =
     let line : List ℕ = c.args.self.now in
     elim c.if-number-ge10.branch [
       | then-number-ge10 w ↦
-          c.push.ensures ∙ ap (λ (bytes : List ℕ). bytes ++ last) (w.self-is ∙ w.push_number.ensures.appended) ∙ append_assoc line (decimal (n / 10)) last
+          c.push.ensures ∙ ap (λ (bytes : List ℕ). bytes ++ last) (w.self-is ∙ w.push_number.ensures.appended)
+          ∙ append_assoc line (decimal (n / 10)) last
           ∙ ap (λ (bytes : List ℕ). line ++ bytes) (sym (decimal_step n w.if-number-ge10.true (omega arith)))
       | else-number-ge10 w ↦
           let digit : n % 10 ≡ n = omega (arith, w.if-number-ge10.false) in
@@ -47,7 +64,15 @@ returns-clause-len t c =
     let pushed = ap length c.push.ensures ∙ length-append after last in
     elim c.if-number-ge10.branch [
       | then-number-ge10 w ↦
-          omega (arith, pushed, ap length w.self-is, w.push_number.ensures.len, ap length (decimal_step n w.if-number-ge10.true (omega arith)), length-append (decimal (n / 10)) last)
+          omega (
+            arith,
+            pushed,
+            ap length w.self-is,
+            w.push_number.ensures.len,
+            ap length
+                (decimal_step n w.if-number-ge10.true (omega arith)),
+            length-append (decimal (n / 10)) last,
+          )
       | else-number-ge10 w ↦
           omega (arith, pushed, ap length w.self-is, ap length (decimal_digit n w.if-number-ge10.false))
     ]
