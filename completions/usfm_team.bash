@@ -1,7 +1,7 @@
 # Completes the words of usfm_team in bash: put the line `. PATH/completions/usfm_team.bash` into ~/.bashrc.
 
 _usfm_team() {
-    local commands="init import edit edit-over shown receive send export summary delta report check find words fold help"
+    local commands="init import edit edit-over shown receive send export summary delta report check find words thin fold help"
     local books="GEN EXO LEV NUM DEU JOS JDG RUT 1SA 2SA 1KI 2KI 1CH 2CH EZR NEH EST JOB PSA PRO ECC SNG
         ISA JER LAM EZK DAN HOS JOL AMO OBA JON MIC NAM HAB ZEP HAG ZEC MAL MAT MRK LUK JHN ACT
         ROM 1CO 2CO GAL EPH PHP COL 1TH 2TH 1TI 2TI TIT PHM HEB JAS 1PE 2PE 1JN 2JN 3JN JUD REV"
@@ -13,7 +13,7 @@ _usfm_team() {
     fi
     # What each command asks for, word by word; what is not listed is free text.
     case $command in
-        init | edit | edit-over | shown | send | summary | report) asked="file" ;;
+        init | edit | edit-over | shown | send | summary | report | thin) asked="file" ;;
         import | receive | delta) asked="file file" ;;
         export) asked="file book" ;;
         check | find | words) asked="file book file" ;;

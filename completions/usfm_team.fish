@@ -25,13 +25,14 @@ complete -c usfm_team -n __fish_use_subcommand -a report -d 'Reports the conflic
 complete -c usfm_team -n __fish_use_subcommand -a check -d 'Checks the marks and the numbers of a book'
 complete -c usfm_team -n __fish_use_subcommand -a find -d 'Finds a text in the verses of a book'
 complete -c usfm_team -n __fish_use_subcommand -a words -d 'Lists the words of a book'
+complete -c usfm_team -n __fish_use_subcommand -a thin -d 'Leaves out the texts that were replaced'
 complete -c usfm_team -n __fish_use_subcommand -a fold -d 'Joins bundles and writes a book'
 complete -c usfm_team -n __fish_use_subcommand -a help -d 'Prints the help of a command'
 complete -c usfm_team -n __fish_use_subcommand -l help -d 'Prints help'
 complete -c usfm_team -n __fish_use_subcommand -l version -d 'Prints the version'
-complete -c usfm_team -n '__usfm_team_at 0 init import edit edit-over shown receive send export summary delta report check find words' -F
+complete -c usfm_team -n '__usfm_team_at 0 init import edit edit-over shown receive send export summary delta report check find words thin' -F
 complete -c usfm_team -n '__usfm_team_at 1 import receive delta' -F
 complete -c usfm_team -n '__usfm_team_at 2 check find words' -F
 complete -c usfm_team -n '__usfm_team_at 1 export check find words' -a "$__usfm_team_books"
 complete -c usfm_team -n '__usfm_team_at 0 fold' -a "$__usfm_team_books"
-complete -c usfm_team -n '__usfm_team_at 0 help' -a 'init import edit edit-over shown receive send export summary delta report check find words fold'
+complete -c usfm_team -n '__usfm_team_at 0 help' -a 'init import edit edit-over shown receive send export summary delta report check find words thin fold'

@@ -6,33 +6,36 @@ use Rattle.op_core.specs.Ops.{Operation}
 use Rattle.op_core.specs.Sets.{IsOpSet, clash, join}
 use Rattle.op_core.specs.Export.{has_book, export}
 use Rattle.op_core.proofs.Union.{IsOpSet-join}
-use Rattle.bundle_codec.specs.Spelling.{AreCounted}
 use Rattle.usfm_export.specs.Books.{IsBookOf}
 use Rattle.usfm_export.proofs.Books.{is_book}
 use Rattle.usfm_cli.specs.Books.{FoldedBooksCutBack}
-use Rattle.usfm_cli.specs.Streams.{unless_clash, union_in, union_with, book_in}
+use Rattle.usfm_cli.specs.Streams.{unless_clash, union_in, union_with, HasBundle, book_in}
 use Rattle.usfm_cli.specs.declared.fault.Fault.{Fault}
 use Rattle.usfm_cli.specs.declared.fault.Fault.TheVariants.{NoBook}
 use Rattle.usfm_cli.proofs.StreamLemmas.{stream_of}
 
 -- the union of sets is a set
-union_is_set : (held : List Operation) (sets : List (List Operation)) (union : List Operation) → IsOpSet held → AllByRecursion (λ set. IsOpSet set × AreCounted set) sets → union_with held sets ≡ Ok union → IsOpSet union
+union_is_set : (held : List Operation) (sets : List (List Operation)) (union : List Operation) → IsOpSet held →
+    AllByRecursion HasBundle sets → union_with held sets ≡ Ok union → IsOpSet union
 union_is_set held [] union h each e = let is : held ≡ union = cc in subst IsOpSet is h
 union_is_set held (set ∷ sets) union h each e =
-    by (union_is_set (join held set) sets union (IsOpSet-join held set h each.0.0) each.1) (clash held set) e
+    by (union_is_set (join held set) sets union (IsOpSet-join held set h each.0.set) each.1) (clash held set) e
   where
-    by : (union_with (join held set) sets ≡ Ok union → IsOpSet union) → (o : Option Id) → unless_clash o (union_with (join held set) sets) ≡ Ok union → IsOpSet union
+    by : (union_with (join held set) sets ≡ Ok union → IsOpSet union) → (o : Option Id) →
+        unless_clash o (union_with (join held set) sets) ≡ Ok union → IsOpSet union
     by later None e = later e
     by later (Some id) e = absurd (cc)
 
 pub folded_books_cut_back : FoldedBooksCutBack
 folded_books_cut_back book input text bytes h = by (union_in [] input) refl h
   where
-    by_book : (union : List Operation) → IsOpSet union → (b : Bool) → cond b (Ok (export union book)) (Err NoBook) ≡ Ok text → IsBookOf union book text
+    by_book : (union : List Operation) → IsOpSet union → (b : Bool) →
+        cond b (Ok (export union book)) (Err NoBook) ≡ Ok text → IsBookOf union book text
     by_book union set true h = let is : export union book ≡ text = cc in subst (IsBookOf union book) is (is_book union book set)
     by_book union set false h = absurd (cc)
 
-    by : (u : Result (List Operation) Fault) → union_in [] input ≡ u → book_in book u ≡ Ok text → (union : List Operation) × (union_in [] input ≡ Ok union) × IsBookOf union book text
+    by : (u : Result (List Operation) Fault) → union_in [] input ≡ u → book_in book u ≡ Ok text →
+        (union : List Operation) × (union_in [] input ≡ Ok union) × IsBookOf union book text
     by (Err fault) e h = absurd (cc)
     by (Ok union) e h =
         let stream = stream_of input union bytes e in

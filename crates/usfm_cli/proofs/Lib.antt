@@ -4,5 +4,7 @@ pub mod Unions
 pub mod StreamLemmas
 pub mod BooksCutBack
 pub mod ReadTheSame
+pub mod ReadAlike
 pub mod Running
 pub mod Searched
+pub mod Headline

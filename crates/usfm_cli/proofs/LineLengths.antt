@@ -13,7 +13,8 @@ pub digits_of_count : (n : ℕ) → n < 2 ^ 64 → length (decimal n) ≤ 20
 digits_of_count n h = length-decimal-le 20 n (omega arith) (omega arith) h
 
 pub digits_of_id : (n : ℕ) → is_number n ≡ true → length (decimal n) ≤ 16
-digits_of_id n h = let most : n ≤ 1000000000000000 = leb-true n 1000000000000000 (and_parts (leb 1 n) (leb n 1000000000000000) h).1 in length-decimal-le 16 n (omega arith) (omega arith) (omega arith)
+digits_of_id n h = let most : n ≤ 1000000000000000 = leb-true n 1000000000000000 (and_parts (leb 1 n) (leb n 1000000000000000) h).1 in
+    length-decimal-le 16 n (omega arith) (omega arith) (omega arith)
 
 pub bytes_of_name : (text : List ℕ) → is_name text ≡ true → length text ≤ 32
 bytes_of_name text h = leb-true _ _ (and_parts _ _ (and_parts _ _ h).0).1

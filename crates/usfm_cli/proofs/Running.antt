@@ -21,8 +21,10 @@ pub record Leads (first : List ℕ) (commands : List Command) (file : List ℕ) 
 pub leads_start : (first : List ℕ) (commands : List Command) → Leads first commands first commands
 leads_start first commands = record { same_file = refl; run = λ s loads. record { now = s; loads = loads; leads = refl } }
 
-module _ (first : List ℕ) (commands : List Command) (file next : List ℕ) (command : Command) (left : List Command) (l : Leads first commands file (command ∷ left)) where
-  pub leads_on : next ≡ file_or file (executed file command) → ((s : State) → project_at file ≡ Ok s → project_at next ≡ Ok (state_or s (outcome s command))) → Leads first commands next left
+module _ (first : List ℕ) (commands : List Command) (file next : List ℕ) (command : Command) (left : List Command)
+    (l : Leads first commands file (command ∷ left)) where
+  pub leads_on : next ≡ file_or file (executed file command) →
+      ((s : State) → project_at file ≡ Ok s → project_at next ≡ Ok (state_or s (outcome s command))) → Leads first commands next left
   leads_on e after = record {
     same_file = ap (λ (bytes : List ℕ). file_after bytes left) e ∙ l.same_file;
     run = λ s loads.
@@ -31,7 +33,8 @@ module _ (first : List ℕ) (commands : List Command) (file next : List ℕ) (co
   }
 
 -- a refused command leaves a replica as it is
-pub refused_stays : (file : List ℕ) (command : Command) (s : State) (fault : Fault) → project_at file ≡ Ok s → executed file command ≡ Err fault → state_or s (outcome s command) ≡ s
+pub refused_stays : (file : List ℕ) (command : Command) (s : State) (fault : Fault) → project_at file ≡ Ok s →
+    executed file command ≡ Err fault → state_or s (outcome s command) ≡ s
 refused_stays file command s fault loads e = by (outcome s command) (sym (ap (λ r. of_loaded r command) loads) ∙ e)
   where
     by : (r : Result Done Fault) → written r ≡ Err fault → state_or s r ≡ s

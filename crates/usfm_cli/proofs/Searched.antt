@@ -22,7 +22,9 @@ use Rattle.usfm_cli.specs.declared.fault.Fault.{Fault}
 pub is_told_as_text : (bytes text : List ℕ) → bytes ≡ text → IsUtf8 text → is_utf8 bytes ≡ false → ⊥
 is_told_as_text bytes text e is refused = false≢true (sym refused ∙ ap is_utf8 e ∙ is_utf8-from_IsUtf8 text is)
 
-pub searched_is : (held : List Operation) (book sheet needle : List ℕ) (records : List Record) → is_utf8 sheet ≡ true → sheet_of sheet ≡ Ok records → has_book held book ≡ true → searched held book sheet needle ≡ unless_empty needle (Ok (hit_lines book (hits_of records (export held book) needle)))
+pub searched_is : (held : List Operation) (book sheet needle : List ℕ) (records : List Record) →
+    is_utf8 sheet ≡ true → sheet_of sheet ≡ Ok records → has_book held book ≡ true →
+    searched held book sheet needle ≡ unless_empty needle (Ok (hit_lines book (hits_of records (export held book) needle)))
 searched_is held book sheet needle records is read has =
     let found = λ (r : List Record). of_book_text held book (λ text. unless_empty needle (Ok (hit_lines book (hits_of r text needle)))) in
     cond-true _ _ _ is ∙ ap (λ r. by_records r found) read ∙ cond-true _ _ _ has
@@ -36,7 +38,9 @@ pub search_is_late : (needle found : List ℕ) → MayWantMemory is_after_sheet 
 search_is_late [] found = refl
 search_is_late (b ∷ needle) found = tt
 
-pub search_refused : (A : Type 0) (needle found : List ℕ) (wanted : Result (List ℕ) Fault) (fault : FindFault) → wanted ≡ unless_empty needle (Ok found) → (fault ≡ finding.EmptyNeedle → needle ≡ []) → Gives {A = A} is_after_sheet wanted (Err (of_find fault))
+pub search_refused : (A : Type 0) (needle found : List ℕ) (wanted : Result (List ℕ) Fault) (fault : FindFault) →
+    wanted ≡ unless_empty needle (Ok found) → (fault ≡ finding.EmptyNeedle → needle ≡ []) →
+    Gives {A = A} is_after_sheet wanted (Err (of_find fault))
 search_refused A needle found wanted finding.Memory e h = subst (MayWantMemory is_after_sheet) (sym e) (search_is_late needle found)
 search_refused A needle found wanted finding.EmptyNeedle e h = e ∙ ap (λ (n : List ℕ). unless_empty n (Ok found)) (h refl)
 

@@ -1,23 +1,26 @@
 -- Streams of bundles, and the sets that they spell.
-use Rattle.std.proofs.Common.{◌≡◌, ℕ, zero, suc, ◌≤◌, List, [], ◌∷◌, ◌++◌, length, Option, Some, None, Result, Ok, Err, arith, length-append, refl, sym, ap, ◌∙◌}
+use Rattle.std.proofs.Common.{◌≡◌, ℕ, zero, suc, ◌≤◌, List, [], ◌∷◌, ◌++◌, length, Option, Some}
+use Rattle.std.proofs.Common.{None, Result, Ok, Err, arith, length-append, refl, sym, ap, ◌∙◌}
 use Rattle.std.specs.List.{AllByRecursion, flat_map}
 use Rattle.op_core.specs.Ids.{Id}
 use Rattle.op_core.specs.Ops.{Operation}
 use Rattle.op_core.specs.Sets.{IsOpSet, clash, join}
+use Rattle.op_core.specs.Thinned.{IsFullSet}
 use Rattle.op_core.specs.Laws.{Joining, joined_or_clash, with_both, union_by, SameTogether}
 use Rattle.op_core.specs.Laws.Joining.{Part, Joined}
 use Rattle.op_core.proofs.Together.{joined_in, same_from_none}
 use Rattle.bundle_codec.specs.declared.fault.BundleFault.{BundleFault}
-use Rattle.bundle_codec.specs.Spelling.{bundle, AreCounted}
+use Rattle.bundle_codec.specs.Spelling.{bundle}
 use Rattle.bundle_codec.specs.Reading.{AreBytes, bundle_at}
 use Rattle.bundle_codec.proofs.Spelled.{bundle_reads}
-use Rattle.usfm_cli.specs.Streams.{with_set, unless_clash, union_within, union_in, union_with, AreSpelled, book_in, book_of_stream}
+use Rattle.usfm_cli.specs.Streams.{with_set, unless_clash, union_within, union_in, union_with}
+use Rattle.usfm_cli.specs.Streams.{HasBundle, AreSpelled, book_in, book_of_stream}
 use Rattle.usfm_cli.specs.StreamLaws.{IsStreamOf}
 use Rattle.usfm_cli.specs.declared.fault.Fault.{Fault}
 use Rattle.usfm_cli.proofs.Unions.{next, bundle_is_some}
 
 abbrev AreEach : List (List Operation) → Type 0
-AreEach sets = AllByRecursion (λ set. IsOpSet set × AreCounted set) sets
+AreEach sets = AllByRecursion HasBundle sets
 
 within_end : (bound : ℕ) (held : List Operation) → union_within bound held [] ≡ Ok held
 unfolding union_within
@@ -26,12 +29,14 @@ within_end (suc bound) held = refl
 
 -- ---- from the sets to the stream
 
-pub to_union : (bound : ℕ) (held : List Operation) (sets : List (List Operation)) → AreEach sets → length (flat_map bundle sets) ≤ bound → union_within bound held (flat_map bundle sets) ≡ union_with held sets
+pub to_union : (bound : ℕ) (held : List Operation) (sets : List (List Operation)) → AreEach sets → length (flat_map bundle sets) ≤ bound →
+    union_within bound held (flat_map bundle sets) ≡ union_with held sets
 to_union bound held [] each w = within_end bound held
 to_union bound held (set ∷ rest) each w =
     let some = bundle_is_some set in
     let long = length-append (bundle set) (flat_map bundle rest) in
-    let n = next bound held (bundle set ++ flat_map bundle rest) w (omega arith) (Ok (set, flat_map bundle rest)) (bundle_reads.again set (flat_map bundle rest) each.0) in
+    let n = next bound held (bundle set ++ flat_map bundle rest) w (omega arith) (Ok (set, flat_map bundle rest))
+    (bundle_reads.again set (flat_map bundle rest) ((each.0.set, each.0.counted), each.0.legal)) in
     n.2 ∙ ap (unless_clash (clash held set)) (to_union n.0 (join held set) rest each.1 (omega (arith, n.1)))
 
 -- ---- from the stream to the sets
@@ -48,7 +53,8 @@ no_clash (Some id) r x h = absurd cc
 
 -- one bundle and what is left
 read_on : (bound : ℕ) (held : List Operation) (bytes : List ℕ) (union : List Operation)
-    → ((set : List Operation) (left : List ℕ) → AreBytes left → length left ≤ bound → union_within bound (join held set) left ≡ Ok union → Spells (join held set) left union)
+    → ((set : List Operation) (left : List ℕ) → AreBytes left → length left ≤ bound → union_within bound (join held set) left ≡ Ok union →
+    Spells (join held set) left union)
     → AreBytes bytes → length bytes ≤ suc bound → (r : Result (List Operation × List ℕ) BundleFault) → bundle_at bytes ≡ r
     → with_set r (λ set left. unless_clash (clash held set) (union_within bound (join held set) left)) ≡ Ok union → Spells held bytes union
 read_on bound held bytes union rest b w (Err f) e h = absurd cc
@@ -60,17 +66,19 @@ read_on bound held bytes union rest b w (Ok p) e h =
     let s = rest p.0 p.1 t.0.rest_fits (omega arith) c.1 in
     record {
       sets = p.0 ∷ s.sets;
-      each = (t.1, s.each);
+      each = (record { set = t.1.0.0; legal = t.1.1; counted = t.1.0.1 }, s.each);
       bytes = t.0.parts ∙ ap (λ (left : List ℕ). bundle p.0 ++ left) s.bytes;
       is = ap (λ x. unless_clash x (union_with (join held p.0) s.sets)) c.0 ∙ s.is;
     }
 
-spells : (bound : ℕ) (held : List Operation) (input : List ℕ) (union : List Operation) → AreBytes input → length input ≤ bound → union_within bound held input ≡ Ok union → Spells held input union
+spells : (bound : ℕ) (held : List Operation) (input : List ℕ) (union : List Operation) → AreBytes input → length input ≤ bound →
+    union_within bound held input ≡ Ok union → Spells held input union
 unfolding union_within
 spells bound held [] union b w h = record { sets = []; each = tt; bytes = refl; is = h }
 spells zero held (x ∷ input) union b w h = absurd (omega arith)
 spells (suc bound) held (x ∷ input) union b w h =
-    read_on bound held (x ∷ input) union (λ set left b w h. spells bound (join held set) left union b w h) b w (bundle_at (x ∷ input)) refl h
+    read_on bound held (x ∷ input) union (λ set left b w h. spells bound (join held set) left union b w h) b w
+    (bundle_at (x ∷ input)) refl h
 
 pub stream_of : (input : List ℕ) (union : List Operation) → AreBytes input → union_in [] input ≡ Ok union → IsStreamOf input union
 stream_of input union b h =
@@ -83,7 +91,8 @@ gives_union sets input s =
 
 -- ---- order, grouping and repetition
 
-pub union_joined : (way : Joining) (held : List Operation) (sets : List (List Operation)) (union : List Operation) → union_by way ≡ Ok held → union_with held sets ≡ Ok union → union_by (joined_in way sets) ≡ Ok union
+pub union_joined : (way : Joining) (held : List Operation) (sets : List (List Operation)) (union : List Operation) →
+    union_by way ≡ Ok held → union_with held sets ≡ Ok union → union_by (joined_in way sets) ≡ Ok union
 union_joined way held [] union w h = let same : held ≡ union = cc h in w ∙ ap Ok same
 union_joined way held (set ∷ rest) union w h =
     let c = no_clash (clash held set) (union_with (join held set) rest) union h in
@@ -91,14 +100,13 @@ union_joined way held (set ∷ rest) union w h =
     ap (λ r. with_both r (Ok set) (λ a b. joined_or_clash a b (clash a b))) w ∙ ap (joined_or_clash held set) c.0 in
     union_joined (Joined way (Part set)) (join held set) rest union more c.1
 
-pub are_sets : (sets : List (List Operation)) → AreEach sets → AllByRecursion IsOpSet sets
-are_sets [] each = tt
-are_sets (set ∷ rest) each = (each.0.0, are_sets rest each.1)
-
-pub same_books : (sets others : List (List Operation)) (input other : List ℕ) (a b : List Operation) → AreSpelled sets input → AreSpelled others other → SameTogether sets others → union_in [] input ≡ Ok a → union_in [] other ≡ Ok b → (book : List ℕ) → book_of_stream book input ≡ book_of_stream book other
-same_books sets others input other a b s t same ha hb book = ap (book_in book) (ha ∙ ap Ok union ∙ sym hb)
+pub same_books : (sets others : List (List Operation)) (input other : List ℕ) (a b : List Operation) →
+    AreSpelled sets input → AreSpelled others other
+    → AllByRecursion IsFullSet sets → AllByRecursion IsFullSet others → SameTogether sets others → union_in [] input ≡ Ok a →
+    union_in [] other ≡ Ok b → (book : List ℕ) → book_of_stream book input ≡ book_of_stream book other
+same_books sets others input other a b s t full other_full same ha hb book = ap (book_in book) (ha ∙ ap Ok union ∙ sym hb)
   where
     union : a ≡ b
-    union = same_from_none sets others a b (are_sets sets s.each) (are_sets others t.each) same
+    union = same_from_none sets others a b full other_full same
         (union_joined (Part []) [] sets a refl (sym (gives_union sets input s) ∙ ha))
         (union_joined (Part []) [] others b refl (sym (gives_union others other t) ∙ hb))

@@ -8,7 +8,8 @@ use Rattle.usfm_cli.specs.Streams.{union_in, book_of_stream}
 
 -- the source gave bundles, and the sink took the export of a book of their union, which cuts back into the picked
 -- texts
-pub record WritesBook (book : List ℕ) (to_come left : Option (List ℕ)) (before after : Option (List ℕ)) : Type 0 where
+pub record WritesBook (book : List ℕ) (to_come left : Option (List ℕ))
+    (before after : Option (List ℕ)) : Type 0 where
   pub given : List ℕ
   pub consumed : Consumes to_come left given
   pub union : List Operation

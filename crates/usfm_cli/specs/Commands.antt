@@ -1,29 +1,36 @@
 -- What a command does to a replica, and what it answers (this project's own rule, over the steps of a replica).
-use Rattle.std.specs.Prelude.{◌≡◌, ℕ, List, [], ◌∷◌, ◌++◌, length, codes, Option, None, Some, Result, Ok, Err, Vec, Bool, true, false, IsTrue, if◌then◌else◌}
+use Rattle.std.specs.Prelude.{◌≡◌, ℕ, List, [], ◌∷◌, ◌++◌, length, codes, Option, None, Some}
+use Rattle.std.specs.Prelude.{Result, Ok, Err, Vec, Bool, true, false, not, IsTrue, if◌then◌else◌}
 use Rattle.std.specs.Fmt.{decimal}
 use Rattle.std.specs.List.{flat_map}
 use Rattle.std.specs.Str.{is_utf8}
 use Rattle.std.specs.Str.Lossy.{utf8_valid_len}
 use Rattle.usfm_ref.specs.Segments.{Segment, segment}
 use Rattle.op_core.specs.Ids.{Id}
-use Rattle.op_core.specs.Ops.{Operation}
+use Rattle.op_core.specs.Ops.{Operation, own_text}
 use Rattle.op_core.specs.Shown.{shown}
 use Rattle.op_core.specs.Export.{has_book, export}
+use Rattle.op_core.specs.Thinned.{all_full}
+use Rattle.bundle_codec.specs.declared.fault.BundleFault.{BundleFault}
 use Rattle.bundle_codec.specs.declared.fault.WholeFault.{WholeFault}
+use Rattle.bundle_codec.specs.Reading.{fields_at}
 use Rattle.bundle_codec.specs.Spelling.{bundle}
 use Rattle.bundle_codec.specs.Joining.{whole_at}
 use Rattle.replica_state.specs.States.{State}
 use Rattle.replica_state.specs.Steps as steps
-use Rattle.replica_state.specs.Steps.{Step, Reply, Received, Edited, Imported, step}
+use Rattle.replica_state.specs.Steps.{Step, Reply, Received, Edited, Imported, Thinned, step}
 use Rattle.bundle_codec.specs.Summaries.{Known, summary, summary_of, outside}
 use Rattle.bundle_codec.specs.SummaryReading.{read_summary}
 use Rattle.conflict_report.specs.Reports.{report}
 use Rattle.usfm_cli.specs.Faults.{of_receiving, of_edit, of_import, of_whole}
 use Rattle.usfm_cli.specs.Looking.{checked, searched, listed, is_after_sheet}
 use Rattle.usfm_cli.specs.declared.command.Command.{Command}
-use Rattle.usfm_cli.specs.declared.command.Command.TheVariants.{Import, Edit, EditOver, Receive, Shown, Send, Export, Summary, Delta, Report, Check, Find, Words}
+use Rattle.usfm_cli.specs.declared.command.Command.TheVariants.{Import, Edit, EditOver, Receive}
+use Rattle.usfm_cli.specs.declared.command.Command.TheVariants.{Thin, Shown, Send, Export, Summary}
+use Rattle.usfm_cli.specs.declared.command.Command.TheVariants.{Delta, Report, Check, Find, Words}
 use Rattle.usfm_cli.specs.declared.fault.Fault.{Fault}
-use Rattle.usfm_cli.specs.declared.fault.Fault.TheVariants.{Memory, NotText, NoBook, BadSummary, Clash, NumbersUsedUp}
+use Rattle.usfm_cli.specs.declared.fault.Fault.TheVariants.{Memory, NotText, NoBook}
+use Rattle.usfm_cli.specs.declared.fault.Fault.TheVariants.{BadSummary, Clash, NumbersUsedUp}
 
 -- the replica after a command, and what the command writes
 pub record Done : Type 0 where
@@ -40,10 +47,11 @@ id_text id = decimal id.number ++ 32 ∷ id.name
 
 -- a shown operation: a line with its id and the length of its text, the text, and a line feed
 abbrev pub shown_line : Operation → List ℕ
-shown_line o = line_of (codes "op") (id_text o.id ++ 32 ∷ decimal (length o.text)) ++ o.text ++ 10 ∷ []
+shown_line o = line_of (codes "op") (id_text o.id ++ 32 ∷ decimal (length (own_text o)))
+    ++ own_text o ++ 10 ∷ []
 
 -- what a command writes of a step: how many operations are new, the id that an edit made, how many edits an import
--- made; or the step's refusal
+-- made, how many texts were left out; or the step's refusal
 abbrev pub told : Reply → Result (List ℕ) Fault
 told (Received (Ok count)) = Ok (line_of (codes "new") (decimal count))
 told (Received (Err fault)) = Err (of_receiving fault)
@@ -51,6 +59,7 @@ told (Edited (Ok id)) = Ok (line_of (codes "made") (id_text id))
 told (Edited (Err fault)) = Err (of_edit fault)
 told (Imported (Ok count)) = Ok (line_of (codes "added") (decimal count))
 told (Imported (Err fault)) = Err (of_import fault)
+told (Thinned count) = Ok (line_of (codes "thinned") (decimal count))
 
 -- the replica after a command with what the command writes, or the refusal
 abbrev pub done_if : State → Result (List ℕ) Fault → Result Done Fault
@@ -82,6 +91,10 @@ edit_done s g text = with_text text (done (step s (steps.Edit g text)))
 abbrev pub edit_over_done : State → Segment → List ℕ → List Id → Result Done Fault
 edit_over_done s g text ids = with_text text (done (step s (steps.EditOver g text ids)))
 
+-- the step of a thinning
+abbrev pub thin_done : State → Result Done Fault
+thin_done s = done (step s steps.Thin)
+
 -- what a segment shows, operation by operation: a line, the text and a line feed for each
 abbrev pub shown_text : List Operation → Segment → List ℕ
 shown_text held g = flat_map shown_line (shown held g)
@@ -102,6 +115,7 @@ outcome s (Import file) = import_done s file.now
 outcome s (Edit book key text) = edit_done s (segment book key) text.now
 outcome s (EditOver book key text ids) = edit_over_done s (segment book key) text.now ids.now
 outcome s (Receive bytes) = with_bundle s (whole_at bytes.now)
+outcome s Thin = thin_done s
 outcome s (Shown book key) = done_if s (Ok (shown_text s.held (segment book key)))
 outcome s Send = done_if s (Ok (bundle s.held))
 outcome s (Export book) = done_if s (export_text s.held book)
@@ -118,6 +132,7 @@ only_tells (Import file) = false
 only_tells (Edit book key text) = false
 only_tells (EditOver book key text ids) = false
 only_tells (Receive bytes) = false
+only_tells Thin = false
 only_tells (Shown book key) = true
 only_tells Send = true
 only_tells (Export book) = true
@@ -134,24 +149,30 @@ only_tells (Words book sheet) = true
 abbrev pub no_fault : Fault → Bool
 no_fault fault = false
 
--- the fault is a clash
-abbrev pub is_clash : Fault → Bool
-is_clash (Clash id) = true
-is_clash fault = false
+-- whether an operation is thinned, of those that are right each by itself
+abbrev pub has_thinned : Result ((Bool × List Operation) × List ℕ) BundleFault → Bool
+has_thinned (Ok fields) = not (all_full fields.0.1)
+has_thinned (Err fault) = false
+
+-- the fault is a clash, or it is found once each field of the bytes was right and an operation is thinned
+abbrev pub is_late_in : List ℕ → Fault → Bool
+is_late_in bytes (Clash id) = true
+is_late_in bytes fault = has_thinned (fields_at bytes)
 
 -- the fault is that no number is left
 abbrev pub is_numbers_used_up : Fault → Bool
 is_numbers_used_up NumbersUsedUp = true
 is_numbers_used_up fault = false
 
--- The refusals of a command that are found only with memory: a clash, since what a bundle brings is copied before all of it was
--- looked at; that an import has no number left, since its edits are counted from its pieces; and what comes after a sheet was
--- read, a faulty line too.
+-- The refusals of a command that are found only with memory: a clash, since what a bundle brings is copied before all of
+-- it was looked at; what is wrong with a bundle that has a thinned operation, once each field was right; that an import has
+-- no number left, since its edits are counted from its pieces; and what comes after a sheet was read, a faulty line too.
 abbrev pub is_late : Command → Fault → Bool
 is_late (Import file) = is_numbers_used_up
 is_late (Edit book key text) = no_fault
 is_late (EditOver book key text ids) = no_fault
-is_late (Receive bytes) = is_clash
+is_late (Receive bytes) = is_late_in bytes.now
+is_late Thin = no_fault
 is_late (Shown book key) = no_fault
 is_late Send = no_fault
 is_late (Export book) = no_fault
@@ -169,14 +190,17 @@ MayWantMemory late (Err fault) = IsTrue (late fault)
 
 -- What is answered of what a command that only reports is to write: it, or the refusal; or out of memory, where
 -- that may be answered.
-abbrev pub Gives : {A : Type 0} → (Fault → Bool) → Result (List ℕ) Fault → Result (Vec ℕ A) Fault → Type 0
+abbrev pub Gives : {A : Type 0} → (Fault → Bool) → Result (List ℕ) Fault →
+    Result (Vec ℕ A) Fault → Type 0
 Gives late wanted (Ok output) = wanted ≡ Ok output.items
 Gives late wanted (Err Memory) = MayWantMemory late wanted
 Gives late wanted (Err fault) = wanted ≡ Err fault
 
 -- What is answered of what is wanted, where the replica is then so: what is written, or the refusal; or out of
 -- memory, where that may be answered.
-abbrev pub Answers : {A : Type 0} → (Fault → Bool) → Result Done Fault → State → Result (Vec ℕ A) Fault → Type 0
-Answers late wanted after (Ok output) = wanted ≡ Ok (record { after = after; output = output.items })
+abbrev pub Answers : {A : Type 0} → (Fault → Bool) → Result Done Fault → State →
+    Result (Vec ℕ A) Fault → Type 0
+Answers late wanted after (Ok output) =
+    wanted ≡ Ok (record { after = after; output = output.items })
 Answers late wanted after (Err Memory) = MayWantMemory late wanted
 Answers late wanted after (Err fault) = wanted ≡ Err fault

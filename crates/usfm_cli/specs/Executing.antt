@@ -1,13 +1,15 @@
 -- What commands make of a project's file (this project's own rule): the file is read, the command is done, and the file of the
 -- replica after it is written.
-use Rattle.std.specs.Prelude.{ℕ, List, [], ◌∷◌, Result, Ok, Err}
+use Rattle.std.specs.Prelude.{◌≡◌, ◌⊎◌, ℕ, List, [], ◌∷◌, Result, Ok, Err}
 use Rattle.replica_state.specs.States.{State}
 use Rattle.project_file.specs.declared.fault.LoadFault.{LoadFault}
-use Rattle.project_file.specs.Projects.{project, project_at}
+use Rattle.project_file.specs.Projects.{project, front_at, project_at}
+use Rattle.project_file.specs.Answers.{TakesMemoryAfter}
 use Rattle.usfm_cli.specs.Faults.{of_loading}
 use Rattle.usfm_cli.specs.Commands.{Done, outcome}
 use Rattle.usfm_cli.specs.declared.command.Command.{Command}
 use Rattle.usfm_cli.specs.declared.fault.Fault.{Fault}
+use Rattle.usfm_cli.specs.declared.fault.Fault.TheVariants.{Memory}
 
 -- the project's file after a command, and what the command writes
 pub record Written : Type 0 where
@@ -28,6 +30,11 @@ of_loaded (Err fault) command = Err (of_loading fault)
 -- refused
 abbrev pub executed : List ℕ → Command → Result Written Fault
 executed bytes command = of_loaded (project_at bytes) command
+
+-- A file that is no project is refused with its fault; or with out of memory, where memory is taken to judge its bundle.
+abbrev pub RefusesFile : {X : Type 0} → List ℕ → Fault → Result X Fault → Type 0
+RefusesFile bytes fault answer =
+    (answer ≡ Err fault) ⊎ ((answer ≡ Err Memory) × TakesMemoryAfter (front_at bytes))
 
 -- ---- commands one after another
 

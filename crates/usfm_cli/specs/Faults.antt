@@ -10,6 +10,8 @@ use Rattle.concordance.specs.declared.fault.FindFault.{FindFault}
 use Rattle.concordance.specs.declared.fault.FindFault.TheVariants as finding
 use Rattle.bundle_codec.specs.declared.fault.SummaryFault.{SummaryFault}
 use Rattle.bundle_codec.specs.declared.fault.SummaryFault.TheVariants as summing
+use Rattle.bundle_codec.specs.declared.fault.BundleFault.{BundleFault}
+use Rattle.bundle_codec.specs.declared.fault.BundleFault.TheVariants as bundle
 use Rattle.bundle_codec.specs.declared.fault.WholeFault.{WholeFault}
 use Rattle.bundle_codec.specs.declared.fault.WholeFault.TheVariants as whole
 use Rattle.replica_state.specs.declared.fault.ReceiveFault.{ReceiveFault}
@@ -30,7 +32,13 @@ use Rattle.project_file.specs.declared.fault.LoadFault.TheVariants as loading
 use Rattle.usfm_cli.specs.declared.reading.ReadFault.{ReadFault}
 use Rattle.usfm_cli.specs.declared.reading.ReadFault.TheVariants as reading
 use Rattle.usfm_cli.specs.declared.fault.Fault.{Fault}
-use Rattle.usfm_cli.specs.declared.fault.Fault.TheVariants.{Memory, NotText, Reference, NoId, FieldBeforeMarker, EmptyMarker, BadStyleType, Naming, Clash, Bundle, Trailing, BadSummary, BadSegment, NumbersUsedUp, NoBook, NotShown, WriteFailed, EmptyNeedle, BadProject, ReadFailed, TooLong}
+use Rattle.usfm_cli.specs.declared.fault.Fault.TheVariants.{Memory, NotText, Reference, NoId}
+use Rattle.usfm_cli.specs.declared.fault.Fault.TheVariants.{FieldBeforeMarker, EmptyMarker}
+use Rattle.usfm_cli.specs.declared.fault.Fault.TheVariants.{BadStyleType, Naming, Clash}
+use Rattle.usfm_cli.specs.declared.fault.Fault.TheVariants.{Bundle, Trailing, BadSummary}
+use Rattle.usfm_cli.specs.declared.fault.Fault.TheVariants.{BadSegment, NumbersUsedUp, NoBook}
+use Rattle.usfm_cli.specs.declared.fault.Fault.TheVariants.{NotShown, WriteFailed, EmptyNeedle}
+use Rattle.usfm_cli.specs.declared.fault.Fault.TheVariants.{BadProject, ReadFailed, TooLong}
 
 -- the fault of a command whose bytes are no text
 abbrev pub of_text : TokenFault → Fault
@@ -41,9 +49,14 @@ abbrev pub of_book : BookFault → Fault
 of_book opening.NoId = NoId
 of_book opening.BadBook = Reference reference.BadBook
 
+-- the fault of a command whose bytes do not begin with a bundle
+abbrev pub of_bundle : BundleFault → Fault
+of_bundle bundle.Memory = Memory
+of_bundle fault = Bundle fault
+
 -- the fault of a command whose bytes are not one whole bundle
 abbrev pub of_whole : WholeFault → Fault
-of_whole (whole.Bundle fault) = Bundle fault
+of_whole (whole.Bundle fault) = of_bundle fault
 of_whole whole.Trailing = Trailing
 
 -- the fault of a bundle that is not received

@@ -6,12 +6,15 @@ use Rattle.usfm_cli.specs.Reading.{most_bytes}
 use Rattle.usfm_export.specs.Writing.{TakesFront}
 use Rattle.usfm_cli.specs.Streams.{book_of_stream}
 use Rattle.usfm_cli.specs.declared.fault.Fault.{Fault}
-use Rattle.usfm_cli.specs.declared.fault.Fault.TheVariants.{Memory, WriteFailed, ReadFailed, TooLong}
+use Rattle.usfm_cli.specs.declared.fault.Fault.TheVariants.{Memory, WriteFailed}
+use Rattle.usfm_cli.specs.declared.fault.Fault.TheVariants.{ReadFailed, TooLong}
 
 -- What an answer says of the text that is to be written, or of its refusal, and of what the sink took: all of the
 -- text, the front of it whose length is answered, or nothing.
-abbrev pub AnswersText : Result (List ℕ) Fault → Option (List ℕ) → Option (List ℕ) → Result (Unit {0}) Fault → Type 0
-AnswersText wanted before after (Ok done) = (text : List ℕ) × (wanted ≡ Ok text) × Appends before after text
+abbrev pub AnswersText : Result (List ℕ) Fault → Option (List ℕ) → Option (List ℕ) →
+    Result (Unit {0}) Fault → Type 0
+AnswersText wanted before after (Ok done) =
+    (text : List ℕ) × (wanted ≡ Ok text) × Appends before after text
 AnswersText wanted before after (Err (WriteFailed gone)) =
     (text : List ℕ) × (wanted ≡ Ok text) × TakesFront before after text 0 gone
 AnswersText wanted before after (Err Memory) = after ≡ before
@@ -20,16 +23,23 @@ AnswersText wanted before after (Err fault) = (wanted ≡ Err fault) × (after �
 -- What an answer says of the bytes that the source gave: where a read failed, where they are too long and where
 -- memory ran out, that nothing was written; else that they are all of them, and what the book of that stream
 -- says.
-abbrev pub AnswersStream : List ℕ → List ℕ → Option (List ℕ) → Option (List ℕ) → Option (List ℕ) → Result (Unit {0}) Fault → Type 0
-AnswersStream book given left before after (Err ReadFailed) = (length given ≤ most_bytes) × (after ≡ before)
-AnswersStream book given left before after (Err TooLong) = (length given ≡ most_bytes + 1) × (after ≡ before)
-AnswersStream book given left before after (Err Memory) = (length given ≤ most_bytes) × (after ≡ before)
+abbrev pub AnswersStream : List ℕ → List ℕ → Option (List ℕ) → Option (List ℕ) → Option (List ℕ) →
+    Result (Unit {0}) Fault → Type 0
+AnswersStream book given left before after (Err ReadFailed) =
+    (length given ≤ most_bytes) × (after ≡ before)
+AnswersStream book given left before after (Err TooLong) =
+    (length given ≡ most_bytes + 1) × (after ≡ before)
+AnswersStream book given left before after (Err Memory) =
+    (length given ≤ most_bytes) × (after ≡ before)
 AnswersStream book given left before after answer =
-    (length given ≤ most_bytes) × IsAtEnd left × AnswersText (book_of_stream book given) before after answer
+    (length given ≤ most_bytes) × IsAtEnd left
+    × AnswersText (book_of_stream book given) before after answer
 
 -- A call folded a stream: the source gave some bytes, in at most one read for each and one more, and the call
 -- answered by them.
-pub record FoldsStream (book : List ℕ) (to_come left : Option (List ℕ)) (reads_before reads_after : ℕ) (before after : Option (List ℕ)) (answer : Result (Unit {0}) Fault) : Type 0 where
+pub record FoldsStream (book : List ℕ) (to_come left : Option (List ℕ))
+    (reads_before reads_after : ℕ) (before after : Option (List ℕ))
+    (answer : Result (Unit {0}) Fault) : Type 0 where
   pub given : List ℕ
   pub consumed : Consumes to_come left given
   pub reads : reads_after ≤ reads_before + length given + 1

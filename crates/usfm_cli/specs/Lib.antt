@@ -8,5 +8,6 @@ pub mod ExecLaws
 pub mod Streams
 pub mod Folding
 pub mod StreamLaws
+pub mod Headline
 pub mod Books
 pub mod TreeLaws

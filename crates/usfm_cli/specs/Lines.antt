@@ -6,12 +6,23 @@ use Rattle.std.specs.Fmt.{decimal}
 use Rattle.usfm_ref.specs.declared.fault.RefFault.TheVariants.{BadBook, BadRef}
 use Rattle.op_core.specs.declared.fault.IdFault.TheVariants.{BadName, BadOpId}
 use Rattle.bundle_codec.specs.declared.fault.BundleFault.{BundleFault}
-use Rattle.bundle_codec.specs.declared.fault.BundleFault.TheVariants.{Magic, Truncated, NotRising, BadId, BadKey, BadReplaced, BadTag, NotUtf8, BadText}
+use Rattle.bundle_codec.specs.declared.fault.BundleFault.TheVariants as bundle
+use Rattle.bundle_codec.specs.declared.fault.BundleFault.TheVariants.{Magic, Truncated, NotRising}
+use Rattle.bundle_codec.specs.declared.fault.BundleFault.TheVariants.{BadId, BadKey, BadReplaced}
+use Rattle.bundle_codec.specs.declared.fault.BundleFault.TheVariants.{BadTag, NotUtf8, BadText}
+use Rattle.bundle_codec.specs.declared.fault.BundleFault.TheVariants.{Unsupported}
 use Rattle.usfm_cli.specs.declared.fault.Fault.{Fault}
-use Rattle.usfm_cli.specs.declared.fault.Fault.TheVariants.{Memory, NotText, Reference, NoId, FieldBeforeMarker, EmptyMarker, BadStyleType, Naming, Clash, Bundle, Trailing, BadSummary, BadSegment, NumbersUsedUp, NoBook, NotShown, WriteFailed, EmptyNeedle, BadProject, ReadFailed, TooLong, FileFailed}
+use Rattle.usfm_cli.specs.declared.fault.Fault.TheVariants.{Memory, NotText, Reference, NoId}
+use Rattle.usfm_cli.specs.declared.fault.Fault.TheVariants.{FieldBeforeMarker, EmptyMarker}
+use Rattle.usfm_cli.specs.declared.fault.Fault.TheVariants.{BadStyleType, Naming, Clash, Bundle}
+use Rattle.usfm_cli.specs.declared.fault.Fault.TheVariants.{Trailing, BadSummary, BadSegment}
+use Rattle.usfm_cli.specs.declared.fault.Fault.TheVariants.{NumbersUsedUp, NoBook, NotShown}
+use Rattle.usfm_cli.specs.declared.fault.Fault.TheVariants.{WriteFailed, EmptyNeedle, BadProject}
+use Rattle.usfm_cli.specs.declared.fault.Fault.TheVariants.{ReadFailed, TooLong, FileFailed}
 
 -- the number of a fault of a bundle
 abbrev pub bundle_number : BundleFault → ℕ
+bundle_number bundle.Memory = 1
 bundle_number Magic = 60
 bundle_number Truncated = 61
 bundle_number (NotRising at) = 62
@@ -21,9 +32,12 @@ bundle_number (BadReplaced at) = 65
 bundle_number (BadTag at) = 66
 bundle_number (NotUtf8 at) = 67
 bundle_number (BadText at) = 68
+bundle_number (Unsupported at) = 69
 
--- the details of a fault of a bundle: the place of the operation, counted from 1, where it has one
+-- the details of a fault of a bundle: the place of the operation, counted from 1, where it has one; 0 stands for the whole
+-- bundle
 abbrev pub bundle_details : BundleFault → List (List ℕ)
+bundle_details bundle.Memory = []
 bundle_details Magic = []
 bundle_details Truncated = []
 bundle_details (NotRising at) = decimal at ∷ []
@@ -33,6 +47,7 @@ bundle_details (BadReplaced at) = decimal at ∷ []
 bundle_details (BadTag at) = decimal at ∷ []
 bundle_details (NotUtf8 at) = decimal at ∷ []
 bundle_details (BadText at) = decimal at ∷ []
+bundle_details (Unsupported at) = decimal at ∷ []
 
 -- the number of a fault
 abbrev pub fault_number : Fault → ℕ
@@ -77,4 +92,5 @@ fault_details other = []
 -- the line of a fault: `fault`, its number, each detail after one space, and a line feed
 abbrev pub fault_text : Fault → List ℕ
 fault_text fault =
-    codes "fault " ++ decimal (fault_number fault) ++ flat_map (λ detail. 32 ∷ detail) (fault_details fault) ++ 10 ∷ []
+    codes "fault " ++ decimal (fault_number fault)
+    ++ flat_map (λ detail. 32 ∷ detail) (fault_details fault) ++ 10 ∷ []

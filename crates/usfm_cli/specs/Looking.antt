@@ -1,6 +1,7 @@
 -- What commands report of a book by a style sheet (this project's own rule): its findings, the hits of a needle, and its
 -- words.
-use Rattle.std.specs.Prelude.{ℕ, Bool, true, false, List, [], ◌∷◌, ◌++◌, Result, Ok, Err, if◌then◌else◌}
+use Rattle.std.specs.Prelude.{ℕ, Bool, true, false, List, [], ◌∷◌}
+use Rattle.std.specs.Prelude.{◌++◌, Result, Ok, Err, if◌then◌else◌}
 use Rattle.std.specs.Fmt.{decimal}
 use Rattle.std.specs.List.{flat_map}
 use Rattle.std.specs.Str.{is_utf8}
@@ -21,23 +22,27 @@ use Rattle.usfm_cli.specs.declared.fault.Fault.{Fault}
 use Rattle.usfm_cli.specs.declared.fault.Fault.TheVariants.{NotText, NoBook, EmptyNeedle}
 
 -- what is written by the records of a sheet, or the sheet's fault
-abbrev pub by_records : Result (List Record) SheetFault → (List Record → Result (List ℕ) Fault) → Result (List ℕ) Fault
+abbrev pub by_records : Result (List Record) SheetFault →
+    (List Record → Result (List ℕ) Fault) → Result (List ℕ) Fault
 by_records (Ok records) next = next records
 by_records (Err fault) next = Err (of_sheet fault)
 
 -- what is written by the records of a sheet that is given as bytes, or why they are no sheet
 abbrev pub by_sheet : List ℕ → (List Record → Result (List ℕ) Fault) → Result (List ℕ) Fault
-by_sheet bytes next = if is_utf8 bytes then by_records (sheet_of bytes) next else Err (NotText (utf8_valid_len bytes))
+by_sheet bytes next =
+    if is_utf8 bytes then by_records (sheet_of bytes) next else Err (NotText (utf8_valid_len bytes))
 
 -- what is written of the export of a book, or that the book has no operation
-abbrev pub of_book_text : List Operation → List ℕ → (List ℕ → Result (List ℕ) Fault) → Result (List ℕ) Fault
+abbrev pub of_book_text : List Operation → List ℕ →
+    (List ℕ → Result (List ℕ) Fault) → Result (List ℕ) Fault
 of_book_text held book next = if has_book held book then next (export held book) else Err NoBook
 
 -- ---- findings
 
 -- a finding: the reference of its key, its code and its start, as a line
 abbrev pub finding_line : List ℕ → Finding → List ℕ
-finding_line book f = ref_text book f.key ++ 32 ∷ code_name f.code ++ 32 ∷ decimal f.start ++ 10 ∷ []
+finding_line book f =
+    ref_text book f.key ++ 32 ∷ code_name f.code ++ 32 ∷ decimal f.start ++ 10 ∷ []
 
 -- a line for each finding
 abbrev pub finding_lines : List ℕ → List Finding → List ℕ
@@ -46,7 +51,8 @@ finding_lines book found = flat_map (finding_line book) found
 -- the findings in a book by a sheet, a line for each
 abbrev pub checked : List Operation → List ℕ → List ℕ → Result (List ℕ) Fault
 checked held book sheet =
-    by_sheet sheet (λ records. of_book_text held book (λ text. Ok (finding_lines book (findings records text))))
+    by_sheet sheet (λ records.
+    of_book_text held book (λ text. Ok (finding_lines book (findings records text))))
 
 -- ---- hits
 
@@ -66,7 +72,8 @@ unless_empty (b ∷ needle) found = found
 -- the hits of a needle in a book by a sheet, a line for each
 abbrev pub searched : List Operation → List ℕ → List ℕ → List ℕ → Result (List ℕ) Fault
 searched held book sheet needle =
-    by_sheet sheet (λ records. of_book_text held book (λ text. unless_empty needle (Ok (hit_lines book (hits_of records text needle)))))
+    by_sheet sheet (λ records. of_book_text held book
+    (λ text. unless_empty needle (Ok (hit_lines book (hits_of records text needle)))))
 
 -- ---- words
 
@@ -81,7 +88,8 @@ word_lines words = flat_map word_line words
 -- the words of a book by a sheet, a line for each
 abbrev pub listed : List Operation → List ℕ → List ℕ → Result (List ℕ) Fault
 listed held book sheet =
-    by_sheet sheet (λ records. of_book_text held book (λ text. Ok (word_lines (words_of records text))))
+    by_sheet sheet
+    (λ records. of_book_text held book (λ text. Ok (word_lines (words_of records text))))
 
 -- a refusal that is found after a sheet was read, which takes memory: all but that it is no text
 abbrev pub is_after_sheet : Fault → Bool

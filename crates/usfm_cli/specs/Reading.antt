@@ -11,7 +11,8 @@ most_bytes = 268435456
 
 -- What is answered where the source gave these bytes and has then so much left: all of them at the end of the source; that they
 -- are too long, with the first byte past the limit. Out of memory and a failed read come before that.
-abbrev pub AnswersGiven : {A : Type 0} → ℕ → List ℕ → Option (List ℕ) → Result (Vec ℕ A) ReadFault → Type 0
+abbrev pub AnswersGiven : {A : Type 0} → ℕ → List ℕ → Option (List ℕ) →
+    Result (Vec ℕ A) ReadFault → Type 0
 AnswersGiven limit given left (Ok bytes) =
     (bytes.items ≡ given) × (length given ≤ limit) × IsAtEnd left
 AnswersGiven limit given left (Err TooLong) = length given ≡ limit + 1
@@ -20,7 +21,8 @@ AnswersGiven limit given left (Err Memory) = length given ≤ limit
 
 -- A call read a source up to a limit: the source gave some bytes, in at most one read for each and one more, and the call
 -- answered by them.
-pub record ReadsUpTo {A : Type 0} (limit : ℕ) (before after : Option (List ℕ)) (reads_before reads_after : ℕ) (answer : Result (Vec ℕ A) ReadFault) : Type 0 where
+pub record ReadsUpTo {A : Type 0} (limit : ℕ) (before after : Option (List ℕ))
+    (reads_before reads_after : ℕ) (answer : Result (Vec ℕ A) ReadFault) : Type 0 where
   pub given : List ℕ
   pub consumed : Consumes before after given
   pub answered : AnswersGiven limit given after answer

@@ -1,20 +1,23 @@
 -- What a stream of bundles folds into (this project's own rule): bundles one after another, whose union is taken
 -- in their order, and then the export of one book.
-use Rattle.std.specs.Prelude.{◌≡◌, ℕ, zero, suc, List, [], ◌∷◌, length, Option, Some, None, Result, Ok, Err, if◌then◌else◌}
+use Rattle.std.specs.Prelude.{◌≡◌, ℕ, zero, suc, IsTrue, List, [], ◌∷◌, length}
+use Rattle.std.specs.Prelude.{Option, Some, None, Result, Ok, Err, if◌then◌else◌}
 use Rattle.std.specs.List.{flat_map, AllByRecursion}
 use Rattle.op_core.specs.Ids.{Id}
 use Rattle.op_core.specs.Ops.{Operation}
 use Rattle.op_core.specs.Sets.{IsOpSet, clash, join}
+use Rattle.op_core.specs.Thinned.{is_legal}
 use Rattle.op_core.specs.Export.{has_book, export}
 use Rattle.bundle_codec.specs.declared.fault.BundleFault.{BundleFault}
 use Rattle.bundle_codec.specs.Spelling.{bundle, AreCounted}
-use Rattle.bundle_codec.specs.Reading.{bundle_at}
+use Rattle.bundle_codec.specs.Reading.{bundle_at, TakesMemory}
 use Rattle.replica_state.specs.States.{State}
 use Rattle.usfm_cli.specs.declared.fault.Fault.{Fault}
 use Rattle.usfm_cli.specs.declared.fault.Fault.TheVariants.{Memory, Clash, Bundle, NoBook}
 
 -- what follows a set that was read, and the bytes after it, or the bundle's fault
-abbrev pub with_set : {X : Type 0} → Result (List Operation × List ℕ) BundleFault → (List Operation → List ℕ → Result X Fault) → Result X Fault
+abbrev pub with_set : {X : Type 0} → Result (List Operation × List ℕ) BundleFault →
+    (List Operation → List ℕ → Result X Fault) → Result X Fault
 with_set (Ok x) next = next x.0 x.1
 with_set (Err f) next = Err (Bundle f)
 
@@ -29,7 +32,8 @@ unfoldable pub union_within : ℕ → List Operation → List ℕ → Result (Li
 union_within bound held [] = Ok held
 union_within zero held (b ∷ bytes) = Ok held
 union_within (suc bound) held (b ∷ bytes) =
-    with_set (bundle_at (b ∷ bytes)) (λ set rest. unless_clash (clash held set) (union_within bound (join held set) rest))
+    with_set (bundle_at (b ∷ bytes))
+    (λ set rest. unless_clash (clash held set) (union_within bound (join held set) rest))
 
 -- the union of a set and of all bundles that the bytes spell, each joined before the next is read; or the first
 -- refusal
@@ -47,9 +51,15 @@ book_of_stream book input = book_in book (union_in [] input)
 
 -- ---- the same in terms of sets
 
+-- a set that has a bundle: it is legal, and has no more than a bundle's fields can count
+pub record HasBundle (ops : List Operation) : Type 0 where
+  pub set : IsOpSet ops
+  pub legal : IsTrue (is_legal ops)
+  pub counted : AreCounted ops
+
 -- the input is the spellings of these sets, one after another
 pub record AreSpelled (sets : List (List Operation)) (input : List ℕ) : Type 0 where
-  pub each : AllByRecursion (λ set. IsOpSet set × AreCounted set) sets
+  pub each : AllByRecursion HasBundle sets
   pub bytes : input ≡ flat_map bundle sets
 
 -- the union of a set and others, taken one after another, or the first clash
@@ -57,13 +67,18 @@ abbrev pub union_with : List Operation → List (List Operation) → Result (Lis
 union_with held [] = Ok held
 union_with held (set ∷ rest) = unless_clash (clash held set) (union_with (join held set) rest)
 
--- A bundle is received: the bytes begin with it, or with bundles that join to a set, the one after the other, and then with it.
+-- A bundle is received, or judged with memory: the bytes begin with it, or with bundles that join to a set, the one after the
+-- other, and then with it.
 pub data ReceivesOne : List Operation → List ℕ → Type 0 where
-  Here : (held : List Operation) (bytes : List ℕ) (set : List Operation) (rest : List ℕ) → bundle_at bytes ≡ Ok (set, rest) → ReceivesOne held bytes
-  After : (held : List Operation) (bytes : List ℕ) (set : List Operation) (rest : List ℕ) → bundle_at bytes ≡ Ok (set, rest) → clash held set ≡ None → ReceivesOne (join held set) rest → ReceivesOne held bytes
+  Here : (held : List Operation) (bytes : List ℕ) (set : List Operation) (rest : List ℕ) →
+      bundle_at bytes ≡ Ok (set, rest) → ReceivesOne held bytes
+  Judged : (held : List Operation) (bytes : List ℕ) → TakesMemory bytes → ReceivesOne held bytes
+  After : (held : List Operation) (bytes : List ℕ) (set : List Operation) (rest : List ℕ) →
+      bundle_at bytes ≡ Ok (set, rest) → clash held set ≡ None →
+      ReceivesOne (join held set) rest → ReceivesOne held bytes
 
 -- what a call that makes the union answers: a replica that holds it, a bundle's fault, a clash, or out of memory, where it
--- received a bundle
+-- received a bundle or judged one with memory
 abbrev pub UnionAnswers : List ℕ → Result State Fault → Type 0
 UnionAnswers input (Ok replica) = union_in [] input ≡ Ok replica.held
 UnionAnswers input (Err Memory) = ReceivesOne [] input

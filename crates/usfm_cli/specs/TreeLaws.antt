@@ -10,4 +10,5 @@ use Rattle.usfm_tree.specs.SheetViews.{styles_in}
 
 -- The leaves of the tree of an export, by the records of any sheet, join to the export's bytes.
 abbrev pub ExportsAreLeaves : Type 0
-ExportsAreLeaves = (held : List Operation) (book : List ℕ) (records : List Record) → bytes_of (tree_of (styles_in records) (export held book)) ≡ export held book
+ExportsAreLeaves = (held : List Operation) (book : List ℕ) (records : List Record) →
+    bytes_of (tree_of (styles_in records) (export held book)) ≡ export held book

@@ -25,6 +25,9 @@ pub enum Command<'a> {
     },
     /// Takes in a bundle: `new N`.
     Receive(&'a [u8]),
+    /// Leaves out the texts of the operations that another one of their segment replaces:
+    /// `thinned N`.
+    Thin,
     /// Lists what a segment shows: for each operation `op NUMBER NAME LENGTH`, its text and a line
     /// feed.
     Shown(Book, Key),
@@ -55,7 +58,8 @@ impl Command<'_> {
             Command::Import(_)
             | Command::Edit { .. }
             | Command::EditOver { .. }
-            | Command::Receive(_) => false,
+            | Command::Receive(_)
+            | Command::Thin => false,
             Command::Shown(_, _)
             | Command::Send
             | Command::Export(_)

@@ -40,6 +40,7 @@ pub(crate) fn obey(
             ids,
         } => edit_over(alloc, replica, book, key, text, ids),
         Command::Receive(bytes) => receive(alloc, replica, bytes),
+        Command::Thin => thin(alloc, replica),
         Command::Shown(book, key) => Ok(shown_lines(alloc, replica, book, key)?),
         Command::Send => Ok(replica.bundle(alloc)?),
         Command::Export(book) => Ok(book_text(alloc, replica, book)?),
@@ -94,12 +95,21 @@ fn edit_over(
 
 // Takes in a bundle.
 fn receive(alloc: Global, replica: &mut Replica, bytes: &[u8]) -> Result<Vec<u8>, Fault>
-    ensures { commands.Answers commands.is_clash
+    ensures { commands.Answers (commands.is_late_in bytes.now)
         (commands.with_bundle replica.old (whole_at bytes.now)) replica.new result }
 {
     let bundle = decode_whole(alloc, bytes)?;
     let new = replica.receive(&bundle)?;
     Ok(count_line(alloc, "new", new)?)
+}
+
+// Leaves out the texts that were replaced.
+fn thin(alloc: Global, replica: &mut Replica) -> Result<Vec<u8>, Fault>
+    ensures { commands.Answers commands.no_fault
+        (commands.thin_done replica.old) replica.new result }
+{
+    let count = replica.thin();
+    Ok(count_line(alloc, "thinned", count)?)
 }
 
 // The bundle of what lies outside a summary.
@@ -134,9 +144,14 @@ fn push_op(alloc: Global, bytes: &mut Vec<u8>, op: &Op) -> Result<(), AllocError
     ensures { OnOk result (bytes.new.items ≡ bytes.old.items ++ commands.shown_line op.now) }
 {
     let id = op.id();
-    let line = format!(in alloc; "op {} {} {}\n", id.number, id.name.text(), op.text().len())?;
+    let line = format!(in alloc;
+        "op {} {} {}\n",
+        id.number,
+        id.name.text(),
+        op.text_or_empty().len()
+    )?;
     bytes.extend_from_slice(line.as_bytes())?;
-    bytes.extend_from_slice(op.text().as_bytes())?;
+    bytes.extend_from_slice(op.text_or_empty().as_bytes())?;
     bytes.push(b'\n')?;
     Ok(())
 }

@@ -4,7 +4,8 @@ ghost use Rattle.replica_state.specs.States.{State};
 ghost use Rattle.project_file.specs.Projects.{project_at};
 ghost use Rattle.usfm_cli.specs.Commands.{outcome, only_tells};
 ghost use Rattle.usfm_cli.specs.Faults.{of_loading};
-ghost use Rattle.usfm_cli.specs.Executing.{executed, file_or, file_after, state_or, state_after};
+ghost use Rattle.usfm_cli.specs.Executing.{RefusesFile, executed};
+ghost use Rattle.usfm_cli.specs.Executing.{file_or, file_after, state_or, state_after};
 
 use crate::command::Command;
 use crate::doing::obey;
@@ -50,23 +51,25 @@ impl Outcome {
 ///
 /// # Errors
 /// First those of the project: `BadProject` (110) where the bytes do not begin as a project does, and
-/// then those of its bundle, `Bundle` (60 to 68) and `Trailing` (70). Then those of the command, in
+/// then those of its bundle, `Bundle` (60 to 69) and `Trailing` (70). Then those of the command, in
 /// this order:
 /// - `Import`: `NotText` (10), `NoId` (30), `Reference` (20), `NumbersUsedUp` (81).
 /// - `Edit`: `NotText` (10), `BadSegment` (80), `NoBook` (82), `NumbersUsedUp` (81).
 /// - `EditOver`: the same, with `NotShown` (83) before `NumbersUsedUp`.
-/// - `Receive`: `Bundle` (60 to 68), `Trailing` (70), `Clash` (51).
+/// - `Receive`: `Bundle` (60 to 69), `Trailing` (70), `Clash` (51).
 /// - `Export`: `NoBook` (82).
 ///
 /// The others refuse nothing.
 ///
-/// `Memory` (1) where a growth was refused; never of bytes that are no project, whose refusals take no
-/// memory. The project is the bytes that were given, so that a refused command leaves it as it is.
+/// `Memory` (1) where a growth was refused; of bytes that are no project only where an operation of
+/// their bundle is thinned, since the other refusals take no memory. The project is the bytes that
+/// were given, so that a refused command leaves it as it is.
 pub fn exec(alloc: Global, project: &[u8], command: &Command<'_>) -> Result<Outcome, Fault>
     ensures answer { result ≢ Err Fault.Memory → executed project.now command.now ≡ result }
-    // A file that is no project is refused for that, whatever memory there is.
+    // A file that is no project is refused for that, whatever memory there is; but for its bundle, where
+    // an operation of it is thinned.
     ensures no_project { IfErr (project_at project.now) (λ fault.
-        result ≡ Err (of_loading fault)) }
+        RefusesFile project.now (of_loading fault) result) }
     // A command that only reports gives the file back as it is.
     ensures told { IfOk result (λ made.
         IsTrue (only_tells command.now) → made.project ≡ project.now) }

@@ -1,6 +1,7 @@
 ghost use Rattle.std.specs.Prelude.{◌≡◌};
 ghost use Rattle.usfm_cli.specs.Faults as faults;
-ghost use Rattle.usfm_cli.specs.declared.fault.Fault.TheVariants.{Memory, Reference, Naming, Bundle, WriteFailed};
+ghost use Rattle.usfm_cli.specs.declared.fault.Fault.TheVariants.{Memory, Reference};
+ghost use Rattle.usfm_cli.specs.declared.fault.Fault.TheVariants.{Naming, WriteFailed};
 
 use crate::ReadFault;
 use bundle_codec::{BundleFault, SummaryFault, WholeFault};
@@ -44,10 +45,10 @@ pub enum Fault {
     /// 50 and 52: a text that is no replica's name, or no operation's id.
     #[error("{0}")]
     Naming(IdFault),
-    /// 51: two operations that are not equal have this id.
+    /// 51: two operations that do not agree have this id.
     #[error("two operations that differ have one id: {} {}", .0.number, .0.name.text())]
     Clash(OpId),
-    /// 60 to 68: bytes that are no bundle.
+    /// 60 to 69: bytes that are no bundle.
     #[error("{0}")]
     Bundle(BundleFault),
     /// 70: something follows a bundle.
@@ -108,10 +109,13 @@ impl From<ReceiveFault> for Fault {
 }
 
 impl From<BundleFault> for Fault {
-    ghost from_gives = { λ from fault. fault ≡ Bundle from };
+    ghost from_gives = { λ from fault. fault ≡ faults.of_bundle from };
 
     fn from(fault: BundleFault) -> Self {
-        Fault::Bundle(fault)
+        match fault {
+            BundleFault::Memory => Fault::Memory,
+            _ => Fault::Bundle(fault),
+        }
     }
 }
 
@@ -156,7 +160,7 @@ impl From<WholeFault> for Fault {
 
     fn from(fault: WholeFault) -> Self {
         match fault {
-            WholeFault::Bundle(fault) => Fault::Bundle(fault),
+            WholeFault::Bundle(fault) => Fault::from(fault),
             WholeFault::Trailing => Fault::Trailing,
         }
     }

@@ -23,8 +23,8 @@ use usfm_ref::Book;
 /// # Errors
 /// - `ReadFailed` (120) at the first error of the source, of whatever kind; `TooLong` (121) where it
 ///   gives more than 268,435,456 bytes.
-/// - `Bundle` (60 to 68) where the bytes are no bundle; `Clash` (51) where a bundle has an operation
-///   that differs from one of a bundle before under the same id, with the least such id.
+/// - `Bundle` (60 to 69) where the bytes are no bundle; `Clash` (51) where a bundle has an operation
+///   that does not agree with one of a bundle before under the same id, with the least such id.
 /// - `NoBook` (82) where no operation is of the book.
 /// - `WriteFailed` (90) where the sink answers an error or takes 0 bytes, with the bytes gone out:
 ///   they are the front of the book of that length.

@@ -5,6 +5,8 @@ ghost use Rattle.usfm_cli.specs.ExecLaws as projects;
 ghost use Rattle.usfm_cli.specs.StreamLaws as laws;
 ghost use Rattle.usfm_cli.specs.TreeLaws as trees;
 
+pub mod headline;
+
 /// Bundles one after another give the union of their sets, taken one after another, or the first
 /// clash.
 pub fn streams_give_unions()
@@ -16,10 +18,16 @@ pub fn unions_are_of_streams()
     ensures { laws.UnionsAreOfStreams }
 {}
 
-/// Streams whose bundles have the same operations together, in whatever order, grouping and
-/// repetition, give the same bytes of every book.
+/// Streams of bundles without thinned operations, which have the same operations together, in whatever
+/// order, grouping and repetition, give the same bytes of every book.
 pub fn same_operations_same_books()
     ensures { laws.SameOperationsSameBooks }
+{}
+
+/// Streams of bundles of one family, which have the same ids together, give the same bytes of every
+/// book, whatever texts are left out. Neither is refused.
+pub fn same_ids_same_books()
+    ensures { laws.SameIdsSameBooks }
 {}
 
 /// What a stream of bytes gives for a book is the export of a set, is UTF-8, and cuts back into the
@@ -39,8 +47,26 @@ pub fn same_operations_read_the_same()
     ensures { projects.SameOperationsReadTheSame }
 {}
 
-/// A project, after whatever commands, and a stream of bundles with the same operations write the same
-/// bytes of every book, or refuse it alike.
+/// Projects that hold the same but for texts left out, after whatever commands, write the same bytes of
+/// every book, and the same conflict report, if no id stands for two operations.
+pub fn skeletons_read_the_same()
+    ensures { projects.SkeletonsReadTheSame }
+{}
+
+/// Projects that hold operations of one family and of the same ids, after whatever commands, write the
+/// same bytes of every book, and the same conflict report, whatever texts are left out.
+pub fn same_ids_read_alike()
+    ensures { projects.SameIdsReadAlike }
+{}
+
+/// A project, after whatever commands, and a stream of bundles of one family with the same ids write the
+/// same bytes of every book, or refuse it alike, whatever texts are left out.
+pub fn thinned_projects_read_as_streams()
+    ensures { projects.ThinnedProjectsReadAsStreams }
+{}
+
+/// A project, after whatever commands, and a stream of bundles with the same operations, none of them
+/// thinned, write the same bytes of every book, or refuse it alike.
 pub fn projects_read_as_streams()
     ensures { projects.ProjectsReadAsStreams }
 {}

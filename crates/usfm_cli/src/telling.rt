@@ -80,14 +80,15 @@ fn push_place(line: &mut ShortLine, fault: &BundleFault)
     ensures short { length line.new ≤ 30 }
 {
     match fault {
-        BundleFault::Magic | BundleFault::Truncated => {}
+        BundleFault::Memory | BundleFault::Magic | BundleFault::Truncated => {}
         BundleFault::NotRising(at)
         | BundleFault::BadId(at)
         | BundleFault::BadKey(at)
         | BundleFault::BadReplaced(at)
         | BundleFault::BadTag(at)
         | BundleFault::NotUtf8(at)
-        | BundleFault::BadText(at) => push_count(line, *at),
+        | BundleFault::BadText(at)
+        | BundleFault::Unsupported(at) => push_count(line, *at),
     }
 }
 
@@ -128,6 +129,7 @@ fn bundle_number(fault: &BundleFault) -> u64
     ensures short { result < 1000 }
 {
     match fault {
+        BundleFault::Memory => 1,
         BundleFault::Magic => 60,
         BundleFault::Truncated => 61,
         BundleFault::NotRising(_) => 62,
@@ -137,5 +139,6 @@ fn bundle_number(fault: &BundleFault) -> u64
         BundleFault::BadTag(_) => 66,
         BundleFault::NotUtf8(_) => 67,
         BundleFault::BadText(_) => 68,
+        BundleFault::Unsupported(_) => 69,
     }
 }

@@ -51,6 +51,7 @@ pub(crate) fn program<'a>(alloc: Global) -> Result<Command<'a>, AllocError> {
     let program = with(program, check(alloc))?;
     let program = with(program, find(alloc))?;
     let program = with(program, words(alloc))?;
+    let program = with(program, thin(alloc))?;
     with(program, fold(alloc))
 }
 
@@ -211,4 +212,29 @@ Faults:
   fault 90 BYTES           writing the output failed; the project is changed
   fault 110                PROJECT is no project
   fault 120, fault 121     a file was not read, or is over 268,435,456 bytes
+  fault 130                the project was not written";
+
+fn thin<'a>(alloc: Global) -> Result<Command<'a>, AllocError> {
+    command(
+        alloc,
+        "thin",
+        "Leaves out the texts that were replaced",
+        THIN,
+        &[PROJECT],
+    )
+}
+
+const THIN: &str = "\
+The project then has no text that another operation of its segment replaced,
+and nobody can read those texts there again. Books and reports stay the same,
+and a copy that receives the project's bundle leaves these texts out too.
+Writes `thinned N`, N the number of texts that were left out now.
+
+Example: usfm_team thin ana.project
+
+Faults:
+  fault 1                  out of memory
+  fault 60 to 70, 110      PROJECT is no project
+  fault 90 BYTES           writing the output failed; the project is changed
+  fault 120, fault 121     the file was not read, or is over 268,435,456 bytes
   fault 130                the project was not written";

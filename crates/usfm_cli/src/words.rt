@@ -81,6 +81,10 @@ pub enum Line {
         book: Book,
         sheet: String,
     },
+    /// `thin PROJECT`: leave out the texts that were replaced.
+    Thin {
+        project: String,
+    },
     /// `report PROJECT`: report the conflicts, and what is awaited.
     Report {
         project: String,
@@ -189,6 +193,9 @@ fn line_of(alloc: Global, name: &str, given: &ArgMatches<'_>) -> Result<Line, Li
             project: text(alloc, given, "PROJECT")?,
             book: Book::read(word(given, "BOOK"))?,
             sheet: text(alloc, given, "SHEET")?,
+        }),
+        "thin" => Ok(Line::Thin {
+            project: text(alloc, given, "PROJECT")?,
         }),
         "report" => Ok(Line::Report {
             project: text(alloc, given, "PROJECT")?,

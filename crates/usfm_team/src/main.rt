@@ -94,6 +94,7 @@ fn run(rt: &HostRuntime, line: Line) -> Result<(), Fault> {
             let summary = read_file(rt, &summary)?;
             act(rt, &project, &bytes, &Command::Delta(&summary))
         }
+        Line::Thin { project } => ask(rt, &project, &Command::Thin),
         Line::Report { project } => ask(rt, &project, &Command::Report),
         Line::Check {
             project,

@@ -7,9 +7,12 @@ mod folding;
 mod line_words;
 mod looking;
 mod player;
+mod schedules;
 pub(crate) mod streams;
+mod thinning;
 mod trees;
 mod vectors;
+mod worlds;
 
 use self::streams::{Counted, Refusal, ShortSink, SlowSource, Zeros};
 use std::alloc::Global;

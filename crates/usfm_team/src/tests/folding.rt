@@ -2,8 +2,8 @@
 use super::player::{Step, told_of};
 use super::streams::{Refusal, ShortSink, SlowSource, Zeros};
 use super::vectors::{
-    AFTER, AT_VERSE_1, B1, CLASHING, FIRST, FIRST_OP, FITS_ANOTHER, ID_2, NAMES_ITSELF, NONE,
-    NOTHING, ONE, TWO, Y, Z,
+    AFTER, AT_VERSE_1, B1, CLASHING, FIRST, FIRST_OP, FITS_ANOTHER, ID_2, NAMED_ELSEWHERE,
+    NAMES_ITSELF, NONE, NOTHING, ONE, TWO, UNNAMED, V2, Y, Z,
 };
 use bundle_codec::join_bundles;
 use std::alloc::Global;
@@ -45,6 +45,9 @@ const STREAMS: &[Stream<'static>] = &[
     (&[Y, Z, B1], "MAT", AFTER),
     (&[Z, B1, Y], "MAT", AFTER),
     (&[Z, Y, B1], "MAT", AFTER),
+    (&[B1, V2], "MAT", AFTER),
+    (&[V2, B1], "MAT", AFTER),
+    (&[V2], "MAT", b"\\c 1\n\\v 1 At\n"),
     (&[B1, CLASHING], "MAT", b"fault 51 2 ana\n"),
     (&[B1, CLASHING, b"\0"], "MAT", b"fault 51 2 ana\n"),
     (&[B1], "LUK", b"fault 82\n"),
@@ -162,6 +165,15 @@ const BAD_BUNDLES: &[Bad<'static>] = &[
         b"fault 68 2\n",
         b"fault 68 2\n",
     ),
+    (&[UNNAMED], b"fault 69 1\n", b"fault 69 1\n"),
+    (&[UNNAMED, b"\0"], b"fault 69 1\n", b"fault 69 1\n"),
+    (&[NAMED_ELSEWHERE], b"fault 69 1\n", b"fault 69 1\n"),
+    (
+        &[b"USFMSR2\n\0\0\0\0\0\0\0\x01", FIRST_OP],
+        b"fault 69 0\n",
+        b"fault 69 0\n",
+    ),
+    (&[V2, b"\0"], b"fault 70\n", b"fault 60\n"),
     (&[B1, b"\0"], b"fault 70\n", b"fault 60\n"),
 ];
 

@@ -78,6 +78,7 @@ fn told(alloc: Global, line: &Line) -> Result<String, Fail> {
             let book = str::from_utf8(&code)?;
             format!(in alloc; "words {project} book {book} sheet {sheet}")?
         }
+        Line::Thin { project } => format!(in alloc; "thin {project}")?,
         Line::Report { project } => format!(in alloc; "report {project}")?,
         Line::Fold(book) => format!(in alloc; "fold {}", str::from_utf8(&book.code())?)?,
     })
@@ -139,6 +140,7 @@ const LINES: &[(&str, &str)] = &[
         "delta|ana.project|ben.summary",
         "delta ana.project summary ben.summary",
     ),
+    ("thin|ana.project", "thin ana.project"),
     ("report|ana.project", "report ana.project"),
     (
         "find|ana.project|LUK|usfm.sty|the word",
@@ -180,6 +182,8 @@ const LINES: &[(&str, &str)] = &[
     ("receive|p", "usage"),
     ("send|p|q", "usage"),
     ("export|p", "usage"),
+    ("thin", "usage"),
+    ("thin|p|MAT", "usage"),
     ("report", "usage"),
     ("fold|--version", "usage"),
 ];

@@ -21,6 +21,7 @@ pub(crate) enum Step<'a> {
     Edit(&'a str, &'a [u8]),
     Over(&'a str, &'a [u8], &'a [&'a str]),
     Receive(&'a [u8]),
+    Thin,
     Shown(&'a str),
     Send,
     Export(&'a str),
@@ -89,7 +90,12 @@ impl Player {
         Ok(answer)
     }
 
-    fn edit_over(&mut self, at: &str, text: &[u8], words: &[&str]) -> Result<Vec<u8>, Fail> {
+    pub(crate) fn edit_over(
+        &mut self,
+        at: &str,
+        text: &[u8],
+        words: &[&str],
+    ) -> Result<Vec<u8>, Fail> {
         let (book, key) = read_ref(at)?;
         let mut ids = Vec::new(self.alloc);
         for word in words {
@@ -112,6 +118,7 @@ impl Player {
             }
             Step::Over(at, text, words) => self.edit_over(at, text, words),
             Step::Receive(bundle) => self.told(&Command::Receive(bundle)),
+            Step::Thin => self.told(&Command::Thin),
             Step::Shown(at) => {
                 let (book, key) = read_ref(at)?;
                 self.asked(rt, &Command::Shown(book, key))

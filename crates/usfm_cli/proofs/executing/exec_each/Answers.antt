@@ -13,11 +13,16 @@ loop-command-init c =
 
 pub loop-command-preserved : goal.loop-command-preserved
 loop-command-preserved c =
-    let left : drop c.loop-command.command-index c.args.commands.now ≡ c.command-item.result ∷ drop (c.loop-command.command-index + 1) c.args.commands.now = rw add-one (drop-cons c.args.commands.now c.loop-command.command-index c.command-item.result (omega arith) ∙ ap (λ (x : Command). x ∷ drop (suc c.loop-command.command-index) c.args.commands.now) (sym c.command-item.is)) in
-    leads_on c.args.project.now c.args.commands.now c.loop-command.file.items c.in_ok-file-2.file.items c.command-item.result (drop (c.loop-command.command-index + 1) c.args.commands.now) (rw left at c.loop-command.invariant) c.in_ok-file-2.ensures.file c.in_ok-file-2.ensures.run
+    let left : drop c.loop-command.command-index c.args.commands.now ≡ c.command-item.result ∷ drop (c.loop-command.command-index + 1)
+    c.args.commands.now = rw add-one (drop-cons c.args.commands.now c.loop-command.command-index c.command-item.result (omega arith)
+    ∙ ap (λ (x : Command). x ∷ drop (suc c.loop-command.command-index) c.args.commands.now) (sym c.command-item.is)) in
+    leads_on c.args.project.now c.args.commands.now c.loop-command.file.items c.in_ok-file-2.file.items c.command-item.result
+    (drop (c.loop-command.command-index + 1) c.args.commands.now)
+    (rw left at c.loop-command.invariant) c.in_ok-file-2.ensures.file c.in_ok-file-2.ensures.run
 
 pub returns-clause-run : goal.returns-clause-run
 returns-clause-run c = λ s loads.
     let f = c.loop-command.invariant.run s loads in
-    let past : drop c.loop-command.command-index c.args.commands.now ≡ [] = drop_all c.loop-command.command-index c.args.commands.now (omega arith) in
+    let past : drop c.loop-command.command-index c.args.commands.now ≡ [] =
+    drop_all c.loop-command.command-index c.args.commands.now (omega arith) in
     f.loads ∙ ap Ok (sym (ap (state_after f.now) past) ∙ f.leads)

@@ -1,34 +1,41 @@
 use Rattle.std.proofs.Common.{drop}
 use Rattle.std.proofs.lemmas.Result.{err_from_is_err_and}
-use Rattle.usfm_cli.proofs.Unions.{leads_fault, leads_end, left_is_shorter, some_left, none_left, way_on, refused_bundle}
+use Rattle.usfm_cli.proofs.Unions.{leads_end, left_is_shorter, some_left, none_left, way_on, refused_bundle, refused_bytes}
 use Rattle.usfm_cli.proofs.fold.receive_all.Goals as goal
 
 pub returns-in_err-bundle : goal.returns-in_err-bundle
 returns-in_err-bundle c =
     let some = some_left c.bundles.rest.now c.is_empty.result c.is_empty.ensures c.bundles-test.true in
     let fault = err_from_is_err_and c.from_residual.result c.from_residual.ensures.1 in
-    rw (fault.1, fault.2) (leads_fault c.bundles.fold.held c.bundles.rest.now _ c.bundles.invariant.leads some c.in_err-bundle.field-0.0 c.in_err-bundle.ensures.exact)
+    rw (fault.1, fault.2) (refused_bytes c.args.input.now c.bundles.fold.held c.bundles.rest.now c.bundles.invariant some
+    c.in_err-bundle.field-0.0 c.in_err-bundle.ensures.exact)
 
 pub returns-in_err-receive : goal.returns-in_err-receive
 returns-in_err-receive c =
     let some = some_left c.bundles.rest.now c.is_empty.result c.is_empty.ensures c.bundles-test.true in
     let fault = err_from_is_err_and c.from_residual-in_err-receive.result c.from_residual-in_err-receive.ensures.1 in
-    rw (fault.1, fault.2) (refused_bundle c.args.input.now c.bundles.fold.held c.in_ok-bundle.bundle c.bundles.rest.now _ c.bundles.invariant some c.in_ok-bundle.ensures.exact c.in_err-receive.field-0.0 c.in_err-receive.ensures.refused)
+    rw (fault.1, fault.2) (refused_bundle c.args.input.now c.bundles.fold.held c.in_ok-bundle.bundle c.bundles.rest.now _
+    c.bundles.invariant some c.in_ok-bundle.ensures.exact c.in_err-receive.field-0.0 c.in_err-receive.ensures.refused)
 
 pub split_at-requires : goal.split_at-requires
-split_at-requires c = (left_is_shorter c.bundles.rest.now c.in_ok-bundle.length c.in_ok-bundle.bundle c.in_ok-bundle.ensures.spelled c.in_ok-bundle.ensures.length).0
+split_at-requires c = (left_is_shorter c.bundles.rest.now c.in_ok-bundle.length c.in_ok-bundle.bundle c.in_ok-bundle.ensures.spelled
+    c.in_ok-bundle.ensures.length).0
 
 pub bundles-smaller : goal.bundles-smaller
 bundles-smaller c =
-    let shorter = left_is_shorter c.bundles.rest.now c.in_ok-bundle.length c.in_ok-bundle.bundle c.in_ok-bundle.ensures.spelled c.in_ok-bundle.ensures.length in
+    let shorter = left_is_shorter c.bundles.rest.now c.in_ok-bundle.length c.in_ok-bundle.bundle c.in_ok-bundle.ensures.spelled
+    c.in_ok-bundle.ensures.length in
     rw c.split_at.ensures.back shorter.1
 
 pub bundles-preserved : goal.bundles-preserved
 bundles-preserved c =
     let some = some_left c.bundles.rest.now c.is_empty.result c.is_empty.ensures c.bundles-test.true in
-    let shorter = left_is_shorter c.bundles.rest.now c.in_ok-bundle.length c.in_ok-bundle.bundle c.in_ok-bundle.ensures.spelled c.in_ok-bundle.ensures.length in
+    let shorter = left_is_shorter c.bundles.rest.now c.in_ok-bundle.length c.in_ok-bundle.bundle c.in_ok-bundle.ensures.spelled
+    c.in_ok-bundle.ensures.length in
     rw (c.in_ok-receive.ensures.ok, c.split_at.ensures.back)
-    (way_on c.args.input.now c.bundles.fold.held c.in_ok-bundle.bundle c.bundles.rest.now (drop c.in_ok-bundle.length c.bundles.rest.now) c.bundles.invariant some c.in_ok-bundle.ensures.exact c.in_ok-receive.ensures.agrees shorter.1)
+    (way_on c.args.input.now c.bundles.fold.held c.in_ok-bundle.bundle c.bundles.rest.now (drop c.in_ok-bundle.length c.bundles.rest.now)
+    c.bundles.invariant some c.in_ok-bundle.ensures.exact c.in_ok-receive.ensures.agrees shorter.1)
 
 pub returns : goal.returns
-returns c = leads_end c.bundles.fold.held c.bundles.rest.now _ (none_left c.bundles.rest.now c.is_empty.result c.is_empty.ensures c.bundles-test.false) c.bundles.invariant.leads
+returns c = leads_end c.bundles.fold.held c.bundles.rest.now _
+    (none_left c.bundles.rest.now c.is_empty.result c.is_empty.ensures c.bundles-test.false) c.bundles.invariant.leads
