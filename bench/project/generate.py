@@ -50,7 +50,7 @@ def first_text(rng, place):
 
 
 def verse_text(rng, verse):
-    """A verse, now and then with a name, a note or a paragraph behind it."""
+    """A verse, now and then with a name, a note or a paragraph after it."""
     text = text_of(rng, verse)
     chance = rng.random()
     if chance < 0.1:

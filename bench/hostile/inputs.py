@@ -1,0 +1,222 @@
+"""Inputs that are built to take long: of each a small one, and one of ten times as many bytes."""
+import os
+import struct
+import sys
+from dataclasses import dataclass, field
+from typing import Callable
+
+sys.path.insert(0, os.path.dirname(os.path.dirname(os.path.abspath(__file__))))
+from operations import bundle, operation
+
+PROJECT = "p"
+HEAD = b"\\id MAT\n"
+DIGITS = "0123456789ABCDEFGHIJKLMNOPQRSTUVWXYZ"
+
+# A style sheet with paragraphs, characters and notes.
+SHEET = b"""\\Marker id
+\\StyleType Paragraph
+\\Marker c
+\\StyleType Paragraph
+\\Marker v
+\\StyleType Character
+\\Marker p
+\\TextType VerseText
+\\StyleType Paragraph
+\\Marker nd
+\\Endmarker nd*
+\\OccursUnder p NEST
+\\StyleType Character
+\\Marker f
+\\Endmarker f*
+\\StyleType Note
+"""
+
+
+@dataclass(frozen=True)
+class Input:
+    """A command, the files that it reads, and its standard input."""
+
+    words: list[str]
+    files: dict[str, bytes] = field(default_factory=dict)
+    given: bytes = b""
+
+    def length(self) -> int:
+        return len(self.given) + sum(len(it) for it in self.files.values())
+
+
+@dataclass(frozen=True)
+class Family:
+    """What is hard about these inputs, how great the small one and the great one are, and what makes them."""
+
+    what: str
+    small: int
+    great: int
+    make: Callable[[int], Input]
+
+
+def fold(*bundles: bytes) -> Input:
+    return Input(["fold", "MAT"], given=b"".join(bundles))
+
+
+def project(data: bytes) -> bytes:
+    """The file of ana's project that holds a bundle's operations."""
+    return b"USFMPJ1\n\x03ana" + data
+
+
+def rising(operations: list[bytes]) -> bytes:
+    """A bundle of operations that stand in the order of their ids."""
+    return bundle([(None, it) for it in operations])
+
+
+def book_code(place: int) -> str:
+    """A book of no canon: the greatest one is the first."""
+    return "".join(DIGITS[35 - place // 36**power % 36] for power in (2, 1, 0))
+
+
+def text_of(verse: int) -> bytes:
+    return b"\\v %d a\n" % verse
+
+
+# --- Operations ---
+
+
+def falling_chapters(count: int) -> Input:
+    """One bundle whose chapters fall while its ids rise."""
+    places = ((book_code(at // 999), 999 - at % 999) for at in range(count))
+    operations = [operation((at, b"a"), book, chapter, 1, [], text_of(1)) for at, (book, chapter) in enumerate(places, 1)]
+    return fold(rising(operations))
+
+
+def falling_bundles(count: int) -> Input:
+    """Bundles of one operation each, whose ids fall."""
+    one = (operation((at, b"a"), "MAT", at % 999 + 1, at // 999 + 1, [], text_of(at // 999 + 1)) for at in range(count, 0, -1))
+    return fold(*(rising([it]) for it in one))
+
+
+def naming_all(count: int) -> Input:
+    """Operations of one segment, each of which names all before it."""
+    ids = [(at, b"a") for at in range(1, count + 1)]
+    return fold(rising([operation(it, "MAT", 1, 1, ids[:at], text_of(1)) for at, it in enumerate(ids)]))
+
+
+def conflicting(count: int) -> bytes:
+    """One segment with so many texts."""
+    return rising([operation((at, b"a"), "MAT", 1, 1, [], b"\\v 1 %d\n" % at) for at in range(1, count + 1)])
+
+
+def arriving_late(count: int) -> Input:
+    """An operation that names so many, and then these."""
+    ids = [(at, b"a") for at in range(1, count + 1)]
+    last = operation((count + 1, b"a"), "MAT", 1, 1, ids, text_of(1))
+    return fold(rising([last]), rising([operation(it, "MAT", 1, 1, [], text_of(1)) for it in ids]))
+
+
+def awaited(count: int) -> Input:
+    """Operations that name ids which never come."""
+    named = (operation((at, b"b"), "MAT", at % 999 + 1, 1, [(at - 1, b"a")], text_of(1)) for at in range(2, count + 2))
+    return Input(["report", PROJECT], {PROJECT: project(rising(list(named)))})
+
+
+def name_of(place: int) -> bytes:
+    """A replica's name."""
+    return b"n%06d" % place
+
+
+def many_names(count: int) -> bytes:
+    """Operations of as many replicas."""
+    return rising([operation((1, name_of(at)), "MAT", at % 999 + 1, 1, [], text_of(1)) for at in range(count)])
+
+
+def lacking(count: int) -> Input:
+    """A delta for a summary of every other replica."""
+    names = [name_of(at) for at in range(0, count, 2)]
+    ranges = b"".join(b"\x07" + it + struct.pack(">QQQ", 1, 1, 1) for it in names)
+    summary = b"USFMSS1\n" + struct.pack(">Q", len(names)) + ranges
+    return Input(["delta", PROJECT, "s"], {PROJECT: project(many_names(count)), "s": summary})
+
+
+# --- Texts ---
+
+
+def held(text: bytes) -> bytes:
+    """The file of ana's project that holds a book of one verse."""
+    head = operation((1, b"ana"), "MAT", 0, None, [], HEAD)
+    chapter = operation((2, b"ana"), "MAT", 1, None, [], b"\\c 1\n\\p\n")
+    verse = operation((3, b"ana"), "MAT", 1, 1, [], b"\\v 1 " + text)
+    return project(rising([head, chapter, verse]))
+
+
+def asked(command: str, text: bytes, *words: str, sheet: bytes = SHEET) -> Input:
+    return Input([command, PROJECT, "MAT", "sheet", *words], {PROJECT: held(text), "sheet": sheet})
+
+
+def imported(text: bytes) -> Input:
+    return Input(["import", PROJECT, "book"], {PROJECT: project(rising([])), "book": text})
+
+
+def words_of(count: int) -> bytes:
+    """So many distinct words, that rise and fall in turn."""
+    numbers = (at if at % 2 else count - at for at in range(count))
+    return b" ".join("".join(chr(97 + int(digit)) for digit in "%07d" % it).encode() for it in numbers)
+
+
+def composed(count: int) -> bytes:
+    """A letter with so many marks above and below it in turn, which have to be put in order."""
+    return ("a" + "\u0301\u0323" * (count // 2)).encode()
+
+
+def records(count: int, kind: bytes) -> bytes:
+    """A sheet with so many records more."""
+    more = b"".join(b"\\Marker m%d\n\\Endmarker e%d\n\\StyleType %s\n" % (at, count - at, kind) for at in range(count))
+    return SHEET + more
+
+
+def words_under(count: int) -> Input:
+    """So many marks whose style has as many words in OccursUnder."""
+    under = b"\\OccursUnder " + b" ".join(b"w%d" % at for at in range(count))
+    sheet = SHEET + b"\\Marker x\n\\Endmarker x*\n" + under + b"\n\\StyleType Character\n"
+    return asked("check", b"\\x a\\x*" * count, sheet=sheet)
+
+
+def falling_book(count: int) -> Input:
+    """A book whose chapters and verses fall."""
+    return imported(HEAD + b"".join(b"\\c %d\n\\v %d a\n" % (999 - at % 999, 999 - at // 999 % 999) for at in range(count)))
+
+
+def many_verses(count: int) -> Input:
+    """A book of so many verses."""
+    chapters = (b"\\c %d\n" % at + b"".join(b"\\v %d a\n" % it for it in range(1, 201)) for at in range(1, count // 200 + 1))
+    return imported(HEAD + b"".join(chapters))
+
+
+FAMILIES = [
+    Family("one bundle, its chapters fall while its ids rise", 8_000, 80_000, falling_chapters),
+    Family("bundles of one operation, their ids fall", 1_600, 16_000, falling_bundles),
+    Family("each operation names all before it", 400, 1_265, naming_all),
+    Family("one segment with many texts: folded", 10_000, 100_000, lambda n: fold(conflicting(n))),
+    Family("one segment with many texts: report", 10_000, 100_000, lambda n: Input(["report", PROJECT], {PROJECT: project(conflicting(n))})),
+    Family("one segment with many texts: shown", 10_000, 100_000, lambda n: Input(["shown", PROJECT, "MAT 1:1"], {PROJECT: project(conflicting(n))})),
+    Family("one segment with many texts: an edit over all", 10_000, 100_000, lambda n: Input(["edit", PROJECT, "MAT 1:1"], {PROJECT: project(conflicting(n))}, b"\\v 1 b\n")),
+    Family("what is replaced arrives after what replaces it", 10_000, 100_000, arriving_late),
+    Family("ids that never come", 10_000, 100_000, awaited),
+    Family("a delta among many replicas", 10_000, 100_000, lacking),
+    Family("a summary of many replicas", 10_000, 100_000, lambda n: Input(["summary", PROJECT], {PROJECT: project(many_names(n))})),
+    Family("nested marks: check", 100_000, 1_000_000, lambda n: asked("check", b"\\+nd" * n)),
+    Family("nested marks: words", 100_000, 1_000_000, lambda n: asked("words", b"\\+nd a" * n)),
+    Family("characters that are never closed: check", 100_000, 1_000_000, lambda n: asked("check", b"\\nd a" * n)),
+    Family("notes that are never closed: check", 100_000, 1_000_000, lambda n: asked("check", b"\\f + \\nd a" * n)),
+    Family("closing marks of nothing: check", 100_000, 1_000_000, lambda n: asked("check", b"\\nd*" * n)),
+    Family("a lone backslash, many times: check", 100_000, 1_000_000, lambda n: asked("check", b"\\" * n)),
+    Family("bridges that reach over all: check", 10_000, 100_000, lambda n: asked("check", b"\\v 1-999 a" * n)),
+    Family("one word many times", 100_000, 1_000_000, lambda n: asked("words", b"abc " * n)),
+    Family("many words", 10_000, 100_000, lambda n: asked("words", words_of(n))),
+    Family("a letter with many marks", 10_000, 100_000, lambda n: asked("words", composed(n))),
+    Family("a long needle that nearly stands everywhere", 100_000, 1_000_000, lambda n: asked("find", b"a" * n, "a" * 10_000 + "b")),
+    Family("a needle that stands everywhere", 100_000, 1_000_000, lambda n: asked("find", b"a" * n, "a")),
+    Family("a sheet of many records", 10_000, 100_000, lambda n: asked("check", b"a", sheet=records(n, b"Character"))),
+    Family("a sheet of many milestones, looked up by what closes them", 10_000, 100_000, lambda n: asked("check", b"\\e5 a" * n, sheet=records(n, b"Milestone"))),
+    Family("one line of a sheet that is very long", 100_000, 1_000_000, lambda n: asked("check", b"a", sheet=SHEET + b"\\Name " + b"# a" * n)),
+    Family("marks with many words in OccursUnder", 1_000, 10_000, words_under),
+    Family("a book whose chapters and verses fall: import", 10_000, 100_000, falling_book),
+    Family("a book of many verses: import", 10_000, 100_000, many_verses),
+]

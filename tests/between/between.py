@@ -1,0 +1,92 @@
+"""The program with a library between it and the C library, which refuses calls and says which ones were made."""
+import os
+import shutil
+import subprocess
+import sys
+from dataclasses import dataclass
+from pathlib import Path
+
+TOP = Path(__file__).resolve().parent.parent.parent
+# Far more than any run takes: a program that hangs is shown as one that fails.
+SECONDS = 300
+
+
+@dataclass(frozen=True)
+class Call:
+    """A call of the program: its kind, the handle or the path that it is on, the bytes asked for, and its answer."""
+
+    kind: str
+    on: str
+    asked: int
+    answer: int
+
+
+@dataclass(frozen=True)
+class Answer:
+    """What the program answered."""
+
+    status: int
+    output: bytes
+    error: bytes
+
+
+@dataclass(frozen=True)
+class Run:
+    """What the program answered, its calls, how often it asked for memory, and the most bytes that it held."""
+
+    answer: Answer
+    calls: list[Call]
+    asked: int
+    most_held: int
+
+
+def program_of_repository() -> Path:
+    """The program of this repository, which is built first where it is older than its sources."""
+    if subprocess.run([TOP / "usfm_team", "--help"], stdout=subprocess.DEVNULL).returncode != 0:
+        sys.exit(2)
+    return TOP / "crates/usfm_team/out/usfm_team"
+
+
+class Between:
+    """A copy of the program and the library, in a folder for what they write."""
+
+    def __init__(self, program: Path, work: Path) -> None:
+        self.program = Path(shutil.copy(program, work / "usfm_team"))
+        self.library = work / "between.so"
+        compiler = os.environ.get("CC", "cc")
+        source = Path(__file__).resolve().parent / "between.c"
+        subprocess.run([compiler, "-O2", "-shared", "-fPIC", "-o", self.library, source, "-ldl"], check=True)
+
+    def run(self, folder: Path, words: list[str], given: Path, refused: str = "") -> Run:
+        """What comes of the words in a folder, with a file as standard input, while a call is refused."""
+        told = folder.parent / f"{folder.name}.told"
+        told.unlink(missing_ok=True)
+        environment = {"LD_PRELOAD": str(self.library), "TOLD": str(told)}
+        if refused:
+            environment["REFUSE"] = refused
+        with open(given, "rb") as stream:
+            try:
+                ran = subprocess.run(
+                    [self.program, *words],
+                    cwd=folder,
+                    stdin=stream,
+                    capture_output=True,
+                    timeout=SECONDS,
+                    env=environment,
+                )
+            except subprocess.TimeoutExpired:
+                return Run(Answer(-1, b"", b"it does not end"), [], 0, 0)
+        answer = Answer(ran.returncode, ran.stdout, ran.stderr)
+        return Run(answer, *read_told(told)) if told.exists() else Run(answer, [], 0, 0)
+
+
+def read_told(path: Path) -> tuple[list[Call], int, int]:
+    """The calls that were written down, how often memory was asked for, and the most bytes that were held."""
+    *lines, last = path.read_text().splitlines()
+    calls = []
+    for line in lines:
+        kind, rest = line.split(" ", 1)
+        on, asked, answer = rest.rsplit(" ", 2)
+        calls.append(Call(kind, on, int(asked), int(answer)))
+    _, asked, most_held = last.split()
+    return calls, int(asked), int(most_held)

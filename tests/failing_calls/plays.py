@@ -1,0 +1,97 @@
+"""What the program is asked to do while calls fail: each subcommand, on the worked examples."""
+from dataclasses import dataclass, field
+
+from model.bundles import write_bundle, write_project
+from model.operations import Operation, set_of
+from model.references import BOOK_HEAD, HEAD, Id, Key, Verse
+from model.replicas import load
+from rows.vectors import ANAS, BENS, CLASHING, EMPTY, FIRST, SHEET, SUMMARY, THINNED
+
+PROJECT = "p"
+
+
+@dataclass(frozen=True)
+class Play:
+    """Words, the files of the folder before, standard input, and whether the project is a link to far/p."""
+
+    words: list[str]
+    files: dict[str, bytes] = field(default_factory=dict)
+    given: bytes = b""
+    is_linked: bool = False
+
+
+def project(bundle: bytes) -> bytes:
+    """The file of ana's project that holds a bundle's operations."""
+    return EMPTY[: -len(write_bundle({}))] + bundle
+
+
+def book(*pieces: tuple[Key, bytes]) -> bytes:
+    """The file of ana's project that holds a book of these pieces."""
+    operations = [Operation(Id(place, "ana"), "MAT", key, (), text) for place, (key, text) in enumerate(pieces, start=1)]
+    return project(write_bundle(set_of(operations)))
+
+
+def verse(number: int) -> Key:
+    return Key(1, Verse(number))
+
+
+HEAD_OF_BOOK = (BOOK_HEAD, b"\\id MAT\n")
+# Verse 2 stands after verse 3.
+FALLING = book(
+    HEAD_OF_BOOK,
+    (Key(1, HEAD), b"\\c 1\n"),
+    (verse(1), b"\\v 1 a "),
+    (verse(3), b"\\v 3 b \\v 2 c "),
+    (verse(4), b"\\v 4 d"),
+)
+GNATS = book(
+    HEAD_OF_BOOK,
+    (Key(1, HEAD), b"\\c 1\n\\p\n"),
+    (verse(1), b'\\v 1 In \\w gnat|lemma="gnat"\\w* the gnat\\f + \\ft gnat\\f*\n'),
+)
+HELD = project(FIRST)
+CHANGED = b"\\id MAT\n\\c 1\n\\v 1 At\n"
+
+
+def conflicting() -> bytes:
+    """The file of ana's project that holds three texts of a verse, of which one is replaced by both others."""
+    replica = load(HELD)
+    replica.receive(BENS)
+    replica.receive(ANAS)
+    return write_project("ana", replica.held)
+
+
+CONFLICTING = conflicting()
+
+PLAYS = [
+    Play(["init", PROJECT, "ana"]),
+    Play(["init", PROJECT, "ana"], {f"{PROJECT}.new": bytes(5_000)}),
+    Play(["import", PROJECT, "book"], {PROJECT: HELD, "book": CHANGED}),
+    Play(["import", PROJECT, "book"], {PROJECT: HELD, "book": b"\\id MAT\n"}),
+    Play(["import", PROJECT, "book"], {PROJECT: HELD, "book": b"\\c 1\n"}),
+    Play(["edit", PROJECT, "MAT 1:1"], {PROJECT: CONFLICTING}, b"\\v 1 As\n"),
+    Play(["edit", PROJECT, "LUK 1:1"], {PROJECT: HELD}, b"\\v 1 a"),
+    Play(["edit-over", PROJECT, "MAT 1:1", "3:ana"], {PROJECT: CONFLICTING}, b"\\v 1 As\n"),
+    Play(["edit-over", PROJECT, "MAT 1:1", "2:ana"], {PROJECT: CONFLICTING}, b"\\v 1 As\n"),
+    Play(["receive", PROJECT, "bundle"], {PROJECT: HELD, "bundle": BENS}),
+    Play(["receive", PROJECT, "bundle"], {PROJECT: HELD, "bundle": BENS}, is_linked=True),
+    Play(["receive", PROJECT, "bundle"], {PROJECT: EMPTY, "bundle": FIRST, f"{PROJECT}.new": bytes(5_000)}),
+    Play(["receive", PROJECT, "bundle"], {PROJECT: HELD, "bundle": CLASHING}),
+    Play(["receive", PROJECT, "bundle"], {PROJECT: HELD, "bundle": FIRST[:50]}),
+    Play(["receive", PROJECT, "bundle"], {PROJECT: HELD, "bundle": THINNED}),
+    Play(["receive", PROJECT, "bundle"], {PROJECT: HELD, "bundle": THINNED[:15] + b"\1" + THINNED[16:46]}),
+    Play(["thin", PROJECT], {PROJECT: CONFLICTING}),
+    Play(["thin", PROJECT], {PROJECT: HELD}),
+    Play(["shown", PROJECT, "MAT 1:1"], {PROJECT: CONFLICTING}),
+    Play(["send", PROJECT], {PROJECT: CONFLICTING}),
+    Play(["summary", PROJECT], {PROJECT: CONFLICTING}),
+    Play(["delta", PROJECT, "summary"], {PROJECT: CONFLICTING, "summary": SUMMARY}),
+    Play(["export", PROJECT, "MAT"], {PROJECT: HELD}),
+    Play(["report", PROJECT], {PROJECT: CONFLICTING}),
+    Play(["check", PROJECT, "MAT", "sheet"], {PROJECT: FALLING, "sheet": SHEET}),
+    Play(["find", PROJECT, "MAT", "sheet", "gnat"], {PROJECT: GNATS, "sheet": SHEET}),
+    Play(["words", PROJECT, "MAT", "sheet"], {PROJECT: GNATS, "sheet": SHEET}),
+    Play(["fold", "MAT"], given=FIRST + BENS + ANAS),
+    Play(["fold", "MAT"], given=FIRST + THINNED),
+    Play(["fold", "MAT"], given=FIRST + CLASHING),
+]
