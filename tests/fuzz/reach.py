@@ -4,8 +4,8 @@ from collections import Counter
 from making.plays import Play, Wanted
 from model.checks import CODES
 
-FAULTS = [10, 20, 21, 30, 40, 41, 42, 50, 51, 52, *range(60, 69), 70, 71]
-FAULTS += [80, 81, 82, 83, 100, 110, 120, 121, 130]
+FAULTS = [10, 20, 21, 30, 40, 41, 42, 50, 51, 52, *range(60, 72), 80]
+FAULTS += [81, 82, 83, 100, 110, 120, 121, 130]
 
 
 class Reach:

@@ -2,7 +2,7 @@
 from random import Random
 from typing import Sequence
 
-from model.bundles import BUNDLE_MAGIC, write_body, write_id, write_key, write_name, write_number
+from model.bundles import BUNDLE_MAGIC, THINNED_MAGIC, write_body, write_id, write_key, write_name, write_number
 from model.operations import Operation
 from model.references import GREATEST_NUMBER
 
@@ -23,7 +23,8 @@ def fields_of(operation: Operation) -> Fields:
     fields += [("count", write_number(len(operation.replaced), 8))]
     for named in operation.replaced:
         fields += id_fields(write_id(named), "named")
-    return fields + [("tag", body[:1]), ("length", body[1:9]), ("text", body[9:])]
+    fields += [("tag", body[:1])]
+    return fields if operation.text is None else fields + [("length", body[1:9]), ("text", body[9:])]
 
 
 def id_fields(id: bytes, kind: str) -> Fields:
@@ -54,23 +55,25 @@ def wrong_number(rng: Random, kind: str, number: int) -> int:
         "verse": [1000, 65535, number + 1],
         "letter": [1, ord("A"), ord("a") - 1, ord("z") + 1, 255, ord("a")],
         "count": [number + 1, number - 1, 2**63, 1],
-        "tag": [0, 2, 255],
+        "tag": [1 - number, 2, 255],
         "length": [number + 1, number - 1, -1, 2**63, 0],
     }
     return rng.choice(choices[kind])
 
 
-def joined(operations: Sequence[Fields], count: int) -> bytes:
+def joined(operations: Sequence[Fields], count: int, magic: bytes) -> bytes:
     """The bytes of a bundle of these operations, which says that it has so many."""
     data = b"".join(data for fields in operations for _, data in fields)
-    return BUNDLE_MAGIC + write_number(count, 8) + data
+    return magic + write_number(count, 8) + data
 
 
 def wrong_bundle(rng: Random, operations: Sequence[Operation]) -> bytes:
-    """A bundle of operations in which a field, an order or a count is changed."""
+    """A bundle of operations in which a field, an order, a count or the format is changed."""
     fields = [fields_of(it) for it in operations]
     count = len(fields)
-    change = rng.randrange(12)
+    magics = [BUNDLE_MAGIC, THINNED_MAGIC]
+    magic = magics[any(it.text is None for it in operations)]
+    change = rng.randrange(14)
     if change == 0 and count > 1:
         place = rng.randrange(count - 1)
         fields[place : place + 2] = fields[place : place + 2][::-1]
@@ -79,21 +82,34 @@ def wrong_bundle(rng: Random, operations: Sequence[Operation]) -> bytes:
         count += 1
     elif change == 2:
         count = rng.choice([0, max(count - 1, 0), count + 1, 2**64 - 1])
-    elif change == 3:
+    elif change in (3, 8):
         swap_named(rng, fields)
     elif change == 4:
-        return changed_magic(rng, joined(fields, count))
+        return changed_magic(rng, joined(fields, count, magic))
     elif change == 5:
         name_own_number(rng, fields)
+    elif change == 6:
+        magic = rng.choice(magics)
+        leave_text_out(rng, fields)
+    elif change == 7:
+        magic = rng.choice(magics)
     elif count:
         operation = rng.choice(fields)
         # By kinds, else most changes would be of the ids that an operation names.
-        kind = rng.choice(sorted({kind for kind, _ in operation}) + ["tag", "text", "text"])
+        last = operation[-1][0]
+        kind = rng.choice(sorted({kind for kind, _ in operation}) + ["tag", last, last])
         place = rng.choice([place for place, it in enumerate(operation) if it[0] == kind])
         operation[place] = (kind, wrong_field(rng, kind, operation[place][1]))
         if kind == "text":
             operation[place - 1] = ("length", write_number(len(operation[place][1]), 8))
-    return joined(fields, count)
+    return joined(fields, count, magic)
+
+
+def leave_text_out(rng: Random, fields: Sequence[Fields]) -> None:
+    """Leaves the text of an operation out, whether or not another one names it."""
+    full = [it for it in fields if it[-1][0] == "text"]
+    if full:
+        rng.choice(full)[-3:] = [("tag", b"\0")]
 
 
 def name_own_number(rng: Random, fields: Sequence[Fields]) -> None:
@@ -101,7 +117,8 @@ def name_own_number(rng: Random, fields: Sequence[Fields]) -> None:
     some = [it for it in fields if any(kind == "named number" for kind, _ in it)]
     if some:
         operation = rng.choice(some)
-        operation[-6] = ("named number", operation[0][1])
+        last = max(place for place, (kind, _) in enumerate(operation) if kind == "named number")
+        operation[last] = ("named number", operation[0][1])
 
 
 def changed_magic(rng: Random, data: bytes) -> bytes:

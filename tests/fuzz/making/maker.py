@@ -1,11 +1,13 @@
 """Makes plays from seeds."""
+from dataclasses import replace
 from functools import lru_cache
 from random import Random
 from typing import Optional
 
-from model.bundles import read_project, write_bundle
+from model.bundles import read_project, summary_of, write_bundle, write_summary
 from model.faults import Fault
-from model.operations import Operation, Set, export, keys_of, shown
+from model.operations import Operation, Set, export, keys_of, replaced_in, segment, set_of, shown
+from model.operations import without_text
 from model.program import LONGEST, Answer, Content, Folder, Zeros
 from model.references import BOOK_HEAD, GREATEST_NUMBER, HEAD, Id, Key, Verse, write_ref
 from model.tokens import fits
@@ -193,6 +195,13 @@ class Maker:
             return self.rng.choice(sorted(held))
         return Id(self.rng.choice([1, 2, 3, 5, 8, 13]), self.rng.choice(NAMES))
 
+    def thin(self) -> None:
+        """Leaves texts out, and perhaps looks at what this must not change."""
+        project = self.any_project()
+        self.step("thin", project)
+        if self.rng.random() < 0.4:
+            self.rng.choice([self.export, self.report, self.show, self.lacking_delta, self.rename])()
+
     def show(self) -> None:
         project = self.any_project()
         self.step("shown", project, write_ref(*self.any_segment(project)))
@@ -243,6 +252,9 @@ class Maker:
             operation = self.forged(held, made)
             if operation is not None:
                 made[operation.id] = operation
+        for id in replaced_in(made):
+            if self.rng.random() < 0.5:
+                made[id] = without_text(made[id])
         operations = [made[id] for id in sorted(made)]
         bundle = write_bundle(made)
         if self.rng.random() < 0.45:
@@ -267,6 +279,37 @@ class Maker:
         named |= {self.any_id(held) for _ in range(self.rng.choice([0, 0, 1, 2, 3]))}
         return Operation(id, book, key, tuple(sorted(it for it in named if it.number < id.number)), text)
 
+    def lacking_delta(self) -> None:
+        """What a project has beside all but a few of its own operations, of which some may be replaced."""
+        project = self.any_project()
+        held = self.held(project)
+        lacked = self.rng.sample(sorted(held), min(len(held), self.rng.choice([0, 1, 1, 2])))
+        replaced = sorted(replaced_in(held))
+        lacked += self.rng.sample(replaced, min(len(replaced), 1))
+        summary = write_summary(summary_of({id: it for id, it in held.items() if id not in lacked}))
+        self.bundles.append(self.step("delta", project, "summary", summary=summary).output)
+
+    def forge_thinned(self) -> None:
+        """The operations of a segment, some without their texts; one may be missing, or be elsewhere."""
+        project = self.any_project()
+        replaced = replaced_in(self.held(project))
+        if not replaced:
+            return
+        one = self.rng.choice(list(replaced.values()))
+        made = set_of(segment(self.held(project), one.book, one.key))
+        for id in replaced.keys() & made.keys():
+            if id == one.id or self.rng.random() < 0.5:
+                made[id] = without_text(made[id])
+        changed = made.pop(self.rng.choice(sorted(made)))
+        key = self.any_key(self.held(project), one.book)
+        elsewhere = replace(changed, key=key, text=changed.text and make_text(self.rng, one.book, key))
+        alone = replace(changed, replaced=changed.replaced[1:])
+        other = self.rng.choice([None, changed, changed, elsewhere, alone])
+        if other is not None and (other.text is None or fits(other.book, other.key, other.text)):
+            made[other.id] = other
+        self.bundles.append(write_bundle(made))
+        self.receive(self.bundles[-1])
+
     def use_numbers_up(self) -> None:
         """A bundle after which few numbers are left for edits, or none."""
         project = self.any_project()
@@ -277,16 +320,17 @@ class Maker:
         self.rng.choice([self.edit, self.import_book])()
 
     def rename(self) -> None:
-        """Operations beside held ones that differ in the name or the text alone, or in nothing."""
+        """Operations beside held ones that differ in the name, the named ids or the text alone, or in nothing."""
         project = self.any_project()
         held = list(self.held(project).values())
         more: Set = {}
         names = NAMES if self.rng.random() < 0.7 else []
         for old in self.rng.sample(held, min(len(held), self.rng.choice([1, 2, 4, 6]))):
             text = self.rng.choice([old.text, make_text(self.rng, old.book, old.key)])
-            if fits(old.book, old.key, text):
+            replaced = self.rng.choice([old.replaced, old.replaced, old.replaced[1:]])
+            if text is None or fits(old.book, old.key, text):
                 id = Id(old.id.number, self.rng.choice([old.id.name, *names]))
-                more[id] = Operation(id, old.book, old.key, old.replaced, text)
+                more[id] = Operation(id, old.book, old.key, replaced, text)
         self.step("receive", project, "bundle", bundle=write_bundle(more))
         if self.rng.random() < 0.5:
             self.step("report", project)
@@ -382,10 +426,10 @@ class Maker:
 
 ACTIONS = [Maker.import_book, Maker.edit, Maker.empty_chapter, Maker.edit_over, Maker.fork, Maker.show]
 WEIGHTS = [12, 10, 3, 9, 4, 5]
-ACTIONS += [Maker.exchange, Maker.receive_old, Maker.exchange_delta, Maker.odd_summary]
-WEIGHTS += [7, 3, 5, 3]
-ACTIONS += [Maker.forge, Maker.rename, Maker.use_numbers_up]
-WEIGHTS += [12, 4, 0.7]
+ACTIONS += [Maker.exchange, Maker.receive_old, Maker.exchange_delta, Maker.lacking_delta, Maker.odd_summary]
+WEIGHTS += [7, 3, 5, 2, 3]
+ACTIONS += [Maker.thin, Maker.forge, Maker.forge_thinned, Maker.rename, Maker.use_numbers_up]
+WEIGHTS += [6, 12, 5, 4, 0.7]
 ACTIONS += [Maker.export, Maker.report, Maker.check, Maker.words, Maker.find, Maker.fold]
 WEIGHTS += [6, 7, 11, 8, 9, 4]
 ACTIONS += [Maker.odd_project, Maker.wrong_words, Maker.long_file]

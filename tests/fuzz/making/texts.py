@@ -104,7 +104,7 @@ def make_noise(rng: Random, length: int, numbers: bool) -> str:
     if numbers:
         makers += [make_number] * 2
     noise = "".join(rng.choice(makers)(rng) for _ in range(rng.randint(0, length)))
-    return noise + (make_deep(rng) if rng.random() < 0.02 else "")
+    return noise + (make_deep(rng) if rng.random() < 0.03 else "")
 
 
 def make_verse_number(rng: Random, number: int) -> str:

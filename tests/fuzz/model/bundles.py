@@ -2,11 +2,12 @@
 from typing import Optional
 
 from .faults import Fault
-from .operations import Operation, Set
+from .operations import Operation, Set, replaced_in
 from .references import GREATEST_NUMBER, HEAD, Id, Key, Verse, is_name, read_book
 from .tokens import fits
 
 BUNDLE_MAGIC = b"USFMSR1\n"
+THINNED_MAGIC = b"USFMSR2\n"
 SUMMARY_MAGIC = b"USFMSS1\n"
 PROJECT_MAGIC = b"USFMPJ1\n"
 
@@ -40,24 +41,37 @@ def judge(holds: bool, number: int, *details: object) -> None:
         raise Fault(number, *details)
 
 
-def read_magic(source: Source) -> None:
-    """What a bundle begins with: a cut magic is a cut bundle, any other is none."""
+def read_magic(source: Source) -> bool:
+    """Whether texts may be left out of the bundle that begins so.
+
+    A magic that is cut is a cut bundle, and one that is neither of the two is none.
+    """
     found = source.data[source.at : source.at + len(BUNDLE_MAGIC)]
-    judge(BUNDLE_MAGIC.startswith(found), 60)
-    source.take(len(BUNDLE_MAGIC))
+    judge(BUNDLE_MAGIC.startswith(found) or THINNED_MAGIC.startswith(found), 60)
+    return source.take(len(BUNDLE_MAGIC)) == THINNED_MAGIC
 
 
 def read_bundle(source: Source) -> Set:
     """The operations of the bundle that comes next."""
-    read_magic(source)
+    may_thin = read_magic(source)
     count = source.number(8)
     held: Set = {}
     before: Optional[Id] = None
     for place in range(1, count + 1):
-        operation = read_operation(source, place, before)
+        operation = read_operation(source, place, before, may_thin)
         held[operation.id] = operation
         before = operation.id
+    if may_thin:
+        judge_thinned(held)
     return held
+
+
+def judge_thinned(held: Set) -> None:
+    """Refuses operations of which none is thinned, and the first thinned one that none of its segment names."""
+    judge(any(it.text is None for it in held.values()), 69, 0)
+    replaced = replaced_in(held)
+    for place, (id, operation) in enumerate(held.items(), start=1):
+        judge(operation.text is not None or id in replaced, 69, place)
 
 
 def read_whole_bundle(data: bytes) -> Set:
@@ -68,14 +82,14 @@ def read_whole_bundle(data: bytes) -> Set:
     return held
 
 
-def read_operation(source: Source, place: int, before: Optional[Id]) -> Operation:
+def read_operation(source: Source, place: int, before: Optional[Id], may_thin: bool) -> Operation:
     """The operation that comes next, which is at this place and after this id."""
     id = read_id(source, 63, place)
     judge(before is None or id > before, 62, place)
     book = read_book_code(source, place)
     key = read_key(source, place)
     replaced = read_replaced(source, id, place)
-    text = read_body(source, book, key, place)
+    text = read_body(source, book, key, place, may_thin)
     return Operation(id, book, key, replaced, text)
 
 
@@ -124,9 +138,12 @@ def read_replaced(source: Source, id: Id, place: int) -> tuple[Id, ...]:
     return tuple(replaced)
 
 
-def read_body(source: Source, book: str, key: Key, place: int) -> Optional[bytes]:
-    """The text of an operation, after its tag."""
-    judge(source.number(1) == 1, 66, place)
+def read_body(source: Source, book: str, key: Key, place: int, may_thin: bool) -> Optional[bytes]:
+    """The text of an operation, after its tag, or none where the tag says that it was left out."""
+    tag = source.number(1)
+    judge(tag == 1 or (tag == 0 and may_thin), 66, place)
+    if tag == 0:
+        return None
     text = source.take(source.number(8))
     try:
         text.decode("utf-8")
@@ -160,7 +177,9 @@ def write_key(key: Key) -> bytes:
 
 
 def write_body(text: Optional[bytes]) -> bytes:
-    """The tag and the text of an operation."""
+    """The tag and the text of an operation, or the tag of one whose text was left out."""
+    if text is None:
+        return write_number(0, 1)
     return write_number(1, 1) + write_number(len(text), 8) + text
 
 
@@ -178,8 +197,9 @@ def write_operation(operation: Operation) -> bytes:
 
 def write_bundle(held: Set) -> bytes:
     """The bundle of a set, by rising id."""
+    magic = THINNED_MAGIC if any(it.text is None for it in held.values()) else BUNDLE_MAGIC
     operations = b"".join(write_operation(held[id]) for id in sorted(held))
-    return BUNDLE_MAGIC + write_number(len(held), 8) + operations
+    return magic + write_number(len(held), 8) + operations
 
 
 # For each name the ranges of held numbers, each with its first and its last number.
@@ -242,13 +262,19 @@ def read_ranges(source: Source) -> list[tuple[int, int]]:
     return ranges
 
 
+def is_covered(summary: Summary, id: Id) -> bool:
+    """Whether an id lies in the ranges of a summary."""
+    return any(first <= id.number <= last for first, last in summary.get(id.name, []))
+
+
 def outside(held: Set, summary: Summary) -> Set:
-    """The operations whose ids a summary does not have: what the delta for it holds."""
-    return {
-        id: it
-        for id, it in held.items()
-        if not any(first <= id.number <= last for first, last in summary.get(id.name, []))
-    }
+    """What the delta for a summary holds: the operations whose ids it does not have.
+
+    With a thinned one go all operations of its segment, since one of them names it.
+    """
+    lacking = {id: it for id, it in held.items() if not is_covered(summary, id)}
+    whole = {(it.book, it.key) for it in lacking.values() if it.text is None}
+    return {id: it for id, it in held.items() if id in lacking or (it.book, it.key) in whole}
 
 
 def write_project(name: str, held: Set) -> bytes:

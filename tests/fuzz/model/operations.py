@@ -1,5 +1,5 @@
 """Operations, and sets of them: what a segment shows, what is picked for a book, and the conflict report."""
-from dataclasses import dataclass
+from dataclasses import dataclass, replace
 from typing import Iterable, Optional
 
 from .faults import Fault
@@ -29,12 +29,39 @@ def set_of(operations: Iterable[Operation]) -> Set:
     return {it.id: it for it in operations}
 
 
+def without_text(operation: Operation) -> Operation:
+    """An operation whose text is left out."""
+    return replace(operation, text=None)
+
+
+def agree(one: Operation, other: Operation) -> bool:
+    """Whether two operations of one id can be the same, which a text that was left out does not hinder."""
+    if one.text is None or other.text is None:
+        return without_text(one) == without_text(other)
+    return one == other
+
+
 def join(held: Set, more: Set) -> Set:
-    """The union of two sets, refused with the least id under which they have different operations."""
-    clashes = [id for id in more if id in held and held[id] != more[id]]
+    """The union of two sets, refused with the least id under which they have operations that do not agree.
+
+    What one of the two has without its text stays without it.
+    """
+    clashes = [id for id in more if id in held and not agree(held[id], more[id])]
     if clashes:
         raise Fault(51, *min(clashes))
-    return {**held, **more}
+    left_out = {id: it for id, it in held.items() if it.text is None}
+    return {**held, **more, **left_out}
+
+
+def replaced_in(held: Set) -> Set:
+    """The operations that a held operation of their segment names."""
+    named = {(it.book, it.key, id) for it in held.values() for id in it.replaced}
+    return {id: it for id, it in held.items() if (it.book, it.key, id) in named}
+
+
+def thin(held: Set) -> Set:
+    """The set without the texts of what is replaced."""
+    return {**held, **{id: without_text(it) for id, it in replaced_in(held).items()}}
 
 
 def segment(held: Set, book: str, key: Key) -> list[Operation]:

@@ -51,6 +51,7 @@ SHAPES: dict[str, tuple[Callable, ...]] = {
     "check": (FILE, read_book, FILE),
     "find": (FILE, read_book, FILE, NEEDLE),
     "words": (FILE, read_book, FILE),
+    "thin": (FILE,),
     "fold": (read_book,),
 }
 
@@ -120,6 +121,7 @@ def execute(replica: Replica, command: str, values: Sequence, given: bytes, ids:
         "check": replica.check,
         "find": replica.find,
         "words": replica.words,
+        "thin": replica.thin,
     }
     return calls[command](*values)
 

@@ -18,7 +18,7 @@ from .bundles import (
 from .checks import check
 from .faults import Fault, text_of
 from .operations import Operation, Set, export, has_book, has_chapter_line, join, pick, picked_keys, report
-from .operations import set_of, shown
+from .operations import set_of, shown, thin
 from .references import BOOK_HEAD, GREATEST_NUMBER, Id, Key, write_key, write_ref
 from .sheets import read_sheet
 from .tokens import book_of, cut, fits
@@ -102,8 +102,15 @@ class Replica:
         self.held = united
         return b"new %d\n" % new
 
+    def thin(self) -> bytes:
+        """Leaves out the texts of what is replaced."""
+        thinned = thin(self.held)
+        newly = sum(it != thinned[id] for id, it in self.held.items())
+        self.held = thinned
+        return b"thinned %d\n" % newly
+
     def shown(self, book: str, key: Key) -> bytes:
-        """Tells what a segment shows."""
+        """Says what a segment shows."""
         told = b""
         for it in shown(self.held, book, key):
             told += b"op %d %s %d\n%s\n" % (it.id.number, it.id.name.encode(), len(it.text), it.text)

@@ -4,7 +4,7 @@ from typing import Iterator
 from model.bundles import Source, read_bundle, read_summary, read_whole_bundle, write_bundle, write_summary
 from model.checks import check
 from model.faults import text_of
-from model.operations import join
+from model.operations import Operation, join, thin
 from model.references import BOOK_HEAD, HEAD, Id, Key, Verse, VerseMark, book_rank, chapter_after, read_id
 from model.references import read_name, read_ref, verse_after, write_ref
 from model.replicas import load, save
@@ -13,7 +13,7 @@ from model.sheets import read_sheet
 from model.tokens import book_of, cut, fits, tokens_of
 from model.trees import Kind, Node, tree_of
 
-from .vectors import ANAS, BENS, CLASHING, EMPTY, FIRST, SHEET, SUMMARY, answer_of
+from .vectors import ANAS, BENS, CLASHING, EMPTY, FIRST, SHEET, SUMMARY, THINNED, answer_of
 
 Rows = Iterator[tuple[object, object]]
 
@@ -234,13 +234,35 @@ def bundles() -> Rows:
     yield answer_of(read_whole_bundle, FIRST + b"\0"), b"fault 70\n"
     for length in range(len(FIRST)):
         yield answer_of(read_whole_bundle, FIRST[:length]), b"fault 61\n"
-    yield answer_of(read_whole_bundle, b"USFMSR2"), b"fault 60\n"
+    for magic, wanted in [(b"USFMSR2", b"fault 61\n"), (b"USFMSR3", b"fault 60\n"), (b"USFM2", b"fault 60\n")]:
+        yield answer_of(read_whole_bundle, magic), wanted
+
+
+def thinned_bundles() -> Rows:
+    """Bundles with thinned operations."""
+    first, thinned = read_whole_bundle(FIRST), read_whole_bundle(THINNED)
+    yield (len(THINNED), write_bundle(thinned)), (104, THINNED)
+    for joined in (join(first, thinned), join(thinned, first)):
+        yield (len(write_bundle(joined)), thin(joined)), (150, joined)
+        yield [joined[id].text for id in sorted(joined)], [b"\\id MAT\n", None, b"\\v 1 At\n"]
+    for length in range(len(THINNED)):
+        yield answer_of(read_whole_bundle, THINNED[:length]), b"fault 61\n"
+    yield answer_of(read_whole_bundle, THINNED + b"\0"), b"fault 70\n"
+    alone = THINNED[:15] + b"\1" + THINNED[16:46]
+    for bundle in (alone, alone + b"\0"):
+        yield answer_of(read_whole_bundle, bundle), b"fault 69 1\n"
+    last = Operation(Id(3, "ben"), "MAT", verse(1, 2), (Id(2, "ana"),), b"\\v 2 b\n")
+    elsewhere = write_bundle({**thinned, last.id: last})
+    yield answer_of(read_whole_bundle, elsewhere), b"fault 69 1\n"
+    yield answer_of(read_whole_bundle, elsewhere[:-3] + b"\xff b"), b"fault 67 2\n"
+    yield answer_of(read_whole_bundle, FIRST[:8] + THINNED[8:]), b"fault 66 1\n"
+    yield answer_of(read_whole_bundle, THINNED[:16] + FIRST[16:]), b"fault 69 0\n"
 
 
 def changed_bundles() -> Rows:
     """Bundles with one byte changed."""
     for place, byte, wanted in [
-        *((0, 0x54, "60"), (15, 0x03, "61"), (15, 0x01, "70"), (23, 0x00, "63 1"), (24, 0x00, "63 1")),
+        *((0, 0x54, "60"), (6, 0x32, "69 0"), (15, 0x03, "61"), (15, 0x01, "70"), (23, 0x00, "63 1"), (24, 0x00, "63 1")),
         *((24, 0x21, "63 1"), (25, 0x41, "63 1"), (28, 0x6D, "64 1"), (35, 0x01, "64 1"), (37, 0x7F, "65 1")),
         *((45, 0x02, "66 1"), (45, 0x00, "66 1"), (46, 0xFF, "61"), (53, 0x09, "63 2"), (54, 0xFF, "67 1")),
         *((69, 0x01, "62 2"), (82, 0x41, "64 2"), (103, 0x32, "68 2")),
@@ -264,4 +286,4 @@ def summaries() -> Rows:
 
 
 PARTS = [references, ids, numbers, tokens, pieces, fitting, books, sheets, trees, deep_trees, findings, hits]
-PARTS += [bundles, changed_bundles, summaries]
+PARTS += [bundles, thinned_bundles, changed_bundles, summaries]

@@ -2,12 +2,12 @@
 from itertools import permutations
 from typing import Iterator
 
-from model.bundles import write_bundle
+from model.bundles import read_whole_bundle, write_bundle, write_summary
 from model.operations import Operation, set_of
 from model.program import LONGEST, USAGE, Zeros, run
 from model.references import BOOK_HEAD, Id, Key, Verse
 
-from .vectors import ANAS, BENS, BOOK, CLASHING, CONFLICT, EMPTY, FIRST, SUMMARY, Team
+from .vectors import ANAS, BENS, BOOK, CLASHING, CONFLICT, EMPTY, FIRST, SUMMARY, THINNED, Team
 
 Rows = Iterator[tuple[object, object]]
 
@@ -196,6 +196,68 @@ def relayed() -> Rows:
         yield (team.export(name), team.report(name)), (b"\\id MAT\n\\c 1\n\\v 1 To\n", b"")
 
 
+def thinned() -> Rows:
+    """Texts that are left out."""
+    team = Team("ana")
+    for bundle in (FIRST, BENS, ANAS):
+        team.receives("ana", bundle)
+    yield len(team.does("send", "ana")), 224
+    shown = team.does("shown", "ana", "MAT 1:1")
+    yield [team.does("thin", "ana"), team.does("thin", "ana")], [b"thinned 1\n", b"thinned 0\n"]
+    yield (team.export("ana"), team.report("ana")), (b"\\id MAT\n\\c 1\n\\v 1 At\n", CONFLICT)
+    yield team.does("shown", "ana", "MAT 1:1"), shown
+    yield (len(team.does("send", "ana")), len(team.folder["ana"])), (208, 220)
+    ranges = {"ana": [(1, 1), (3, 3)], "ben": [(3, 3)]}
+    delta = team.delta("ana", write_summary(ranges))
+    yield (len(delta), list(read_whole_bundle(delta))), (162, [Id(2, "ana"), Id(3, "ana"), Id(3, "ben")])
+    yield team.delta("ana", SUMMARY), BENS
+    yield team.delta("ana", write_summary({"ana": [(1, 2)], "ben": [(3, 3)]})), ANAS
+    elsewhere = Operation(Id(2, "ana"), "MAT", Key(1, Verse(3)), (), b"\\v 3 x\n")
+    clashing = read_whole_bundle(CLASHING)
+    before = team.folder["ana"]
+    yield team.receives("ana", write_bundle({**clashing, elsewhere.id: elsewhere})), b"fault 51 2 ana\n"
+    yield team.folder["ana"], before
+    yield team.receives("ana", CLASHING), b"new 2\n"
+    yield read_whole_bundle(team.does("send", "ana"))[elsewhere.id].text, None
+
+
+def thinned_elsewhere() -> Rows:
+    """Thinned operations that come."""
+    team = Team("ana", "ben", "cy")
+    team.receives("ana", FIRST)
+    yield team.receives("ana", THINNED), b"new 1\n"
+    yield (team.export("ana"), team.does("thin", "ana")), (b"\\id MAT\n\\c 1\n\\v 1 At\n", b"thinned 0\n")
+    yield (team.receives("ben", THINNED), team.report("ben")), (b"new 2\n", b"")
+    yield team.receives("ben", FIRST), b"new 1\n"
+    yield team.does("send", "ben"), team.does("send", "ana")
+    yield team.does("fold", "MAT", given=FIRST + THINNED), b"\\id MAT\n\\c 1\n\\v 1 At\n"
+    yield team.does("fold", "MAT", given=FIRST + FIRST[:6] + b"2" + FIRST[7:]), b"fault 69 0\n"
+    other = Operation(Id(3, "ben"), "MAT", Key(1, Verse(2)), (Id(2, "ana"),), b"\\v 2 b\n")
+    team.receives("cy", FIRST)
+    team.receives("cy", write_bundle(set_of([other])))
+    yield team.does("thin", "cy"), b"thinned 0\n"
+
+
+def thinned_between() -> Rows:
+    """A thinning between edits and exchanges."""
+    team = Team("ana", "ben")
+    for name in ("ana", "ben"):
+        for bundle in (FIRST, BENS, ANAS):
+            team.receives(name, bundle)
+    yield team.does("thin", "ana"), b"thinned 1\n"
+    yield team.edits("ana", "MAT 1:1", b"\\v 1 As\n"), b"made 4 ana\n"
+    delta = team.delta("ana", team.does("summary", "ben"))
+    yield (len(delta), list(read_whole_bundle(delta))), (86, [Id(4, "ana")])
+    yield team.receives("ben", delta), b"new 1\n"
+    yield team.does("thin", "ana"), b"thinned 2\n"
+    sent = team.does("send", "ana")
+    yield len(sent), 246
+    for name in ("ana", "ben"):
+        yield (team.export(name), team.report(name)), (b"\\id MAT\n\\c 1\n\\v 1 As\n", b"")
+    yield (team.receives("ben", sent), team.does("thin", "ben")), (b"new 0\n", b"thinned 0\n")
+    yield (team.export("ben"), team.does("send", "ben")), (team.export("ana"), sent)
+
+
 def last_numbers() -> Rows:
     """The last number."""
     team = Team("ana")
@@ -207,4 +269,4 @@ def last_numbers() -> Rows:
 
 
 PARTS = [folded, received, imported, conflicting, empty_texts, equal_texts, refused, awaiting, late_marks]
-PARTS += [deltas, relayed, last_numbers]
+PARTS += [deltas, relayed, thinned, thinned_elsewhere, thinned_between, last_numbers]

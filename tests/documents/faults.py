@@ -1,0 +1,124 @@
+"""The faults of the code, and what the pages and the help say of each.
+
+The table of them is the code's own: the variants of `Fault` in usfm_cli and of the faults inside it. A variant has its
+number at the front of its comment, its details as its fields, and its sentence as what `#[error]` has.
+"""
+import re
+
+from tally import check, numbers_in, program, text_of
+
+FAULT = "crates/usfm_cli/src/fault.rt"
+# The faults that a variant of `Fault` may hold, and where they stand.
+INSIDE = {
+    "RefFault": "crates/usfm_ref/src/fault.rt",
+    "IdFault": "crates/op_core/src/fault.rt",
+    "BundleFault": "crates/bundle_codec/src/fault.rt",
+}
+# The details of a variant, by its fields.
+DETAILS = {"": [], "(OpId)": ["number", "name"], "(u64)": ["place"], "valid": ["length"], "line": ["line"], "gone": ["bytes"]}
+# The words that README, for readers who write no code, has for some of them.
+README_DETAILS = {"length": "bytes"}
+VARIANT = re.compile(r"((?:^    ///.*\n)+)    #\[error\(\"((?:[^\"\\]|\\.)+)\".*\)\]\n    (\w+)(.*),$", re.M)
+
+
+def fields(text):
+    """The details that the fields of a variant stand for, or the type of the fault inside it."""
+    inside = re.fullmatch(r"\((\w+Fault)\)", text)
+    if inside:
+        return inside[1]
+    named = re.fullmatch(r" \{ (\w+): \w+ \}", text)
+    return DETAILS.get(named[1] if named else text)
+
+
+def variants(path, name):
+    """The variants of a fault, each with its comment, its sentence and its details."""
+    body = re.search(rf"pub enum {name} \{{\n(.*?)^\}}", text_of(path), re.S | re.M)[1]
+    found = [(it[3], it[1], it[2], fields(it[4])) for it in VARIANT.finditer(body)]
+    check(len(found) == len(re.findall(r"^    \w+.*,$", body, re.M)), f"{path}: a variant of {name} has no comment or no sentence")
+    return found
+
+
+def numbers_of_code():
+    """The number of each variant of `Fault`, and of those inside it, as `fault_line` writes it."""
+    arms = re.findall(r"(\w+Fault|Fault)::(\w+)(?:\([_a-z]*\)| \{[^}]*\})?\)? => (\d+),", text_of("crates/usfm_cli/src/telling.rt"))
+    return {(kind, variant): int(number) for kind, variant, number in arms}
+
+
+def table():
+    """The faults by their numbers: the name, the sentence and the details of each."""
+    numbers, found = numbers_of_code(), {}
+    for name, comment, sentence, details in variants(FAULT, "Fault"):
+        if isinstance(details, str):
+            inner = variants(INSIDE[details], details)
+            rows = [(numbers.get((details, it[0])), *it) for it in inner]
+            # Out of memory is one fault, wherever it is met.
+            rows = [it for it in rows if found.get(it[0], ("",))[0] != it[1]]
+        else:
+            rows = [(numbers.get(("Fault", name)), name, comment, sentence, details)]
+        stated = numbers_in(re.search(r"/// ([^:]*):", comment)[1])
+        has = {it[0] for it in rows}
+        # The faults of a bundle are stated by their first and last number, and more may come between.
+        check(stated >= has and {min(stated), max(stated)} <= has, f"{FAULT}: {name} states {sorted(stated)}, and fault_line has {has}")
+        for number, name_inside, _, sentence_inside, its_details in rows:
+            check(number is not None, f"fault_line has no number for {name}, {name_inside}")
+            check(its_details is not None, f"{FAULT}: what are the details of {name_inside}?")
+            check(number not in found, f"the number {number} is of two faults")
+            found[number] = (name_inside, sentence_inside, its_details or [])
+    check(len(found) > 30, "the faults were not read from the code")
+    return found
+
+
+def check_formats(code):
+    rows = re.findall(r"^\| (\d+) \| (\w+) \| ([^|]*?) ?\| (.+?) \| (.+?) \|$", text_of("docs/FORMATS.md"), re.M)
+    check({int(it[0]) for it in rows} == set(code), f"FORMATS.md and the code differ in the faults {sorted({int(it[0]) for it in rows} ^ set(code))}")
+    for number, name, details, _, _ in rows:
+        _, _, wanted = code.get(int(number), ("", "", []))
+        check(details == ", ".join(wanted), f"FORMATS.md: the details of {number} are {wanted}")
+
+
+def check_readme(code):
+    rows = text_of("README.md").split("| Fault | What happened")[1].split("\n\n")[0].splitlines()[2:]
+    named = set()
+    for row in rows:
+        cell, *said = [it.strip() for it in row.strip("|").split(" | ")]
+        numbers = numbers_in(cell)
+        named |= numbers
+        check(len(said) == 2 and all(said), f"README.md: {cell} says not what happened or what to do")
+        if len(numbers & set(code)) == 1:
+            wanted = [README_DETAILS.get(it, it) for it in code[min(numbers)][2]]
+            check(re.findall(r"\*(\w+)\*", cell) == wanted, f"README.md: the details of {cell} are {wanted}")
+    # README has the faults of a bundle in one row, some of whose numbers nothing has.
+    check(named - set(range(60, 71)) == set(code) - set(range(60, 71)), f"README.md and the code differ in the faults {sorted(named ^ set(code))}")
+    check(set(code) <= named, f"README.md lacks the faults {sorted(set(code) - named)}")
+
+
+def check_width(command, page):
+    wide = [line for line in page.splitlines() if len(line) > 80]
+    check(not wide, f"the help of {command} is wider than a terminal of 80 columns: {wide[:1]}")
+
+
+def check_help(code):
+    """Each fault stands in the help of a command, with its details, and no other does."""
+    pages = {"usfm_team": program("--help")}
+    commands = re.findall(r"^  ([a-z-]+)  +[A-Z]", pages["usfm_team"].split("Commands:")[1].split("Options:")[0], re.M)
+    pages.update({it: program(it, "--help") for it in commands if it != "help"})
+    named = set()
+    for command, page in pages.items():
+        check_width(command, page)
+        for line in re.findall(r"^  (fault \d+.*?)(?:  |$)", page, re.M):
+            numbers = numbers_in(line)
+            named |= numbers
+            written = re.findall(r"\b[A-Z]+\b", line)
+            for number in numbers & set(code):
+                wanted = [README_DETAILS.get(it, it).upper() for it in code[number][2]]
+                shared = len(numbers) > 1 and not written
+                check(written == wanted or shared, f"the help of {command}: the details of {number} are {wanted}")
+    check(set(code) <= named, f"no page of help has the faults {sorted(set(code) - named)}")
+    check(named - set(range(60, 71)) <= set(code), f"help has faults that the code has not: {sorted(named - set(code))}")
+
+
+def check_faults():
+    code = table()
+    check_formats(code)
+    check_readme(code)
+    check_help(code)

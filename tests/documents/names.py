@@ -1,0 +1,69 @@
+"""What the documents name: files, calls, laws, clauses, tests and edits."""
+import importlib.machinery
+import importlib.util
+import os
+import re
+import shutil
+
+from tally import TOP, check, kept_files, pages, sources_of, text_of
+
+# A path of the repository between backticks, perhaps with words after it.
+PATH = re.compile(r"`((?:\./)?(?:\.ci|bench|compile-fail|completions|crates|docs|edits|samples|tests|usfm_team)(?:/[\w./-]+)?)((?: [^`]*)?)`")
+CALL = re.compile(r"`([a-z]+_[a-z]+|concordance)::((?:\w+::)*)(\{[^}]*\}|\w+)`")
+CLAUSES = re.compile(r"`(\w+)::(?:\w+::)*(\w+)`, clauses? ((?:`\w+`(?:, | and )?)+)")
+ROW = re.compile(r"^\| .* \|$", re.M)
+
+
+def check_links():
+    for page in pages():
+        for link in re.findall(r"\]\(([^)#:]+)(?:#[^)]*)?\)", page.read_text()):
+            check((page.parent / link).exists(), f"{page.name} links to {link}, which is not there")
+
+
+def check_paths():
+    """Each path of the repository that a page names is there, and a command line begins with a program."""
+    for page in pages():
+        for path, words in PATH.findall(page.read_text()):
+            file = TOP / path
+            check(file.exists(), f"{page.name} names {path}, which is not there")
+            if words and file.is_file():
+                check(os.access(file, os.X_OK), f"{page.name} has the command {path}{words}, and {path} is no program")
+
+
+def check_calls(page):
+    """Each call and law that the page names stands in its crate, and each clause in the call's contract."""
+    text = text_of(page)
+    for crate, path, names in CALL.findall(text):
+        sources = sources_of(crate)
+        for name in re.findall(r"\w+", path + names):
+            check(re.search(rf"\b(fn|struct|enum|trait|mod|const) {name}\b", sources), f"{page}: {crate} has no {path}{name}")
+    for crate, name, clauses in CLAUSES.findall(text):
+        contracts = re.findall(rf"\bpub fn {name}\b.*?\n *\{{\n", sources_of(crate), re.S)
+        for clause in re.findall(r"\w+", clauses.replace(" and ", " ")):
+            check(any(f"ensures {clause} {{" in it for it in contracts), f"{page}: {crate}::{name} has no clause {clause}")
+
+
+def check_tests(page):
+    """Each test and table of tests that the last column of a table names stands in a crate."""
+    tests = "".join(text_of(path) for path in kept_files() if re.search(r"/src/tests.*\.rt$", path))
+    for row in ROW.findall(text_of(page)):
+        for name in re.findall(r"`(\w+)`", row.split(" | ")[-1]):
+            check(re.search(rf"\b(fn|const) {name}\b", tests), f"{page}: no test has {name}")
+
+
+def load_rt():
+    """rt itself, whose reading of edits is that of the gate."""
+    loader = importlib.machinery.SourceFileLoader("rt", os.path.realpath(shutil.which("rt")))
+    made = importlib.util.module_from_spec(importlib.util.spec_from_loader("rt", loader))
+    loader.exec_module(made)
+    return made
+
+
+def check_edits():
+    """Each edit that the prover has to refuse still fits the sources that it edits."""
+    rt, wrong = load_rt(), []
+    for path in kept_files():
+        if path.endswith(".edit"):
+            why = rt.read_edit(str(TOP / path), str(TOP / "crates" / path.split("/")[1]))[1]
+            wrong += [f"{path}: {why}"] if why else []
+    check(not wrong, "\n".join(wrong))

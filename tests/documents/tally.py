@@ -1,0 +1,47 @@
+"""What was checked, and the files of the repository."""
+import re
+import subprocess
+from pathlib import Path
+
+TOP = Path(__file__).resolve().parent.parent.parent
+counts = [0, 0]
+
+
+def check(holds, what):
+    """Counts a check, and says what is wrong where it does not hold."""
+    counts[not holds] += 1
+    if not holds:
+        print(what)
+
+
+def text_of(path):
+    return (TOP / path).read_text()
+
+
+def pages():
+    """The pages that a reader opens."""
+    return [TOP / "README.md", TOP / "PROMISES.md", *sorted((TOP / "docs").glob("*.md"))]
+
+
+def kept_files():
+    """The files that git keeps, by their paths."""
+    listed = subprocess.run(["git", "-C", TOP, "ls-files", "-co", "--exclude-standard"], stdout=subprocess.PIPE, text=True, check=True)
+    return [path for path in listed.stdout.splitlines() if (TOP / path).is_file()]
+
+
+def sources_of(crate):
+    """All sources of a crate, one after another."""
+    return "".join(it.read_text() for it in sorted((TOP / "crates" / crate / "src").rglob("*.rt")))
+
+
+def program(*words):
+    """What the program prints, which is built first where it was not."""
+    return subprocess.run([TOP / "usfm_team", *words], stdout=subprocess.PIPE, text=True, check=True).stdout
+
+
+def numbers_in(text):
+    """The numbers of a text such as `40, 41, 42 *line*`, `60 to 70` or `fault 120, fault 121`."""
+    found = set()
+    for first, last in re.findall(r"\b(\d+)(?: to (\d+))?", text):
+        found |= set(range(int(first), int(last or first) + 1))
+    return found
