@@ -56,7 +56,7 @@ def of_first_format() -> list[Row]:
 
 def of_second_format() -> list[Row]:
     """Changed bundles of the second format."""
-    elsewhere = THINNED[:61] + THINNED[61:].replace(b"MAT\0\1\1\0\1", b"MAT\0\1\1\0\2").replace(b"\\v 1 At\n", b"\\v 2 b\n")
+    elsewhere = THINNED[:46] + THINNED[46:].replace(b"MAT\0\1\1\0\1", b"MAT\0\1\1\0\2").replace(b"\\v 1 At\n", b"\\v 2 b\n")
     elsewhere = elsewhere.replace(b"\1\0\0\0\0\0\0\0\x08\\v 2", b"\1\0\0\0\0\0\0\0\x07\\v 2")
     rows = [
         (changed(THINNED[:46], 15, 0x01), fault(69, 1)),
