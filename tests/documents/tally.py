@@ -24,8 +24,9 @@ def pages():
 
 
 def kept_files():
-    """The files that git keeps, by their paths."""
-    listed = subprocess.run(["git", "-C", TOP, "ls-files", "-co", "--exclude-standard"], stdout=subprocess.PIPE, text=True, check=True)
+    """The files that git keeps, by their paths, without packed branches that are not merged."""
+    words = ["ls-files", "-co", "--exclude-standard", "--", ":!parked"]
+    listed = subprocess.run(["git", "-C", TOP, *words], stdout=subprocess.PIPE, text=True, check=True)
     return [path for path in listed.stdout.splitlines() if (TOP / path).is_file()]
 
 
