@@ -3,24 +3,26 @@
  *
  *     REFUSE=KIND:NUMBER:HOW   the call of this kind that is refused, counted from 1, or each of them where NUMBER is 0;
  *                              HOW is an error's number, `none` for a write that takes nothing, `short` for a read or
- *                              a write of several bytes that moves one
- *     TOLD=FILE                where the calls are written down, a line each: kind, handle or path, bytes asked for,
- *                              answer; the last line is `memory`, how often it was asked for, and the most bytes that
+ *                              a write of several bytes that moves one, `kill` for the end of the program in its place
+ *     TOLD=FILE                where the calls are written down, a line each: kind, handle or path, bytes asked for or
+ *                              how a file is opened, answer; the last line is `memory`, how often it was asked for, and the most bytes that
  *                              were held at one time
  */
 #define _GNU_SOURCE
 #include <dlfcn.h>
 #include <errno.h>
 #include <malloc.h>
+#include <signal.h>
 #include <stdio.h>
 #include <stdlib.h>
 #include <string.h>
 
-enum kind { OPEN, READ, WRITE, SYNC, CLOSE, LOOK, FOLLOW, REMOVE, RENAME, MEMORY, KINDS };
+enum kind { OPEN, READ, WRITE, SYNC, CLOSE, LOOK, FOLLOW, REMOVE, RENAME, LOCK, MODE, GROUP, MEMORY, KINDS };
 
-static const char *const names[KINDS] = {"open", "read", "write", "sync", "close", "look", "follow", "remove", "rename", "memory"};
+static const char *const names[KINDS] = {"open",   "read",   "write", "sync", "close", "look",  "follow",
+                                         "remove", "rename", "lock",  "mode", "group", "memory"};
 
-enum { REFUSED_NOTHING = -1, REFUSED_SHORT = -2 };
+enum { REFUSED_NOTHING = -1, REFUSED_SHORT = -2, REFUSED_KILL = -3 };
 
 static struct {
     int is_on;
@@ -47,7 +49,10 @@ static void read_wish(const char *wish) {
         char *how;
         refused.kind = kind;
         refused.number = strtoul(wish + length + 1, &how, 10);
-        refused.how = !strcmp(how, ":none") ? REFUSED_NOTHING : !strcmp(how, ":short") ? REFUSED_SHORT : atoi(how + 1);
+        refused.how = !strcmp(how, ":none")    ? REFUSED_NOTHING
+                      : !strcmp(how, ":short") ? REFUSED_SHORT
+                      : !strcmp(how, ":kill")  ? REFUSED_KILL
+                                               : atoi(how + 1);
         refused.is_on = 1;
         return;
     }
@@ -57,7 +62,9 @@ static void read_wish(const char *wish) {
 /* Counts a call, and says whether it is one that is refused. */
 static int is_refused(enum kind kind) {
     made[kind]++;
-    return refused.is_on && refused.kind == kind && (refused.number == 0 || refused.number == made[kind]);
+    int is_it = refused.is_on && refused.kind == kind && (refused.number == 0 || refused.number == made[kind]);
+    if (is_it && refused.how == REFUSED_KILL) raise(SIGKILL);
+    return is_it;
 }
 
 /* Writes a call down, and gives its answer, with the error that goes with it. */
@@ -71,34 +78,49 @@ static long told(enum kind kind, const char *path, int handle, size_t asked, lon
     return answer;
 }
 
-/* The answer of a call on a path that is made, or refused. */
-#define ON_PATH(kind, path, call)                                  \
+/* The answer of a call on a path, or on a handle where there is none, that is made or refused. */
+#define ANSWER(kind, path, handle, asked, call)                    \
     do {                                                           \
         if (is_refused(kind)) {                                    \
             errno = refused.how;                                   \
-            return told(kind, path, 0, 0, -1);                     \
+            return told(kind, path, handle, asked, -1);            \
         }                                                          \
-        return told(kind, path, 0, 0, call);                       \
+        return told(kind, path, handle, asked, call);              \
     } while (0)
 
 int open(const char *path, int flags, unsigned mode) {
     int (*real)(const char *, int, unsigned) = next("open");
-    ON_PATH(OPEN, path, real(path, flags, mode));
+    ANSWER(OPEN, path, 0, flags, real(path, flags, mode));
 }
 
 int statx(int folder, const char *path, int flags, unsigned mask, void *found) {
     int (*real)(int, const char *, int, unsigned, void *) = next("statx");
-    ON_PATH(LOOK, path, real(folder, path, flags, mask, found));
+    ANSWER(LOOK, path, 0, 0, real(folder, path, flags, mask, found));
 }
 
 int unlink(const char *path) {
     int (*real)(const char *) = next("unlink");
-    ON_PATH(REMOVE, path, real(path));
+    ANSWER(REMOVE, path, 0, 0, real(path));
 }
 
 int rename(const char *from, const char *to) {
     int (*real)(const char *, const char *) = next("rename");
-    ON_PATH(RENAME, from, real(from, to));
+    ANSWER(RENAME, from, 0, 0, real(from, to));
+}
+
+int flock(int handle, int how) {
+    int (*real)(int, int) = next("flock");
+    ANSWER(LOCK, NULL, handle, how, real(handle, how));
+}
+
+int fchmod(int handle, unsigned mode) {
+    int (*real)(int, unsigned) = next("fchmod");
+    ANSWER(MODE, NULL, handle, mode, real(handle, mode));
+}
+
+int fchown(int handle, unsigned owner, unsigned group) {
+    int (*real)(int, unsigned, unsigned) = next("fchown");
+    ANSWER(GROUP, NULL, handle, group, real(handle, owner, group));
 }
 
 char *realpath(const char *path, char *found) {

@@ -1,62 +1,81 @@
-// Files of the program.
-use std::fs::File;
+// Files of the program, and the folders that they stand in.
+use std::fs::{File, OpenOptions};
 use std::io::ErrorKind;
+use std::os::unix::fs::OpenOptionsExt;
+use std::path::Path;
 use std::{fs, io};
 use usfm_cli::{Fault, StdSink, StdSource, read_to_end, write_all};
 
+// What only its owner may read and write.
+const OWNER_ALONE: u32 = 0o600;
+
 // The bytes of a file.
 pub(crate) fn read_file(rt: &HostRuntime, path: &str) -> Result<Vec<u8>, Fault> {
-    match File::open(rt, path) {
-        Ok(file) => {
-            let mut source = StdSource::new(file);
-            Ok(read_to_end(rt.alloc(), &mut source)?)
-        }
-        Err(_) => Err(Fault::ReadFailed),
-    }
+    let file = File::open(rt, path).map_err(|_| Fault::ReadFailed)?;
+    read_open(rt, &file)
 }
 
-// Makes the file of a project where nothing stands under its name. Whatever else comes of looking there, nothing
-// is made.
-pub(crate) fn begin_file(rt: &HostRuntime, path: &str, bytes: &[u8]) -> Result<(), Fault> {
-    match fs::symlink_metadata(rt, path) {
-        Err(error) if error.kind() == ErrorKind::NotFound => put_file(rt, path, bytes),
-        _ => Err(Fault::FileFailed),
-    }
+// The bytes of an open file that was not read yet.
+pub(crate) fn read_open(rt: &HostRuntime, file: &File) -> Result<Vec<u8>, Fault> {
+    let mut source = StdSource::new(file);
+    Ok(read_to_end(rt.alloc(), &mut source)?)
 }
 
-// Gives the file of a project these bytes. Where its name is a link, the file that it leads to gets them, and
-// the link stays: else the two would be two projects of one name from then on.
-pub(crate) fn replace_file(rt: &HostRuntime, path: &str, bytes: &[u8]) -> Result<(), Fault> {
-    let file = fs::symlink_metadata(rt, path).map_err(|_| Fault::FileFailed)?;
-    if file.is_symlink() {
-        let led = fs::canonicalize(rt, path).map_err(link_fault)?;
-        put_file(rt, led.as_path().as_str(), bytes)
-    } else {
-        put_file(rt, path, bytes)
-    }
-}
-
-// Writes the bytes to `PATH.new` and renames that to `PATH`. So the file has either its old bytes or the new ones.
-fn put_file(rt: &HostRuntime, path: &str, bytes: &[u8]) -> Result<(), Fault> {
-    let new = format!(in rt.alloc(); "{path}.new")?;
-    write_new(rt, new.as_str(), bytes)?;
-    fs::rename(rt, new.as_str(), path).map_err(|_| Fault::FileFailed)
-}
-
-// Writes a file of its own, in the place of a file or a link that stands there.
-fn write_new(rt: &HostRuntime, path: &str, bytes: &[u8]) -> Result<(), Fault> {
+// Makes a file that its owner alone may read, in the place of a file or a link that stands there.
+pub(crate) fn make_private(rt: &HostRuntime, path: &str) -> Result<File, Fault> {
     match fs::remove_file(rt, path) {
         Err(error) if error.kind() != ErrorKind::NotFound => return Err(Fault::FileFailed),
         _ => {}
     }
-    let file = File::create_new(rt, path).map_err(|_| Fault::FileFailed)?;
+    let made = OpenOptions::new()
+        .write(true)
+        .create_new(true)
+        .mode(OWNER_ALONE)
+        .open(rt, path);
+    made.map_err(|_| Fault::FileFailed)
+}
+
+// Writes the bytes to a file that was just made.
+pub(crate) fn write_made(file: &File, bytes: &[u8]) -> Result<(), Fault> {
     let mut sink = StdSink::new(file);
-    write_all(&mut sink, bytes).map_err(|_| Fault::FileFailed)?;
-    sink.into_inner().sync_all().map_err(|_| Fault::FileFailed)
+    write_all(&mut sink, bytes).map_err(|_| Fault::FileFailed)
+}
+
+// Waits until what was written to a file is on the disk.
+pub(crate) fn sync_file(file: &File) -> Result<(), Fault> {
+    file.sync_all().map_err(|_| Fault::FileFailed)
+}
+
+// The folder that a file stands in.
+pub(crate) fn open_folder(rt: &HostRuntime, path: &str) -> Result<File, Fault> {
+    let folder = match Path::new(path).parent() {
+        Some(folder) if !folder.as_str().is_empty() => folder.as_str(),
+        _ => ".",
+    };
+    File::open(rt, folder).map_err(|_| Fault::FileFailed)
+}
+
+// Waits until a folder's names are on the disk. A file system that syncs no folders answers by one of these two kinds.
+pub(crate) fn sync_folder(folder: &File) -> Result<(), Fault> {
+    match folder.sync_all() {
+        Err(error) => match error.kind() {
+            ErrorKind::InvalidInput | ErrorKind::Unsupported => Ok(()),
+            _ => Err(Fault::FileFailed),
+        },
+        Ok(()) => Ok(()),
+    }
+}
+
+// Waits until no other command has this file. A file system without locks lets each command go on.
+pub(crate) fn lock_file(file: &File) -> Result<(), Fault> {
+    match file.lock() {
+        Err(error) if error.kind() != ErrorKind::Unsupported => Err(Fault::FileFailed),
+        _ => Ok(()),
+    }
 }
 
 // The fault of an error of following a link. The name that it leads to takes memory.
-fn link_fault(error: io::Error) -> Fault {
+pub(crate) fn link_fault(error: io::Error) -> Fault {
     if error.kind() == ErrorKind::OutOfMemory {
         Fault::Memory
     } else {

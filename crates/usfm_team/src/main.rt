@@ -2,12 +2,14 @@
 #![tactic(auto)]
 
 mod files;
+mod project;
 #[cfg(test)]
 mod tests;
 
-use crate::files::{begin_file, read_file, replace_file};
+use crate::files::read_file;
+use crate::project::{begin_project, lock_project};
 use std::io;
-use std::io::{ErrorKind, Write};
+use std::io::{ErrorKind, IsTerminal, Write};
 use std::process::ExitCode;
 use usfm_cli::{
     Command, Fault, Line, LineFault, StdSink, StdSource, create, exec, fault_line, fold_stream,
@@ -18,6 +20,13 @@ use usfm_ref::Book;
 const REFUSED: u8 = 1;
 
 const USAGE: u8 = 2;
+
+// What stands at a terminal for the person who is to type a text, or to give bundles.
+const TYPE_A_TEXT: &str =
+    "usfm_team: type the segment's text with its mark, and end it with control-D on a new line\n";
+
+const GIVE_BUNDLES: &str =
+    "usfm_team: waiting for bundles on standard input, which control-D on a new line ends\n";
 
 fn main(rt: HostRuntime) -> ExitCode {
     match read_line(&rt) {
@@ -49,19 +58,24 @@ fn read_line(rt: &HostRuntime) -> Result<Line, LineFault> {
     }
 }
 
-// Does what a line asks for. Files are read in the order of the words, and standard input last.
+// Does what a line asks for. Files are read in the order of the words, and standard input last. A command that changes
+// a project reads it again when no other command can change it: who types a text holds up nobody.
 fn run(rt: &HostRuntime, line: Line) -> Result<(), Fault> {
     match line {
-        Line::Init { project, name } => begin_file(rt, &project, &create(rt.alloc(), name.text())?),
+        Line::Init { project, name } => begin_project(
+            rt,
+            &project,
+            &create(rt.alloc(), name.text())?,
+        ),
         Line::Import { project, file } => {
-            let bytes = read_file(rt, &project)?;
+            read_file(rt, &project)?;
             let file = read_file(rt, &file)?;
-            act(rt, &project, &bytes, &Command::Import(&file))
+            change(rt, &project, &Command::Import(&file))
         }
         Line::Edit { project, book, key } => {
-            let bytes = read_file(rt, &project)?;
-            let text = &read_input(rt)?;
-            act(rt, &project, &bytes, &Command::Edit { book, key, text })
+            read_file(rt, &project)?;
+            let text = &read_text(rt)?;
+            change(rt, &project, &Command::Edit { book, key, text })
         }
         Line::EditOver {
             project,
@@ -69,8 +83,8 @@ fn run(rt: &HostRuntime, line: Line) -> Result<(), Fault> {
             key,
             ids,
         } => {
-            let bytes = read_file(rt, &project)?;
-            let text = &read_input(rt)?;
+            read_file(rt, &project)?;
+            let text = &read_text(rt)?;
             let ids = &ids;
             let command = Command::EditOver {
                 book,
@@ -78,12 +92,12 @@ fn run(rt: &HostRuntime, line: Line) -> Result<(), Fault> {
                 text,
                 ids,
             };
-            act(rt, &project, &bytes, &command)
+            change(rt, &project, &command)
         }
         Line::Receive { project, bundle } => {
-            let bytes = read_file(rt, &project)?;
+            read_file(rt, &project)?;
             let bundle = read_file(rt, &bundle)?;
-            act(rt, &project, &bytes, &Command::Receive(&bundle))
+            change(rt, &project, &Command::Receive(&bundle))
         }
         Line::Shown { project, book, key } => ask(rt, &project, &Command::Shown(book, key)),
         Line::Send { project } => ask(rt, &project, &Command::Send),
@@ -92,9 +106,9 @@ fn run(rt: &HostRuntime, line: Line) -> Result<(), Fault> {
         Line::Delta { project, summary } => {
             let bytes = read_file(rt, &project)?;
             let summary = read_file(rt, &summary)?;
-            act(rt, &project, &bytes, &Command::Delta(&summary))
+            answer(rt, &bytes, &Command::Delta(&summary))
         }
-        Line::Thin { project } => ask(rt, &project, &Command::Thin),
+        Line::Thin { project } => change(rt, &project, &Command::Thin),
         Line::Report { project } => ask(rt, &project, &Command::Report),
         Line::Check {
             project,
@@ -103,7 +117,7 @@ fn run(rt: &HostRuntime, line: Line) -> Result<(), Fault> {
         } => {
             let bytes = read_file(rt, &project)?;
             let sheet = read_file(rt, &sheet)?;
-            act(rt, &project, &bytes, &Command::Check(book, &sheet))
+            answer(rt, &bytes, &Command::Check(book, &sheet))
         }
         Line::Find {
             project,
@@ -113,7 +127,7 @@ fn run(rt: &HostRuntime, line: Line) -> Result<(), Fault> {
         } => {
             let bytes = read_file(rt, &project)?;
             let sheet = read_file(rt, &sheet)?;
-            act(rt, &project, &bytes, &Command::Find(book, &sheet, &needle))
+            answer(rt, &bytes, &Command::Find(book, &sheet, &needle))
         }
         Line::Words {
             project,
@@ -122,7 +136,7 @@ fn run(rt: &HostRuntime, line: Line) -> Result<(), Fault> {
         } => {
             let bytes = read_file(rt, &project)?;
             let sheet = read_file(rt, &sheet)?;
-            act(rt, &project, &bytes, &Command::Words(book, &sheet))
+            answer(rt, &bytes, &Command::Words(book, &sheet))
         }
         Line::Fold(book) => fold(rt, book),
     }
@@ -130,30 +144,48 @@ fn run(rt: &HostRuntime, line: Line) -> Result<(), Fault> {
 
 // Does a command on a project's file that it reads first.
 fn ask(rt: &HostRuntime, project: &str, command: &Command<'_>) -> Result<(), Fault> {
-    act(rt, project, &read_file(rt, project)?, command)
+    answer(rt, &read_file(rt, project)?, command)
 }
 
-// Does a command on a project's file, which has these bytes: first the file is replaced where the command
-// changes it, and then the command's output is written.
-fn act(rt: &HostRuntime, project: &str, bytes: &[u8], command: &Command<'_>) -> Result<(), Fault> {
+// Does a command that changes nothing on the bytes of a project's file.
+fn answer(rt: &HostRuntime, bytes: &[u8], command: &Command<'_>) -> Result<(), Fault> {
     let outcome = exec(rt.alloc(), bytes, command)?;
-    if outcome.project() != bytes {
-        replace_file(rt, project, outcome.project())?;
+    write_output(rt, outcome.output())
+}
+
+// Does a command on a project's file while no other command changes it. The file is replaced where its bytes are
+// others, and only then, when others may go on, the output is written.
+fn change(rt: &HostRuntime, path: &str, command: &Command<'_>) -> Result<(), Fault> {
+    let project = lock_project(rt, path)?;
+    let bytes = project.read(rt)?;
+    let outcome = exec(rt.alloc(), &bytes, command)?;
+    if outcome.project() != bytes.as_slice() {
+        project.replace(rt, outcome.project())?;
     }
+    drop(project);
     write_output(rt, outcome.output())
 }
 
 // Folds the bundles of standard input into a book.
 fn fold(rt: &HostRuntime, book: Book) -> Result<(), Fault> {
+    say_at_terminal(rt, GIVE_BUNDLES);
     let mut source = StdSource::new(rt.reader());
     let mut sink = StdSink::new(io::writer(rt));
     fold_stream(rt.alloc(), &mut source, &mut sink, book)
 }
 
-// The bytes of standard input.
-fn read_input(rt: &HostRuntime) -> Result<Vec<u8>, Fault> {
+// The text that standard input has.
+fn read_text(rt: &HostRuntime) -> Result<Vec<u8>, Fault> {
+    say_at_terminal(rt, TYPE_A_TEXT);
     let mut source = StdSource::new(rt.reader());
     Ok(read_to_end(rt.alloc(), &mut source)?)
+}
+
+// Says at a terminal what a command waits for. Where that cannot be written, it waits all the same.
+fn say_at_terminal(rt: &HostRuntime, line: &str) {
+    if rt.stdin().is_terminal() {
+        let _ = rt.stderr().write_all(line.as_bytes());
+    }
 }
 
 // Writes to standard output. It has no buffer here, so nothing is left to flush.

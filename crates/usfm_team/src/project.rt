@@ -1,0 +1,131 @@
+// A project's file. One command at a time changes it, and what a command changed is on the disk before it answers.
+use crate::files::{
+    link_fault, lock_file, make_private, open_folder, read_open, sync_file, sync_folder, write_made,
+};
+use std::fs;
+use std::fs::{File, Metadata, OpenOptions, Permissions};
+use std::os::unix::fs::{MetadataExt, PermissionsExt, fchown};
+use std::path::PathBuf;
+use usfm_cli::Fault;
+
+// A project's file that no other command changes until this value is dropped.
+#[derive(Drop)]
+pub(crate) struct Project {
+    file: File,
+    // The file's own name, where the name in the line is a link.
+    place: PathBuf,
+}
+
+// Waits for the file of a project until no other command changes it.
+//
+// The command that was waited for may have put a new file in the place of the one that was opened. So the name has
+// to lead to this file still, else the new one is waited for.
+pub(crate) fn lock_project(rt: &HostRuntime, path: &str) -> Result<Project, Fault> {
+    for _ in 0..u64::MAX {
+        let file = open_project(rt, path)?;
+        lock_file(&file)?;
+        let place = place_of(rt, path)?;
+        if stands_at(rt, &file, &place)? {
+            return Ok(Project { file, place });
+        }
+    }
+    Err(Fault::FileFailed)
+}
+
+// Begins a project where nothing stands under its name: of two commands at once one makes the file. Where it then
+// fails, nothing stands there again.
+pub(crate) fn begin_project(rt: &HostRuntime, path: &str, bytes: &[u8]) -> Result<(), Fault> {
+    let folder = open_folder(rt, path)?;
+    let file = File::create_new(rt, path).map_err(|_| Fault::FileFailed)?;
+    let begun = write_begun(&file, bytes, &folder);
+    if begun.is_err() {
+        let _ = fs::remove_file(rt, path);
+    }
+    begun
+}
+
+// A command that finds the new file waits for its bytes.
+fn write_begun(file: &File, bytes: &[u8], folder: &File) -> Result<(), Fault> {
+    lock_file(file)?;
+    write_made(file, bytes)?;
+    sync_file(file)?;
+    sync_folder(folder)
+}
+
+impl Project {
+    // The bytes of the file.
+    pub(crate) fn read(&self, rt: &HostRuntime) -> Result<Vec<u8>, Fault> {
+        read_open(rt, &self.file)
+    }
+
+    // Gives the project these bytes: writes them to `PLACE.new` and renames that to `PLACE`, so that the file has
+    // either its old bytes or the new ones. The folder is opened first: where that cannot be, the project stays.
+    pub(crate) fn replace(&self, rt: &HostRuntime, bytes: &[u8]) -> Result<(), Fault> {
+        let place = self.place.as_str();
+        let new = format!(in rt.alloc(); "{place}.new")?;
+        let folder = open_folder(rt, place)?;
+        let file = make_private(rt, new.as_str())?;
+        write_made(&file, bytes)?;
+        keep_rights(&self.file, &file)?;
+        sync_file(&file)?;
+        fs::rename(rt, new.as_str(), place).map_err(|_| Fault::FileFailed)?;
+        sync_folder(&folder)
+    }
+}
+
+// Opens a project's file for writing, which a lock on a network's folder wants, or for reading where that is refused.
+// It is only read.
+fn open_project(rt: &HostRuntime, path: &str) -> Result<File, Fault> {
+    match OpenOptions::new().read(true).write(true).open(rt, path) {
+        Ok(file) => Ok(file),
+        Err(_) => File::open(rt, path).map_err(|_| Fault::ReadFailed),
+    }
+}
+
+// Where the file of a project stands: under its name, or where that link leads. Were the link replaced, the two would
+// be two projects of one name from then on.
+fn place_of(rt: &HostRuntime, path: &str) -> Result<PathBuf, Fault> {
+    let found = fs::symlink_metadata(rt, path).map_err(|_| Fault::FileFailed)?;
+    if found.is_symlink() {
+        fs::canonicalize(rt, path).map_err(link_fault)
+    } else {
+        Ok(PathBuf::from_str(rt.alloc(), path)?)
+    }
+}
+
+// Whether it is this file that stands at a place. What is no file, as a pipe, is not read again.
+fn stands_at(rt: &HostRuntime, file: &File, place: &PathBuf) -> Result<bool, Fault> {
+    let opened = look_at(file)?;
+    if !opened.is_file() {
+        return Err(Fault::ReadFailed);
+    }
+    let found = fs::metadata(rt, place).map_err(|_| Fault::FileFailed)?;
+    Ok(opened.dev() == found.dev() && opened.ino() == found.ino())
+}
+
+fn look_at(file: &File) -> Result<Metadata, Fault> {
+    file.metadata().map_err(|_| Fault::FileFailed)
+}
+
+// Gives a file the group and the mode of the one that it will replace. A new file's mode is no more than that of its
+// owner's by then.
+fn keep_rights(old: &File, new: &File) -> Result<(), Fault> {
+    let old = look_at(old)?;
+    let made = look_at(new)?;
+    let is_kept = made.gid() == old.gid() || fchown(new, None, Some(old.gid())).is_ok();
+    let mode = if is_kept {
+        old.mode()
+    } else {
+        mode_without_group(old.mode())
+    };
+    if made.mode() == mode {
+        return Ok(());
+    }
+    let rights = Permissions::from_mode(mode);
+    new.set_permissions(rights).map_err(|_| Fault::FileFailed)
+}
+
+// A mode in which the file's group may do what all others may: that of a file whose group is another one now.
+fn mode_without_group(mode: u32) -> u32 {
+    mode & !0o070 | (mode & 0o007) << 3
+}

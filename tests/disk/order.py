@@ -1,0 +1,103 @@
+"""The order of the program's calls at the system, as strace shows it."""
+import os
+import re
+import shutil
+import subprocess
+from pathlib import Path
+
+from rows.vectors import BENS, EMPTY, FIRST
+from stage import SECONDS, Tally
+
+CALLS = "open,openat,flock,write,fsync,rename,renameat,renameat2,close"
+BOOK = b"\\id MAT\n\\c 1\n\\v 1 At\n"
+# A project of ana with the first bundle.
+HELD = EMPTY[:-16] + FIRST
+# Each command that changes a project, with its standard input, and the project before it.
+CHANGES = [
+    (["import", "p", "book"], b"", HELD),
+    (["edit", "p", "MAT 1:1"], b"\\v 1 As\n", HELD),
+    (["edit-over", "p", "MAT 1:1", "2:ana"], b"\\v 1 As\n", HELD),
+    (["receive", "p", "bundle"], b"", EMPTY),
+    (["thin", "p"], b"", None),
+]
+READS = [["shown", "p", "MAT 1:1"], ["send", "p"], ["export", "p", "MAT"], ["summary", "p"], ["report", "p"]]
+
+
+def check_order(tally: Tally, program: Path, work: Path) -> None:
+    if not has_strace():
+        print("disk: not run, since there is no strace: the order at the system; apt-get install strace")
+        return
+    folder = work / "order"
+    folder.mkdir()
+    folder.joinpath("book").write_bytes(BOOK)
+    folder.joinpath("bundle").write_bytes(FIRST)
+    for words, given, project in CHANGES:
+        folder.joinpath("p").write_bytes(with_a_replaced_text(program, folder) if project is None else project)
+        lines = traced(program, folder, words, given)
+        tally.check(is_changed_in_order(lines), f"{' '.join(words)}: {lines}")
+    for words in READS:
+        lines = traced(program, folder, words, b"")
+        is_untouched = not any(line.startswith(("flock", "fsync", "rename")) for line in lines)
+        tally.check(is_untouched, f"{' '.join(words)}: {lines}")
+    lines = traced(program, folder, ["init", "begun", "ana"], b"")
+    is_synced = in_order(lines, [r'openat\(.*"begun", .*O_EXCL', r"write\(\d+<.*/begun>", r"fsync\(\d+<.*/begun>\) += 0", fsync_of(folder)])
+    tally.check(is_synced, f"init: {lines}")
+
+
+def has_strace() -> bool:
+    """Whether strace is there, by then."""
+    if shutil.which("strace") is None and os.geteuid() == 0 and shutil.which("apt-get"):
+        subprocess.run(["apt-get", "install", "-y", "--no-install-recommends", "strace"], capture_output=True)
+    return shutil.which("strace") is not None
+
+
+def with_a_replaced_text(program: Path, folder: Path) -> bytes:
+    """A project in which one text replaced another, so that there is something to thin."""
+    folder.joinpath("p").write_bytes(HELD)
+    folder.joinpath("bens").write_bytes(BENS)
+    subprocess.run([program, "receive", "p", "bens"], cwd=folder, check=True, capture_output=True)
+    return folder.joinpath("p").read_bytes()
+
+
+def traced(program: Path, folder: Path, words: list[str], given: bytes) -> list[str]:
+    """The calls of a command, a line each, with the path of each handle."""
+    told = folder.parent / "calls"
+    command = ["strace", "-f", "-y", "-e", f"trace={CALLS}", "-o", told, program, *words]
+    subprocess.run(command, cwd=folder, input=given, capture_output=True, timeout=SECONDS, check=True)
+    # Each line begins with the number of the process.
+    return [line.split(None, 1)[1] for line in told.read_text().splitlines()]
+
+
+def is_changed_in_order(lines: list[str]) -> bool:
+    """Whether the project was locked, and what was written to PROJECT.new was synced, renamed, and its folder synced,
+    before others could go on and a byte of the answer was written."""
+    locks = [place for place, line in enumerate(lines) if re.match(r"flock\(\d+<[^>]*/p>, LOCK_EX\) += 0", line)]
+    if len(locks) != 1:
+        return False
+    return in_order(
+        lines[locks[0] :],
+        [
+            r"write\(\d+<.*/p\.new>",
+            r"fsync\(\d+<.*/p\.new>\) += 0",
+            r'rename\w*\(.*"p\.new", .*"p".*\) += 0',
+            fsync_of(),
+            r"close\(\d+<[^>]*/p>",
+            r"write\(1<",
+        ],
+    )
+
+
+def fsync_of(folder: Path = Path("order")) -> str:
+    return rf"fsync\(\d+<.*/{folder.name}>\) += 0"
+
+
+def in_order(lines: list[str], wanted: list[str]) -> bool:
+    """Whether each of the patterns fits a line after those of the ones before it, and none fits one too early: what is
+    written last is written after all of them."""
+    at = -1
+    for pattern in wanted:
+        fits = [place for place, line in enumerate(lines) if re.match(pattern, line)]
+        if not fits or fits[0] <= at:
+            return False
+        at = fits[-1]
+    return True

@@ -1,0 +1,68 @@
+"""A folder with a project, and what is counted."""
+import shutil
+import subprocess
+import threading
+from dataclasses import dataclass, field
+from pathlib import Path
+from typing import Optional
+
+# Far more than any command takes: one that waits for ever is shown as one that fails.
+SECONDS = 60
+
+
+@dataclass
+class Tally:
+    """What was looked at, by several threads."""
+
+    passed: int = 0
+    failures: list[str] = field(default_factory=list)
+    lock: threading.Lock = field(default_factory=threading.Lock)
+
+    def check(self, is_right: bool, what: str) -> None:
+        with self.lock:
+            if is_right:
+                self.passed += 1
+            else:
+                self.failures.append(what)
+
+
+@dataclass(frozen=True)
+class Answer:
+    """What a command answered."""
+
+    status: int
+    output: bytes
+    error: bytes
+
+
+def run(program: Path, folder: Path, words: list[str], given: bytes = b"", umask: int = -1, user: Optional[int] = None) -> Answer:
+    """Runs a command in a folder, with these bytes as standard input."""
+    ran = subprocess.run(
+        [program, *words],
+        cwd=folder,
+        input=given,
+        capture_output=True,
+        timeout=SECONDS,
+        umask=umask,
+        user=user,
+        group=user,
+        extra_groups=[] if user is not None else None,
+    )
+    return Answer(ran.returncode, ran.stdout, ran.stderr)
+
+
+def begin(program: Path, folder: Path, book: Optional[bytes] = None) -> None:
+    """Makes a folder with a project `p` of ana in it, which has a book."""
+    shutil.rmtree(folder, ignore_errors=True)
+    folder.mkdir()
+    wanted(run(program, folder, ["init", "p", "ana"]))
+    if book is not None:
+        folder.joinpath("book").write_bytes(book)
+        wanted(run(program, folder, ["import", "p", "book"]))
+
+
+def wanted(answer: Answer) -> bytes:
+    """The output of a command that has to succeed."""
+    if answer.status != 0 or answer.error:
+        raise SystemExit(f"disk: a command before the test was refused: {answer}")
+    return answer.output

@@ -1,0 +1,70 @@
+"""What is said where a person types a command's input, and where none does."""
+import os
+import pty
+import subprocess
+import termios
+from pathlib import Path
+
+from order import HELD
+from rows.vectors import FIRST
+from stage import SECONDS, Answer, Tally, run
+
+END = b"\x04"
+TEXT = b"\\v 1 As\n"
+# The commands that read standard input, what is typed, and what they answer.
+TYPED = [
+    (["edit", "p", "MAT 1:1"], TEXT, Answer(0, b"made 3 ana\n", b"")),
+    (["edit-over", "p", "MAT 1:1", "2:ana"], TEXT, Answer(0, b"made 3 ana\n", b"")),
+    (["fold", "MAT"], b"", Answer(1, b"", b"fault 82\n")),
+]
+
+
+def check_terminal(tally: Tally, program: Path, work: Path) -> None:
+    folder = work / "terminal"
+    folder.mkdir()
+    project = folder / "p"
+    for words, typed, wanted in TYPED:
+        project.write_bytes(HELD)
+        answer = at_terminal(program, folder, words, typed)
+        line, end, rest = answer.error.partition(b"\n")
+        is_told = b"control-D" in line and end == b"\n"
+        is_right = Answer(answer.status, answer.output, rest) == wanted
+        tally.check(is_told and is_right, f"{words[0]} at a terminal: {answer}")
+        project.write_bytes(HELD)
+        tally.check(run(program, folder, words, typed) == wanted, f"{words[0]} of a pipe says nothing more")
+        project.write_bytes(HELD)
+        tally.check(of_file(program, folder, words, typed) == wanted, f"{words[0]} of a file says nothing more")
+    for words in (["export", "p", "MAT"], ["send", "p"]):
+        project.write_bytes(HELD)
+        tally.check(at_terminal(program, folder, words, b"").error == b"", f"{words[0]} at a terminal says nothing")
+    missing = at_terminal(program, folder, ["edit", "missing", "MAT 1:1"], b"")
+    tally.check(missing == Answer(1, b"", b"fault 120\n"), f"a project that is missing is said before a text is asked for: {missing}")
+    tally.check(wanted_book(run(program, folder, ["fold", "MAT"], FIRST)), "fold of a bundle")
+
+
+def wanted_book(answer: Answer) -> bool:
+    return answer == Answer(0, b"\\id MAT\n\\c 1\n\\v 1 In\n", b"")
+
+
+def at_terminal(program: Path, folder: Path, words: list[str], typed: bytes) -> Answer:
+    """What a command answers to somebody who types this, and then control-D on a line of its own."""
+    person, terminal = pty.openpty()
+    # What is typed is not shown.
+    settings = termios.tcgetattr(terminal)
+    settings[3] &= ~termios.ECHO
+    termios.tcsetattr(terminal, termios.TCSANOW, settings)
+    command = subprocess.Popen([program, *words], cwd=folder, stdin=terminal, stdout=subprocess.PIPE, stderr=subprocess.PIPE)
+    os.close(terminal)
+    os.write(person, typed + END)
+    output, error = command.communicate(timeout=SECONDS)
+    os.close(person)
+    return Answer(command.returncode, output, error)
+
+
+def of_file(program: Path, folder: Path, words: list[str], content: bytes) -> Answer:
+    """What a command answers where standard input is a file."""
+    path = folder / "typed"
+    path.write_bytes(content)
+    with open(path, "rb") as stream:
+        ran = subprocess.run([program, *words], cwd=folder, stdin=stream, capture_output=True, timeout=SECONDS)
+    return Answer(ran.returncode, ran.stdout, ran.stderr)
