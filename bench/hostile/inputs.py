@@ -10,6 +10,7 @@ from operations import bundle, operation
 
 PROJECT = "p"
 HEAD = b"\\id MAT\n"
+FORMAT_2 = b"USFMSR2\n"
 DIGITS = "0123456789ABCDEFGHIJKLMNOPQRSTUVWXYZ"
 
 # A style sheet with paragraphs, characters and notes.
@@ -117,6 +118,30 @@ def awaited(count: int) -> Input:
     return Input(["report", PROJECT], {PROJECT: project(rising(list(named)))})
 
 
+def without_texts(count: int) -> Input:
+    """Operations without their texts, of as many segments, each of which a later one of its segment names."""
+    places = [((at, b"a"), at % 999 + 1, at // 999 % 999 + 1) for at in range(1, count + 1)]
+    old = [thinned(operation(it, "MAT", chapter, verse, [], b"")) for it, chapter, verse in places]
+    new = [
+        operation((count + number, b"a"), "MAT", chapter, verse, [(number, b"a")], text_of(verse))
+        for (number, _), chapter, verse in places
+    ]
+    return Input(["fold", "MAT"], given=FORMAT_2 + rising(old + new)[8:])
+
+
+def all_without_texts(count: int) -> Input:
+    """Operations of one segment without their texts, all of which the last one names."""
+    ids = [(at, b"a") for at in range(1, count + 1)]
+    old = [thinned(operation(it, "MAT", 1, 1, [], b"")) for it in ids]
+    last = operation((count + 1, b"a"), "MAT", 1, 1, ids, text_of(1))
+    return Input(["fold", "MAT"], given=FORMAT_2 + rising([*old, last])[8:])
+
+
+def thinned(bytes_of: bytes) -> bytes:
+    """An operation, whose text is empty, without it."""
+    return bytes_of[:-9] + b"\0"
+
+
 def name_of(place: int) -> bytes:
     """A replica's name."""
     return b"n%06d" % place
@@ -198,6 +223,8 @@ FAMILIES = [
     Family("one segment with many texts: shown", 10_000, 100_000, lambda n: Input(["shown", PROJECT, "MAT 1:1"], {PROJECT: project(conflicting(n))})),
     Family("one segment with many texts: an edit over all", 10_000, 100_000, lambda n: Input(["edit", PROJECT, "MAT 1:1"], {PROJECT: project(conflicting(n))}, b"\\v 1 b\n")),
     Family("what is replaced arrives after what replaces it", 10_000, 100_000, arriving_late),
+    Family("operations without their texts, each named by a later one", 10_000, 100_000, without_texts),
+    Family("operations without their texts, all named by the last", 10_000, 100_000, all_without_texts),
     Family("ids that never come", 10_000, 100_000, awaited),
     Family("a delta among many replicas", 10_000, 100_000, lacking),
     Family("a summary of many replicas", 10_000, 100_000, lambda n: Input(["summary", PROJECT], {PROJECT: project(many_names(n))})),

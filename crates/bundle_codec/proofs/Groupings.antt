@@ -1,19 +1,21 @@
 -- Bundles joined either way, with themselves, and in both groupings.
-use Rattle.std.proofs.Common.{◌≡◌, ◌<◌, ◌^◌, ℕ, List, length, Option, Some, None, Result, Ok, Err, IsTrue, refl, sym, ap, subst, ◌∙◌}
+use Rattle.std.proofs.Common.{◌≡◌, ◌<◌, ◌^◌, ℕ, ◌⊎◌, inl, inr, Bool, ◌&&◌, List, length, Option, Some, None, is_none, Result, Ok, Err, is_ok, IsTrue, refl, sym, ap, subst, ◌∙◌}
 use Rattle.op_core.specs.Ids.{Id}
 use Rattle.op_core.specs.Ops.{Operation}
 use Rattle.op_core.specs.Sets.{IsOpSet, join, clash}
-use Rattle.op_core.specs.Thinned.{is_legal, all_full, IsOf}
+use Rattle.op_core.specs.Thinned.{is_legal, IsOf}
+use Rattle.op_core.specs.Laws.{Joining, IsInOne, SameOperations, joined_or_clash, with_both, union_by, ThinnedAgree}
+use Rattle.op_core.specs.Laws.Joining.{Part, Joined}
 use Rattle.op_core.proofs.Union.{IsOpSet-join, join_assoc, join_itself, join_comm, no_clash_itself, agree_from_no_clash}
 use Rattle.op_core.proofs.Clashes.{clash_comm}
 use Rattle.op_core.proofs.Legal.{join_legal}
-use Rattle.op_core.proofs.Groupings.{groupings_alike}
+use Rattle.op_core.proofs.Joinings.{refused_alike}
 use Rattle.op_core.proofs.Families.{family_joins}
 use Rattle.bundle_codec.specs.declared.fault.JoinFault.{JoinFault}
 use Rattle.bundle_codec.specs.declared.fault.JoinFault.TheVariants.{Clash}
 use Rattle.bundle_codec.specs.Spelling.{bundle}
 use Rattle.bundle_codec.specs.Joining.{IsBundle, of_both, union_or_clash, bundles_joined}
-use Rattle.bundle_codec.specs.Laws.{then_joined, AnswerAlike, GiveTheSame, BothGive, IsFullBundle, IsBundleOf, IsHeld}
+use Rattle.bundle_codec.specs.Laws.{then_joined, AnswerAlike, GiveTheSame, BothGive, IsBundleOf, IsHeld}
 use Rattle.bundle_codec.proofs.Wholes.{whole_reads}
 
 -- what joining two bundles gives, by their sets
@@ -117,50 +119,77 @@ pub gives_the_same : (x y z : List ℕ) → IsBundle x → IsBundle y → IsBund
     (then_joined (bundles_joined y z) (λ made. bundles_joined x made))
 gives_the_same x y z a b c = grouped x y z a b c GiveTheSame (same_given a.ops b.ops c.ops a.set b.set c.set _ _ _ _)
 
--- ---- of sets without thinned operations
+-- ---- of sets in which no id of a thinned operation stands for two
 
 some_none : (id : Id) → Some id ≡ None → ⊥
 some_none id h = cc h
 
-turned : (a b : List Operation) → IsOpSet a → IsOpSet b → clash a b ≡ None → join a b ≡ join b a
-turned a b ha hb e = join_comm a b ha.rising hb.rising (agree_from_no_clash a b e)
+module _ (a b c : List Operation) where
+  abbrev left_first : Joining
+  left_first = Joined (Joined (Part a) (Part b)) (Part c)
 
-module _ (a b c : List Operation) (ha : IsOpSet a) (hb : IsOpSet b) (hc : IsOpSet c) (fb : IsTrue (all_full b)) where
-  -- where the last two can be joined first, the first two can
-  back : IsTrue (all_full c) → clash b c ≡ None → clash a (join b c) ≡ None → (clash a b ≡ None) × (clash (join a b) c ≡ None)
-  back fc one two =
-      let first = sym (clash_comm b c hb.rising hc.rising) ∙ one in
-      let then = ap (λ (ops : List Operation). clash ops a) (sym (turned b c hb hc one))
-      ∙ sym (clash_comm a (join b c) ha.rising (IsOpSet-join b c hb hc).rising) ∙ two in
-      let p = groupings_alike c b a hc.rising hb.rising ha.rising fc fb first then in
-      let same = turned b a hb ha p.0 in (
-        clash_comm a b ha.rising hb.rising ∙ p.0,
-        ap (λ (ops : List Operation). clash ops c) (sym same)
-            ∙ clash_comm (join b a) c (IsOpSet-join b a hb ha).rising hc.rising ∙ p.1,
-      )
+  abbrev right_first : Joining
+  right_first = Joined (Part a) (Joined (Part b) (Part c))
 
-  alike : IsTrue (all_full a) → IsTrue (all_full c) → (p q r s : Option Id)
+  -- whether a grouping is answered, by the clashes that it comes to
+  abbrev is_joined : Option Id → Option Id → Bool
+  is_joined p q = is_none p && is_none q
+
+  left_joined : (p q : Option Id) → clash a b ≡ p → clash (join a b) c ≡ q → is_ok (union_by left_first) ≡ is_joined p q
+  left_joined p q ep eq =
+      ap (λ r. is_ok (with_both (joined_or_clash a b r) (Ok c) (λ x y. joined_or_clash x y (clash x y)))) ep ∙ by p q eq
+    where
+      by : (p q : Option Id) → clash (join a b) c ≡ q
+          → is_ok (with_both (joined_or_clash a b p) (Ok c) (λ x y. joined_or_clash x y (clash x y))) ≡ is_joined p q
+      by None None eq = ap (λ r. is_ok (joined_or_clash (join a b) c r)) eq
+      by None (Some id) eq = ap (λ r. is_ok (joined_or_clash (join a b) c r)) eq
+      by (Some id) q eq = refl
+
+  right_joined : (r s : Option Id) → clash b c ≡ r → clash a (join b c) ≡ s → is_ok (union_by right_first) ≡ is_joined r s
+  right_joined r s er es =
+      ap (λ r. is_ok (with_both (Ok a) (joined_or_clash b c r) (λ x y. joined_or_clash x y (clash x y)))) er ∙ by r s es
+    where
+      by : (r s : Option Id) → clash a (join b c) ≡ s
+          → is_ok (with_both (Ok a) (joined_or_clash b c r) (λ x y. joined_or_clash x y (clash x y))) ≡ is_joined r s
+      by None None es = ap (λ r. is_ok (joined_or_clash a (join b c) r)) es
+      by None (Some id) es = ap (λ r. is_ok (joined_or_clash a (join b c) r)) es
+      by (Some id) s es = refl
+
+  same_operations : SameOperations left_first right_first
+  same_operations = record { there = λ o. there o; back = λ o. back o }
+    where
+      there : (o : Operation) → IsInOne left_first o → IsInOne right_first o
+      there o (inl (inl h)) = inl h
+      there o (inl (inr h)) = inr (inl h)
+      there o (inr h) = inr (inr h)
+
+      back : (o : Operation) → IsInOne right_first o → IsInOne left_first o
+      back o (inl h) = inl (inl h)
+      back o (inr (inl h)) = inl (inr h)
+      back o (inr (inr h)) = inr h
+
+  alike : IsOpSet a → IsOpSet b → IsOpSet c → ThinnedAgree left_first → (p q r s : Option Id)
       → clash a b ≡ p → clash (join a b) c ≡ q → clash b c ≡ r → clash a (join b c) ≡ s → AnswerAlike (left_of a b c p q) (right_of a b c r s)
-  alike fa fc (Some id) (Some jd) (Some kd) s ep eq er es = tt
-  alike fa fc (Some id) None (Some kd) s ep eq er es = tt
-  alike fa fc (Some id) (Some jd) None (Some kd) ep eq er es = tt
-  alike fa fc (Some id) None None (Some kd) ep eq er es = tt
-  alike fa fc (Some id) q None None ep eq er es = absurd (some_none id (sym ep ∙ (back fc er es).0))
-  alike fa fc None (Some id) (Some kd) s ep eq er es = tt
-  alike fa fc None (Some id) None (Some kd) ep eq er es = tt
-  alike fa fc None (Some id) None None ep eq er es = absurd (some_none id (sym eq ∙ (back fc er es).1))
-  alike fa fc None None (Some id) s ep eq er es =
-      absurd (some_none id (sym er ∙ (groupings_alike a b c ha.rising hb.rising hc.rising fa fb ep eq).0))
-  alike fa fc None None None (Some id) ep eq er es =
-      absurd (some_none id (sym es ∙ (groupings_alike a b c ha.rising hb.rising hc.rising fa fb ep eq).1))
-  alike fa fc None None None None ep eq er es = ap bundle (join_assoc a b c ha.rising hb.rising hc.rising)
+  alike ha hb hc agree p q r s ep eq er es =
+      by p q r s (sym (left_joined p q ep eq) ∙ refused_alike left_first right_first ((ha, hb), hc) (ha, (hb, hc)) same_operations agree ∙ right_joined r s er es)
+    where
+      by : (p q r s : Option Id) → is_joined p q ≡ is_joined r s → AnswerAlike (left_of a b c p q) (right_of a b c r s)
+      by (Some id) q (Some jd) s e = tt
+      by (Some id) q None (Some jd) e = tt
+      by (Some id) q None None e = cc e
+      by None (Some id) (Some jd) s e = tt
+      by None (Some id) None (Some jd) e = tt
+      by None (Some id) None None e = cc e
+      by None None (Some id) s e = cc e
+      by None None None (Some id) e = cc e
+      by None None None None e = ap bundle (join_assoc a b c ha.rising hb.rising hc.rising)
 
-pub associates : (x y z : List ℕ) → IsFullBundle x → IsFullBundle y → IsFullBundle z → IsHeld (bundles_joined x y)
-    → IsHeld (bundles_joined y z)
+pub associates : (x y z : List ℕ) (a : IsBundle x) (b : IsBundle y) (c : IsBundle z)
+    → ThinnedAgree (Joined (Joined (Part a.ops) (Part b.ops)) (Part c.ops)) → IsHeld (bundles_joined x y) → IsHeld (bundles_joined y z)
     → AnswerAlike (then_joined (bundles_joined x y) (λ made. bundles_joined made z))
     (then_joined (bundles_joined y z) (λ made. bundles_joined x made))
-associates x y z a b c = grouped x y z a.is b.is c.is AnswerAlike
-    (alike a.is.ops b.is.ops c.is.ops a.is.set b.is.set c.is.set b.full a.full c.full _ _ _ _ refl refl refl refl)
+associates x y z a b c agree = grouped x y z a b c AnswerAlike
+    (alike a.ops b.ops c.ops a.set b.set c.set agree _ _ _ _ refl refl refl refl)
 
 -- ---- of sets of one family
 

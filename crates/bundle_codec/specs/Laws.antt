@@ -4,7 +4,9 @@ use Rattle.std.specs.Prelude.{◌≡◌, ◌≢◌, ◌<◌, ◌^◌, ℕ, List,
 use Rattle.op_core.specs.Ids.{Id}
 use Rattle.op_core.specs.Ops.{Operation}
 use Rattle.op_core.specs.Sets.{IsOpSet}
-use Rattle.op_core.specs.Thinned.{all_full, IsOf}
+use Rattle.op_core.specs.Thinned.{IsOf}
+use Rattle.op_core.specs.Laws.{ThinnedAgree}
+use Rattle.op_core.specs.Laws.Joining.{Part, Joined}
 use Rattle.bundle_codec.specs.declared.fault.BundleFault.TheVariants.{Truncated}
 use Rattle.bundle_codec.specs.declared.fault.JoinFault.{JoinFault}
 use Rattle.bundle_codec.specs.declared.fault.JoinFault.TheVariants.{Clash}
@@ -63,11 +65,6 @@ abbrev pub BothGive : Result (List ℕ) JoinFault → Result (List ℕ) JoinFaul
 BothGive (Ok one) (Ok other) = one ≡ other
 BothGive one other = ⊥
 
--- the bytes are a bundle without thinned operations
-pub record IsFullBundle (bytes : List ℕ) : Type 0 where
-  pub is : IsBundle bytes
-  pub full : IsTrue (all_full is.ops)
-
 -- the bytes are a bundle, and its operations are of a family, in which no id stands for two
 pub record IsBundleOf (family : Id → Operation) (bytes : List ℕ) : Type 0 where
   pub is : IsBundle bytes
@@ -78,11 +75,12 @@ abbrev pub IsHeld : Result (List ℕ) JoinFault → Type 0
 IsHeld (Ok made) = length made < 2 ^ 64
 IsHeld (Err fault) = Unit {0}
 
--- Both groupings of three bundles without thinned operations give the same bytes, and one is refused with a clash exactly
--- where the other is.
+-- Both groupings of three bundles in which no id of a thinned operation stands for two, as where none is thinned, give the
+-- same bytes, and one is refused with a clash exactly where the other is.
 abbrev pub BundlesAssociate : Type 0
 BundlesAssociate =
-    (x y z : List ℕ) → IsFullBundle x → IsFullBundle y → IsFullBundle z →
+    (x y z : List ℕ) (a : IsBundle x) (b : IsBundle y) (c : IsBundle z) →
+    ThinnedAgree (Joined (Joined (Part a.ops) (Part b.ops)) (Part c.ops)) →
     IsHeld (bundles_joined x y) → IsHeld (bundles_joined y z) →
     AnswerAlike
     (then_joined (bundles_joined x y) (λ made. bundles_joined made z))

@@ -51,6 +51,13 @@ impl<'a> Bundle<'a> {
         self.len() == 0
     }
 
+    /// Whether each of its operations has its text. It is known from the format, with no walk.
+    pub fn is_full(&self) -> bool
+        ensures { result ≡ all_full self.now }
+    {
+        self.full
+    }
+
     /// Its operations, rising by id, lent from the bytes. The walk takes no memory.
     pub fn ops(&self) -> BundleOps<'a>
         ensures items { result ≡ self.now }

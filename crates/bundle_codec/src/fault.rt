@@ -49,7 +49,7 @@ pub enum BundleFault {
     BadText(u64),
     /// An operation is thinned and no operation of the bundle in its segment names it; or, with the
     /// place 0, a bundle of format 2 has no thinned operation.
-    #[error("operation {0}: thinned, and none of its segment names it")]
+    #[error("operation {0}: not thinned as it may be")]
     Unsupported(u64),
 }
 

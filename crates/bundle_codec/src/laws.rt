@@ -24,8 +24,8 @@ pub fn bundle_with_itself()
     ensures { laws.BundleWithItself }
 {}
 
-/// Both groupings of three bundles without thinned operations give the same bytes, and one is refused
-/// with a clash exactly where the other is.
+/// Both groupings of three bundles in which no id of a thinned operation stands for two give the same
+/// bytes, and one is refused with a clash exactly where the other is.
 pub fn bundles_associate()
     ensures { laws.BundlesAssociate }
 {}

@@ -8,7 +8,7 @@ use Rattle.op_core.specs.Sets.{IsOpSet, rises, clash}
 use Rattle.op_core.specs.Shown.{shown}
 use Rattle.op_core.specs.Lists.{awaited}
 use Rattle.op_core.specs.Laws.{SameTogether}
-use Rattle.op_core.specs.Thinned.{is_legal, skeleton, IsFullSet}
+use Rattle.op_core.specs.Thinned.{is_legal, skeleton}
 use Rattle.replica_state.specs.States.{begun}
 use Rattle.replica_state.specs.Steps.{Command, Receive}
 use Rattle.replica_state.specs.Runs.{after, NoneRefused}
@@ -25,12 +25,12 @@ EmptyReports =
     (held : List Operation) → IsOpSet held →
     (report held ≡ []) ↔ (((g : Segment) → ShowsOneText held g) × (awaited held ≡ []))
 
--- Two replicas that received bundles without thinned operations, with the same operations together, in whatever order, grouping
--- and repetition, give the same report, if no bundle was refused.
+-- Two replicas that received bundles with the same operations together, thinned ones as thinned, in whatever order, grouping and
+-- repetition, give the same report, if no bundle was refused.
 abbrev pub SameBundlesSameReports : Type 0
 SameBundlesSameReports =
     (name other : List ℕ) (bundles others : List (List Operation)) →
-    AllByRecursion IsFullSet bundles → AllByRecursion IsFullSet others → SameTogether bundles others →
+    AllByRecursion IsOpSet bundles → AllByRecursion IsOpSet others → SameTogether bundles others →
     NoneRefused (begun name) (map Receive bundles) → NoneRefused (begun other) (map Receive others) →
     report (after (begun name) (map Receive bundles)).held ≡ report (after (begun other) (map Receive others)).held
 

@@ -1,15 +1,15 @@
 -- What is asked of a set that stands for a full one is answered alike.
-use Rattle.std.proofs.Common.{◌≡◌, ℕ, nat_le, true, not, cond, ◌&&◌, List, [], ◌∷◌, Some, None, option_map, refl, ap, ◌∙◌}
+use Rattle.std.proofs.Common.{◌≡◌, ℕ, nat_le, true, not, cond, ◌&&◌, List, [], ◌∷◌, Some, None, option_map, filter, refl, ap, ◌∙◌}
 use Rattle.std.specs.List.{list_any}
 use Rattle.std.proofs.lemmas.Bool.{and_from}
 use Rattle.op_core.specs.Ops.{Operation, is_full}
 use Rattle.op_core.specs.Sets.{get, put, clash, differs}
 use Rattle.op_core.specs.Lists.{ids_of}
-use Rattle.op_core.specs.Shown.{shown, last, text_in, text_of, is_empty, has_verse_text, greatest, pick}
+use Rattle.op_core.specs.Shown.{is_shown, shown, last, text_in, text_of, is_empty, has_verse_text, greatest, pick}
 use Rattle.op_core.specs.Shown.Pick.{Line}
 use Rattle.op_core.specs.Thinned.{skeleton, StandsFor}
-use Rattle.op_core.specs.ThinLaws.{AnswersSame}
-use Rattle.op_core.proofs.Bare.{any_same, ids_same, number_same, awaited_same}
+use Rattle.op_core.specs.ThinLaws.{AnswersSame, SameButTexts}
+use Rattle.op_core.proofs.Bare.{any_same, ids_same, number_same, awaited_same, is_shown_same}
 use Rattle.op_core.proofs.StandIns.{shows_same, full_stands, join_stands}
 use Rattle.usfm_ref.specs.Segments.{Segment}
 use Rattle.std.specs.List.{flat_map}
@@ -26,6 +26,20 @@ use Rattle.op_core.proofs.Bare.{told_same}
 books_bare : (ops : List Operation) → map (λ o. o.segment.book) ops ≡ map (λ o. o.segment.book) (skeleton ops)
 books_bare [] = refl
 books_bare (o ∷ ops) = ap (λ xs. o.segment.book ∷ xs) (books_bare ops)
+
+-- sets with equal skeletons answer alike whatever does not hang on texts
+pub skeleton_answers : (s u : List Operation) → skeleton s ≡ skeleton u → SameButTexts s u
+skeleton_answers s u e = record {
+  ids = ids_same s u e;
+  shown_ids = λ seg. told_same s u e (is_shown s seg) (λ o. o.id) ∙ (λ i. ids_of (filter (λ o. is_shown_same s u e seg o i) u));
+  number = number_same s u e;
+  awaited = awaited_same s u e;
+  keys = λ book. λ i. rising key_cmp (told_same s u e (of_book book) (λ o. o.segment.key) i);
+  books = λ i. rising book_cmp (books_same i);
+}
+  where
+    books_same : map (λ o. o.segment.book) s ≡ map (λ o. o.segment.book) u
+    books_same = books_bare s ∙ ap (map (λ (o : Operation). o.segment.book)) e ∙ sym (books_bare u)
 
 -- of sets with equal skeletons that show the same
 module _ (s u : List Operation) (e : skeleton s ≡ skeleton u) (shows : (seg : Segment) → shown s seg ≡ shown u seg) where
@@ -47,20 +61,19 @@ module _ (s u : List Operation) (e : skeleton s ≡ skeleton u) (shows : (seg : 
   exports_alike book i =
       flat_map (λ key. picked_text (picks_alike (segment book key) i)) (rising key_cmp (flat_map (λ key. head_of key ∷ key ∷ []) (keys_alike book i)))
 
-  books_same : map (λ o. o.segment.book) s ≡ map (λ o. o.segment.book) u
-  books_same = books_bare s ∙ ap (map (λ (o : Operation). o.segment.book)) e ∙ sym (books_bare u)
-
   pub answers_alike : AnswersSame s u
-  answers_alike = record {
-    texts = λ seg. ap (λ ops. text_in (last ops)) (shows seg);
-    shown_ids = λ seg. ap ids_of (shows seg);
-    ids = ids_same s u e;
-    number = number_same s u e;
-    awaited = awaited_same s u e;
-    keys = λ book. λ i. rising key_cmp (told_same s u e (of_book book) (λ o. o.segment.key) i);
-    books = λ i. rising book_cmp (books_same i);
-    export = exports_alike;
-  }
+  answers_alike =
+      let bares = skeleton_answers s u e in
+      record {
+        texts = λ seg. ap (λ ops. text_in (last ops)) (shows seg);
+        shown_ids = bares.shown_ids;
+        ids = bares.ids;
+        number = bares.number;
+        awaited = bares.awaited;
+        keys = bares.keys;
+        books = bares.books;
+        export = exports_alike;
+      }
 
 module _ (s u : List Operation) (h : StandsFor s u) where
   pub picks_same : (seg : Segment) → pick s seg ≡ pick u seg

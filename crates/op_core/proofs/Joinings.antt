@@ -1,18 +1,18 @@
 -- Sets joined in some order, grouping and repetition hold what one of them holds.
-use Rattle.std.proofs.Common.{◌≡◌, true, ℕ, zero, suc, ◌<◌, List, [], ◌∷◌, length, get_or, Option, Some, None, Result, Ok, Err, ◌⊎◌, inl, inr, arith, refl, sym, ap, subst, ◌∙◌, is_ok}
+use Rattle.std.proofs.Common.{◌≡◌, Bool, true, false, ℕ, zero, suc, ◌<◌, List, [], ◌∷◌, length, get_or, Option, Some, None, Result, Ok, Err, ◌⊎◌, inl, inr, arith, refl, sym, ap, subst, ◌∙◌, is_ok}
 use Rattle.std.specs.List.{Contains, AllByRecursion}
-use Rattle.std.proofs.lemmas.Bool.{false≢true}
+use Rattle.std.specs.Option.{is_some}
+use Rattle.std.proofs.lemmas.Bool.{true≢false}
 use Rattle.op_core.specs.Ids.{Id}
-use Rattle.op_core.specs.Ops.{Operation, is_full, with_text, agree}
-use Rattle.op_core.specs.Sets.{IsOpSet, get, meet, met, join, clash}
-use Rattle.op_core.specs.Thinned.{all_full}
-use Rattle.op_core.specs.Laws.{Joining, AreSets, IsInOne, SameOperations, joined_or_clash, with_both, union_by, RefusedAlike}
+use Rattle.op_core.specs.Ops.{Operation, is_full, bare, agree}
+use Rattle.op_core.specs.Sets.{IsOpSet, get, meet_text, meet, met, join, clash}
+use Rattle.op_core.specs.Thinned.{StandsIn}
+use Rattle.op_core.specs.Laws.{Joining, AreSets, IsInOne, SameOperations, joined_or_clash, with_both, union_by, ThinnedAgree, RefusedAlike}
 use Rattle.op_core.specs.Laws.Joining.{Part, Joined}
+use Rattle.op_core.specs.Equal.{same_parts}
 use Rattle.op_core.proofs.Union.{IsOpSet-join, get-join, same_gets, agree_from_no_clash, held_itself}
 use Rattle.op_core.proofs.Clashes.{get_cases, get_id, clash_is}
-use Rattle.op_core.proofs.Agreement.{Agree, agree_full, agree_itself, agree-from, kept_text}
-use Rattle.op_core.proofs.Gets.{all_at}
-use Rattle.op_core.proofs.Legal.{full-join}
+use Rattle.op_core.proofs.Agreement.{Agree, agree-from, agree_itself, kept_text, meet_full, text_comm}
 
 -- an operation that is held under an id is in the set
 pub Contains-get : (xs : List Operation) (q : Id) (o : Operation) → get xs q ≡ Some o → Contains xs o
@@ -50,94 +50,165 @@ made l r a h = by (union_by l) refl (union_by r) refl h
     by (Err id) ex y ey h = cc h
 
 pub IsOpSet-union_by : (way : Joining) (a : List Operation) → AreSets way → union_by way ≡ Ok a → IsOpSet a
-IsOpSet-union_by (Part set) a s h = let e : set ≡ a = cc h in subst IsOpSet e s.set
+IsOpSet-union_by (Part set) a s h = let e : set ≡ a = cc h in subst IsOpSet e s
 IsOpSet-union_by (Joined l r) a s h =
     let m = made l r a h in
     subst IsOpSet (sym m.union) (IsOpSet-join m.left m.right (IsOpSet-union_by l m.left s.0 m.left_is) (IsOpSet-union_by r m.right s.1 m.right_is))
 
-pub full-union_by : (way : Joining) (a : List Operation) → AreSets way → union_by way ≡ Ok a → all_full a ≡ true
-full-union_by (Part set) a s h = let e : set ≡ a = cc h in subst (λ (xs : List Operation). all_full xs ≡ true) e s.full
-full-union_by (Joined l r) a s h =
-    let m = made l r a h in
-    subst (λ (xs : List Operation). all_full xs ≡ true) (sym m.union) (full-join m.left m.right (full-union_by l m.left s.0 m.left_is) (full-union_by r m.right s.1 m.right_is))
+-- ---- what stays of two operations that agree
 
--- a full operation leaves what it meets as it is
-met_full : (p q : Operation) → is_full q ≡ true → meet p q ≡ p
-met_full p q f = ap (with_text p) (kept_text p.text q.text f)
+-- a thinned operation is equal to itself without its text
+pub thinned_is : (o : Operation) → is_full o ≡ false → bare o ≡ o
+thinned_is o h = same_parts (bare o) o refl (by o.text h)
+  where
+    by : (text : Option (List ℕ)) → is_some text ≡ false → None ≡ text
+    by None h = refl
+    by (Some t) h = cc h
 
--- what a union holds is in one of the sets
+-- operations of which each stands in for the other are one
+pub stand_in_both : (o p : Operation) → StandsIn o p → StandsIn p o → o ≡ p
+stand_in_both o p h g = by (is_full o) refl (is_full p) refl
+  where
+    by : (a : Bool) → is_full o ≡ a → (b : Bool) → is_full p ≡ b → o ≡ p
+    by true e b f = h.same e
+    by false e true f = sym (g.same f)
+    by false e false f = sym (thinned_is o e) ∙ h.bares ∙ thinned_is p f
+
+-- one of the two stays
+meet_is_one : (p z : Operation) → Agree p z → (meet p z ≡ p) ⊎ (meet p z ≡ z)
+meet_is_one p z h = by p.text refl z.text refl
+  where
+    by : (a : Option (List ℕ)) → p.text ≡ a → (b : Option (List ℕ)) → z.text ≡ b → (meet p z ≡ p) ⊎ (meet p z ≡ z)
+    by None e b f = inl (same_parts (meet p z) p refl (ap (λ (t : Option (List ℕ)). meet_text t z.text) e ∙ sym e))
+    by (Some a) e None f = inr (same_parts (meet p z) z h.bares ((λ i. meet_text (e i) (f i)) ∙ sym f))
+    by (Some a) e (Some b) f = inl (same_parts (meet p z) p refl ((λ i. meet_text (e i) (f i)) ∙ sym e))
+
+-- what stays stands in for either
+meet_stands : (p z : Operation) → Agree p z → StandsIn (meet p z) p × StandsIn (meet p z) z
+meet_stands p z h =
+    (record { bares = refl; same = λ f. same_parts (meet p z) p refl (kept_text p.text z.text (meet_full p.text z.text f).1) }, record { bares = h.bares; same = λ f. same_parts (meet p z) z h.bares (later f) })
+  where
+    later : is_some (meet_text p.text z.text) ≡ true → meet_text p.text z.text ≡ z.text
+    later f = text_comm p.text z.text h.texts ∙ kept_text z.text p.text (meet_full p.text z.text f).0
+
+-- what stands in for what stands in for an operation stands in for it
+stands_through : (o p q : Operation) → StandsIn o p → StandsIn p q → StandsIn o q
+stands_through o p q h g = record { bares = h.bares ∙ g.bares; same = λ f. h.same f ∙ g.same (ap is_full (sym (h.same f)) ∙ f) }
+
+-- ---- what a union holds
+
+-- it is in one of the sets
 pub held_from_one : (way : Joining) (a : List Operation) (q : Id) (o : Operation) → AreSets way → union_by way ≡ Ok a → get a q ≡ Some o → IsInOne way o
 held_from_one (Part set) a q o s h g = let e : a ≡ set = cc (sym h) in Contains-get set q o (ap (λ (xs : List Operation). get xs q) (sym e) ∙ g)
 held_from_one (Joined l r) a q o s h g =
     let m = made l r a h in
     let sl = IsOpSet-union_by l m.left s.0 m.left_is in
     let sr = IsOpSet-union_by r m.right s.1 m.right_is in
-    let fr = full-union_by r m.right s.1 m.right_is in
-    either (get m.left q) (get m.right q) (held_from_one l m.left q o s.0 m.left_is) (held_from_one r m.right q o s.1 m.right_is) (λ y e. all_at is_full m.right q y fr e)
+    either (get m.left q) (get m.right q) (λ p. held_from_one l m.left q p s.0 m.left_is) (λ p. held_from_one r m.right q p s.1 m.right_is) (agree_from_no_clash m.left m.right m.agree q)
     (sym (get-join m.left m.right q sl.rising sr.rising) ∙ ap (λ (xs : List Operation). get xs q) (sym m.union) ∙ g)
   where
-    either : (x y : Option Operation) → (x ≡ Some o → IsInOne l o) → (y ≡ Some o → IsInOne r o)
-        → ((z : Operation) → y ≡ Some z → is_full z ≡ true) → met x y ≡ Some o → IsInOne l o ⊎ IsInOne r o
-    either None y f g k e = inr (g e)
-    either (Some p) None f g k e = inl (f e)
-    either (Some p) (Some z) f g k e = inl (f (ap Some (sym (met_full p z (k z refl))) ∙ e))
+    one : (p z : Operation) → IsInOne l p → IsInOne r z → meet p z ≡ o → (meet p z ≡ p) ⊎ (meet p z ≡ z) → IsInOne l o ⊎ IsInOne r o
+    one p z i j e (inl is) = inl (subst (IsInOne l) (sym is ∙ e) i)
+    one p z i j e (inr is) = inr (subst (IsInOne r) (sym is ∙ e) j)
 
--- what is in one of the sets is held by the union
-pub one_is_held : (way : Joining) (a : List Operation) (o : Operation) → AreSets way → union_by way ≡ Ok a → IsInOne way o → get a o.id ≡ Some o
-one_is_held (Part set) a o s h i = let e : set ≡ a = cc h in ap (λ (xs : List Operation). get xs o.id) (sym e) ∙ get-Contains set o s.set i
+    either : (x y : Option Operation) → ((p : Operation) → x ≡ Some p → IsInOne l p) → ((p : Operation) → y ≡ Some p → IsInOne r p)
+        → ((p z : Operation) → x ≡ Some p → y ≡ Some z → Agree p z) → met x y ≡ Some o → IsInOne l o ⊎ IsInOne r o
+    either None y f g k e = inr (g o e)
+    either (Some p) None f g k e = inl (f o e)
+    either (Some p) (Some z) f g k e = one p z (f p refl) (g z refl) (cc e) (meet_is_one p z (k p z refl refl))
+
+-- the operation that a set holds under the id of another one, and that stands in for it
+pub record HeldFor (a : List Operation) (o : Operation) : Type 0 where
+  pub one : Operation
+  pub held : get a o.id ≡ Some one
+  pub stands : StandsIn one o
+
+-- for what is in one of the sets, the union holds an operation that stands in for it
+pub one_is_held : (way : Joining) (a : List Operation) (o : Operation) → AreSets way → union_by way ≡ Ok a → IsInOne way o → HeldFor a o
+one_is_held (Part set) a o s h i = let e : set ≡ a = cc h in record {
+  one = o;
+  held = ap (λ (xs : List Operation). get xs o.id) (sym e) ∙ get-Contains set o s i;
+  stands = record { bares = refl; same = λ f. refl };
+}
 one_is_held (Joined l r) a o s h i =
     let m = made l r a h in
     let sl = IsOpSet-union_by l m.left s.0 m.left_is in
     let sr = IsOpSet-union_by r m.right s.1 m.right_is in
-    let fl = full-union_by l m.left s.0 m.left_is in
-    let fr = full-union_by r m.right s.1 m.right_is in
-    ap (λ (xs : List Operation). get xs o.id) m.union ∙ get-join m.left m.right o.id sl.rising sr.rising
-    ∙ either (get m.left o.id) (get m.right o.id) (one_is_held l m.left o s.0 m.left_is) (one_is_held r m.right o s.1 m.right_is) (agree_from_no_clash m.left m.right m.agree o.id) (λ x e. all_at is_full m.left o.id x fl e) (λ y e. all_at is_full m.right o.id y fr e) i
+    either (get m.left o.id) refl (get m.right o.id) refl (one_is_held l m.left o s.0 m.left_is) (one_is_held r m.right o s.1 m.right_is) (agree_from_no_clash m.left m.right m.agree o.id)
+    (ap (λ (xs : List Operation). get xs o.id) m.union ∙ get-join m.left m.right o.id sl.rising sr.rising) i
   where
-    first : (x y : Option Operation) → x ≡ Some o → ((z : Operation) → y ≡ Some z → is_full z ≡ true) → met x y ≡ Some o
-    first x None e k = ap (λ (r : Option Operation). met r None) e
-    first x (Some z) e k = ap (λ (r : Option Operation). met r (Some z)) e ∙ ap Some (met_full o z (k z refl))
+    first : (p : Operation) (y : Option Operation) → ((z : Operation) → y ≡ Some z → Agree p z) → StandsIn p o → get a o.id ≡ met (Some p) y
+        → HeldFor a o
+    first p None k st g = record { one = p; held = g; stands = st }
+    first p (Some z) k st g = record { one = meet p z; held = g; stands = stands_through (meet p z) p o (meet_stands p z (k z refl)).0 st }
 
-    later : (x y : Option Operation) → ((p q : Operation) → x ≡ Some p → y ≡ Some q → Agree p q)
-        → ((z : Operation) → x ≡ Some z → is_full z ≡ true) → ((z : Operation) → y ≡ Some z → is_full z ≡ true) → y ≡ Some o
-        → met x y ≡ Some o
-    later None y f j k e = e
-    later (Some p) y f j k e =
-        let same : p ≡ o = agree_full p o (f p o refl e) (j p refl) (k o e) in
-        ap (met (Some p)) e ∙ ap Some (met_full p o (k o e) ∙ same)
+    later : (x : Option Operation) (z : Operation) → ((p : Operation) → x ≡ Some p → Agree p z) → StandsIn z o → get a o.id ≡ met x (Some z)
+        → HeldFor a o
+    later None z k st g = record { one = z; held = g; stands = st }
+    later (Some p) z k st g = record { one = meet p z; held = g; stands = stands_through (meet p z) z o (meet_stands p z (k p refl)).1 st }
 
-    either : (x y : Option Operation) → (IsInOne l o → x ≡ Some o) → (IsInOne r o → y ≡ Some o)
-        → ((p q : Operation) → x ≡ Some p → y ≡ Some q → Agree p q) → ((z : Operation) → x ≡ Some z → is_full z ≡ true)
-        → ((z : Operation) → y ≡ Some z → is_full z ≡ true) → IsInOne l o ⊎ IsInOne r o → met x y ≡ Some o
-    either x y f g agree j k (inl i) = first x y (f i) k
-    either x y f g agree j k (inr i) = later x y agree j k (g i)
+    either : (x : Option Operation) → get (made l r a h).left o.id ≡ x → (y : Option Operation) → get (made l r a h).right o.id ≡ y
+        → (IsInOne l o → HeldFor (made l r a h).left o) → (IsInOne r o → HeldFor (made l r a h).right o)
+        → ((p z : Operation) → get (made l r a h).left o.id ≡ Some p → get (made l r a h).right o.id ≡ Some z → Agree p z)
+        → get a o.id ≡ met (get (made l r a h).left o.id) (get (made l r a h).right o.id) → IsInOne l o ⊎ IsInOne r o → HeldFor a o
+    either x ex y ey f g k at (inl i) =
+        let held = f i in
+        first held.one (get (made l r a h).right o.id) (λ z e. k held.one z held.held e) held.stands (at ∙ ap (λ (m : Option Operation). met m (get (made l r a h).right o.id)) held.held)
+    either x ex y ey f g k at (inr i) =
+        let held = g i in
+        later (get (made l r a h).left o.id) held.one (λ p e. k p held.one e held.held) held.stands (at ∙ ap (met (get (made l r a h).left o.id)) held.held)
 
 pub same_unions : (one other : Joining) (a b : List Operation) → AreSets one → AreSets other → SameOperations one other → union_by one ≡ Ok a → union_by other ≡ Ok b → a ≡ b
 same_unions one other a b s t same ha hb = same_gets a b (IsOpSet-union_by one a s ha).rising (IsOpSet-union_by other b t hb).rising (λ q. by q (get a q) refl (get b q) refl)
   where
-    crossed : (w v : Joining) (x y : List Operation) → AreSets w → AreSets v → union_by w ≡ Ok x → union_by v ≡ Ok y → ((o : Operation) → IsInOne w o → IsInOne v o) → (q : Id) (o : Operation) → get x q ≡ Some o → get y q ≡ Some o
-    crossed w v x y s t hx hy f q o g = ap (get y) (sym (get_id x q o g)) ∙ one_is_held v y o t hy (f o (held_from_one w x q o s hx g))
+    crossed : (w v : Joining) (x y : List Operation) → AreSets w → AreSets v → union_by w ≡ Ok x → union_by v ≡ Ok y
+        → ((o : Operation) → IsInOne w o → IsInOne v o) → (q : Id) (o : Operation) → get x q ≡ Some o → HeldFor y o
+    crossed w v x y s t hx hy f q o g = one_is_held v y o t hy (f o (held_from_one w x q o s hx g))
+
+    held_at : (y : List Operation) (q : Id) (o : Operation) → o.id ≡ q → (h : HeldFor y o) → get y q ≡ Some h.one
+    held_at y q o e h = ap (get y) (sym e) ∙ h.held
 
     by : (q : Id) (x : Option Operation) → get a q ≡ x → (y : Option Operation) → get b q ≡ y → get a q ≡ get b q
-    by q (Some o) e y f = e ∙ sym (crossed one other a b s t ha hb same.there q o e)
-    by q None e (Some o) f = crossed other one b a t s hb ha same.back q o f ∙ sym f
     by q None e None f = e ∙ sym f
+    by q (Some o) e None f =
+        let there = crossed one other a b s t ha hb same.there q o e in
+        cc (sym f ∙ held_at b q o (get_id a q o e) there)
+    by q None e (Some p) f =
+        let here = crossed other one b a t s hb ha same.back q p f in
+        cc (sym e ∙ held_at a q p (get_id b q p f) here)
+    by q (Some o) e (Some p) f =
+        let there = crossed one other a b s t ha hb same.there q o e in
+        let here = crossed other one b a t s hb ha same.back q p f in
+        let is_there : there.one ≡ p = cc (sym (held_at b q o (get_id a q o e) there) ∙ f) in
+        let is_here : here.one ≡ o = cc (sym (held_at a q p (get_id b q p f) here) ∙ e) in
+        e
+        ∙ ap Some (stand_in_both o p (subst (λ (z : Operation). StandsIn z p) is_here here.stands) (subst (λ (z : Operation). StandsIn z o) is_there there.stands))
+        ∙ sym f
 
 -- ---- refused alike
 
--- in a union, operations of one id are one
-one_of_an_id : (way : Joining) (a : List Operation) (o p : Operation) → AreSets way → union_by way ≡ Ok a → IsInOne way o → IsInOne way p → o.id ≡ p.id → o ≡ p
-one_of_an_id way a o p s h i j same =
+-- in a union, operations of one id agree, where those of thinned ones do
+agree_in_union : (way : Joining) (a : List Operation) (o p : Operation) → AreSets way → union_by way ≡ Ok a → ThinnedAgree way
+    → IsInOne way o → IsInOne way p → o.id ≡ p.id → agree o p ≡ true
+agree_in_union way a o p s h k i j same =
     let there = one_is_held way a o s h i in
     let here = one_is_held way a p s h j in
-    cc (sym there ∙ ap (get a) same ∙ here)
+    let is : there.one ≡ here.one = cc (sym there.held ∙ ap (get a) same ∙ here.held) in
+    by there.one there.held there.stands (subst (λ (z : Operation). StandsIn z p) (sym is) here.stands) (is_full there.one) refl
+  where
+    by : (z : Operation) → get a o.id ≡ Some z → StandsIn z o → StandsIn z p → (b : Bool) → is_full z ≡ b → agree o p ≡ true
+    by z g f e true full = subst (λ (x : Operation). agree o x ≡ true) (sym (f.same full) ∙ e.same full) (agree-from o o (agree_itself o))
+    by z g f e false thinned =
+        let name : z.id ≡ o.id = get_id a o.id z g in
+        k z o p (held_from_one way a o.id z s h g) i j thinned (sym name) (sym same ∙ sym name)
 
--- sets of which no two have two operations of one id are joined
-joined_if_one : (way : Joining) → AreSets way → ((o p : Operation) → IsInOne way o → IsInOne way p → o.id ≡ p.id → o ≡ p) → (a : List Operation) × (union_by way ≡ Ok a)
-joined_if_one (Part set) s one = (set, refl)
-joined_if_one (Joined l r) s one =
-    let x = joined_if_one l s.0 (λ o p i j. one o p (inl i) (inl j)) in
-    let y = joined_if_one r s.1 (λ o p i j. one o p (inr i) (inr j)) in
+-- sets of which any two operations of one id agree are joined
+joined_if_agree : (way : Joining) → AreSets way → ((o p : Operation) → IsInOne way o → IsInOne way p → o.id ≡ p.id → agree o p ≡ true)
+    → (a : List Operation) × (union_by way ≡ Ok a)
+joined_if_agree (Part set) s one = (set, refl)
+joined_if_agree (Joined l r) s one =
+    let x = joined_if_agree l s.0 (λ o p i j. one o p (inl i) (inl j)) in
+    let y = joined_if_agree r s.1 (λ o p i j. one o p (inr i) (inr j)) in
     by x.0 y.0 x.1 y.1 (clash x.0 y.0) refl
   where
     by : (x y : List Operation) → union_by l ≡ Ok x → union_by r ≡ Ok y → (c : Option Id) → clash x y ≡ c → (a : List Operation) × (union_by (Joined l r) ≡ Ok a)
@@ -145,16 +216,20 @@ joined_if_one (Joined l r) s one =
     by x y ex ey (Some id) e =
         let c = clash_is x y id (IsOpSet-union_by r y s.1 ey).rising e in
         let same = get_id x id c.one c.one_held ∙ sym (get_id y id c.other c.other_held) in
-        let is = one c.one c.other (inl (held_from_one l x id c.one s.0 ex c.one_held)) (inr (held_from_one r y id c.other s.1 ey c.other_held)) same in
-        absurd (false≢true (sym c.differ ∙ ap (agree c.one) (sym is) ∙ agree-from c.one c.one (agree_itself c.one)))
+        let agrees = one c.one c.other (inl (held_from_one l x id c.one s.0 ex c.one_held)) (inr (held_from_one r y id c.other s.1 ey c.other_held)) same in
+        absurd (true≢false (sym agrees ∙ c.differ))
 
 pub refused_alike : RefusedAlike
-refused_alike one other s t same = by (union_by one) refl (union_by other) refl
+refused_alike one other s t same k = by (union_by one) refl (union_by other) refl
   where
-    made_there : (w v : Joining) (a : List Operation) → AreSets w → AreSets v → ((o : Operation) → IsInOne v o → IsInOne w o) → union_by w ≡ Ok a → (b : List Operation) × (union_by v ≡ Ok b)
-    made_there w v a s t f h = joined_if_one v t (λ o p i j. one_of_an_id w a o p s h (f o i) (f p j))
+    turned : ThinnedAgree other
+    turned z o p i j l f e d = k z o p (same.back z i) (same.back o j) (same.back p l) f e d
+
+    made_there : (w v : Joining) (a : List Operation) → AreSets w → AreSets v → ThinnedAgree w
+        → ((o : Operation) → IsInOne v o → IsInOne w o) → union_by w ≡ Ok a → (b : List Operation) × (union_by v ≡ Ok b)
+    made_there w v a s t k f h = joined_if_agree v t (λ o p i j. agree_in_union w a o p s h k (f o i) (f p j))
 
     by : (x : Result (List Operation) Id) → union_by one ≡ x → (y : Result (List Operation) Id) → union_by other ≡ y → is_ok (union_by one) ≡ is_ok (union_by other)
-    by (Ok a) ex y ey = let b = made_there one other a s t same.back ex in ap is_ok ex ∙ sym (ap is_ok b.1)
-    by (Err id) ex (Ok b) ey = let a = made_there other one b t s same.there ey in ap is_ok a.1 ∙ sym (ap is_ok ey)
+    by (Ok a) ex y ey = let b = made_there one other a s t k same.back ex in ap is_ok ex ∙ sym (ap is_ok b.1)
+    by (Err id) ex (Ok b) ey = let a = made_there other one b t s turned same.there ey in ap is_ok a.1 ∙ sym (ap is_ok ey)
     by (Err id) ex (Err other) ey = ap is_ok ex ∙ sym (ap is_ok ey)

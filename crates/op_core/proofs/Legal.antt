@@ -7,7 +7,8 @@ use Rattle.std.proofs.lemmas.Bool.{and_parts, and_from, false≢true, not-true}
 use Rattle.op_core.specs.Ids.{Id, id_cmp}
 use Rattle.op_core.specs.Ops.{Operation, is_full, is_thinned, bare, in_segment, names}
 use Rattle.op_core.specs.Sets.{rises, get, meet, met, put, join}
-use Rattle.op_core.specs.Shown.{is_replaced, is_shown, shown}
+use Rattle.op_core.specs.Shown.{is_replaced, is_shown, shown, last, wants_chapter_line, greatest, pick}
+use Rattle.op_core.specs.Shown.Pick.{Line, Greatest}
 use Rattle.op_core.specs.Thinned.{is_past, is_legal, all_full, thinned_in, thin, skeleton, is_lacked, lacks_thinned, is_sent, delta}
 use Rattle.op_core.proofs.Gets.{all_at, all_from, any_held, any_from}
 use Rattle.op_core.proofs.Union.{rises-join, get-join, AgreeAtAll, join_comm}
@@ -174,6 +175,24 @@ shown_full s seg h = all_of_filter (λ o. is_full o || is_past s o) (is_shown s 
         let p = and_parts (in_segment seg o) (not (is_replaced s seg o.id)) g in
         let past : is_past s o ≡ false = (λ j. is_replaced s (same_segment-is o.segment seg p.0 j) o.id) ∙ not-true _ p.1 in
         elim (or_cases (is_full o) (is_past s o) l) [ inl f ↦ f | inr f ↦ absurd (false≢true (sym past ∙ f)) ]
+
+-- of full operations the last is full
+pub full_last : (ops : List Operation) (o : Operation) → all_full ops ≡ true → last ops ≡ Some o → is_full o ≡ true
+full_last [] o h e = absurd (cc)
+full_last (p ∷ []) o h e = let is : p ≡ o = cc in ap is_full (sym is) ∙ (and_parts (is_full p) true h).0
+full_last (p ∷ q ∷ rest) o h e = full_last (q ∷ rest) o (and_parts (is_full p) (all_full (q ∷ rest)) h).1 e
+
+-- an operation that is picked is the last that is shown
+pub pick_full : (s : List Operation) (seg : Segment) (o : Operation) → is_legal s ≡ true → pick s seg ≡ Greatest o → is_full o ≡ true
+pick_full s seg o h e = by (wants_chapter_line s seg) e
+  where
+    some : (x : Option Operation) → greatest x ≡ Greatest o → x ≡ Some o
+    some None e = cc e
+    some (Some p) e = cc e
+
+    by : (b : Bool) → cond b (Line seg.key.chapter) (greatest (last (shown s seg))) ≡ Greatest o → is_full o ≡ true
+    by true e = cc e
+    by false e = full_last (shown s seg) o (shown_full s seg h) (some (last (shown s seg)) e)
 
 -- ---- deltas
 

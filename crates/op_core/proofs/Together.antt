@@ -1,9 +1,8 @@
 -- Sets that are joined one after another to the empty one.
-use Rattle.std.proofs.Common.{◌≡◌, true, List, [], ◌∷◌, Ok, ◌⊎◌, inl, inr, arith, refl}
+use Rattle.std.proofs.Common.{◌≡◌, List, [], ◌∷◌, Ok, ◌⊎◌, inl, inr, arith, refl}
 use Rattle.std.specs.List.{AllByRecursion, Contains}
 use Rattle.op_core.specs.Ops.{Operation}
 use Rattle.op_core.specs.Sets.{IsOpSet}
-use Rattle.op_core.specs.Thinned.{IsFullSet}
 use Rattle.op_core.specs.Laws.{Joining, AreSets, IsInOne, union_by, IsAmong, SameTogether}
 use Rattle.op_core.specs.Laws.Joining.{Part, Joined}
 use Rattle.op_core.proofs.Joinings.{same_unions}
@@ -13,7 +12,7 @@ abbrev pub joined_in : Joining → List (List Operation) → Joining
 joined_in way [] = way
 joined_in way (set ∷ rest) = joined_in (Joined way (Part set)) rest
 
-are_sets : (way : Joining) (sets : List (List Operation)) → AreSets way → AllByRecursion IsFullSet sets → AreSets (joined_in way sets)
+are_sets : (way : Joining) (sets : List (List Operation)) → AreSets way → AllByRecursion IsOpSet sets → AreSets (joined_in way sets)
 are_sets way [] w each = w
 are_sets way (set ∷ rest) w each = are_sets (Joined way (Part set)) rest (w, each.0) each.1
 
@@ -41,12 +40,12 @@ crossed sets others f o i = elim (among (Part []) sets o i) [
   | inr here ↦ is_in_one (Part []) others o (inr (f o here))
 ]
 
-empty_set : IsFullSet []
-empty_set = record { set = record { rising = refl; each = tt }; full = refl }
+empty_set : IsOpSet []
+empty_set = record { rising = refl; each = tt }
 
 -- a set whose operations are together those of a list of sets is their union
-pub set_from_none : (held : List Operation) (sets : List (List Operation)) (union : List Operation) → IsFullSet held
-    → AllByRecursion IsFullSet sets
+pub set_from_none : (held : List Operation) (sets : List (List Operation)) (union : List Operation) → IsOpSet held
+    → AllByRecursion IsOpSet sets
     → ((o : Operation) → Contains held o → IsAmong sets o) → ((o : Operation) → IsAmong sets o → Contains held o) → union_by (from_none sets) ≡ Ok union → held ≡ union
 set_from_none held sets union h s there back e =
     same_unions (Part held) (from_none sets) held union h (are_sets (Part []) sets empty_set s) (record {
@@ -58,8 +57,8 @@ set_from_none held sets union h s there back e =
     }) refl e
 
 -- lists of sets that have the same operations together have the same union
-pub same_from_none : (sets others : List (List Operation)) (a b : List Operation) → AllByRecursion IsFullSet sets
-    → AllByRecursion IsFullSet others → SameTogether sets others → union_by (from_none sets) ≡ Ok a → union_by (from_none others) ≡ Ok b
+pub same_from_none : (sets others : List (List Operation)) (a b : List Operation) → AllByRecursion IsOpSet sets
+    → AllByRecursion IsOpSet others → SameTogether sets others → union_by (from_none sets) ≡ Ok a → union_by (from_none others) ≡ Ok b
     → a ≡ b
 same_from_none sets others a b s t same ha hb =
     same_unions (from_none sets) (from_none others) a b (are_sets (Part []) sets empty_set s) (are_sets (Part []) others empty_set t)

@@ -3,10 +3,9 @@ use Rattle.std.specs.Prelude.{◌≡◌, ◌≢◌, ℕ, true, false, List, [], 
 use Rattle.std.specs.List.{list_any, Contains}
 use Rattle.usfm_ref.specs.Segments.{Segment}
 use Rattle.op_core.specs.Ids.{Id, id_below}
-use Rattle.op_core.specs.Ops.{Operation, in_segment, agree}
+use Rattle.op_core.specs.Ops.{Operation, is_full, in_segment, agree}
 use Rattle.op_core.specs.Sets.{IsOpSet, get, met, join, clash}
 use Rattle.op_core.specs.Shown.{shown}
-use Rattle.op_core.specs.Thinned.{IsFullSet}
 use Rattle.op_core.specs.Export.{export}
 
 -- each grouping of three sets has the same union
@@ -66,9 +65,9 @@ pub data Joining : Type 0 where
   Part : (set : List Operation) → Joining
   Joined : (left right : Joining) → Joining
 
--- each part of a way to join is a set without thinned operations
+-- each part of a way to join is a set
 abbrev pub AreSets : Joining → Type 0
-AreSets (Part set) = IsFullSet set
+AreSets (Part set) = IsOpSet set
 AreSets (Joined left right) = AreSets left × AreSets right
 
 -- the operation is in one of the sets that are joined
@@ -97,7 +96,7 @@ abbrev pub union_by : Joining → Result (List Operation) Id
 union_by (Part set) = Ok set
 union_by (Joined left right) = with_both (union_by left) (union_by right) (λ a b. joined_or_clash a b (clash a b))
 
--- Sets without thinned operations, which are together the same, joined in whatever order, grouping and repetition,
+-- Sets that have the same operations together, thinned ones as thinned, joined in whatever order, grouping and repetition,
 -- have one union, and so one export of every book.
 abbrev pub EqualUnionsExportAlike : Type 0
 EqualUnionsExportAlike =
@@ -105,10 +104,19 @@ EqualUnionsExportAlike =
     union_by one ≡ Ok a → union_by other ≡ Ok b →
     (a ≡ b) × ((book : List ℕ) → export a book ≡ export b book)
 
--- Sets without thinned operations, which are together the same, are joined either way, or refused either way.
+-- Where one of the sets has a thinned operation of an id, any two of their operations of that id agree. So it is where none
+-- is thinned.
+abbrev pub ThinnedAgree : Joining → Type 0
+ThinnedAgree way =
+    (thinned o p : Operation) → IsInOne way thinned → IsInOne way o → IsInOne way p → is_full thinned ≡ false →
+    o.id ≡ thinned.id → p.id ≡ thinned.id → agree o p ≡ true
+
+-- Sets that have the same operations together, and in which no id of a thinned operation stands for two, are joined either
+-- way, or refused either way. An id of full operations may stand for two: then they are refused.
 abbrev pub RefusedAlike : Type 0
 RefusedAlike =
-    (one other : Joining) → AreSets one → AreSets other → SameOperations one other → is_ok (union_by one) ≡ is_ok (union_by other)
+    (one other : Joining) → AreSets one → AreSets other → SameOperations one other → ThinnedAgree one →
+    is_ok (union_by one) ≡ is_ok (union_by other)
 
 -- ---- sets joined one after another
 

@@ -6,6 +6,7 @@ use Rattle.op_core.specs.Ids.{Id}
 use Rattle.op_core.specs.Ops.{Operation, is_full, bare, agree}
 use Rattle.op_core.specs.Sets.{rises, get, put, join, clash}
 use Rattle.op_core.specs.Shown.{shown, text_of, pick}
+use Rattle.op_core.specs.Shown.Pick.{Greatest}
 use Rattle.op_core.specs.Lists.{ids_of, shown_ids, awaited, keys_of, books_of}
 use Rattle.op_core.specs.NextIds.{is_among, greatest_number}
 use Rattle.op_core.specs.Export.{export}
@@ -63,7 +64,7 @@ abbrev pub SubsetStands : Type 0
 SubsetStands =
     (s u : List Operation) (kept : Id → Bool) → StandsFor s u → is_legal (of_ids kept s) ≡ true → StandsFor (of_ids kept s) (of_ids kept u)
 
--- likewise a subset by anything but the texts
+-- a subset by anything but the texts, if it is legal, stands for the same subset
 abbrev pub FilterStands : Type 0
 FilterStands =
     (s u : List Operation) (kept : Operation → Bool) → StandsFor s u → is_legal (filter (λ o. kept (bare o)) s) ≡ true → StandsFor (filter (λ o. kept (bare o)) s) (filter (λ o. kept (bare o)) u)
@@ -107,6 +108,31 @@ SaysSame = (s u : List Operation) → StandsFor s u → AnswersSame s u
 abbrev pub PutStands : Type 0
 PutStands = (s u : List Operation) (o : Operation) → StandsFor s u → is_full o ≡ true → get u o.id ≡ None → StandsFor (put o s) (put o u)
 
+-- ---- what is shown has its texts
+
+-- the operations that a legal set shows for a segment are full
+abbrev pub ShownAreFull : Type 0
+ShownAreFull = (s : List Operation) (g : Segment) → is_legal s ≡ true → all_full (shown s g) ≡ true
+
+-- an operation that a legal set picks for a segment is full
+abbrev pub PickIsFull : Type 0
+PickIsFull = (s : List Operation) (g : Segment) (o : Operation) → is_legal s ≡ true → pick s g ≡ Greatest o → is_full o ≡ true
+
+-- ---- what does not hang on texts
+
+-- ids, numbers, segments and what is named are the same
+pub record SameButTexts (s t : List Operation) : Type 0 where
+  pub ids : ids_of s ≡ ids_of t
+  pub shown_ids : (g : Segment) → shown_ids s g ≡ shown_ids t g
+  pub number : greatest_number s ≡ greatest_number t
+  pub awaited : awaited s ≡ awaited t
+  pub keys : (book : List ℕ) → keys_of s book ≡ keys_of t book
+  pub books : books_of s ≡ books_of t
+
+-- sets that are equal but for texts left out, legal or not, answer alike whatever does not hang on texts
+abbrev pub SkeletonAnswers : Type 0
+SkeletonAnswers = (s t : List Operation) → skeleton s ≡ skeleton t → SameButTexts s t
+
 -- ---- three sets, of which each stands for a full one
 
 -- Where the full ones do not clash, no grouping is refused, and all have one union.
@@ -135,12 +161,12 @@ abbrev pub SkeletonShows : Type 0
 SkeletonShows =
     (s t : List Operation) (g : Segment) → rises s ≡ true → rises t ≡ true → is_legal s ≡ true → is_legal t ≡ true → clash s t ≡ None → skeleton s ≡ skeleton t → shown s g ≡ shown t g
 
--- such sets pick the same operation, or line, for each segment
+-- legal sets that are equal but for texts left out, and do not clash, pick the same operation, or line, for each segment
 abbrev pub SkeletonPicks : Type 0
 SkeletonPicks =
     (s t : List Operation) (g : Segment) → rises s ≡ true → rises t ≡ true → is_legal s ≡ true → is_legal t ≡ true → clash s t ≡ None → skeleton s ≡ skeleton t → pick s g ≡ pick t g
 
--- such sets have the same export of each book
+-- legal sets that are equal but for texts left out, and do not clash, have the same export of each book
 abbrev pub SkeletonExports : Type 0
 SkeletonExports =
     (s t : List Operation) (book : List ℕ) → rises s ≡ true → rises t ≡ true → is_legal s ≡ true → is_legal t ≡ true → clash s t ≡ None → skeleton s ≡ skeleton t → export s book ≡ export t book
@@ -149,7 +175,7 @@ SkeletonExports =
 abbrev pub SameSkeletonOneWhole : Type 0
 SameSkeletonOneWhole = (s u t v : List Operation) → StandsFor s u → StandsFor t v → clash u v ≡ None → skeleton s ≡ skeleton t → u ≡ v
 
--- so they show the same
+-- sets that are equal but for texts left out, and stand for full sets that do not clash, show the same
 abbrev pub SameSkeletonShowsSame : Type 0
 SameSkeletonShowsSame =
     (s u t v : List Operation) (g : Segment) → StandsFor s u → StandsFor t v → clash u v ≡ None → skeleton s ≡ skeleton t → shown s g ≡ shown t g
@@ -179,7 +205,8 @@ FamilyJoins = (family : Id → Operation) (s t : List Operation) → IsOf family
 -- a set that stands for a full one is of each family that has its operations
 abbrev pub FamilyOfWhole : Type 0
 FamilyOfWhole =
-    (family : Id → Operation) (s u : List Operation) → StandsFor s u → ((id : Id) (o : Operation) → get u id ≡ Some o → family id ≡ o) → IsOf family s
+    (family : Id → Operation) (s u : List Operation) → StandsFor s u → ((id : Id) (o : Operation) → get u id ≡ Some o → family id ≡ o)
+    → IsOf family s
 
 -- a set of a family is of it still when it is thinned
 abbrev pub FamilyThins : Type 0
@@ -217,7 +244,8 @@ UnionsAlike = (family : Id → Operation) (one other : Joining) → AreOf family
 -- a full operation of a held id that agrees with what is held changes nothing
 abbrev pub PutHeld : Type 0
 PutHeld =
-    (held : List Operation) (p o : Operation) → rises held ≡ true → get held o.id ≡ Some p → agree p o ≡ true → is_full o ≡ true → put o held ≡ held
+    (held : List Operation) (p o : Operation) → rises held ≡ true → get held o.id ≡ Some p → agree p o ≡ true → is_full o ≡ true
+    → put o held ≡ held
 
 -- where the thinned ones are among those that a set's own operations name, it is legal still, and it stands for what it did
 abbrev pub ThinWhereIsLegal : Type 0
@@ -234,7 +262,7 @@ pub record TwoSteps (a b : List Operation) : Type 0 where
 abbrev pub JoinInTwoSteps : Type 0
 JoinInTwoSteps = (a b : List Operation) → rises a ≡ true → rises b ≡ true → clash a b ≡ None → TwoSteps a b
 
--- a held operation is past exactly where its segment does not show it
+-- a held operation of its segment names an operation exactly where the segment does not show it
 abbrev pub PastIsNotShown : Type 0
 PastIsNotShown =
     (s : List Operation) (o : Operation) → rises s ≡ true → get s o.id ≡ Some o → is_past s o ≡ not (is_among (shown_ids s o.segment) o.id)

@@ -4,10 +4,10 @@ use Rattle.std.specs.List.{list_any, list_all}
 use Rattle.usfm_ref.specs.Segments.{Segment}
 use Rattle.op_core.specs.Ids.{Id, same_id}
 use Rattle.op_core.specs.Ops.{Operation, is_full, is_thinned, bare, in_segment}
-use Rattle.op_core.specs.Sets.{IsOpSet, rises, get}
+use Rattle.op_core.specs.Sets.{rises, get}
 use Rattle.op_core.specs.Shown.{is_replaced}
 
--- whether a held operation of its segment names the operation as replaced
+-- whether the operation is past: a held operation of its segment names it as replaced
 abbrev pub is_past : List Operation → Operation → Bool
 is_past held o = is_replaced held o.segment o.id
 
@@ -18,11 +18,6 @@ is_legal held = list_all (λ o. is_full o || is_past held o) held
 -- whether none is thinned
 abbrev pub all_full : List Operation → Bool
 all_full held = list_all is_full held
-
--- a set without thinned operations
-pub record IsFullSet (held : List Operation) : Type 0 where
-  pub set : IsOpSet held
-  pub full : IsTrue (all_full held)
 
 -- ---- thinning
 
@@ -55,7 +50,7 @@ has_text (Some o) = is_full o
 abbrev pub is_thinned_in : List Operation → Id → Bool
 is_thinned_in held id = list_any (λ o. same_id id o.id && is_thinned o) held
 
--- each held operation whose id passes is named by one of its segment
+-- each held operation whose id passes is past
 abbrev pub ArePast : (Id → Bool) → List Operation → Type 0
 ArePast p held = (o : Operation) → get held o.id ≡ Some o → IsTrue (p o.id) → IsTrue (is_past held o)
 

@@ -27,7 +27,8 @@ pub fn join_with_itself()
     ensures { laws.JoinWithItself }
 {}
 
-/// The union is a set that holds at each id what one of the two holds there.
+/// The union is a set that holds at each id what one of the two holds there, without its text where
+/// either has left it out.
 pub fn join_holds_both()
     ensures { laws.JoinHoldsBoth }
 {}
@@ -58,14 +59,14 @@ pub fn no_clash_agrees()
     ensures { laws.NoClashAgrees }
 {}
 
-/// Two ways of joining sets without thinned operations, which are together the same, are refused
-/// alike.
+/// Two ways of joining sets that have the same operations together are refused alike, where no id of
+/// a thinned operation stands for two.
 pub fn refused_alike()
     ensures { laws.RefusedAlike }
 {}
 
-/// Sets without thinned operations, which are together the same, joined in whatever order, grouping
-/// and repetition, have one union, and so one export of every book.
+/// Sets that have the same operations together, joined in whatever order, grouping and repetition,
+/// have one union, and so one export of every book.
 pub fn equal_unions_export_alike()
     ensures { laws.EqualUnionsExportAlike }
 {}
@@ -146,6 +147,21 @@ pub fn shows_same()
     ensures { thin_laws.ShowsSame }
 {}
 
+/// The operations that a legal set shows have their texts.
+pub fn shown_are_full()
+    ensures { thin_laws.ShownAreFull }
+{}
+
+/// An operation that a legal set picks has its text.
+pub fn pick_is_full()
+    ensures { thin_laws.PickIsFull }
+{}
+
+/// Sets with equal skeletons have the same ids, shown and awaited ids, keys and books.
+pub fn skeleton_answers()
+    ensures { thin_laws.SkeletonAnswers }
+{}
+
 /// A set picks what the full set picks.
 pub fn picks_same()
     ensures { thin_laws.PicksSame }
@@ -186,7 +202,7 @@ pub fn skeleton_shows()
     ensures { thin_laws.SkeletonShows }
 {}
 
-/// They pick the same.
+/// Legal sets with equal skeletons that do not clash pick the same.
 pub fn skeleton_picks()
     ensures { thin_laws.SkeletonPicks }
 {}
@@ -201,7 +217,8 @@ pub fn delta_joins()
     ensures { thin_laws.DeltaJoins }
 {}
 
-/// What is sent adds to full sets what the whole adds.
+/// A delta of the second of two sets adds to the first, but for texts, what the whole second set adds;
+/// and the same operations add the same to the full sets that the two stand for.
 pub fn deltas_add()
     ensures { thin_laws.DeltasAdd }
 {}
@@ -236,12 +253,12 @@ pub fn join_in_two_steps()
     ensures { thin_laws.JoinInTwoSteps }
 {}
 
-/// A held operation is named exactly where its segment does not show it.
+/// A held operation of its segment names an operation exactly where the segment does not show it.
 pub fn past_is_not_shown()
     ensures { thin_laws.PastIsNotShown }
 {}
 
-/// They export the same.
+/// Legal sets with equal skeletons that do not clash export the same.
 pub fn skeleton_exports()
     ensures { thin_laws.SkeletonExports }
 {}

@@ -69,12 +69,13 @@ impl Op {
         let _ = book.code();
         let _ = &key.chapter;
         look_at_each(&replaced);
+        let text = None;
         Op {
             id,
             book,
             key,
             replaced,
-            text: None,
+            text,
         }
     }
 

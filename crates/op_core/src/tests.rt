@@ -302,6 +302,23 @@ fn what_another_set_thinned_is_thinned(rt: HostRuntime) -> Result<(), Fail> {
     Ok(())
 }
 
+#[test]
+fn thinned_operations_have_no_text(rt: HostRuntime) -> Result<(), Fail> {
+    let alloc = rt.alloc();
+    let (ana2, ben3) = (op_id(2, "ana")?, op_id(3, "ben")?);
+    let full = op(alloc, ben3, verse(1)?, &[ana2], "\\v 1 At\n")?;
+    let replaced = Vec::from_slice(alloc, &[ana2])?;
+    if !names_fall(&ben3, &replaced) {
+        return Err(Fail::from("the named ids do not fall"));
+    }
+    let thinned = Op::thinned(ben3, full.book(), full.key(), replaced);
+    assert!(rt; thinned.text().is_none() && thinned.text_or_empty().is_empty());
+    assert!(rt; thinned.id() == ben3 && thinned.replaced() == full.replaced());
+    assert!(rt; thinned.book() == full.book() && thinned.key() == full.key());
+    assert!(rt; thinned != full && full.text() == Some("\\v 1 At\n"));
+    Ok(())
+}
+
 // 3 ben on MAT 1:2 names 2 ana of MAT 1:1, which stays shown there.
 #[test]
 fn what_another_segment_names_stays_full(rt: HostRuntime) -> Result<(), Fail> {

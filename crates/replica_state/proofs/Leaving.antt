@@ -1,11 +1,11 @@
 -- The walk that leaves out the texts which a bundle has thinned.
 use Rattle.std.proofs.Common.{◌≡◌, Bool, true, false, not, cond, ◌&&◌, ◌||◌, List, [], ◌∷◌, Option, Some, None, refl, sym, ap, ◌∙◌}
 use Rattle.std.specs.Option.{option_map}
-use Rattle.std.proofs.lemmas.Bool.{and_from}
+use Rattle.std.proofs.lemmas.Bool.{and_from, and_parts}
 use Rattle.op_core.specs.Ids.{Id, same_id}
 use Rattle.op_core.specs.Ops.{Operation, is_full, is_thinned, bare}
 use Rattle.op_core.specs.Sets.{get}
-use Rattle.op_core.specs.Thinned.{is_past, bare_where, thin_where, is_thinned_in, ArePast}
+use Rattle.op_core.specs.Thinned.{is_past, all_full, bare_where, thin_where, is_thinned_in, ArePast}
 use Rattle.op_core.proofs.Clashes.{get_id}
 use Rattle.op_core.proofs.Left.{same_id-sym, where_then, where_agree, where_never}
 use Rattle.op_core.proofs.TwoSteps.{get_where, past_where}
@@ -84,6 +84,20 @@ module _ (old all now walk rest : List Operation) (o : Operation) (k : IsLeaving
       by : (p : Operation) → same_id o.id p.id ≡ true → is_thinned_in (o ∷ rest) p.id ≡ true
       by p h =
           first (same_id p.id o.id && is_thinned o) (is_thinned_in rest p.id) (and_from _ _ (same_id-sym p.id o.id ∙ h) (ap not thinned))
+
+-- a bundle of full operations leaves out nothing
+pub none_left : (old all : List Operation) → all_full all ≡ true → old ≡ thin_where (is_thinned_in all) old
+none_left old all full = sym (where_never old) ∙ where_agree (λ q. false) (is_thinned_in all) old (λ q. sym (none_thinned all full q))
+  where
+    none_thinned : (ops : List Operation) → all_full ops ≡ true → (q : Id) → is_thinned_in ops q ≡ false
+    none_thinned [] f q = refl
+    none_thinned (o ∷ ops) f q =
+        let p = and_parts (is_full o) (all_full ops) f in
+        (λ i. (same_id q o.id && not (p.0 i)) || none_thinned ops p.1 q i) ∙ by (same_id q o.id)
+      where
+        by : (b : Bool) → ((b && false) || false) ≡ false
+        by true = refl
+        by false = refl
 
 pub all_left : (old all now walk : List Operation) → IsLeaving old all now walk → walk ≡ [] → now ≡ thin_where (is_thinned_in all) old
 all_left old all now walk k none =

@@ -26,10 +26,9 @@ use Rattle.op_core.specs.Shown.{last, shown, text_in, text_of, wants_chapter_lin
 use Rattle.op_core.specs.Export.{exported_keys, export}
 use Rattle.op_core.specs.CutsBack.{picked_at, later_texts}
 use Rattle.op_core.specs.NextIds.{greatest_number}
-use Rattle.op_core.specs.Thinned.{all_full}
 use Rattle.op_core.proofs.CutsBack.{exports_cut_back, keys_rise, split, texts_fit, texts_rise}
 use Rattle.op_core.proofs.Exported.{IsOf, shown_last, picked_own, picks_are_exported, wants_line}
-use Rattle.op_core.proofs.Legal.{shown_full}
+use Rattle.op_core.proofs.Legal.{shown_full, full_last}
 use Rattle.op_core.proofs.Shows.{shows_one}
 use Rattle.replica_state.specs.States.{State, IsState}
 use Rattle.replica_state.specs.Edits.{has_numbers}
@@ -46,12 +45,6 @@ some_last : (ops : List Operation) → ops ≢ [] → (o : Operation) × (last o
 some_last [] h = absurd (h refl)
 some_last (o ∷ []) h = (o, refl)
 some_last (o ∷ p ∷ ops) h = some_last (p ∷ ops) (λ e. cc e)
-
--- the last of operations with their texts has its own
-full_last : (ops : List Operation) (o : Operation) → all_full ops ≡ true → last ops ≡ Some o → is_full o ≡ true
-full_last [] o h e = absurd (cc)
-full_last (p ∷ []) o h e = let is : p ≡ o = cc in ap is_full (sym is) ∙ (and_parts (is_full p) true h).0
-full_last (p ∷ q ∷ rest) o h e = full_last (q ∷ rest) o (and_parts (is_full p) (all_full (q ∷ rest)) h).1 e
 
 text_has_fit : (o : Operation) → IsOperation o → is_full o ≡ true → text_fits o.segment.book o.segment.key (own_text o) ≡ true
 text_has_fit o h full = by o.text h.text full

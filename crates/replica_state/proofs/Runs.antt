@@ -4,8 +4,7 @@ use Rattle.std.specs.List.{AllByRecursion}
 use Rattle.std.proofs.lemmas.Bool.{false≢true}
 use Rattle.op_core.specs.Ids.{Id}
 use Rattle.op_core.specs.Ops.{Operation}
-use Rattle.op_core.specs.Sets.{clash, join}
-use Rattle.op_core.specs.Thinned.{IsFullSet}
+use Rattle.op_core.specs.Sets.{IsOpSet, clash, join}
 use Rattle.op_core.specs.Laws.{Joining, joined_or_clash, with_both, union_by, SameTogether}
 use Rattle.op_core.specs.Laws.Joining.{Part, Joined}
 use Rattle.op_core.proofs.Together.{joined_in, same_from_none}
@@ -32,8 +31,8 @@ run_joined way s (set ∷ rest) w t =
     let next : join s.held set ≡ (step s (Receive set)).after.held = sym (ap (λ (c : Option Id). (received s set c).after.held) none) in
     run_joined (Joined way (Part set)) (step s (Receive set)).after rest (more ∙ ap Ok next) t.1
 
-pub same_held : (name other : List ℕ) (sets others : List (List Operation)) → AllByRecursion IsFullSet sets
-    → AllByRecursion IsFullSet others
+pub same_held : (name other : List ℕ) (sets others : List (List Operation)) → AllByRecursion IsOpSet sets
+    → AllByRecursion IsOpSet others
     → SameTogether sets others → NoneRefused (begun name) (map Receive sets) → NoneRefused (begun other) (map Receive others)
     → (after (begun name) (map Receive sets)).held ≡ (after (begun other) (map Receive others)).held
 same_held name other sets others s t same ha hb =

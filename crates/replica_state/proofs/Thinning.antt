@@ -12,14 +12,23 @@ use Rattle.op_core.specs.Thinned.{is_past, is_left_out, thinned_in, thin, IsOf}
 use Rattle.op_core.specs.Laws.Joining.{Part}
 use Rattle.op_core.specs.ThinLaws.{Alike}
 use Rattle.op_core.proofs.Bare.{held_same, past_same}
-use Rattle.op_core.proofs.Families.{family_thins, unions_alike}
+use Rattle.op_core.proofs.Alike.{skeleton_answers}
+use Rattle.op_core.proofs.Families.{among_held, family_thins, unions_alike}
 use Rattle.op_core.proofs.Left.{IsOpSet-thin}
 use Rattle.op_core.proofs.Legal.{bare_thinned, skeleton_thin, thin_again, thin_legal}
+use Rattle.bundle_codec.specs.Summaries.{Known, IsSummaryOf}
 use Rattle.replica_state.specs.States.{State, IsState}
 use Rattle.replica_state.specs.Steps.{Thinned, without_replaced_texts}
 use Rattle.replica_state.specs.ThinLaws.{SameButThinned, ThinsUnseen}
 
 -- ---- sets of one family with the same ids
+
+-- a summary of one of two sets with the same ids is one of the other
+same_summary : (held other : List Operation) (k : List Known) → ids_of held ≡ ids_of other → IsSummaryOf held k → IsSummaryOf other k
+same_summary held other k ids h = record {
+  form = h.form;
+  exactly = λ q. h.exactly q ∙ sym (among_held held q) ∙ ap (λ all. is_among all q) ids ∙ among_held other q;
+}
 
 -- the ids that a set holds, by what it has of them
 pub held_among : (ops : List Operation) (q : Id) → is_held ops q ≡ is_among (ids_of ops) q
@@ -31,13 +40,23 @@ pub same_family : (family : Id → Operation) (s t : State) → IsOf family s.he
 same_family family s t hs ht same =
     by (unions_alike family (Part s.held) (Part t.held) hs ht (λ q. sym (held_among s.held q) ∙ same q ∙ held_among t.held q))
   where
+    same_answers : (k : Alike (Ok s.held) (Ok t.held)) → SameButThinned (record { name = s.name; held = k.a }) (record { name = t.name; held = k.b })
+    same_answers k = record {
+      skeletons = k.skeletons;
+      shows = k.shows;
+      picks = k.picks;
+      exports = k.exports;
+      answers = skeleton_answers k.a k.b k.skeletons;
+      summaries = λ known. same_summary k.a k.b known (skeleton_answers k.a k.b k.skeletons).ids;
+    }
+
     by : Alike (Ok s.held) (Ok t.held) → SameButThinned s t
     by k =
         let one : s.held ≡ k.a = cc k.one_is in
         let other : t.held ≡ k.b = cc k.other_is in
         subst (λ (ops : List Operation). SameButThinned (record { name = s.name; held = ops }) t) (sym one)
         (subst (λ (ops : List Operation). SameButThinned (record { name = s.name; held = k.a }) (record { name = t.name; held = ops }))
-        (sym other) (record { skeletons = k.skeletons; shows = k.shows; exports = k.exports }))
+        (sym other) (same_answers k))
 
 -- ---- a thinning
 

@@ -5,10 +5,11 @@ use Rattle.std.specs.List.{list_any, AllByRecursion}
 use Rattle.usfm_ref.specs.Segments.{Segment}
 use Rattle.op_core.specs.Ids.{Id}
 use Rattle.op_core.specs.Ops.{Operation}
-use Rattle.op_core.specs.Shown.{shown}
+use Rattle.op_core.specs.Shown.{shown, pick}
 use Rattle.op_core.specs.Lists.{is_held}
 use Rattle.op_core.specs.Export.{export}
 use Rattle.op_core.specs.Thinned.{skeleton, IsOf}
+use Rattle.op_core.specs.ThinLaws.{SameButTexts}
 use Rattle.bundle_codec.specs.Summaries.{Known, IsSummaryOf, outside}
 use Rattle.replica_state.specs.States.{State, IsState, begun}
 use Rattle.replica_state.specs.Receives.{lacked}
@@ -16,11 +17,15 @@ use Rattle.replica_state.specs.Steps.{Command, Receive, Edit, EditOver, Import}
 use Rattle.replica_state.specs.Steps.{Thin, Received, Thinned, step, with_ops}
 use Rattle.replica_state.specs.Runs.{after, NoneRefused}
 
--- two replicas hold the same but for texts left out: they show the same texts, and export the same bytes of every book
+-- Two replicas hold the same but for texts left out: they show and pick the same texts, and export the same bytes of every
+-- book; and ids, awaited ids, keys, books and summaries are the same.
 pub record SameButThinned (s t : State) : Type 0 where
   pub skeletons : skeleton s.held ≡ skeleton t.held
   pub shows : (g : Segment) → shown s.held g ≡ shown t.held g
+  pub picks : (g : Segment) → pick s.held g ≡ pick t.held g
   pub exports : (book : List ℕ) → export s.held book ≡ export t.held book
+  pub answers : SameButTexts s.held t.held
+  pub summaries : (k : List Known) → IsSummaryOf s.held k → IsSummaryOf t.held k
 
 -- A thinning leaves a replica that holds the same but for texts left out. A second one leaves out nothing more.
 pub record ThinsUnseen (s : State) : Type 0 where
@@ -29,7 +34,7 @@ pub record ThinsUnseen (s : State) : Type 0 where
   pub again : step (step s Thin).after Thin
       ≡ record { after = (step s Thin).after; reply = Thinned 0 }
 
--- the law: whatever replica is thinned, nobody sees it
+-- the law: whatever replica is thinned, all that is asked of it stays, but an operation's own text where it is replaced
 abbrev pub ThinningIsUnseen : Type 0
 ThinningIsUnseen = (s : State) → IsState s → ThinsUnseen s
 

@@ -67,11 +67,15 @@ impl Replica {
     }
 }
 
-// Leaves out the text of each held operation that the bundle has thinned.
+// Leaves out the text of each held operation that the bundle has thinned. One of full operations is
+// not walked over.
 fn leave_texts(set: &mut OpSet, bundle: &Bundle<'_>)
     requires past { ArePast (is_thinned_in bundle.now) set.old }
     ensures { set.new ≡ thin_where (is_thinned_in bundle.now) set.old }
 {
+    if bundle.is_full() {
+        return;
+    }
     for view in bundle.ops() {
         if view.text().is_none() {
             set.thin_id(&view.id());

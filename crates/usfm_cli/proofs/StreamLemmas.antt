@@ -5,7 +5,6 @@ use Rattle.std.specs.List.{AllByRecursion, flat_map}
 use Rattle.op_core.specs.Ids.{Id}
 use Rattle.op_core.specs.Ops.{Operation}
 use Rattle.op_core.specs.Sets.{IsOpSet, clash, join}
-use Rattle.op_core.specs.Thinned.{IsFullSet}
 use Rattle.op_core.specs.Laws.{Joining, joined_or_clash, with_both, union_by, SameTogether}
 use Rattle.op_core.specs.Laws.Joining.{Part, Joined}
 use Rattle.op_core.proofs.Together.{joined_in, same_from_none}
@@ -100,13 +99,17 @@ union_joined way held (set ∷ rest) union w h =
     ap (λ r. with_both r (Ok set) (λ a b. joined_or_clash a b (clash a b))) w ∙ ap (joined_or_clash held set) c.0 in
     union_joined (Joined way (Part set)) (join held set) rest union more c.1
 
+-- what streams spell are sets
+pub are_sets : (sets : List (List Operation)) → AreEach sets → AllByRecursion IsOpSet sets
+are_sets [] each = tt
+are_sets (set ∷ rest) each = (each.0.set, are_sets rest each.1)
+
 pub same_books : (sets others : List (List Operation)) (input other : List ℕ) (a b : List Operation) →
-    AreSpelled sets input → AreSpelled others other
-    → AllByRecursion IsFullSet sets → AllByRecursion IsFullSet others → SameTogether sets others → union_in [] input ≡ Ok a →
+    AreSpelled sets input → AreSpelled others other → SameTogether sets others → union_in [] input ≡ Ok a →
     union_in [] other ≡ Ok b → (book : List ℕ) → book_of_stream book input ≡ book_of_stream book other
-same_books sets others input other a b s t full other_full same ha hb book = ap (book_in book) (ha ∙ ap Ok union ∙ sym hb)
+same_books sets others input other a b s t same ha hb book = ap (book_in book) (ha ∙ ap Ok union ∙ sym hb)
   where
     union : a ≡ b
-    union = same_from_none sets others a b full other_full same
+    union = same_from_none sets others a b (are_sets sets s.each) (are_sets others t.each) same
         (union_joined (Part []) [] sets a refl (sym (gives_union sets input s) ∙ ha))
         (union_joined (Part []) [] others b refl (sym (gives_union others other t) ∙ hb))

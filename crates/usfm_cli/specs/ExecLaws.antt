@@ -6,7 +6,7 @@ use Rattle.op_core.specs.Ids.{Id}
 use Rattle.op_core.specs.Ops.{Operation}
 use Rattle.op_core.specs.Sets.{clash}
 use Rattle.op_core.specs.Lists.{is_held}
-use Rattle.op_core.specs.Thinned.{skeleton, IsFullSet, IsOf}
+use Rattle.op_core.specs.Thinned.{skeleton, IsOf}
 use Rattle.replica_state.specs.States.{State, IsState}
 use Rattle.project_file.specs.Projects.{project_at}
 use Rattle.usfm_cli.specs.Streams.{AreSpelled, union_in, book_of_stream}
@@ -32,14 +32,14 @@ pub record ReadTheSame (file other : List ℕ) : Type 0 where
       output_of (executed file (Export book)) ≡ output_of (executed other (Export book))
   pub report : output_of (executed file Report) ≡ output_of (executed other Report)
 
--- A project, after a list of commands, and a stream of bundles without thinned operations write the same bytes of every book, or
--- refuse it alike, where the stream's bundles have together the operations that the project holds.
+-- A project, after a list of commands, and a stream of bundles write the same bytes of every book, or refuse it alike, where the
+-- stream's bundles have together the operations that the project holds, thinned ones as thinned.
 abbrev pub ProjectsReadAsStreams : Type 0
 ProjectsReadAsStreams =
     (file : List ℕ) (commands : List Command) (s : State) (sets : List (List Operation))
     (input : List ℕ) (union : List Operation) →
     project_at (file_after file commands) ≡ Ok s → IsState s → AreSpelled sets input →
-    AllByRecursion IsFullSet sets → union_in [] input ≡ Ok union →
+    union_in [] input ≡ Ok union →
     ((o : Operation) → Contains s.held o → IsAmong sets o) →
     ((o : Operation) → IsAmong sets o → Contains s.held o) →
     (book : List ℕ) →

@@ -4,7 +4,7 @@ use Rattle.std.specs.List.{list_any, AllByRecursion}
 use Rattle.op_core.specs.Ids.{Id}
 use Rattle.op_core.specs.Ops.{Operation}
 use Rattle.op_core.specs.Lists.{is_held}
-use Rattle.op_core.specs.Thinned.{IsFullSet, IsOf}
+use Rattle.op_core.specs.Thinned.{IsOf}
 use Rattle.op_core.specs.Laws.{SameTogether}
 use Rattle.bundle_codec.specs.Reading.{AreBytes}
 use Rattle.usfm_cli.specs.Streams.{union_in, union_with, AreSpelled, book_of_stream}
@@ -25,13 +25,12 @@ abbrev pub UnionsAreOfStreams : Type 0
 UnionsAreOfStreams = (input : List ℕ) (union : List Operation) → AreBytes input →
     union_in [] input ≡ Ok union → IsStreamOf input union
 
--- Streams of bundles without thinned operations, which have the same operations together, in whatever order, grouping and
--- repetition, give the same bytes of every book, if neither is refused.
+-- Streams whose bundles have the same operations together, thinned ones as thinned, in whatever order, grouping and repetition,
+-- give the same bytes of every book, if neither is refused.
 abbrev pub SameOperationsSameBooks : Type 0
 SameOperationsSameBooks =
     (sets others : List (List Operation)) (input other : List ℕ) (a b : List Operation) →
-    AreSpelled sets input → AreSpelled others other →
-    AllByRecursion IsFullSet sets → AllByRecursion IsFullSet others → SameTogether sets others →
+    AreSpelled sets input → AreSpelled others other → SameTogether sets others →
     union_in [] input ≡ Ok a → union_in [] other ≡ Ok b →
     (book : List ℕ) → book_of_stream book input ≡ book_of_stream book other
 

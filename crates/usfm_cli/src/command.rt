@@ -37,7 +37,8 @@ pub enum Command<'a> {
     Export(Book),
     /// Gives the summary of the operations that are held.
     Summary,
-    /// Gives the bundle of the operations that lie outside a summary: what another copy lacks.
+    /// Gives the bundle of the operations that lie outside a summary, which is what another copy lacks,
+    /// and where one of these is thinned, of all others of its segment.
     Delta(&'a [u8]),
     /// Reports the conflicts, and the operations that are awaited.
     Report,

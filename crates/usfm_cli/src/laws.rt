@@ -18,8 +18,8 @@ pub fn unions_are_of_streams()
     ensures { laws.UnionsAreOfStreams }
 {}
 
-/// Streams of bundles without thinned operations, which have the same operations together, in whatever
-/// order, grouping and repetition, give the same bytes of every book.
+/// Streams whose bundles have the same operations together, in whatever order, grouping and
+/// repetition, give the same bytes of every book.
 pub fn same_operations_same_books()
     ensures { laws.SameOperationsSameBooks }
 {}
@@ -65,8 +65,8 @@ pub fn thinned_projects_read_as_streams()
     ensures { projects.ThinnedProjectsReadAsStreams }
 {}
 
-/// A project, after whatever commands, and a stream of bundles with the same operations, none of them
-/// thinned, write the same bytes of every book, or refuse it alike.
+/// A project, after whatever commands, and a stream of bundles with the same operations write the same
+/// bytes of every book, or refuse it alike.
 pub fn projects_read_as_streams()
     ensures { projects.ProjectsReadAsStreams }
 {}

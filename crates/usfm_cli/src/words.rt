@@ -57,7 +57,7 @@ pub enum Line {
     Summary {
         project: String,
     },
-    /// `delta PROJECT SUMMARY`: write the bundle of what lies outside a summary.
+    /// `delta PROJECT SUMMARY`: write the bundle of what another project lacks by its summary.
     Delta {
         project: String,
         summary: String,

@@ -104,8 +104,9 @@ pub(crate) fn delta<'a>(alloc: Global) -> Result<Command<'a>, AllocError> {
 }
 
 const DELTA: &str = "\
-The bundle has the operations that the summary does not cover. The other
-project takes it in with `receive`, and then has all that this one has.
+The bundle has the operations that the summary does not cover, and of a segment
+of which one of them has no text, all. The other project takes it in with
+`receive`, and then has all that this one has.
 
 Example: usfm_team delta ana.project ben.summary > ana.bundle
 

@@ -22,6 +22,8 @@ pub(crate) enum Step<'a> {
     Over(&'a str, &'a [u8], &'a [&'a str]),
     Receive(&'a [u8]),
     Thin,
+    // Gives the project's own bytes.
+    Kept,
     Shown(&'a str),
     Send,
     Export(&'a str),
@@ -119,6 +121,7 @@ impl Player {
             Step::Over(at, text, words) => self.edit_over(at, text, words),
             Step::Receive(bundle) => self.told(&Command::Receive(bundle)),
             Step::Thin => self.told(&Command::Thin),
+            Step::Kept => Ok(self.file.clone()?),
             Step::Shown(at) => {
                 let (book, key) = read_ref(at)?;
                 self.asked(rt, &Command::Shown(book, key))

@@ -1,19 +1,20 @@
 // Replaced texts that are left out, as plays of commands.
 use super::player::Step::{
-    Delta, Edit, Export, Pack, PackLacked, Receive, Report, Same, Send, Shown, Summary, Thin,
+    Delta, Edit, Export, Kept, Pack, PackLacked, Receive, Report, Same, Send, Shown, Summary, Thin,
     Unpack,
 };
 use super::player::Who::{Ana, Ben};
 use super::player::{Row, play};
 use super::vectors::{
     AFTER, ALL_BUT_2_ANA, ALL_BUT_3_ANA, ALL_THREE, B1, CLASHING, CLASHING_ELSEWHERE, FIRST,
-    FOUR_THINNED, FOURTH_OVER, JOINED, NAMES_ANOTHER, S1, THREE_THINNED, UNNAMED, V2,
-    VERSE_THINNED, Y, Z,
+    FOUR_THINNED, FOURTH_OVER, JOINED, NAMES_ANOTHER, S1, THREE, THREE_KEPT, THREE_THINNED,
+    UNNAMED, V2, VERSE_THINNED, Y, Z,
 };
 use std::test::Fail;
 
 // After B1, Y and Z.
 const THINS: &[Row<'static>] = &[
+    (Ana, Send, THREE),
     (Ana, Thin, b"thinned 1\n"),
     (Ana, Thin, b"thinned 0\n"),
     (Ana, Export("MAT"), AFTER),
@@ -28,6 +29,7 @@ const THINS: &[Row<'static>] = &[
         b"op 3 ana 8\n\\v 1 To\n\nop 3 ben 8\n\\v 1 At\n\n",
     ),
     (Ana, Send, THREE_THINNED),
+    (Ana, Kept, THREE_KEPT),
     (Ana, Delta(ALL_BUT_2_ANA), VERSE_THINNED),
     (Ana, Delta(S1), Y),
     (Ana, Delta(ALL_BUT_3_ANA), Z),

@@ -2,4 +2,4 @@ use Rattle.bundle_codec.proofs.Groupings.{associates}
 use Rattle.bundle_codec.proofs.laws.bundles_associate.Goals as goal
 
 pub returns : goal.returns
-returns _ x y z a b c = associates x y z a b c
+returns _ = associates

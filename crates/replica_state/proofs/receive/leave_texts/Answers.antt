@@ -4,7 +4,7 @@ use Rattle.op_core.specs.Ids.{Id, same_id}
 use Rattle.op_core.specs.Ops.{Operation, is_full}
 use Rattle.op_core.specs.Thinned.{thin_where}
 use Rattle.op_core.proofs.Left.{none_thinned}
-use Rattle.replica_state.proofs.Leaving.{IsLeaving, passed, left, may_leave, all_left}
+use Rattle.replica_state.proofs.Leaving.{IsLeaving, passed, left, may_leave, all_left, none_left}
 use Rattle.replica_state.proofs.receive.leave_texts.Goals as goal
 
 pub loop-view-preserved-then-is_none : goal.loop-view-preserved-then-is_none
@@ -18,6 +18,9 @@ loop-view-preserved-then-is_none c =
     (sym (c.thin_id.ensures.thin ∙ ap (λ (id : Id). thin_where (same_id id) c.loop-view.set) c.id.ensures.id))
     (left c.args.set.now c.args.bundle.now c.loop-view.set c.loop-view.view-iterator c.next.new.self o c.loop-view.invariant
     c.in-Some.ensures.steps thinned)
+
+pub returns-then-is_full : goal.returns-then-is_full
+returns-then-is_full c = none_left c.args.set.now c.args.bundle.now (sym c.is_full.ensures ∙ c.if-is_full.true)
 
 pub returns : goal.returns
 returns c =
