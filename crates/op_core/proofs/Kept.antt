@@ -16,7 +16,7 @@ use Rattle.op_core.specs.Ops.{Operation, IsOperation, in_segment, names}
 use Rattle.op_core.specs.Sets.{rises, get, meet, put}
 use Rattle.op_core.specs.Shown.{is_replaced, shown}
 use Rattle.op_core.specs.Lists.{ids_of, shown_ids}
-use Rattle.op_core.specs.Index.{is_in, is_missing, register_of, shown_in, missing_in, IsIndex, Prepares, Admits, AdmitsIn}
+use Rattle.op_core.specs.Index.{is_in, is_missing, register_of, shown_in, missing_in, IsIndex, Prepares, Lays, Admits, AdmitsIn}
 use Rattle.op_core.specs.declared.register.Register.{Register}
 use Rattle.op_core.specs.declared.chapter.Chapter.{Chapter}
 use Rattle.op_core.proofs.Rising.{id_total, same_id-cmp}
@@ -93,8 +93,8 @@ any_put p o (x ∷ ops) g =
 
 -- ---- the index
 
-pub index_prepared : (ops : List Operation) (g : Segment) (s m : ℕ) (before after : List Chapter) → IsIndex ops before → Prepares g s m before after → IsIndex ops after
-index_prepared ops g s m before after h p = record {
+pub index_laid : (ops : List Operation) (before after : List Chapter) → IsIndex ops before → Lays before after → IsIndex ops after
+index_laid ops before after h p = record {
   orderly = p.orderly;
   keeps = record {
     shown = λ k. p.shown k ∙ h.keeps.shown k;
@@ -102,6 +102,9 @@ index_prepared ops g s m before after h p = record {
     missing = λ k q. ap (list_any (same_id q)) (p.missing k) ∙ h.keeps.missing k q;
   };
 }
+
+pub index_prepared : (ops : List Operation) (g : Segment) (s m : ℕ) (before after : List Chapter) → IsIndex ops before → Prepares g s m before after → IsIndex ops after
+index_prepared ops g s m before after h p = index_laid ops before after h (record { orderly = p.orderly; shown = p.shown; missing = p.missing })
 
 module _ (ops : List Operation) (o : Operation) (hr : rises ops ≡ true) (new : get ops o.id ≡ None) (ok : IsOperation o) where
   in_after : (g : Segment) (q : Id) → is_in (put o ops) g q ≡ ((in_segment g o && same_id q o.id) || is_in ops g q)

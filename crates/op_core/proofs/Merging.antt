@@ -169,26 +169,26 @@ before_first held o new n e h = (omega (arith, e), each new (rises_parts o new h
 
 -- ---- moved from one list's end to another's
 
-pub record Moved (all left start to : List Operation) : Type 0 where
-  pub gone : List Operation
+pub record Moved {X : Type 0} (all left start to : List X) : Type 0 where
+  pub gone : List X
   pub whole : all ≡ left ++ gone
   pub behind : to ≡ start ++ reverse gone
 
-pub moved_none : (all start : List Operation) → Moved all all start start
+pub moved_none : {X : Type 0} (all start : List X) → Moved all all start start
 moved_none all start = record { gone = []; whole = sym (append-nil all); behind = sym (append-nil start) }
 
-pub moved_more : (all left left' start to to' : List Operation) (o : Operation) → left ≡ left' ++ o ∷ [] → to' ≡ to ++ o ∷ [] → Moved all left start to → Moved all left' start to'
-moved_more all left left' start to to' o e f m = record {
+pub moved_more : {X : Type 0} (all left left' start to to' : List X) (o : X) → left ≡ left' ++ o ∷ [] → to' ≡ to ++ o ∷ [] → Moved all left start to → Moved all left' start to'
+moved_more {X} all left left' start to to' o e f m = record {
   gone = o ∷ m.gone;
-  whole = m.whole ∙ ap (λ (xs : List Operation). xs ++ m.gone) e ∙ append_assoc left' (o ∷ []) m.gone;
-  behind = f ∙ ap (λ (xs : List Operation). xs ++ o ∷ []) m.behind ∙ append_assoc start (reverse m.gone) (o ∷ []) ∙ ap (λ (xs : List Operation). start ++ xs) (sym (reverse-append (o ∷ []) m.gone));
+  whole = m.whole ∙ ap (λ (xs : List X). xs ++ m.gone) e ∙ append_assoc left' (o ∷ []) m.gone;
+  behind = f ∙ ap (λ (xs : List X). xs ++ o ∷ []) m.behind ∙ append_assoc start (reverse m.gone) (o ∷ []) ∙ ap (λ (xs : List X). start ++ xs) (sym (reverse-append (o ∷ []) m.gone));
 }
 
-pub moved_left : (all left start to : List Operation) (n : ℕ) → n ≡ length left → Moved all left start to → left ≡ take n all
+pub moved_left : {X : Type 0} (all left start to : List X) (n : ℕ) → n ≡ length left → Moved all left start to → left ≡ take n all
 moved_left all left start to n e m = sym (ap (take n) m.whole ∙ ap (λ (k : ℕ). take k (left ++ m.gone)) e ∙ take-append_seam left m.gone)
 
-pub moved_behind : (all left start to : List Operation) (n : ℕ) → n ≡ length left → Moved all left start to → to ≡ start ++ reverse (drop n all)
-moved_behind all left start to n e m = m.behind ∙ ap (λ (xs : List Operation). start ++ reverse xs) (sym (ap (drop n) m.whole ∙ ap (λ (k : ℕ). drop k (left ++ m.gone)) e ∙ drop-append_seam left m.gone))
+pub moved_behind : {X : Type 0} (all left start to : List X) (n : ℕ) → n ≡ length left → Moved all left start to → to ≡ start ++ reverse (drop n all)
+moved_behind {X} all left start to n e m = m.behind ∙ ap (λ (xs : List X). start ++ reverse xs) (sym (ap (drop n) m.whole ∙ ap (λ (k : ℕ). drop k (left ++ m.gone)) e ∙ drop-append_seam left m.gone))
 
 -- one new operation more is where it belongs
 pub union_more : (ops ops' ys new t t' all : List Operation) (o : Operation) (n : ℕ) → join ops (ys ++ o ∷ []) ≡ join (take n ops) ys ++ o ∷ drop n ops → ops' ≡ take n ops → t' ≡ (t ++ reverse (drop n ops)) ++ o ∷ [] → new ≡ ys ++ o ∷ [] → join ops new ++ reverse t ≡ all → join ops' ys ++ reverse t' ≡ all

@@ -11,6 +11,9 @@ ghost use Rattle.op_core.specs.Index.{register_of, shown_in, missing_in, shown_r
 ghost use Rattle.op_core.specs.Index.{IsOrderly, IsIndex, AreApart, AreInside, HasRoomFor, Prepares};
 ghost use Rattle.op_core.specs.Index.{AdmitsIn, unheld};
 
+mod lay;
+
+use self::lay::lay_out;
 use crate::chapter::{Chapter, admit_at_key, prepare_key};
 use crate::ids::has_id;
 use crate::op::Op;
@@ -68,6 +71,7 @@ pub(crate) fn prepare(
 }
 
 // Takes in operations that rise and of which none is held. All growths are made before the first change.
+#[tactic(auto, using(crate::proofs::Kept::index_laid))]
 pub(crate) fn enroll(
     chapters: &mut Vec<Chapter>,
     alloc: Global,
@@ -83,6 +87,7 @@ pub(crate) fn enroll(
     ensures ok { OnOk result (IsIndex (sets.join held.now new.now) chapters.new.items) }
     ensures err { OnErr result (IsIndex held.now chapters.new.items) }
 {
+    lay_out(chapters, alloc, new, near, compared)?;
     prepare_all(chapters, alloc, held, new, near, compared)?;
     admit_all(chapters, held, new, near, compared);
     Ok(())

@@ -176,20 +176,20 @@ fn interleave(
 }
 
 // Moves what is from a place on to the end of another list, the last first. There is room for it.
-fn move_behind(ops: &mut Vec<Op>, at: usize, to: &mut Vec<Op>)
-    requires at { at ≤ vec_len ops.old }
-    requires room { vec_len to.old + vec_len ops.old ≤ vec_capacity to.old + at }
-    ensures left { ops.new.items ≡ take at ops.old.items }
-    ensures moved { to.new.items ≡ to.old.items ++ reverse (drop at ops.old.items) }
-    ensures left_len { vec_len ops.new ≡ at }
-    ensures moved_len { vec_len to.new + at ≡ vec_len to.old + vec_len ops.old }
-    ensures left_room { vec_capacity ops.new ≡ vec_capacity ops.old }
+pub(crate) fn move_behind<T: Drop>(list: &mut Vec<T>, at: usize, to: &mut Vec<T>)
+    requires at { at ≤ vec_len list.old }
+    requires room { vec_len to.old + vec_len list.old ≤ vec_capacity to.old + at }
+    ensures left { list.new.items ≡ take at list.old.items }
+    ensures moved { to.new.items ≡ to.old.items ++ reverse (drop at list.old.items) }
+    ensures left_len { vec_len list.new ≡ at }
+    ensures moved_len { vec_len to.new + at ≡ vec_len to.old + vec_len list.old }
+    ensures left_room { vec_capacity list.new ≡ vec_capacity list.old }
     ensures moved_room { vec_capacity to.old ≤ vec_capacity to.new }
 {
-    'moving: while ops.len() > at {
-        let Some(op) = ops.pop() else {
+    'moving: while list.len() > at {
+        let Some(item) = list.pop() else {
             return;
         };
-        to.push(op).unwrap();
+        to.push(item).unwrap();
     }
 }

@@ -1,0 +1,303 @@
+// New chapters and registers, put into their lists before room is promised in them. A list is gone
+// over once for all that is new in it, from the back, so that no order of operations moves a list
+// once for each of them.
+ghost use Rattle.std.specs.Prelude.{◌≡◌, ◌<◌, ◌≤◌, [], IsTrue, length, reverse, vec_len};
+ghost use Rattle.std.specs.Prelude.{vec_capacity};
+ghost use Rattle.usfm_ref.specs.Keys as keys;
+ghost use Rattle.usfm_ref.specs.Keys.{key_cmp, same_key};
+ghost use Rattle.usfm_ref.specs.Segments.{segment, segment_cmp};
+ghost use Rattle.usfm_ref.specs.Rising.{rises_by};
+ghost use Rattle.op_core.specs.Index.{place_of, register_at, HasRoomIn, IsOrderly, begins_above};
+ghost use Rattle.op_core.specs.Index.{Lays, LaysKeys};
+
+use crate::chapter::Chapter;
+use crate::merge::move_behind;
+use crate::op::Op;
+use crate::place::{Near, head_of, place_chapter, place_register, register_at, registers_of};
+use crate::register::Register;
+use std::alloc::{AllocError, Global};
+use usfm_ref::{Book, Key};
+
+// Fewer new segments are put in where they come: going over the lists would cost more.
+const FEW: usize = 16;
+
+// A segment that has no register yet.
+#[derive(Clone, Copy, Debug, PartialEq, Eq, PartialOrd, Ord)]
+struct Spot {
+    book: Book,
+    key: Key,
+}
+
+impl Spot {
+    // Whether both are of one chapter.
+    fn is_beside(&self, other: &Spot) -> bool {
+        self.key.chapter == other.key.chapter && self.book == other.book
+    }
+}
+
+// Puts in registers, and chapters for them, at the segments of the operations that have none. What
+// the index keeps stays, also where a growth was refused.
+#[tactic(auto, using(crate::proofs::Laid::lays_same, crate::proofs::Laid::lays_more))]
+pub(crate) fn lay_out(
+    chapters: &mut Vec<Chapter>,
+    alloc: Global,
+    new: &[Op],
+    near: &mut Near,
+    compared: &mut u64,
+) -> Result<(), AllocError>
+    requires { IsOrderly chapters.old.items }
+    ensures { Lays chapters.old.items chapters.new.items }
+{
+    if new.len() < FEW {
+        return Ok(());
+    }
+    let spots = spots_of(chapters, alloc, new, near, compared)?;
+    if spots.len() < FEW {
+        return Ok(());
+    }
+    lay_chapters(chapters, alloc, &spots, compared)?;
+    lay_registers(chapters, alloc, &spots, compared)
+}
+
+// The segments of the operations that have no register, rising, each once.
+fn spots_of(
+    chapters: &[Chapter],
+    alloc: Global,
+    new: &[Op],
+    near: &mut Near,
+    compared: &mut u64,
+) -> Result<Vec<Spot>, AllocError>
+    requires { IsOrderly chapters.now }
+{
+    let mut spots: Vec<Spot> = Vec::new(alloc);
+    for op in new {
+        let (book, key) = (op.book(), op.key());
+        let registers = registers_of(chapters, book, key, &mut near.chapter, compared);
+        if register_at(registers, key, &mut near.register, compared).is_none() {
+            spots.push(Spot { book, key })?;
+        }
+    }
+    spots.sort_unstable_by(|a, b| {
+        *compared = compared.saturating_add(1);
+        a.cmp(b)
+    });
+    spots.dedup();
+    Ok(spots)
+}
+
+// Puts in the chapters of the segments that are not there.
+#[tactic(auto, using(crate::proofs::Laid::lays_same, crate::proofs::Laid::lays_more))]
+fn lay_chapters(
+    chapters: &mut Vec<Chapter>,
+    alloc: Global,
+    spots: &[Spot],
+    compared: &mut u64,
+) -> Result<(), AllocError>
+    requires { IsOrderly chapters.old.items }
+    ensures { Lays chapters.old.items chapters.new.items }
+{
+    let fresh = count_chapters(chapters, spots, compared);
+    if fresh == 0 {
+        return Ok(());
+    }
+    chapters.reserve(fresh)?;
+    let tail = Vec::with_capacity(alloc, chapters.capacity())?;
+    merge_chapters(chapters, alloc, spots, tail, compared);
+    Ok(())
+}
+
+// Of how many chapters that are not there the segments are.
+fn count_chapters(chapters: &[Chapter], spots: &[Spot], compared: &mut u64) -> usize
+    requires { IsOrderly chapters.now }
+{
+    let mut fresh: usize = 0;
+    let mut near = 0;
+    let mut rest = spots;
+    'groups: while let Some((spot, _)) = rest.split_first() {
+        let head = head_of(spot.key);
+        let at = place_chapter(chapters, spot.book, head, &mut near, compared);
+        if at >= chapters.len() || !chapters[at].order(spot.book, head).is_eq() {
+            fresh = fresh.saturating_add(1);
+        }
+        rest = &rest[chapter_len(rest)..];
+    }
+    fresh
+}
+
+// How many segments at the front are of the first one's chapter.
+fn chapter_len(spots: &[Spot]) -> usize
+    ensures some { 0 < length spots.now → 0 < result }
+    ensures within { result ≤ length spots.now }
+{
+    for at in 1..spots.len() {
+        if !spots[at].is_beside(&spots[0]) {
+            return at;
+        }
+    }
+    spots.len()
+}
+
+// The same, where there is room for what is there in both lists: what is after each new chapter goes
+// to the tail, the last first, and at last from there to the end of the list.
+fn merge_chapters(
+    chapters: &mut Vec<Chapter>,
+    alloc: Global,
+    spots: &[Spot],
+    mut tail: Vec<Chapter>,
+    compared: &mut u64,
+)
+    requires orderly { IsOrderly chapters.old.items }
+    requires tail { tail.items ≡ [] }
+    requires room { vec_len chapters.old ≤ vec_capacity tail }
+    ensures { Lays chapters.old.items chapters.new.items }
+{
+    let mut rest = spots;
+    'laying: while let Some((spot, before)) = rest.split_last() {
+        let head = head_of(spot.key);
+        let mut near = chapters.len();
+        let at = place_chapter(chapters, spot.book, head, &mut near, compared);
+        move_behind(chapters, at, &mut tail);
+        let len = chapters.len() + tail.len();
+        if len < chapters.capacity()
+            && len < tail.capacity()
+            && is_under(&tail, spot.book, head, compared)
+        {
+            let registers = Vec::new(alloc);
+            let chapter = Chapter {
+                book: spot.book,
+                head,
+                registers,
+            };
+            tail.push(chapter).unwrap();
+        }
+        rest = before;
+    }
+    move_behind(&mut tail, 0, chapters);
+}
+
+// Whether a chapter is before the last of these, if there is one.
+fn is_under(chapters: &[Chapter], book: Book, head: Key, compared: &mut u64) -> bool
+    ensures { result
+        ≡ begins_above segment_cmp place_of (segment book head) (reverse chapters.now) }
+{
+    let Some((last, _)) = chapters.split_last() else {
+        return true;
+    };
+    *compared = compared.saturating_add(1);
+    last.order(book, head).is_gt()
+}
+
+// Puts registers of the segments into their chapters, where these are there.
+#[tactic(auto, using(crate::proofs::Laid::lays_same, crate::proofs::Laid::lays_more))]
+fn lay_registers(
+    chapters: &mut Vec<Chapter>,
+    alloc: Global,
+    spots: &[Spot],
+    compared: &mut u64,
+) -> Result<(), AllocError>
+    requires { IsOrderly chapters.old.items }
+    ensures { Lays chapters.old.items chapters.new.items }
+{
+    let mut near = 0;
+    let mut rest = spots;
+    'groups: while let Some((spot, _)) = rest.split_first() {
+        let (own, later) = rest.split_at(chapter_len(rest));
+        lay_beside(chapters, alloc, *spot, own, &mut near, compared)?;
+        rest = later;
+    }
+    Ok(())
+}
+
+// Puts registers of the segments into the chapter of one of them, if it is there.
+#[tactic(auto, using(crate::proofs::Laid::lays_same, crate::proofs::Laid::lays_more))]
+fn lay_beside(
+    chapters: &mut Vec<Chapter>,
+    alloc: Global,
+    spot: Spot,
+    own: &[Spot],
+    near: &mut usize,
+    compared: &mut u64,
+) -> Result<(), AllocError>
+    requires { IsOrderly chapters.old.items }
+    ensures { Lays chapters.old.items chapters.new.items }
+{
+    let head = head_of(spot.key);
+    let at = place_chapter(chapters, spot.book, head, near, compared);
+    if at < chapters.len() {
+        let chapter = &mut chapters[at];
+        if chapter.order(spot.book, head).is_eq() {
+            return lay_keys(&mut chapter.registers, alloc, head, own, compared);
+        }
+    }
+    Ok(())
+}
+
+// Puts registers of the segments into their chapter, which has this head.
+#[tactic(auto, using(crate::proofs::Laid::keys_same))]
+fn lay_keys(
+    registers: &mut Vec<Register>,
+    alloc: Global,
+    head: Key,
+    own: &[Spot],
+    compared: &mut u64,
+) -> Result<(), AllocError>
+    requires rising { IsTrue (rises_by key_cmp (λ r. r.key) registers.old.items) }
+    requires room { (k : _) → HasRoomIn (register_at k registers.old.items) }
+    ensures { LaysKeys head registers.old.items registers.new.items }
+{
+    registers.reserve_exact(own.len())?;
+    let tail = Vec::with_capacity(alloc, registers.capacity())?;
+    merge_registers(registers, alloc, head, own, tail, compared);
+    Ok(())
+}
+
+// The same, where there is room for what is there in both lists.
+fn merge_registers(
+    registers: &mut Vec<Register>,
+    alloc: Global,
+    head: Key,
+    own: &[Spot],
+    mut tail: Vec<Register>,
+    compared: &mut u64,
+)
+    requires rising { IsTrue (rises_by key_cmp (λ r. r.key) registers.old.items) }
+    requires rooms { (k : _) → HasRoomIn (register_at k registers.old.items) }
+    requires tail { tail.items ≡ [] }
+    requires room { vec_len registers.old ≤ vec_capacity tail }
+    ensures { LaysKeys head registers.old.items registers.new.items }
+{
+    let mut rest = own;
+    'laying: while let Some((spot, before)) = rest.split_last() {
+        let mut near = registers.len();
+        let at = place_register(registers, spot.key, &mut near, compared);
+        move_behind(registers, at, &mut tail);
+        let len = registers.len() + tail.len();
+        if len < registers.capacity()
+            && len < tail.capacity()
+            && is_of(spot.key, head)
+            && is_key_under(&tail, spot.key, compared)
+        {
+            tail.push(Register::new(alloc, spot.key)).unwrap();
+        }
+        rest = before;
+    }
+    move_behind(&mut tail, 0, registers);
+}
+
+// Whether a key is of the chapter that has this head.
+fn is_of(key: Key, head: Key) -> bool
+    ensures { result ≡ same_key (keys.head_of key) head }
+{
+    head_of(key) == head
+}
+
+// Whether a key is before the last of these registers, if there is one.
+fn is_key_under(registers: &[Register], key: Key, compared: &mut u64) -> bool
+    ensures { result ≡ begins_above key_cmp (λ r. r.key) key (reverse registers.now) }
+{
+    let Some((last, _)) = registers.split_last() else {
+        return true;
+    };
+    *compared = compared.saturating_add(1);
+    last.order(key).is_gt()
+}
