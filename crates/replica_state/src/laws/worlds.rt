@@ -26,6 +26,11 @@ pub fn made_once()
     ensures { schedules.MadeOnce }
 {}
 
+/// What an event makes rises by ids: no two of its operations have one id.
+pub fn made_rise()
+    ensures { schedules.MadeRise }
+{}
+
 /// No id stands for two operations, at any replicas and in any bundles.
 pub fn one_for_each_id()
     ensures { schedules.OneForEachId }
