@@ -2,6 +2,7 @@
 //! the events. Each function does nothing: its contract is the law.
 ghost use Rattle.replica_state.specs.World.Agreement as agreement;
 ghost use Rattle.replica_state.specs.World.Bytes as bytes;
+ghost use Rattle.replica_state.specs.World.Calls as calls;
 ghost use Rattle.replica_state.specs.World.Exchanges as exchanges;
 ghost use Rattle.replica_state.specs.World.Invisible as invisible;
 ghost use Rattle.replica_state.specs.World.Schedules as schedules;
@@ -143,6 +144,11 @@ pub fn without_thinnings()
 /// bundle.
 pub fn worlds_hold_sets()
     ensures { schedules.WorldsHoldSets }
+{}
+
+/// A replica stays where it stands in a world through each event at another one.
+pub fn others_stay()
+    ensures { calls.OthersStay }
 {}
 
 /// The receiving of a proper front of a bundle's bytes is refused as cut, and changes nothing.
