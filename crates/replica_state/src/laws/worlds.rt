@@ -104,7 +104,8 @@ pub fn all_agree_in_the_end()
 {}
 
 /// Of two replicas, where the set of the first stands for that of the second, the same edit, edit
-/// over, import and receiving has the same reply, and the sets stand so again.
+/// over and import has the same reply, and the sets stand so again; so it is with two bundles of which
+/// the first stands for the second, if the second does not clash with what the second one holds.
 pub fn stand_ins_step_alike()
     ensures { invisible.StandInsStepAlike }
 {}
@@ -134,8 +135,8 @@ pub fn replies_are_the_same()
     ensures { invisible.RepliesAreTheSame }
 {}
 
-/// Where no replica thins, all is held in full, the world is its twin, and the laws that speak of
-/// skeletons speak of the sets.
+/// Where no replica thins, the world is its twin, all is held in full, and replicas whose skeletons
+/// are equal hold equal sets.
 pub fn without_thinnings()
     ensures { invisible.WithoutThinnings }
 {}
