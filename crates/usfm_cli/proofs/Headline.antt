@@ -8,6 +8,7 @@ use Rattle.op_core.specs.Thinned.{is_legal, skeleton}
 use Rattle.op_core.proofs.Groupings.{skeleton_exports}
 use Rattle.op_core.proofs.Legal.{join_legal}
 use Rattle.op_core.proofs.Union.{rises-join, agree_from_no_clash}
+use Rattle.project_file.proofs.Files.{project_is}
 use Rattle.conflict_report.specs.Reports.{report}
 use Rattle.conflict_report.proofs.SameReports.{skeleton_reports}
 use Rattle.usfm_cli.specs.Commands.{export_text}
@@ -46,7 +47,8 @@ union_is_legal held (set ∷ sets) union h each e =
 -- what is accepted is legal
 accepted_is_legal : (r : Replica) (held : List Operation) → Accepted r held → IsLegal held
 accepted_is_legal (Project file commands) held a =
-    subst IsLegal a.is_held (record { rising = a.valid.set.rising; legal = a.valid.legal })
+    let valid = (project_is (file_after file commands) a.state a.bytes a.reads).valid in
+    subst IsLegal a.is_held (record { rising = valid.set.rising; legal = valid.legal })
 accepted_is_legal (Stream input) held a =
     let s = stream_of input held a.bytes a.union in
     union_is_legal [] s.sets held (record { rising = refl; legal = refl }) s.spelled.each s.union_is

@@ -5,7 +5,7 @@ use Rattle.op_core.specs.Ops.{Operation}
 use Rattle.op_core.specs.Sets.{clash}
 use Rattle.op_core.specs.Thinned.{skeleton}
 use Rattle.bundle_codec.specs.Reading.{AreBytes}
-use Rattle.replica_state.specs.States.{State, IsState}
+use Rattle.replica_state.specs.States.{State}
 use Rattle.project_file.specs.Projects.{project_at}
 use Rattle.conflict_report.specs.Reports.{report}
 use Rattle.usfm_cli.specs.Streams.{union_in, book_of_stream}
@@ -24,8 +24,8 @@ pub data Replica : Type 0 where
 pub record ProjectHolds (file : List ℕ) (commands : List Command)
     (held : List Operation) : Type 0 where
   pub state : State
+  pub bytes : AreBytes (file_after file commands)
   pub reads : project_at (file_after file commands) ≡ Ok state
-  pub valid : IsState state
   pub is_held : state.held ≡ held
 
 -- the stream's bundles, each joined after the one before, make this union

@@ -19,9 +19,10 @@ use Rattle.replica_state.specs.declared.fault.ReceiveFault.TheVariants.{Memory, 
 use Rattle.replica_state.specs.Receives.{RefusesReceive}
 use Rattle.replica_state.specs.States.{State, IsState}
 use Rattle.replica_state.specs.Steps.{Command, Receive, Reply, Step, step}
-use Rattle.replica_state.specs.World.{World, Event, Bundles, Receives, happens, replica, received, with_bundle, with_held}
+use Rattle.replica_state.specs.World.{World, Event, Bundles, Receives, happens, replica, replica_of, received, with_bundle, with_held}
 use Rattle.replica_state.specs.World.Invisible.{receive_reply}
 use Rattle.replica_state.specs.World.Calls.{IsIn, IsReceiving, IsSending, NeverClashes}
+use Rattle.replica_state.proofs.World.Flights.{apart, not_there}
 use Rattle.replica_state.proofs.World.Held.{of_its_ids}
 use Rattle.replica_state.proofs.World.Moves.{held_same}
 use Rattle.replica_state.proofs.World.Twins.{no_clash_here}
@@ -32,6 +33,13 @@ pub makes : (s : State) (kept : Id → Bool) (ops : List Operation) → of_ids k
 makes s kept ops e legal w is =
     let here : of_ids kept (w.held s.name) ≡ ops = ap (λ (x : State). of_ids kept x.held) is ∙ e in
     ap (λ b. (with_bundle w (of_ids kept (w.held s.name)) b).bundles) (ap is_legal here ∙ legal) ∙ ap (λ xs. xs ∷ w.bundles) here
+
+-- a replica stays where it stands through an event at another one
+pub others_stay : (w : World) (e : Event) (s : State) → same_bytes s.name (replica_of e) ≡ false → IsIn w s → IsIn (happens w e) s
+others_stay w e s h is = ap (of_name s.name) (apart w s.name e (not_there s.name e h)) ∙ is
+  where
+    of_name : List ℕ → List Operation → State
+    of_name name ops = record { name = name; held = ops }
 
 -- the ids of what a summary lacks give it, and it is legal
 pub lacking_ids : (ops : List Operation) (s : List Known) → rises ops ≡ true → of_ids (is_held (outside s ops)) ops ≡ outside s ops

@@ -19,7 +19,7 @@ use Rattle.op_core.proofs.Legal.{delta_legal}
 use Rattle.op_core.proofs.Union.{same_gets}
 use Rattle.bundle_codec.specs.Summaries.{summary_of, covers, outside}
 use Rattle.bundle_codec.proofs.Told.{covers_its_ids}
-use Rattle.replica_state.specs.World.{World, Event, Summarizes, Bundles, Receives, after, replica_of, is_apart}
+use Rattle.replica_state.specs.World.{World, Event, Bundles, Receives, after, replica_of, is_apart}
 use Rattle.replica_state.specs.World.Schedules.{Holds, Where, At, Within, found, in_bundle, IsMade, IsOrThinned}
 use Rattle.replica_state.specs.World.Exchanges.{HoldUnion, IsBefore, Request, Whole, Lacking, Hearing}
 use Rattle.replica_state.specs.World.Exchanges.{told, wanted, IsAsked, Hears, heard, IsRelay}
@@ -183,10 +183,6 @@ bundle_there h b e = by (slice_get (whole h.got).bundles h.bundle) refl
     by None f both = absurd both
     by (Some u) f both = record { ops = u; is = f; stands_for = both }
 
--- the moment of a summary is before what comes after it
-asked_before : (hearer : List ℕ) (asked sent : List Event) → IsBefore (Summarizes hearer ∷ asked) sent → IsBefore asked sent
-asked_before hearer asked sent b = (b.0 ++ Summarizes hearer ∷ [], b.1 ∙ sym (append_assoc b.0 (Summarizes hearer ∷ []) asked))
-
 -- the hearer of a bundle holds what the teller held
 hears : (a : List ℕ) (h : Hearing) → Hears a h → (q : Id) (o : Operation) → get ((whole h.sent).held a) q ≡ Some o
     → get ((whole (heard h)).held h.hearer) q ≡ Some o
@@ -218,7 +214,7 @@ hears a h r q o g = ap (λ xs. get xs q) now ∙ held (get ((whole h.got).held h
     in_bundle_there x e = ap (λ r. in_bundle r q) there.is ∙ e
 
     -- what the teller holds of it here
-    here : (x : Operation) → get ((after h.sent).held a) q ≡ Some x → (request : Request) → IsAsked h.hearer request h.sent
+    here : (x : Operation) → get ((after h.sent).held a) q ≡ Some x → (request : Request) → IsAsked request h.sent
         → get ((whole h.got).held h.hearer) q ≡ None → get (told h.hearer request ((after h.sent).held a)) q ≡ Some x
     here x f Whole asked n = f
     here x f (Lacking asked) before n =
@@ -230,7 +226,7 @@ hears a h r q o g = ap (λ xs. get xs q) now ∙ held (get ((whole h.got).held h
         lacks false e = e
         lacks true e =
             let x = held_at ((whole asked).held h.hearer) q (sym (ids_held _ _ (stands asked h.hearer).skeletons q) ∙ e) in
-            cc (sym n ∙ sent h.hearer x.0 (grown_to the_twin asked h.sent (asked_before h.hearer asked h.sent before) h.hearer q x.0 x.1))
+            cc (sym n ∙ sent h.hearer x.0 (grown_to the_twin asked h.sent before h.hearer q x.0 x.1))
 
     held_here : InFull ((after h.sent).held a) q (bare o)
     held_here = by (get ((after h.sent).held a) q) refl

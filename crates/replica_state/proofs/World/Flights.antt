@@ -1,5 +1,5 @@
 -- Events elsewhere, and bundles and summaries in flight.
-use Rattle.std.proofs.Common.{◌≡◌, ℕ, zero, suc, Bool, true, false, ◌&&◌, List, [], ◌∷◌, ◌++◌, refl, ap, ◌∙◌, Option, Some, None}
+use Rattle.std.proofs.Common.{◌≡◌, ℕ, zero, suc, Bool, true, false, not, ◌&&◌, List, [], ◌∷◌, ◌++◌, refl, ap, ◌∙◌, Option, Some, None}
 use Rattle.std.specs.Prelude.{slice_get}
 use Rattle.std.specs.List.{list_all}
 use Rattle.std.proofs.lemmas.Bool.{and_parts, and_from, cond-false, not-true}
@@ -9,7 +9,7 @@ use Rattle.op_core.specs.Ops.{Operation}
 use Rattle.op_core.specs.Thinned.{is_legal, of_ids}
 use Rattle.bundle_codec.specs.Summaries.{Known, summary_of}
 use Rattle.replica_state.specs.World.{World, Event, Edits, EditsOver, Imports, Thins, Summarizes, Bundles, Receives}
-use Rattle.replica_state.specs.World.{ReceivesCut, FindsNoMemory, after, happens, received, with_held, with_bundle, is_apart}
+use Rattle.replica_state.specs.World.{ReceivesCut, FindsNoMemory, after, happens, received, with_held, with_bundle, is_apart, replica_of}
 
 elsewhere : (w : World) (name n : List ℕ) (ops : List Operation) → same_bytes name n ≡ false → (with_held w n ops).held name ≡ w.held name
 elsewhere w name n ops h = cond-false (same_bytes name n) ops (w.held name) h
@@ -32,6 +32,18 @@ apart w name (Receives n k) h = by (slice_get w.bundles k)
     by (Some ops) = elsewhere w name n _ (not-true (same_bytes name n) h)
 apart w name (ReceivesCut n k length) h = refl
 apart w name (FindsNoMemory n) h = refl
+
+-- an event at another replica changes nothing at this one
+pub not_there : (name : List ℕ) (e : Event) → same_bytes name (replica_of e) ≡ false → is_apart name e ≡ true
+not_there name (Edits n g text) h = ap not h
+not_there name (EditsOver n g text given) h = ap not h
+not_there name (Imports n file) h = ap not h
+not_there name (Thins n) h = ap not h
+not_there name (Summarizes n) h = refl
+not_there name (Bundles n kept) h = refl
+not_there name (Receives n k) h = ap not h
+not_there name (ReceivesCut n k length) h = refl
+not_there name (FindsNoMemory n) h = refl
 
 pub all_apart : (later past : List Event) (name : List ℕ) → list_all (is_apart name) later ≡ true
     → (after (later ++ past)).held name ≡ (after past).held name

@@ -1,5 +1,5 @@
 -- What holds in every run: a world at each moment, in which the events make what they make in the world of the laws. The
--- runs are that world itself, where no replica thins, and its twin.
+-- run that the laws are proved by is that world's twin.
 use Rattle.std.proofs.Common.{◌≡◌, ℕ, ◌⊎◌, inl, inr, Bool, true, false, List, [], ◌∷◌, ◌++◌, refl, sym, ap, subst, ◌∙◌, Option, Some, None}
 use Rattle.std.specs.Prelude.{slice_get}
 use Rattle.std.specs.List.{list_all}

@@ -2,6 +2,7 @@
 use Rattle.std.specs.Prelude.{◌≡◌, ◌≢◌, ◌<◌, ◌^◌, ℕ, false, List, [], ◌∷◌, ◌++◌}
 use Rattle.std.specs.Prelude.{length, Result, Ok, Err, Some, slice_get, MatchResult}
 use Rattle.std.specs.List.{AllByRecursion}
+use Rattle.usfm_ref.specs.Books.{same_bytes}
 use Rattle.op_core.specs.Ids.{Id}
 use Rattle.op_core.specs.Ops.{Operation}
 use Rattle.op_core.specs.Thinned.{all_full}
@@ -15,6 +16,7 @@ use Rattle.replica_state.specs.declared.fault.ReceiveFault.TheVariants.{Clash}
 use Rattle.replica_state.specs.States.{State}
 use Rattle.replica_state.specs.Steps.{Reply}
 use Rattle.replica_state.specs.World.{World, Event, Receives, IsWithin, after, happens, replica}
+use Rattle.replica_state.specs.World.{replica_of}
 use Rattle.replica_state.specs.World.Invisible.{reply}
 
 -- the replica is that of its name in the world
@@ -24,6 +26,13 @@ IsIn w s = replica w s.name ≡ s
 -- In each world in which the replica stands, an event makes of it what the call did.
 abbrev pub IsEvent : Event → State → State → Type 0
 IsEvent e s t = (w : World) → IsIn w s → IsIn (happens w e) t
+
+-- A replica stays where it stands through each event at another one. So calls of several replicas, one after the other,
+-- are a list of events in one world.
+abbrev pub OthersStay : Type 0
+OthersStay =
+    (w : World) (e : Event) (s : State) → same_bytes s.name (replica_of e) ≡ false →
+    IsIn w s → IsIn (happens w e) s
 
 -- what the call answers is the reply to the event
 abbrev pub IsReply : Event → State → Reply → Type 0

@@ -85,14 +85,14 @@ told hearer (Lacking asked) held = outside (summary_of ((after asked).held heare
 abbrev pub wanted : List ℕ → Request → List Operation → Id → Bool
 wanted hearer request held id = is_held (told hearer request held) id
 
--- the summary that is asked with was made before the bundle
-abbrev pub IsAsked : List ℕ → Request → List Event → Type 0
-IsAsked hearer Whole sent = Unit {0}
-IsAsked hearer (Lacking asked) sent = IsBefore (Summarizes hearer ∷ asked) sent
+-- the summary that is asked with is that of a moment before the bundle is made
+abbrev pub IsAsked : Request → List Event → Type 0
+IsAsked Whole sent = Unit {0}
+IsAsked (Lacking asked) sent = IsBefore asked sent
 
 -- the teller makes the bundle, whole or for a summary that the hearer made before, and the hearer then receives it
 pub record Hears (teller : List ℕ) (h : Hearing) : Type 0 where
-  pub asked : IsAsked h.hearer h.request h.sent
+  pub asked : IsAsked h.request h.sent
   pub sends : let held = (after h.sent).held teller in
       IsBefore (Bundles teller (wanted h.hearer h.request held) ∷ h.sent) h.got
   pub is : let held = (after h.sent).held teller in

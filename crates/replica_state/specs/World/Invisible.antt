@@ -36,8 +36,9 @@ pub record ActsFor (s u : State) : Type 0 where
   pub thins : StandsFor (step s Thin).after.held u.held
   pub shows : ShowSame s.held u.held
 
--- Of two replicas with one name, where the set of the first stands for that of the second, the same edit, edit over,
--- import, and receiving has the same reply, and the sets stand so again. So they do where the first one thins.
+-- Of two replicas with one name, where the set of the first stands for that of the second, the same edit, edit over and
+-- import has the same reply, and the sets stand so again. So it is with two bundles of which the first stands for the
+-- second, if the second does not clash with what the second replica holds. The sets stand so where the first one thins.
 abbrev pub StandInsStepAlike : Type 0
 StandInsStepAlike = (s u : State) → s.name ≡ u.name → StandsFor s.held u.held → ActsFor s u
 
@@ -99,7 +100,7 @@ RepliesAreTheSame =
 
 -- ---- worlds in which no replica thins
 
--- all is held in full, and what is said of skeletons holds of the sets
+-- the world is its twin, all is held in full, also what was made, and sets with equal skeletons are equal
 pub record IsExact (events : List Event) : Type 0 where
   pub twin_is : after (twin events) ≡ after events
   pub full : (name : List ℕ) → IsTrue (all_full ((after events).held name))
@@ -109,7 +110,7 @@ pub record IsExact (events : List Event) : Type 0 where
   pub same : (a b : List ℕ) → skeleton ((after events).held a) ≡ skeleton ((after events).held b) →
       (after events).held a ≡ (after events).held b
 
--- Where no replica thins, all is held in full, the world is its twin, and the laws that speak of skeletons speak of the
+-- Where no replica thins, the world is its twin, all is held in full, and replicas whose skeletons are equal hold equal
 -- sets.
 abbrev pub WithoutThinnings : Type 0
 WithoutThinnings = (events : List Event) → list_all keeps_texts events ≡ true → IsExact events

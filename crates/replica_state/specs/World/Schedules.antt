@@ -6,7 +6,7 @@ use Rattle.std.specs.List.{AllByRecursion}
 use Rattle.usfm_ref.specs.Segments.{Segment}
 use Rattle.op_core.specs.Ids.{Id}
 use Rattle.op_core.specs.Ops.{Operation, bare, agree, in_segment, names}
-use Rattle.op_core.specs.Sets.{IsOpSet, get, clash}
+use Rattle.op_core.specs.Sets.{IsOpSet, rises, get, clash}
 use Rattle.op_core.specs.Shown.{is_shown}
 use Rattle.op_core.specs.Lists.{shown_ids}
 use Rattle.op_core.specs.NextIds.{is_among}
@@ -92,6 +92,10 @@ FoundWasMade =
 abbrev pub MadeOnce : Type 0
 MadeOnce = (events : List Event) (x y : Operation) → IsMade events x →
     IsMade events y → x.id ≡ y.id → x ≡ y
+
+-- What an event makes rises by ids, so that no two of its operations have one id.
+abbrev pub MadeRise : Type 0
+MadeRise = (past : List Event) (e : Event) → rises (made (after past) e) ≡ true
 
 -- No id stands for two operations, at any replicas and in any bundles: what is found of one id agrees.
 abbrev pub OneForEachId : Type 0

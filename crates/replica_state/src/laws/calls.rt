@@ -17,7 +17,7 @@ use usfm_ref::{Book, Key};
 
 /// A replica that was just made is the one of its name in the beginning.
 pub fn new(alloc: Global, name: ReplicaName) -> Replica
-    ensures { calls.IsIn world.beginning result }
+    ensures { result ≡ world.replica world.beginning name }
 {
     Replica::new(alloc, name)
 }

@@ -2,6 +2,7 @@
 //! the events. Each function does nothing: its contract is the law.
 ghost use Rattle.replica_state.specs.World.Agreement as agreement;
 ghost use Rattle.replica_state.specs.World.Bytes as bytes;
+ghost use Rattle.replica_state.specs.World.Calls as calls;
 ghost use Rattle.replica_state.specs.World.Exchanges as exchanges;
 ghost use Rattle.replica_state.specs.World.Invisible as invisible;
 ghost use Rattle.replica_state.specs.World.Schedules as schedules;
@@ -24,6 +25,11 @@ pub fn found_was_made()
 /// No two operations with one id are made.
 pub fn made_once()
     ensures { schedules.MadeOnce }
+{}
+
+/// What an event makes rises by ids: no two of its operations have one id.
+pub fn made_rise()
+    ensures { schedules.MadeRise }
 {}
 
 /// No id stands for two operations, at any replicas and in any bundles.
@@ -98,7 +104,8 @@ pub fn all_agree_in_the_end()
 {}
 
 /// Of two replicas, where the set of the first stands for that of the second, the same edit, edit
-/// over, import and receiving has the same reply, and the sets stand so again.
+/// over and import has the same reply, and the sets stand so again; so it is with two bundles of which
+/// the first stands for the second, if the second does not clash with what the second one holds.
 pub fn stand_ins_step_alike()
     ensures { invisible.StandInsStepAlike }
 {}
@@ -128,8 +135,8 @@ pub fn replies_are_the_same()
     ensures { invisible.RepliesAreTheSame }
 {}
 
-/// Where no replica thins, all is held in full, the world is its twin, and the laws that speak of
-/// skeletons speak of the sets.
+/// Where no replica thins, the world is its twin, all is held in full, and replicas whose skeletons
+/// are equal hold equal sets.
 pub fn without_thinnings()
     ensures { invisible.WithoutThinnings }
 {}
@@ -138,6 +145,11 @@ pub fn without_thinnings()
 /// bundle.
 pub fn worlds_hold_sets()
     ensures { schedules.WorldsHoldSets }
+{}
+
+/// A replica stays where it stands in a world through each event at another one.
+pub fn others_stay()
+    ensures { calls.OthersStay }
 {}
 
 /// The receiving of a proper front of a bundle's bytes is refused as cut, and changes nothing.

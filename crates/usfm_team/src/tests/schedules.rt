@@ -104,7 +104,9 @@ const CHANGED: &[u8] = b"\\id MAT\n\\c 1\n\\v 1 end\n\\v 2 d\n\\v 3 e\n\\c 2\n\\
 
 const LAST: &[u8] = b"\\id MAT\n\\c 1\n\\v 1 one\n\\v 2 two\n\\v 3 three\n\\c 2\n\\v 1 four\n";
 
-// A schedule: 75 events, after the last edit of which each hears of all.
+// A schedule: 92 events. Cy hears of an edit before what it replaces. Where projects thin, bundle 20 is a delta that takes
+// a whole segment along. Bundle 9 is lost. After the last edit ana hears of what the others
+// hold, and then both of what she holds, so that a relay leads from each to each.
 const SCHEDULE: &[(Who, Event<'static>)] = &[
     (Ana, Import(BOOK)),
     (Ana, Pack),
@@ -177,11 +179,37 @@ const SCHEDULE: &[(Who, Event<'static>)] = &[
     (Cy, Take(17)),
     (Cy, Take(17)),
     (Ben, Take(12)),
-    (Ana, Import(LAST)),
-    (Ana, Pack),
+    (Ben, Sum),
+    (Ana, Edit("MAT 1:3", b"\\v 3 q\n")),
+    (Ana, PackLacked(10)),
     (Ben, Take(18)),
-    (Cy, Take(18)),
+    (Ana, Sum),
+    (Ben, Edit("MAT 1:3", b"\\v 3 p\n")),
+    (Ben, PackLacked(11)),
+    (Cy, Take(19)),
+    (Cy, Sum),
+    (Ana, Take(19)),
+    (Ana, PackLacked(12)),
+    (Cy, Take(20)),
+    (Ana, Import(LAST)),
+    (Ana, Sum),
+    (Ben, PackLacked(13)),
+    (Cy, PackLacked(13)),
+    (Ana, Take(22)),
+    (Ana, Take(21)),
+    (Ana, Pack),
+    (Ben, Take(23)),
+    (Cy, Take(23)),
 ];
+
+// The event after which cy lacks what an edit replaces.
+const LATE: usize = 78;
+
+// The bundle that takes a segment along.
+const CLOSED: usize = 20;
+
+// How many texts each thinning leaves out, where the project of each third event then thins.
+const LEFT_OUT: &[u8] = b"011100211110121520000000112600";
 
 // Whether an event receives cut bytes.
 fn is_cut(event: &Event<'_>) -> bool {
@@ -242,7 +270,16 @@ fn play_schedule(rt: &impl Abort, alloc: Global) -> Result<(), Fail> {
     agree_in_the_end(rt, &mut world)
 }
 
-// The schedule with a thinning after each third event, beside its twin without thinnings.
+// That a thinning leaves out as many texts as the table of them says.
+fn thins_there(rt: &impl Abort, world: &mut World, who: Who, at: usize) -> Result<(), Fail> {
+    let answer = world.happens(rt, who, &Thin)?;
+    assert!(rt; answer.starts_with(b"thinned "), "event {at}");
+    assert!(rt; answer.get(8) == LEFT_OUT.get(at / 3), "event {at}");
+    Ok(())
+}
+
+// The schedule with a thinning after each third event, beside its twin without thinnings. The twin makes its own deltas:
+// where one takes a segment along, the twin's has just what is lacked.
 fn play_thinned(rt: &impl Abort, alloc: Global) -> Result<(), Fail> {
     let mut world = World::new(alloc)?;
     let mut twin = World::new(alloc)?;
@@ -251,12 +288,21 @@ fn play_thinned(rt: &impl Abort, alloc: Global) -> Result<(), Fail> {
         let plain = happens_there(rt, &mut twin, *who, event, at)?;
         assert!(rt; answer.as_slice() == plain.as_slice(), "event {at}");
         if at % 3 == 2 {
-            world.happens(rt, *who, &Thin)?;
+            thins_there(rt, &mut world, *who, at)?;
+        }
+        if at == LATE {
+            assert!(rt;
+                world
+                    .happens(rt, Cy, &Report)?
+                    .ends_with(b"awaited 15 ana\n")
+            );
         }
         for who in [Ana, Ben, Cy] {
             reads_the_same(rt, &mut world, &mut twin, who, at)?;
         }
     }
+    assert!(rt; world.bundle(CLOSED)?.starts_with(b"USFMSR2\n"));
+    assert!(rt; twin.bundle(CLOSED)?.starts_with(b"USFMSR1\n"));
     agree_in_the_end(rt, &mut world)
 }
 

@@ -95,6 +95,11 @@ impl World {
         }
     }
 
+    // The bytes of a bundle that was made.
+    pub(crate) fn bundle(&self, place: usize) -> Result<Vec<u8>, Fail> {
+        self.made(&self.bundles, place)
+    }
+
     fn packs(&mut self, who: Who, command: &Command<'_>) -> Result<Vec<u8>, Fail> {
         let bundle = self.told(who, command)?;
         self.bundles.push(bundle)?;
@@ -102,7 +107,7 @@ impl World {
     }
 
     fn takes(&mut self, who: Who, place: usize, most: usize) -> Result<Vec<u8>, Fail> {
-        let bundle = self.made(&self.bundles, place)?;
+        let bundle = self.bundle(place)?;
         let front = if most < bundle.len() {
             &bundle[..most]
         } else {
@@ -140,8 +145,7 @@ impl World {
             Event::Take(place) => self.takes(who, place, usize::MAX),
             Event::TakeCut(place, most) => self.takes(who, place, most),
             Event::Same(one, other) => {
-                let bundle = self.made(&self.bundles, one)?;
-                assert!(rt; bundle.as_slice() == self.made(&self.bundles, other)?.as_slice());
+                assert!(rt; self.bundle(one)?.as_slice() == self.bundle(other)?.as_slice());
                 Ok(Vec::new(self.alloc))
             }
             Event::Export => self.told(who, &Command::Export(Book::read("MAT")?)),
