@@ -15,8 +15,8 @@ def identity(op_id):
     return struct.pack(">QB", number, len(name)) + name
 
 
-def operation(op_id, book, chapter, verse, replaced, text):
-    place = struct.pack(">BHB", 0 if verse is None else 1, verse or 0, 0)
+def operation(op_id, book, chapter, verse, replaced, text, letter=0):
+    place = struct.pack(">BHB", 0 if verse is None else 1, verse or 0, letter)
     named = b"".join(identity(r) for r in sorted(replaced))
     return (identity(op_id) + book.encode() + struct.pack(">H", chapter) + place + struct.pack(">Q", len(replaced))
             + named + struct.pack(">BQ", 1, len(text)) + text)

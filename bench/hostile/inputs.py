@@ -88,6 +88,17 @@ def falling_chapters(count: int) -> Input:
     return fold(rising(operations))
 
 
+def falling_verses(count: int) -> Input:
+    """One bundle whose verses, parts of a verse after it, fall in one chapter while its ids rise."""
+    operations = []
+    for at in range(1, count + 1):
+        number, part = divmod(count - at, 27)
+        letter = 96 + part if part else 0
+        text = b"\\v %d%s a\n" % (number, bytes([letter]) if letter else b"")
+        operations.append(operation((at, b"a"), "MAT", 1, number, [], text, letter))
+    return fold(rising(operations))
+
+
 def falling_bundles(count: int) -> Input:
     """Bundles of one operation each, whose ids fall."""
     one = (operation((at, b"a"), "MAT", at % 999 + 1, at // 999 + 1, [], text_of(at // 999 + 1)) for at in range(count, 0, -1))
@@ -216,6 +227,7 @@ def many_verses(count: int) -> Input:
 
 FAMILIES = [
     Family("one bundle, its chapters fall while its ids rise", 8_000, 80_000, falling_chapters),
+    Family("one bundle, its verses fall while its ids rise", 2_600, 26_000, falling_verses),
     Family("bundles of one operation, their ids fall", 1_600, 16_000, falling_bundles),
     Family("each operation names all before it", 400, 1_265, naming_all),
     Family("one segment with many texts: folded", 10_000, 100_000, lambda n: fold(conflicting(n))),

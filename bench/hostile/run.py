@@ -1,12 +1,14 @@
 #!/usr/bin/env python3
 """Measures the program on inputs that are built to take long, and on ten times as much of each.
 
-    run.py [WORD ..]      the inputs whose names have all these words, or all inputs
+    run.py [--program PATH] [WORD ..]      the inputs whose names have all these words, or all inputs
 
-The program is the one that `./usfm_team` builds. For each input the table has the bytes and the least processor's time
-of several runs, of the small one and of the great one, and how many times as long the great one took. More than 15
-times is marked. Times below a hundredth of a second are mostly those of beginning a program.
+The program is the one that is named, else the one that `./usfm_team` builds. For each input the table has the bytes and
+the least processor's time of several runs, of the small one and of the great one, and how many times as long the great
+one took. More than 15 times is marked, and the exit status is then 1. Times below a hundredth of a second are mostly
+those of beginning a program.
 """
+import argparse
 import os
 import resource
 import subprocess
@@ -18,7 +20,6 @@ sys.dont_write_bytecode = True
 from inputs import FAMILIES, Family, Input
 
 TOP = os.path.dirname(os.path.dirname(os.path.dirname(os.path.abspath(__file__))))
-PROGRAM = os.path.join(TOP, "crates/usfm_team/out/usfm_team")
 MOST_TIMES = 15
 # Runs of an input: more where they are short.
 TURNS = 9
@@ -30,7 +31,7 @@ def processor_seconds() -> float:
     return used.ru_utime + used.ru_stime
 
 
-def once(one: Input, folder: str) -> float:
+def once(program: str, one: Input, folder: str) -> float:
     """The processor's time of one run."""
     for name, data in one.files.items():
         with open(os.path.join(folder, name), "wb") as out:
@@ -39,25 +40,25 @@ def once(one: Input, folder: str) -> float:
         given.write(one.given)
         given.seek(0)
         before = processor_seconds()
-        ran = subprocess.run([PROGRAM, *one.words], cwd=folder, stdin=given, stdout=subprocess.DEVNULL, stderr=subprocess.PIPE)
+        ran = subprocess.run([program, *one.words], cwd=folder, stdin=given, stdout=subprocess.DEVNULL, stderr=subprocess.PIPE)
         after = processor_seconds()
     if ran.returncode != 0 and ran.stderr != b"fault 82\n":
         sys.exit(f"{one.words[0]} answers {ran.stderr!r}")
     return after - before
 
 
-def least(one: Input, folder: str) -> float:
+def least(program: str, one: Input, folder: str) -> float:
     """The least processor's time of several runs."""
-    seconds = [once(one, folder)]
+    seconds = [once(program, one, folder)]
     while len(seconds) < TURNS and sum(seconds) < LONG:
-        seconds.append(once(one, folder))
+        seconds.append(once(program, one, folder))
     return min(seconds)
 
 
-def measure(family: Family, folder: str) -> None:
-    """Prints a row of the table."""
+def measure(program: str, family: Family, folder: str) -> bool:
+    """Prints a row of the table, and answers whether the great input took at most 15 times as long."""
     small, great = family.make(family.small), family.make(family.great)
-    small_seconds, great_seconds = least(small, folder), least(great, folder)
+    small_seconds, great_seconds = least(program, small, folder), least(program, great, folder)
     times = great_seconds / small_seconds
     row = [
         family.what,
@@ -68,18 +69,29 @@ def measure(family: Family, folder: str) -> None:
         f"{times:.1f}" + (" **more than 15**" if times > MOST_TIMES else ""),
     ]
     print("| " + " | ".join(row) + " |", flush=True)
+    return times <= MOST_TIMES
 
 
-def main() -> None:
+def program_of_repository() -> str:
+    """The program that stands in this repository, built if need be."""
     with open(os.path.join(TOP, "samples/first.bundle"), "rb") as sample:
         subprocess.run([os.path.join(TOP, "usfm_team"), "fold", "MAT"], stdin=sample, stdout=subprocess.DEVNULL, check=True)
+    return os.path.join(TOP, "crates/usfm_team/out/usfm_team")
+
+
+def main() -> int:
+    parser = argparse.ArgumentParser(usage="run.py [--program PATH] [WORD ..]")
+    parser.add_argument("--program", help="the program, else the one of this repository")
+    parser.add_argument("words", nargs="*", metavar="WORD", help="words in the names of the inputs")
+    options = parser.parse_args()
+    program = os.path.abspath(options.program or program_of_repository())
     print("| Input | Bytes | Time | Bytes | Time | Times |")
     print("|---|---|---|---|---|---|")
     with tempfile.TemporaryDirectory() as folder:
-        for family in FAMILIES:
-            if all(word in family.what for word in sys.argv[1:]):
-                measure(family, folder)
+        wanted = [it for it in FAMILIES if all(word in it.what for word in options.words)]
+        within = [measure(program, it, folder) for it in wanted]
+    return 0 if all(within) else 1
 
 
 if __name__ == "__main__":
-    main()
+    sys.exit(main())

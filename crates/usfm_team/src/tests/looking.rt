@@ -8,9 +8,13 @@ use super::player::{Row, play};
 use super::vectors::{FIRST, FOURTH, NOTHING, S1};
 use std::test::Fail;
 
+// The summary of a project that holds nothing.
+const OF_NOTHING: &[u8] = b"USFMSS1\n\0\0\0\0\0\0\0\0";
+
 const SUMMARIES: &[Row<'static>] = &[
-    (Ana, Summary, b"USFMSS1\n\0\0\0\0\0\0\0\0"),
+    (Ana, Summary, OF_NOTHING),
     (Ana, Delta(S1), NOTHING),
+    (Ana, Delta(OF_NOTHING), NOTHING),
     (
         Ana,
         Import(b"\\id MAT\n\\c 1\n\\v 1 a\n\\v 2 b\n\\v 3 c\n"),
@@ -23,6 +27,7 @@ const SUMMARIES: &[Row<'static>] = &[
         b"USFMSS1\n\0\0\0\0\0\0\0\x01\x03ana\0\0\0\0\0\0\0\x01\0\0\0\0\0\0\0\x01\0\0\0\0\0\0\0\x05",
     ),
     (Ben, Receive(FOURTH), b"new 1\n"),
+    (Ben, Delta(OF_NOTHING), FOURTH),
     (
         Ben,
         Summary,
@@ -109,13 +114,29 @@ const FINDS: &[Row<'static>] = &[
     (Ana, Found("MAT", ""), b"fault 100\n"),
     (Ana, Listed("MAT"), b"In 1:1\ngnat 1:1\nthe 1:1\n"),
     (Ana, Words("LUK", b"\xff"), b"fault 10 0\n"),
+    (Ana, Words("LUK", b"\\Endmarker nd*"), b"fault 40 1\n"),
     (Ana, Words("LUK", b"\\Marker"), b"fault 41 1\n"),
+    (
+        Ana,
+        Words("LUK", b"\\Marker nd\n\\StyleType Foo"),
+        b"fault 42 2\n",
+    ),
     (Ana, Listed("LUK"), b"fault 82\n"),
     (Ana, Find("LUK", b"\xff", ""), b"fault 10 0\n"),
+    (Ana, Find("LUK", b"\\Endmarker nd*", ""), b"fault 40 1\n"),
     (Ana, Find("LUK", b"\\Marker", ""), b"fault 41 1\n"),
+    (
+        Ana,
+        Find("LUK", b"\\Marker nd\n\\StyleType Foo", ""),
+        b"fault 42 2\n",
+    ),
     (Ana, Found("LUK", ""), b"fault 82\n"),
     (Ben, Import(b"\\id MAT\n\\p aaa\n"), b"added 1\n"),
     (Ben, Found("MAT", "aa"), b"MAT 0 11\n"),
+    // A text without a word, and one without a hit.
+    (Ben, Import(b"\\id MRK\n\\p 1 -\n"), b"added 1\n"),
+    (Ben, Listed("MRK"), b""),
+    (Ben, Found("MRK", "a"), b""),
 ];
 
 #[test]
