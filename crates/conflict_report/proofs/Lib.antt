@@ -1,4 +1,5 @@
 mod Latest
+mod Seen
 mod Gathered
 mod Emptiness
 pub mod SameReports
