@@ -1,5 +1,6 @@
 pub mod Inputs
 pub mod LineLengths
+pub mod Loading
 pub mod Unions
 pub mod StreamLemmas
 pub mod BooksCutBack
