@@ -3,6 +3,7 @@ pub mod LineLengths
 pub mod Loading
 pub mod Unions
 pub mod StreamLemmas
+pub mod SummariesRead
 pub mod BooksCutBack
 pub mod ReadTheSame
 pub mod ReadAlike
