@@ -1,17 +1,33 @@
--- What the refusal of a bundle says of the project file that ends with it.
-use Rattle.std.proofs.Common.{◌≡◌, ℕ, List, Some, Err, sym, ap, subst, inl, ◌∙◌}
+-- What the refusal of a bundle says of the project file that ends with it, and where none is for memory.
+use Rattle.std.proofs.Common.{◌≡◌, ◌≢◌, ℕ, true, false, List, [], ◌∷◌, Some, Result, Ok, Err, sym, ap, subst, inl, ◌∙◌}
+use Rattle.std.proofs.lemmas.Bool.{true≢false}
+use Rattle.op_core.specs.Ops.{Operation}
+use Rattle.op_core.specs.Thinned.{all_full}
 use Rattle.bundle_codec.specs.declared.fault.BundleFault.{BundleFault}
 use Rattle.bundle_codec.specs.declared.fault.BundleFault.TheVariants as bundle_faults
 use Rattle.bundle_codec.specs.declared.fault.WholeFault.{WholeFault}
 use Rattle.bundle_codec.specs.declared.fault.WholeFault.TheVariants as whole
 use Rattle.bundle_codec.specs.Spelling.{bundle}
-use Rattle.bundle_codec.specs.Reading.{bundle_at}
+use Rattle.bundle_codec.specs.Reading.{◌>>=◌, judge_thinned, bundle_at, TakesMemory}
 use Rattle.bundle_codec.specs.Joining.{whole_if, whole_at, RefusesWhole}
 use Rattle.replica_state.specs.States.{State, IsState}
-use Rattle.project_file.specs.declared.fault.LoadFault.TheVariants.{Bundle}
+use Rattle.project_file.specs.declared.fault.LoadFault.TheVariants.{Memory, Bundle}
 use Rattle.project_file.specs.Answers.{refusal_of, TakesMemoryAfter, RefusesLoad}
 use Rattle.project_file.specs.Projects.{project, front_at, state_of, after_front, project_at}
 use Rattle.project_file.proofs.Fronts.{front_again}
+
+whole_of : (held ops : List Operation) (rest : List ℕ) (judged : Result (Unit {0}) BundleFault)
+    → whole_if (judged >>= λ _. Ok (ops, rest)) ≡ Ok held → ops ≡ held
+whole_of held ops [] (Ok done) e = cc e
+whole_of held ops (b ∷ rest) (Ok done) e = cc e
+whole_of held ops rest (Err fault) e = cc e
+
+-- a bundle for which memory is taken has a thinned operation
+takes_thinned : (bytes : List ℕ) (held : List Operation) → TakesMemory bytes → whole_at bytes ≡ Ok held → all_full held ≡ false
+unfolding bundle_at
+takes_thinned bytes held t e =
+    let read = ap (λ f. whole_if (f >>= λ fields. judge_thinned fields.0.0 fields.0.1 >>= λ _. Ok (fields.0.1, fields.1))) t.read in
+    ap all_full (sym (whole_of held t.ops t.rest (judge_thinned false t.ops) (sym read ∙ e))) ∙ t.thinned
 
 module _ (bytes name rest : List ℕ) (front : front_at bytes ≡ Some (name, rest)) where
   refused_whole : (fault : WholeFault) → whole_at rest ≡ Err fault → project_at bytes ≡ Err (Bundle fault)
@@ -42,3 +58,28 @@ module _ (bytes name rest : List ℕ) (front : front_at bytes ≡ Some (name, re
       let same : ◌≡◌ {A = List ℕ × List ℕ} (name, rest) (s.name, bundle s.held) =
       cc (sym front ∙ ap front_at e ∙ front_again s.name (bundle s.held) v.name) in
       ap (λ (x : List ℕ × List ℕ). x.1) same
+
+  -- the set of the bundle is what the replica holds
+  pub whole_is_held : (s : State) → project_at bytes ≡ Ok s → whole_at rest ≡ Ok s.held
+  whole_is_held s e = by (whole_at rest) (sym (ap after_front front) ∙ e)
+    where
+      by : (w : Result (List Operation) WholeFault) → state_of name w ≡ Ok s → w ≡ Ok s.held
+      by (Ok held) e = let same : ◌≡◌ {A = State} (record { name = name; held = held }) s = cc e in ap (λ (r : State). Ok r.held) same
+      by (Err fault) e = cc e
+
+  -- to judge the bundle of no operation no memory is taken
+  pub nothing_takes : (s : State) → project_at bytes ≡ Ok s → s.held ≡ [] → (fault : WholeFault) → RefusesWhole rest fault
+      → refusal_of fault ≢ Memory
+  nothing_takes s e none whole.Trailing r h = cc h
+  nothing_takes s e none (whole.Bundle bundle_faults.Memory) r h =
+      true≢false (sym (ap all_full none) ∙ takes_thinned rest s.held r (whole_is_held s e))
+  nothing_takes s e none (whole.Bundle bundle_faults.Magic) r h = cc h
+  nothing_takes s e none (whole.Bundle bundle_faults.Truncated) r h = cc h
+  nothing_takes s e none (whole.Bundle (bundle_faults.NotRising at)) r h = cc h
+  nothing_takes s e none (whole.Bundle (bundle_faults.BadId at)) r h = cc h
+  nothing_takes s e none (whole.Bundle (bundle_faults.BadKey at)) r h = cc h
+  nothing_takes s e none (whole.Bundle (bundle_faults.BadReplaced at)) r h = cc h
+  nothing_takes s e none (whole.Bundle (bundle_faults.BadTag at)) r h = cc h
+  nothing_takes s e none (whole.Bundle (bundle_faults.NotUtf8 at)) r h = cc h
+  nothing_takes s e none (whole.Bundle (bundle_faults.BadText at)) r h = cc h
+  nothing_takes s e none (whole.Bundle (bundle_faults.Unsupported at)) r h = cc h

@@ -1,5 +1,5 @@
 // Project files made, loaded and saved.
-ghost use Rattle.std.specs.Prelude.{◌≡◌, ◌↔◌, Ok, IfOk, IfErr, IfSome, IsSome, IsTrue, MatchResult, option_map};
+ghost use Rattle.std.specs.Prelude.{◌≡◌, ◌≢◌, ◌↔◌, [], Ok, Err, IfOk, IfErr, IfSome, IsSome, IsTrue, MatchResult, option_map};
 ghost use Rattle.op_core.specs.Names.{is_name};
 ghost use Rattle.replica_state.specs.States.{State, IsState, begun};
 ghost use Rattle.project_file.specs.Answers as answers;
@@ -40,7 +40,8 @@ pub fn create(alloc: Global, name: &str) -> Result<Vec<u8>, CreateFault>
 /// - `Bundle` with the refusal of what follows the name, as `bundle_codec::decode_whole` answers it: 60
 ///   to 69, and 70 where something follows the bundle.
 /// - `Memory` (1) where a growth was refused. It may stand in the place of 69 and 70 where each field of
-///   the bundle is right and an operation is thinned, and of no other refusal.
+///   the bundle is right and an operation is thinned, and of no other refusal. A replica that holds
+///   nothing is loaded without memory.
 pub fn load(alloc: Global, bytes: &[u8]) -> Result<Replica, LoadFault>
     // What is loaded is a replica, and the bytes are its project file.
     ensures loaded { IfOk result (λ s. projects.project_at bytes.now ≡ Ok s) }
@@ -51,6 +52,9 @@ pub fn load(alloc: Global, bytes: &[u8]) -> Result<Replica, LoadFault>
         → MatchResult result (λ loaded. loaded ≡ s) (λ fault. fault ≡ LoadFault.Memory) }
     // Which refusal it is.
     ensures refused { IfErr result (answers.RefusesLoad bytes.now) }
+    // A replica that holds nothing is loaded without memory.
+    ensures nothing_held { (s : State) → projects.project_at bytes.now ≡ Ok s → s.held ≡ []
+        → result ≢ Err LoadFault.Memory }
 {
     let Some(front) = front_of(bytes) else {
         return Err(LoadFault::BadProject);

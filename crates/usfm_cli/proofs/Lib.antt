@@ -1,7 +1,9 @@
 pub mod Inputs
 pub mod LineLengths
+pub mod Loading
 pub mod Unions
 pub mod StreamLemmas
+pub mod SummariesRead
 pub mod BooksCutBack
 pub mod ReadTheSame
 pub mod ReadAlike

@@ -5,6 +5,7 @@ pub mod Looking
 pub mod Commands
 pub mod Executing
 pub mod ExecLaws
+pub mod DeltaLaws
 pub mod Streams
 pub mod Folding
 pub mod StreamLaws

@@ -1,8 +1,8 @@
 // Commands over a project's file.
-ghost use Rattle.std.specs.Prelude.{◌≡◌, ◌≢◌, Ok, Err, IsTrue, IfOk, IfErr};
+ghost use Rattle.std.specs.Prelude.{◌≡◌, ◌≢◌, [], Ok, Err, IsTrue, IfOk, IfErr};
 ghost use Rattle.replica_state.specs.States.{State};
 ghost use Rattle.project_file.specs.Projects.{project_at};
-ghost use Rattle.usfm_cli.specs.Commands.{outcome, only_tells};
+ghost use Rattle.usfm_cli.specs.Commands.{outcome, only_tells, is_late, MayWantMemory};
 ghost use Rattle.usfm_cli.specs.Faults.{of_loading};
 ghost use Rattle.usfm_cli.specs.Executing.{RefusesFile, executed};
 ghost use Rattle.usfm_cli.specs.Executing.{file_or, file_after, state_or, state_after};
@@ -58,18 +58,28 @@ impl Outcome {
 /// - `EditOver`: the same, with `NotShown` (83) before `NumbersUsedUp`.
 /// - `Receive`: `Bundle` (60 to 69), `Trailing` (70), `Clash` (51).
 /// - `Export`: `NoBook` (82).
+/// - `Delta`: `BadSummary` (71).
+/// - `Check` and `Words`: `NotText` (10) of the sheet, `FieldBeforeMarker` (40), `EmptyMarker` (41) or
+///   `BadStyleType` (42), whichever its first faulty line has, `NoBook` (82).
+/// - `Find`: the same, and then `EmptyNeedle` (100).
 ///
-/// The others refuse nothing.
+/// `Thin`, `Shown`, `Send`, `Summary` and `Report` refuse nothing.
 ///
 /// `Memory` (1) where a growth was refused; of bytes that are no project only where an operation of
-/// their bundle is thinned, since the other refusals take no memory. The project is the bytes that
-/// were given, so that a refused command leaves it as it is.
+/// their bundle is thinned, since the other refusals take no memory. Nor do those of the command once
+/// the project was read, but for `NumbersUsedUp` of an import, `Clash`, 69 and 70 of a bundle with a
+/// thinned operation, and what is found after records of a sheet were kept. The project is the bytes
+/// that were given, so that a refused command leaves it as it is.
 pub fn exec(alloc: Global, project: &[u8], command: &Command<'_>) -> Result<Outcome, Fault>
     ensures answer { result ≢ Err Fault.Memory → executed project.now command.now ≡ result }
     // A file that is no project is refused for that, whatever memory there is; but for its bundle, where
     // an operation of it is thinned.
     ensures no_project { IfErr (project_at project.now) (λ fault.
         RefusesFile project.now (of_loading fault) result) }
+    // Reading a project that holds nothing takes no memory: then out of memory is answered only where
+    // the command may want some, and so in the place of no refusal that needs none.
+    ensures memory { result ≡ Err Fault.Memory → (s : State) → project_at project.now ≡ Ok s
+        → s.held ≡ [] → MayWantMemory (is_late command.now) (outcome s command.now) }
     // A command that only reports gives the file back as it is.
     ensures told { IfOk result (λ made.
         IsTrue (only_tells command.now) → made.project ≡ project.now) }

@@ -1,4 +1,7 @@
-use Rattle.std.proofs.Common.{ap, sym, ◌∙◌, arith}
+use Rattle.std.proofs.Common.{◌≡◌, List, Result, Ok, Err, ap, sym, ◌∙◌, arith}
+use Rattle.op_core.specs.Ops.{Operation}
+use Rattle.bundle_codec.specs.declared.fault.WholeFault.{WholeFault}
+use Rattle.replica_state.specs.Receives.{lacked}
 use Rattle.std.proofs.lemmas.Result.{err_from_is_err_and}
 use Rattle.replica_state.specs.States.{State}
 use Rattle.replica_state.specs.Steps.{with_ops}
@@ -6,7 +9,7 @@ use Rattle.project_file.specs.declared.fault.LoadFault.TheVariants.{BadProject}
 use Rattle.project_file.specs.Projects.{after_front}
 use Rattle.project_file.specs.Answers.{refusal_of}
 use Rattle.project_file.proofs.Files.{not_refused, no_clash, loaded_is, is_file, same_replica}
-use Rattle.project_file.proofs.Refusals.{refuses, rest_is}
+use Rattle.project_file.proofs.Refusals.{refuses, rest_is, whole_is_held, nothing_takes}
 use Rattle.project_file.proofs.project.load.Goals as goal
 
 pub returns-in_default-clause-only : goal.returns-in_default-clause-only
@@ -25,6 +28,19 @@ returns-in_err-bundle-clause-refused c =
     let from = err_from_is_err_and c.from_residual.result c.from_residual.ensures.1 in
     rw (from.1, from.2) (refuses c.args.bytes.now c.in-Some.front.0 c.in-Some.front.1.now (sym c.in-Some.ensures) c.in_err-bundle.field-0.0
     c.in_err-bundle.ensures.exact)
+
+pub returns-in_err-bundle-clause-nothing_held : goal.returns-in_err-bundle-clause-nothing_held
+returns-in_err-bundle-clause-nothing_held c =
+    let from = err_from_is_err_and c.from_residual.result c.from_residual.ensures.1 in
+    rw (from.1, from.2) (λ s loads none e. nothing_takes c.args.bytes.now c.in-Some.front.0 c.in-Some.front.1.now (sym c.in-Some.ensures)
+    s loads none c.in_err-bundle.field-0.0 c.in_err-bundle.ensures.exact (cc e))
+
+pub returns-in-Err-Memory-clause-nothing_held : goal.returns-in-Err-Memory-clause-nothing_held
+returns-in-Err-Memory-clause-nothing_held c = λ s loads none e.
+    let held = whole_is_held c.args.bytes.now c.in-Some.front.0 c.in-Some.front.1.now (sym c.in-Some.ensures) s loads in
+    let same : ◌≡◌ {A = Result (List Operation) WholeFault} (Ok s.held) (Ok c.in_ok-bundle.bundle) = sym held ∙ c.in_ok-bundle.ensures.exact in
+    let is : s.held ≡ c.in_ok-bundle.bundle = cc same in
+    c.in-Err-Memory.ensures.nothing_new (ap (lacked c.new-replica.result.held) (sym is ∙ none)) (ap Err c.in-Err-Memory.field-0-is)
 
 pub unreachable-requires : goal.unreachable-requires
 unreachable-requires c =
