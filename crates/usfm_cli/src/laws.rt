@@ -6,6 +6,7 @@ ghost use Rattle.usfm_cli.specs.StreamLaws as laws;
 ghost use Rattle.usfm_cli.specs.TreeLaws as trees;
 
 pub mod headline;
+pub mod turns;
 
 /// Bundles one after another give the union of their sets, taken one after another, or the first
 /// clash.
