@@ -12,15 +12,17 @@ _usfm_team() {
         return
     fi
     # What each command asks for, word by word; what is not listed is free text.
+    local place=$((COMP_CWORD - 1))
     case $command in
         init | edit | edit-over | shown | send | summary | report | thin) asked="file" ;;
-        import | receive | delta) asked="file file" ;;
+        import | receive) asked="file" place=1 ;;
+        delta) asked="file file" ;;
         export) asked="file book" ;;
         check | find | words) asked="file book file" ;;
         fold) asked="book" ;;
         help) asked="command" ;;
     esac
-    case $(cut -d' ' -f$((COMP_CWORD - 1)) <<<"$asked ") in
+    case $(cut -d' ' -f$place <<<"$asked ") in
         file) compopt -o filenames 2>/dev/null; mapfile -t COMPREPLY < <(compgen -f -- "$word") ;;
         book) mapfile -t COMPREPLY < <(compgen -W "$books" -- "$word") ;;
         command) mapfile -t COMPREPLY < <(compgen -W "${commands% help}" -- "$word") ;;

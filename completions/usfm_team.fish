@@ -10,13 +10,19 @@ function __usfm_team_at
     test (count $words) -eq (math $argv[1] + 2); and contains -- $words[2] $argv[2..]
 end
 
+# The same of the word after the command's name and so many words, and of each after that.
+function __usfm_team_from
+    set -l words (commandline -opc)
+    test (count $words) -ge (math $argv[1] + 2); and contains -- $words[2] $argv[2..]
+end
+
 complete -c usfm_team -f
 complete -c usfm_team -n __fish_use_subcommand -a init -d 'Begins a project'
-complete -c usfm_team -n __fish_use_subcommand -a import -d "Takes in a book's file"
+complete -c usfm_team -n __fish_use_subcommand -a import -d 'Takes in the files of books'
 complete -c usfm_team -n __fish_use_subcommand -a edit -d 'Gives a segment the text of standard input'
 complete -c usfm_team -n __fish_use_subcommand -a edit-over -d 'The same, in the place of given operations alone'
 complete -c usfm_team -n __fish_use_subcommand -a shown -d 'Shows a segment'
-complete -c usfm_team -n __fish_use_subcommand -a receive -d 'Takes in a bundle'
+complete -c usfm_team -n __fish_use_subcommand -a receive -d 'Takes in bundles'
 complete -c usfm_team -n __fish_use_subcommand -a send -d 'Writes the bundle of all operations'
 complete -c usfm_team -n __fish_use_subcommand -a export -d 'Writes the text of a book'
 complete -c usfm_team -n __fish_use_subcommand -a summary -d 'Writes the summary of all operations'
@@ -31,7 +37,8 @@ complete -c usfm_team -n __fish_use_subcommand -a help -d 'Prints the help of a 
 complete -c usfm_team -n __fish_use_subcommand -l help -d 'Prints help'
 complete -c usfm_team -n __fish_use_subcommand -l version -d 'Prints the version'
 complete -c usfm_team -n '__usfm_team_at 0 init import edit edit-over shown receive send export summary delta report check find words thin' -F
-complete -c usfm_team -n '__usfm_team_at 1 import receive delta' -F
+complete -c usfm_team -n '__usfm_team_from 1 import receive' -F
+complete -c usfm_team -n '__usfm_team_at 1 delta' -F
 complete -c usfm_team -n '__usfm_team_at 2 check find words' -F
 complete -c usfm_team -n '__usfm_team_at 1 export check find words' -a "$__usfm_team_books"
 complete -c usfm_team -n '__usfm_team_at 0 fold' -a "$__usfm_team_books"

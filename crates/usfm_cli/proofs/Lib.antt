@@ -10,3 +10,4 @@ pub mod ReadAlike
 pub mod Running
 pub mod Searched
 pub mod Headline
+pub mod InTurn

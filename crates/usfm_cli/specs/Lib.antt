@@ -4,6 +4,7 @@ pub mod Lines
 pub mod Looking
 pub mod Commands
 pub mod Executing
+pub mod Turns
 pub mod ExecLaws
 pub mod DeltaLaws
 pub mod Streams

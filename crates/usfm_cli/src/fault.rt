@@ -9,7 +9,7 @@ use concordance::FindFault;
 use op_core::{IdFault, OpId};
 use project_file::{CreateFault, LoadFault};
 use replica_state::{EditFault, ImportFault, ReceiveFault};
-use std::alloc::AllocError;
+use std::alloc::{AllocError, AllocFailed};
 use sty_sheet::SheetFault;
 use thiserror::Error;
 use usfm_export::{ExportFault, TextFault, WriteFault};
@@ -93,6 +93,14 @@ impl From<AllocError> for Fault {
     ghost from_gives = { λ _ fault. fault ≡ Memory };
 
     fn from(_: AllocError) -> Self {
+        Fault::Memory
+    }
+}
+
+impl<T: Drop> From<AllocFailed<T>> for Fault {
+    ghost from_gives = { λ _ fault. fault ≡ Memory };
+
+    fn from(_: AllocFailed<T>) -> Self {
         Fault::Memory
     }
 }

@@ -15,6 +15,7 @@ mod looking;
 mod reading;
 mod source;
 mod telling;
+mod turns;
 mod usage;
 mod words;
 
@@ -26,6 +27,7 @@ pub use project_file::create;
 pub use reading::{MOST_BYTES, ReadFault, read_to_end};
 pub use source::{ByteSource, StdSource};
 pub use telling::fault_line;
+pub use turns::{Outcomes, TurnFault, exec_in_turn};
 pub use usage::VERSION;
 pub use usfm_export::{
     ByteSink, MOST_LINE_BYTES, ShortLine as FaultLine, StdSink, WriteFault, write_all, write_more,

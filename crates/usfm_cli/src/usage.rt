@@ -107,23 +107,25 @@ Faults:
   fault 130    PROJECT is there already, or was not written";
 
 fn import<'a>(alloc: Global) -> Result<Command<'a>, AllocError> {
-    let file = (
-        "FILE",
+    let files = Arg::new(alloc, "FILE").required(true).num_args(1..).help(
         "A book in USFM, in UTF-8, that begins with \\id and the book's code",
     );
     command(
         alloc,
         "import",
-        "Takes in a book's file by the edits that make it the book's export",
+        "Takes in the files of books by the edits that make them the books' exports",
         IMPORT,
-        &[PROJECT, file],
-    )
+        &[PROJECT],
+    )?
+    .arg(files)
 }
 
 const IMPORT: &str = "\
-Writes `added N`, N the number of edits.
+Writes `added N` for each FILE, N the number of edits. All are taken in, or none:
+where one of several is refused, a second line `in FILE` on standard error names
+it.
 
-Example: usfm_team import ana.project matthew.usfm
+Example: usfm_team import ana.project matthew.usfm mark.usfm
 
 Faults:
   fault 1                  out of memory
@@ -190,20 +192,19 @@ Faults: those of `edit`, and
   fault 83 NUMBER NAME     the segment does not show this operation";
 
 fn receive<'a>(alloc: Global) -> Result<Command<'a>, AllocError> {
-    let bundle = ("BUNDLE", "A bundle, as `send` writes it");
-    command(
-        alloc,
-        "receive",
-        "Takes in a bundle",
-        RECEIVE,
-        &[PROJECT, bundle],
-    )
+    let bundles = Arg::new(alloc, "BUNDLE")
+        .required(true)
+        .num_args(1..)
+        .help("A bundle, as `send` writes it");
+    command(alloc, "receive", "Takes in bundles", RECEIVE, &[PROJECT])?.arg(bundles)
 }
 
 const RECEIVE: &str = "\
-Writes `new N`, N the number of operations that the project did not have.
+Writes `new N` for each BUNDLE, N the number of operations that the project did
+not have. All are taken in, or none: where one of several is refused, a second
+line `in BUNDLE` on standard error names it.
 
-Example: usfm_team receive ana.project ben.bundle
+Example: usfm_team receive ana.project ben.bundle cy.bundle
 
 Faults:
   fault 1                  out of memory

@@ -15,10 +15,10 @@ pub enum Line {
         project: String,
         name: ReplicaName,
     },
-    /// `import PROJECT FILE`: take in a book's file.
+    /// `import PROJECT FILE..`: take in the files of books, all or none.
     Import {
         project: String,
-        file: String,
+        files: Vec<String>,
     },
     /// `edit PROJECT REF`: give a segment the text of standard input.
     Edit {
@@ -39,10 +39,10 @@ pub enum Line {
         book: Book,
         key: Key,
     },
-    /// `receive PROJECT BUNDLE`: take in a bundle.
+    /// `receive PROJECT BUNDLE..`: take in bundles, all or none.
     Receive {
         project: String,
-        bundle: String,
+        bundles: Vec<String>,
     },
     /// `send PROJECT`: write the bundle of all operations.
     Send {
@@ -158,11 +158,11 @@ fn line_of(alloc: Global, name: &str, given: &ArgMatches<'_>) -> Result<Line, Li
         }),
         "import" => Ok(Line::Import {
             project: text(alloc, given, "PROJECT")?,
-            file: text(alloc, given, "FILE")?,
+            files: texts(alloc, given, "FILE")?,
         }),
         "receive" => Ok(Line::Receive {
             project: text(alloc, given, "PROJECT")?,
-            bundle: text(alloc, given, "BUNDLE")?,
+            bundles: texts(alloc, given, "BUNDLE")?,
         }),
         "send" => Ok(Line::Send {
             project: text(alloc, given, "PROJECT")?,
@@ -238,6 +238,15 @@ fn word<'a>(given: &ArgMatches<'a>, argument: &str) -> &'a str {
 // A copy of it.
 fn text(alloc: Global, given: &ArgMatches<'_>, argument: &str) -> Result<String, AllocError> {
     String::from_str(alloc, word(given, argument))
+}
+
+// Copies of the words of an argument that takes several.
+fn texts(alloc: Global, given: &ArgMatches<'_>, argument: &str) -> Result<Vec<String>, AllocError> {
+    let mut copies = Vec::new(alloc);
+    for word in given.get_strs(argument).unwrap_or(&[]) {
+        copies.push(String::from_str(alloc, *word)?)?;
+    }
+    Ok(copies)
 }
 
 fn told(alloc: Global, error: &Error) -> Result<LineFault, AllocError> {

@@ -5,9 +5,11 @@ mod files;
 mod project;
 #[cfg(test)]
 mod tests;
+mod turns;
 
 use crate::files::read_file;
 use crate::project::{begin_project, lock_project};
+use crate::turns::{Refusal, import, receive};
 use std::io;
 use std::io::{ErrorKind, IsTerminal, Write};
 use std::process::ExitCode;
@@ -32,7 +34,11 @@ fn main(rt: HostRuntime) -> ExitCode {
     match read_line(&rt) {
         Ok(line) => match run(&rt, line) {
             Ok(()) => ExitCode::SUCCESS,
-            Err(fault) => refuse(&rt, &fault),
+            Err(refusal) => {
+                let status = refuse(&rt, &refusal.fault);
+                tell_file(&rt, &refusal);
+                status
+            }
         },
         Err(LineFault::Help(text)) => tell_help(&rt, text.as_bytes()),
         Err(LineFault::Usage(text)) => tell_usage(&rt, &text),
@@ -60,18 +66,13 @@ fn read_line(rt: &HostRuntime) -> Result<Line, LineFault> {
 
 // Does what a line asks for. Files are read in the order of the words, and standard input last. A command that changes
 // a project reads it again when no other command can change it: who types a text holds up nobody.
-fn run(rt: &HostRuntime, line: Line) -> Result<(), Fault> {
+fn run(rt: &HostRuntime, line: Line) -> Result<(), Refusal> {
     match line {
-        Line::Init { project, name } => begin_project(
-            rt,
-            &project,
-            &create(rt.alloc(), name.text())?,
-        ),
-        Line::Import { project, file } => {
-            read_file(rt, &project)?;
-            let file = read_file(rt, &file)?;
-            change(rt, &project, &Command::Import(&file))
+        Line::Init { project, name } => {
+            let bytes = create(rt.alloc(), name.text()).map_err(Fault::from)?;
+            Ok(begin_project(rt, &project, &bytes)?)
         }
+        Line::Import { project, files } => import(rt, &project, files),
         Line::Edit { project, book, key } => {
             read_file(rt, &project)?;
             let text = &read_text(rt)?;
@@ -94,11 +95,7 @@ fn run(rt: &HostRuntime, line: Line) -> Result<(), Fault> {
             };
             change(rt, &project, &command)
         }
-        Line::Receive { project, bundle } => {
-            read_file(rt, &project)?;
-            let bundle = read_file(rt, &bundle)?;
-            change(rt, &project, &Command::Receive(&bundle))
-        }
+        Line::Receive { project, bundles } => receive(rt, &project, bundles),
         Line::Shown { project, book, key } => ask(rt, &project, &Command::Shown(book, key)),
         Line::Send { project } => ask(rt, &project, &Command::Send),
         Line::Export { project, book } => ask(rt, &project, &Command::Export(book)),
@@ -143,19 +140,19 @@ fn run(rt: &HostRuntime, line: Line) -> Result<(), Fault> {
 }
 
 // Does a command on a project's file that it reads first.
-fn ask(rt: &HostRuntime, project: &str, command: &Command<'_>) -> Result<(), Fault> {
+fn ask(rt: &HostRuntime, project: &str, command: &Command<'_>) -> Result<(), Refusal> {
     answer(rt, &read_file(rt, project)?, command)
 }
 
 // Does a command that changes nothing on the bytes of a project's file.
-fn answer(rt: &HostRuntime, bytes: &[u8], command: &Command<'_>) -> Result<(), Fault> {
+fn answer(rt: &HostRuntime, bytes: &[u8], command: &Command<'_>) -> Result<(), Refusal> {
     let outcome = exec(rt.alloc(), bytes, command)?;
-    write_output(rt, outcome.output())
+    Ok(write_output(rt, outcome.output())?)
 }
 
 // Does a command on a project's file while no other command changes it. The file is replaced where its bytes are
 // others, and only then, when others may go on, the output is written.
-fn change(rt: &HostRuntime, path: &str, command: &Command<'_>) -> Result<(), Fault> {
+fn change(rt: &HostRuntime, path: &str, command: &Command<'_>) -> Result<(), Refusal> {
     let project = lock_project(rt, path)?;
     let bytes = project.read(rt)?;
     let outcome = exec(rt.alloc(), &bytes, command)?;
@@ -163,15 +160,15 @@ fn change(rt: &HostRuntime, path: &str, command: &Command<'_>) -> Result<(), Fau
         project.replace(rt, outcome.project())?;
     }
     drop(project);
-    write_output(rt, outcome.output())
+    Ok(write_output(rt, outcome.output())?)
 }
 
 // Folds the bundles of standard input into a book.
-fn fold(rt: &HostRuntime, book: Book) -> Result<(), Fault> {
+fn fold(rt: &HostRuntime, book: Book) -> Result<(), Refusal> {
     say_at_terminal(rt, GIVE_BUNDLES);
     let mut source = StdSource::new(rt.reader());
     let mut sink = StdSink::new(io::writer(rt));
-    fold_stream(rt.alloc(), &mut source, &mut sink, book)
+    Ok(fold_stream(rt.alloc(), &mut source, &mut sink, book)?)
 }
 
 // The text that standard input has.
@@ -213,4 +210,11 @@ fn refuse(rt: &HostRuntime, fault: &Fault) -> ExitCode {
     let line = fault_line(fault);
     let _ = rt.stderr().write_all(line.bytes());
     ExitCode::from(REFUSED)
+}
+
+// Writes to standard error which file a fault is of, where the line names several.
+fn tell_file(rt: &HostRuntime, refusal: &Refusal) {
+    if let Some(file) = &refusal.file {
+        let _ = writeln!(rt.stderr(), "in {file}");
+    }
 }

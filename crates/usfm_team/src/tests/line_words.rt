@@ -29,7 +29,7 @@ fn asked(alloc: Global, text: &str) -> Result<String, Fail> {
 fn told(alloc: Global, line: &Line) -> Result<String, Fail> {
     Ok(match line {
         Line::Init { project, name } => format!(in alloc; "init {project} as {}", name.text())?,
-        Line::Import { project, file } => format!(in alloc; "import {project} file {file}")?,
+        Line::Import { project, files } => several(alloc, "import", project, "file", files)?,
         Line::Edit { project, book, key } => on(alloc, "edit", project, *book, *key, &[])?,
         Line::EditOver {
             project,
@@ -38,8 +38,8 @@ fn told(alloc: Global, line: &Line) -> Result<String, Fail> {
             ids,
         } => on(alloc, "edit-over", project, *book, *key, ids)?,
         Line::Shown { project, book, key } => on(alloc, "shown", project, *book, *key, &[])?,
-        Line::Receive { project, bundle } => {
-            format!(in alloc; "receive {project} bundle {bundle}")?
+        Line::Receive { project, bundles } => {
+            several(alloc, "receive", project, "bundle", bundles)?
         }
         Line::Send { project } => format!(in alloc; "send {project}")?,
         Line::Export { project, book } => {
@@ -84,6 +84,21 @@ fn told(alloc: Global, line: &Line) -> Result<String, Fail> {
     })
 }
 
+// A subcommand with its files.
+fn several(
+    alloc: Global,
+    name: &str,
+    project: &str,
+    what: &str,
+    files: &[String],
+) -> Result<String, Fail> {
+    let mut text = format!(in alloc; "{name} {project}")?;
+    for file in files {
+        text.push_str(format!(in alloc; " {what} {file}")?.as_str())?;
+    }
+    Ok(text)
+}
+
 // A subcommand on a segment, with ids.
 fn on(
     alloc: Global,
@@ -115,6 +130,10 @@ const LINES: &[(&str, &str)] = &[
         "import|ana.project|mat.usfm",
         "import ana.project file mat.usfm",
     ),
+    (
+        "import|ana.project|mat.usfm|a file|mat.usfm",
+        "import ana.project file mat.usfm file a file file mat.usfm",
+    ),
     ("edit|ana.project|MAT 1:1", "edit ana.project at MAT 1:1"),
     (
         "edit-over|ana.project|MAT 0",
@@ -132,6 +151,10 @@ const LINES: &[(&str, &str)] = &[
     (
         "receive|ana.project|ben.bundle",
         "receive ana.project bundle ben.bundle",
+    ),
+    (
+        "receive|ana.project|ben.bundle|--|-b",
+        "receive ana.project bundle ben.bundle bundle -b",
     ),
     ("send|ana.project", "send ana.project"),
     ("export|ana.project|LUK", "export ana.project book LUK"),

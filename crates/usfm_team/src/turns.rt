@@ -1,0 +1,104 @@
+// Files taken in one after another, all or none of them.
+use crate::files::read_file;
+use crate::project::lock_project;
+use std::io;
+use usfm_cli::{Command, Fault, StdSink, TurnFault, exec_in_turn, write_more};
+
+// Why a line was refused: the fault, and the file that it is of where the line names several.
+#[derive(Debug, Drop)]
+pub(crate) struct Refusal {
+    pub(crate) fault: Fault,
+    pub(crate) file: Option<String>,
+}
+
+impl From<Fault> for Refusal {
+    fn from(fault: Fault) -> Self {
+        Refusal { fault, file: None }
+    }
+}
+
+// Takes in the files of books.
+pub(crate) fn import(rt: &HostRuntime, project: &str, files: Vec<String>) -> Result<(), Refusal> {
+    match import_all(rt, project, &files) {
+        Ok(()) => Ok(()),
+        Err(fault) => Err(refusal_of(fault, files)),
+    }
+}
+
+// Takes in bundles.
+pub(crate) fn receive(
+    rt: &HostRuntime,
+    project: &str,
+    bundles: Vec<String>,
+) -> Result<(), Refusal> {
+    match receive_all(rt, project, &bundles) {
+        Ok(()) => Ok(()),
+        Err(fault) => Err(refusal_of(fault, bundles)),
+    }
+}
+
+fn import_all(rt: &HostRuntime, project: &str, names: &[String]) -> Result<(), TurnFault> {
+    read_file(rt, project)?;
+    let files = read_files(rt, names)?;
+    let mut commands = Vec::new(rt.alloc());
+    for file in &files {
+        commands.push(Command::Import(file))?;
+    }
+    change_in_turn(rt, project, &commands)
+}
+
+fn receive_all(rt: &HostRuntime, project: &str, names: &[String]) -> Result<(), TurnFault> {
+    read_file(rt, project)?;
+    let bundles = read_files(rt, names)?;
+    let mut commands = Vec::new(rt.alloc());
+    for bundle in &bundles {
+        commands.push(Command::Receive(bundle))?;
+    }
+    change_in_turn(rt, project, &commands)
+}
+
+// The bytes of files, or the first that is not read.
+fn read_files(rt: &HostRuntime, names: &[String]) -> Result<Vec<Vec<u8>>, TurnFault> {
+    let mut files = Vec::new(rt.alloc());
+    for name in names {
+        match read_file(rt, name) {
+            Ok(bytes) => files.push(bytes)?,
+            Err(fault) => return Err(TurnFault::Turn(files.len(), fault)),
+        }
+    }
+    Ok(files)
+}
+
+// Does commands in turn on a project's file while no other command changes it. The file is replaced where its bytes are
+// others, and only then, when others may go on, what each command writes is written.
+fn change_in_turn(rt: &HostRuntime, path: &str, commands: &[Command<'_>]) -> Result<(), TurnFault> {
+    let project = lock_project(rt, path)?;
+    let bytes = project.read(rt)?;
+    let outcomes = exec_in_turn(rt.alloc(), &bytes, commands)?;
+    if outcomes.project() != bytes.as_slice() {
+        project.replace(rt, outcomes.project())?;
+    }
+    drop(project);
+    Ok(write_outputs(rt, outcomes.outputs())?)
+}
+
+// Writes outputs to standard output, one after another. It takes no memory.
+fn write_outputs(rt: &HostRuntime, outputs: &[Vec<u8>]) -> Result<(), Fault> {
+    let mut sink = StdSink::new(io::writer(rt));
+    let mut gone = 0;
+    for output in outputs {
+        gone = write_more(&mut sink, gone, output)?;
+    }
+    Ok(())
+}
+
+// The refusal of a line that names these files.
+fn refusal_of(fault: TurnFault, names: Vec<String>) -> Refusal {
+    match fault {
+        TurnFault::Turn(at, fault) if names.len() > 1 => Refusal {
+            fault,
+            file: names.into_iter().nth(at),
+        },
+        TurnFault::Project(fault) | TurnFault::Turn(_, fault) => Refusal::from(fault),
+    }
+}
