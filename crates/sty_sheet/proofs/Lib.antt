@@ -4,6 +4,7 @@ pub mod Entries
 pub mod Finding
 pub mod LastRecords
 pub mod LineSteps
+pub mod MemoryLemmas
 pub mod RecordFields
 pub mod Resume
 pub mod Telling

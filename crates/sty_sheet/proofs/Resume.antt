@@ -20,7 +20,7 @@ ahead : Option Record → List Field → List Record
 ahead None fs = all_records fs
 ahead (Some r) fs = fold (λ r f. with_field f r) r (own_fields fs) ∷ all_records fs
 
-faulty_or : Option SheetFault → List Record → Result (List Record) SheetFault
+unfoldable pub faulty_or : Option SheetFault → List Record → Result (List Record) SheetFault
 faulty_or (Some fault) rs = Err fault
 faulty_or None rs = Ok rs
 
@@ -38,8 +38,13 @@ begun_more : (r : Record) (f : Field) (fs : List Field) → is_marker f ≡ fals
 begun_more r f fs h = ap (fold (λ r f. with_field f r) r) (own_more f fs h)
 
 -- the records, those that are whole before those to come
-total : Reading → List Field → List Record
+pub total : Reading → List Field → List Record
 total s fs = fold put s.whole (ahead s.begun fs)
+
+-- the first fault of the fields to come, or the records
+pub resume_is : (s : Reading) (n : ℕ) (fs : List Field) → resume s n fs ≡ faulty_or (first_fault (is_some s.begun) (n + 1) fs) (total s fs)
+unfolding resume total
+resume_is s n fs = refl
 
 begins_record : (value : List ℕ) (fs : List Field) → ahead None (marker value ∷ fs) ≡ ahead (Some (record_with (first_word value) [])) fs
 unfolding ahead
@@ -68,7 +73,7 @@ step_total rs (Some r) (marker value) fs =
     ap (λ own. fold put rs (fold (λ r f. with_field f r) r own ∷ all_records (marker value ∷ fs))) (own_none value fs)
     ∙ ap (fold put (put rs r)) (begins_record value fs)
 
-step_seen : (rs : List Record) (o : Option Record) (f : Field)
+pub step_seen : (rs : List Record) (o : Option Record) (f : Field)
     → is_some (after (record { whole = rs; begun = o }) f).begun ≡ (is_some o || is_marker f)
 step_seen rs None passed = refl
 step_seen rs None (occurs_under value) = refl

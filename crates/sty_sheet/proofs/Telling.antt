@@ -15,7 +15,7 @@ not_misplaced true n h = cc h
 not_misplaced false n h = cc h
 
 -- no field's fault is out of memory
-no_memory : (seen : Bool) (n : ℕ) (f : Field) → field_fault seen n f ≢ Some Memory
+pub no_memory : (seen : Bool) (n : ℕ) (f : Field) → field_fault seen n f ≢ Some Memory
 no_memory seen n passed h = cc h
 no_memory seen n (marker value) h = by (bytes_eq value []) h
   where

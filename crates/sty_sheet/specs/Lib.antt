@@ -3,6 +3,7 @@ pub mod Lines
 pub mod Fields
 pub mod Records
 pub mod Sheets
+pub mod Memory
 pub mod StyleViews
 pub mod Views
 pub mod Closers

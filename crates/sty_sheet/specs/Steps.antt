@@ -1,9 +1,9 @@
 -- What a reader of a sheet has after so many lines: the records that are whole, and the one that it is reading.
-use Rattle.std.specs.Prelude.{◌≡◌, ℕ, List, [], ◌∷◌, Option, None, Some, if◌then◌else◌, codes, Result, Ok, Err}
+use Rattle.std.specs.Prelude.{◌≡◌, ℕ, true, IsSome, List, [], ◌∷◌, Option, None, Some, if◌then◌else◌, codes, Result, Ok, Err}
 use Rattle.std.specs.Option.{option_map}
 use Rattle.std.specs.Str.{bytes_eq}
 use Rattle.sty_sheet.specs.Lines.{first_word}
-use Rattle.sty_sheet.specs.Fields.{Field, passed, marker, occurs_under, endmarker, name, style_type, text_type, is_word, kind_named}
+use Rattle.sty_sheet.specs.Fields.{Field, passed, marker, occurs_under, endmarker, name, style_type, text_type, is_word, kind_named, is_marker}
 use Rattle.sty_sheet.specs.Records.{Record, words_of, closing_name}
 use Rattle.sty_sheet.specs.Sheets.{record_with}
 use Rattle.sty_sheet.specs.Views.{record_of, records_in}
@@ -69,3 +69,7 @@ Tells (Err Memory) due = due ≡ None
 Tells (Err (FieldBeforeMarker n)) due = due ≡ Some (FieldBeforeMarker n)
 Tells (Err (EmptyMarker n)) due = due ≡ Some (EmptyMarker n)
 Tells (Err (BadStyleType n)) due = due ≡ Some (BadStyleType n)
+
+-- a field begins another record, after one that was begun
+abbrev pub BeginsAnother : Reader → Field → Type 0
+BeginsAnother r f = IsSome r.begun × (is_marker f ≡ true)

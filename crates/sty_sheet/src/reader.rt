@@ -63,10 +63,11 @@ pub(crate) struct Reader<'s> {
 }
 
 impl<'s> Reader<'s> {
-    ghost use Rattle.std.specs.Prelude.{[], None, Some, Ok, Err, OnOk, OnErr, is_some};
+    ghost use Rattle.std.specs.Prelude.{[], None, Some, Ok, Err, OnOk, OnErr, is_some, IsSome};
     ghost use Rattle.sty_sheet.specs.Lines.{first_word};
     ghost use Rattle.sty_sheet.specs.Sheets.{record_with};
-    ghost use Rattle.sty_sheet.specs.Steps.{reading_of, after, began, extended, finished, Tells};
+    ghost use Rattle.sty_sheet.specs.Steps.{reading_of, after, began, extended, finished};
+    ghost use Rattle.sty_sheet.specs.Steps.{BeginsAnother, Tells};
     ghost use Rattle.sty_sheet.specs.Views.{records_in, Gives};
 
     pub(crate) fn new(alloc: Global) -> Reader<'s>
@@ -84,6 +85,8 @@ impl<'s> Reader<'s> {
             OnOk result (reading_of self.new ≡ later) }
         ensures fault { let seen = is_some (reading_of self.old).begun in
             Tells result (field_fault seen line (field_view field.entry)) }
+        ensures memory { let read = field_view field.entry in
+            result ≡ Err SheetFault.Memory → BeginsAnother self.old read }
     {
         match field_fault(self.begun.is_some(), line, field) {
             Some(fault) => Err(fault),
@@ -104,6 +107,7 @@ impl<'s> Reader<'s> {
         ensures reads { let later = after (reading_of self.old) (field_view field.entry) in
             OnOk result (reading_of self.new ≡ later) }
         ensures memory { OnErr result (result ≡ Err SheetFault.Memory) }
+        ensures begun { OnErr result (BeginsAnother self.old (field_view field.entry)) }
     {
         match field {
             Field::Passed => Ok(()),
@@ -131,6 +135,7 @@ impl<'s> Reader<'s> {
         ensures reads { let later = began marker.entry.now (reading_of self.old) in
             OnOk result (reading_of self.new ≡ later) }
         ensures memory { OnErr result (result ≡ Err SheetFault.Memory) }
+        ensures begun { OnErr result (IsSome self.old.begun) }
     {
         self.put_begun()?;
         self.begun = Some(Style::of_marker(marker));
@@ -140,6 +145,7 @@ impl<'s> Reader<'s> {
     fn put_begun(&mut self) -> Result<(), SheetFault>
         ensures puts { OnOk result (records_in self.new.records ≡ finished (reading_of self.old)) }
         ensures memory { OnErr result (result ≡ Err SheetFault.Memory) }
+        ensures begun { OnErr result (IsSome self.old.begun) }
     {
         match self.begun.take() {
             None => Ok(()),

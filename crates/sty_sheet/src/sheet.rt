@@ -1,4 +1,4 @@
-ghost use Rattle.std.specs.Prelude.{◌≡◌, map};
+ghost use Rattle.std.specs.Prelude.{◌≡◌, map, Err, IsTrue};
 ghost use Rattle.indexmap.specs.IndexMap.{values};
 ghost use Rattle.sty_sheet.specs.Closers.{HasFirstOf};
 
@@ -24,6 +24,7 @@ pub struct Sheet<'s> {
 impl<'s> Sheet<'s> {
     ghost use Rattle.std.specs.Prelude.{find};
     ghost use Rattle.std.specs.Option.{option_map};
+    ghost use Rattle.sty_sheet.specs.Memory.{takes_memory};
     ghost use Rattle.sty_sheet.specs.Records.{named, mark_style, closes_milestone};
     ghost use Rattle.sty_sheet.specs.Sheets.{sheet_of};
     ghost use Rattle.sty_sheet.specs.Views.{record_of, records_of, records_left, Gives};
@@ -39,9 +40,11 @@ impl<'s> Sheet<'s> {
     /// # Errors
     ///
     /// The fault of the first faulty line, and on one line `FieldBeforeMarker` before
-    /// `BadStyleType`. `Memory` where a growth was refused.
+    /// `BadStyleType`. `Memory` where a growth was refused: never in the place of
+    /// `FieldBeforeMarker`, and in that of another fault only where two records begin before it.
     pub fn read(alloc: Global, text: &'s str) -> Result<Sheet<'s>, SheetFault>
-        ensures { Gives result (sheet_of text.now) }
+        ensures sheet { Gives result (sheet_of text.now) }
+        ensures memory { result ≡ Err SheetFault.Memory → IsTrue (takes_memory text.now) }
     {
         let mut reader = Reader::new(alloc);
         let mut number = 0;

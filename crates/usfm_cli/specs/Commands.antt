@@ -166,7 +166,7 @@ is_numbers_used_up fault = false
 
 -- The refusals of a command that are found only with memory: a clash, since what a bundle brings is copied before all of
 -- it was looked at; what is wrong with a bundle that has a thinned operation, once each field was right; that an import has
--- no number left, since its edits are counted from its pieces; and what comes after a sheet was read, a faulty line too.
+-- no number left, since its edits are counted from its pieces; and what comes after a sheet was read, or after two records of it.
 abbrev pub is_late : Command → Fault → Bool
 is_late (Import file) = is_numbers_used_up
 is_late (Edit book key text) = no_fault
@@ -179,9 +179,9 @@ is_late (Export book) = no_fault
 is_late Summary = no_fault
 is_late (Delta summary) = no_fault
 is_late Report = no_fault
-is_late (Check book sheet) = is_after_sheet
-is_late (Find book sheet needle) = is_after_sheet
-is_late (Words book sheet) = is_after_sheet
+is_late (Check book sheet) = is_after_sheet sheet.now
+is_late (Find book sheet needle) = is_after_sheet sheet.now
+is_late (Words book sheet) = is_after_sheet sheet.now
 
 -- out of memory may be answered where nothing is refused, or where what is refused is found so late
 abbrev pub MayWantMemory : {T : Type 0} → (Fault → Bool) → Result T Fault → Type 0

@@ -8,6 +8,7 @@ use Rattle.std.specs.Str.{is_utf8}
 use Rattle.std.specs.Str.Lossy.{utf8_valid_len}
 use Rattle.usfm_ref.specs.References.{key_text, ref_text}
 use Rattle.sty_sheet.specs.Records.{Record}
+use Rattle.sty_sheet.specs.Memory.{takes_memory}
 use Rattle.sty_sheet.specs.Sheets.{sheet_of}
 use Rattle.sty_sheet.specs.declared.fault.SheetFault.{SheetFault}
 use Rattle.op_core.specs.Ops.{Operation}
@@ -91,7 +92,10 @@ listed held book sheet =
     by_sheet sheet
     (λ records. of_book_text held book (λ text. Ok (word_lines (words_of records text))))
 
--- a refusal that is found after a sheet was read, which takes memory: all but that it is no text
-abbrev pub is_after_sheet : Fault → Bool
-is_after_sheet (NotText valid) = false
-is_after_sheet fault = true
+-- Whether a refusal of a command that goes by this sheet is found only after memory may have been taken: the book and the
+-- needle are looked at after the sheet was read. That the sheet is no text takes none, and a fault of it only some (takes_memory).
+abbrev pub is_after_sheet : List ℕ → Fault → Bool
+is_after_sheet sheet (NotText valid) = false
+is_after_sheet sheet NoBook = true
+is_after_sheet sheet EmptyNeedle = true
+is_after_sheet sheet fault = takes_memory sheet

@@ -23,7 +23,7 @@ pub(crate) fn check(
     book: Book,
     sheet: &[u8],
 ) -> Result<Vec<u8>, Fault>
-    ensures { Gives looking.is_after_sheet
+    ensures { Gives (looking.is_after_sheet sheet.now)
         (looking.checked replica.now.held book sheet.now) result }
 {
     let sheet = Sheet::read(alloc, text_in(sheet)?)?;
@@ -40,7 +40,7 @@ pub(crate) fn find(
     sheet: &[u8],
     needle: &str,
 ) -> Result<Vec<u8>, Fault>
-    ensures { Gives looking.is_after_sheet
+    ensures { Gives (looking.is_after_sheet sheet.now)
         (looking.searched replica.now.held book sheet.now needle.now) result }
 {
     let sheet = Sheet::read(alloc, text_in(sheet)?)?;
@@ -56,7 +56,7 @@ pub(crate) fn words(
     book: Book,
     sheet: &[u8],
 ) -> Result<Vec<u8>, Fault>
-    ensures { Gives looking.is_after_sheet
+    ensures { Gives (looking.is_after_sheet sheet.now)
         (looking.listed replica.now.held book sheet.now) result }
 {
     let sheet = Sheet::read(alloc, text_in(sheet)?)?;
