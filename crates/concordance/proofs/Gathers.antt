@@ -4,13 +4,14 @@ use Rattle.std.proofs.Common.{◌≡◌, ℕ, zero, suc, ◌+◌, ◌-◌, ◌<�
 use Rattle.std.proofs.Common.{reverse, Option, None, Some, refl, sym, ap, ◌∙◌, append_assoc, arith, ⊎_elim, length-drop}
 use Rattle.std.proofs.lemmas.List.{drop_at, take-append-drop, reverse-append, length-reverse, nil_from_length}
 use Rattle.std.proofs.str.Laws.{order}
+use Rattle.std.specs.Borrow.{Bor}
+use Rattle.std.specs.Option.{option_map}
 use Rattle.std.specs.Prelude.{is_some, not, ◌&&◌}
 use Rattle.sty_sheet.specs.Records.{Record}
 use Rattle.usfm_token.specs.Tokens.{MarkParts}
 use Rattle.usfm_tree.specs.Events.{Event, begins, ends, events_before, events_of, ends_before}
 use Rattle.usfm_tree.specs.Forest.{Forest, nothing, text, leaf, node}
-use Rattle.usfm_tree.specs.StepViews.{entry_before}
-use Rattle.usfm_tree.specs.TakenViews.{optional_text}
+use Rattle.usfm_tree.specs.StepViews.{entry_before, placed_text}
 use Rattle.usfm_tree.specs.declared.step.Entry.{Entry}
 use Rattle.usfm_tree.specs.declared.step.Entry.TheVariants as entries
 use Rattle.concordance.specs.Gathered.{root, enclosed, counted, settled, closes_character, behind_milestone, gathered, EventsFit, EntryFits}
@@ -116,12 +117,12 @@ module _ (sheet : List Record) where
   some_end (suc n) es b w later some = ends_settle n es b w later
 
   -- a whole milestone
-  pub milestone_taken : (es : List Enclosure) (b : Option MarkParts) (w : Option Passage) (m : MarkParts) (start : ℕ)
-      → (t : Option (List ℕ)) (c : Option MarkParts) (later : List Event)
-      → gathered sheet es b w (begins kinds.Milestone m ∷ events_before (optional_text start t) (ends c ∷ later))
-      ≡ settled false w (gathered sheet es (behind_milestone m t c) None later)
-  milestone_taken es b w m start None c later = refl
-  milestone_taken es b w m start (Some t) c later = refl
+  pub milestone_taken : (es : List Enclosure) (b : Option MarkParts) (w : Option Passage) (m : MarkParts)
+      → (t : Option (ℕ × Bor (List ℕ))) (c : Option MarkParts) (later : List Event)
+      → gathered sheet es b w (begins kinds.Milestone m ∷ events_before (placed_text t) (ends c ∷ later))
+      ≡ settled false w (gathered sheet es (behind_milestone m (option_map (λ x. x.1.now) t) c) None later)
+  milestone_taken es b w m None c later = refl
+  milestone_taken es b w m (Some t) c later = refl
 
   -- and nothing more is met
   pub all_end : (n : ℕ) (es : List Enclosure) (b : Option MarkParts) (w : Option Passage)
@@ -182,15 +183,15 @@ entry_fits (entries.Text start t) later h = h.0
 entry_fits (entries.Leaf m) later h = tt
 entry_fits (entries.Begin kind m style) later h = tt
 entry_fits (entries.Close m) later h = tt
-entry_fits (entries.Milestone m start t close) later h = tt
+entry_fits (entries.Milestone m t close) later h = tt
 
 pub fit_after : (e : Entry) (later : List Event) → EventsFit (entry_before e later) → EventsFit later
 fit_after (entries.Text start t) later h = h.1
 fit_after (entries.Leaf m) later h = h
 fit_after (entries.Begin kind m style) later h = h
 fit_after (entries.Close m) later h = h
-fit_after (entries.Milestone m start None close) later h = h
-fit_after (entries.Milestone m start (Some t) close) later h = h.1
+fit_after (entries.Milestone m None close) later h = h
+fit_after (entries.Milestone m (Some t) close) later h = h.1
 
 -- ---- fewer are left
 
@@ -199,8 +200,8 @@ entry_shorter (entries.Text start t) later = omega arith
 entry_shorter (entries.Leaf m) later = omega arith
 entry_shorter (entries.Begin kind m style) later = omega arith
 entry_shorter (entries.Close m) later = omega arith
-entry_shorter (entries.Milestone m start None close) later = omega arith
-entry_shorter (entries.Milestone m start (Some t) close) later = omega arith
+entry_shorter (entries.Milestone m None close) later = omega arith
+entry_shorter (entries.Milestone m (Some t) close) later = omega arith
 
 ends_longer : (n : ℕ) (later : List Event) → length later ≤ length (ends_before n later)
 ends_longer zero later = omega arith

@@ -55,7 +55,7 @@ attributes_may_end e (entries.Text start t) = false
 attributes_may_end e (entries.Leaf m) = false
 attributes_may_end e (entries.Begin kind m style) = false
 attributes_may_end e (entries.Close m) = e.is_character
-attributes_may_end e (entries.Milestone m start t close) = false
+attributes_may_end e (entries.Milestone m t close) = false
 
 -- the mark after a milestone, which takes a text or none
 abbrev pub behind_milestone : MarkParts → Option (List ℕ) → Option MarkParts → Option MarkParts
@@ -88,4 +88,4 @@ EntryFits (entries.Text start t) = start + length t.now < 2 ^ 64
 EntryFits (entries.Leaf m) = Unit {0}
 EntryFits (entries.Begin kind m style) = Unit {0}
 EntryFits (entries.Close m) = Unit {0}
-EntryFits (entries.Milestone m start t close) = Unit {0}
+EntryFits (entries.Milestone m t close) = Unit {0}

@@ -127,10 +127,10 @@ fn attributes_may_end(innermost: Enclosure, entry: Entry<'_, '_>) -> bool
 // The mark after a milestone: its `\*`, or its own mark, unless a text follows that.
 fn behind_milestone<'a>(
     mark: Mark<'a>,
-    text: Option<&str>,
+    text: Option<(usize, &str)>,
     close: Option<Mark<'a>>,
 ) -> Option<Mark<'a>>
-    ensures { let text = option_map (λ t. t.now) text.entry in
+    ensures { let text = option_map (λ t. t.1.now) text.entry in
         let close = option_map mark_parts close.entry in
         option_map mark_parts result
         ≡ gathered.behind_milestone (mark_parts mark.entry) text close }
@@ -215,7 +215,7 @@ impl<'a> Gathering<'a> {
                 self.around.pop();
                 self.behind = Some(mark);
             }
-            Entry::Milestone(mark, _, text, close) => {
+            Entry::Milestone(mark, text, close) => {
                 self.behind = behind_milestone(mark, text, close);
             }
         }

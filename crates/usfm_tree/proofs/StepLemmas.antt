@@ -1,6 +1,8 @@
 -- What a token does to the open nodes of a walk.
 use Rattle.sty_sheet.specs.declared.kind.StyleKind.{StyleKind}
-use Rattle.std.proofs.Common.{◌≡◌, ℕ, ◌+◌, ◌<◌, ◌≤◌, cond, List, ◌∷◌, length, Option, None, Some, sym, ap, ◌∙◌, add-one, lt-ltb, le-ltb}
+use Rattle.std.proofs.Common.{◌≡◌, ℕ, ◌+◌, ◌<◌, ◌≤◌, cond, List, ◌∷◌, length, Option, None, Some, refl, sym, ap, ◌∙◌, add-one, lt-ltb, le-ltb}
+use Rattle.std.specs.Borrow.{Bor}
+use Rattle.std.specs.Option.{option_map}
 use Rattle.std.specs.Prelude.{is_some}
 use Rattle.usfm_token.specs.Tokens.{MarkParts}
 use Rattle.usfm_tree.specs.Events.{Event, words, single, begins, ends, events_before, ends_before, events_left}
@@ -8,7 +10,7 @@ use Rattle.usfm_tree.specs.Reading.{Placed, plain, alone, spans, opens, closes, 
 use Rattle.usfm_tree.specs.Reading as reading
 use Rattle.usfm_tree.specs.RoleViews.{role_view}
 use Rattle.usfm_tree.specs.Stack.{closing_mark}
-use Rattle.usfm_tree.specs.StepViews.{Unwinds}
+use Rattle.usfm_tree.specs.StepViews.{Unwinds, placed_text}
 use Rattle.usfm_tree.specs.TakenViews.{left_of, optional_text}
 use Rattle.sty_sheet.specs.declared.kind.StyleKind.TheVariants as kinds
 use Rattle.usfm_tree.specs.declared.role.Role.{Role}
@@ -77,3 +79,9 @@ module _ (start end : ℕ) (rest : List ℕ) (os : List Open) where
       left_span styles os t (left_of end rest) m is (lt-ltb _ _ room)
       ∙ (λ i. begins kinds.Milestone m
       ∷ events_before (takes i).kids (ends (takes i).close ∷ events_left styles os (takes i).rest))
+
+-- a text that may be there, with its place
+pub placed_is : (place : ℕ) (t : Option (Bor (List ℕ)))
+    → placed_text (option_map (λ n. (place, n)) t) ≡ optional_text place (option_map (λ n. n.now) t)
+placed_is place None = refl
+placed_is place (Some n) = refl

@@ -3,17 +3,24 @@ use Rattle.sty_sheet.specs.Records.{Record, mark_style}
 use Rattle.sty_sheet.specs.Views.{record_of}
 use Rattle.sty_sheet.specs.declared.kind.StyleKind.TheVariants as kinds
 use Rattle.std.specs.Prelude.{◌≡◌, ℕ, List, [], ◌∷◌, Option, None, Some}
+use Rattle.std.specs.Borrow.{Bor}
 use Rattle.std.specs.Option.{option_map}
 use Rattle.usfm_token.specs.Tokens.{MarkParts}
 use Rattle.usfm_token.specs.View.{mark_parts}
 use Rattle.usfm_tree.specs.Events.{Event, words, single, begins, ends, events_before, ends_before, events_left}
+use Rattle.usfm_tree.specs.Forest.{Forest, nothing, text}
 use Rattle.usfm_tree.specs.Reading as reading
 use Rattle.usfm_tree.specs.RoleViews.{role_view}
-use Rattle.usfm_tree.specs.TakenViews.{left_of, optional_text}
+use Rattle.usfm_tree.specs.TakenViews.{left_of}
 use Rattle.usfm_tree.specs.declared.role.Role.{Role}
 use Rattle.usfm_tree.specs.declared.step.Entry.{Entry}
 use Rattle.usfm_tree.specs.declared.step.Entry.TheVariants as entries
 use Rattle.usfm_tree.specs.declared.step.Step.{Step}
+
+-- a text that may be there, with where it begins
+abbrev pub placed_text : Option (ℕ × Bor (List ℕ)) → Forest
+placed_text None = nothing
+placed_text (Some t) = text t.0 t.1.now nothing
 
 -- what an entry is, before what a walk meets later
 abbrev pub entry_before : Entry → List Event → List Event
@@ -21,9 +28,8 @@ entry_before (entries.Text start t) later = words start t.now ∷ later
 entry_before (entries.Leaf m) later = single (mark_parts m) ∷ later
 entry_before (entries.Begin kind m style) later = begins kind (mark_parts m) ∷ later
 entry_before (entries.Close m) later = ends (Some (mark_parts m)) ∷ later
-entry_before (entries.Milestone m start t close) later =
-    begins kinds.Milestone (mark_parts m)
-    ∷ events_before (optional_text start (option_map (λ n. n.now) t)) (ends (option_map mark_parts close) ∷ later)
+entry_before (entries.Milestone m t close) later =
+    begins kinds.Milestone (mark_parts m) ∷ events_before (placed_text t) (ends (option_map mark_parts close) ∷ later)
 
 -- what a step is: the ends of nodes, and an entry
 abbrev pub step_before : Step → List Event → List Event
@@ -40,7 +46,7 @@ IsStyled rs (entries.Text start t) = Unit {0}
 IsStyled rs (entries.Leaf m) = Unit {0}
 IsStyled rs (entries.Begin kind m style) = mark_style rs (mark_parts m).name ≡ Some (record_of style.now)
 IsStyled rs (entries.Close m) = Unit {0}
-IsStyled rs (entries.Milestone m start t close) = Unit {0}
+IsStyled rs (entries.Milestone m t close) = Unit {0}
 
 -- after nodes that end without a closing mark, an end with this one, if any, and then what the nodes that are left give
 abbrev pub closed_before : Option MarkParts → List Event → List Event → List Event

@@ -21,6 +21,6 @@ pub enum Entry<'a, 's> {
     Begin(StyleKind, Mark<'a>, &'s Style<'s>),
     /// The closing mark with which the innermost open node ends.
     Close(Mark<'a>),
-    /// A milestone: its mark, where that ends, the text that it takes, if any, and its `\*`.
-    Milestone(Mark<'a>, usize, Option<&'a str>, Option<Mark<'a>>),
+    /// A milestone: its mark, the text that it takes, if any, with where this begins, and its `\*`.
+    Milestone(Mark<'a>, Option<(usize, &'a str)>, Option<Mark<'a>>),
 }

@@ -140,6 +140,48 @@ fn takes_milestones(rt: HostRuntime) -> Result<(), SheetFault> {
     Ok(())
 }
 
+// What a step ends, its kind, where its text begins and the text; of a mark without one its slice.
+fn met<'a>(step: Step<'a, '_>) -> (usize, &'static str, usize, &'a str) {
+    let (kind, start, slice) = match step.entry {
+        Entry::Text(start, text) => ("text", start, text),
+        Entry::Leaf(mark) => ("leaf", 0, mark.slice()),
+        Entry::Begin(_, mark, _) => ("begin", 0, mark.slice()),
+        Entry::Close(mark) => ("close", 0, mark.slice()),
+        Entry::Milestone(_, Some((start, text)), _) => ("milestone", start, text),
+        Entry::Milestone(mark, None, _) => ("milestone", 0, mark.slice()),
+    };
+    (step.ended, kind, start, slice)
+}
+
+#[test]
+fn walks_over_a_tree(rt: HostRuntime) -> Result<(), SheetFault> {
+    let text = "\\p \\nd a\\add b\\add*\\qt-s |x\\*\\qt-e\\*\\add*\\p";
+    let sheet = Sheet::read(rt.alloc(), SHEET)?;
+    let mut walk = TreeWalk::new(rt.alloc(), text, &sheet);
+    for wanted in [
+        Some((0, "begin", 0, "\\p")),
+        Some((0, "text", 2, " ")),
+        Some((0, "begin", 0, "\\nd")),
+        Some((0, "text", 6, " a")),
+        Some((1, "begin", 0, "\\add")),
+        Some((0, "text", 12, " b")),
+        Some((0, "close", 0, "\\add*")),
+        Some((0, "milestone", 24, " |x")),
+        Some((0, "milestone", 0, "\\qt-e")),
+        Some((0, "leaf", 0, "\\add*")),
+        Some((1, "begin", 0, "\\p")),
+        // After the end it answers the end again.
+        None,
+        None,
+    ] {
+        let Ok(step) = walk.next_step() else {
+            return Err(SheetFault::Memory);
+        };
+        assert_eq!(rt; step.map(|step| met(step)), wanted);
+    }
+    Ok(())
+}
+
 // A text that nests so many marks in a paragraph.
 fn nested(alloc: Global, front: &str, count: usize) -> Result<String, AllocError> {
     let mut text = String::new(alloc);

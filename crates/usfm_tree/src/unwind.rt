@@ -42,6 +42,16 @@ pub(crate) fn unwind<'a, 's>(
     (without_mark, None)
 }
 
+// A text, if there is one, with where it begins.
+fn placed<'a>(start: usize, text: Option<&'a str>) -> Option<(usize, &'a str)>
+    ensures { result ≡ option_map (λ t. (start, t)) text.entry }
+{
+    match text {
+        None => None,
+        Some(text) => Some((start, text)),
+    }
+}
+
 // What a token is that ends nothing more, and what is left after it: the source ends at `end`.
 pub(crate) fn enter<'a, 's>(
     open_nodes: &mut Vec<Open<'s, ()>>,
@@ -81,8 +91,8 @@ pub(crate) fn enter<'a, 's>(
                 return (Entry::Leaf(mark), rest);
             }
             let taken = takes(rest);
-            let milestone = Entry::Milestone(mark, end - rest.len(), taken.text, taken.close);
-            (milestone, taken.after)
+            let text = placed(end - rest.len(), taken.text);
+            (Entry::Milestone(mark, text, taken.close), taken.after)
         }
     }
 }

@@ -23,7 +23,7 @@ pub struct TreeWalk<'a, 's> {
 }
 
 impl<'a, 's> TreeWalk<'a, 's> {
-    ghost use Rattle.std.specs.Prelude.{IfOk, IfSome, OnErr};
+    ghost use Rattle.std.specs.Prelude.{None, IfOk, IfSome, OnErr};
     ghost use Rattle.sty_sheet.specs.Views.{records_of};
     ghost use Rattle.usfm_tree.specs.Events.{events_of};
     ghost use Rattle.usfm_tree.specs.Reading.{tree_of};
@@ -46,7 +46,8 @@ impl<'a, 's> TreeWalk<'a, 's> {
     }
 
     /// What it meets at the next mark or text, and `None` at the end, where the nodes end that are
-    /// still open. A milestone is one step, with the text and the mark that it takes.
+    /// still open; after it the walk is as before, so that it answers the end again. A milestone is
+    /// one step, with the text and the mark that it takes.
     ///
     /// # Errors
     ///
@@ -54,6 +55,8 @@ impl<'a, 's> TreeWalk<'a, 's> {
     pub fn next_step(&mut self) -> Result<Option<Step<'a, 's>>, AllocError>
         ensures next { IfOk result (λ step.
             IsNext (events_ahead self.old) step (events_ahead self.new)) }
+        ensures ended { IfOk result (λ step.
+            step ≡ None → events_ahead self.new ≡ events_ahead self.old) }
         ensures style { IfOk result (λ step.
             IfSome step (λ s. IsStyled (records_by self.old) s.entry)) }
         ensures records { records_by self.new ≡ records_by self.old }

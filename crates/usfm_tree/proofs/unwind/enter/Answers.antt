@@ -3,13 +3,15 @@ use Rattle.std.proofs.lemmas.Bool.{cond-true}
 use Rattle.sty_sheet.specs.Views.{record_of}
 use Rattle.sty_sheet.specs.declared.kind.StyleKind.TheVariants as kinds
 use Rattle.usfm_token.specs.View.{mark_parts}
+use Rattle.usfm_tree.specs.Forest.{Forest}
 use Rattle.usfm_tree.specs.Events.{words, single, begins, ends, events_before}
 use Rattle.usfm_tree.specs.Reading as reading
 use Rattle.usfm_tree.specs.ReaderViews.{opens_in}
 use Rattle.usfm_tree.specs.RoleViews.{role_view}
+use Rattle.usfm_tree.specs.StepViews.{placed_text}
 use Rattle.usfm_tree.specs.TakenViews.{optional_text, text_of, close_mark}
 use Rattle.usfm_tree.proofs.ReaderLemmas.{opens_in_push, length_opens_in}
-use Rattle.usfm_tree.proofs.StepLemmas.{Becomes, becomes_text, becomes_alone, becomes_stray, becomes_deep, becomes_node, becomes_deep_span, becomes_milestone}
+use Rattle.usfm_tree.proofs.StepLemmas.{Becomes, becomes_text, becomes_alone, becomes_stray, becomes_deep, becomes_node, becomes_deep_span, becomes_milestone, placed_is}
 use Rattle.usfm_tree.proofs.unwind.enter.Goals as goal
 
 pub returns-in-Plain-clause-enters : goal.returns-in-Plain-clause-enters
@@ -88,6 +90,10 @@ returns-else-len-ge-DEEPEST-2-clause-enters c =
     let F : reading.Role → Type 0 =
     λ r. Becomes r c.args.start c.args.end rest t.after.now os os
     (λ later. begins kinds.Milestone m ∷ events_before (optional_text place (text_of t)) (ends (close_mark t) ∷ later)) in
-    subst F (sym (ap role_view c.in-Spans.is))
+    let G : Forest → Type 0 =
+    λ f. Becomes (role_view c.args.role) c.args.start c.args.end rest t.after.now os os
+    (λ later. begins kinds.Milestone m ∷ events_before f (ends (close_mark t) ∷ later)) in
+    subst G (sym (ap placed_text c.placed-text.ensures ∙ placed_is place t.text))
+    (subst F (sym (ap role_view c.in-Spans.is))
     (becomes_milestone c.args.start c.args.end rest os m place (text_of t) (close_mark t) t.after.now (omega arith)
-    (c.takes-taken.ensures c.args.end c.requires.within).0)
+    (c.takes-taken.ensures c.args.end c.requires.within).0))

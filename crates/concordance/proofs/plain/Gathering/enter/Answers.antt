@@ -37,7 +37,7 @@ returns-in-Milestone c =
     let es = enclosures old in
     let kept = c.in_ok-settle.ensures in
     let m = mark_parts c.in-Milestone.mark in
-    let t = option_map (λ x. x.now) c.in-Milestone.text in
+    let t = option_map (λ x. x.1.now) c.in-Milestone.text in
     let close = option_map mark_parts c.in-Milestone.close in
     let after = Rattle.concordance.specs.Gathered.behind_milestone m t close in
     let may_end = c.attributes_may_end.ensures ∙ ap (attributes_may_end c.innermost-innermost.result) c.in-Milestone.is in
@@ -47,5 +47,5 @@ returns-in-Milestone c =
     ∙ ap (λ x. passages_view old.leaves.items
     ++ Rattle.concordance.specs.Gathered.settled x (waiting_of old) (gathered sheet es after None later)) may_end
     ∙ ap (λ l. passages_view old.leaves.items ++ l)
-    (sym (milestone_taken sheet es (mark_behind old) (waiting_of old) m c.in-Milestone.field-1 t close later))
+    (sym (milestone_taken sheet es (mark_behind old) (waiting_of old) m c.in-Milestone.text close later))
     ∙ ap (λ e. leaves_with sheet old (entry_before e later)) (sym c.in-Milestone.is))

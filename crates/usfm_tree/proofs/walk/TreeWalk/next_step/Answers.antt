@@ -65,6 +65,17 @@ returns-in_default-clause-next c =
     let os = opens_in c.args.self.now.open_nodes.items in
     (length os, ap (λ ts. events_left S os (reading.placed (n - length rest) ts)) c.in_default.ensures.steps.0 ∙ left_nil S os)
 
+pub returns-in_default-clause-ended : goal.returns-in_default-clause-ended
+returns-in_default-clause-ended c =
+    λ e.
+    let S = styles_of c.args.self.now.sheet.now in
+    let n = length c.args.self.now.source.now in
+    let rest = rest_of c.args.self.now.tokens in
+    let os = opens_in c.args.self.now.open_nodes.items in
+    (λ i. events_left S (opens_in (c.reserve.ensures.items i))
+    (reading.placed (n - length (rest_of c.next.new.self)) (c.in_default.ensures.steps.1 i)))
+    ∙ sym (ap (λ ts. events_left S os (reading.placed (n - length rest) ts)) c.in_default.ensures.steps.0)
+
 pub invariant_of-self-in-Some-close : goal.invariant_of-self-in-Some-close
 invariant_of-self-in-Some-close c = record { within = (front (goal.at.invariant_of-self-in-Some-close c).In-Some).1 }
 
