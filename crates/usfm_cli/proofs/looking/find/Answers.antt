@@ -14,7 +14,7 @@ pub returns-in_err-sheet : goal.returns-in_err-sheet
 returns-in_err-sheet c =
     let fault = err_from_is_err_and c.from_residual-in_err-sheet.result c.from_residual-in_err-sheet.ensures.1 in
     rw (fault.1, fault.2)
-    (sheet_refused c.args.sheet.now _ c.in_ok-text_in.ensures.ok.0 Global c.in_ok-text_in.text_in.now c.in_err-sheet.field-0.0
+    (sheet_refused c.args.sheet.now _ c.in_ok-text_in.ensures.ok.0 Global _ c.in_err-sheet.field-0.0
     c.in_ok-text_in.ensures.ok.1 c.in_err-sheet.ensures.sheet (λ e. c.in_err-sheet.ensures.memory (ap Err e))
     (λ records. book_wanted c.args.sheet.now c.args.replica.now.held c.args.book _
     (λ text. search_is_late c.args.sheet.now c.args.needle.now _)))
