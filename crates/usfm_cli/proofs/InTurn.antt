@@ -1,5 +1,6 @@
 -- Commands in turn, on their way.
-use Rattle.std.proofs.Common.{◌≡◌, ℕ, suc, Bool, false, ◌+◌, ◌<◌, List, [], ◌∷◌, ◌++◌, length, take, drop, Result, Ok, Err, refl, sym, ap, subst, ◌∙◌, ◌≤◌, get_or, arith, drop-cons, length-append}
+use Rattle.std.proofs.Common.{◌≡◌, ℕ, suc, Bool, false, ◌+◌, ◌<◌, List, [], ◌∷◌, ◌++◌, length, take}
+use Rattle.std.proofs.Common.{drop, Result, Ok, Err, refl, sym, ap, subst, ◌∙◌, ◌≤◌, get_or, arith, drop-cons, length-append}
 use Rattle.std.proofs.lemmas.List.{take-append-drop, take_more, take_all, length-take-le}
 use Rattle.replica_state.specs.States.{State}
 use Rattle.bundle_codec.specs.Reading.{AreBytes}
@@ -8,7 +9,7 @@ use Rattle.project_file.proofs.Files.{project_is}
 use Rattle.usfm_cli.specs.Commands.{Done, outcome, is_late}
 use Rattle.usfm_cli.specs.Executing.{Written, written, of_loaded, executed, file_or, file_after, state_or, state_after}
 use Rattle.usfm_cli.specs.Turns.{InTurn, after_one, done_before, in_turn, one_more, written_in_turn, loaded_in_turn, executed_in_turn}
-use Rattle.usfm_cli.specs.Turns.{RefusedFor, RefusedIn, AnswersInTurn, is_memory, is_out_of_memory}
+use Rattle.usfm_cli.specs.Turns.{RefusedFor, RefusedIn, AnswersInTurn, is_memory, is_of_memory}
 use Rattle.usfm_cli.specs.Turns.{written_before, one_after_another, InTurnIsOneAfterAnother, AcceptedIsFileAfter}
 use Rattle.usfm_cli.specs.declared.command.Command.{Command}
 use Rattle.usfm_cli.specs.declared.fault.Fault.{Fault}
@@ -51,7 +52,8 @@ joined (command ∷ before) later s d e = by (outcome s command) (λ x y f. join
         ≡ after_all d.outputs (in_turn d.after later)
     deep x on (Ok y) f e =
         let is : record { after = y.after; outputs = x.output ∷ y.outputs } ≡ d = cc e in
-        subst (λ (z : InTurn State). after_one x.output (in_turn x.after (before ++ later)) ≡ after_all z.outputs (in_turn z.after later)) is
+        subst (λ (z : InTurn State). after_one x.output (in_turn x.after (before ++ later))
+        ≡ after_all z.outputs (in_turn z.after later)) is
         (ap (after_one x.output) (on y f))
     deep x on (Err (Turn at fault)) f e = cc e
     deep x on (Err (Project fault)) f e = cc e
@@ -129,8 +131,8 @@ exact_fault late wanted TooLong e h = h
 exact_fault late wanted FileFailed e h = h
 
 -- the first that is refused, which is not for memory, is the refusal of the commands in turn
-pub refused_is : (s : State) (commands : List Command) (at : ℕ) (fault : Fault) → is_memory fault ≡ false → RefusedIn s commands at fault
-    → in_turn s commands ≡ Err (Turn at fault)
+pub refused_is : (s : State) (commands : List Command) (at : ℕ) (fault : Fault) → is_memory fault ≡ false
+    → RefusedIn s commands at fault → in_turn s commands ≡ Err (Turn at fault)
 refused_is s commands at fault e r =
     ap (in_turn s) r.stand
     ∙ refused_after r.before r.later r.command s r.done fault r.accepted
@@ -138,12 +140,12 @@ refused_is s commands at fault e r =
     ∙ ap (λ (n : ℕ). Err (Turn n fault)) (one_each r.before s r.done r.accepted ∙ r.place)
 
 -- so for the project's file
-pub file_refused : (A B X : Type 0) (bytes : List ℕ) (s after : State) (commands : List Command) (fault : TurnFault) → project_at bytes ≡ Ok s
-    → AnswersInTurn {A = A} {B = B} s commands after (Err fault) → is_out_of_memory {X = X} (Err fault) ≡ false
+pub file_refused : (A B : Type 0) (bytes : List ℕ) (s after : State) (commands : List Command) (fault : TurnFault)
+    → project_at bytes ≡ Ok s → AnswersInTurn {A = A} {B = B} s commands after (Err fault) → is_of_memory fault ≡ false
     → executed_in_turn bytes commands ≡ Err fault
-file_refused A B X bytes s after commands (Turn at fault) loads h e =
+file_refused A B bytes s after commands (Turn at fault) loads h e =
     ap (λ r. loaded_in_turn r commands) loads ∙ ap written_in_turn (refused_is s commands at fault e h)
-file_refused A B X bytes s after commands (Project fault) loads h e = absurd h
+file_refused A B bytes s after commands (Project fault) loads h e = absurd h
 
 -- the replica after commands in turn is the one after their steps
 pub after_steps : (commands : List Command) (s : State) (d : InTurn State) → in_turn s commands ≡ Ok d
@@ -188,12 +190,14 @@ module _ (s : State) (commands : List Command) (n : ℕ) (now : State) (outputs 
       ∙ ap (λ (l : List Command). take n commands ++ l) (drop-cons commands n command within
       ∙ ap (λ (x : Command). x ∷ drop (suc n) commands) (sym is))
 
-  pub one_done : (next : State) (more : List (List ℕ)) → one_more outputs (outcome now command) ≡ Ok (record { after = next; outputs = more })
+  pub one_done : (next : State) (more : List (List ℕ))
+      → one_more outputs (outcome now command) ≡ Ok (record { after = next; outputs = more })
       → DoneSoFar s commands (n + 1) next more
   one_done next more e = record {
     so_far =
         ap (in_turn s) (take_more commands n command within ∙ ap (λ (x : Command). take n commands ++ x ∷ []) (sym is))
-        ∙ accepted_more (take n commands) command s (record { after = now; outputs = outputs }) (record { after = next; outputs = more }) d.so_far e;
+        ∙ accepted_more (take n commands) command s (record { after = now; outputs = outputs })
+        (record { after = next; outputs = more }) d.so_far e;
     count = more_outputs outputs (outcome now command) (record { after = next; outputs = more }) e ∙ ap (λ k. k + 1) d.count;
   }
 
@@ -223,7 +227,8 @@ in_turn_is [] s again = refl
 in_turn_is (command ∷ later) s again =
     by (outcome s command) (ap (λ r. of_loaded r command) (again 0)) (λ x f. in_turn_is later x.after f) (λ n. again (suc n))
   where
-    carried : (output : List ℕ) (r : Result (InTurn State) TurnFault) → written_in_turn (after_one output r) ≡ after_one output (written_in_turn r)
+    carried : (output : List ℕ) (r : Result (InTurn State) TurnFault)
+        → written_in_turn (after_one output r) ≡ after_one output (written_in_turn r)
     carried output (Ok d) = refl
     carried output (Err (Turn at fault)) = refl
     carried output (Err (Project fault)) = refl

@@ -1,7 +1,7 @@
 -- Commands in turn on one replica (this project's own rule): each is done on what the ones before it made, and the first
 -- that is refused refuses them all.
-use Rattle.std.specs.Prelude.{◌≡◌, ◌⊎◌, ℕ, suc, List, [], ◌∷◌, ◌++◌, length, map, take, Vec, Bool, true, false}
-use Rattle.std.specs.Prelude.{Result, Ok, Err}
+use Rattle.std.specs.Prelude.{◌≡◌, ◌⊎◌, ℕ, suc, List, [], ◌∷◌, ◌++◌, length, map, take}
+use Rattle.std.specs.Prelude.{Vec, Bool, true, false, Result, Ok, Err}
 use Rattle.replica_state.specs.States.{State}
 use Rattle.bundle_codec.specs.Reading.{AreBytes}
 use Rattle.project_file.specs.declared.fault.LoadFault.{LoadFault}
@@ -22,7 +22,8 @@ pub record InTurn (A : Type 0) : Type 0 where
   pub outputs : List (List ℕ)
 
 -- what a command writes, before what the ones after it do; one of them that is refused stands one place further on
-abbrev pub after_one : {A : Type 0} → List ℕ → Result (InTurn A) TurnFault → Result (InTurn A) TurnFault
+abbrev pub after_one : {A : Type 0} → List ℕ →
+    Result (InTurn A) TurnFault → Result (InTurn A) TurnFault
 after_one output (Ok done) = Ok (record { after = done.after; outputs = output ∷ done.outputs })
 after_one output (Err (Turn at fault)) = Err (Turn (suc at) fault)
 after_one output (Err (Project fault)) = Err (Project fault)
@@ -44,7 +45,8 @@ written_in_turn (Ok done) = Ok (record { after = project done.after; outputs = d
 written_in_turn (Err fault) = Err fault
 
 -- what commands in turn make of a replica that was read, or why none was read
-abbrev pub loaded_in_turn : Result State LoadFault → List Command → Result (InTurn (List ℕ)) TurnFault
+abbrev pub loaded_in_turn : Result State LoadFault → List Command →
+    Result (InTurn (List ℕ)) TurnFault
 loaded_in_turn (Ok s) commands = written_in_turn (in_turn s commands)
 loaded_in_turn (Err fault) commands = Err (Project (of_loading fault))
 
@@ -83,8 +85,8 @@ one_more before (Err fault) = Err fault
 
 -- What is answered of a command in its turn, where the replica and the outputs are then so: its output stands after the others;
 -- or it is refused, and the outputs are those that there were.
-abbrev pub AnswersTurn : (Fault → Bool) → Result Done Fault → List (List ℕ) → State → List (List ℕ) →
-    Result (Unit {0}) Fault → Type 0
+abbrev pub AnswersTurn : (Fault → Bool) → Result Done Fault → List (List ℕ) → State →
+    List (List ℕ) → Result (Unit {0}) Fault → Type 0
 AnswersTurn late wanted before after outputs (Ok done) =
     one_more before wanted ≡ Ok (record { after = after; outputs = outputs })
 AnswersTurn late wanted before after outputs (Err fault) =
@@ -108,18 +110,23 @@ AnswersFile s commands (Err (Project fault)) = fault ≡ Memory
 -- A file that is no project is refused with its fault; or with out of memory, where memory is taken to judge its bundle.
 abbrev pub RefusesProject : {X : Type 0} → List ℕ → Fault → Result X TurnFault → Type 0
 RefusesProject bytes fault answer =
-    (answer ≡ Err (Project fault)) ⊎ ((answer ≡ Err (Project Memory)) × TakesMemoryAfter (front_at bytes))
+    (answer ≡ Err (Project fault))
+    ⊎ ((answer ≡ Err (Project Memory)) × TakesMemoryAfter (front_at bytes))
 
 -- whether a fault is out of memory
 abbrev pub is_memory : Fault → Bool
 is_memory Memory = true
 is_memory fault = false
 
+-- the same of commands in turn, with or without a turn
+abbrev pub is_of_memory : TurnFault → Bool
+is_of_memory (Project fault) = is_memory fault
+is_of_memory (Turn at fault) = is_memory fault
+
 -- whether out of memory is answered
 abbrev pub is_out_of_memory : {X : Type 0} → Result X TurnFault → Bool
 is_out_of_memory (Ok x) = false
-is_out_of_memory (Err (Project fault)) = is_memory fault
-is_out_of_memory (Err (Turn at fault)) = is_memory fault
+is_out_of_memory (Err fault) = is_of_memory fault
 
 -- ---- the same, by commands one after another
 
@@ -141,7 +148,8 @@ one_after_another bytes (command ∷ later) =
 abbrev pub InTurnIsOneAfterAnother : Type 0
 InTurnIsOneAfterAnother =
     (bytes : List ℕ) (s : State) (commands : List Command) → AreBytes bytes →
-    ((n : ℕ) → project_at (file_after bytes (take n commands)) ≡ Ok (state_after s (take n commands))) →
+    ((n : ℕ) → project_at (file_after bytes (take n commands))
+    ≡ Ok (state_after s (take n commands))) →
     executed_in_turn bytes commands ≡ one_after_another bytes commands
 
 -- Where commands one after another are all accepted, the project's file after them is that after any commands of which a
