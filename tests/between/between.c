@@ -1,9 +1,10 @@
 /* Stands between the program and the C library: refuses calls, or has them move one byte alone, and writes down at the
  * end which calls the program made and how much memory it held. It is loaded by LD_PRELOAD.
  *
- *     REFUSE=KIND:NUMBER:HOW   the call of this kind that is refused, counted from 1, or each of them where NUMBER is 0;
- *                              HOW is an error's number, `none` for a write that takes nothing, `short` for a read or
- *                              a write of several bytes that moves one, `kill` for the end of the program in its place
+ *     REFUSE=KIND:NUMBER:HOW   the call of this kind that is refused, counted from 1, and each one after it where a `+`
+ *                              follows the number; HOW is an error's number, `none` for a write that takes nothing,
+ *                              `short` for a read or a write of several bytes that moves one, `kill` for the end of the
+ *                              program in its place
  *     TOLD=FILE                where the calls are written down, a line each: kind, handle or path, bytes asked for or
  *                              how a file is opened, answer; the last line is `memory`, how often it was asked for, and the most bytes that
  *                              were held at one time
@@ -28,6 +29,7 @@ static struct {
     int is_on;
     enum kind kind;
     unsigned long number;
+    int goes_on;
     int how;
 } refused;
 
@@ -49,6 +51,10 @@ static void read_wish(const char *wish) {
         char *how;
         refused.kind = kind;
         refused.number = strtoul(wish + length + 1, &how, 10);
+        if (*how == '+') {
+            refused.goes_on = 1;
+            how++;
+        }
         refused.how = !strcmp(how, ":none")    ? REFUSED_NOTHING
                       : !strcmp(how, ":short") ? REFUSED_SHORT
                       : !strcmp(how, ":kill")  ? REFUSED_KILL
@@ -62,7 +68,8 @@ static void read_wish(const char *wish) {
 /* Counts a call, and says whether it is one that is refused. */
 static int is_refused(enum kind kind) {
     made[kind]++;
-    int is_it = refused.is_on && refused.kind == kind && (refused.number == 0 || refused.number == made[kind]);
+    int is_later = refused.goes_on && made[kind] > refused.number;
+    int is_it = refused.is_on && refused.kind == kind && (made[kind] == refused.number || is_later);
     if (is_it && refused.how == REFUSED_KILL) raise(SIGKILL);
     return is_it;
 }

@@ -51,6 +51,8 @@ GNATS = book(
 )
 HELD = project(FIRST)
 CHANGED = b"\\id MAT\n\\c 1\n\\v 1 At\n"
+# The first operation of THINNED alone, which nothing names.
+UNNAMED = THINNED[:15] + b"\1" + THINNED[16:46]
 
 
 def conflicting() -> bytes:
@@ -79,7 +81,7 @@ PLAYS = [
     Play(["receive", PROJECT, "bundle"], {PROJECT: HELD, "bundle": CLASHING}),
     Play(["receive", PROJECT, "bundle"], {PROJECT: HELD, "bundle": FIRST[:50]}),
     Play(["receive", PROJECT, "bundle"], {PROJECT: HELD, "bundle": THINNED}),
-    Play(["receive", PROJECT, "bundle"], {PROJECT: HELD, "bundle": THINNED[:15] + b"\1" + THINNED[16:46]}),
+    Play(["receive", PROJECT, "bundle"], {PROJECT: HELD, "bundle": UNNAMED}),
     Play(["thin", PROJECT], {PROJECT: CONFLICTING}),
     Play(["thin", PROJECT], {PROJECT: HELD}),
     Play(["shown", PROJECT, "MAT 1:1"], {PROJECT: CONFLICTING}),
@@ -92,6 +94,11 @@ PLAYS = [
     Play(["find", PROJECT, "MAT", "sheet", "gnat"], {PROJECT: GNATS, "sheet": SHEET}),
     Play(["words", PROJECT, "MAT", "sheet"], {PROJECT: GNATS, "sheet": SHEET}),
     Play(["fold", "MAT"], given=FIRST + BENS + ANAS),
+    Play(["fold", "MAT"], given=ANAS + BENS + FIRST),
     Play(["fold", "MAT"], given=FIRST + THINNED),
+    Play(["fold", "MAT"], given=THINNED + FIRST),
+    Play(["fold", "MAT"], given=FIRST + UNNAMED),
     Play(["fold", "MAT"], given=FIRST + CLASHING),
+    Play(["fold", "MAT"], given=FIRST + b"\0"),
+    Play(["fold", "LUK"], given=FIRST),
 ]
