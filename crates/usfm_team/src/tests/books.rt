@@ -1,15 +1,17 @@
 // Books out of a replica.
 use super::folding::{folded, joined};
 use super::streams::{Refusal, ShortSink};
-use super::vectors::{AT_VERSE_1, B1, CLASHING, FIRST, ID_2, ONE};
+use super::vectors::{AFTER, AT_VERSE_1, B1, CLASHING, FIRST, ID_2, ONE, Y, Z};
 use bundle_codec::decode;
+use conflict_report::{ReportFault, write_report};
 use op_core::ReplicaName;
 use replica_state::Replica;
 use std::alloc::Global;
 use std::io::ErrorKind;
+use std::process::Abort;
 use std::test::Fail;
 use usfm_cli::{Fault, fault_line};
-use usfm_export::{book_text, write_book};
+use usfm_export::{ExportFault, book_text, write_book};
 use usfm_ref::Book;
 
 // A replica that received bundles.
@@ -110,5 +112,60 @@ fn long_books(rt: HostRuntime) -> Result<(), Fail> {
     assert!(rt; book.as_slice() == wanted.as_slice());
     let book = folded(alloc, &joined(alloc, &[B1, &long])?, "MAT")?;
     assert!(rt; book.as_slice() == wanted.as_slice());
+    Ok(())
+}
+
+// What a replica with B1, Y and Z reports.
+const REPORT: &[u8] = b"conflict MAT 1:1 2\ntext 3 ben 8\n\\v 1 At\n\ntext 3 ana 8\n\\v 1 To\n\n";
+
+const REFUSALS: [Refusal; 3] = [
+    Refusal::Fails(ErrorKind::Other),
+    Refusal::Fails(ErrorKind::Interrupted),
+    Refusal::TakesNothing,
+];
+
+// That a sink took the front of a text, and was not asked again after it refused a piece.
+fn took_front(rt: &impl Abort, sink: &ShortSink, text: &[u8], room: usize) {
+    assert_eq!(rt; sink.taken.as_slice(), text.split_at(room).0);
+    assert_eq!(rt; sink.failures, if room < text.len() { 1 } else { 0 });
+}
+
+#[test]
+fn writers_of_books_fail(rt: HostRuntime) -> Result<(), Fail> {
+    let alloc = rt.alloc();
+    let mat = Book::read("MAT")?;
+    let replica = received(alloc, &[B1, Y, Z])?;
+    for refusal in REFUSALS {
+        for room in 0..AFTER.len() {
+            let mut sink = ShortSink::new(alloc, 4, room, refusal);
+            let gone = room as u64;
+            let answer = write_book(&replica, mat, &mut sink);
+            assert!(rt; answer == Err(ExportFault::WriteFailed { gone }), "{room}");
+            took_front(&rt, &sink, AFTER, room);
+        }
+    }
+    let mut sink = ShortSink::new(alloc, 1, AFTER.len(), Refusal::TakesNothing);
+    write_book(&replica, mat, &mut sink)?;
+    took_front(&rt, &sink, AFTER, AFTER.len());
+    Ok(())
+}
+
+#[test]
+fn writers_of_reports_fail(rt: HostRuntime) -> Result<(), Fail> {
+    let alloc = rt.alloc();
+    let replica = received(alloc, &[B1, Y, Z])?;
+    assert_eq!(rt; REPORT.len(), 63);
+    for refusal in REFUSALS {
+        for room in 0..REPORT.len() {
+            let mut sink = ShortSink::new(alloc, 4, room, refusal);
+            let gone = room as u64;
+            let answer = write_report(alloc, &replica, &mut sink);
+            assert!(rt; answer == Err(ReportFault::WriteFailed { gone }), "{room}");
+            took_front(&rt, &sink, REPORT, room);
+        }
+    }
+    let mut sink = ShortSink::new(alloc, 1, REPORT.len(), Refusal::TakesNothing);
+    write_report(alloc, &replica, &mut sink)?;
+    took_front(&rt, &sink, REPORT, REPORT.len());
     Ok(())
 }

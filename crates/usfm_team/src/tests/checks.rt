@@ -189,6 +189,18 @@ fn marks_stand_too_deep(rt: HostRuntime) -> Result<(), SheetFault> {
 }
 
 #[test]
+fn a_hundred_thousand_nested_marks(rt: HostRuntime) -> Result<(), SheetFault> {
+    let Ok(text) = nested(rt.alloc(), "\\p", 100_000) else {
+        return Err(SheetFault::Memory);
+    };
+    let found = find(rt.alloc(), text.as_str())?;
+    assert_eq!(rt; count(found.as_slice(), Code::UnclosedChar), 63);
+    assert_eq!(rt; count(found.as_slice(), Code::TooDeep), 99_937);
+    assert_eq!(rt; found.len(), 100_000);
+    Ok(())
+}
+
+#[test]
 fn several_codes_at_one_mark(rt: HostRuntime) -> Result<(), SheetFault> {
     let text = "\\id MAT\n\\x \\f + \\nd y\\ft z \\p \\wj \\nd a\\nd*\\f - \\ft b";
     let found = find(rt.alloc(), text)?;

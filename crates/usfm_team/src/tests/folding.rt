@@ -237,6 +237,7 @@ fn failing_streams(rt: HostRuntime) -> Result<(), Fail> {
             answer == Err(Fault::ReadFailed) && sink.taken.is_empty(),
             "at {at}"
         );
+        assert_eq!(rt; (source.reads, source.failures), (at, 1));
     }
     for refusal in [
         Refusal::Fails(ErrorKind::Interrupted),
@@ -249,6 +250,7 @@ fn failing_streams(rt: HostRuntime) -> Result<(), Fail> {
             let gone = room as u64;
             assert!(rt; answer == Err(Fault::WriteFailed { gone }), "at {room}");
             assert_eq!(rt; sink.taken.as_slice(), FIRST.split_at(room).0);
+            assert_eq!(rt; sink.failures, 1);
         }
     }
     Ok(())
