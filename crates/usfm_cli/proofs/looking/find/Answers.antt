@@ -17,7 +17,7 @@ returns-in_err-sheet c =
     (sheet_refused c.args.sheet.now _ c.in_ok-text_in.ensures.ok.0 Global _ c.in_err-sheet.field-0.0
     c.in_ok-text_in.ensures.ok.1 c.in_err-sheet.ensures.sheet (λ e. c.in_err-sheet.ensures.memory (ap Err e))
     (λ records. book_wanted c.args.sheet.now c.args.replica.now.held c.args.book _
-    (λ text. search_is_late c.args.sheet.now c.args.needle.now _)))
+    (λ text. search_is_late c.args.sheet.now c.args.needle.now (hit_lines c.args.book (hits_of records text c.args.needle.now)))))
 
 pub returns-in_err-bytes : goal.returns-in_err-bytes
 returns-in_err-bytes c =

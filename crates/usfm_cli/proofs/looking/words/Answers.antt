@@ -1,5 +1,7 @@
-use Rattle.std.proofs.Common.{Global, Err, ap}
+use Rattle.std.proofs.Common.{Global, Ok, Err, ap}
 use Rattle.std.proofs.lemmas.Result.{err_from_is_err_and}
+use Rattle.concordance.specs.Words.{words_of}
+use Rattle.usfm_cli.specs.Looking.{word_lines}
 use Rattle.usfm_cli.proofs.Searched.{is_told_as_text, book_wanted, sheet_refused}
 use Rattle.usfm_cli.proofs.looking.words.Goals as goal
 
@@ -12,4 +14,5 @@ returns-in_err-sheet c =
     rw (fault.1, fault.2)
     (sheet_refused c.args.sheet.now _ c.in_ok-text_in.ensures.ok.0 Global _ c.in_err-sheet.field-0.0
     c.in_ok-text_in.ensures.ok.1 c.in_err-sheet.ensures.sheet (λ e. c.in_err-sheet.ensures.memory (ap Err e))
-    (λ records. book_wanted c.args.sheet.now c.args.replica.now.held c.args.book _ (λ text. tt)))
+    (λ records. book_wanted c.args.sheet.now c.args.replica.now.held c.args.book
+    (λ text. Ok (word_lines (words_of records text))) (λ text. tt)))
