@@ -40,20 +40,20 @@ pub(crate) fn receive(
 fn import_all(rt: &HostRuntime, project: &str, names: &[String]) -> Result<(), TurnFault> {
     read_file(rt, project)?;
     let files = read_files(rt, names)?;
-    let mut commands = Vec::new(rt.alloc());
-    for file in &files {
-        commands.push(Command::Import(file))?;
-    }
+    let commands: Vec<Command<'_>> = files
+        .iter()
+        .map(|file| Command::Import(file))
+        .collect(rt.alloc())?;
     change_in_turn(rt, project, &commands)
 }
 
 fn receive_all(rt: &HostRuntime, project: &str, names: &[String]) -> Result<(), TurnFault> {
     read_file(rt, project)?;
     let bundles = read_files(rt, names)?;
-    let mut commands = Vec::new(rt.alloc());
-    for bundle in &bundles {
-        commands.push(Command::Receive(bundle))?;
-    }
+    let commands: Vec<Command<'_>> = bundles
+        .iter()
+        .map(|bundle| Command::Receive(bundle))
+        .collect(rt.alloc())?;
     change_in_turn(rt, project, &commands)
 }
 
