@@ -113,7 +113,7 @@ fn import<'a>(alloc: Global) -> Result<Command<'a>, AllocError> {
     command(
         alloc,
         "import",
-        "Takes in the files of books by the edits that make them the books' exports",
+        "Takes in the files of books by edits that make them the exports",
         IMPORT,
         &[PROJECT],
     )?
@@ -121,9 +121,9 @@ fn import<'a>(alloc: Global) -> Result<Command<'a>, AllocError> {
 }
 
 const IMPORT: &str = "\
-Writes `added N` for each FILE, N the number of edits. All are taken in, or none:
-where one of several is refused, a second line `in FILE` on standard error names
-it.
+Writes `added N` for each FILE, N the number of edits. All are taken in, or
+none: where one of several is refused, a second line `in FILE` on standard error
+names it.
 
 Example: usfm_team import ana.project matthew.usfm mark.usfm
 

@@ -377,7 +377,7 @@ fn commands_one_after_another(rt: HostRuntime) -> Result<(), Fail> {
     Ok(())
 }
 
-// All that is told stands in order, and the project is the one after all.
+// What each command writes stands in order, and the project is the one after all.
 #[test]
 fn commands_in_turn(rt: HostRuntime) -> Result<(), Fail> {
     let alloc = rt.alloc();
