@@ -11,6 +11,7 @@ mod schedules;
 pub(crate) mod streams;
 mod thinning;
 mod trees;
+mod turns;
 mod vectors;
 mod worlds;
 
