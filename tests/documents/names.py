@@ -14,10 +14,26 @@ CLAUSES = re.compile(r"`(\w+)::(?:\w+::)*(\w+)`, clauses? ((?:`\w+`(?:, | and )?
 ROW = re.compile(r"^\| .* \|$", re.M)
 
 
+def anchors(page):
+    """What a link may name in a page, after the #: its titles in lower case, with a hyphen for each space, and no other sign."""
+    titles = re.findall(r"^#+ (.+)$", page.read_text(), re.M)
+    return {re.sub(r"[^\w-]", "", it.lower().replace(" ", "-")) for it in titles}
+
+
 def check_links():
+    """Each file that a page links to is there, and has the title that the link names."""
     for page in pages():
-        for link in re.findall(r"\]\(([^)#:]+)(?:#[^)]*)?\)", page.read_text()):
-            check((page.parent / link).exists(), f"{page.name} links to {link}, which is not there")
+        for link, title in re.findall(r"\]\(([^)#:]*)(?:#([^)]*))?\)", page.read_text()):
+            file = page.parent / link if link else page
+            check(file.exists(), f"{page.name} links to {link}, which is not there")
+            check(not title or file.exists() and title in anchors(file), f"{page.name} links to {link}#{title}, which has no such title")
+
+
+def check_codes():
+    """The walk-through says of each code of a check what it means, and of no other."""
+    codes = re.findall(r"=> \"([a-z-]+)\"", text_of("crates/segment_check/src/code.rt"))
+    named = re.findall(r"^\| `([a-z-]+)` \|", text_of("docs/WALKTHROUGH.md"), re.M)
+    check(codes and named == codes, f"WALKTHROUGH.md has not the codes {codes}, in this order")
 
 
 def check_paths():
