@@ -48,15 +48,15 @@ def check_paths():
 
 def check_calls(page):
     """Each call and law that the page names stands in its crate, and each clause in the call's contract."""
-    text = text_of(page)
+    text = page.read_text()
     for crate, path, names in CALL.findall(text):
         sources = sources_of(crate)
         for name in re.findall(r"\w+", path + names):
-            check(re.search(rf"\b(fn|struct|enum|trait|mod|const) {name}\b", sources), f"{page}: {crate} has no {path}{name}")
+            check(re.search(rf"\b(fn|struct|enum|trait|mod|const) {name}\b", sources), f"{page.name}: {crate} has no {path}{name}")
     for crate, name, clauses in CLAUSES.findall(text):
         contracts = re.findall(rf"\bpub fn {name}\b.*?\n *\{{\n", sources_of(crate), re.S)
         for clause in re.findall(r"\w+", clauses.replace(" and ", " ")):
-            check(any(f"ensures {clause} {{" in it for it in contracts), f"{page}: {crate}::{name} has no clause {clause}")
+            check(any(f"ensures {clause} {{" in it for it in contracts), f"{page.name}: {crate}::{name} has no clause {clause}")
 
 
 def check_tests(page):
