@@ -9,9 +9,10 @@
 # The plain checker reads the tree whole and then walks it. The proved one is done with each node under the root
 # before it reads the next, so that its memory does not grow with the tree.
 #
-# The two are run turn about, and of each the least time of a round counts; how the time grows is measured by
-# processes of one round. The exit status is 1 where the two find different things, the proved check takes
-# more than 1.5 times as long, or ten times the text or the words more than 12 times as long.
+# The two are run turn about, and of each the least time of a round counts. How the work grows is measured by
+# processes of one round: by their instructions where valgrind is there to count them, which are the same whatever
+# runs beside, and else by their least time. The exit status is 1 where the two find different things, the proved
+# check takes more than 1.5 times as long, or ten times the text or the words more than 12 times as much.
 #
 # usage: run.sh [BYTES] [TURNS]
 set -euo pipefail
@@ -97,16 +98,23 @@ compare() {
     }' || status=1
 }
 
-# The time of one check by each of so many processes: no size finds memory that an earlier round has taken.
+# The instructions of a process of one check, or the times of so many such processes: no size finds memory that an
+# earlier round has taken.
+if command -v valgrind >"$work/log"; then unit=instructions; else unit=nanoseconds; fi
 check_once() {
-    for _ in $(seq "$((2 * turns))"); do "$proved" "$1" "$2" 1 >>"$work/$3.once"; done
+    if [ $unit = instructions ]; then
+        valgrind --tool=callgrind --callgrind-out-file=/dev/null "$proved" "$1" "$2" 1 2>&1 |
+            sed -n 's/.*Collected : //p' >"$work/$3.once"
+    else
+        for _ in $(seq "$((2 * turns))"); do "$proved" "$1" "$2" 1 >>"$work/$3.once"; done
+    fi
 }
 
-# How the time grows from one size to the next.
+# How the work grows from one size to the next.
 tell_growth() {
-    awk -v name="$1" -v small="$(least "$work/$1.$bytes.once")" \
+    awk -v name="$1" -v unit=$unit -v small="$(least "$work/$1.$bytes.once")" \
         -v large="$(least "$work/$1.$((10 * bytes)).once")" 'BEGIN {
-            printf "%s: ten times the bytes take %.1f times as long\n", name, large / small
+            printf "%s: ten times the bytes take %.1f times as many %s\n", name, large / small, unit
             exit large > 12 * small
         }' || status=1
 }
