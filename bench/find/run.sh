@@ -1,7 +1,7 @@
 #!/usr/bin/env bash
 # Times the proved search in a book (bench.rt.txt) against a plain search in Rust with std alone (plain.rs), both
 # built for the processor that Rattle builds for, over a sheet and generated psalters of a size and of ten times the
-# size: for needles that stand in most lines, in some verses, in few, in attributes alone, and nowhere.
+# size: for needles that are in most lines, in some verses, in few, in attributes alone, and nowhere.
 # Needs rt, rustc and awk, and takes some minutes.
 #
 # The two are run turn about, and of each the least time of a round counts; how the time grows is measured by
@@ -11,75 +11,27 @@
 # usage: run.sh [BYTES] [TURNS]
 set -euo pipefail
 here=$(cd "$(dirname "$0")" && pwd)
-top=$(cd "$here/../.." && pwd)
+. "$here/../head.sh"
+. "$here/../psalters.sh"
 bytes=${1:-250000}
 turns=${2:-8}
 rounds=20
-crates='usfm_ref usfm_token sty_sheet verse_cut usfm_tree concordance'
-work=$(mktemp -d)
-trap 'rm -rf "$work"' EXIT
-
-# A sheet of the markers of the texts.
-make_sheet() {
-    awk '
-        function record(marker, closer, kind, type) {
-            printf "\\Marker %s\n", marker
-            if (closer != "") printf "\\Endmarker %s\n", closer
-            printf "\\StyleType %s\n", kind
-            if (type != "") printf "\\TextType %s\n", type
-        }
-        BEGIN {
-            split("id c s d", heads)
-            for (i = 1; i <= 4; i++) record(heads[i], "", "Paragraph", "Other")
-            split("p q1 q2", lines)
-            for (i = 1; i <= 3; i++) record(lines[i], "", "Paragraph", "VerseText")
-            record("v", "", "Character", "VerseNumber")
-            split("w nd ft", characters)
-            for (i = 1; i <= 3; i++) record(characters[i], characters[i] "*", "Character", "")
-            record("f", "f*", "Note", "")
-            record("qt-s", "qt-e", "Milestone", "")
-        }'
-}
 
 echo "building"
-make_sheet >"$work/sheet"
-for size in "$bytes" "$((10 * bytes))"; do
-    awk -v size="$size" -f "$here/../psalter.awk" >"$work/psalter.$size"
-done
-rustc -C opt-level=3 -C target-cpu=x86-64-v2 -C codegen-units=1 --edition 2021 -o "$work/plain" "$here/plain.rs"
+make_psalters "$bytes"
+build_plain --edition 2021
+crates='usfm_ref usfm_token sty_sheet verse_cut usfm_tree concordance'
+build_proved find_bench "$crates" 'usfm_ref sty_sheet concordance anyhow' "$work/sheet" "$work/psalter.$bytes" LORD 1
 
-git -C "$work" init -q
-program=$work/crates/find_bench
-mkdir -p "$program/src"
-for crate in $crates; do
-    mkdir -p "$work/crates/$crate"
-    # What was proved comes along, so that it is not proved again.
-    for part in src specs proofs out; do
-        [ ! -d "$top/crates/$crate/$part" ] || cp -a "$top/crates/$crate/$part" "$work/crates/$crate/"
-    done
-done
-cp "$here/bench.rt.txt" "$program/src/main.rt"
-{
-    grep -E "^(${crates// /|}):" "$top/crates.txt"
-    echo "find_bench: usfm_ref sty_sheet concordance anyhow"
-} >"$work/crates.txt"
-if ! (cd "$program" && rt run -- "$work/sheet" "$work/psalter.$bytes" LORD 1) >"$work/log" 2>&1; then
-    tail -n 30 "$work/log"
-    exit 1
-fi
-
-# The least time in a file of outputs.
-least() { cut -d' ' -f1 "$1" | sort -n | head -n 1; }
-
-# What most lines have, what some verses have, what few have, what attributes alone have, and what stands nowhere.
+# What most lines have, what some verses have, what few have, what attributes alone have, and what nothing has.
 status=0
 for needle in e LORD lázét lemma Selah; do
     for size in "$bytes" "$((10 * bytes))"; do
         file=$work/psalter.$size
         out=$work/$needle.$size
         for _ in $(seq "$turns"); do
-            "$work/plain" "$work/sheet" "$file" "$needle" "$rounds" >>"$out.plain"
-            "$program/out/find_bench" "$work/sheet" "$file" "$needle" "$rounds" >>"$out.proved"
+            "$plain" "$work/sheet" "$file" "$needle" "$rounds" >>"$out.plain"
+            "$proved" "$work/sheet" "$file" "$needle" "$rounds" >>"$out.proved"
         done
         if [ "$(cut -d' ' -f2- "$out".{plain,proved} | sort -u | wc -l)" != 1 ]; then
             echo "$needle: the two find different hits"
@@ -96,7 +48,7 @@ for needle in e LORD lázét lemma Selah; do
     # Each process searches once here, so that neither size finds memory that an earlier round has taken.
     for size in "$bytes" "$((10 * bytes))"; do
         for _ in $(seq "$((2 * turns))"); do
-            "$program/out/find_bench" "$work/sheet" "$work/psalter.$size" "$needle" 1 >>"$work/$needle.$size.once"
+            "$proved" "$work/sheet" "$work/psalter.$size" "$needle" 1 >>"$work/$needle.$size.once"
         done
     done
     awk -v needle="$needle" -v small="$(least "$work/$needle.$bytes.once")" \

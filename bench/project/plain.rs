@@ -8,13 +8,16 @@
 
 #[path = "../operations.rs"]
 mod operations;
+#[path = "../writing.rs"]
+mod writing;
 
 use operations::fitting::{Key, Place, code_ends, code_of_head, key_at};
 use operations::{Fault, Id, Op, Reader, export, join, picked, shown_in};
 use std::collections::{BTreeMap, BTreeSet, HashMap};
-use std::fs::{self, File};
-use std::io::{self, BufWriter, Write};
+use std::fs;
+use std::io::{self, Write};
 use std::process::ExitCode;
+use writing::{answer, replace, write_id, write_name, write_replaced, write_segment, write_text};
 
 const MAGIC: &[u8] = b"USFMPJ1\n";
 
@@ -144,21 +147,12 @@ impl Project {
         self.ops.iter().try_for_each(|op| write_op(out, op))
     }
 
-    /// Replaces the project's file, by one beside it that is renamed when it is whole.
-    fn save(&self, path: &str) -> io::Result<()> {
-        let new = format!("{path}.new");
-        let mut out = BufWriter::new(File::create(&new)?);
-        self.write(&mut out)?;
-        out.into_inner()?.sync_all()?;
-        fs::rename(new, path)
-    }
-
-    /// Saves the project where so many operations are new.
+    /// Saves the project where operations are new.
     fn save_new(&self, path: &str, count: usize) -> Result<(), Fault> {
         if count == 0 {
             return Ok(());
         }
-        self.save(path).map_err(|_| fault(130))
+        replace(path, |out| self.write(out)).map_err(|_| fault(130))
     }
 
     /// How many ids are shown, counted in a register for each segment.
@@ -173,34 +167,15 @@ impl Project {
     }
 }
 
-fn write_name(out: &mut impl Write, name: &[u8]) -> io::Result<()> {
-    out.write_all(&[name.len() as u8])?;
-    out.write_all(name)
-}
-
-fn write_id(out: &mut impl Write, id: &Id) -> io::Result<()> {
-    out.write_all(&id.number.to_be_bytes())?;
-    write_name(out, &id.name)
+fn parts(id: &Id) -> (u64, &[u8]) {
+    (id.number, &id.name)
 }
 
 fn write_op(out: &mut impl Write, op: &Op) -> io::Result<()> {
-    write_id(out, &op.id)?;
-    out.write_all(&op.book)?;
-    out.write_all(&op.key.chapter.to_be_bytes())?;
-    let (kind, verse, letter) = match op.key.place {
-        Place::Head => (0, 0, 0),
-        Place::Verse(verse, letter) => (1, verse, letter),
-    };
-    out.write_all(&[kind])?;
-    out.write_all(&verse.to_be_bytes())?;
-    out.write_all(&[letter])?;
-    out.write_all(&(op.replaced.len() as u64).to_be_bytes())?;
-    for id in &op.replaced {
-        write_id(out, id)?;
-    }
-    out.write_all(&[1])?;
-    out.write_all(&(op.text.len() as u64).to_be_bytes())?;
-    out.write_all(op.text.as_bytes())
+    write_id(out, parts(&op.id))?;
+    write_segment(out, &op.book, op.key)?;
+    write_replaced(out, op.replaced.iter().map(parts))?;
+    write_text(out, Some(&op.text))
 }
 
 fn read(path: &str) -> Result<Vec<u8>, Fault> {
@@ -252,14 +227,7 @@ fn main() -> io::Result<ExitCode> {
     let words: Vec<String> = std::env::args().skip(1).collect();
     let words: Vec<&str> = words.iter().map(String::as_str).collect();
     match run(&words) {
-        Some(Ok(text)) => {
-            io::stdout().write_all(text.as_bytes())?;
-            Ok(ExitCode::SUCCESS)
-        }
-        Some(Err((number, details))) => {
-            eprintln!("fault {number}{details}");
-            Ok(ExitCode::from(1))
-        }
+        Some(said) => answer(said),
         None => {
             eprintln!("plain import|receive PROJECT FILE, plain export PROJECT BOOK, plain load|index PROJECT");
             Ok(ExitCode::from(2))

@@ -7,14 +7,17 @@
 mod fitting;
 #[path = "../reading.rs"]
 mod reading;
+#[path = "../writing.rs"]
+mod writing;
 
 use fitting::{Key, Place, fits};
 use reading::{Fault, Reader};
 use std::cmp::Ordering;
 use std::collections::HashSet;
-use std::fs::{self, File};
-use std::io::{self, BufWriter, Write};
+use std::fs;
+use std::io::{self, Write};
 use std::process::ExitCode;
+use writing::{answer, replace, write_id, write_name, write_replaced, write_segment, write_text};
 
 const MAGIC: &[u8] = b"USFMPJ1\n";
 
@@ -22,6 +25,12 @@ const MAGIC: &[u8] = b"USFMPJ1\n";
 struct Id {
     number: u64,
     name: Vec<u8>,
+}
+
+impl Id {
+    fn parts(&self) -> (u64, &[u8]) {
+        (self.number, &self.name)
+    }
 }
 
 struct Op {
@@ -178,55 +187,22 @@ impl Project {
         self.ops.iter().try_for_each(|op| write_op(out, op))
     }
 
-    /// Replaces the project's file, by one beside it that is renamed when it is whole.
-    fn save(&self, path: &str) -> io::Result<()> {
-        let new = format!("{path}.new");
-        let mut out = BufWriter::new(File::create(&new)?);
+    fn write(&self, out: &mut impl Write) -> io::Result<()> {
         out.write_all(MAGIC)?;
-        write_name(&mut out, &self.name)?;
-        self.write_bundle(&mut out)?;
-        out.into_inner()?.sync_all()?;
-        fs::rename(new, path)
+        write_name(out, &self.name)?;
+        self.write_bundle(out)
     }
 
     fn save_if(&self, path: &str, is_changed: bool) -> Result<(), Fault> {
-        if is_changed { self.save(path).map_err(|_| fault(130)) } else { Ok(()) }
+        if is_changed { replace(path, |out| self.write(out)).map_err(|_| fault(130)) } else { Ok(()) }
     }
-}
-
-fn write_name(out: &mut impl Write, name: &[u8]) -> io::Result<()> {
-    out.write_all(&[name.len() as u8])?;
-    out.write_all(name)
-}
-
-fn write_id(out: &mut impl Write, id: &Id) -> io::Result<()> {
-    out.write_all(&id.number.to_be_bytes())?;
-    write_name(out, &id.name)
 }
 
 fn write_op(out: &mut impl Write, op: &Op) -> io::Result<()> {
-    write_id(out, &op.id)?;
-    out.write_all(&op.book)?;
-    out.write_all(&op.key.chapter.to_be_bytes())?;
-    let (kind, verse, letter) = match op.key.place {
-        Place::Head => (0, 0, 0),
-        Place::Verse(verse, letter) => (1, verse, letter),
-    };
-    out.write_all(&[kind])?;
-    out.write_all(&verse.to_be_bytes())?;
-    out.write_all(&[letter])?;
-    out.write_all(&(op.replaced.len() as u64).to_be_bytes())?;
-    for id in &op.replaced {
-        write_id(out, id)?;
-    }
-    match &op.text {
-        None => out.write_all(&[0]),
-        Some(text) => {
-            out.write_all(&[1])?;
-            out.write_all(&(text.len() as u64).to_be_bytes())?;
-            out.write_all(text.as_bytes())
-        }
-    }
+    write_id(out, op.id.parts())?;
+    write_segment(out, &op.book, op.key)?;
+    write_replaced(out, op.replaced.iter().map(Id::parts))?;
+    write_text(out, op.text.as_deref())
 }
 
 fn read(path: &str) -> Result<Vec<u8>, Fault> {
@@ -257,7 +233,7 @@ fn send(path: &str) -> Result<Vec<u8>, Fault> {
 fn main() -> io::Result<ExitCode> {
     let words: Vec<String> = std::env::args().skip(1).collect();
     let words: Vec<&str> = words.iter().map(String::as_str).collect();
-    let answer = match *words {
+    let said = match *words {
         ["thin", project] => thin(project),
         ["receive", project, bundle] => receive(project, bundle),
         ["send", project] => send(project),
@@ -266,14 +242,5 @@ fn main() -> io::Result<ExitCode> {
             return Ok(ExitCode::from(2));
         }
     };
-    match answer {
-        Ok(bytes) => {
-            io::stdout().write_all(&bytes)?;
-            Ok(ExitCode::SUCCESS)
-        }
-        Err((number, details)) => {
-            eprintln!("fault {number}{details}");
-            Ok(ExitCode::from(1))
-        }
-    }
+    answer(said)
 }

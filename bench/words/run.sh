@@ -11,72 +11,24 @@
 # usage: run.sh [BYTES] [TURNS]
 set -euo pipefail
 here=$(cd "$(dirname "$0")" && pwd)
-top=$(cd "$here/../.." && pwd)
+. "$here/../head.sh"
+. "$here/../psalters.sh"
 bytes=${1:-250000}
 turns=${2:-8}
 rounds=20
-crates='usfm_ref usfm_token sty_sheet verse_cut usfm_tree concordance'
-work=$(mktemp -d)
-trap 'rm -rf "$work"' EXIT
-
-# A sheet of the markers of the texts.
-make_sheet() {
-    awk '
-        function record(marker, closer, kind, type) {
-            printf "\\Marker %s\n", marker
-            if (closer != "") printf "\\Endmarker %s\n", closer
-            printf "\\StyleType %s\n", kind
-            if (type != "") printf "\\TextType %s\n", type
-        }
-        BEGIN {
-            split("id c s d", heads)
-            for (i = 1; i <= 4; i++) record(heads[i], "", "Paragraph", "Other")
-            split("p q1 q2", lines)
-            for (i = 1; i <= 3; i++) record(lines[i], "", "Paragraph", "VerseText")
-            record("v", "", "Character", "VerseNumber")
-            split("w nd ft", characters)
-            for (i = 1; i <= 3; i++) record(characters[i], characters[i] "*", "Character", "")
-            record("f", "f*", "Note", "")
-            record("qt-s", "qt-e", "Milestone", "")
-        }'
-}
 
 echo "building"
-make_sheet >"$work/sheet"
-for size in "$bytes" "$((10 * bytes))"; do
-    awk -v size="$size" -f "$here/../psalter.awk" >"$work/psalter.$size"
-done
-rustc -C opt-level=3 -C target-cpu=x86-64-v2 -C codegen-units=1 --edition 2021 -o "$work/plain" "$here/plain.rs"
-
-git -C "$work" init -q
-program=$work/crates/words_bench
-mkdir -p "$program/src"
-for crate in $crates; do
-    mkdir -p "$work/crates/$crate"
-    # What was proved comes along, so that it is not proved again.
-    for part in src specs proofs out; do
-        [ ! -d "$top/crates/$crate/$part" ] || cp -a "$top/crates/$crate/$part" "$work/crates/$crate/"
-    done
-done
-cp "$here/bench.rt.txt" "$program/src/main.rt"
-{
-    grep -E "^(${crates// /|}):" "$top/crates.txt"
-    echo "words_bench: usfm_ref sty_sheet concordance anyhow"
-} >"$work/crates.txt"
-if ! (cd "$program" && rt run -- "$work/sheet" "$work/psalter.$bytes" 1) >"$work/log" 2>&1; then
-    tail -n 30 "$work/log"
-    exit 1
-fi
-
-# The least time in a file of outputs.
-least() { cut -d' ' -f1 "$1" | sort -n | head -n 1; }
+make_psalters "$bytes"
+build_plain --edition 2021
+crates='usfm_ref usfm_token sty_sheet verse_cut usfm_tree concordance'
+build_proved words_bench "$crates" 'usfm_ref sty_sheet concordance anyhow' "$work/sheet" "$work/psalter.$bytes" 1
 
 status=0
 for size in "$bytes" "$((10 * bytes))"; do
     file=$work/psalter.$size
     for _ in $(seq "$turns"); do
-        "$work/plain" "$work/sheet" "$file" "$rounds" >>"$file.plain"
-        "$program/out/words_bench" "$work/sheet" "$file" "$rounds" >>"$file.proved"
+        "$plain" "$work/sheet" "$file" "$rounds" >>"$file.plain"
+        "$proved" "$work/sheet" "$file" "$rounds" >>"$file.proved"
     done
     if [ "$(cut -d' ' -f2- "$file".{plain,proved} | sort -u | wc -l)" != 1 ]; then
         echo "the two list different words"
@@ -93,7 +45,7 @@ done
 # Each process makes one list here, so that neither size finds memory that an earlier round has taken.
 for size in "$bytes" "$((10 * bytes))"; do
     for _ in $(seq "$((2 * turns))"); do
-        "$program/out/words_bench" "$work/sheet" "$work/psalter.$size" 1 >>"$work/psalter.$size.once"
+        "$proved" "$work/sheet" "$work/psalter.$size" 1 >>"$work/psalter.$size.once"
     done
 done
 awk -v small="$(least "$work/psalter.$bytes.once")" -v large="$(least "$work/psalter.$((10 * bytes)).once")" 'BEGIN {
