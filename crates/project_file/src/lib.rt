@@ -10,4 +10,4 @@ pub use fault::{CreateFault, LoadFault};
 pub use project::{create, load, save};
 
 #[cfg(test)]
-mod project_rows;
+mod tests;
