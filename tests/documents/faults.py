@@ -97,15 +97,17 @@ def check_width(command, page):
     check(not wide, f"the help of {command} is wider than a terminal of 80 columns: {wide[:1]}")
 
 
-def check_help(code):
-    """Each fault stands in the help of a command, with its details, and no other does."""
-    pages = {"usfm_team": program("--help")}
-    commands = re.findall(r"^  ([a-z-]+)  +[A-Z]", pages["usfm_team"].split("Commands:")[1].split("Options:")[0], re.M)
-    pages.update({it: program(it, "--help") for it in commands if it != "help"})
+def lines_of(page):
+    """The lines of a page of help that have faults: the words of the faults, without what they mean."""
+    return re.findall(r"^  (fault \d+.*?)(?:  |$)", page, re.M)
+
+
+def check_help(code, pages):
+    """Each fault is in the help of a command, with its details, and no other is."""
     named = set()
     for command, page in pages.items():
         check_width(command, page)
-        for line in re.findall(r"^  (fault \d+.*?)(?:  |$)", page, re.M):
+        for line in lines_of(page):
             numbers = numbers_in(line)
             named |= numbers
             written = re.findall(r"\b[A-Z]+\b", line)
@@ -117,8 +119,60 @@ def check_help(code):
     check(named - set(range(60, 71)) <= set(code), f"help has faults that the code has not: {sorted(named - set(code))}")
 
 
+def errors_of(path, name):
+    """What the comment of a call says of its errors."""
+    comment = re.search(rf"((?:^ *///.*\n)+)(?:^ *#.*\n)*^ *pub fn {name}\b", text_of(path), re.M)[1]
+    return re.sub(r"\n *///", "\n", "\n" + comment).split("# Errors")[1]
+
+
+def numbers_said(text):
+    """The numbers between brackets of a text such as `Bundle` (60 to 69), `Clash` (51)."""
+    return set().union(*(numbers_in(it) for it in re.findall(r"\(([\d, to]+)\)", text)))
+
+
+def faults_of_commands():
+    """The faults of each command of a project, by its name in the code, as the comment of `exec` has them."""
+    text = errors_of("crates/usfm_cli/src/executing.rt", "exec")
+    found, before = {}, set()
+    for names, said in re.findall(r"^ - ((?:`\w+`(?:, | and )?)+): (.*(?:\n   .*)*)", text, re.M):
+        before = numbers_said(said) | (before if "the same" in said else set())
+        found.update({it: before for it in re.findall(r"\w+", names.replace(" and ", " "))})
+    silent = re.search(r"^ ((?:`\w+`(?:, | and )?)+) refuse nothing", text, re.M)[1]
+    found.update({it: set() for it in re.findall(r"\w+", silent.replace(" and ", " "))})
+    check(len(found) > 13, "the faults of the commands were not read from the code")
+    return found
+
+
+def check_commands(code, pages):
+    """The help of a command has each fault that the command can meet, by the comments of the code."""
+    of_commands = faults_of_commands()
+    listed = {command: set().union(*map(numbers_in, lines_of(page))) for command, page in pages.items()}
+    for command, page in pages.items():
+        for others in re.findall(r"those of ((?:`[a-z-]+`(?:, | and )?)+)", page):
+            listed[command] |= set().union(*(listed[it] for it in re.findall(r"`([a-z-]+)`", others)))
+    wanted = {command: set() for command in pages}
+    wanted["fold"] = numbers_said(errors_of("crates/usfm_cli/src/fold.rt", "fold_stream")) | {20}
+    for variant, faults in of_commands.items():
+        words = re.sub(r"(?<!^)([A-Z])", r"-\1", variant).lower()
+        command = words if words in pages else words.split("-")[0]
+        check(command in pages, f"the program has no command for {variant}")
+        wanted.setdefault(command, set()).update(faults, {1, 90, 110, 120, 121}, range(60, 71))
+    for command, faults in wanted.items():
+        lacked = (faults & set(code)) - listed.get(command, set())
+        check(not lacked, f"the help of {command} lacks the faults {sorted(lacked)}")
+
+
+def pages_of_help():
+    """The program's page of help, and that of each command."""
+    found = {"usfm_team": program("--help")}
+    commands = re.findall(r"^  ([a-z-]+)  +[A-Z]", found["usfm_team"].split("Commands:")[1].split("Options:")[0], re.M)
+    found.update({it: program(it, "--help") for it in commands if it != "help"})
+    return found
+
+
 def check_faults():
-    code = table()
+    code, pages = table(), pages_of_help()
     check_formats(code)
     check_readme(code)
-    check_help(code)
+    check_help(code, pages)
+    check_commands(code, pages)

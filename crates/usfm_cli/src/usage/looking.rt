@@ -233,7 +233,7 @@ Faults:
   fault 51 NUMBER NAME   two operations that differ have this id
   fault 60               a bundle does not begin as a bundle does
   fault 61               a bundle is cut
-  fault 62 to 68 PLACE   the operation at this place is not well formed
+  fault 62 to 69 PLACE   the operation at this place is not well formed
   fault 82               no operation is of the book
   fault 90 BYTES         writing failed after so many bytes
   fault 120              reading failed
