@@ -310,6 +310,22 @@ class Maker:
         self.bundles.append(write_bundle(made))
         self.receive(self.bundles[-1])
 
+    def change_thinned(self) -> None:
+        """What a project holds without its text comes with one, perhaps in another segment or over other ids."""
+        project = self.any_project()
+        replaced = replaced_in(self.held(project))
+        if not replaced:
+            return
+        old = self.rng.choice(list(replaced.values()))
+        if old.text is not None:
+            self.step("thin", project)
+        key = self.any_key(self.held(project), old.book) if self.rng.random() < 0.5 else old.key
+        named = self.rng.choice([old.replaced, old.replaced[1:], (Id(1, "a" * 32),) * (old.id.number > 1)])
+        text = make_text(self.rng, old.book, key)
+        if fits(old.book, key, text):
+            bundle = write_bundle({old.id: Operation(old.id, old.book, key, named, text)})
+            self.step("receive", project, "bundle", bundle=bundle)
+
     def use_numbers_up(self) -> None:
         """A bundle after which few numbers are left for edits, or none."""
         project = self.any_project()
@@ -428,8 +444,10 @@ ACTIONS = [Maker.import_book, Maker.edit, Maker.empty_chapter, Maker.edit_over, 
 WEIGHTS = [12, 10, 3, 9, 4, 5]
 ACTIONS += [Maker.exchange, Maker.receive_old, Maker.exchange_delta, Maker.lacking_delta, Maker.odd_summary]
 WEIGHTS += [7, 3, 5, 2, 3]
-ACTIONS += [Maker.thin, Maker.forge, Maker.forge_thinned, Maker.rename, Maker.use_numbers_up]
-WEIGHTS += [6, 12, 5, 4, 0.7]
+ACTIONS += [Maker.thin, Maker.forge, Maker.forge_thinned, Maker.change_thinned, Maker.rename]
+WEIGHTS += [6, 12, 5, 3, 4]
+ACTIONS += [Maker.use_numbers_up]
+WEIGHTS += [0.7]
 ACTIONS += [Maker.export, Maker.report, Maker.check, Maker.words, Maker.find, Maker.fold]
 WEIGHTS += [6, 7, 11, 8, 9, 4]
 ACTIONS += [Maker.odd_project, Maker.wrong_words, Maker.long_file]
