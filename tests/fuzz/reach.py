@@ -22,8 +22,10 @@ class Reach:
             self.counts[f"status {want.answer.status}"] += 1
             if want.answer.status == 1:
                 self.counts[f"fault {want.answer.error.split()[1].decode()}"] += 1
+                self.counts["one of several files refused"] += b"\nin " in want.answer.error
             elif want.answer.status == 0:
                 self.counts[f"{command} done"] += 1
+                self.counts["several files taken in"] += command in ("import", "receive") and len(words) > 3
                 self.add_output(command, want.answer.output)
 
     def add_output(self, command: str, output: bytes) -> None:

@@ -1,4 +1,5 @@
 """Refusals."""
+from typing import Optional
 
 
 class Fault(Exception):
@@ -8,10 +9,13 @@ class Fault(Exception):
         super().__init__(number, *details)
         self.number = number
         self.details = details
+        # The file that it is of, where the words name several.
+        self.file: Optional[str] = None
 
     def line(self) -> bytes:
-        """The line that the program writes on standard error."""
-        return " ".join(["fault", str(self.number), *map(str, self.details)]).encode() + b"\n"
+        """What the program writes on standard error."""
+        line = " ".join(["fault", str(self.number), *map(str, self.details)]).encode() + b"\n"
+        return line if self.file is None else line + b"in %s\n" % self.file.encode()
 
 
 def text_of(data: bytes) -> bytes:

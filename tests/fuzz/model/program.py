@@ -54,6 +54,8 @@ SHAPES: dict[str, tuple[Callable, ...]] = {
     "thin": (FILE,),
     "fold": (read_book,),
 }
+# The subcommands that take more words of the last kind, or ids.
+OPEN_ENDED = ("import", "receive", "edit-over")
 
 
 def run(folder: Folder, words: Sequence[str], given: Content) -> Answer:
@@ -73,11 +75,13 @@ def has_shape(words: Sequence[str]) -> bool:
         return False
     count = len(words) - 1
     least = len(SHAPES[words[0]])
-    return count >= least if words[0] == "edit-over" else count == least
+    return count >= least if words[0] in OPEN_ENDED else count == least
 
 
 def act(folder: Folder, command: str, words: Sequence[str], given: Content) -> bytes:
     """Does a command whose line has its shape, and answers what it writes."""
+    if command in ("import", "receive"):
+        return take_in(folder, command, words[0], words[1:])
     shape = SHAPES[command]
     values = [read(word) for read, word in zip(shape, words)]
     ids = [read_id(word) for word in words[len(shape) :]]
@@ -87,7 +91,7 @@ def act(folder: Folder, command: str, words: Sequence[str], given: Content) -> b
         return begin(folder, *values)
     project = values[0]
     before = read_file(folder, project)
-    if command in ("import", "receive", "delta"):
+    if command == "delta":
         values[1] = read_file(folder, values[1])
     elif command in ("check", "find", "words"):
         values[2] = read_file(folder, values[2])
@@ -97,6 +101,26 @@ def act(folder: Folder, command: str, words: Sequence[str], given: Content) -> b
     output = execute(replica, command, values[1:], given, ids)
     folder[project] = save(replica)
     return output
+
+
+def take_in(folder: Folder, command: str, project: str, names: Sequence[str]) -> bytes:
+    """Takes in files one after another, and answers what each of them writes. Where one is refused, none is taken in."""
+    before = read_file(folder, project)
+    contents = [of_file(names, name, read_file, folder, name) for name in names]
+    replica = load(before)
+    call = replica.import_book if command == "import" else replica.receive
+    output = b"".join(of_file(names, name, call, content) for name, content in zip(names, contents))
+    folder[project] = save(replica)
+    return output
+
+
+def of_file(names: Sequence[str], name: str, call: Callable[..., bytes], *given: object) -> bytes:
+    """What a call gives for a file. A refusal says which one it is of, where there are several."""
+    try:
+        return call(*given)
+    except Fault as fault:
+        fault.file = name if len(names) > 1 else None
+        raise
 
 
 def execute(replica: Replica, command: str, values: Sequence, given: bytes, ids: Sequence) -> bytes:
@@ -111,8 +135,6 @@ def execute(replica: Replica, command: str, values: Sequence, given: bytes, ids:
         book, key = values[0]
         return replica.shown(book, key)
     calls = {
-        "import": replica.import_book,
-        "receive": replica.receive,
         "send": replica.send,
         "summary": replica.summary,
         "delta": replica.delta,

@@ -139,6 +139,28 @@ def refused() -> Rows:
     yield team.edits("ana", "MAT 1:1", b"\\v 1 a \\c 1"), b"made 3 ana\n"
 
 
+def several() -> Rows:
+    """Several files in a line."""
+    team = Team("ana", "ben")
+    team.folder |= {"first": FIRST, "bens": BENS, "clashing": CLASHING}
+    yield team.does("receive", "ana", "bens", "first", "bens"), b"new 1\nnew 2\nnew 0\n"
+    yield team.export("ana"), b"\\id MAT\n\\c 1\n\\v 1 At\n"
+    before = dict(team.folder)
+    yield team.does("receive", "ben", "first", "clashing", "bens"), b"fault 51 2 ana\nin clashing\n"
+    yield team.does("receive", "ben", "first", "clashing", "missing"), b"fault 120\nin missing\n"
+    yield team.does("receive", "ben", "clashing", "first"), b"fault 51 2 ana\nin first\n"
+    yield team.does("receive", "missing", "first", "absent"), b"fault 120\n"
+    yield team.does("receive", "bens", "first", "absent"), b"fault 120\nin absent\n"
+    yield team.does("receive", "bens", "first", "clashing"), b"fault 110\n"
+    yield dict(team.folder) == before, True
+    team.folder |= {"mat": BOOK, "luk": b"\\id LUK\n", "less": b"\\id MAT\n", "wrong": b"\\c 1"}
+    before = dict(team.folder)
+    yield team.does("import", "ben", "mat", "wrong"), b"fault 30\nin wrong\n"
+    yield dict(team.folder) == before, True
+    yield team.does("import", "ben", "mat", "luk", "less"), b"added 3\nadded 1\nadded 2\n"
+    yield team.export("ben"), b"\\id MAT\n"
+
+
 def awaiting() -> Rows:
     """Operations that come late."""
     for order in ([BENS, FIRST], [FIRST, BENS]):
@@ -268,5 +290,5 @@ def last_numbers() -> Rows:
     yield team.imports("ana", BOOK), b"fault 81\n"
 
 
-PARTS = [folded, received, imported, conflicting, empty_texts, equal_texts, refused, awaiting, late_marks]
-PARTS += [deltas, relayed, thinned, thinned_elsewhere, thinned_between, last_numbers]
+PARTS = [folded, received, imported, conflicting, empty_texts, equal_texts, refused, several, awaiting]
+PARTS += [late_marks, deltas, relayed, thinned, thinned_elsewhere, thinned_between, last_numbers]
