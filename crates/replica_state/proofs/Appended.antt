@@ -49,7 +49,7 @@ and_none true b h = h
 and_none false b h = refl
 
 -- where one of the two is none, the other is what is met
-one_of_both : (x y : Option Operation) → ((o : Operation) → y ≡ Some o → x ≡ None) → met x y ≡ option_or x y
+pub one_of_both : (x y : Option Operation) → ((o : Operation) → y ≡ Some o → x ≡ None) → met x y ≡ option_or x y
 one_of_both None y apart = refl
 one_of_both (Some x) None apart = refl
 one_of_both (Some x) (Some y) apart = cc (apart y refl)

@@ -59,7 +59,7 @@ module _ (held : List Operation) (book : List ℕ) (pieces : List Part) where
       by rest true h = refl
       by rest false h = rest h
 
-  heads_map : (q : KeyParts) (ks : List KeyParts) → is_there q (map head_of ks) ≡ list_any (λ k. is_eq (key_cmp q (head_of k))) ks
+  pub heads_map : (q : KeyParts) (ks : List KeyParts) → is_there q (map head_of ks) ≡ list_any (λ k. is_eq (key_cmp q (head_of k))) ks
   heads_map q [] = refl
   heads_map q (k ∷ ks) = ap (λ b. is_eq (key_cmp q (head_of k)) || b) (heads_map q ks)
 
@@ -86,7 +86,7 @@ module _ (held : List Operation) (book : List ℕ) (pieces : List Part) where
       ∙ (λ i. list_any (λ k. sym (same_key-cmp q k) i) (exported_keys held book))
       ∙ h
 
-  walked : (q : KeyParts) → ((is_there q (map head_of (keys_of held book)) || is_there q (keys_of held book))
+  pub walked : (q : KeyParts) → ((is_there q (map head_of (keys_of held book)) || is_there q (keys_of held book))
       || is_there q (map (λ p. p.key) pieces)) ≡ true → is_there q (walked_keys held book pieces) ≡ true
   walked q h =
       tested_rising key_cmp key_total key_exact q (map head_of (keys_of held book) ++ (keys_of held book ++ map (λ p. p.key) pieces))
@@ -101,8 +101,9 @@ module _ (held : List Operation) (book : List ℕ) (pieces : List Part) where
       regroup false b c = refl
 
   -- a key that is due has a picked text that is not empty, or a piece
-  due_walked : (q : KeyParts) → is_due held book pieces q ≡ true → is_there q (walked_keys held book pieces) ≡ true
-  due_walked q h = walked q (by (is_empty (picked_at held book q)) refl)
+  pub due_among : (q : KeyParts) → is_due held book pieces q ≡ true
+      → ((is_there q (map head_of (keys_of held book)) || is_there q (keys_of held book)) || is_there q (map (λ p. p.key) pieces)) ≡ true
+  due_among q h = by (is_empty (picked_at held book q)) refl
     where
       none : (t : List ℕ) → is_empty t ≡ true → (o : Option Part)
           → (not (same_bytes t (text_in o))
@@ -120,6 +121,9 @@ module _ (held : List Operation) (book : List ℕ) (pieces : List Part) where
           ≡ true
       by true e = or_right _ _ (piece_there q pieces (none (picked_at held book q) e (piece_of pieces q) h))
       by false e = or_left _ _ (exported_there q (picks_are_exported held book q e))
+
+  due_walked : (q : KeyParts) → is_due held book pieces q ≡ true → is_there q (walked_keys held book pieces) ≡ true
+  due_walked q h = walked q (due_among q h)
 
   -- a key without an edit is not due
   pub not_due : (q : KeyParts) → is_there q (due_keys held book pieces) ≡ false → is_due held book pieces q ≡ false

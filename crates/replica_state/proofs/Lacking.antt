@@ -5,7 +5,7 @@ use Rattle.std.specs.Option.{option_map}
 use Rattle.std.proofs.lemmas.Bool.{cond-true}
 use Rattle.op_core.specs.Ops.{Operation, agree}
 use Rattle.op_core.specs.Sets.{IsOpSet, get, differs, clash, join, AreHeld}
-use Rattle.op_core.specs.Thinned.{is_legal, thin_where, is_thinned_in, ArePast}
+use Rattle.op_core.specs.Thinned.{all_full, is_legal, thin_where, is_thinned_in, ArePast}
 use Rattle.op_core.proofs.Fresh.{none_new, nothing_fresh, held_without_clash}
 use Rattle.op_core.proofs.TwoSteps.{two_steps, past_between}
 use Rattle.replica_state.specs.declared.fault.ReceiveFault.{ReceiveFault}
@@ -13,6 +13,7 @@ use Rattle.replica_state.specs.declared.fault.ReceiveFault.TheVariants.{Memory, 
 use Rattle.replica_state.specs.Receives.{lacked, RefusesReceive}
 use Rattle.replica_state.specs.States.{State, IsState}
 use Rattle.replica_state.specs.Steps.{step, received, with_ops, Receive, Received}
+use Rattle.replica_state.proofs.Leaving.{none_left}
 
 -- what is copied so far, and the walk over what is left of the bundle
 pub record IsCopied (held all new walk : List Operation) : Type 0 where
@@ -72,3 +73,14 @@ not_refused held bundle (Clash id) r some h = never (sym (held_without_clash hel
   where
     never : None ≡ Some id → ⊥
     never e = cc e
+
+-- where nothing is lacked, and none of the bundle is thinned, a receiving changes nothing
+pub nothing_received : (s : State) (bundle : List Operation) → IsState s → IsOpSet bundle → clash s.held bundle ≡ None
+    → lacked s.held bundle ≡ [] → all_full bundle ≡ true → with_ops s bundle ≡ s
+nothing_received s bundle h b none e full = λ i. record { name = s.name; held = whole i }
+  where
+    whole : join s.held bundle ≡ s.held
+    whole =
+        (two_steps s.held bundle h.set.rising b.rising none).joins
+        ∙ ap (λ (ops : List Operation). thin_where (is_thinned_in bundle) (join s.held ops)) e
+        ∙ sym (none_left s.held bundle full)

@@ -15,3 +15,9 @@ pub mod Leaving
 pub mod Thinning
 pub mod ThinnedRuns
 pub mod World
+pub mod Changes
+pub mod SinceLaws
+pub mod SinceRuns
+pub mod SinceTwice
+pub mod SinceImports
+pub mod SinceTexts

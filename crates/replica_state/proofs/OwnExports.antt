@@ -53,7 +53,7 @@ text_has_fit o h full = by o.text h.text full
     by None h e = cc e
     by (Some t) h e = h.fits
 
-none_pass : (p : KeyParts → Bool) (ks : List KeyParts) → ((q : KeyParts) → p q ≡ false) → filter p ks ≡ []
+pub none_pass : (p : KeyParts → Bool) (ks : List KeyParts) → ((q : KeyParts) → p q ≡ false) → filter p ks ≡ []
 none_pass p [] f = refl
 none_pass p (k ∷ ks) f = (λ i. cond (f k i) (k ∷ filter p ks) (filter p ks)) ∙ none_pass p ks f
 
@@ -75,7 +75,7 @@ verse_there (p ∷ pieces) chapter key v h = by (λ g. verse_there pieces chapte
     by rest false e h = ap (λ b. is_verse_of chapter p.key || b) (rest h) ∙ or_true (is_verse_of chapter p.key)
 
 -- no number of a set is above the last one
-numbers_left : (ops : List Operation) → AllByRecursion IsOperation ops → greatest_number ops ≤ 1000000000000000
+pub numbers_left : (ops : List Operation) → AllByRecursion IsOperation ops → greatest_number ops ≤ 1000000000000000
 numbers_left [] all = omega arith
 numbers_left (o ∷ ops) all =
     let id = and_parts (is_number o.id.number) (is_name o.id.name) all.0.id in
@@ -118,7 +118,7 @@ module _ (s : State) (state : IsState s) (book : List ℕ) (begun : list_any (in
       (joins_keep_their_book book (picked_at s.held book book_head) (later_texts s.held book) begins (texts_fit s.held book state.set)
       (texts_rise s.held book (picked_at s.held book book_head)))
 
-  named : book_in file ≡ Ok book
+  pub named : book_in file ≡ Ok book
   named = book_only file (book_in file) refl book code headed
 
   -- the pieces are what is picked
@@ -155,7 +155,7 @@ module _ (s : State) (state : IsState s) (book : List ℕ) (begun : list_any (in
       in
       verse_there (pieces_of file) q.chapter o.0.segment.key b.1 text
 
-  none_due : (q : KeyParts) → is_due s.held book (pieces_of file) q ≡ false
+  pub none_due : (q : KeyParts) → is_due s.held book (pieces_of file) q ≡ false
   none_due q =
       (λ i. not (same i) || loses_line s.held book (pieces_of file) q) ∙ by (wants_chapter_line s.held (segment book q)) refl
     where

@@ -14,3 +14,4 @@ pub mod Sets
 pub mod Bytes
 pub mod Calls
 pub mod Reads
+pub mod SinceEvents

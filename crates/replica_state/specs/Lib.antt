@@ -3,9 +3,11 @@ pub mod Receives
 pub mod Edits
 pub mod Imports
 pub mod Steps
+pub mod Since
 pub mod Runs
 pub mod Laws
 pub mod ImportLaws
+pub mod SinceLaws
 pub mod DeltaLaws
 pub mod ThinLaws
 pub mod World

@@ -125,7 +125,12 @@ impl Replica {
     }
 
     // The ids that the segment shows, of those that are given.
-    fn given_ids(&self, book: Book, key: Key, given: &[OpId]) -> Result<Vec<OpId>, AllocError>
+    pub(crate) fn given_ids(
+        &self,
+        book: Book,
+        key: Key,
+        given: &[OpId],
+    ) -> Result<Vec<OpId>, AllocError>
         ensures { IfOk result (λ ids.
             ids.items ≡ given_ids self.now.held (segment book key) given.now) }
     {

@@ -2,6 +2,8 @@ ghost use Rattle.std.specs.Prelude.{◌≡◌};
 ghost use Rattle.replica_state.specs.declared.fault.EditFault.TheVariants as edit;
 ghost use Rattle.replica_state.specs.declared.fault.ImportFault.TheVariants as import;
 ghost use Rattle.replica_state.specs.declared.fault.ReceiveFault.TheVariants as receiving;
+ghost use Rattle.replica_state.specs.declared.fault.SinceFault.TheVariants as since;
+ghost use Rattle.replica_state.specs.Since.{of_receiving};
 
 use op_core::OpId;
 use std::alloc::{AllocError, AllocFailed};
@@ -48,6 +50,23 @@ pub enum ImportFault {
     /// The file does not begin as a book does.
     #[error("{0}")]
     BadFile(BookFault),
+    /// The number of the last edit would be above 10^15.
+    #[error("no numbers are left for the edits")]
+    NumbersUsedUp,
+}
+
+/// Why a file was not imported since a base. The replica is then unchanged.
+#[derive(Clone, Copy, Debug, PartialEq, Eq, Error)]
+pub enum SinceFault {
+    /// A growth was refused.
+    #[error("out of memory")]
+    Memory,
+    /// The file does not begin as a book does.
+    #[error("{0}")]
+    BadFile(BookFault),
+    /// The replica and the base have operations of this id that do not agree.
+    #[error("two operations that differ have one id: {} {}", .0.number, .0.name.text())]
+    Clash(OpId),
     /// The number of the last edit would be above 10^15.
     #[error("no numbers are left for the edits")]
     NumbersUsedUp,
@@ -106,5 +125,32 @@ impl From<BookFault> for ImportFault {
 
     fn from(fault: BookFault) -> ImportFault {
         ImportFault::BadFile(fault)
+    }
+}
+
+impl From<AllocError> for SinceFault {
+    ghost from_gives = { λ _ fault. fault ≡ since.Memory };
+
+    fn from(_: AllocError) -> SinceFault {
+        SinceFault::Memory
+    }
+}
+
+impl From<BookFault> for SinceFault {
+    ghost from_gives = { λ from fault. fault ≡ since.BadFile from };
+
+    fn from(fault: BookFault) -> SinceFault {
+        SinceFault::BadFile(fault)
+    }
+}
+
+impl From<ReceiveFault> for SinceFault {
+    ghost from_gives = { λ from fault. fault ≡ of_receiving from };
+
+    fn from(fault: ReceiveFault) -> SinceFault {
+        match fault {
+            ReceiveFault::Memory => SinceFault::Memory,
+            ReceiveFault::Clash(id) => SinceFault::Clash(id),
+        }
     }
 }

@@ -56,7 +56,7 @@ impl Replica {
     }
 
     // Whether numbers up to the last one are left for so many operations more.
-    fn has_numbers(&self, count: usize) -> bool
+    pub(crate) fn has_numbers(&self, count: usize) -> bool
         ensures { result ≡ edits.has_numbers self.now.held count }
     {
         let greatest = self.set.greatest_number();
@@ -81,7 +81,11 @@ impl Replica {
 
     // The book's keys with an operation, the heads of their chapters, and the keys of the pieces,
     // rising, each once.
-    fn walked_keys(&self, book: Book, pieces: &[Piece<'_>]) -> Result<Vec<Key>, AllocError>
+    pub(crate) fn walked_keys(
+        &self,
+        book: Book,
+        pieces: &[Piece<'_>],
+    ) -> Result<Vec<Key>, AllocError>
         ensures { let walked = imports.walked_keys self.now.held book (parts_of pieces.now) in
             IfOk result (λ keys. keys.items ≡ walked) }
     {
@@ -113,7 +117,12 @@ impl Replica {
     }
 
     // Whether an import edits the key.
-    fn is_due(&self, book: Book, pieces: &[Piece<'_>], key: Key) -> Result<bool, AllocError>
+    pub(crate) fn is_due(
+        &self,
+        book: Book,
+        pieces: &[Piece<'_>],
+        key: Key,
+    ) -> Result<bool, AllocError>
         requires rising { IsTrue (rises_by key_cmp (λ p. p.key) pieces.now) }
         ensures { IfOk result (λ due.
             due ≡ imports.is_due self.now.held book (parts_of pieces.now) key) }

@@ -4,6 +4,7 @@ ghost use Rattle.replica_state.specs.Laws as laws;
 pub mod calls;
 pub mod deltas;
 pub mod imports;
+pub mod since;
 pub mod thinning;
 pub mod worlds;
 

@@ -9,8 +9,9 @@ pub mod laws;
 mod pieces;
 mod receive;
 mod replica;
+mod since;
 
-pub use fault::{EditFault, ImportFault, ReceiveFault};
+pub use fault::{EditFault, ImportFault, ReceiveFault, SinceFault};
 pub use replica::Replica;
 
 #[cfg(test)]

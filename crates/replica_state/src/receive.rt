@@ -42,7 +42,7 @@ impl Replica {
 
     // The operations of a bundle that the replica lacks, copied out of the bundle's bytes, rising.
     // Nothing grows before the first of them.
-    fn copy_lacked(&self, bundle: &Bundle<'_>) -> Result<Vec<Op>, ReceiveFault>
+    pub(crate) fn copy_lacked(&self, bundle: &Bundle<'_>) -> Result<Vec<Op>, ReceiveFault>
         ensures state { IsState self.now }
         ensures set { sets.IsOpSet bundle.now }
         ensures legal { IsTrue (is_legal bundle.now) }

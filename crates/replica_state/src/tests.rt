@@ -4,6 +4,7 @@ mod deltas;
 mod editing;
 mod player;
 mod receiving;
+mod since;
 mod thinning;
 
 // 1 ana on MAT 0, and 2 ana on MAT 1:1; neither names anything.

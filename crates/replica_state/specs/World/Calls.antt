@@ -1,8 +1,13 @@
 -- How the calls of replicas are the events of a world (this project's own rule).
-use Rattle.std.specs.Prelude.{◌≡◌, ◌≢◌, ◌<◌, ◌^◌, ℕ, false, List, [], ◌∷◌, ◌++◌}
+use Rattle.std.specs.Prelude.{◌≡◌, ◌≢◌, ◌<◌, ◌^◌, ℕ, true, false, List, [], ◌∷◌, ◌++◌, map}
 use Rattle.std.specs.Prelude.{length, Result, Ok, Err, Some, slice_get, MatchResult}
 use Rattle.std.specs.List.{AllByRecursion}
 use Rattle.usfm_ref.specs.Books.{same_bytes}
+use Rattle.usfm_ref.specs.Keys.{KeyParts}
+use Rattle.usfm_ref.specs.Segments.{segment}
+use Rattle.verse_cut.specs.Pieces.{Part, pieces_of}
+use Rattle.verse_cut.specs.Reading.{book_in}
+use Rattle.op_core.specs.Export.{has_book}
 use Rattle.op_core.specs.Ids.{Id}
 use Rattle.op_core.specs.Ops.{Operation}
 use Rattle.op_core.specs.Thinned.{all_full}
@@ -15,7 +20,10 @@ use Rattle.replica_state.specs.declared.fault.ReceiveFault.{ReceiveFault}
 use Rattle.replica_state.specs.declared.fault.ReceiveFault.TheVariants.{Clash}
 use Rattle.replica_state.specs.States.{State}
 use Rattle.replica_state.specs.Steps.{Reply}
-use Rattle.replica_state.specs.World.{World, Event, Receives, IsWithin, after, happens, replica}
+use Rattle.replica_state.specs.Imports.{piece_at}
+use Rattle.replica_state.specs.Steps.{with_ops}
+use Rattle.replica_state.specs.Since.{seen_ids, changed_keys}
+use Rattle.replica_state.specs.World.{World, Event, Receives, EditsOver, IsWithin, after, happens, replica}
 use Rattle.replica_state.specs.World.{replica_of}
 use Rattle.replica_state.specs.World.Invisible.{reply}
 
@@ -45,6 +53,32 @@ pub record IsReceiving (bundle : List Operation) (s t : State) (r : Reply) : Typ
       IsIn (happens w (Receives s.name k)) t
   pub reply : (w : World) (k : ℕ) → IsIn w s → slice_get w.bundles k ≡ Some bundle →
       reply w (Receives s.name k) ≡ Some r
+
+-- the edits over given ids that an import since a base is, of some keys
+abbrev pub edits_since : List ℕ → List Operation → List Operation → List ℕ → List Part → List KeyParts → List Event
+edits_since name held base book pieces keys =
+    map (λ key. EditsOver name (segment book key) (piece_at pieces key)
+    (seen_ids held base (segment book key))) keys
+
+-- the events of an import since a base, which is named by its place among the bundles that were made: its receiving, and then an
+-- edit over given ids for each key that was changed
+abbrev pub since_events : State → ℕ → List Operation → List ℕ → List Part → List Event
+since_events s k base book pieces =
+    Receives s.name k ∷ edits_since s.name (with_ops s base).held base book pieces
+    (changed_keys (with_ops s base).held base book pieces)
+
+-- the world after some events, of which the first stands first
+abbrev pub all_happen : World → List Event → World
+all_happen w [] = w
+all_happen w (e ∷ later) = all_happen (happens w e) later
+
+-- In each world in which the replica stands and the base was made, the events of the import since it make of the replica what the
+-- call did. The base has the file's book.
+abbrev pub IsImportingSince : List Operation → List ℕ → State → State → Type 0
+IsImportingSince base file s t =
+    (w : World) (k : ℕ) (book : List ℕ) → IsIn w s → slice_get w.bundles k ≡ Some base →
+    book_in file ≡ Ok book → has_book base book ≡ true →
+    IsIn (all_happen w (since_events s k base book (pieces_of file))) t
 
 -- In no world in which the replica stands, and the bundle was made, is its receiving refused as a clash.
 abbrev pub NeverClashes : List Operation → State → Result ℕ ReceiveFault → Type 0

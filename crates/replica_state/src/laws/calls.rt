@@ -1,6 +1,6 @@
 //! Laws of calls: each call of a replica is an event of every world in which the replica stands. Each
 //! function makes the call that it is named after, and its contract says which event that is.
-ghost use Rattle.std.specs.Prelude.{◌≡◌, ◌≢◌, ◌∷◌, Err, IfOk};
+ghost use Rattle.std.specs.Prelude.{◌≡◌, ◌≢◌, ◌∷◌, Err, IfOk, OnErr, OnOk};
 ghost use Rattle.usfm_ref.specs.Segments.{segment};
 ghost use Rattle.op_core.specs.Lists.{is_held};
 ghost use Rattle.bundle_codec.specs.Summaries.{outside};
@@ -8,7 +8,7 @@ ghost use Rattle.replica_state.specs.Steps.{Edited, Imported, Received, Thin, Th
 ghost use Rattle.replica_state.specs.World as world;
 ghost use Rattle.replica_state.specs.World.Calls as calls;
 
-use crate::fault::{EditFault, ImportFault, ReceiveFault};
+use crate::fault::{EditFault, ImportFault, ReceiveFault, SinceFault};
 use crate::replica::Replica;
 use bundle_codec::{Bundle, Summary, WholeFault, decode_whole};
 use op_core::{OpId, ReplicaName};
@@ -71,6 +71,23 @@ pub fn import(replica: &mut Replica, file: &str) -> Result<u64, ImportFault>
         result ≡ Err ImportFault.Memory → calls.IsEvent e replica.old replica.new }
 {
     replica.import(file)
+}
+
+/// A call of `import_since` that is not refused is the event of the receiving of its base, and then that
+/// of an edit over given ids for each key that was changed.
+///
+/// # Errors
+/// Those of `import_since`.
+pub fn import_since(replica: &mut Replica, base: &Bundle<'_>, file: &str) -> Result<u64, SinceFault>
+    ensures events { OnOk result
+        (calls.IsImportingSince base.now file.now replica.old replica.new) }
+    ensures refused { let e = world.FindsNoMemory replica.old.name in
+        OnErr result (calls.IsEvent e replica.old replica.new) }
+{
+    // The name and the operations show that the replica and the base are within their rules.
+    let _ = replica.name();
+    let _ = base.ops();
+    replica.import_since(base, file)
 }
 
 /// A call of `thin` is the event of a thinning.

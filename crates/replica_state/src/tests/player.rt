@@ -44,6 +44,8 @@ pub(crate) enum Step<'a> {
     Whole(u64),
     // A file, and how many edits it takes.
     Import(&'a str, Result<u64, ImportFault>),
+    // The base and the file of an import since it, and how many edits it takes.
+    Since(&'a [u8], &'a str, u64),
     // A segment's text.
     Edit(&'a str, &'a str, Made<'a>),
     // A segment's text, and the ids that it is over.
@@ -77,6 +79,16 @@ pub(crate) fn begun(alloc: Global, name: &str) -> Result<Replica, Fail> {
 pub(crate) fn received(alloc: Global, replica: &mut Replica, bytes: &[u8]) -> Result<u64, Fail> {
     let (bundle, _) = decode(alloc, bytes)?;
     Ok(replica.receive(&bundle)?)
+}
+
+fn imported_since(
+    alloc: Global,
+    replica: &mut Replica,
+    base: &[u8],
+    file: &str,
+) -> Result<u64, Fail> {
+    let (base, _) = decode(alloc, base)?;
+    Ok(replica.import_since(&base, file)?)
 }
 
 fn clashes(alloc: Global, replica: &mut Replica, bytes: &[u8], id: &str) -> Result<bool, Fail> {
@@ -180,6 +192,7 @@ fn does(alloc: Global, own: &mut Replica, other: &Replica, step: &Step<'_>) -> R
         Step::Lacks(count) => lacks(alloc, own, other, count),
         Step::Whole(count) => Ok(received(alloc, own, &other.bundle(alloc)?)? == count),
         Step::Import(file, wanted) => Ok(own.import(file) == wanted),
+        Step::Since(base, file, count) => Ok(imported_since(alloc, own, base, file)? == count),
         Step::Edit(at, text, wanted) => edits(own, at, text, wanted),
         Step::Over(at, text, over, wanted) => edits_over(alloc, own, at, text, over, wanted),
         Step::Thin(count) => Ok(own.thin() == count),

@@ -1,0 +1,79 @@
+-- An import since a base as events of a world.
+use Rattle.std.proofs.Common.{◌≡◌, ◌≢◌, ℕ, true, List, [], ◌∷◌, Option, Some, None, Result, Ok, Err, refl, sym, ap, subst, ◌∙◌, OnOk}
+use Rattle.std.specs.Prelude.{slice_get}
+use Rattle.usfm_ref.specs.Keys.{KeyParts}
+use Rattle.usfm_ref.specs.Segments.{segment}
+use Rattle.verse_cut.specs.Pieces.{Part, pieces_of}
+use Rattle.op_core.specs.Ids.{Id}
+use Rattle.op_core.specs.Ops.{Operation}
+use Rattle.op_core.specs.Sets.{IsOpSet, clash}
+use Rattle.replica_state.specs.declared.fault.EditFault.{EditFault}
+use Rattle.replica_state.specs.declared.fault.SinceFault.{SinceFault}
+use Rattle.replica_state.specs.declared.fault.SinceFault.TheVariants.{Memory}
+use Rattle.replica_state.specs.States.{State, IsState}
+use Rattle.replica_state.specs.Edits.{edit_over_op}
+use Rattle.replica_state.specs.Imports.{piece_at}
+use Rattle.replica_state.specs.Steps.{Command, Receive, EditOver, received, edited, step, with_ops}
+use Rattle.replica_state.specs.Runs.{after}
+use Rattle.replica_state.specs.Since.{SinceStep, seen_ids, changed_keys, imported_since}
+use Rattle.replica_state.specs.SinceLaws.{edits_over}
+use Rattle.replica_state.specs.World as world
+use Rattle.replica_state.specs.World.{World, replica, steps, with_held}
+use Rattle.replica_state.specs.World.Calls.{IsIn, IsImportingSince, edits_since, all_happen}
+use Rattle.replica_state.proofs.SinceRuns.{is_receiving_and_edits}
+use Rattle.replica_state.proofs.World.Moves.{held_same}
+
+-- a step leaves a replica its name
+name_edited : (s : State) (r : Result Operation EditFault) → (edited s r).after.name ≡ s.name
+name_edited s (Ok o) = refl
+name_edited s (Err fault) = refl
+
+name_received : (s : State) (bundle : List Operation) (c : Option Id) → (received s bundle c).after.name ≡ s.name
+name_received s bundle None = refl
+name_received s bundle (Some id) = refl
+
+-- where a replica stands, it stands after its step
+stands : (w : World) (s : State) (c : Command) → (step s c).after.name ≡ s.name → IsIn w s → IsIn (steps w s.name c) (step s c).after
+stands w s c named is =
+    let ops = (step (replica w s.name) c).after.held in
+    let held : (with_held w s.name ops).held (step s c).after.name ≡ (step s c).after.held =
+    ap (with_held w s.name ops).held named ∙ held_same w s.name ops ∙ ap (λ (x : State). (step x c).after.held) is in
+    λ i. record { name = (step s c).after.name; held = held i }
+
+module _ (held base : List Operation) (book : List ℕ) (pieces : List Part) where
+  edits_happen : (keys : List KeyParts) (w : World) (s : State) → IsIn w s
+      → IsIn (all_happen w (edits_since s.name held base book pieces keys)) (after s (edits_over held base book pieces keys))
+  edits_happen [] w s is = is
+  edits_happen (key ∷ keys) w s is =
+      let c : Command = EditOver (segment book key) (piece_at pieces key) (seen_ids held base (segment book key)) in
+      let u : State = (step s c).after in
+      let named : u.name ≡ s.name = name_edited s (edit_over_op s (segment book key) (piece_at pieces key) (seen_ids held base (segment book key))) in
+      subst (λ (n : List ℕ). IsIn (all_happen (steps w s.name c) (edits_since n held base book pieces keys))
+      (after u (edits_over held base book pieces keys))) named
+      (edits_happen keys (steps w s.name c) u (stands w s c named is))
+
+module _ (s : State) (base : List Operation) (file : List ℕ) (state : IsState s) (set : IsOpSet base) where
+  import_happens : (count : ℕ) → (imported_since s base file).answer ≡ Ok count → IsImportingSince base file s (imported_since s base file).after
+  import_happens count answered w k book is made named has =
+      let pieces = pieces_of file in
+      let t : State = with_ops s base in
+      let keys = changed_keys t.held base book pieces in
+      let c : Command = Receive base in
+      let u : State = (step s c).after in
+      let name : u.name ≡ s.name = name_received s base (clash s.held base) in
+      let first : World = steps w s.name c in
+      let done : IsIn (all_happen first (edits_since s.name t.held base book pieces keys)) (after u (edits_over t.held base book pieces keys)) =
+      subst (λ (n : List ℕ). IsIn (all_happen first (edits_since n t.held base book pieces keys)) (after u (edits_over t.held base book pieces keys)))
+      name (edits_happen t.held base book pieces keys first u (stands w s c name is)) in
+      subst (λ (r : Option (List Operation)). IsIn (all_happen (world.received w s.name r) (edits_since s.name t.held base book pieces keys))
+      (imported_since s base file).after) (sym made)
+      (subst (λ (x : State). IsIn (all_happen first (edits_since s.name t.held base book pieces keys)) x)
+      (is_receiving_and_edits s base file book count state set named has answered).1 done)
+
+  pub importing : (t : State) (r : Result ℕ SinceFault) → (r ≢ Err Memory → imported_since s base file ≡ record { after = t; answer = r })
+      → OnOk r (IsImportingSince base file s t)
+  importing t (Err fault) h = tt
+  importing t (Ok count) h =
+      let is : imported_since s base file ≡ record { after = t; answer = Ok count } = h (λ e. cc e) in
+      subst (IsImportingSince base file s) (ap (λ (x : SinceStep). x.after) is)
+      (import_happens count (ap (λ (x : SinceStep). x.answer) is))

@@ -1,0 +1,5 @@
+use Rattle.replica_state.proofs.SinceRuns.{is_receiving_and_edits}
+use Rattle.replica_state.proofs.laws.since.is_receiving_and_edits.Goals as goal
+
+pub returns : goal.returns
+returns c = is_receiving_and_edits

@@ -1,0 +1,28 @@
+use Rattle.std.proofs.Common.{◌≡◌, ◌+◌, ◌++◌, ◌∷◌, [], ap, arith, ◌∙◌}
+use Rattle.std.proofs.lemmas.List.{length-take-le}
+use Rattle.usfm_ref.specs.Segments.{segment}
+use Rattle.verse_cut.specs.Views.{parts_of}
+use Rattle.op_core.specs.NextIds.{next_number}
+use Rattle.replica_state.specs.Edits.{edit_with}
+use Rattle.replica_state.specs.Imports.{piece_at}
+use Rattle.replica_state.specs.Since.{seen_ids}
+use Rattle.replica_state.specs.States.{State}
+use Rattle.replica_state.proofs.Changes.{change_at, changes_more}
+use Rattle.replica_state.proofs.replica.Replica.changes_of.Goals as goal
+
+pub loop-key-preserved : goal.loop-key-preserved
+loop-key-preserved c =
+    let s = c.args.self.now in
+    let base = c.args.was.now.held in
+    let key = c.key-item.result in
+    let numbered : c.loop-key.number + 1 ≡ next_number s.held + c.loop-key.key-index = omega (arith, c.loop-key.invariant.counted) in
+    let made : c.in_ok-edit.edit ≡ change_at s base c.args.book (parts_of c.args.pieces.now) (c.loop-key.number + 1) key =
+    c.in_ok-edit.ensures ∙ ap (λ (t : State). edit_with (record { number = c.loop-key.number + 1; name = t.name }) (segment c.args.book key)
+    (seen_ids s.held base (segment c.args.book key)) (piece_at (parts_of c.args.pieces.now) key)) c.self.view_is in
+    record {
+      counted = omega (arith, c.loop-key.invariant.counted);
+      made = c.in_ok-push.ensures.items ∙ (λ i. c.loop-key.invariant.made i ++ made i ∷ [])
+          ∙ changes_more s base c.args.book (parts_of c.args.pieces.now) (next_number s.held)
+          (c.loop-key.number + 1) c.args.keys.now c.loop-key.key-index key c.loop-key-test.true c.key-item.is
+          (length-take-le c.loop-key.key-index c.args.keys.now (omega arith)) numbered;
+    }

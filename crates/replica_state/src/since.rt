@@ -1,0 +1,305 @@
+// Imports of a file that was changed since a bundle.
+ghost use Rattle.std.specs.Prelude.{◌≡◌, ◌≢◌, ◌<◌, Err, IfOk, IfErr, IsTrue, OnErr, length, map};
+ghost use Rattle.std.specs.List.{list_any};
+ghost use Rattle.usfm_ref.specs.Books.{same_bytes};
+ghost use Rattle.usfm_ref.specs.Keys.{key_cmp};
+ghost use Rattle.usfm_ref.specs.Rising.{rises_by};
+ghost use Rattle.usfm_ref.specs.Segments.{segment};
+ghost use Rattle.verse_cut.specs.Reading.{book_in, text_fits};
+ghost use Rattle.verse_cut.specs.Views.{parts_of};
+ghost use Rattle.op_core.specs.NextIds.{greatest_number, next_number};
+ghost use Rattle.op_core.specs.Ops.{own_text};
+ghost use Rattle.op_core.specs.Shown.{last, text_in};
+ghost use Rattle.replica_state.specs.Edits as edits;
+ghost use Rattle.replica_state.specs.Imports as imports;
+ghost use Rattle.replica_state.specs.Since as since;
+ghost use Rattle.replica_state.specs.States.{IsState};
+
+use crate::fault::SinceFault;
+use crate::pieces::piece_at;
+use crate::replica::Replica;
+use bundle_codec::Bundle;
+use op_core::{Op, OpId, OpSet};
+use std::alloc::AllocError;
+use std::mem;
+use usfm_ref::{Book, Key};
+use verse_cut::{Piece, book_of, cut};
+
+impl Replica {
+    /// Takes in what was changed in a file since it was written, and says how many edits that is. The
+    /// base is the bundle that the file was written from, as its book's export.
+    ///
+    /// The base is received first. Then, for each key whose piece in the file differs from what the
+    /// base picks there, absent counting as empty, and for the head of a chapter that would lose its
+    /// line as in an import, the segment gets the file's piece, in the order of keys. The edit names
+    /// what the segment shows of that which stood in the file, and no other id: the texts that came
+    /// in since stay shown beside it. There is none where nothing is left to name and the new text is
+    /// shown already.
+    ///
+    /// # Errors
+    /// - `BadFile` where the file does not begin with at most one U+FEFF, `\id`, a blank, and a
+    ///   book's code that ends.
+    /// - `Clash` with the least id under which the replica and the base have operations that do not
+    ///   agree.
+    /// - `NumbersUsedUp` where an edit is due and the last one's number would be above 10^15.
+    /// - `Memory` where a growth was refused.
+    ///
+    /// The first of them is answered, and the replica is then unchanged: it has not received the base
+    /// either. A file that is no book's takes no memory.
+    pub fn import_since(&mut self, base: &Bundle<'_>, file: &str) -> Result<u64, SinceFault>
+        ensures step { result ≢ Err SinceFault.Memory →
+            since.imported_since self.old base.now file.now
+            ≡ record { after = self.new; answer = result } }
+        ensures bad_file { IfErr (book_in file.now)
+            (λ fault. result ≡ Err (SinceFault.BadFile fault)) }
+        ensures err { OnErr result (self.new ≡ self.old) }
+    {
+        let book = book_of(file)?;
+        let lacked = self.copy_lacked(base)?;
+        let was = self.replica_of(base)?;
+        let pieces = cut(self.alloc, file)?;
+        if lacked.is_empty() && base.is_full() {
+            // Nothing is to be received, and so nothing to be undone where the edits are refused.
+            return self.change(&was, book, &pieces);
+        }
+        let mut after = self.copy()?;
+        after.receive(base)?;
+        let count = after.change(&was, book, &pieces)?;
+        self.replace_by(after);
+        Ok(count)
+    }
+
+    // Puts another replica in its place.
+    fn replace_by(&mut self, after: Replica)
+        ensures { self.new ≡ after }
+    {
+        let _ = mem::replace(self, after);
+    }
+
+    // A replica of the same name that holds the same.
+    fn copy(&self) -> Result<Replica, AllocError>
+        ensures { IfOk result (λ copy. copy ≡ self.now) }
+    {
+        let mut ops = Vec::new(self.alloc);
+        for op in self.set.iter() {
+            ops.push(self.copy_op(op)?)?;
+        }
+        let mut set = OpSet::new(self.alloc);
+        set.join_rising(ops)?;
+        Ok(self.holding(set))
+    }
+
+    // A replica of the same name that holds what a bundle has.
+    fn replica_of(&self, bundle: &Bundle<'_>) -> Result<Replica, AllocError>
+        ensures { IfOk result (λ r. r ≡ record { name = self.now.name; held = bundle.now }) }
+    {
+        Ok(self.holding(bundle.to_set(self.alloc)?))
+    }
+
+    // A replica of the same name that holds a set.
+    fn holding(&self, set: OpSet) -> Replica
+        ensures { result ≡ record { name = self.now.name; held = set } }
+    {
+        // The name's text and the set's operations show that both are within their rules.
+        let name = self.name;
+        let _ = name.text();
+        let _ = set.iter();
+        Replica {
+            alloc: self.alloc,
+            name,
+            set,
+        }
+    }
+
+    // A copy of an operation.
+    fn copy_op(&self, op: &Op) -> Result<Op, AllocError>
+        ensures { IfOk result (λ copy. copy ≡ op.now) }
+    {
+        let replaced = op.replaced().to_vec(self.alloc)?;
+        let (id, book, key) = (op.id(), op.book(), op.key());
+        match op.text() {
+            None => Ok(Op::thinned(id, book, key, replaced)),
+            Some(text) => {
+                let text = String::from_str(self.alloc, text)?;
+                Ok(Op::new(id, book, key, replaced, text))
+            }
+        }
+    }
+
+    // Makes the edits of what was changed in a file, and says how many they are.
+    fn change(&mut self, was: &Replica, book: Book, pieces: &[Piece<'_>]) -> Result<u64, SinceFault>
+        requires rising { IsTrue (rises_by key_cmp (λ p. p.key) pieces.now) }
+        requires fits { (key : _) →
+            IsTrue (text_fits book key (imports.piece_at (parts_of pieces.now) key)) }
+        ensures step { let keys = since.changed_keys self.old.held was.now.held book (parts_of pieces.now) in
+            result ≢ Err SinceFault.Memory →
+            since.changed self.old self.old was.now.held book (parts_of pieces.now) keys
+            ≡ record { after = self.new; answer = result } }
+        ensures err { OnErr result (self.new ≡ self.old) }
+    {
+        let keys = self.changed_keys(was, book, pieces)?;
+        if !self.has_numbers(keys.len()) {
+            return Err(SinceFault::NumbersUsedUp);
+        }
+        let edits = self.changes_of(was, book, pieces, &keys)?;
+        Ok(self.join_new(edits)?)
+    }
+
+    // The keys that were changed in a file, rising.
+    fn changed_keys(
+        &self,
+        was: &Replica,
+        book: Book,
+        pieces: &[Piece<'_>],
+    ) -> Result<Vec<Key>, AllocError>
+        requires rising { IsTrue (rises_by key_cmp (λ p. p.key) pieces.now) }
+        ensures { let keys = since.changed_keys self.now.held was.now.held book (parts_of pieces.now) in
+            IfOk result (λ changed. changed.items ≡ keys) }
+    {
+        let mut changed = Vec::new(self.alloc);
+        let keys = self.walked_keys(book, pieces)?;
+        for key in &keys {
+            if self.is_changed(was, book, pieces, *key)? {
+                changed.push(*key)?;
+            }
+        }
+        Ok(changed)
+    }
+
+    // Whether a key was changed in a file.
+    fn is_changed(
+        &self,
+        was: &Replica,
+        book: Book,
+        pieces: &[Piece<'_>],
+        key: Key,
+    ) -> Result<bool, AllocError>
+        requires rising { IsTrue (rises_by key_cmp (λ p. p.key) pieces.now) }
+        ensures { IfOk result (λ is.
+            is ≡ since.is_changed self.now.held was.now.held book (parts_of pieces.now) key) }
+    {
+        if !was.is_due(book, pieces, key)? {
+            return Ok(false);
+        }
+        let seen = self.seen_ids(was, book, key)?;
+        if !seen.is_empty() {
+            return Ok(true);
+        }
+        Ok(!self.shows_text(book, key, piece_at(pieces, key))?)
+    }
+
+    // The ids that a segment shows, of those whose text stood in a file that another replica wrote.
+    fn seen_ids(&self, was: &Replica, book: Book, key: Key) -> Result<Vec<OpId>, AllocError>
+        ensures { IfOk result (λ ids.
+            ids.items ≡ since.seen_ids self.now.held was.now.held (segment book key)) }
+    {
+        let stood = was.stood_ids(book, key)?;
+        self.given_ids(book, key, &stood)
+    }
+
+    // The ids that a segment shows with the text of the greatest of them.
+    fn stood_ids(&self, book: Book, key: Key) -> Result<Vec<OpId>, AllocError>
+        ensures { IfOk result (λ ids. ids.items ≡ since.stood_ids self.now.held (segment book key)) }
+    {
+        let shown = self.shown(self.alloc, book, key)?;
+        let text = greatest_text(&shown);
+        let mut ids = Vec::new(self.alloc);
+        for op in &shown {
+            if is_text(op, text) {
+                ids.push(op.id())?;
+            }
+        }
+        Ok(ids)
+    }
+
+    // Whether an operation that the segment shows has the text.
+    fn shows_text(&self, book: Book, key: Key, text: &str) -> Result<bool, AllocError>
+        ensures { IfOk result (λ shows.
+            shows ≡ since.shows_text self.now.held (segment book key) text.now) }
+    {
+        let shown = self.shown(self.alloc, book, key)?;
+        Ok(has_text(&shown, text))
+    }
+
+    // The edits of some keys of a book to the pieces, numbered one after the other.
+    fn changes_of(
+        &self,
+        was: &Replica,
+        book: Book,
+        pieces: &[Piece<'_>],
+        keys: &[Key],
+    ) -> Result<Vec<Op>, AllocError>
+        requires rising { IsTrue (rises_by key_cmp (λ p. p.key) pieces.now) }
+        requires numbers { IsTrue (edits.has_numbers self.now.held (length keys.now)) }
+        requires fits { (key : _) →
+            IsTrue (text_fits book key (imports.piece_at (parts_of pieces.now) key)) }
+        ensures ops { let first = next_number self.now.held in
+            let made = since.changes_from first self.now was.now.held book (parts_of pieces.now) keys.now in
+            IfOk result (λ ops. ops.items ≡ made) }
+        ensures state { IsState self.now }
+    {
+        let mut ops = Vec::with_capacity(self.alloc, keys.len())?;
+        let mut number = self.set.greatest_number();
+        for key in keys {
+            number += 1;
+            let id = OpId {
+                number,
+                name: self.name,
+            };
+            let edit = self.change_of(was, id, book, pieces, *key)?;
+            ops.push(edit)?;
+        }
+        Ok(ops)
+    }
+
+    // The edit of a key to its piece.
+    fn change_of(
+        &self,
+        was: &Replica,
+        id: OpId,
+        book: Book,
+        pieces: &[Piece<'_>],
+        key: Key,
+    ) -> Result<Op, AllocError>
+        requires rising { IsTrue (rises_by key_cmp (λ p. p.key) pieces.now) }
+        requires beyond { greatest_number self.now.held < id.number }
+        requires fits { IsTrue (text_fits book key (imports.piece_at (parts_of pieces.now) key)) }
+        ensures { let seen = since.seen_ids self.now.held was.now.held (segment book key) in
+            let text = imports.piece_at (parts_of pieces.now) key in
+            IfOk result (λ op. op ≡ edits.edit_with id (segment book key) seen text) }
+    {
+        let replaced = self.seen_ids(was, book, key)?;
+        let text = String::from_str(self.alloc, piece_at(pieces, key))?;
+        Ok(Op::new(id, book, key, replaced, text))
+    }
+}
+
+// The text of the last of some operations, empty where there is none.
+fn greatest_text<'a>(ops: &[&'a Op]) -> &'a str
+    ensures { result.now ≡ text_in (last (map (λ op. op.now) ops.now)) }
+{
+    let mut text = "";
+    for op in ops {
+        text = op.text_or_empty();
+    }
+    text
+}
+
+// Whether one of some operations has the text.
+fn has_text(ops: &[&Op], text: &str) -> bool
+    ensures { result ≡ list_any (λ o. same_bytes (own_text o) text.now) (map (λ op. op.now) ops.now) }
+{
+    for op in ops {
+        if is_text(op, text) {
+            return true;
+        }
+    }
+    false
+}
+
+// Whether the text is the operation's.
+fn is_text(op: &Op, text: &str) -> bool
+    ensures { result ≡ same_bytes (own_text op.now) text.now }
+{
+    op.text_or_empty().as_bytes() == text.as_bytes()
+}
