@@ -11,6 +11,10 @@ _usfm_team() {
         mapfile -t COMPREPLY < <(compgen -W "$commands --help --version" -- "$word")
         return
     fi
+    if [ "$command" = import ] && [[ $word == -* ]]; then
+        mapfile -t COMPREPLY < <(compgen -W --since -- "$word")
+        return
+    fi
     # What each command asks for, word by word; what is not listed is free text.
     local place=$((COMP_CWORD - 1))
     case $command in

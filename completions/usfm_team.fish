@@ -38,6 +38,7 @@ complete -c usfm_team -n __fish_use_subcommand -l help -d 'Prints help'
 complete -c usfm_team -n __fish_use_subcommand -l version -d 'Prints the version'
 complete -c usfm_team -n '__usfm_team_at 0 init import edit edit-over shown receive send export summary delta report check find words thin' -F
 complete -c usfm_team -n '__usfm_team_from 1 import receive' -F
+complete -c usfm_team -n '__usfm_team_from 0 import' -l since -rF -d 'Takes in what was changed since this bundle'
 complete -c usfm_team -n '__usfm_team_at 1 delta' -F
 complete -c usfm_team -n '__usfm_team_at 2 check find words' -F
 complete -c usfm_team -n '__usfm_team_at 1 export check find words' -a "$__usfm_team_books"

@@ -18,14 +18,17 @@ use Rattle.bundle_codec.specs.Spelling.{bundle}
 use Rattle.bundle_codec.specs.Joining.{whole_at}
 use Rattle.replica_state.specs.States.{State}
 use Rattle.replica_state.specs.Steps as steps
+use Rattle.replica_state.specs.Since.{SinceStep, imported_since}
+use Rattle.replica_state.specs.declared.fault.SinceFault.{SinceFault}
 use Rattle.replica_state.specs.Steps.{Step, Reply, Received, Edited, Imported, Thinned, step}
 use Rattle.bundle_codec.specs.Summaries.{Known, summary, summary_of, outside}
 use Rattle.bundle_codec.specs.SummaryReading.{read_summary}
 use Rattle.conflict_report.specs.Reports.{report}
-use Rattle.usfm_cli.specs.Faults.{of_receiving, of_edit, of_import, of_whole}
+use Rattle.usfm_cli.specs.Faults.{of_receiving, of_edit, of_import, of_since, of_whole}
 use Rattle.usfm_cli.specs.Looking.{checked, searched, listed, is_after_sheet}
 use Rattle.usfm_cli.specs.declared.command.Command.{Command}
-use Rattle.usfm_cli.specs.declared.command.Command.TheVariants.{Import, Edit, EditOver, Receive}
+use Rattle.usfm_cli.specs.declared.command.Command.TheVariants.{Import, ImportSince, Edit}
+use Rattle.usfm_cli.specs.declared.command.Command.TheVariants.{EditOver, Receive}
 use Rattle.usfm_cli.specs.declared.command.Command.TheVariants.{Thin, Shown, Send, Export, Summary}
 use Rattle.usfm_cli.specs.declared.command.Command.TheVariants.{Delta, Report, Check, Find, Words}
 use Rattle.usfm_cli.specs.declared.fault.Fault.{Fault}
@@ -61,6 +64,11 @@ told (Imported (Ok count)) = Ok (line_of (codes "added") (decimal count))
 told (Imported (Err fault)) = Err (of_import fault)
 told (Thinned count) = Ok (line_of (codes "thinned") (decimal count))
 
+-- what a command writes of an import since a base: how many edits it made; or the refusal
+abbrev pub told_since : Result ℕ SinceFault → Result (List ℕ) Fault
+told_since (Ok count) = Ok (line_of (codes "added") (decimal count))
+told_since (Err fault) = Err (of_since fault)
+
 -- the replica after a command with what the command writes, or the refusal
 abbrev pub done_if : State → Result (List ℕ) Fault → Result Done Fault
 done_if after (Ok output) = Ok (record { after = after; output = output })
@@ -82,6 +90,19 @@ with_bundle s (Err fault) = Err (of_whole fault)
 -- the step of an import, unless the file is not UTF-8
 abbrev pub import_done : State → List ℕ → Result Done Fault
 import_done s file = with_text file (done (step s (steps.Import file)))
+
+-- what an import since a base does, or why it is refused
+abbrev pub done_since : SinceStep → Result Done Fault
+done_since taken = done_if taken.after (told_since taken.answer)
+
+-- what is imported since the set of a bundle, or the bundle's fault
+abbrev pub with_base : State → List ℕ → Result (List Operation) WholeFault → Result Done Fault
+with_base s file (Ok base) = done_since (imported_since s base file)
+with_base s file (Err fault) = Err (of_whole fault)
+
+-- what an import since a base does, unless the file is not UTF-8
+abbrev pub since_done : State → List ℕ → Result (List Operation) WholeFault → Result Done Fault
+since_done s file base = with_text file (with_base s file base)
 
 -- the step of an edit, unless its text is not UTF-8
 abbrev pub edit_done : State → Segment → List ℕ → Result Done Fault
@@ -112,6 +133,7 @@ delta_for held None = Err BadSummary
 -- replica as it is.
 abbrev pub outcome : State → Command → Result Done Fault
 outcome s (Import file) = import_done s file.now
+outcome s (ImportSince file base) = since_done s file.now (whole_at base.now)
 outcome s (Edit book key text) = edit_done s (segment book key) text.now
 outcome s (EditOver book key text ids) = edit_over_done s (segment book key) text.now ids.now
 outcome s (Receive bytes) = with_bundle s (whole_at bytes.now)
@@ -129,6 +151,7 @@ outcome s (Words book sheet) = done_if s (listed s.held book sheet.now)
 -- whether a command only reports, and changes no replica
 abbrev pub only_tells : Command → Bool
 only_tells (Import file) = false
+only_tells (ImportSince file base) = false
 only_tells (Edit book key text) = false
 only_tells (EditOver book key text ids) = false
 only_tells (Receive bytes) = false
@@ -159,6 +182,12 @@ abbrev pub is_late_in : List ℕ → Fault → Bool
 is_late_in bytes (Clash id) = true
 is_late_in bytes fault = has_thinned (fields_at bytes)
 
+-- the same of the bytes of a base, or that no number is left; but that the file is not UTF-8 is found before
+abbrev pub is_late_since : List ℕ → Fault → Bool
+is_late_since base (NotText valid) = false
+is_late_since base NumbersUsedUp = true
+is_late_since base fault = is_late_in base fault
+
 -- the fault is that no number is left
 abbrev pub is_numbers_used_up : Fault → Bool
 is_numbers_used_up NumbersUsedUp = true
@@ -169,6 +198,7 @@ is_numbers_used_up fault = false
 -- no number left, since its edits are counted from its pieces; and what comes after a sheet was read, or after two records of it.
 abbrev pub is_late : Command → Fault → Bool
 is_late (Import file) = is_numbers_used_up
+is_late (ImportSince file base) = is_late_since base.now
 is_late (Edit book key text) = no_fault
 is_late (EditOver book key text ids) = no_fault
 is_late (Receive bytes) = is_late_in bytes.now

@@ -20,6 +20,8 @@ use Rattle.replica_state.specs.declared.fault.EditFault.{EditFault}
 use Rattle.replica_state.specs.declared.fault.EditFault.TheVariants as edit
 use Rattle.replica_state.specs.declared.fault.ImportFault.{ImportFault}
 use Rattle.replica_state.specs.declared.fault.ImportFault.TheVariants as importing
+use Rattle.replica_state.specs.declared.fault.SinceFault.{SinceFault}
+use Rattle.replica_state.specs.declared.fault.SinceFault.TheVariants as since
 use Rattle.usfm_export.specs.declared.fault.ExportFault.{ExportFault}
 use Rattle.usfm_export.specs.declared.fault.ExportFault.TheVariants as writing
 use Rattle.usfm_export.specs.declared.fault.TextFault.{TextFault}
@@ -77,6 +79,13 @@ abbrev pub of_import : ImportFault → Fault
 of_import importing.Memory = Memory
 of_import (importing.BadFile fault) = of_book fault
 of_import importing.NumbersUsedUp = NumbersUsedUp
+
+-- the fault of an import since a base that is refused
+abbrev pub of_since : SinceFault → Fault
+of_since since.Memory = Memory
+of_since (since.BadFile fault) = of_book fault
+of_since (since.Clash id) = Clash id
+of_since since.NumbersUsedUp = NumbersUsedUp
 
 -- the fault of a command whose style sheet is refused
 abbrev pub of_sheet : SheetFault → Fault

@@ -10,6 +10,12 @@ use usfm_ref::{Book, Key};
 pub enum Command<'a> {
     /// Takes in the file of a book, by the edits that make it the book's export: `added N`.
     Import(&'a [u8]),
+    /// Takes in what was changed in the file of a book since it was written from the base, a bundle:
+    /// `added N`.
+    ImportSince {
+        file: &'a [u8],
+        base: &'a [u8],
+    },
     /// Gives a segment a text, in the place of all that it shows: `made NUMBER NAME`.
     Edit {
         book: Book,
@@ -57,6 +63,7 @@ impl Command<'_> {
     {
         match self {
             Command::Import(_)
+            | Command::ImportSince { .. }
             | Command::Edit { .. }
             | Command::EditOver { .. }
             | Command::Receive(_)

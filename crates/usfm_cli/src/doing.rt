@@ -32,6 +32,7 @@ pub(crate) fn obey(
 {
     match *command {
         Command::Import(file) => import(alloc, replica, file),
+        Command::ImportSince { file, base } => import_since(alloc, replica, file, base),
         Command::Edit { book, key, text } => edit(alloc, replica, book, key, text),
         Command::EditOver {
             book,
@@ -59,6 +60,22 @@ fn import(alloc: Global, replica: &mut Replica, file: &[u8]) -> Result<Vec<u8>, 
         (commands.import_done replica.old file.now) replica.new result }
 {
     let added = replica.import(text_in(file)?)?;
+    Ok(count_line(alloc, "added", added)?)
+}
+
+// Takes in what was changed in the file of a book since a bundle.
+fn import_since(
+    alloc: Global,
+    replica: &mut Replica,
+    file: &[u8],
+    base: &[u8],
+) -> Result<Vec<u8>, Fault>
+    ensures { commands.Answers (commands.is_late_since base.now)
+        (commands.since_done replica.old file.now (whole_at base.now)) replica.new result }
+{
+    let file = text_in(file)?;
+    let base = decode_whole(alloc, base)?;
+    let added = replica.import_since(&base, file)?;
     Ok(count_line(alloc, "added", added)?)
 }
 

@@ -54,6 +54,8 @@ impl Outcome {
 /// then those of its bundle, `Bundle` (60 to 69) and `Trailing` (70). Then those of the command, in
 /// this order:
 /// - `Import`: `NotText` (10), `NoId` (30), `Reference` (20), `NumbersUsedUp` (81).
+/// - `ImportSince`: `NotText` (10), `Bundle` (60 to 69), `Trailing` (70), `NoId` (30), `Reference` (20),
+///   `Clash` (51), `NumbersUsedUp` (81).
 /// - `Edit`: `NotText` (10), `BadSegment` (80), `NoBook` (82), `NumbersUsedUp` (81).
 /// - `EditOver`: the same, with `NotShown` (83) before `NumbersUsedUp`.
 /// - `Receive`: `Bundle` (60 to 69), `Trailing` (70), `Clash` (51).

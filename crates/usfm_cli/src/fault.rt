@@ -8,7 +8,7 @@ use bundle_codec::{BundleFault, SummaryFault, WholeFault};
 use concordance::FindFault;
 use op_core::{IdFault, OpId};
 use project_file::{CreateFault, LoadFault};
-use replica_state::{EditFault, ImportFault, ReceiveFault};
+use replica_state::{EditFault, ImportFault, ReceiveFault, SinceFault};
 use std::alloc::{AllocError, AllocFailed};
 use sty_sheet::SheetFault;
 use thiserror::Error;
@@ -196,6 +196,19 @@ impl From<ImportFault> for Fault {
             ImportFault::Memory => Fault::Memory,
             ImportFault::BadFile(fault) => Fault::from(fault),
             ImportFault::NumbersUsedUp => Fault::NumbersUsedUp,
+        }
+    }
+}
+
+impl From<SinceFault> for Fault {
+    ghost from_gives = { λ from fault. fault ≡ faults.of_since from };
+
+    fn from(fault: SinceFault) -> Self {
+        match fault {
+            SinceFault::Memory => Fault::Memory,
+            SinceFault::BadFile(fault) => Fault::from(fault),
+            SinceFault::Clash(id) => Fault::Clash(id),
+            SinceFault::NumbersUsedUp => Fault::NumbersUsedUp,
         }
     }
 }

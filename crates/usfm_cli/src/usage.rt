@@ -110,6 +110,9 @@ fn import<'a>(alloc: Global) -> Result<Command<'a>, AllocError> {
     let files = Arg::new(alloc, "FILE").required(true).num_args(1..).help(
         "A book in USFM, in UTF-8, that begins with \\id and the book's code",
     );
+    let since = Arg::new(alloc, "BUNDLE")
+        .long("since")
+        .help("The bundle of the time when FILE was exported");
     command(
         alloc,
         "import",
@@ -117,7 +120,8 @@ fn import<'a>(alloc: Global) -> Result<Command<'a>, AllocError> {
         IMPORT,
         &[PROJECT],
     )?
-    .arg(files)
+    .arg(files)?
+    .arg(since)
 }
 
 const IMPORT: &str = "\
@@ -125,13 +129,21 @@ Writes `added N` for each FILE, N the number of edits. All are taken in, or
 none: where one of several is refused, a second line `in FILE` on standard error
 names it.
 
+A FILE replaces all that its book shows. Where it was exported from PROJECT and
+others' work was received since, give the bundle of that time:
+  usfm_team send ana.project > ana.bundle
+  usfm_team export ana.project MAT > matthew.usfm
+  usfm_team import ana.project matthew.usfm --since ana.bundle
+Then an edit replaces only what stood in FILE, and what came in stays beside it.
+
 Example: usfm_team import ana.project matthew.usfm mark.usfm
 
 Faults:
   fault 1                  out of memory
   fault 10 BYTES           FILE is not UTF-8 after so many bytes
   fault 20, fault 30       FILE does not begin with \\id and a book's code
-  fault 60 to 70, 110      PROJECT is no project
+  fault 51 NUMBER NAME     PROJECT and BUNDLE have two operations of this id
+  fault 60 to 70, 110      PROJECT is no project, or BUNDLE no bundle
   fault 81                 no number is left for the edits
   fault 90 BYTES           writing the output failed; the project is changed
   fault 120, fault 121     a file was not read, or is over 268,435,456 bytes

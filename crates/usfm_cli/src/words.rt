@@ -15,10 +15,12 @@ pub enum Line {
         project: String,
         name: ReplicaName,
     },
-    /// `import PROJECT FILE..`: take in the files of books, all or none.
+    /// `import PROJECT FILE..`: take in the files of books, all or none; with `--since BUNDLE` what was
+    /// changed in them since they were written from the bundle.
     Import {
         project: String,
         files: Vec<String>,
+        since: Option<String>,
     },
     /// `edit PROJECT REF`: give a segment the text of standard input.
     Edit {
@@ -159,6 +161,7 @@ fn line_of(alloc: Global, name: &str, given: &ArgMatches<'_>) -> Result<Line, Li
         "import" => Ok(Line::Import {
             project: text(alloc, given, "PROJECT")?,
             files: texts(alloc, given, "FILE")?,
+            since: text_if_given(alloc, given, "BUNDLE")?,
         }),
         "receive" => Ok(Line::Receive {
             project: text(alloc, given, "PROJECT")?,
@@ -238,6 +241,18 @@ fn word<'a>(given: &ArgMatches<'a>, argument: &str) -> &'a str {
 // A copy of it.
 fn text(alloc: Global, given: &ArgMatches<'_>, argument: &str) -> Result<String, AllocError> {
     String::from_str(alloc, word(given, argument))
+}
+
+// A copy of the word of an argument that may be left out.
+fn text_if_given(
+    alloc: Global,
+    given: &ArgMatches<'_>,
+    argument: &str,
+) -> Result<Option<String>, AllocError> {
+    match given.get_str(argument) {
+        Some(word) => Ok(Some(String::from_str(alloc, word)?)),
+        None => Ok(None),
+    }
 }
 
 // Copies of the words of an argument that takes several.

@@ -72,7 +72,11 @@ fn run(rt: &HostRuntime, line: Line) -> Result<(), Refusal> {
             let bytes = create(rt.alloc(), name.text()).map_err(Fault::from)?;
             Ok(begin_project(rt, &project, &bytes)?)
         }
-        Line::Import { project, files } => import(rt, &project, files),
+        Line::Import {
+            project,
+            files,
+            since,
+        } => import(rt, &project, files, since),
         Line::Edit { project, book, key } => {
             read_file(rt, &project)?;
             let text = &read_text(rt)?;

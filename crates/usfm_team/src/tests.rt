@@ -8,6 +8,7 @@ mod line_words;
 mod looking;
 mod player;
 mod schedules;
+mod since;
 pub(crate) mod streams;
 mod thinning;
 mod trees;

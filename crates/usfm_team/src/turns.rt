@@ -17,9 +17,18 @@ impl From<Fault> for Refusal {
     }
 }
 
-// Takes in the files of books.
-pub(crate) fn import(rt: &HostRuntime, project: &str, files: Vec<String>) -> Result<(), Refusal> {
-    match import_all(rt, project, &files) {
+// Takes in the files of books, or what was changed in them since a bundle.
+pub(crate) fn import(
+    rt: &HostRuntime,
+    project: &str,
+    files: Vec<String>,
+    since: Option<String>,
+) -> Result<(), Refusal> {
+    let done = match since {
+        None => import_all(rt, project, &files),
+        Some(base) => import_since(rt, project, &files, &base),
+    };
+    match done {
         Ok(()) => Ok(()),
         Err(fault) => Err(refusal_of(fault, files)),
     }
@@ -43,6 +52,22 @@ fn import_all(rt: &HostRuntime, project: &str, names: &[String]) -> Result<(), T
     let commands: Vec<Command<'_>> = files
         .iter()
         .map(|file| Command::Import(file))
+        .collect(rt.alloc())?;
+    change_in_turn(rt, project, &commands)
+}
+
+fn import_since(
+    rt: &HostRuntime,
+    project: &str,
+    names: &[String],
+    base: &str,
+) -> Result<(), TurnFault> {
+    read_file(rt, project)?;
+    let files = read_files(rt, names)?;
+    let base = &read_file(rt, base)?;
+    let commands: Vec<Command<'_>> = files
+        .iter()
+        .map(|file| Command::ImportSince { file, base })
         .collect(rt.alloc())?;
     change_in_turn(rt, project, &commands)
 }

@@ -1,8 +1,10 @@
 """Imports and edits."""
+from model.bundles import read_whole_bundle
 from model.faults import Fault
-from model.operations import export, shown
+from model.operations import Set, export, shown
 from model.references import BOOK_HEAD, write_ref
 
+from .damage import damaged
 from .steps import BOOKS, Steps
 from .texts import broken_text, changed_book, make_book, without_verses
 
@@ -24,6 +26,33 @@ class Editing(Steps):
         if self.rng.random() < 0.1:
             del files[self.rng.choice(names)]
         self.step("import", project, *names, **files)
+
+    def import_since(self) -> None:
+        """Files that were written from a bundle, of now or of some time before, and then perhaps changed."""
+        project = self.any_project()
+        bundle = self.step("send", self.any_project()).output
+        if self.bundles and self.rng.random() < 0.7:
+            bundle = self.rng.choice(self.bundles)
+        try:
+            base = read_whole_bundle(bundle)
+        except Fault:
+            return
+        books = sorted({it.book for it in base.values()})
+        names = ["one", "other"][: self.rng.choice([1, 1, 1, 2])]
+        files = {name: self.changed_file(base, self.rng.choice(books)) for name in names if books}
+        if self.rng.random() < 0.05:
+            bundle = damaged(self.rng, bundle)
+        place = self.rng.choice([0, len(names)])
+        words = [*names[:place], "--since", "base", *names[place:]]
+        for _ in range(self.rng.choice([1, 1, 1, 2])):
+            self.step("import", project, *words, base=bundle, **files)
+
+    def changed_file(self, base: Set, book: str) -> bytes:
+        """A book's file of a set, with some changes or none."""
+        text = export(base, book)
+        for _ in range(self.rng.choice([0, 1, 1, 1, 2])):
+            text = changed_book(self.rng, text)
+        return broken_text(self.rng, text) if self.rng.random() < 0.04 else text
 
     def any_file(self, project: str) -> bytes:
         """A book's file, mostly one that changes little."""

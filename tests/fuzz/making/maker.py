@@ -180,6 +180,7 @@ class Maker(Forging):
                 ["export", project, self.rng.choice(WRONG_BOOKS)],
                 [self.rng.choice(["check", "words"]), "missing", self.rng.choice(["mat", "MAT"]), "missing"],
                 [self.rng.choice(["import", "receive", "delta"]), project, "missing"],
+                ["import", project, *self.rng.choice([["missing", "--since", "missing"], ["--since", "missing"]])],
                 ["fold", self.rng.choice(WRONG_BOOKS)],
             ]
         )
@@ -199,10 +200,10 @@ class Maker(Forging):
             self.step("report", project, long=b"")
 
 
-ACTIONS = [Maker.import_book, Maker.import_several, Maker.edit, Maker.empty_chapter, Maker.edit_over]
-WEIGHTS = [12, 2, 10, 3, 9]
-ACTIONS += [Maker.fork, Maker.show, Maker.exchange, Maker.receive_several, Maker.receive_old]
-WEIGHTS += [4, 5, 7, 2, 3]
+ACTIONS = [Maker.import_book, Maker.import_several, Maker.import_since, Maker.edit, Maker.empty_chapter]
+WEIGHTS = [12, 2, 8, 10, 3]
+ACTIONS += [Maker.edit_over, Maker.fork, Maker.show, Maker.exchange, Maker.receive_several, Maker.receive_old]
+WEIGHTS += [9, 4, 5, 7, 2, 3]
 ACTIONS += [Maker.exchange_delta, Maker.lacking_delta, Maker.odd_summary, Maker.use_numbers_up]
 WEIGHTS += [5, 2, 3, 0.7]
 ACTIONS += [Maker.thin, Maker.forge, Maker.forge_thinned, Maker.change_thinned, Maker.rename]

@@ -38,7 +38,7 @@ class Steps:
 
     def step(self, *words: str, given: Content = b"", **files: Content) -> Answer:
         """Adds a step with the files that it needs. Options end before words that begin with a hyphen."""
-        if any(it.startswith("-") and it != "-" for it in words):
+        if any(it.startswith("-") and it not in ("-", "--since") for it in words):
             words = (words[0], "--", *words[1:])
         step = Step(words, tuple(files.items()), given)
         self.play.append(step)

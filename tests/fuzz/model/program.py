@@ -60,13 +60,21 @@ OPEN_ENDED = ("import", "receive", "edit-over")
 
 def run(folder: Folder, words: Sequence[str], given: Content) -> Answer:
     """What the program answers to these words in a folder, which it may change, with this standard input."""
-    values = [it for it in words if it != "--"]
-    if not has_shape(values):
+    values, base = parted([it for it in words if it != "--"])
+    if "--since" in values or not has_shape(values):
         return USAGE
     try:
-        return Answer(0, act(folder, values[0], values[1:], given), b"")
+        return Answer(0, act(folder, values[0], values[1:], base, given), b"")
     except Fault as fault:
         return Answer(1, b"", fault.line())
+
+
+def parted(words: Sequence[str]) -> tuple[list[str], Optional[str]]:
+    """The words of a line without its option, and the bundle that this names."""
+    if words[:1] == ["import"] and "--since" in words[1:-1]:
+        place = words.index("--since")
+        return [*words[:place], *words[place + 2 :]], words[place + 1]
+    return list(words), None
 
 
 def has_shape(words: Sequence[str]) -> bool:
@@ -78,10 +86,10 @@ def has_shape(words: Sequence[str]) -> bool:
     return count >= least if words[0] in OPEN_ENDED else count == least
 
 
-def act(folder: Folder, command: str, words: Sequence[str], given: Content) -> bytes:
+def act(folder: Folder, command: str, words: Sequence[str], base: Optional[str], given: Content) -> bytes:
     """Does a command whose line has its shape, and answers what it writes."""
     if command in ("import", "receive"):
-        return take_in(folder, command, words[0], words[1:])
+        return take_in(folder, command, words[0], words[1:], base)
     shape = SHAPES[command]
     values = [read(word) for read, word in zip(shape, words)]
     ids = [read_id(word) for word in words[len(shape) :]]
@@ -103,13 +111,15 @@ def act(folder: Folder, command: str, words: Sequence[str], given: Content) -> b
     return output
 
 
-def take_in(folder: Folder, command: str, project: str, names: Sequence[str]) -> bytes:
+def take_in(folder: Folder, command: str, project: str, names: Sequence[str], base: Optional[str]) -> bytes:
     """Takes in files one after another, and answers what each of them writes. Where one is refused, none is taken in."""
     before = read_file(folder, project)
     contents = [of_file(names, name, read_file, folder, name) for name in names]
+    bundle = [read_file(folder, base)] if base is not None else []
     replica = load(before)
-    call = replica.import_book if command == "import" else replica.receive
-    output = b"".join(of_file(names, name, call, content) for name, content in zip(names, contents))
+    imports = replica.import_since if bundle else replica.import_book
+    call = imports if command == "import" else replica.receive
+    output = b"".join(of_file(names, name, call, content, *bundle) for name, content in zip(names, contents))
     folder[project] = save(replica)
     return output
 

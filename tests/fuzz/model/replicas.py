@@ -47,6 +47,36 @@ class Replica:
         self.held = join(self.held, set_of(edits))
         return b"added %d\n" % len(edits)
 
+    def import_since(self, data: bytes, bundle: bytes) -> bytes:
+        """Takes in what was changed in a book's file since it was written from a bundle, and the bundle."""
+        text = text_of(data)
+        base = Replica(self.name, read_whole_bundle(bundle))
+        book = book_of(text)
+        pieces = {it.key: it.text for it in cut(text)}
+        united = Replica(self.name, join(self.held, base.held))
+        changes = []
+        for key in sorted(set(picked_keys(united.held, book)) | set(pieces)):
+            stood = base.stood(book, key)
+            seen = tuple(it.id for it in shown(united.held, book, key) if it.id in stood)
+            now = pieces.get(key, b"")
+            is_there = any(it.text == now for it in shown(united.held, book, key))
+            if base.is_due(book, key, pieces) and (seen or not is_there):
+                changes.append((key, seen, now))
+        first = united.greatest_number() + 1
+        if changes and first + len(changes) - 1 > GREATEST_NUMBER:
+            raise Fault(81)
+        edits = [
+            Operation(Id(number, self.name), book, key, seen, now)
+            for number, (key, seen, now) in enumerate(changes, start=first)
+        ]
+        self.held = join(united.held, set_of(edits))
+        return b"added %d\n" % len(edits)
+
+    def stood(self, book: str, key: Key) -> set[Id]:
+        """The ids of a segment whose text stood in a file that was written from what is held."""
+        showing = shown(self.held, book, key)
+        return {it.id for it in showing if it.text == showing[-1].text}
+
     def is_due(self, book: str, key: Key, pieces: dict[Key, bytes]) -> bool:
         """Whether an import of these pieces has to edit a segment.
 

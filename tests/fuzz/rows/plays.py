@@ -72,6 +72,29 @@ def imported() -> Rows:
     yield team.does("shown", "ana", "MAT 1"), b"op 3 ana 0\n\n"
 
 
+def imported_since() -> Rows:
+    """Imports of what was changed since a bundle."""
+    team = Team("ana", "ben")
+    yield team.imports("ana", b"\\id MAT\n\\c 1\n\\v 1 a\n\\v 2 b\n"), b"added 4\n"
+    base = team.does("send", "ana")
+    team.receives("ben", base)
+    yield team.edits("ben", "MAT 1:1", b"\\v 1 ben\n"), b"made 5 ben\n"
+    team.receives("ana", team.does("send", "ben"))
+    one = b"\\id MAT\n\\c 1\n\\v 1 a\n\\v 2 ana\n"
+    yield [team.imports_since("ana", one, base) for _ in range(2)], [b"added 1\n", b"added 0\n"]
+    yield (team.export("ana"), team.report("ana")), (b"\\id MAT\n\\c 1\n\\v 1 ben\n\\v 2 ana\n", b"")
+    both = b"\\id MAT\n\\c 1\n\\v 1 ana\n\\v 2 ana\n"
+    yield team.imports_since("ana", both, base), b"added 1\n"
+    conflict = b"conflict MAT 1:1 2\ntext 7 ana 9\n\\v 1 ana\n\ntext 5 ben 9\n\\v 1 ben\n\n"
+    yield team.report("ana"), conflict
+    new = b"\\id MAT\n\\c 1\n\\v 1 ben\n\\v 2 b\n"
+    yield (team.imports_since("ben", new, base), team.report("ben")), (b"added 0\n", b"")
+    yield team.imports_since("ben", b"\\c 1", CLASHING), b"fault 30\n"
+    yield team.imports_since("ben", b"\\id MAT\n", CLASHING), b"fault 51 2 ana\n"
+    yield team.imports_since("ben", b"\xff", b""), b"fault 10 0\n"
+    yield team.imports_since("ben", b"\\c 1", b""), b"fault 61\n"
+
+
 def conflicting() -> Rows:
     """Conflicts."""
     team = Team("ana", "ben")
@@ -290,5 +313,5 @@ def last_numbers() -> Rows:
     yield team.imports("ana", BOOK), b"fault 81\n"
 
 
-PARTS = [folded, received, imported, conflicting, empty_texts, equal_texts, refused, several, awaiting]
-PARTS += [late_marks, deltas, relayed, thinned, thinned_elsewhere, thinned_between, last_numbers]
+PARTS = [folded, received, imported, imported_since, conflicting, empty_texts, equal_texts, refused, several]
+PARTS += [awaiting, late_marks, deltas, relayed, thinned, thinned_elsewhere, thinned_between, last_numbers]

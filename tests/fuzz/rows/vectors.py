@@ -112,6 +112,10 @@ class Team:
         self.folder["file"] = text
         return self.does("import", name, "file")
 
+    def imports_since(self, name: str, text: bytes, bundle: bytes) -> bytes:
+        self.folder["file"], self.folder["base"] = text, bundle
+        return self.does("import", name, "file", "--since", "base")
+
     def receives(self, name: str, bundle: bytes) -> bytes:
         self.folder["file"] = bundle
         return self.does("receive", name, "file")

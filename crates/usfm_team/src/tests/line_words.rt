@@ -29,7 +29,17 @@ fn asked(alloc: Global, text: &str) -> Result<String, Fail> {
 fn told(alloc: Global, line: &Line) -> Result<String, Fail> {
     Ok(match line {
         Line::Init { project, name } => format!(in alloc; "init {project} as {}", name.text())?,
-        Line::Import { project, files } => several(alloc, "import", project, "file", files)?,
+        Line::Import {
+            project,
+            files,
+            since,
+        } => {
+            let mut text = several(alloc, "import", project, "file", files)?;
+            if let Some(base) = since {
+                text.push_str(format!(in alloc; " since {base}")?.as_str())?;
+            }
+            text
+        }
         Line::Edit { project, book, key } => on(alloc, "edit", project, *book, *key, &[])?,
         Line::EditOver {
             project,
@@ -134,6 +144,14 @@ const LINES: &[(&str, &str)] = &[
         "import|ana.project|mat.usfm|a file|mat.usfm",
         "import ana.project file mat.usfm file a file file mat.usfm",
     ),
+    (
+        "import|ana.project|mat.usfm|--since|ana.bundle",
+        "import ana.project file mat.usfm since ana.bundle",
+    ),
+    (
+        "import|ana.project|--since|ana.bundle|mat.usfm|mrk.usfm",
+        "import ana.project file mat.usfm file mrk.usfm since ana.bundle",
+    ),
     ("edit|ana.project|MAT 1:1", "edit ana.project at MAT 1:1"),
     (
         "edit-over|ana.project|MAT 0",
@@ -198,6 +216,9 @@ const LINES: &[(&str, &str)] = &[
     ("init|p", "usage"),
     ("init|-a.project|ana", "usage"),
     ("import|p", "usage"),
+    ("import|p|--since|b", "usage"),
+    ("import|p|f|--since", "usage"),
+    ("receive|p|b|--since|b", "usage"),
     ("edit|p", "usage"),
     ("edit|p|MAT 1:1|3:ana", "usage"),
     ("edit-over|p", "usage"),

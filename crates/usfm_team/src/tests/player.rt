@@ -18,6 +18,10 @@ pub(crate) enum Who {
 #[derive(Clone, Copy, Debug)]
 pub(crate) enum Step<'a> {
     Import(&'a [u8]),
+    // Imports what was changed in a file since the bundle that it packed last.
+    Since(&'a [u8]),
+    // The same since this bundle.
+    SinceBase(&'a [u8], &'a [u8]),
     Edit(&'a str, &'a [u8]),
     Over(&'a str, &'a [u8], &'a [&'a str]),
     Receive(&'a [u8]),
@@ -114,6 +118,11 @@ impl Player {
     fn does(&mut self, rt: &impl Abort, step: &Step<'_>, other: &Player) -> Result<Vec<u8>, Fail> {
         match *step {
             Step::Import(file) => self.told(&Command::Import(file)),
+            Step::Since(file) => {
+                let base = self.packed.clone()?;
+                self.told(&Command::ImportSince { file, base: &base })
+            }
+            Step::SinceBase(file, base) => self.told(&Command::ImportSince { file, base }),
             Step::Edit(at, text) => {
                 let (book, key) = read_ref(at)?;
                 self.told(&Command::Edit { book, key, text })
