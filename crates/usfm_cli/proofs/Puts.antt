@@ -1,21 +1,31 @@
--- Operations that are put into a set one after the other.
-use Rattle.std.proofs.Common.{◌≡◌, List, [], ◌∷◌, ◌++◌, refl}
+-- Operations that are put into a set one after the other, and texts that are told apart.
+use Rattle.std.proofs.Common.{◌≡◌, ◌↔◌, ℕ, ◌+◌, ◌<◌, Bool, true, false, List, [], ◌∷◌, ◌++◌, map, length, get_or, take, IsTrue, refl, sym, ap, subst, ◌∙◌}
+use Rattle.std.proofs.lemmas.Bool.{false≢true}
+use Rattle.std.proofs.lemmas.List.{map-append}
+use Rattle.usfm_ref.specs.Books.{same_bytes}
+use Rattle.usfm_ref.proofs.Orders.{same_bytes-is, same_bytes-refl}
 use Rattle.op_core.specs.Ops.{Operation}
 use Rattle.op_core.specs.Sets.{put}
+use Rattle.op_core.proofs.Enrolled.{more_items}
 use Rattle.usfm_cli.specs.Standing.{put_all}
-
-unfolding put_all
 
 pub put_all-append : (set xs ys : List Operation) → put_all set (xs ++ ys) ≡ put_all (put_all set xs) ys
 put_all-append set [] ys = refl
 put_all-append set (x ∷ xs) ys = put_all-append (put x set) xs ys
 
-unfolding put_all
+-- one more of the operations that are put
+module _ {X : Type 0} (f : X → Operation) (xs : List X) (i : ℕ) (x : X) (l : i < length xs) (is : x ≡ get_or xs i x) where
+  pub one_more_put : (set : List Operation) → put_all set (map f (take (i + 1) xs)) ≡ put (f x) (put_all set (map f (take i xs)))
+  one_more_put set =
+      ap (λ (ys : List X). put_all set (map f ys)) (more_items xs i x l is)
+      ∙ ap (put_all set) (map-append f (take i xs) (x ∷ []))
+      ∙ put_all-append set (map f (take i xs)) (f x ∷ [])
 
-pub put_all-none : (set : List Operation) → put_all set [] ≡ set
-put_all-none set = refl
-
-unfolding put_all
-
-pub put_all-one : (set : List Operation) (o : Operation) (ops : List Operation) → put_all set (o ∷ ops) ≡ put_all (put o set) ops
-put_all-one set o ops = refl
+-- a test that holds exactly of equal texts is the test of their bytes
+pub is_same_bytes : (b : Bool) (x y : List ℕ) → IsTrue b ↔ (x ≡ y) → b ≡ same_bytes x y
+is_same_bytes true x y h = sym (subst (λ (z : List ℕ). same_bytes x z ≡ true) (h.0 refl) (same_bytes-refl x))
+is_same_bytes false x y h = by (same_bytes x y) refl
+  where
+    by : (t : Bool) → same_bytes x y ≡ t → false ≡ t
+    by true e = absurd (false≢true (h.1 (same_bytes-is x y e)))
+    by false e = refl

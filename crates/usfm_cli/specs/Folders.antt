@@ -10,7 +10,6 @@ use Rattle.op_core.specs.Ops.{Operation}
 use Rattle.op_core.specs.Export.{has_book, export}
 use Rattle.bundle_codec.specs.declared.fault.WholeFault.{WholeFault}
 use Rattle.bundle_codec.specs.Joining.{whole_at}
-use Rattle.replica_state.specs.States.{State}
 use Rattle.usfm_cli.specs.declared.fault.Fault.{Fault}
 use Rattle.usfm_cli.specs.declared.fault.Fault.TheVariants.{Memory, FileChanged}
 
@@ -46,6 +45,11 @@ abbrev pub is_export : List ℕ → List ℕ → Result (List Operation) WholeFa
 is_export book file (Ok ops) = has_book ops book && same_bytes (export ops book) file
 is_export book file (Err fault) = false
 
+-- the set of a bundle, or none
+abbrev pub set_if : Result (List Operation) WholeFault → Option (List Operation)
+set_if (Ok ops) = Some ops
+set_if (Err fault) = None
+
 -- whether a bundle makes a book's file
 abbrev pub makes : List ℕ → List ℕ → List ℕ → Bool
 makes bundle book file = is_export book file (whole_at bundle)
@@ -71,11 +75,3 @@ abbrev pub AnswersFrom : {A : Type 0} → (A → List ℕ) → Result (Option (L
 AnswersFrom bytes wanted (Ok from) = wanted ≡ Ok (option_map bytes from)
 AnswersFrom bytes wanted (Err Memory) = Unit {0}
 AnswersFrom bytes wanted (Err fault) = wanted ≡ Err fault
-
--- What is answered of a bundle that was received by a replica that held nothing: a replica that holds its set; or out of
--- memory; or the bundle's fault.
-abbrev pub AnswersFolded : Result (List Operation) WholeFault → Result State Fault → Type 0
-AnswersFolded wanted (Ok made) = wanted ≡ Ok made.held
-AnswersFolded wanted (Err Memory) = Unit {0}
-AnswersFolded (Ok ops) (Err fault) = ⊥
-AnswersFolded (Err bad) (Err fault) = Unit {0}

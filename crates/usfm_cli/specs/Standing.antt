@@ -14,7 +14,7 @@ use Rattle.op_core.specs.Export.{export}
 use Rattle.bundle_codec.specs.Spelling.{bundle}
 
 -- a set with operations put into it, one after the other
-unfoldable pub put_all : List Operation → List Operation → List Operation
+abbrev pub put_all : List Operation → List Operation → List Operation
 put_all set [] = set
 put_all set (o ∷ ops) = put_all (put o set) ops
 

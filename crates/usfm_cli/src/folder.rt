@@ -5,7 +5,7 @@ ghost use Rattle.bundle_codec.specs.Joining.{whole_at};
 ghost use Rattle.usfm_cli.specs.Folders as folders;
 
 use crate::fault::Fault;
-use bundle_codec::decode_whole;
+use bundle_codec::{BundleFault, WholeFault, decode_whole};
 use op_core::ReplicaName;
 use replica_state::Replica;
 use std::alloc::{AllocError, Global};
@@ -63,10 +63,8 @@ fn text_front(file: &[u8]) -> &[u8]
 pub fn makes(alloc: Global, bundle: &[u8], book: Book, file: &[u8]) -> Result<bool, AllocError>
     ensures { IfOk result (λ is. is ≡ folders.makes bundle.now book file.now) }
 {
-    let made = match folded(alloc, bundle) {
-        Ok(made) => made,
-        Err(Fault::Memory) => return Err(AllocError),
-        Err(_) => return Ok(false),
+    let Some(made) = folded(alloc, bundle)? else {
+        return Ok(false);
     };
     match book_text(alloc, &made, book) {
         Ok(text) => Ok(text.as_slice() == file),
@@ -75,14 +73,20 @@ pub fn makes(alloc: Global, bundle: &[u8], book: Book, file: &[u8]) -> Result<bo
     }
 }
 
-// A replica that received a bundle. It makes no operation, so its name is never seen.
-fn folded(alloc: Global, bundle: &[u8]) -> Result<Replica, Fault>
-    ensures { folders.AnswersFolded (whole_at bundle.now) result }
+// A replica that received a bundle, if the bytes are one. It makes no operation, so its name is never seen, and it held
+// nothing that the bundle could clash with.
+fn folded(alloc: Global, bundle: &[u8]) -> Result<Option<Replica>, AllocError>
+    ensures { IfOk result (λ made.
+        option_map (λ r. r.held) made ≡ folders.set_if (whole_at bundle.now)) }
 {
-    let bundle = decode_whole(alloc, bundle)?;
+    let bundle = match decode_whole(alloc, bundle) {
+        Ok(bundle) => bundle,
+        Err(WholeFault::Bundle(BundleFault::Memory)) => return Err(AllocError),
+        Err(_) => return Ok(None),
+    };
     let mut made = Replica::new(alloc, ReplicaName::read("fold").unwrap());
-    made.receive(&bundle)?;
-    Ok(made)
+    made.receive(&bundle).map_err(|_| AllocError)?;
+    Ok(Some(made))
 }
 
 /// The bundle that a book's file was written from. It is the base; but where writing the file was cut

@@ -166,7 +166,8 @@ fn put_shown(
 {
     // The name shows that what the replica holds is legal, so that what is shown has its text.
     let _ = replica.name();
-    for op in replica.shown(alloc, book, key)? {
+    let shown = replica.shown(alloc, book, key)?;
+    for op in &shown {
         put_copy(alloc, op, set)?;
     }
     Ok(())
@@ -239,9 +240,16 @@ fn has_other(ops: &[&Op], text: &str) -> bool
         ≡ list_any (standing.has_other_text text.now) (map (λ op. op.now) ops.now) }
 {
     for op in ops {
-        if op.text_or_empty().as_bytes() != text.as_bytes() {
+        if is_other_text(op, text) {
             return true;
         }
     }
     false
+}
+
+// Whether the operation has another text.
+fn is_other_text(op: &Op, text: &str) -> bool
+    ensures { result ≡ standing.has_other_text text.now op.now }
+{
+    op.text_or_empty().as_bytes() != text.as_bytes()
 }
