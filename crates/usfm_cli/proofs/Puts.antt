@@ -1,6 +1,7 @@
 -- Operations that are put into a set one after the other, and texts that are told apart.
-use Rattle.std.proofs.Common.{◌≡◌, ◌↔◌, ℕ, ◌+◌, ◌<◌, Bool, true, false, List, [], ◌∷◌, ◌++◌, map, length, get_or, take, IsTrue, refl, sym, ap, subst, ◌∙◌}
-use Rattle.std.proofs.lemmas.Bool.{false≢true}
+use Rattle.std.proofs.Common.{◌≡◌, ◌↔◌, ℕ, zero, suc, ◌+◌, ◌<◌, Bool, true, false, List, [], ◌∷◌, ◌++◌, map, length, get_or, take, IsTrue, refl, sym, ap, subst, ◌∙◌, arith}
+use Rattle.std.specs.List.{list_all}
+use Rattle.std.proofs.lemmas.Bool.{false≢true, and_parts}
 use Rattle.std.proofs.lemmas.List.{map-append}
 use Rattle.usfm_ref.specs.Books.{same_bytes}
 use Rattle.usfm_ref.proofs.Orders.{same_bytes-is, same_bytes-refl}
@@ -29,3 +30,11 @@ is_same_bytes false x y h = by (same_bytes x y) refl
     by : (t : Bool) → same_bytes x y ≡ t → false ≡ t
     by true e = absurd (false≢true (h.1 (same_bytes-is x y e)))
     by false e = refl
+
+-- what passes of each passes of one
+pub all_at : {X : Type 0} (p : Operation → Bool) (f : X → Operation) (xs : List X) (i : ℕ) (x : X) → i < length xs → x ≡ get_or xs i x
+    → list_all p (map f xs) ≡ true → p (f x) ≡ true
+all_at p f [] i x l hx h = absurd (omega arith)
+all_at {X} p f (y ∷ xs) zero x l hx h = ap (λ (z : X). p (f z)) hx ∙ (and_parts (p (f y)) (list_all p (map f xs)) h).0
+all_at p f (y ∷ xs) (suc i) x l hx h =
+    all_at p f xs i x (omega arith) hx (and_parts (p (f y)) (list_all p (map f xs)) h).1

@@ -29,8 +29,8 @@ pub fn may_be_book(name: &str) -> bool
 fn ends_in(name: &[u8], ending: &[u8]) -> bool
     ensures { result ≡ folders.ends_in name.now ending.now }
 {
-    let at = name.len().saturating_sub(ending.len());
-    name[at..].eq_ignore_ascii_case(ending)
+    let (_, end) = name.split_at(name.len().saturating_sub(ending.len()));
+    end.eq_ignore_ascii_case(ending)
 }
 
 /// The book that a file begins with, by its front that is UTF-8: at most one U+FEFF, `\id`, a blank,
@@ -85,8 +85,10 @@ fn folded(alloc: Global, bundle: &[u8]) -> Result<Option<Replica>, AllocError>
         Err(_) => return Ok(None),
     };
     let mut made = Replica::new(alloc, ReplicaName::read("fold").unwrap());
-    made.receive(&bundle).map_err(|_| AllocError)?;
-    Ok(Some(made))
+    match made.receive(&bundle) {
+        Ok(_) => Ok(Some(made)),
+        Err(_) => Err(AllocError),
+    }
 }
 
 /// The bundle that a book's file was written from. It is the base; but where writing the file was cut

@@ -224,18 +224,18 @@ fn differ(ops: &[&Op]) -> bool
 }
 
 // The text of the last of some operations, empty where there is none.
-fn last_text<'a>(ops: &[&'a Op]) -> &'a str
+fn last_text<'a>(ops: &[&'a Op]) -> &'a [u8]
     ensures { result.now ≡ text_in (last (map (λ op. op.now) ops.now)) }
 {
-    let mut text = "";
+    let mut text: &[u8] = &[];
     for op in ops {
-        text = op.text_or_empty();
+        text = op.text_or_empty().as_bytes();
     }
     text
 }
 
 // Whether one of some operations has another text.
-fn has_other(ops: &[&Op], text: &str) -> bool
+fn has_other(ops: &[&Op], text: &[u8]) -> bool
     ensures { result
         ≡ list_any (standing.has_other_text text.now) (map (λ op. op.now) ops.now) }
 {
@@ -248,8 +248,8 @@ fn has_other(ops: &[&Op], text: &str) -> bool
 }
 
 // Whether the operation has another text.
-fn is_other_text(op: &Op, text: &str) -> bool
+fn is_other_text(op: &Op, text: &[u8]) -> bool
     ensures { result ≡ standing.has_other_text text.now op.now }
 {
-    op.text_or_empty().as_bytes() != text.as_bytes()
+    op.text_or_empty().as_bytes() != text
 }
