@@ -3,7 +3,6 @@ use Rattle.std.proofs.Common.{◌≡◌, ℕ, suc, Bool, false, ◌+◌, ◌<◌
 use Rattle.std.proofs.Common.{drop, Result, Ok, Err, refl, sym, ap, subst, ◌∙◌, ◌≤◌, get_or, arith, drop-cons, length-append}
 use Rattle.std.proofs.lemmas.List.{take-append-drop, take_more, take_all, length-take-le}
 use Rattle.replica_state.specs.States.{State}
-use Rattle.bundle_codec.specs.Reading.{AreBytes}
 use Rattle.project_file.specs.Projects.{project, project_at}
 use Rattle.project_file.proofs.Files.{project_is}
 use Rattle.usfm_cli.specs.Commands.{Done, outcome, is_late}

@@ -1,4 +1,4 @@
-use Rattle.std.proofs.Common.{◌≡◌, List, ℕ, map, drop, ap, ◌∙◌}
+use Rattle.std.proofs.Common.{List, ℕ, map, drop, ap, ◌∙◌}
 use Rattle.std.specs.Char.{to_ascii_lowercase}
 use Rattle.usfm_ref.specs.Books.{same_bytes}
 use Rattle.usfm_cli.proofs.Puts.{is_same_bytes}

@@ -1,4 +1,4 @@
-use Rattle.std.proofs.Common.{◌≡◌, Some, sym, ap, ◌∙◌}
+use Rattle.std.proofs.Common.{Some, sym, ap, ◌∙◌}
 use Rattle.op_core.specs.Sets.{join}
 use Rattle.op_core.proofs.Fronts.{join_none}
 use Rattle.replica_state.specs.States.{State}

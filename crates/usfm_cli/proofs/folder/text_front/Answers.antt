@@ -1,4 +1,4 @@
-use Rattle.std.proofs.Common.{◌≡◌, ℕ, rules, length, take, sym, arith}
+use Rattle.std.proofs.Common.{◌≡◌, rules, length, sym, arith}
 use Rattle.std.proofs.lemmas.Str.{utf8_valid_len-IsUtf8}
 use Rattle.std.proofs.lemmas.List.{take_all}
 use Rattle.std.specs.Str.Lossy.{utf8_valid_len}

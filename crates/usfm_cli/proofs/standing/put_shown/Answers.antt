@@ -1,7 +1,6 @@
-use Rattle.std.proofs.Common.{◌≡◌, List, map, sym, ap, ◌∙◌}
-use Rattle.std.specs.List.{list_all}
+use Rattle.std.proofs.Common.{map, sym, ap, ◌∙◌}
 use Rattle.usfm_ref.specs.Segments.{segment}
-use Rattle.op_core.specs.Ops.{Operation, is_full}
+use Rattle.op_core.specs.Ops.{is_full}
 use Rattle.op_core.specs.Sets.{put}
 use Rattle.op_core.specs.Thinned.{all_full}
 use Rattle.op_core.proofs.Legal.{shown_full}
