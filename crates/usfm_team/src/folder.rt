@@ -24,6 +24,8 @@ pub(crate) struct BookFile {
     pub(crate) is_unplaced: bool,
     // Whether it was written from the newer one.
     pub(crate) is_newer: bool,
+    // Whether it is what the bundle makes that it was written from.
+    pub(crate) is_unchanged: bool,
 }
 
 impl BookFile {
@@ -141,6 +143,7 @@ fn read_book(rt: &HostRuntime, folder: &str, path: &String) -> Result<Option<Boo
         newer,
         is_unplaced,
         is_newer: false,
+        is_unchanged: false,
     }))
 }
 

@@ -22,14 +22,15 @@ pub(crate) struct Staged {
     file: Option<(String, String)>,
     // The new bundle.
     bundle: Option<String>,
+    // Whether the old file was left, since it had changed meanwhile.
+    pub(crate) is_left: bool,
 }
 
-// A file that was put in its place, or left, since it had changed meanwhile.
-#[derive(Drop)]
-pub(crate) struct Placed<'a> {
-    pub(crate) book: Book,
-    pub(crate) path: &'a str,
-    pub(crate) is_left: bool,
+impl Staged {
+    // Whether a new file was written.
+    pub(crate) fn has_file(&self) -> bool {
+        self.file.is_some()
+    }
 }
 
 // Writes what is to be put in place for some books. Where that fails, nothing of it stays.
@@ -39,6 +40,12 @@ pub(crate) fn stage(
     files: &[BookFile],
     books: &[&StandingBook],
 ) -> Result<Vec<Staged>, Refusal> {
+    for book in books {
+        if file_of(files, book.book()).is_none() {
+            let path = path_for(rt, folder, book.book())?;
+            refuse_another(rt, &path).map_err(|fault| Refusal::at(rt, fault, &path))?;
+        }
+    }
     let mut staged = Vec::new(rt.alloc());
     for book in books {
         let file = file_of(files, book.book());
@@ -117,44 +124,47 @@ fn stage_at(
     (is_written, is_kept): (bool, bool),
     staged: &mut Vec<Staged>,
 ) -> Result<(), Fault> {
-    if file.is_none() {
-        refuse_another(rt, path)?;
-    }
     make_own(rt, folder)?;
     if let Some(file) = file {
-        if file.newer.is_some() {
-            settle_cut(rt, folder, file)?;
-        }
+        settle_cut(rt, folder, file)?;
     }
+    clear(rt, folder, book.book())?;
     let old = match file {
         Some(file) => Some(File::open(rt, file.path.as_str()).map_err(|_| Fault::FileFailed)?),
         None => None,
     };
-    let new = if is_written {
-        None
-    } else {
-        Some(places_for(rt, folder, file, book.book(), path)?)
-    };
-    let made = if is_kept {
-        None
-    } else {
-        Some(own_path(rt, folder, book.book(), "bundle.made")?)
-    };
-    let parts = Staged {
+    let mut parts = Staged {
         book: book.book(),
         path: String::from_str(rt.alloc(), path)?,
-        file: new,
-        bundle: made,
+        file: None,
+        bundle: None,
+        is_left: false,
     };
+    if !is_written {
+        parts.file = Some(places_for(rt, folder, file, book.book(), path)?);
+    }
+    if !is_kept {
+        parts.bundle = Some(own_path(rt, folder, book.book(), "bundle.made")?);
+    }
     staged.push(parts)?;
-    let Some(parts) = staged.last() else {
-        return Ok(());
-    };
+    match staged.last() {
+        Some(parts) => write_parts(rt, parts, book, &old),
+        None => Ok(()),
+    }
+}
+
+// Writes the new file of a book, and its new bundle.
+fn write_parts(
+    rt: &HostRuntime,
+    parts: &Staged,
+    book: &StandingBook,
+    old: &Option<File>,
+) -> Result<(), Fault> {
     if let Some((new, _)) = &parts.file {
-        write_beside(rt, new, book.text(), &old)?;
+        write_beside(rt, new, book.text(), old)?;
     }
     if let Some(made) = &parts.bundle {
-        write_beside(rt, made, book.base(), &old)?;
+        write_beside(rt, made, book.base(), old)?;
     }
     Ok(())
 }
@@ -178,6 +188,9 @@ fn places_for(
 
 // Settles what a writing that was cut short has left: the bundle that the file was written from is kept.
 fn settle_cut(rt: &HostRuntime, folder: &str, file: &BookFile) -> Result<(), Fault> {
+    if file.newer.is_none() {
+        return Ok(());
+    }
     let newer = own_path(rt, folder, file.book, "bundle.new")?;
     if file.is_newer {
         rename(rt, &newer, &own_path(rt, folder, file.book, "bundle")?)
@@ -232,40 +245,31 @@ fn write_beside(
     sync_file(&file)
 }
 
-// Puts in place what was written, and says of each file what came of it.
-pub(crate) fn place<'a>(
+// Puts in place what was written. A file that changed meanwhile is left, and marked so.
+pub(crate) fn place(
     rt: &HostRuntime,
     folder: &str,
     files: &[BookFile],
-    staged: &'a [Staged],
-) -> Result<Vec<Placed<'a>>, Refusal> {
-    let mut placed = Vec::new(rt.alloc());
+    staged: &mut Vec<Staged>,
+) -> Result<(), Refusal> {
     if staged.is_empty() {
-        return Ok(placed);
+        return Ok(());
     }
-    for book in staged {
+    for book in staged.iter() {
         announce(rt, folder, book).map_err(|fault| Refusal::at(rt, fault, &book.path))?;
     }
     sync_path(rt, folder, OWN)?;
-    for book in staged {
-        if let Some((new, end)) = &book.file {
-            let is_left = !put(rt, folder, files, book, new, end).map_err(|fault| Refusal::at(
-                rt, fault, &book.path,
-            ))?;
-            let one = Placed {
-                book: book.book,
-                path: &book.path,
-                is_left,
-            };
-            placed.push(one).map_err(Fault::from)?;
+    for book in staged.iter_mut() {
+        match put(rt, folder, files, book) {
+            Ok(is_put) => book.is_left = !is_put,
+            Err(fault) => return Err(Refusal::at(rt, fault, &book.path)),
         }
     }
     sync_path(rt, folder, ".")?;
-    for one in &placed {
-        settle(rt, folder, one).map_err(|fault| Refusal::at(rt, fault, one.path))?;
+    for book in staged.iter() {
+        settle(rt, folder, book).map_err(|fault| Refusal::at(rt, fault, &book.path))?;
     }
-    sync_path(rt, folder, OWN)?;
-    Ok(placed)
+    Ok(sync_path(rt, folder, OWN)?)
 }
 
 // Puts a new bundle beside the one that a book's file was written from; in its place, where the file stays.
@@ -282,15 +286,11 @@ fn announce(rt: &HostRuntime, folder: &str, book: &Staged) -> Result<(), Fault> 
     }
 }
 
-// Puts a new file in its place, unless the old one is no longer what was read.
-fn put(
-    rt: &HostRuntime,
-    folder: &str,
-    files: &[BookFile],
-    book: &Staged,
-    new: &str,
-    end: &str,
-) -> Result<bool, Fault> {
+// Puts a new file, if there is one, in its place, unless the old one is no longer what was read.
+fn put(rt: &HostRuntime, folder: &str, files: &[BookFile], book: &Staged) -> Result<bool, Fault> {
+    let Some((new, end)) = &book.file else {
+        return Ok(true);
+    };
     let is_same = match file_of(files, book.book) {
         Some(file) => read_file(rt, end).is_ok_and(|bytes| bytes == file.bytes),
         None => is_free(rt, end)?,
@@ -305,12 +305,12 @@ fn put(
 }
 
 // Puts the new bundle of a file that is in its place in the place of the old one.
-fn settle(rt: &HostRuntime, folder: &str, placed: &Placed<'_>) -> Result<(), Fault> {
-    let newer = own_path(rt, folder, placed.book, "bundle.new")?;
-    if placed.is_left || is_free(rt, &newer)? {
+fn settle(rt: &HostRuntime, folder: &str, book: &Staged) -> Result<(), Fault> {
+    if book.file.is_none() || book.bundle.is_none() || book.is_left {
         return Ok(());
     }
-    rename(rt, &newer, &own_path(rt, folder, placed.book, "bundle")?)
+    let newer = own_path(rt, folder, book.book, "bundle.new")?;
+    rename(rt, &newer, &own_path(rt, folder, book.book, "bundle")?)
 }
 
 // Puts a bundle in the place of the one that a book's file was written from, and waits until it is on the disk.

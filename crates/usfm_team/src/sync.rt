@@ -1,7 +1,7 @@
 // A folder of books' files: what was changed in it comes into the project, and the project's books go into it.
 use crate::files::read_file;
-use crate::folder::{BookFile, lock_books, read_books, refuse_twins};
-use crate::placing::{Placed, place, put_base, stage, unstage};
+use crate::folder::{BookFile, file_of, lock_books, read_books, refuse_twins};
+use crate::placing::{Staged, place, put_base, stage, unstage};
 use crate::project::lock_project;
 use crate::turns::{Refusal, read_files, refusal_in};
 use crate::write_output;
@@ -27,12 +27,11 @@ pub(crate) fn sync(
     let mut files = read_books(rt, folder)?;
     let given = read_files(rt, &bundles).map_err(|fault| refusal_in(rt, fault, &bundles))?;
     refuse_twins(rt, &files)?;
-    find_newer(rt, &mut files)?;
-    let takes = takes_of(rt, &files)?;
-    let outcomes = take_in(rt, &before, &files, &takes, &bundles, &given)?;
+    find_bases(rt, &mut files)?;
+    let outcomes = take_in(rt, &before, &files, &bundles, &given)?;
     let stands = project_standing(rt.alloc(), outcomes.project())?;
     let books = all_books(rt, &stands)?;
-    let staged = stage(rt, folder, &files, &books)?;
+    let mut staged = stage(rt, folder, &files, &books)?;
     if outcomes.project() != before.as_slice() {
         if let Err(fault) = locked.replace(rt, outcomes.project()) {
             unstage(rt, folder, &staged);
@@ -40,9 +39,9 @@ pub(crate) fn sync(
         }
     }
     drop(locked);
-    let placed = place(rt, folder, &files, &staged)?;
-    keep_left(rt, folder, &before, &files, &takes, &placed)?;
-    let told = told(rt, &files, &outcomes, &placed, &stands)?;
+    place(rt, folder, &files, &mut staged)?;
+    keep_left(rt, folder, &before, &files, &staged)?;
+    let told = told(rt, &files, &outcomes, &staged, &stands)?;
     Ok(write_output(rt, &told)?)
 }
 
@@ -53,25 +52,25 @@ pub(crate) fn export_into(
     folder: &str,
     books: &[Book],
 ) -> Result<(), Refusal> {
+    read_file(rt, project)?;
+    let _held = lock_books(rt, folder)?;
     let bytes = read_file(rt, project)?;
     let stands = project_standing(rt.alloc(), &bytes)?;
     let chosen = chosen_books(rt, &stands, books)?;
-    let _held = lock_books(rt, folder)?;
     let mut files = read_books(rt, folder)?;
     refuse_twins(rt, &files)?;
-    find_newer(rt, &mut files)?;
-    for book in &chosen {
-        refuse_changed(rt, &files, book)?;
-    }
-    let staged = stage(rt, folder, &files, &chosen)?;
-    let placed = place(rt, folder, &files, &staged)?;
+    find_bases(rt, &mut files)?;
+    let replaced = replaced_files(rt, &files, &chosen)?;
+    refuse_lost(rt, &bytes, &replaced)?;
+    let mut staged = stage(rt, folder, &files, &chosen)?;
+    place(rt, folder, &files, &mut staged)?;
     let mut told = Vec::new(rt.alloc());
-    tell_placed(&mut told, &placed)?;
+    tell_placed(&mut told, &staged)?;
     Ok(write_output(rt, &told)?)
 }
 
-// Finds out of which of its bundles each file was written, where there are two.
-fn find_newer(rt: &HostRuntime, files: &mut Vec<BookFile>) -> Result<(), Refusal> {
+// Finds out which of its bundles each file was written from, where there are two, and whether it is what that one makes.
+fn find_bases(rt: &HostRuntime, files: &mut Vec<BookFile>) -> Result<(), Refusal> {
     for file in files.iter_mut() {
         let base = file.base.as_deref();
         let newer = file.newer.as_deref();
@@ -87,48 +86,41 @@ fn find_newer(rt: &HostRuntime, files: &mut Vec<BookFile>) -> Result<(), Refusal
             Ok(from) => file.is_newer = newer.is_some() && from == newer,
             Err(fault) => return Err(Refusal::at(rt, fault, &file.path)),
         }
+        file.is_unchanged = match file.from() {
+            Some(from) => { makes(rt.alloc(), from, file.book, &file.bytes).map_err(Fault::from)? }
+            None => false,
+        };
     }
     Ok(())
 }
 
-// The command that takes in each file: the whole of a new one, of one that was changed what was changed. Of one that
-// was not, the bundle that it was written from is received, which the project mostly has.
-fn takes_of<'a>(rt: &HostRuntime, files: &'a [BookFile]) -> Result<Vec<Command<'a>>, Refusal> {
-    let mut takes = Vec::new(rt.alloc());
-    for file in files {
-        let command = match file.from() {
-            None => Command::ImportNew(&file.bytes),
-            Some(base) if makes(rt.alloc(), base, file.book, &file.bytes).map_err(Fault::from)? => {
-                Command::Receive(base)
-            }
-            Some(base) => Command::ImportSince {
-                file: &file.bytes,
-                base,
-            },
-        };
-        takes.push(command).map_err(Fault::from)?;
+// The command that takes in a file: the whole of a new one, of one that was changed what was changed. Of one that was not, the
+// bundle that it was written from is received, which the project mostly has.
+fn take_of(file: &BookFile) -> Command<'_> {
+    match file.from() {
+        None => Command::ImportNew(&file.bytes),
+        Some(base) if file.is_unchanged => Command::Receive(base),
+        Some(base) => Command::ImportSince {
+            file: &file.bytes,
+            base,
+        },
     }
-    Ok(takes)
 }
 
 // Does what takes in the files, and then receives the bundles.
-fn take_in(
+fn take_in<'a>(
     rt: &HostRuntime,
     before: &[u8],
-    files: &[BookFile],
-    takes: &[Command<'_>],
+    files: &'a [BookFile],
     bundles: &[String],
-    given: &[Vec<u8>],
+    given: &'a [Vec<u8>],
 ) -> Result<Outcomes, Refusal> {
-    let mut commands = Vec::new(rt.alloc());
-    for take in takes {
-        commands.push(*take).map_err(Fault::from)?;
-    }
-    for bundle in given {
-        commands
-            .push(Command::Receive(bundle))
-            .map_err(Fault::from)?;
-    }
+    let commands: Vec<Command<'a>> = files
+        .iter()
+        .map(|file| take_of(file))
+        .chain(given.iter().map(|bundle| Command::Receive(bundle)))
+        .collect(rt.alloc())
+        .map_err(Fault::from)?;
     match exec_in_turn(rt.alloc(), before, &commands) {
         Ok(outcomes) => Ok(outcomes),
         Err(TurnFault::Project(fault)) => Err(Refusal::from(fault)),
@@ -152,23 +144,21 @@ fn keep_left(
     folder: &str,
     before: &[u8],
     files: &[BookFile],
-    takes: &[Command<'_>],
-    placed: &[Placed<'_>],
+    staged: &[Staged],
 ) -> Result<(), Refusal> {
-    if !placed.iter().any(|one| one.is_left) {
+    if !staged.iter().any(|one| one.is_left) {
         return Ok(());
     }
-    let Ok(outcomes) = exec_in_turn(rt.alloc(), before, takes) else {
+    let Ok(outcomes) = take_in(rt, before, files, &[], &[]) else {
         return Ok(());
     };
     let stands = project_standing(rt.alloc(), outcomes.project())?;
-    for one in placed.iter().filter(|one| one.is_left) {
-        let file = files.iter().find(|file| file.book == one.book);
+    for one in staged.iter().filter(|one| one.is_left) {
         let stood = stands.books().iter().find(|book| book.book() == one.book);
-        if let (Some(file), Some(stood)) = (file, stood) {
+        if let (Some(file), Some(stood)) = (file_of(files, one.book), stood) {
             if file.bytes.as_slice() == stood.text() {
                 let kept = put_base(rt, folder, file, stood.base());
-                kept.map_err(|fault| Refusal::at(rt, fault, one.path))?;
+                kept.map_err(|fault| Refusal::at(rt, fault, &one.path))?;
             }
         }
     }
@@ -206,24 +196,53 @@ fn chosen_books<'a>(
     Ok(books)
 }
 
-// Refuses a book's file that is neither what it was written as nor what it is to be.
-fn refuse_changed(
+// The files of books that are other than they are to be. One that was changed since it was written is refused.
+fn replaced_files<'a>(
     rt: &HostRuntime,
-    files: &[BookFile],
-    book: &StandingBook,
-) -> Result<(), Refusal> {
-    let Some(file) = files.iter().find(|file| file.book == book.book()) else {
+    files: &'a [BookFile],
+    books: &[&StandingBook],
+) -> Result<Vec<&'a BookFile>, Refusal> {
+    let mut found = Vec::new(rt.alloc());
+    for book in books {
+        if let Some(file) = file_of(files, book.book()) {
+            if file.bytes.as_slice() == book.text() {
+                continue;
+            }
+            if !file.is_unchanged {
+                return Err(Refusal::at(rt, Fault::FileChanged, &file.path));
+            }
+            found.push(file).map_err(Fault::from)?;
+        }
+    }
+    Ok(found)
+}
+
+// Refuses a file that was written from operations which the project does not have, as one that was set back.
+fn refuse_lost(rt: &HostRuntime, project: &[u8], files: &[&BookFile]) -> Result<(), Refusal> {
+    if files.is_empty() {
         return Ok(());
+    }
+    let commands: Vec<Command<'_>> = files
+        .iter()
+        .map(|file| take_of(file))
+        .collect(rt.alloc())
+        .map_err(Fault::from)?;
+    let outcomes = match exec_in_turn(rt.alloc(), project, &commands) {
+        Ok(outcomes) => outcomes,
+        Err(TurnFault::Project(fault)) => return Err(Refusal::from(fault)),
+        Err(TurnFault::Turn(at, fault)) => {
+            return Err(match files.get(at) {
+                Some(file) => Refusal::at(rt, fault, &file.path),
+                None => Refusal::from(fault),
+            });
+        }
     };
-    if file.bytes.as_slice() == book.text() {
-        return Ok(());
+    for (file, output) in files.iter().zip(outcomes.outputs()) {
+        if output.as_slice() != b"new 0\n".as_slice() {
+            return Err(Refusal::at(rt, Fault::FileChanged, &file.path));
+        }
     }
-    match file.from() {
-        Some(base) if makes(rt.alloc(), base, file.book, &file.bytes).map_err(Fault::from)? => Ok(
-            (),
-        ),
-        _ => Err(Refusal::at(rt, Fault::FileChanged, &file.path)),
-    }
+    Ok(())
 }
 
 // What a sync writes: what each file added and each bundle brought, the files that were written or left, and how many
@@ -232,7 +251,7 @@ fn told(
     rt: &HostRuntime,
     files: &[BookFile],
     outcomes: &Outcomes,
-    placed: &[Placed<'_>],
+    staged: &[Staged],
     stands: &Standing,
 ) -> Result<Vec<u8>, Refusal> {
     let mut told = Vec::new(rt.alloc());
@@ -242,7 +261,7 @@ fn told(
             None => told.extend_from_slice(output).map_err(Fault::from)?,
         }
     }
-    tell_placed(&mut told, placed)?;
+    tell_placed(&mut told, staged)?;
     if let Some(count) = stands.conflicts() {
         writeln!(told, "conflicts {count}").map_err(|_| Fault::Memory)?;
     }
@@ -263,8 +282,8 @@ fn tell_added(told: &mut Vec<u8>, output: &[u8], file: &BookFile) -> Result<(), 
     Ok(told.push(b'\n')?)
 }
 
-fn tell_placed(told: &mut Vec<u8>, placed: &[Placed<'_>]) -> Result<(), Fault> {
-    for one in placed {
+fn tell_placed(told: &mut Vec<u8>, staged: &[Staged]) -> Result<(), Fault> {
+    for one in staged.iter().filter(|one| one.has_file()) {
         let word = if one.is_left { "left" } else { "wrote" };
         writeln!(told, "{word} {}", one.path).map_err(|_| Fault::Memory)?;
     }
