@@ -220,7 +220,10 @@ def check_saves(tally: Tally, program: Path, work: Path, seed: int) -> None:
         bundle = ben.send(ana, False).read_bytes()
         ana.note()
         code = week.chance.choice(sorted(ana.files()))
-        saved = week.changed(ana.book(code))
+        before = ana.book(code)
+        saved = week.changed(before)
+        while saved == before:
+            saved = week.changed(before)
         command = subprocess.Popen([program, "sync", "p", "texts", pipe], cwd=ana.home, stdout=subprocess.PIPE)
         with open(pipe, "wb") as stream:
             ana.save(code, saved)
