@@ -11,3 +11,4 @@ pub mod Running
 pub mod Searched
 pub mod Headline
 pub mod InTurn
+pub mod Puts
