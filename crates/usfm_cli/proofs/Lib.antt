@@ -12,3 +12,4 @@ pub mod Searched
 pub mod Headline
 pub mod InTurn
 pub mod Puts
+pub mod ShownSets

@@ -8,9 +8,13 @@ use Rattle.usfm_ref.proofs.Orders.{same_bytes-is, same_bytes-refl}
 use Rattle.op_core.specs.Ops.{Operation}
 use Rattle.op_core.specs.Sets.{put}
 use Rattle.op_core.proofs.Enrolled.{more_items}
-use Rattle.usfm_cli.specs.Standing.{put_all}
 
-pub put_all-append : (set xs ys : List Operation) → put_all set (xs ++ ys) ≡ put_all (put_all set xs) ys
+-- a set with operations put into it, one after the other
+abbrev pub put_all : List Operation → List Operation → List Operation
+put_all set [] = set
+put_all set (o ∷ ops) = put_all (put o set) ops
+
+put_all-append : (set xs ys : List Operation) → put_all set (xs ++ ys) ≡ put_all (put_all set xs) ys
 put_all-append set [] ys = refl
 put_all-append set (x ∷ xs) ys = put_all-append (put x set) xs ys
 

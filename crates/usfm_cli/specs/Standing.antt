@@ -1,30 +1,27 @@
 -- How the books of a project stand (this project's own rule): the text of each, the bundle that makes it, and how many segments
 -- are in conflict.
-use Rattle.std.specs.Prelude.{ℕ, nat_eq, Bool, true, false, not, ◌&&◌, List, [], ◌∷◌, length, map, filter}
+use Rattle.std.specs.Prelude.{ℕ, ◌<◌, ◌^◌, nat_eq, Bool, true, false, not, ◌&&◌, IsTrue, List, [], ◌∷◌, length, map, filter}
 use Rattle.std.specs.Prelude.{Option, None, Some, if◌then◌else◌}
 use Rattle.std.specs.List.{list_any, flat_map}
 use Rattle.usfm_ref.specs.Books.{same_bytes}
 use Rattle.usfm_ref.specs.Keys.{KeyParts}
 use Rattle.usfm_ref.specs.Segments.{segment}
 use Rattle.op_core.specs.Ops.{Operation, own_text}
-use Rattle.op_core.specs.Sets.{put}
-use Rattle.op_core.specs.Shown.{last, text_in, shown}
+use Rattle.op_core.specs.Sets.{IsOpSet}
+use Rattle.op_core.specs.Thinned.{is_legal}
+use Rattle.op_core.specs.Shown.{last, text_in, is_shown, shown}
 use Rattle.op_core.specs.Lists.{keys_of, books_of, awaited}
-use Rattle.op_core.specs.Export.{export}
+use Rattle.op_core.specs.Export.{of_book, has_book, export}
 use Rattle.bundle_codec.specs.Spelling.{bundle}
+use Rattle.usfm_cli.specs.Folders.{makes}
 
--- a set with operations put into it, one after the other
-abbrev pub put_all : List Operation → List Operation → List Operation
-put_all set [] = set
-put_all set (o ∷ ops) = put_all (put o set) ops
+-- whether an operation is of a book, and its segment shows it
+abbrev pub is_shown_in_book : List Operation → List ℕ → Operation → Bool
+is_shown_in_book held book o = of_book book o && is_shown held o.segment o
 
--- the operations that a book shows, by its keys
-abbrev pub shown_in : List Operation → List ℕ → List Operation
-shown_in held book = flat_map (λ key. shown held (segment book key)) (keys_of held book)
-
--- the set of the operations that a book shows
+-- the operations of a book that their segments show
 abbrev pub shown_set : List Operation → List ℕ → List Operation
-shown_set held book = put_all [] (shown_in held book)
+shown_set held book = filter (is_shown_in_book held book) held
 
 -- whether an operation has another text
 abbrev pub has_other_text : List ℕ → Operation → Bool
@@ -71,3 +68,11 @@ project_parts held = record {
 -- how many segments are in conflict; nothing where the report is empty
 abbrev pub conflicts_told : ProjectParts → Option ℕ
 conflicts_told s = if nat_eq s.conflicts 0 && not s.awaits then None else Some s.conflicts
+
+-- The bundle of what a book shows makes the book's export, if a slice can have as many bytes: what a file was written from
+-- makes the file.
+abbrev pub BasesMakeBooks : Type 0
+BasesMakeBooks =
+    (held : List Operation) (book : List ℕ) → IsOpSet held → IsTrue (is_legal held) → IsTrue (has_book held book) →
+    length (bundle (shown_set held book)) < 2 ^ 64 →
+    IsTrue (makes (bundle (shown_set held book)) book (export held book))

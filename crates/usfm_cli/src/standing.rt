@@ -1,8 +1,10 @@
 // How the books of a project stand: the text of each, the bundle that makes it, and what is in conflict.
 ghost use Rattle.std.specs.Prelude.{◌≡◌, ◌++◌, Ok, IfOk, IfErr, IsTrue, OnOk, map};
-ghost use Rattle.std.specs.List.{list_any};
+ghost use Rattle.std.specs.List.{list_any, flat_map};
+ghost use Rattle.std.specs.List.Sorted.{IsPermutation};
 ghost use Rattle.usfm_ref.specs.Segments.{segment};
 ghost use Rattle.op_core.specs.Ops.{is_full};
+ghost use Rattle.op_core.specs.Lists.{keys_of};
 ghost use Rattle.op_core.specs.Sets.{put};
 ghost use Rattle.op_core.specs.Shown.{last, shown, text_in};
 ghost use Rattle.project_file.specs.Projects.{project_at};
@@ -146,34 +148,30 @@ fn standing_book(alloc: Global, replica: &Replica, book: Book) -> Result<Standin
 fn shown_set(alloc: Global, replica: &Replica, book: Book) -> Result<OpSet, AllocError>
     ensures { IfOk result (λ set. set ≡ standing.shown_set replica.now.held book) }
 {
+    // The name shows that what the replica holds is a legal set, so that what is shown has its text.
+    let _ = replica.name();
     let mut set = OpSet::new(alloc);
-    for key in replica.keys(book) {
-        put_shown(alloc, replica, book, key, &mut set)?;
+    for op in &shown_ops(alloc, replica, book)? {
+        put_copy(alloc, op, &mut set)?;
     }
     Ok(set)
 }
 
-// Puts the operations that a segment shows into a set. They are of one replica, so none clashes.
-fn put_shown(
-    alloc: Global,
-    replica: &Replica,
-    book: Book,
-    key: Key,
-    set: &mut OpSet,
-) -> Result<(), AllocError>
-    ensures { OnOk result (set.new
-        ≡ standing.put_all set.old (shown replica.now.held (segment book key))) }
+// The operations that a book shows, by their ids, so that each that is put into a set goes to its end.
+fn shown_ops(alloc: Global, replica: &Replica, book: Book) -> Result<Vec<&Op>, AllocError>
+    ensures { IfOk result (λ ops. IsPermutation
+        (flat_map (λ key. shown replica.now.held (segment book key)) (keys_of replica.now.held book))
+        (map (λ op. op.now) ops.items)) }
 {
-    // The name shows that what the replica holds is legal, so that what is shown has its text.
-    let _ = replica.name();
-    let shown = replica.shown(alloc, book, key)?;
-    for op in &shown {
-        put_copy(alloc, op, set)?;
+    let mut ops = Vec::new(alloc);
+    for key in replica.keys(book) {
+        ops.extend_from_slice(&replica.shown(alloc, book, key)?)?;
     }
-    Ok(())
+    ops.sort_unstable_by(|a, b| a.id().cmp(&b.id()));
+    Ok(ops)
 }
 
-// Puts a copy of an operation that has its text into a set.
+// Puts a copy of an operation that has its text into a set of operations that it does not clash with.
 fn put_copy(alloc: Global, op: &Op, set: &mut OpSet) -> Result<(), AllocError>
     requires full { IsTrue (is_full op.now) }
     ensures { OnOk result (set.new ≡ put op.now set.old) }
