@@ -7,7 +7,6 @@ use Rattle.std.specs.Option.{option_or}
 use Rattle.std.specs.Cmp.{tied_itself, Equal-is, nat_cmp_is}
 use Rattle.std.proofs.Math.Seq.{take-suc, drop-cons}
 use Rattle.std.proofs.lemmas.List.{take-append-drop}
-use Rattle.std.proofs.lemmas.List.Sums.{sum_by_more, sum_by-drop_more}
 use Rattle.std.proofs.lemmas.Bool.{and_parts, and_from, cond-false, ltb-true, false≢true}
 use Rattle.usfm_ref.specs.Segments.{Segment, segment_cmp}
 use Rattle.usfm_ref.proofs.Orders.{segment_total, segment_exact}
@@ -18,12 +17,12 @@ use Rattle.op_core.specs.Ops.{Operation, IsOperation, in_segment, names}
 use Rattle.op_core.specs.Sets.{rises, get, met, put, join, IsOpSet}
 use Rattle.op_core.specs.Shown.{is_replaced}
 use Rattle.op_core.specs.Lists.{shown_ids}
-use Rattle.op_core.specs.Index.{is_in, AreInside, register_of, shown_room_in, missing_room_in, unheld, AreApart, shown_needed, missing_needed, HasRoomFor, Prepares, AdmitsIn, IsIndex}
+use Rattle.op_core.specs.Index.{is_in, AreInside, AreApart, AdmitsIn, IsAside}
 use Rattle.op_core.specs.declared.chapter.Chapter.{Chapter}
 use Rattle.op_core.proofs.Union.{AllAbove, rises_parts, get_above, above_trans, apart_above, rises-put, rises-join, get-put, get-join, same_gets, or_none, met_none, met_assoc, met_or}
 use Rattle.op_core.proofs.Clashes.{get_cases}
 use Rattle.op_core.proofs.Inside.{is_of, in-get}
-use Rattle.op_core.proofs.Kept.{any_shown, in_segment-is, index_put}
+use Rattle.op_core.proofs.Kept.{any_shown, aside_put}
 
 -- ---- a list at one of its items
 
@@ -164,94 +163,7 @@ shown_inside held new n g ids hh hn h q e =
     ap (λ (ops : List Operation). is_in held g q || is_in ops g q) (sym (take-append-drop n new))
     ∙ inside_either held (take n new) (drop n new) hh (subst (λ (ops : List Operation). rises ops ≡ true) (sym (take-append-drop n new)) hn) g q shown.0
 
--- ---- room for what is to come
-
--- the segment's test of its own operation
-pub here : (o : Operation) → in_segment o.segment o ≡ true
-here o = in_segment-is o.segment o ∙ ap is_eq (tied_itself segment_total o.segment)
-
--- a promise at the operation's segment, by the test of operations
-promised : (o : Operation) (g : Segment) (n more : ℕ) → cond (is_eq (segment_cmp g o.segment)) (n + more) n ≡ n + cond (in_segment g o) more 0
-promised o g n more = by (is_eq (segment_cmp g o.segment)) (in_segment-is g o)
-  where
-    by : (b : Bool) → in_segment g o ≡ b → cond b (n + more) n ≡ n + cond (in_segment g o) more 0
-    by true e = rw e refl
-    by false e = rw e (omega arith)
-
-module _ (held more ops : List Operation) (i : ℕ) (o : Operation) (l : i < length ops) (ho : o ≡ get_or ops i o) where
-  shown_more : (g : Segment) → shown_needed g (take (i + 1) ops) ≡ shown_needed g (take i ops) + cond (in_segment g o) 1 0
-  shown_more g = sum_by_more (λ o. cond (in_segment g o) 1 0) ops i o l ∙ ap (λ (p : Operation). shown_needed g (take i ops) + cond (in_segment g p) 1 0) (sym ho)
-
-  missing_more : (g : Segment) → missing_needed held more g (take (i + 1) ops) ≡ missing_needed held more g (take i ops) + cond (in_segment g o) (unheld held more o o.replaced) 0
-  missing_more g = sum_by_more (λ o. cond (in_segment g o) (unheld held more o o.replaced) 0) ops i o l ∙ ap (λ (p : Operation). missing_needed held more g (take i ops) + cond (in_segment g p) (unheld held more p p.replaced) 0) (sym ho)
-
-  pub room_more : (before after : List Chapter) → HasRoomFor held more (take i ops) before → Prepares o.segment 1 (unheld held more o o.replaced) before after → HasRoomFor held more (take (i + 1) ops) after
-  room_more before after h p = record {
-    shown = λ g. let a = shown_more g in let b = p.shown_room g ∙ promised o g (shown_room_in (register_of g before)) 1 in let c = h.shown g in omega (arith, a, b, c);
-    missing = λ g. let a = missing_more g in let b = p.missing_room g ∙ promised o g (missing_room_in (register_of g before)) (unheld held more o o.replaced) in let c = h.missing g in omega (arith, a, b, c);
-  }
-
-  shown_drop : (g : Segment) → shown_needed g (drop i ops) ≡ cond (in_segment g o) 1 0 + shown_needed g (drop (i + 1) ops)
-  shown_drop g = sum_by-drop_more (λ o. cond (in_segment g o) 1 0) ops i o l ∙ ap (λ (p : Operation). cond (in_segment g p) 1 0 + shown_needed g (drop (i + 1) ops)) (sym ho)
-
-  missing_drop : (g : Segment) → missing_needed held more g (drop i ops) ≡ cond (in_segment g o) (unheld held more o o.replaced) 0 + missing_needed held more g (drop (i + 1) ops)
-  missing_drop g = sum_by-drop_more (λ o. cond (in_segment g o) (unheld held more o o.replaced) 0) ops i o l ∙ ap (λ (p : Operation). cond (in_segment g p) (unheld held more p p.replaced) 0 + missing_needed held more g (drop (i + 1) ops)) (sym ho)
-
-  -- there is room for the next one
-  pub shown_fits : (chapters : List Chapter) → HasRoomFor held more (drop i ops) chapters → 1 ≤ shown_room_in (register_of o.segment chapters)
-  shown_fits chapters h =
-      let a = shown_drop o.segment in
-      let b = h.shown o.segment in
-      let c = ap {B = ℕ} (λ t. cond t 1 0) (here o) in
-      omega (arith, a, b, c)
-
-  pub missing_fits : (chapters : List Chapter) → HasRoomFor held more (drop i ops) chapters → unheld held more o o.replaced ≤ missing_room_in (register_of o.segment chapters)
-  missing_fits chapters h =
-      let a = missing_drop o.segment in
-      let b = h.missing o.segment in
-      let c = ap (λ t. cond t (unheld held more o o.replaced) 0) (here o) in
-      omega (arith, a, b, c)
-
-  pub room_left : (before after : List Chapter) → HasRoomFor held more (drop i ops) before → AdmitsIn held more o before after → HasRoomFor held more (drop (i + 1) ops) after
-  room_left before after h a = record {
-    shown = λ g. subst (λ (n : ℕ). shown_needed g (drop (i + 1) ops) ≤ n) (sym (ap shown_room_in (a.is_now g))) (shown g (is_eq (segment_cmp g o.segment)) refl);
-    missing = λ g. subst (λ (n : ℕ). missing_needed held more g (drop (i + 1) ops) ≤ n) (sym (ap missing_room_in (a.is_now g))) (missing g (is_eq (segment_cmp g o.segment)) refl);
-  }
-    where
-      same : (g : Segment) → is_eq (segment_cmp g o.segment) ≡ true → register_of g before ≡ Some a.old
-      same g e = ap (λ (w : Segment). register_of w before) (segment_exact g o.segment ((Equal-is _).0 e)) ∙ a.was
-
-      shown : (g : Segment) (b : Bool) → is_eq (segment_cmp g o.segment) ≡ b → shown_needed g (drop (i + 1) ops) ≤ shown_room_in (cond b (Some a.new) (register_of g before))
-      shown g true e =
-          let n = shown_drop g in
-          let m = h.shown g in
-          let k = ap shown_room_in (same g e) in
-          let t = ap {B = ℕ} (λ t. cond t 1 0) (in_segment-is g o ∙ e) in
-          let r = a.admits.shown_room in
-          omega (arith, n, m, k, t, r)
-      shown g false e =
-          let n = shown_drop g in
-          let m = h.shown g in
-          omega (arith, n, m)
-
-      missing : (g : Segment) (b : Bool) → is_eq (segment_cmp g o.segment) ≡ b → missing_needed held more g (drop (i + 1) ops) ≤ missing_room_in (cond b (Some a.new) (register_of g before))
-      missing g true e =
-          let n = missing_drop g in
-          let m = h.missing g in
-          let k = ap missing_room_in (same g e) in
-          let t = ap (λ t. cond t (unheld held more o o.replaced) 0) (in_segment-is g o ∙ e) in
-          let r = a.admits.missing_room in
-          omega (arith, n, m, k, t, r)
-      missing g false e =
-          let n = missing_drop g in
-          let m = h.missing g in
-          omega (arith, n, m)
-
--- for nothing no room is needed
-pub room_for_none : (held more : List Operation) (chapters : List Chapter) → HasRoomFor held more [] chapters
-room_for_none held more chapters = record { shown = λ g. omega arith; missing = λ g. omega arith }
-
--- ---- the index after one operation of the new ones
+-- ---- what is aside after one operation of the new ones
 
 -- what an operation names is below it
 named_below : (o : Operation) (n : Id) → IsOperation o → names o n ≡ true → id_below n o.id ≡ true
@@ -274,8 +186,8 @@ named_below o n h e = below (number o.replaced (and_parts (ids_rise o.replaced) 
         less : (a b : ℕ) → a < b → nat_cmp a b ≡ Less
         less a b l = sym (nat_cmp_is a b Less l)
 
-pub index_more : (held new : List Operation) (i : ℕ) (o : Operation) (before after : List Chapter) → i < length new → o ≡ get_or new i o → IsOpSet held → IsOpSet new → AreApart held new → IsIndex (join held (take i new)) before → AdmitsIn held new o before after → IsIndex (join held (take (i + 1) new)) after
-index_more held new i o before after l ho sh sn apart h a =
+pub aside_more : (held new : List Operation) (i : ℕ) (o : Operation) (before after : List Chapter) → i < length new → o ≡ get_or new i o → IsOpSet held → IsOpSet new → AreApart held new → IsAside (join held (take i new)) before → AdmitsIn held new o before after → IsAside (join held (take (i + 1) new)) after
+aside_more held new i o before after l ho sh sn apart h a =
     let at = at_item new i o l ho in
     let rising : rises (take i new ++ o ∷ drop (i + 1) new) ≡ true = subst (λ (xs : List Operation). rises xs ≡ true) at sn.rising in
     let apart' : AreApart held (take i new ++ o ∷ drop (i + 1) new) = subst (AreApart held) at apart in
@@ -283,5 +195,5 @@ index_more held new i o before after l ho sh sn apart h a =
     let ok : IsOperation o = each_at IsOperation new i o l ho sn.each in
     let inside = λ (n : Id) (e : names o n ≡ true). (λ j. is_in held o.segment n || is_in (at j) o.segment n) ∙ inside_so_far held (take i new) (drop (i + 1) new) o sh.rising rising apart' o.segment n (named_below o n ok e) in
     let none = not_yet held (take i new) (drop (i + 1) new) o sh.rising rising apart' (each_at (λ o. get held o.id ≡ None) new i o l ho apart) in
-    subst (λ (ops : List Operation). IsIndex ops after) (one_more held (take i new) (drop (i + 1) new) o sh.rising rising apart' ∙ ap (join held) (sym (more_items new i o l ho)))
-    (index_put (join held (take i new)) o held new before after (rises-join held (take i new) sh.rising) none ok inside h a)
+    subst (λ (ops : List Operation). IsAside ops after) (one_more held (take i new) (drop (i + 1) new) o sh.rising rising apart' ∙ ap (join held) (sym (more_items new i o l ho)))
+    (aside_put (join held (take i new)) o held new before after (rises-join held (take i new) sh.rising) none ok inside h a)

@@ -2,10 +2,10 @@
 use Rattle.std.proofs.Common.{◌≡◌, ℕ, Bool, true, false, not, cond, ◌&&◌, ◌||◌, List, [], ◌∷◌, Option, Some, None, filter, refl, sym, ap, subst, ◌∙◌}
 use Rattle.std.specs.declared.cmp.Ordering.TheVariants.{Less, Equal, Greater}
 use Rattle.std.specs.Ordering.{is_eq, is_lt}
-use Rattle.std.specs.List.{list_any, list_all}
+use Rattle.std.specs.List.{list_any, list_all, AllByRecursion}
 use Rattle.std.specs.Cmp.{Equal-is, tied_itself}
 use Rattle.std.specs.FinMap.Entries.{by_order}
-use Rattle.std.proofs.lemmas.Bool.{cond-true, cond-false}
+use Rattle.std.proofs.lemmas.Bool.{cond-true, cond-false, true≢false}
 use Rattle.std.proofs.Common.{arith}
 use Rattle.usfm_ref.specs.Segments.{Segment, segment_cmp}
 use Rattle.usfm_ref.proofs.Orders.{segment_total, segment_exact, same_segment-cmp}
@@ -13,14 +13,14 @@ use Rattle.usfm_ref.proofs.Sorted.{rises_filter, tied_back}
 use Rattle.op_core.specs.Ids.{Id, id_cmp, same_id, ids_rise}
 use Rattle.op_core.specs.Equal.{id_from_same}
 use Rattle.op_core.specs.Ops.{Operation, IsOperation, in_segment, names}
-use Rattle.op_core.specs.Sets.{rises, get, meet, put}
+use Rattle.op_core.specs.Sets.{rises, get, meet, met, put, join}
 use Rattle.op_core.specs.Shown.{is_replaced, shown}
 use Rattle.op_core.specs.Lists.{ids_of, shown_ids}
-use Rattle.op_core.specs.Index.{is_in, is_missing, register_of, shown_in, missing_in, IsIndex, Prepares, Lays, Admits, AdmitsIn}
+use Rattle.op_core.specs.Index.{is_in, is_missing, register_of, IsIndex, IsAside, KeepsOf, Lays, Admits, AdmitsIn}
 use Rattle.op_core.specs.declared.register.Register.{Register}
 use Rattle.op_core.specs.declared.chapter.Chapter.{Chapter}
 use Rattle.op_core.proofs.Rising.{id_total, same_id-cmp}
-use Rattle.op_core.proofs.Union.{rises-put}
+use Rattle.op_core.proofs.Union.{rises_parts, get_above, get-join, rises-put, rises-join}
 use Rattle.op_core.proofs.Shows.{names_none}
 use Rattle.op_core.proofs.IdLists.{same_members}
 use Rattle.op_core.proofs.Inside.{is_of, in-get}
@@ -102,9 +102,6 @@ index_laid ops before after h p = record {
     missing = λ k q. ap (list_any (same_id q)) (p.missing k) ∙ h.keeps.missing k q;
   };
 }
-
-pub index_prepared : (ops : List Operation) (g : Segment) (s m : ℕ) (before after : List Chapter) → IsIndex ops before → Prepares g s m before after → IsIndex ops after
-index_prepared ops g s m before after h p = index_laid ops before after h (record { orderly = p.orderly; shown = p.shown; missing = p.missing })
 
 module _ (ops : List Operation) (o : Operation) (hr : rises ops ≡ true) (new : get ops o.id ≡ None) (ok : IsOperation o) where
   in_after : (g : Segment) (q : Id) → is_in (put o ops) g q ≡ ((in_segment g o && same_id q o.id) || is_in ops g q)
@@ -201,37 +198,55 @@ module _ (ops : List Operation) (o : Operation) (hr : rises ops ≡ true) (new :
 pub in_segment-is : (g : Segment) (o : Operation) → in_segment g o ≡ is_eq (segment_cmp g o.segment)
 in_segment-is g o = same_segment-cmp o.segment g ∙ sym (tied_back segment_cmp segment_total o.segment g _ refl)
 
--- the index keeps what it has to, after one new operation
-pub index_put : (ops : List Operation) (o : Operation) (held more : List Operation) (before after : List Chapter) → rises ops ≡ true → get ops o.id ≡ None → IsOperation o → ((n : Id) → names o n ≡ true → (is_in held o.segment n || is_in more o.segment n) ≡ is_in ops o.segment n) → IsIndex ops before → AdmitsIn held more o before after → IsIndex (put o ops) after
-index_put ops o held more before after hr new ok inside h a = record {
-  orderly = a.orderly;
-  keeps = record {
-    shown = λ k. ap shown_in (a.is_now k) ∙ shown k (is_eq (segment_cmp k o.segment)) refl;
-    rising = λ k. subst (λ (r : Option Register). ids_rise (missing_in r) ≡ true) (sym (a.is_now k)) (rising k (is_eq (segment_cmp k o.segment)));
-    missing = λ k q. ap (λ (r : Option Register). list_any (same_id q) (missing_in r)) (a.is_now k) ∙ missing k q (is_eq (segment_cmp k o.segment)) refl;
-  };
+-- what is aside keeps what it has to, after one new operation
+pub aside_put : (ops : List Operation) (o : Operation) (held more : List Operation) (before after : List Chapter) → rises ops ≡ true → get ops o.id ≡ None → IsOperation o → ((n : Id) → names o n ≡ true → (is_in held o.segment n || is_in more o.segment n) ≡ is_in ops o.segment n) → IsAside ops before → AdmitsIn held more o before after → IsAside (put o ops) after
+aside_put ops o held more before after hr new ok inside h a = record {
+  orderly = a.changes.orderly;
+  keeps = λ k r e. keeps k r (is_eq (segment_cmp k o.segment)) refl (sym (a.changes.is_now k) ∙ e);
 }
   where
     here : in_segment o.segment o ≡ true
     here = in_segment-is o.segment o ∙ ap is_eq (tied_itself segment_total o.segment)
 
-    was_shown : a.old.shown.items ≡ shown_ids ops o.segment
-    was_shown = sym (ap shown_in a.was) ∙ h.keeps.shown o.segment
-
-    was_missing : (q : Id) → list_any (same_id q) a.old.missing.items ≡ is_missing ops o.segment q
-    was_missing q = sym (ap (λ (r : Option Register). list_any (same_id q) (missing_in r)) a.was) ∙ h.keeps.missing o.segment q
+    was : KeepsOf ops o.segment a.old
+    was = h.keeps o.segment a.old a.was
 
     at : (k : Segment) → is_eq (segment_cmp k o.segment) ≡ true → k ≡ o.segment
     at k e = segment_exact k o.segment ((Equal-is _).0 e)
 
-    shown : (k : Segment) (b : Bool) → is_eq (segment_cmp k o.segment) ≡ b → shown_in (cond b (Some a.new) (register_of k before)) ≡ shown_ids (put o ops) k
-    shown k true e = shown_here ops o hr new ok held more inside here a.old a.new a.admits was_shown was_missing ∙ ap (shown_ids (put o ops)) (sym (at k e))
-    shown k false e = h.keeps.shown k ∙ shown_away ops o hr new ok k (in_segment-is k o ∙ e)
+    now : KeepsOf (put o ops) o.segment a.new
+    now = record {
+      shown = shown_here ops o hr new ok held more inside here a.old a.new a.admits was.shown was.missing;
+      rising = a.admits.missing_rises;
+      missing = missing_here ops o hr new ok held more inside here a.old a.new a.admits was.shown was.missing;
+    }
 
-    rising : (k : Segment) (b : Bool) → ids_rise (missing_in (cond b (Some a.new) (register_of k before))) ≡ true
-    rising k true = a.admits.missing_rises
-    rising k false = h.keeps.rising k
+    same : (x y : Register) → Some x ≡ Some y → x ≡ y
+    same x y e = cc
 
-    missing : (k : Segment) (q : Id) (b : Bool) → is_eq (segment_cmp k o.segment) ≡ b → list_any (same_id q) (missing_in (cond b (Some a.new) (register_of k before))) ≡ is_missing (put o ops) k q
-    missing k q true e = missing_here ops o hr new ok held more inside here a.old a.new a.admits was_shown was_missing q ∙ ap (λ (s : Segment). is_missing (put o ops) s q) (sym (at k e))
-    missing k q false e = h.keeps.missing k q ∙ missing_away ops o hr new ok k (in_segment-is k o ∙ e) q
+    keeps : (k : Segment) (r : Register) (b : Bool) → is_eq (segment_cmp k o.segment) ≡ b → cond b (Some a.new) (register_of k before) ≡ Some r → KeepsOf (put o ops) k r
+    keeps k r true e f =
+        subst (λ (x : Register). KeepsOf (put o ops) k x) (same a.new r f)
+        (subst (λ (g : Segment). KeepsOf (put o ops) g a.new) (sym (at k e)) now)
+    keeps k r false e f =
+        let was = h.keeps k r f in
+        record {
+          shown = was.shown ∙ shown_away ops o hr new ok k (in_segment-is k o ∙ e);
+          rising = was.rising;
+          missing = λ q. was.missing q ∙ missing_away ops o hr new ok k (in_segment-is k o ∙ e) q;
+        }
+
+-- at a segment of which none of the new operations is nothing changes
+pub untouched : (held new : List Operation) (g : Segment) → rises held ≡ true → rises new ≡ true → AllByRecursion IsOperation new → AllByRecursion (λ o. get held o.id ≡ None) new → list_any (in_segment g) new ≡ false → (shown_ids held g ≡ shown_ids (join held new) g) × ((q : Id) → is_missing held g q ≡ is_missing (join held new) g q)
+untouched held [] g hh hn ok apart away = (refl, λ q. refl)
+untouched held (o ∷ new) g hh hn ok apart away =
+    let p = rises_parts o new hn in
+    let a = neither (in_segment g o) (list_any (in_segment g) new) away in
+    let rest = untouched held new g hh p.1 ok.1 apart.1 a.1 in
+    let none : get (join held new) o.id ≡ None = get-join held new o.id hh p.1 ∙ (λ i. met (apart.0 i) (get_above o.id new p.0 i)) in
+    let rising = rises-join held new hh in
+    (rest.0 ∙ shown_away (join held new) o rising none ok.0 g a.0, λ q. rest.1 q ∙ missing_away (join held new) o rising none ok.0 g a.0 q)
+  where
+    neither : (a b : Bool) → (a || b) ≡ false → (a ≡ false) × (b ≡ false)
+    neither true b e = absurd (true≢false e)
+    neither false b e = (refl, e)

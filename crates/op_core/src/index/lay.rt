@@ -7,13 +7,18 @@ ghost use Rattle.usfm_ref.specs.Keys as keys;
 ghost use Rattle.usfm_ref.specs.Keys.{key_cmp, same_key};
 ghost use Rattle.usfm_ref.specs.Segments.{segment, segment_cmp};
 ghost use Rattle.usfm_ref.specs.Rising.{rises_by};
-ghost use Rattle.op_core.specs.Index.{place_of, register_at, HasRoomIn, IsOrderly, begins_above};
+ghost use Rattle.std.specs.Prelude.{true, OnOk};
+ghost use Rattle.std.specs.Option.{is_some};
+ghost use Rattle.usfm_ref.specs.Keys.{KeyParts};
+ghost use Rattle.usfm_ref.specs.Segments.{Segment};
+ghost use Rattle.op_core.specs.Index.{place_of, register_at, is_there, IsOrderly, begins_above};
 ghost use Rattle.op_core.specs.Index.{Lays, LaysKeys};
 
+use super::aside::is_laid;
+use super::put_in;
 use crate::chapter::Chapter;
 use crate::merge::move_behind;
-use crate::op::Op;
-use crate::place::{Near, head_of, place_chapter, place_register, register_at, registers_of};
+use crate::place::{Near, head_of, place_chapter, place_register};
 use crate::register::Register;
 use std::alloc::{AllocError, Global};
 use usfm_ref::{Book, Key};
@@ -35,23 +40,20 @@ impl Spot {
     }
 }
 
-// Puts in registers, and chapters for them, at the segments of the operations that have none. What
+// Puts in registers, and chapters for them, at the segments of those that are aside, where many have none. What
 // the index keeps stays, also where a growth was refused.
 #[tactic(auto, using(crate::proofs::Laid::lays_same, crate::proofs::Laid::lays_more))]
 pub(crate) fn lay_out(
     chapters: &mut Vec<Chapter>,
     alloc: Global,
-    new: &[Op],
+    aside: &[Chapter],
     near: &mut Near,
     compared: &mut u64,
 ) -> Result<(), AllocError>
     requires { IsOrderly chapters.old.items }
     ensures { Lays chapters.old.items chapters.new.items }
 {
-    if new.len() < FEW {
-        return Ok(());
-    }
-    let spots = spots_of(chapters, alloc, new, near, compared)?;
+    let spots = spots_of(chapters, alloc, aside, near, compared)?;
     if spots.len() < FEW {
         return Ok(());
     }
@@ -59,30 +61,86 @@ pub(crate) fn lay_out(
     lay_registers(chapters, alloc, &spots, compared)
 }
 
-// The segments of the operations that have no register, rising, each once.
+// The segments of those that are aside that have no register, rising.
 fn spots_of(
     chapters: &[Chapter],
     alloc: Global,
-    new: &[Op],
+    aside: &[Chapter],
     near: &mut Near,
     compared: &mut u64,
 ) -> Result<Vec<Spot>, AllocError>
     requires { IsOrderly chapters.now }
 {
     let mut spots: Vec<Spot> = Vec::new(alloc);
-    for op in new {
-        let (book, key) = (op.book(), op.key());
-        let registers = registers_of(chapters, book, key, &mut near.chapter, compared);
-        if register_at(registers, key, &mut near.register, compared).is_none() {
-            spots.push(Spot { book, key })?;
+    for chapter in aside {
+        for register in &chapter.registers {
+            let (book, key) = (chapter.book, register.key);
+            if !is_laid(chapters, book, key, near, compared) {
+                spots.push(Spot { book, key })?;
+            }
         }
     }
-    spots.sort_unstable_by(|a, b| {
-        *compared = compared.saturating_add(1);
-        a.cmp(b)
-    });
-    spots.dedup();
     Ok(spots)
+}
+
+// Puts in a register at the segment of each that is aside and has none.
+pub(crate) fn lay_each(
+    chapters: &mut Vec<Chapter>,
+    alloc: Global,
+    aside: &[Chapter],
+    near: &mut Near,
+    compared: &mut u64,
+) -> Result<(), AllocError>
+    requires { IsOrderly chapters.old.items }
+    ensures lays { Lays chapters.old.items chapters.new.items }
+    ensures there { OnOk result ((g : Segment) → is_there g aside.now ≡ true → is_there g chapters.new.items ≡ true) }
+{
+    for chapter in aside {
+        lay_in(chapters, alloc, chapter.book, &chapter.registers, near, compared)?;
+    }
+    Ok(())
+}
+
+// The same of registers of one book.
+fn lay_in(
+    chapters: &mut Vec<Chapter>,
+    alloc: Global,
+    book: Book,
+    registers: &[Register],
+    near: &mut Near,
+    compared: &mut u64,
+) -> Result<(), AllocError>
+    requires { IsOrderly chapters.old.items }
+    ensures lays { Lays chapters.old.items chapters.new.items }
+    ensures kept { (g : Segment) → is_there g chapters.old.items ≡ true → is_there g chapters.new.items ≡ true }
+    ensures there { OnOk result ((k : KeyParts) → is_some (register_at k registers.now) ≡ true
+        → is_there (segment book k) chapters.new.items ≡ true) }
+{
+    for register in registers {
+        lay(chapters, alloc, book, register.key, near, compared)?;
+    }
+    Ok(())
+}
+
+// Puts in a register at a segment that has none.
+fn lay(
+    chapters: &mut Vec<Chapter>,
+    alloc: Global,
+    book: Book,
+    key: Key,
+    near: &mut Near,
+    compared: &mut u64,
+) -> Result<(), AllocError>
+    requires { IsOrderly chapters.old.items }
+    ensures lays { Lays chapters.old.items chapters.new.items }
+    ensures kept { (g : Segment) → is_there g chapters.old.items ≡ true → is_there g chapters.new.items ≡ true }
+    ensures there { OnOk result (is_there (segment book key) chapters.new.items ≡ true) }
+{
+    if is_laid(chapters, book, key, near, compared) {
+        return Ok(());
+    }
+    let register = Register::new(alloc, key);
+    put_in(chapters, alloc, book, register, near, compared)
 }
 
 // Puts in the chapters of the segments that are not there.
@@ -242,7 +300,6 @@ fn lay_keys(
     compared: &mut u64,
 ) -> Result<(), AllocError>
     requires rising { IsTrue (rises_by key_cmp (λ r. r.key) registers.old.items) }
-    requires room { (k : _) → HasRoomIn (register_at k registers.old.items) }
     ensures { LaysKeys head registers.old.items registers.new.items }
 {
     registers.reserve_exact(own.len())?;
@@ -261,7 +318,6 @@ fn merge_registers(
     compared: &mut u64,
 )
     requires rising { IsTrue (rises_by key_cmp (λ r. r.key) registers.old.items) }
-    requires rooms { (k : _) → HasRoomIn (register_at k registers.old.items) }
     requires tail { tail.items ≡ [] }
     requires room { vec_len registers.old ≤ vec_capacity tail }
     ensures { LaysKeys head registers.old.items registers.new.items }
