@@ -1,5 +1,5 @@
 -- Registers laid aside, and put in the place of those that are there.
-use Rattle.std.proofs.Common.{◌≡◌, ◌≢◌, ◌⊎◌, inl, inr, ℕ, ◌<◌, ◌+◌, ◌==◌, Bool, true, false, cond, ◌&&◌, ◌||◌, List, [], ◌∷◌, ◌++◌, Option, Some, None, length, get_or, take, refl, sym, ap, subst, ◌∙◌}
+use Rattle.std.proofs.Common.{◌≡◌, ◌≢◌, ◌⊎◌, inl, inr, ℕ, ◌<◌, ◌+◌, Bool, true, false, cond, ◌&&◌, ◌||◌, List, [], ◌∷◌, ◌++◌, Option, Some, None, length, get_or, take, Result, Ok, Err, OnOk, OnErr, refl, sym, ap, subst, ◌∙◌}
 use Rattle.std.specs.Ordering.{is_eq}
 use Rattle.std.specs.List.{list_any, list_all, AllByRecursion}
 use Rattle.std.specs.List.Sorted.{IsPermutation}
@@ -20,6 +20,11 @@ use Rattle.op_core.specs.Index.{is_missing, place_of, chapter_of, registers_in, 
 use Rattle.op_core.specs.declared.register.Register.{Register}
 use Rattle.op_core.specs.declared.chapter.Chapter.{Chapter}
 use Rattle.op_core.proofs.Kept.{in_segment-is, untouched}
+
+-- what follows from either result
+pub either : {T E : Type 0} {P Q C : Type 0} (r : Result T E) → (P → C) → (Q → C) → OnOk r P → OnErr r Q → C
+either (Ok x) f g p q = f p
+either (Err e) f g p q = g q
 
 -- ---- whether there is a register
 
@@ -196,6 +201,10 @@ index_fresh held new aside none sh sn apart h laid = index_settled held new [] a
       };
     }
 
-pub empty_from : {X : Type 0} (xs : List X) → (length xs == 0) ≡ true → xs ≡ []
-empty_from [] e = refl
-empty_from (x ∷ xs) e = absurd (false≢true e)
+-- one more item on each side, of which the tests say the same
+pub turn_more : {X Y : Type 0} (p : X → Bool) (q : Y → Bool) (xs : List X) (x : X) (ys : List Y) (i : ℕ) (y : Y) → i < length ys → y ≡ get_or ys i y → list_all p xs ≡ list_all q (take i ys) → p x ≡ q y → list_all p (xs ++ x ∷ []) ≡ list_all q (take (i + 1) ys)
+turn_more p q xs x ys i y l hy h e = list_all-append p xs (x ∷ []) ∙ (λ j. h j && (whole (p x) ∙ e ∙ ap q hy) j) ∙ sym (list_all_more q ys i y l)
+  where
+    whole : (b : Bool) → (b && true) ≡ b
+    whole true = refl
+    whole false = refl
