@@ -103,8 +103,10 @@ copies_put index g r before after c sh mi = record {
     by h x true t f =
         let k : h ≡ g = segment_exact h g ((Equal-is _).0 t) in
         let s : r ≡ x = same r x f in
-        inr (ap (λ (y : Register). y.shown.items) (sym s) ∙ sh ∙ ap (λ (w : Segment). shown_in (register_of w index)) (sym k),
-        ap (λ (y : Register). y.missing.items) (sym s) ∙ mi ∙ ap (λ (w : Segment). missing_in (register_of w index)) (sym k))
+        inr (
+          ap (λ (y : Register). y.shown.items) (sym s) ∙ sh ∙ ap (λ (w : Segment). shown_in (register_of w index)) (sym k),
+          ap (λ (y : Register). y.missing.items) (sym s) ∙ mi ∙ ap (λ (w : Segment). missing_in (register_of w index)) (sym k),
+        )
     by h x false t f = inl f
 
 pub aside_copied : (ops : List Operation) (index a b : List Chapter) → Keeps ops index → a ≡ [] → Copies index a b → IsAside ops b

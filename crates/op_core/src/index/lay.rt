@@ -96,7 +96,14 @@ pub(crate) fn lay_each(
     ensures there { OnOk result ((g : Segment) → is_there g aside.now ≡ true → is_there g chapters.new.items ≡ true) }
 {
     for chapter in aside {
-        lay_in(chapters, alloc, chapter.book, &chapter.registers, near, compared)?;
+        lay_in(
+            chapters,
+            alloc,
+            chapter.book,
+            &chapter.registers,
+            near,
+            compared,
+        )?;
     }
     Ok(())
 }
