@@ -8,13 +8,16 @@ ghost use Rattle.op_core.specs.Sets as sets;
 ghost use Rattle.op_core.specs.Sets.{IsOpSet};
 ghost use Rattle.op_core.specs.Index.{register_of, shown_in, IsOrderly, IsIndex, AreApart, Changes, Same};
 
-mod aside;
+pub(crate) mod change;
 mod lay;
+mod ready;
 mod settle;
+mod turns;
 
-use self::aside::aside_of;
-use self::lay::{lay_each, lay_out};
+use self::lay::lay_out;
+use self::ready::ready_all;
 use self::settle::settle_all;
+use self::turns::turns_of;
 use crate::chapter::{Chapter, put_register};
 use crate::ids::has_id;
 use crate::op::Op;
@@ -23,8 +26,8 @@ use crate::register::Register;
 use std::alloc::{AllocError, Global};
 use usfm_ref::Book;
 
-// Takes in operations that rise and of which none is held: registers of their segments are built aside,
-// and then put in the place of those that are there. All growths are made before the first change.
+// Takes in operations that rise and of which none is held. What they change at each segment is reckoned
+// aside, with the room for it, before the first change is made.
 pub(crate) fn enroll(
     chapters: &mut Vec<Chapter>,
     alloc: Global,
@@ -40,14 +43,10 @@ pub(crate) fn enroll(
     ensures ok { OnOk result (IsIndex (sets.join held.now new.now) chapters.new.items) }
     ensures err { OnErr result (IsIndex held.now chapters.new.items) }
 {
-    let aside = aside_of(chapters, alloc, held, new, near, compared)?;
-    if held.is_empty() {
-        *chapters = aside;
-        return Ok(());
-    }
-    lay_out(chapters, alloc, &aside, near, compared)?;
-    lay_each(chapters, alloc, &aside, near, compared)?;
-    settle_all(chapters, aside, near, compared);
+    let turns = turns_of(alloc, new, compared)?;
+    lay_out(chapters, alloc, &turns, near, compared)?;
+    let changes = ready_all(chapters, alloc, held, &turns, near, compared)?;
+    settle_all(chapters, changes, near, compared);
     Ok(())
 }
 

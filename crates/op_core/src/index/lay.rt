@@ -1,24 +1,20 @@
-// New chapters and registers, put into their lists before room is promised in them. A list is gone
+// New chapters and registers, put into their lists before anything changes in them. A list is gone
 // over once for all that is new in it, from the back, so that no order of operations moves a list
 // once for each of them.
 ghost use Rattle.std.specs.Prelude.{◌≡◌, ◌<◌, ◌≤◌, [], IsTrue, length, reverse, vec_len};
-ghost use Rattle.std.specs.Prelude.{vec_capacity};
+ghost use Rattle.std.specs.Prelude.{vec_capacity, true, OnOk};
 ghost use Rattle.usfm_ref.specs.Keys as keys;
 ghost use Rattle.usfm_ref.specs.Keys.{key_cmp, same_key};
 ghost use Rattle.usfm_ref.specs.Segments.{segment, segment_cmp};
 ghost use Rattle.usfm_ref.specs.Rising.{rises_by};
-ghost use Rattle.std.specs.Prelude.{true, OnOk};
-ghost use Rattle.std.specs.Option.{is_some};
-ghost use Rattle.usfm_ref.specs.Keys.{KeyParts};
-ghost use Rattle.usfm_ref.specs.Segments.{Segment};
-ghost use Rattle.op_core.specs.Index.{place_of, register_at, is_there, IsOrderly, begins_above};
-ghost use Rattle.op_core.specs.Index.{Lays, LaysKeys};
+ghost use Rattle.op_core.specs.Index.{place_of, is_there, IsOrderly, begins_above};
+ghost use Rattle.op_core.specs.Index.{Lays, LaysKeys, Readies};
 
-use super::aside::is_laid;
 use super::put_in;
+use super::turns::Turn;
 use crate::chapter::Chapter;
 use crate::merge::move_behind;
-use crate::place::{Near, head_of, place_chapter, place_register};
+use crate::place::{Near, head_of, place_chapter, place_register, register_at, registers_of};
 use crate::register::Register;
 use std::alloc::{AllocError, Global};
 use usfm_ref::{Book, Key};
@@ -40,20 +36,23 @@ impl Spot {
     }
 }
 
-// Puts in registers, and chapters for them, at the segments of those that are aside, where many have none. What
-// the index keeps stays, also where a growth was refused.
+// Puts in registers, and chapters for them, at the segments of the turns, where many have none. What the
+// index keeps stays, also where a growth was refused.
 #[tactic(auto, using(crate::proofs::Laid::lays_same, crate::proofs::Laid::lays_more))]
 pub(crate) fn lay_out(
     chapters: &mut Vec<Chapter>,
     alloc: Global,
-    aside: &[Chapter],
+    turns: &[Turn],
     near: &mut Near,
     compared: &mut u64,
 ) -> Result<(), AllocError>
     requires { IsOrderly chapters.old.items }
     ensures { Lays chapters.old.items chapters.new.items }
 {
-    let spots = spots_of(chapters, alloc, aside, near, compared)?;
+    if turns.len() < FEW {
+        return Ok(());
+    }
+    let spots = spots_of(chapters, alloc, turns, near, compared)?;
     if spots.len() < FEW {
         return Ok(());
     }
@@ -61,76 +60,44 @@ pub(crate) fn lay_out(
     lay_registers(chapters, alloc, &spots, compared)
 }
 
-// The segments of those that are aside that have no register, rising.
+// The segments of the turns that have no register, in the turns' order, each once.
 fn spots_of(
     chapters: &[Chapter],
     alloc: Global,
-    aside: &[Chapter],
+    turns: &[Turn],
     near: &mut Near,
     compared: &mut u64,
 ) -> Result<Vec<Spot>, AllocError>
     requires { IsOrderly chapters.now }
 {
     let mut spots: Vec<Spot> = Vec::new(alloc);
-    for chapter in aside {
-        for register in &chapter.registers {
-            let (book, key) = (chapter.book, register.key);
-            if !is_laid(chapters, book, key, near, compared) {
-                spots.push(Spot { book, key })?;
-            }
+    for turn in turns {
+        let (book, key) = (turn.book, turn.key);
+        if !is_laid(chapters, book, key, near, compared) {
+            spots.push(Spot { book, key })?;
         }
     }
+    spots.dedup();
     Ok(spots)
 }
 
-// Puts in a register at the segment of each that is aside and has none.
-pub(crate) fn lay_each(
-    chapters: &mut Vec<Chapter>,
-    alloc: Global,
-    aside: &[Chapter],
-    near: &mut Near,
-    compared: &mut u64,
-) -> Result<(), AllocError>
-    requires { IsOrderly chapters.old.items }
-    ensures lays { Lays chapters.old.items chapters.new.items }
-    ensures there { OnOk result ((g : Segment) → is_there g aside.now ≡ true → is_there g chapters.new.items ≡ true) }
-{
-    for chapter in aside {
-        lay_in(
-            chapters,
-            alloc,
-            chapter.book,
-            &chapter.registers,
-            near,
-            compared,
-        )?;
-    }
-    Ok(())
-}
-
-// The same of registers of one book.
-fn lay_in(
-    chapters: &mut Vec<Chapter>,
-    alloc: Global,
+// Whether a segment has a register.
+fn is_laid(
+    chapters: &[Chapter],
     book: Book,
-    registers: &[Register],
+    key: Key,
     near: &mut Near,
     compared: &mut u64,
-) -> Result<(), AllocError>
-    requires { IsOrderly chapters.old.items }
-    ensures lays { Lays chapters.old.items chapters.new.items }
-    ensures kept { (g : Segment) → is_there g chapters.old.items ≡ true → is_there g chapters.new.items ≡ true }
-    ensures there { OnOk result ((k : KeyParts) → is_some (register_at k registers.now) ≡ true
-        → is_there (segment book k) chapters.new.items ≡ true) }
+) -> bool
+    requires { IsOrderly chapters.now }
+    ensures { result ≡ is_there (segment book key) chapters.now }
 {
-    for register in registers {
-        lay(chapters, alloc, book, register.key, near, compared)?;
-    }
-    Ok(())
+    let registers = registers_of(chapters, book, key, &mut near.chapter, compared);
+    register_at(registers, key, &mut near.register, compared).is_some()
 }
 
 // Puts in a register at a segment that has none.
-fn lay(
+pub(crate) fn lay(
     chapters: &mut Vec<Chapter>,
     alloc: Global,
     book: Book,
@@ -139,8 +106,7 @@ fn lay(
     compared: &mut u64,
 ) -> Result<(), AllocError>
     requires { IsOrderly chapters.old.items }
-    ensures lays { Lays chapters.old.items chapters.new.items }
-    ensures kept { (g : Segment) → is_there g chapters.old.items ≡ true → is_there g chapters.new.items ≡ true }
+    ensures same { Readies chapters.old.items chapters.new.items }
     ensures there { OnOk result (is_there (segment book key) chapters.new.items ≡ true) }
 {
     if is_laid(chapters, book, key, near, compared) {

@@ -1,83 +1,56 @@
-// Registers that were built aside, put in the place of those that are there. It takes no memory.
-ghost use Rattle.std.specs.Prelude.{◌≡◌, IsTrue, true};
+// Changes made in the index, for which there is room. It takes no memory.
+ghost use Rattle.std.specs.Prelude.{◌≡◌, IsTrue};
 ghost use Rattle.std.specs.List.{AllByRecursion};
-ghost use Rattle.std.specs.Option.{is_some, option_or};
-ghost use Rattle.usfm_ref.specs.Keys as keys;
-ghost use Rattle.usfm_ref.specs.Segments.{Segment, segment};
-ghost use Rattle.op_core.specs.Index.{register_of, register_in, is_there, IsOrderly, Changes, Settles};
+ghost use Rattle.usfm_ref.specs.Segments.{Segment, segment_cmp};
+ghost use Rattle.usfm_ref.specs.Rising.{rises_by};
+ghost use Rattle.op_core.specs.Ids.{ids_rise};
+ghost use Rattle.op_core.specs.Index.{register_of, shown_in, missing_in, change_at, IsOrderly, IsAt, Takes};
+ghost use Rattle.op_core.specs.Index.{HasRoomIn, IsRisingChange};
+ghost use Rattle.op_core.specs.Changes.{AllHaveRoom, Settles};
 
-use crate::chapter::{Chapter, settle_at_key};
+use super::change::Change;
+use crate::chapter::{Chapter, take_at_key};
 use crate::place::{Near, head_of, place_chapter};
-use crate::register::Register;
-use usfm_ref::{Book, Key};
 
-// Puts each register that is aside in the place of the one that its segment has.
+// Makes each of the changes, which rise by their segments.
 pub(crate) fn settle_all(
     chapters: &mut Vec<Chapter>,
-    mut aside: Vec<Chapter>,
+    mut changes: Vec<Change>,
     near: &mut Near,
     compared: &mut u64,
 )
     requires orderly { IsOrderly chapters.old.items }
-    requires aside { IsOrderly aside.items }
-    requires there { (g : Segment) → is_there g aside.items ≡ true → is_there g chapters.old.items ≡ true }
-    ensures { Settles aside.items chapters.old.items chapters.new.items }
+    requires shown { (g : Segment) → IsTrue (ids_rise (shown_in (register_of g chapters.old.items))) }
+    requires missing { (g : Segment) → IsTrue (ids_rise (missing_in (register_of g chapters.old.items))) }
+    requires rising { IsTrue (rises_by segment_cmp change_at changes.items) }
+    requires each { AllByRecursion IsRisingChange changes.items }
+    requires room { AllHaveRoom chapters.old.items changes.items }
+    ensures { Settles changes.items chapters.old.items chapters.new.items }
 {
-    'chapters: while let Some(chapter) = aside.pop() {
-        settle_chapter(
-            chapters,
-            chapter.book,
-            chapter.head,
-            chapter.registers,
-            near,
-            compared,
-        );
+    'changes: while let Some(change) = changes.pop() {
+        settle(chapters, change, near, compared);
     }
 }
 
-// The same of the registers of one chapter.
-fn settle_chapter(
-    chapters: &mut Vec<Chapter>,
-    book: Book,
-    head: Key,
-    mut registers: Vec<Register>,
-    near: &mut Near,
-    compared: &mut u64,
-)
+// Makes one change.
+fn settle(chapters: &mut Vec<Chapter>, change: Change, near: &mut Near, compared: &mut u64)
     requires orderly { IsOrderly chapters.old.items }
-    requires homes { AllByRecursion (λ r. keys.head_of r.key ≡ head) registers.items }
-    requires there { (g : Segment) → is_some (register_in book head registers.items g) ≡ true → is_there g chapters.old.items ≡ true }
-    ensures orderly { IsOrderly chapters.new.items }
-    ensures is_now { (g : Segment) → register_of g chapters.new.items
-        ≡ option_or (register_in book head registers.items g) (register_of g chapters.old.items) }
-{
-    'registers: while let Some(register) = registers.pop() {
-        settle(chapters, book, register, near, compared);
-    }
-}
-
-// Puts a register in the place of the one that its segment has.
-fn settle(
-    chapters: &mut Vec<Chapter>,
-    book: Book,
-    register: Register,
-    near: &mut Near,
-    compared: &mut u64,
-)
-    requires orderly { IsOrderly chapters.old.items }
-    requires there { IsTrue (is_there (segment book register.key) chapters.old.items) }
-    ensures { Changes (segment book register.key) register chapters.old.items chapters.new.items }
+    requires shown { IsTrue (ids_rise (shown_in (register_of (change_at change) chapters.old.items))) }
+    requires missing { IsTrue (ids_rise (missing_in (register_of (change_at change) chapters.old.items))) }
+    requires change { IsRisingChange change }
+    requires room { HasRoomIn change (register_of (change_at change) chapters.old.items) }
+    ensures { IsAt (Takes change) (change_at change) chapters.old.items chapters.new.items }
 {
     let at = place_chapter(
         chapters,
-        book,
-        head_of(register.key),
+        change.book,
+        head_of(change.key),
         &mut near.chapter,
         compared,
     );
-    settle_at_key(
+    take_at_key(
         &mut chapters[at].registers,
-        register,
+        change,
         &mut near.register,
         compared,
     );
