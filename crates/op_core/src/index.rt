@@ -45,7 +45,7 @@ pub(crate) fn enroll(
 {
     let turns = turns_of(alloc, new, compared)?;
     lay_out(chapters, alloc, &turns, near, compared)?;
-    let changes = ready_all(chapters, alloc, held, &turns, near, compared)?;
+    let changes = ready_all(chapters, alloc, held, new, &turns, near, compared)?;
     settle_all(chapters, changes, near, compared);
     Ok(())
 }

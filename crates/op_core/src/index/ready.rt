@@ -1,14 +1,12 @@
 // What new operations change, segment by segment, and the room for it. Nothing that the index keeps
 // changes yet.
-ghost use Rattle.std.specs.Prelude.{◌≡◌, IsTrue, ◌∷◌, IfOk, OnOk, true};
-ghost use Rattle.std.specs.List.{list_any, AllByRecursion};
+ghost use Rattle.std.specs.Prelude.{◌≡◌, IsTrue, IfOk};
 ghost use Rattle.usfm_ref.specs.Segments.{segment};
-ghost use Rattle.op_core.specs.Ids.{Id, ids_rise, same_id};
-ghost use Rattle.op_core.specs.Ops.{names};
+ghost use Rattle.op_core.specs.Ids.{ids_rise};
 ghost use Rattle.op_core.specs.Sets as sets;
 ghost use Rattle.op_core.specs.Index.{IsOrderly, IsIndex, register_of, shown_in, missing_in, is_there, among};
 ghost use Rattle.op_core.specs.Index.{IsAt, IsSameBut, IsChangeOf, IsRisingChange, HasRoomIn, Readies};
-ghost use Rattle.op_core.specs.Turns.{turn_at, never_fall};
+ghost use Rattle.op_core.specs.Turns.{never_fall, comes, is_called};
 ghost use Rattle.op_core.specs.Changes.{AreChanges, AllHaveRoom};
 
 use super::change::Change;
@@ -26,24 +24,25 @@ pub(crate) fn ready_all(
     chapters: &mut Vec<Chapter>,
     alloc: Global,
     held: &[Op],
+    new: &[Op],
     turns: &[Turn],
     near: &mut Near,
     compared: &mut u64,
 ) -> Result<Vec<Change>, AllocError>
     requires held { IsTrue (sets.rises held.now) }
     requires index { IsIndex held.now chapters.old.items }
-    requires homes { AllByRecursion (λ t. t.op.now.segment ≡ turn_at t) turns.now }
     requires sorted { IsTrue (never_fall turns.now) }
     ensures same { Readies chapters.old.items chapters.new.items }
-    ensures changes { IfOk result (λ changes. AreChanges held.now turns.now chapters.new.items changes.items) }
+    ensures changes { IfOk result (λ changes. AreChanges held.now new.now turns.now chapters.new.items changes.items) }
     ensures room { IfOk result (λ changes. AllHaveRoom chapters.new.items changes.items) }
 {
     let mut changes = Vec::new(alloc);
     let mut rest = turns;
     'runs: while let Some((first, others)) = rest.split_first() {
-        let (own, later) = rest.split_at(1 + run_len(first, others, compared));
+        let len = 1 + run_len(first, others, compared);
+        let (own, later) = rest.split_at(len);
         let change = ready_run(
-            chapters, alloc, held, first.book, first.key, own, near, compared,
+            chapters, alloc, held, new, first.book, first.key, own, near, compared,
         )?;
         changes.push(change)?;
         rest = later;
@@ -56,6 +55,7 @@ fn ready_run(
     chapters: &mut Vec<Chapter>,
     alloc: Global,
     held: &[Op],
+    new: &[Op],
     book: Book,
     key: Key,
     own: &[Turn],
@@ -65,13 +65,13 @@ fn ready_run(
     requires held { IsTrue (sets.rises held.now) }
     requires index { IsIndex held.now chapters.old.items }
     ensures same { Readies chapters.old.items chapters.new.items }
-    ensures change { IfOk result (λ c. IsChangeOf held.now (segment book key) (λ q. list_any (λ t. same_id q t.op.now.id) own.now) (λ q. list_any (λ t. names t.op.now q) own.now) (shown_in (register_of (segment book key) chapters.new.items)) (missing_in (register_of (segment book key) chapters.new.items)) c) }
+    ensures change { IfOk result (λ c. IsChangeOf held.now (segment book key) (comes new.now own.now) (is_called new.now own.now) (shown_in (register_of (segment book key) chapters.new.items)) (missing_in (register_of (segment book key) chapters.new.items)) c) }
     ensures rising { IfOk result IsRisingChange }
     ensures room { IfOk result (λ c. HasRoomIn c (register_of (segment book key) chapters.new.items)) }
 {
     lay(chapters, alloc, book, key, near, compared)?;
-    let arrived = arrived_in(alloc, own, compared)?;
-    let named = named_in(alloc, own, compared)?;
+    let arrived = arrived_in(alloc, new, own, compared)?;
+    let named = named_in(alloc, new, own, compared)?;
     ready(chapters, alloc, held, book, key, arrived, named, near, compared)
 }
 

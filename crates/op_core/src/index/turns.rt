@@ -1,12 +1,11 @@
 // New operations sorted by their segments, so that those of one segment stand beside each other.
 ghost use Rattle.std.specs.Prelude.{◌≡◌, ◌≤◌, IsTrue, ◌∷◌, IfOk, take, drop, length};
-ghost use Rattle.std.specs.List.{AllByRecursion, list_all, list_any};
-ghost use Rattle.std.specs.Ordering.{is_eq, is_lt};
+ghost use Rattle.std.specs.List.{AllByRecursion, list_all};
+ghost use Rattle.std.specs.Ordering.{is_lt};
 ghost use Rattle.usfm_ref.specs.Segments.{segment_cmp};
-ghost use Rattle.op_core.specs.Ids.{Id, ids_rise, same_id};
-ghost use Rattle.op_core.specs.Ops.{names};
+ghost use Rattle.op_core.specs.Ids.{Id, ids_rise};
 ghost use Rattle.op_core.specs.Index.{among};
-ghost use Rattle.op_core.specs.Turns.{turn_at, never_fall, AreTurnsOf};
+ghost use Rattle.op_core.specs.Turns.{turn_at, never_fall, comes, is_called, AreTurnsOf};
 
 use crate::ids::sort_ids;
 use crate::op::Op;
@@ -15,17 +14,17 @@ use std::alloc::{AllocError, Global};
 use std::cmp::Ordering;
 use usfm_ref::{Book, Key};
 
-/// A new operation, and beside it its segment, by which it is sorted.
+/// The segment of a new operation, and where among the new ones it is.
 #[derive(Clone, Copy, Debug)]
-pub(crate) struct Turn<'a> {
+pub(crate) struct Turn {
     pub(crate) book: Book,
     pub(crate) key: Key,
-    pub(crate) op: &'a Op,
+    pub(crate) at: usize,
 }
 
-impl<'a> Turn<'a> {
+impl Turn {
     // How its segment stands to that of another one.
-    fn order(&self, other: &Turn<'a>) -> Ordering
+    fn order(&self, other: &Turn) -> Ordering
         ensures { result ≡ segment_cmp (turn_at self.now) (turn_at other.now) }
     {
         self.book.cmp(&other.book).then(self.key.cmp(&other.key))
@@ -33,20 +32,17 @@ impl<'a> Turn<'a> {
 }
 
 // New operations in the order of their segments.
-pub(crate) fn turns_of<'a>(
+pub(crate) fn turns_of(
     alloc: Global,
-    new: &'a [Op],
+    new: &[Op],
     compared: &mut u64,
-) -> Result<Vec<Turn<'a>>, AllocError>
+) -> Result<Vec<Turn>, AllocError>
     ensures { IfOk result (λ turns. AreTurnsOf new.now turns.items) }
 {
     let mut turns = Vec::with_capacity(alloc, new.len())?;
-    for op in new {
-        turns.push(Turn {
-            book: op.book(),
-            key: op.key(),
-            op,
-        })?;
+    for at in 0..new.len() {
+        let (book, key) = (new[at].book(), new[at].key());
+        turns.push(Turn { book, key, at })?;
     }
     turns.sort_unstable_by(|a, b| {
         *compared = compared.saturating_add(1);
@@ -74,15 +70,18 @@ pub(crate) fn run_len(first: &Turn, turns: &[Turn], compared: &mut u64) -> usize
 // The ids of the operations whose turn it is.
 pub(crate) fn arrived_in(
     alloc: Global,
+    new: &[Op],
     own: &[Turn],
     compared: &mut u64,
 ) -> Result<Vec<OpId>, AllocError>
     ensures rising { IfOk result (λ ids. IsTrue (ids_rise ids.items)) }
-    ensures members { IfOk result (λ ids. (q : Id) → among ids.items q ≡ list_any (λ t. same_id q t.op.now.id) own.now) }
+    ensures members { IfOk result (λ ids. (q : Id) → among ids.items q ≡ comes new.now own.now q) }
 {
     let mut ids = Vec::with_capacity(alloc, own.len())?;
     for turn in own {
-        ids.push(turn.op.id())?;
+        if let Some(op) = new.get(turn.at) {
+            ids.push(op.id())?;
+        }
     }
     sort_ids(&mut ids, compared);
     Ok(ids)
@@ -91,15 +90,18 @@ pub(crate) fn arrived_in(
 // The ids that they name.
 pub(crate) fn named_in(
     alloc: Global,
+    new: &[Op],
     own: &[Turn],
     compared: &mut u64,
 ) -> Result<Vec<OpId>, AllocError>
     ensures rising { IfOk result (λ ids. IsTrue (ids_rise ids.items)) }
-    ensures members { IfOk result (λ ids. (q : Id) → among ids.items q ≡ list_any (λ t. names t.op.now q) own.now) }
+    ensures members { IfOk result (λ ids. (q : Id) → among ids.items q ≡ is_called new.now own.now q) }
 {
     let mut ids = Vec::new(alloc);
     for turn in own {
-        ids.extend_from_slice(turn.op.replaced())?;
+        if let Some(op) = new.get(turn.at) {
+            ids.extend_from_slice(op.replaced())?;
+        }
     }
     sort_ids(&mut ids, compared);
     Ok(ids)

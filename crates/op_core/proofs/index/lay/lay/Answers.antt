@@ -1,14 +1,13 @@
 use Rattle.std.proofs.Common.{sym, ap, subst, ◌∙◌, ◌≡◌, true, false}
 use Rattle.usfm_ref.specs.Keys.{KeyParts}
 use Rattle.usfm_ref.specs.Segments.{segment}
-use Rattle.op_core.specs.Index.{register_of, is_there, Lays}
+use Rattle.op_core.specs.Index.{register_of, is_there, Readies}
 use Rattle.op_core.proofs.Registers.{map_ok}
-use Rattle.op_core.proofs.Laid.{lays_same}
-use Rattle.op_core.proofs.Aside.{not_there, there_now, there_itself, there_same, lays_put, lays_like, either}
+use Rattle.op_core.proofs.There.{not_there, there_itself, readies_same, readies_put, readies_like, either}
 use Rattle.op_core.proofs.index.lay.lay.Goals as goal
 
-pub returns-then-is_laid-clause-lays : goal.returns-then-is_laid-clause-lays
-returns-then-is_laid-clause-lays c = lays_same _ c.requires
+pub returns-then-is_laid-clause-same : goal.returns-then-is_laid-clause-same
+returns-then-is_laid-clause-same c = readies_same _ c.requires
 
 pub returns-then-is_laid-clause-there : goal.returns-then-is_laid-clause-there
 returns-then-is_laid-clause-there c = ap (is_there (segment c.args.book c.args.key)) (sym c.deref.ensures.value) ∙ sym c.is_laid.ensures ∙ c.if-is_laid.true
@@ -19,19 +18,14 @@ put_in-requires-clause-absent c =
     ap (λ (k : KeyParts). register_of (segment c.args.book k) c.args.chapters.now.items) c.new-register.ensures.key
     ∙ not_there (segment c.args.book c.args.key) c.args.chapters.now.items none
 
-pub returns-clause-lays : goal.returns-clause-lays
-returns-clause-lays c =
+pub returns-clause-same : goal.returns-clause-same
+returns-clause-same c =
     let r = c.new-register.result in
     let none : is_there (segment c.args.book c.args.key) c.args.chapters.now.items ≡ false = ap (is_there (segment c.args.book c.args.key)) (sym c.deref.ensures.value) ∙ sym c.is_laid.ensures ∙ c.if-is_laid.false in
     let gone = ap (λ (k : KeyParts). register_of (segment c.args.book k) c.args.chapters.now.items) c.new-register.ensures.key
     ∙ not_there (segment c.args.book c.args.key) c.args.chapters.now.items none in
-    either c.put_in.result (λ p. lays_put (segment c.args.book r.key) r c.args.chapters.now.items _ p gone c.new-register.ensures.shown c.new-register.ensures.missing)
-    (λ s. lays_like c.args.chapters.now.items _ s) c.put_in.ensures.ok c.put_in.ensures.err
-
-pub returns-clause-kept : goal.returns-clause-kept
-returns-clause-kept c = λ g t.
-    let r = c.new-register.result in
-    either c.put_in.result (λ p. there_now (segment c.args.book r.key) g r c.args.chapters.now.items _ p t) (λ s. there_same g c.args.chapters.now.items _ s t) c.put_in.ensures.ok c.put_in.ensures.err
+    either c.put_in.result (λ p. readies_put (segment c.args.book r.key) r c.args.chapters.now.items _ p gone c.new-register.ensures.shown c.new-register.ensures.missing)
+    (λ s. readies_like c.args.chapters.now.items _ s) c.put_in.ensures.ok c.put_in.ensures.err
 
 pub returns-clause-there : goal.returns-clause-there
 returns-clause-there c =
