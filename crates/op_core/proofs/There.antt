@@ -10,9 +10,11 @@ use Rattle.usfm_ref.proofs.Orders.{segment_total, segment_exact}
 use Rattle.op_core.specs.Ids.{Id, same_id, ids_rise}
 use Rattle.op_core.specs.Ops.{Operation}
 use Rattle.op_core.specs.Index.{register_of, shown_in, missing_in, is_there, IsOrderly, IsIndex, Changes, Same, IsAt, IsSameBut, Readies, HasRoomIn, Lays}
+use Rattle.op_core.specs.Sets.{rises}
 use Rattle.op_core.specs.declared.register.Register.{Register}
 use Rattle.op_core.specs.declared.chapter.Chapter.{Chapter}
 use Rattle.op_core.specs.declared.index.change.Change.{Change}
+use Rattle.op_core.proofs.Kept.{shown_ids_rise}
 
 -- what follows from either result
 pub either : {T E : Type 0} {P Q C : Type 0} (r : Result T E) → (P → C) → (Q → C) → OnOk r P → OnErr r Q → C
@@ -111,3 +113,18 @@ index_ready ops before after h p = record {
     missing = λ k q. ap (λ (ids : List Id). list_any (same_id q) ids) (p.missing k) ∙ h.keeps.missing k q;
   };
 }
+
+-- where there is room there is a register
+pub has_there : (c : Change) (r : Option Register) → HasRoomIn c r → is_some r ≡ true
+has_there c None h = absurd h
+has_there c (Some x) h = refl
+
+pub now_at : (g : Segment) (r : Register) (before after : List Chapter) → Changes g r before after → register_of g after ≡ Some r
+now_at g r before after c = c.is_now g ∙ cond-true _ _ _ (ap is_eq (tied_itself segment_total g))
+
+-- what an index that keeps the same shows and misses rises
+pub ready_shown : (ops : List Operation) (before after : List Chapter) → rises ops ≡ true → IsIndex ops before → Readies before after → (g : Segment) → ids_rise (shown_in (register_of g after)) ≡ true
+ready_shown ops before after h index r g = ap ids_rise (r.shown g ∙ index.keeps.shown g) ∙ shown_ids_rise ops g h
+
+pub ready_missing : (ops : List Operation) (before after : List Chapter) → IsIndex ops before → Readies before after → (g : Segment) → ids_rise (missing_in (register_of g after)) ≡ true
+ready_missing ops before after index r g = ap ids_rise (r.missing g) ∙ index.keeps.rising g

@@ -45,8 +45,8 @@ returns-in_err-reserve-clause-err c =
     ] in
     on_err c.from_residual.result (subst (λ (cs : List Chapter). Same c.args.chapters.now.items cs) (sym (c.reserve.ensures.items ∙ same)) (same_chapters c.args.chapters.now.items c.requires.orderly))
 
-pub put_register-2-requires-clause-absent : goal.put_register-2-requires-clause-absent
-put_register-2-requires-clause-absent c = ap (register_at c.args.register.key) c.new-registers.ensures.items
+pub put_register-requires-2-clause-absent : goal.put_register-requires-2-clause-absent
+put_register-requires-2-clause-absent c = ap (register_at c.args.register.key) c.new-registers.ensures.items
 
 pub returns-in_err-put_register-clause-err : goal.returns-in_err-put_register-clause-err
 returns-in_err-put_register-clause-err c =
