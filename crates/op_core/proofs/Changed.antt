@@ -81,16 +81,16 @@ new_unheld held new g q hh hn apart e = by (get new q) refl
 -- the change that is found for a segment is one of them
 found_has : (P : Change → Type 0) (g : Segment) (cs : List Change) (c : Change) → AllByRecursion P cs → change_for g cs ≡ Some c → P c × (g ≡ change_at c)
 found_has P g [] c h e = cc e
-found_has P g (x ∷ cs) c h e = by (is_eq (segment_cmp g (change_at x))) refl e
+found_has P g (x ∷ cs) c h e = by (found_has P g cs c h.1) (is_eq (segment_cmp g (change_at x))) refl e
   where
     same : (a b : Change) → Some a ≡ Some b → a ≡ b
     same a b k = cc k
 
-    by : (b : Bool) → is_eq (segment_cmp g (change_at x)) ≡ b → cond b (Some x) (change_for g cs) ≡ Some c → P c × (g ≡ change_at c)
-    by true t k =
+    by : (change_for g cs ≡ Some c → P c × (g ≡ change_at c)) → (b : Bool) → is_eq (segment_cmp g (change_at x)) ≡ b → cond b (Some x) (change_for g cs) ≡ Some c → P c × (g ≡ change_at c)
+    by rest true t k =
         let s : x ≡ c = same x c k in
         (subst P s h.0, segment_exact g (change_at x) ((Equal-is _).0 t) ∙ ap change_at s)
-    by false t k = found_has P g cs c h.1 k
+    by rest false t k = rest k
 
 -- what the index keeps of a segment of the union
 record KeptAt (held new : List Operation) (g : Segment) (r : Option Register) : Type 0 where

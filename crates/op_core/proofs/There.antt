@@ -119,9 +119,6 @@ pub has_there : (c : Change) (r : Option Register) → HasRoomIn c r → is_some
 has_there c None h = absurd h
 has_there c (Some x) h = refl
 
-pub now_at : (g : Segment) (r : Register) (before after : List Chapter) → Changes g r before after → register_of g after ≡ Some r
-now_at g r before after c = c.is_now g ∙ cond-true _ _ _ (ap is_eq (tied_itself segment_total g))
-
 -- what an index that keeps the same shows and misses rises
 pub ready_shown : (ops : List Operation) (before after : List Chapter) → rises ops ≡ true → IsIndex ops before → Readies before after → (g : Segment) → ids_rise (shown_in (register_of g after)) ≡ true
 ready_shown ops before after h index r g = ap ids_rise (r.shown g ∙ index.keeps.shown g) ∙ shown_ids_rise ops g h

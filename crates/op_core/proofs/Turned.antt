@@ -41,9 +41,6 @@ same_itself a g e = same_segment-cmp a g ∙ ap (λ (s : Segment). is_eq (segmen
 after_apart : (a g : Segment) → is_lt (segment_cmp g a) ≡ true → same_segment a g ≡ false
 after_apart a g h = same_segment-cmp a g ∙ less_apart g a h
 
-and_false : (b : Bool) → (false && b) ≡ false
-and_false b = refl
-
 -- ---- the run at the front
 
 -- all of a run are of its segment
@@ -83,10 +80,6 @@ greater Less h e = cc h
 greater Equal h e = cc e
 greater Greater h e = refl
 
-module _ (first : Turn) (ts : List Turn) (h : never_fall (first ∷ ts) ≡ true) where
-  not_before : list_all (λ u. not (is_lt (segment_cmp (turn_at u) (turn_at first)))) ts ≡ true
-  not_before = (and_parts _ (never_fall ts) h).0
-
 -- from a turn that does not tie on, all come after
 pub later_above : (first : Turn) (ts : List Turn) (n : ℕ) (t : Turn) → never_fall (first ∷ ts) ≡ true → n < length ts → t ≡ get_or ts n t → is_eq (segment_cmp (turn_at t) (turn_at first)) ≡ false → list_all (λ u. is_lt (segment_cmp (turn_at first) (turn_at u))) (drop n ts) ≡ true
 later_above first [] n t h l e f = absurd (omega arith)
@@ -99,11 +92,9 @@ later_above first (x ∷ ts) zero t h l e f =
     flip true e = cc e
     flip false e = refl
 
-    turned : (r s : Ordering) → (is_lt r ≡ false) → (is_eq r ≡ false) → r ≡ Greater
-    turned r s a b = greater r a b
 
     before : (a b : Segment) → is_lt (segment_cmp b a) ≡ false → is_eq (segment_cmp b a) ≡ false → segment_cmp a b ≡ Less
-    before a b p q = segment_total.antisymm b a ∙ ap ordering_reverse (greater (segment_cmp b a) p q)
+    before a b p q = segment_total.antisymm a b ∙ ap ordering_reverse (greater (segment_cmp b a) p q)
 
     -- what is not before x is after what is before x
     step : (a b c : Segment) → segment_cmp a b ≡ Less → is_lt (segment_cmp c b) ≡ false → is_lt (segment_cmp a c) ≡ true
@@ -112,7 +103,7 @@ later_above first (x ∷ ts) zero t h l e f =
         by : (r : Ordering) → segment_cmp c b ≡ r → is_lt r ≡ false → is_lt (segment_cmp a c) ≡ true
         by Less k n = cc n
         by Equal k n = ap is_lt (ap (segment_cmp a) (segment_exact c b k) ∙ p)
-        by Greater k n = ap is_lt (segment_total.trans a b c p (segment_total.antisymm c b ∙ ap ordering_reverse k))
+        by Greater k n = ap is_lt (segment_total.trans a b c p (segment_total.antisymm b c ∙ ap ordering_reverse k))
 
     over : (a b : Segment) → segment_cmp a b ≡ Less → (us : List Turn) → list_all (λ u. not (is_lt (segment_cmp (turn_at u) b))) us ≡ true → list_all (λ u. is_lt (segment_cmp a (turn_at u))) us ≡ true
     over a b p [] k = refl

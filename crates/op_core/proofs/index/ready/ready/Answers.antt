@@ -6,10 +6,9 @@ use Rattle.usfm_ref.proofs.Sorted.{place}
 use Rattle.op_core.specs.Ids.{ids_rise}
 use Rattle.op_core.specs.Index.{place_of, register_at, register_of, shown_in, missing_in, among, HasRoomIn, IsAtKey, IsSameBut, IsChangeOf, Takes}
 use Rattle.op_core.specs.declared.register.Register.{Register}
-use Rattle.op_core.proofs.Registers.{rise, key_now}
-use Rattle.op_core.proofs.Chapters.{chapter_there, chapter_was, chapter_changes, is_at}
+use Rattle.op_core.proofs.Registers.{rise}
+use Rattle.op_core.proofs.Chapters.{chapter_there, chapter_was, chapter_changes, now_in, is_at}
 use Rattle.op_core.proofs.IdSets.{if_ok}
-use Rattle.op_core.proofs.There.{now_at}
 use Rattle.op_core.proofs.index.ready.ready.Goals as goal
 
 pub index_mut-requires : goal.index_mut-requires
@@ -56,6 +55,4 @@ returns-clause-room c =
     let x = c.index_mut.result.now in
     let was = chapter_was (segment c.args.book c.args.key) c.args.chapters.now.items c.place_chapter-at.result c.requires.orderly.rising (rw (← c.deref.ensures.value) c.place_chapter-at.ensures.place ∙ (λ i. place segment_cmp segment_total place_of (segment c.args.book (c.head_of.ensures i)) c.args.chapters.now.items)) x c.index_mut.ensures.value c.requires.there in
     let changes = chapter_changes (segment c.args.book c.args.key) c.args.chapters.now.items c.place_chapter-at.result c.requires.orderly.rising (rw (← c.deref.ensures.value) c.place_chapter-at.ensures.place ∙ (λ i. place segment_cmp segment_total place_of (segment c.args.book (c.head_of.ensures i)) c.args.chapters.now.items)) x c.index_mut.ensures.value c.requires.there (record { book = x.book; head = x.head; registers = c.ready_at_key.new.registers }) refl in
-    let at = is_at IsSameBut (segment c.args.book c.args.key) c.ready_at_key.new.registers.items c.args.chapters.now.items _ changes c.requires.orderly (subst (λ (rs : List Register). IsAtKey IsSameBut c.args.key rs c.ready_at_key.new.registers.items) (sym was) c.ready_at_key.ensures.same) in
-    let same = c.ready_at_key.ensures.same in
-    if_ok c.ready_at_key.result (λ ch k. subst (HasRoomIn ch) (sym (now_at (segment c.args.book c.args.key) same.new c.args.chapters.now.items _ at.changes)) (subst (HasRoomIn ch) (key_now c.args.key same.new x.registers.items c.ready_at_key.new.registers.items same.changes) k)) c.ready_at_key.ensures.room
+    if_ok c.ready_at_key.result (λ ch k. subst (λ (rs : List Register). HasRoomIn ch (register_at c.args.key rs)) (sym (now_in (segment c.args.book c.args.key) c.ready_at_key.new.registers.items c.args.chapters.now.items _ changes)) k) c.ready_at_key.ensures.room

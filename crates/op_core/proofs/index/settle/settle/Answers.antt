@@ -6,7 +6,7 @@ use Rattle.usfm_ref.proofs.Sorted.{place}
 use Rattle.op_core.specs.Ids.{ids_rise}
 use Rattle.op_core.specs.Index.{place_of, register_at, register_of, shown_in, missing_in, among, HasRoomIn, IsAtKey, IsSameBut, IsChangeOf, Takes}
 use Rattle.op_core.specs.declared.register.Register.{Register}
-use Rattle.op_core.proofs.Registers.{rise, key_now}
+use Rattle.op_core.proofs.Registers.{rise}
 use Rattle.op_core.proofs.Chapters.{chapter_there, chapter_was, chapter_changes, is_at}
 use Rattle.op_core.proofs.There.{has_there}
 use Rattle.op_core.proofs.index.settle.settle.Goals as goal

@@ -1,4 +1,5 @@
-use Rattle.std.proofs.Common.{◌≡◌, sym, subst, IsTrue, Option, Some}
+use Rattle.std.proofs.Common.{◌≡◌, arith, sym, subst, IsTrue, Option, Some}
+use Rattle.std.proofs.lemmas.List.{nil_from_length}
 use Rattle.op_core.specs.Ids.{ids_rise}
 use Rattle.op_core.specs.Index.{register_of, change_at, shown_in, missing_in, HasRoomIn, IsRisingChange}
 use Rattle.op_core.specs.Changes.{change_for}
@@ -59,4 +60,6 @@ changes-preserved c =
     }
 
 pub returns : goal.returns
-returns c = settled c.changes.changes.items c.args.changes.items c.args.chapters.now.items c.changes.chapters.items c.in_default.ensures.items c.changes.invariant.orderly c.changes.invariant.pending
+returns c =
+    let none = nil_from_length c.changes.changes.items (omega (arith, c.in_default.ensures.cases.0, c.changes.changes.ok.0)) in
+    settled c.changes.changes.items c.args.changes.items c.args.chapters.now.items c.changes.chapters.items none c.changes.invariant.orderly c.changes.invariant.pending
