@@ -92,7 +92,6 @@ later_above first (x ∷ ts) zero t h l e f =
     flip true e = cc e
     flip false e = refl
 
-
     before : (a b : Segment) → is_lt (segment_cmp b a) ≡ false → is_eq (segment_cmp b a) ≡ false → segment_cmp a b ≡ Less
     before a b p q = segment_total.antisymm a b ∙ ap ordering_reverse (greater (segment_cmp b a) p q)
 

@@ -20,7 +20,7 @@ change_for g changes = find (λ c. is_eq (segment_cmp g (change_at c))) changes
 abbrev pub IsChangeAt : List Operation → List Operation → List Turn → List Chapter → Change → Type 0
 IsChangeAt held new turns chapters c =
     IsChangeOf held (change_at c) (arrives new turns (change_at c)) (is_named new turns (change_at c))
-      (shown_in (register_of (change_at c) chapters)) (missing_in (register_of (change_at c) chapters)) c
+    (shown_in (register_of (change_at c) chapters)) (missing_in (register_of (change_at c) chapters)) c
 
 -- changes that rise by their segments, one for each segment of the turns
 pub record AreChanges (held new : List Operation) (turns : List Turn) (chapters : List Chapter) (changes : List Change) : Type 0 where

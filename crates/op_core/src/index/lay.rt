@@ -82,13 +82,7 @@ fn spots_of(
 }
 
 // Whether a segment has a register.
-fn is_laid(
-    chapters: &[Chapter],
-    book: Book,
-    key: Key,
-    near: &mut Near,
-    compared: &mut u64,
-) -> bool
+fn is_laid(chapters: &[Chapter], book: Book, key: Key, near: &mut Near, compared: &mut u64) -> bool
     requires { IsOrderly chapters.now }
     ensures { result ≡ is_there (segment book key) chapters.now }
 {

@@ -72,7 +72,9 @@ fn ready_run(
     lay(chapters, alloc, book, key, near, compared)?;
     let arrived = arrived_in(alloc, new, own, compared)?;
     let named = named_in(alloc, new, own, compared)?;
-    ready(chapters, alloc, held, book, key, arrived, named, near, compared)
+    ready(
+        chapters, alloc, held, book, key, arrived, named, near, compared,
+    )
 }
 
 // What changes at a segment, which has a register, as these ids arrive there, and the room for that.
