@@ -23,6 +23,7 @@ complete -c usfm_team -n __fish_use_subcommand -a edit -d 'Gives a segment the t
 complete -c usfm_team -n __fish_use_subcommand -a edit-over -d 'The same, in the place of given operations alone'
 complete -c usfm_team -n __fish_use_subcommand -a shown -d 'Shows a segment'
 complete -c usfm_team -n __fish_use_subcommand -a receive -d 'Takes in bundles'
+complete -c usfm_team -n __fish_use_subcommand -a sync -d 'Takes in a folder and bundles, and writes the books there'
 complete -c usfm_team -n __fish_use_subcommand -a send -d 'Writes the bundle of all operations'
 complete -c usfm_team -n __fish_use_subcommand -a export -d 'Writes the text of a book'
 complete -c usfm_team -n __fish_use_subcommand -a summary -d 'Writes the summary of all operations'
@@ -36,11 +37,13 @@ complete -c usfm_team -n __fish_use_subcommand -a fold -d 'Joins bundles and wri
 complete -c usfm_team -n __fish_use_subcommand -a help -d 'Prints the help of a command'
 complete -c usfm_team -n __fish_use_subcommand -l help -d 'Prints help'
 complete -c usfm_team -n __fish_use_subcommand -l version -d 'Prints the version'
-complete -c usfm_team -n '__usfm_team_at 0 init import edit edit-over shown receive send export summary delta report check find words thin' -F
-complete -c usfm_team -n '__usfm_team_from 1 import receive' -F
+complete -c usfm_team -n '__usfm_team_at 0 init import edit edit-over shown receive sync send export summary delta report check find words thin' -F
+complete -c usfm_team -n '__usfm_team_from 1 import receive sync' -F
 complete -c usfm_team -n '__usfm_team_from 0 import' -l since -rF -d 'Takes in what was changed since this bundle'
 complete -c usfm_team -n '__usfm_team_at 1 delta' -F
 complete -c usfm_team -n '__usfm_team_at 2 check find words' -F
-complete -c usfm_team -n '__usfm_team_at 1 export check find words' -a "$__usfm_team_books"
+complete -c usfm_team -n '__usfm_team_at 1 check find words' -a "$__usfm_team_books"
+complete -c usfm_team -n '__usfm_team_from 1 export' -a "$__usfm_team_books"
+complete -c usfm_team -n '__fish_seen_subcommand_from export' -l into -r -F -d 'Into the files of a folder'
 complete -c usfm_team -n '__usfm_team_at 0 fold' -a "$__usfm_team_books"
-complete -c usfm_team -n '__usfm_team_at 0 help' -a 'init import edit edit-over shown receive send export summary delta report check find words thin fold'
+complete -c usfm_team -n '__usfm_team_at 0 help' -a 'init import edit edit-over shown receive sync send export summary delta report check find words thin fold'

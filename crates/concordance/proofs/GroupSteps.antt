@@ -9,8 +9,9 @@ use Rattle.std.specs.List.Sorted.{IsSorted, IsStrictlySortedBy}
 use Rattle.std.specs.Map.{keys_of, values_of}
 use Rattle.std.specs.Ordering.{is_eq, is_lt}
 use Rattle.std.specs.Str.{bytes_eq}
-use Rattle.std.proofs.lemmas.Bool.{and_from, ne_eqb, true≢false, false≢true}
+use Rattle.std.proofs.lemmas.Bool.{and_from, or_parts, ne_eqb, false≢true}
 use Rattle.std.proofs.lemmas.Cmp.{on_total}
+use Rattle.std.proofs.Math.Bool.{or-false}
 use Rattle.std.proofs.lemmas.List.{length-append, map-append}
 use Rattle.std.proofs.lemmas.List.Folds.{list_any-append}
 use Rattle.std.proofs.lemmas.List.Kept.{IsStrictlySortedBy-dedup}
@@ -37,10 +38,6 @@ or_last false true true = refl
 or_last false true false = refl
 or_last false false true = refl
 or_last false false false = refl
-
-or_false : (b : Bool) → (b || false) ≡ b
-or_false true = refl
-or_false false = refl
 
 module _ (s : Spelling) where
   abbrev is_it : Spelling → Bool
@@ -81,7 +78,7 @@ module _ (s : Spelling) where
   new_here : (gs : List Group) (f : Bor (List ℕ)) (new : Vec KeyParts) (js : List KeyParts) → new.items ≡ js
       → is_told s (told (gs ++ (f, new) ∷ [])) ≡ (is_told s (told gs) || is_told s (told_with f.now js))
   new_here [] f new js e =
-      list_any-append is_it (told_by (f, new)) [] ∙ or_false _ ∙ ap (λ ks. is_told s (told_with f.now ks)) e
+      list_any-append is_it (told_by (f, new)) [] ∙ or-false _ ∙ ap (λ ks. is_told s (told_with f.now ks)) e
   new_here (x ∷ gs) f new js e =
       also_later x gs (gs ++ (f, new) ∷ []) (is_told s (told_with f.now js)) (new_here gs f new js e)
 
@@ -99,10 +96,6 @@ pub new_told : (gs : List Group) (f : Bor (List ℕ)) (new : Vec KeyParts) (js :
 new_told gs f new js e s = new_here s gs f new js e
 
 -- ---- each with a key
-
-or_parts : (a b : Bool) → (a || b) ≡ false → (a ≡ false) × (b ≡ false)
-or_parts true b e = absurd (true≢false e)
-or_parts false b e = (refl, e)
 
 more_keyed : (f : Bor (List ℕ)) (new : Vec KeyParts) (ks js : List KeyParts) → new.items ≡ ks ++ js → 0 < length js
     → is_bare (f, new) ≡ false

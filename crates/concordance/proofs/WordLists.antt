@@ -10,7 +10,7 @@ use Rattle.std.specs.FinMap.Entries.{by_order}
 use Rattle.std.specs.List.{list_any, list_all}
 use Rattle.std.specs.List.Sorted.{IsPermutation}
 use Rattle.std.specs.Str.{bytes_eq}
-use Rattle.std.proofs.lemmas.Bool.{and_parts, and_from, or_right, true≢false, false≢true}
+use Rattle.std.proofs.lemmas.Bool.{and_parts, and_from, or_parts, or_right, true≢false, false≢true}
 use Rattle.std.proofs.lemmas.List.{length-map, map-append}
 use Rattle.std.proofs.lemmas.List.Elements.{filter-append}
 use Rattle.std.proofs.lemmas.List.Folds.{list_all-append, list_any-append}
@@ -310,10 +310,6 @@ groups_words (g ∷ gs) r h =
     words_split g.0.now (told_by g) (told gs) (some_keys g f.0) (group_has g.0.now g.1.items) (groups_over g.0.now gs q.0)
     ∙ (λ i. (let word : WordParts = record { form = g.0.now; keys = rising key_cmp (group_keys g.0.now g.1.items i) } in word)
     ∷ groups_words gs q.1 f.1 i)
-  where
-    or_parts : (a b : Bool) → (a || b) ≡ false → (a ≡ false) × (b ≡ false)
-    or_parts true b e = absurd (true≢false e)
-    or_parts false b e = (refl, e)
 
 -- ---- groups made, and put in order
 

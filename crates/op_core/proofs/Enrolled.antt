@@ -1,29 +1,21 @@
--- New operations taken in one after another, rising.
-use Rattle.std.proofs.Common.{◌≡◌, ◌⊎◌, inl, inr, ℕ, nat_lt, zero, suc, ◌<◌, ◌≤◌, ◌+◌, Bool, true, false, not, cond, ◌||◌, List, [], ◌∷◌, ◌++◌, Option, Some, None, length, get_or, take, drop, arith, add-one, append_assoc, refl, sym, ap, subst, ◌∙◌}
-use Rattle.std.specs.declared.cmp.Ordering.TheVariants.{Less}
-use Rattle.std.specs.Ordering.{is_eq, is_lt, nat_cmp, ordering_then}
-use Rattle.std.specs.List.{list_all, list_any, AllByRecursion}
+-- Rising operations, before and after one of them.
+use Rattle.std.proofs.Common.{◌≡◌, ℕ, zero, suc, ◌<◌, ◌+◌, Bool, true, false, cond, List, [], ◌∷◌, ◌++◌, Option, Some, None, length, get_or, take, drop, arith, add-one, refl, sym, ap, subst, ◌∙◌}
+use Rattle.std.specs.Ordering.{is_eq}
+use Rattle.std.specs.List.{list_all, AllByRecursion}
 use Rattle.std.specs.Option.{option_or}
-use Rattle.std.specs.Cmp.{tied_itself, Equal-is, nat_cmp_is}
+use Rattle.std.specs.Cmp.{tied_itself}
 use Rattle.std.proofs.Math.Seq.{take-suc, drop-cons}
 use Rattle.std.proofs.lemmas.List.{take-append-drop}
-use Rattle.std.proofs.lemmas.List.Sums.{sum_by_more, sum_by-drop_more}
-use Rattle.std.proofs.lemmas.Bool.{and_parts, and_from, cond-false, ltb-true, false≢true}
-use Rattle.usfm_ref.specs.Segments.{Segment, segment_cmp}
-use Rattle.usfm_ref.proofs.Orders.{segment_total, segment_exact}
-use Rattle.op_core.specs.Ids.{Id, id_below, same_id, ids_rise}
-use Rattle.op_core.specs.Names.{name_cmp}
+use Rattle.std.proofs.lemmas.Bool.{and_parts, and_from, cond-false}
+use Rattle.usfm_ref.proofs.Orders.{segment_total}
+use Rattle.op_core.specs.Ids.{Id, id_below, same_id}
 use Rattle.op_core.specs.Equal.{id_from_same}
-use Rattle.op_core.specs.Ops.{Operation, IsOperation, in_segment, names}
-use Rattle.op_core.specs.Sets.{rises, get, met, put, join, IsOpSet}
-use Rattle.op_core.specs.Shown.{is_replaced}
-use Rattle.op_core.specs.Lists.{shown_ids}
-use Rattle.op_core.specs.Index.{is_in, AreInside, register_of, shown_room_in, missing_room_in, unheld, AreApart, shown_needed, missing_needed, HasRoomFor, Prepares, AdmitsIn, IsIndex}
-use Rattle.op_core.specs.declared.chapter.Chapter.{Chapter}
-use Rattle.op_core.proofs.Union.{AllAbove, rises_parts, get_above, above_trans, apart_above, rises-put, rises-join, get-put, get-join, same_gets, or_none, met_none, met_assoc, met_or}
+use Rattle.op_core.specs.Ops.{Operation, in_segment}
+use Rattle.op_core.specs.Sets.{rises, get}
+use Rattle.op_core.specs.Index.{AreApart}
+use Rattle.op_core.proofs.Union.{rises_parts, apart_above}
 use Rattle.op_core.proofs.Clashes.{get_cases}
-use Rattle.op_core.proofs.Inside.{is_of, in-get}
-use Rattle.op_core.proofs.Kept.{any_shown, in_segment-is, index_put}
+use Rattle.op_core.proofs.Kept.{in_segment-is}
 
 -- ---- a list at one of its items
 
@@ -101,187 +93,6 @@ pub apart_at : (held new : List Operation) (q : Id) (z : Operation) → AreApart
 apart_at held [] q z a g = cc g
 apart_at held (o ∷ new) q z a g = get_cases q o new z g (λ e _. ap (get held) e ∙ a.0) (λ g. apart_at held new q z a.1 g)
 
-module _ (held front behind : List Operation) (o : Operation) (hh : rises held ≡ true) (hn : rises (front ++ o ∷ behind) ≡ true) (apart : AreApart held (front ++ o ∷ behind)) where
-  parted : Split front o behind
-  parted = split_rises front o behind hn
-
-  -- the union so far does not have the operation
-  pub not_yet : get held o.id ≡ None → get (join held front) o.id ≡ None
-  not_yet g = get-join held front o.id hh parted.front ∙ (λ i. met (g i) (get_below o.id front parted.below i))
-
-  -- what is smaller than it and new is so far in
-  so_far : (n : Id) → id_below n o.id ≡ true → get (front ++ o ∷ behind) n ≡ get front n
-  so_far n l =
-      let above : AllAbove n (o ∷ behind) = and_from _ _ l (above_trans n o.id behind l (rises_parts o behind parted.back).0) in
-      get-append front (o ∷ behind) n ∙ ap (option_or (get front n)) (get_above n (o ∷ behind) above) ∙ or_none (get front n)
-
-  pub inside_so_far : (g : Segment) (n : Id) → id_below n o.id ≡ true → (is_in held g n || is_in (front ++ o ∷ behind) g n) ≡ is_in (join held front) g n
-  inside_so_far g n l =
-      (λ i. in-get held g n hh i || (in-get (front ++ o ∷ behind) g n hn ∙ ap (is_of g) (so_far n l)) i)
-      ∙ by (get front n) (so_far n l)
-      ∙ sym (in-get (join held front) g n (rises-join held front hh) ∙ ap (is_of g) (get-join held front n hh parted.front))
-    where
-      or_false : (b : Bool) → (b || false) ≡ b
-      or_false true = refl
-      or_false false = refl
-
-      by : (r : Option Operation) → get (front ++ o ∷ behind) n ≡ r → (is_of g (get held n) || is_of g r) ≡ is_of g (met (get held n) r)
-      by None e = or_false (is_of g (get held n)) ∙ ap (is_of g) (sym (met_none (get held n)))
-      by (Some z) e =
-          let none : get held n ≡ None = apart_at held (front ++ o ∷ behind) n z apart e in
-          rw none refl
-
-  at_most_one : (q : Id) (b : Bool) → same_id q o.id ≡ b → (get front q ≡ None) ⊎ (cond b (Some o) None ≡ None)
-  at_most_one q true e = inl (ap (get front) (id_from_same q o.id e) ∙ get_below o.id front parted.below)
-  at_most_one q false e = inr refl
-
-  pub one_more : put o (join held front) ≡ join held (front ++ o ∷ [])
-  one_more =
-      let rising : rises (front ++ o ∷ []) ≡ true = front_rises (front ++ o ∷ []) behind (subst (λ (xs : List Operation). rises xs ≡ true) (sym (append_assoc front (o ∷ []) behind)) hn) in
-      same_gets _ _ (rises-put o (join held front) (rises-join held front hh)) (rises-join held (front ++ o ∷ []) hh) (λ q.
-      get-put o (join held front) q (rises-join held front hh)
-      ∙ ap (λ r. met r (cond (same_id q o.id) (Some o) None)) (get-join held front q hh parted.front)
-      ∙ met_assoc (get held q) (get front q) _
-      ∙ ap (met (get held q)) (met_or (get front q) (cond (same_id q o.id) (Some o) None) (at_most_one q (same_id q o.id) refl) ∙ sym (get-append front (o ∷ []) q))
-      ∙ sym (get-join held (front ++ o ∷ []) q hh rising))
-
--- what the union so far has, one of the two lists has
-inside_either : (held front behind : List Operation) → rises held ≡ true → rises (front ++ behind) ≡ true → (g : Segment) (q : Id) → is_in (join held front) g q ≡ true → (is_in held g q || is_in (front ++ behind) g q) ≡ true
-inside_either held front behind hh hn g q e =
-    (λ i. in-get held g q hh i || (in-get (front ++ behind) g q hn ∙ ap (is_of g) (get-append front behind q)) i)
-    ∙ by (get held q) (get front q) (sym (in-get (join held front) g q (rises-join held front hh) ∙ ap (is_of g) (get-join held front q hh (front_rises front behind hn))) ∙ e)
-  where
-    by : (a b : Option Operation) → is_of g (met a b) ≡ true → (is_of g a || is_of g (option_or b (get behind q))) ≡ true
-    by None None e = absurd (false≢true e)
-    by None (Some z) e = e
-    by (Some x) None e = ap (λ t. t || is_of g (get behind q)) e
-    by (Some x) (Some y) e = ap (λ t. t || in_segment g y) e
-
--- so what a segment shows so far is of the operations of one of them
-pub shown_inside : (held new : List Operation) (n : ℕ) (g : Segment) (ids : List Id) → rises held ≡ true → rises new ≡ true → ids ≡ shown_ids (join held (take n new)) g → AreInside held new g ids
-shown_inside held new n g ids hh hn h q e =
-    let shown = and_parts (is_in (join held (take n new)) g q) (not (is_replaced (join held (take n new)) g q)) (sym (any_shown (join held (take n new)) g q) ∙ ap (list_any (same_id q)) (sym h) ∙ e) in
-    ap (λ (ops : List Operation). is_in held g q || is_in ops g q) (sym (take-append-drop n new))
-    ∙ inside_either held (take n new) (drop n new) hh (subst (λ (ops : List Operation). rises ops ≡ true) (sym (take-append-drop n new)) hn) g q shown.0
-
--- ---- room for what is to come
-
--- the segment's test of its own operation
+-- an operation is of its own segment
 pub here : (o : Operation) → in_segment o.segment o ≡ true
 here o = in_segment-is o.segment o ∙ ap is_eq (tied_itself segment_total o.segment)
-
--- a promise at the operation's segment, by the test of operations
-promised : (o : Operation) (g : Segment) (n more : ℕ) → cond (is_eq (segment_cmp g o.segment)) (n + more) n ≡ n + cond (in_segment g o) more 0
-promised o g n more = by (is_eq (segment_cmp g o.segment)) (in_segment-is g o)
-  where
-    by : (b : Bool) → in_segment g o ≡ b → cond b (n + more) n ≡ n + cond (in_segment g o) more 0
-    by true e = rw e refl
-    by false e = rw e (omega arith)
-
-module _ (held more ops : List Operation) (i : ℕ) (o : Operation) (l : i < length ops) (ho : o ≡ get_or ops i o) where
-  shown_more : (g : Segment) → shown_needed g (take (i + 1) ops) ≡ shown_needed g (take i ops) + cond (in_segment g o) 1 0
-  shown_more g = sum_by_more (λ o. cond (in_segment g o) 1 0) ops i o l ∙ ap (λ (p : Operation). shown_needed g (take i ops) + cond (in_segment g p) 1 0) (sym ho)
-
-  missing_more : (g : Segment) → missing_needed held more g (take (i + 1) ops) ≡ missing_needed held more g (take i ops) + cond (in_segment g o) (unheld held more o o.replaced) 0
-  missing_more g = sum_by_more (λ o. cond (in_segment g o) (unheld held more o o.replaced) 0) ops i o l ∙ ap (λ (p : Operation). missing_needed held more g (take i ops) + cond (in_segment g p) (unheld held more p p.replaced) 0) (sym ho)
-
-  pub room_more : (before after : List Chapter) → HasRoomFor held more (take i ops) before → Prepares o.segment 1 (unheld held more o o.replaced) before after → HasRoomFor held more (take (i + 1) ops) after
-  room_more before after h p = record {
-    shown = λ g. let a = shown_more g in let b = p.shown_room g ∙ promised o g (shown_room_in (register_of g before)) 1 in let c = h.shown g in omega (arith, a, b, c);
-    missing = λ g. let a = missing_more g in let b = p.missing_room g ∙ promised o g (missing_room_in (register_of g before)) (unheld held more o o.replaced) in let c = h.missing g in omega (arith, a, b, c);
-  }
-
-  shown_drop : (g : Segment) → shown_needed g (drop i ops) ≡ cond (in_segment g o) 1 0 + shown_needed g (drop (i + 1) ops)
-  shown_drop g = sum_by-drop_more (λ o. cond (in_segment g o) 1 0) ops i o l ∙ ap (λ (p : Operation). cond (in_segment g p) 1 0 + shown_needed g (drop (i + 1) ops)) (sym ho)
-
-  missing_drop : (g : Segment) → missing_needed held more g (drop i ops) ≡ cond (in_segment g o) (unheld held more o o.replaced) 0 + missing_needed held more g (drop (i + 1) ops)
-  missing_drop g = sum_by-drop_more (λ o. cond (in_segment g o) (unheld held more o o.replaced) 0) ops i o l ∙ ap (λ (p : Operation). cond (in_segment g p) (unheld held more p p.replaced) 0 + missing_needed held more g (drop (i + 1) ops)) (sym ho)
-
-  -- there is room for the next one
-  pub shown_fits : (chapters : List Chapter) → HasRoomFor held more (drop i ops) chapters → 1 ≤ shown_room_in (register_of o.segment chapters)
-  shown_fits chapters h =
-      let a = shown_drop o.segment in
-      let b = h.shown o.segment in
-      let c = ap {B = ℕ} (λ t. cond t 1 0) (here o) in
-      omega (arith, a, b, c)
-
-  pub missing_fits : (chapters : List Chapter) → HasRoomFor held more (drop i ops) chapters → unheld held more o o.replaced ≤ missing_room_in (register_of o.segment chapters)
-  missing_fits chapters h =
-      let a = missing_drop o.segment in
-      let b = h.missing o.segment in
-      let c = ap (λ t. cond t (unheld held more o o.replaced) 0) (here o) in
-      omega (arith, a, b, c)
-
-  pub room_left : (before after : List Chapter) → HasRoomFor held more (drop i ops) before → AdmitsIn held more o before after → HasRoomFor held more (drop (i + 1) ops) after
-  room_left before after h a = record {
-    shown = λ g. subst (λ (n : ℕ). shown_needed g (drop (i + 1) ops) ≤ n) (sym (ap shown_room_in (a.is_now g))) (shown g (is_eq (segment_cmp g o.segment)) refl);
-    missing = λ g. subst (λ (n : ℕ). missing_needed held more g (drop (i + 1) ops) ≤ n) (sym (ap missing_room_in (a.is_now g))) (missing g (is_eq (segment_cmp g o.segment)) refl);
-  }
-    where
-      same : (g : Segment) → is_eq (segment_cmp g o.segment) ≡ true → register_of g before ≡ Some a.old
-      same g e = ap (λ (w : Segment). register_of w before) (segment_exact g o.segment ((Equal-is _).0 e)) ∙ a.was
-
-      shown : (g : Segment) (b : Bool) → is_eq (segment_cmp g o.segment) ≡ b → shown_needed g (drop (i + 1) ops) ≤ shown_room_in (cond b (Some a.new) (register_of g before))
-      shown g true e =
-          let n = shown_drop g in
-          let m = h.shown g in
-          let k = ap shown_room_in (same g e) in
-          let t = ap {B = ℕ} (λ t. cond t 1 0) (in_segment-is g o ∙ e) in
-          let r = a.admits.shown_room in
-          omega (arith, n, m, k, t, r)
-      shown g false e =
-          let n = shown_drop g in
-          let m = h.shown g in
-          omega (arith, n, m)
-
-      missing : (g : Segment) (b : Bool) → is_eq (segment_cmp g o.segment) ≡ b → missing_needed held more g (drop (i + 1) ops) ≤ missing_room_in (cond b (Some a.new) (register_of g before))
-      missing g true e =
-          let n = missing_drop g in
-          let m = h.missing g in
-          let k = ap missing_room_in (same g e) in
-          let t = ap (λ t. cond t (unheld held more o o.replaced) 0) (in_segment-is g o ∙ e) in
-          let r = a.admits.missing_room in
-          omega (arith, n, m, k, t, r)
-      missing g false e =
-          let n = missing_drop g in
-          let m = h.missing g in
-          omega (arith, n, m)
-
--- for nothing no room is needed
-pub room_for_none : (held more : List Operation) (chapters : List Chapter) → HasRoomFor held more [] chapters
-room_for_none held more chapters = record { shown = λ g. omega arith; missing = λ g. omega arith }
-
--- ---- the index after one operation of the new ones
-
--- what an operation names is below it
-named_below : (o : Operation) (n : Id) → IsOperation o → names o n ≡ true → id_below n o.id ≡ true
-named_below o n h e = below (number o.replaced (and_parts (ids_rise o.replaced) (list_all (λ r. nat_lt r.number o.id.number) o.replaced) h.falls).1 e)
-  where
-    number : (named : List Id) → list_all (λ (r : Id). nat_lt r.number o.id.number) named ≡ true → list_any (same_id n) named ≡ true → n.number < o.id.number
-    number [] a e = absurd (false≢true e)
-    number (r ∷ named) a e = by (number named p.1) (same_id n r) refl e
-      where
-        p : (nat_lt r.number o.id.number ≡ true) × (list_all (λ (r : Id). nat_lt r.number o.id.number) named ≡ true)
-        p = and_parts (nat_lt r.number o.id.number) (list_all (λ (r : Id). nat_lt r.number o.id.number) named) a
-
-        by : (list_any (same_id n) named ≡ true → n.number < o.id.number) → (b : Bool) → same_id n r ≡ b → (b || list_any (same_id n) named) ≡ true → n.number < o.id.number
-        by rest true t e = let k = ap (λ (i : Id). i.number) (id_from_same n r t) in let q = ltb-true _ _ p.0 in omega (arith, k, q)
-        by rest false t e = rest e
-
-    below : n.number < o.id.number → id_below n o.id ≡ true
-    below l = ap (λ c. is_lt (ordering_then c (name_cmp n.name o.id.name))) (less n.number o.id.number l)
-      where
-        less : (a b : ℕ) → a < b → nat_cmp a b ≡ Less
-        less a b l = sym (nat_cmp_is a b Less l)
-
-pub index_more : (held new : List Operation) (i : ℕ) (o : Operation) (before after : List Chapter) → i < length new → o ≡ get_or new i o → IsOpSet held → IsOpSet new → AreApart held new → IsIndex (join held (take i new)) before → AdmitsIn held new o before after → IsIndex (join held (take (i + 1) new)) after
-index_more held new i o before after l ho sh sn apart h a =
-    let at = at_item new i o l ho in
-    let rising : rises (take i new ++ o ∷ drop (i + 1) new) ≡ true = subst (λ (xs : List Operation). rises xs ≡ true) at sn.rising in
-    let apart' : AreApart held (take i new ++ o ∷ drop (i + 1) new) = subst (AreApart held) at apart in
-    let front : rises (take i new) ≡ true = front_rises (take i new) (o ∷ drop (i + 1) new) rising in
-    let ok : IsOperation o = each_at IsOperation new i o l ho sn.each in
-    let inside = λ (n : Id) (e : names o n ≡ true). (λ j. is_in held o.segment n || is_in (at j) o.segment n) ∙ inside_so_far held (take i new) (drop (i + 1) new) o sh.rising rising apart' o.segment n (named_below o n ok e) in
-    let none = not_yet held (take i new) (drop (i + 1) new) o sh.rising rising apart' (each_at (λ o. get held o.id ≡ None) new i o l ho apart) in
-    subst (λ (ops : List Operation). IsIndex ops after) (one_more held (take i new) (drop (i + 1) new) o sh.rising rising apart' ∙ ap (join held) (sym (more_items new i o l ho)))
-    (index_put (join held (take i new)) o held new before after (rises-join held (take i new) sh.rising) none ok inside h a)

@@ -1,29 +1,23 @@
--- The index after one operation more.
-use Rattle.std.proofs.Common.{◌≡◌, ℕ, Bool, true, false, not, cond, ◌&&◌, ◌||◌, List, [], ◌∷◌, Option, Some, None, filter, refl, sym, ap, subst, ◌∙◌}
+-- What an index keeps of a union.
+use Rattle.std.proofs.Common.{◌≡◌, Bool, true, false, not, cond, ◌&&◌, ◌||◌, List, [], ◌∷◌, Option, Some, None, filter, refl, sym, ap, subst, ◌∙◌}
 use Rattle.std.specs.declared.cmp.Ordering.TheVariants.{Less, Equal, Greater}
 use Rattle.std.specs.Ordering.{is_eq, is_lt}
 use Rattle.std.specs.List.{list_any, list_all}
-use Rattle.std.specs.Cmp.{Equal-is, tied_itself}
 use Rattle.std.specs.FinMap.Entries.{by_order}
 use Rattle.std.proofs.lemmas.Bool.{cond-true, cond-false}
-use Rattle.std.proofs.Common.{arith}
 use Rattle.usfm_ref.specs.Segments.{Segment, segment_cmp}
-use Rattle.usfm_ref.proofs.Orders.{segment_total, segment_exact, same_segment-cmp}
+use Rattle.usfm_ref.proofs.Orders.{segment_total, same_segment-cmp}
 use Rattle.usfm_ref.proofs.Sorted.{rises_filter, tied_back}
 use Rattle.op_core.specs.Ids.{Id, id_cmp, same_id, ids_rise}
 use Rattle.op_core.specs.Equal.{id_from_same}
-use Rattle.op_core.specs.Ops.{Operation, IsOperation, in_segment, names}
-use Rattle.op_core.specs.Sets.{rises, get, meet, put}
+use Rattle.op_core.specs.Ops.{Operation, in_segment}
+use Rattle.op_core.specs.Sets.{rises, get, meet, met, put, join}
 use Rattle.op_core.specs.Shown.{is_replaced, shown}
 use Rattle.op_core.specs.Lists.{ids_of, shown_ids}
-use Rattle.op_core.specs.Index.{is_in, is_missing, register_of, shown_in, missing_in, IsIndex, Prepares, Lays, Admits, AdmitsIn}
-use Rattle.op_core.specs.declared.register.Register.{Register}
+use Rattle.op_core.specs.Index.{is_in, IsIndex, Lays, AreApart}
 use Rattle.op_core.specs.declared.chapter.Chapter.{Chapter}
 use Rattle.op_core.proofs.Rising.{id_total, same_id-cmp}
-use Rattle.op_core.proofs.Union.{rises-put}
-use Rattle.op_core.proofs.Shows.{names_none}
-use Rattle.op_core.proofs.IdLists.{same_members}
-use Rattle.op_core.proofs.Inside.{is_of, in-get}
+use Rattle.op_core.proofs.Union.{rises_parts, get_above, get-join}
 
 -- ---- ids of rising operations rise
 
@@ -103,135 +97,23 @@ index_laid ops before after h p = record {
   };
 }
 
-pub index_prepared : (ops : List Operation) (g : Segment) (s m : ℕ) (before after : List Chapter) → IsIndex ops before → Prepares g s m before after → IsIndex ops after
-index_prepared ops g s m before after h p = index_laid ops before after h (record { orderly = p.orderly; shown = p.shown; missing = p.missing })
-
-module _ (ops : List Operation) (o : Operation) (hr : rises ops ≡ true) (new : get ops o.id ≡ None) (ok : IsOperation o) where
-  in_after : (g : Segment) (q : Id) → is_in (put o ops) g q ≡ ((in_segment g o && same_id q o.id) || is_in ops g q)
-  in_after g q = any_put (λ p. in_segment g p && same_id q p.id) o ops new
-
-  replaced_after : (g : Segment) (q : Id) → is_replaced (put o ops) g q ≡ ((in_segment g o && names o q) || is_replaced ops g q)
-  replaced_after g q = any_put (λ p. in_segment g p && names p q) o ops new
-
-  -- where the id is the operation's, nothing held has it and the operation does not name it
-  not_in : (g : Segment) (q : Id) → same_id q o.id ≡ true → is_in ops g q ≡ false
-  not_in g q e = ap (is_in ops g) (id_from_same q o.id e) ∙ in-get ops g o.id hr ∙ ap (is_of g) new
-
-  not_named : (q : Id) → same_id q o.id ≡ true → names o q ≡ false
-  not_named q e = ap (names o) (id_from_same q o.id e) ∙ names_none o o.id ok (omega arith)
-
-  -- at another segment nothing changes
-  module _ (g : Segment) (away : in_segment g o ≡ false) where
-    in_away : (q : Id) → is_in (put o ops) g q ≡ is_in ops g q
-    in_away q = in_after g q ∙ ap (λ b. (b && same_id q o.id) || is_in ops g q) away
-
-    replaced_away : (q : Id) → is_replaced (put o ops) g q ≡ is_replaced ops g q
-    replaced_away q = replaced_after g q ∙ ap (λ b. (b && names o q) || is_replaced ops g q) away
-
-    shown_away : shown_ids ops g ≡ shown_ids (put o ops) g
-    shown_away = same_members (shown_ids ops g) (shown_ids (put o ops) g) (shown_ids_rise ops g hr) (shown_ids_rise (put o ops) g (rises-put o ops hr)) (λ q.
-        any_shown ops g q ∙ (λ i. sym (in_away q) i && not (sym (replaced_away q) i)) ∙ sym (any_shown (put o ops) g q))
-
-    missing_away : (q : Id) → is_missing ops g q ≡ is_missing (put o ops) g q
-    missing_away q = λ i. sym (replaced_away q) i && not (sym (in_away q) i)
-
-  -- at its own segment, where held and more are what the code looks the named ids up in
-  module _ (held more : List Operation) (inside : (n : Id) → names o n ≡ true → (is_in held o.segment n || is_in more o.segment n) ≡ is_in ops o.segment n) (here : in_segment o.segment o ≡ true) (old after : Register) (a : Admits held more o old after) (sh : old.shown.items ≡ shown_ids ops o.segment) (mi : (q : Id) → list_any (same_id q) old.missing.items ≡ is_missing ops o.segment q) where
-    abbrev g : Segment
-    g = o.segment
-
-    in_here : (q : Id) → is_in (put o ops) g q ≡ (same_id q o.id || is_in ops g q)
-    in_here q = in_after g q ∙ ap (λ b. (b && same_id q o.id) || is_in ops g q) here
-
-    replaced_here : (q : Id) → is_replaced (put o ops) g q ≡ (names o q || is_replaced ops g q)
-    replaced_here q = replaced_after g q ∙ ap (λ b. (b && names o q) || is_replaced ops g q) here
-
-    shown_table : (s i r n : Bool) → (s ≡ true → i ≡ false) → (s ≡ true → n ≡ false) → (((i && not r) && not n) || (s && not (r && not i))) ≡ ((s || i) && not (n || r))
-    shown_table true i r n hi hn = rw (hi refl, hn refl) (by r)
-      where
-        by : (r : Bool) → (false || not (r && true)) ≡ not r
-        by true = refl
-        by false = refl
-    shown_table false true true true hi hn = refl
-    shown_table false true true false hi hn = refl
-    shown_table false true false true hi hn = refl
-    shown_table false true false false hi hn = refl
-    shown_table false false true true hi hn = refl
-    shown_table false false true false hi hn = refl
-    shown_table false false false true hi hn = refl
-    shown_table false false false false hi hn = refl
-
-    missing_table : (s i r n m : Bool) → (s ≡ true → i ≡ false) → (s ≡ true → n ≡ false) → (n ≡ true → m ≡ i) → (((r && not i) && not s) || (n && not m)) ≡ ((n || r) && not (s || i))
-    missing_table true i r n m hi hn hm = rw (hi refl, hn refl) (by r)
-      where
-        by : (r : Bool) → (((r && true) && false) || false) ≡ (r && false)
-        by true = refl
-        by false = refl
-    missing_table false i r true m hi hn hm = rw (hm refl) (by r i)
-      where
-        by : (r i : Bool) → (((r && not i) && true) || not i) ≡ not i
-        by true true = refl
-        by true false = refl
-        by false true = refl
-        by false false = refl
-    missing_table false i r false m hi hn hm = by r i
-      where
-        by : (r i : Bool) → (((r && not i) && true) || false) ≡ (r && not i)
-        by true true = refl
-        by true false = refl
-        by false true = refl
-        by false false = refl
-
-    shown_here : after.shown.items ≡ shown_ids (put o ops) g
-    shown_here = same_members after.shown.items (shown_ids (put o ops) g) a.shown_rises (shown_ids_rise (put o ops) g (rises-put o ops hr)) (λ q.
-        a.shown q
-        ∙ (λ i. (((ap (list_any (same_id q)) sh ∙ any_shown ops g q) i) && not (names o q)) || (same_id q o.id && not (mi q i)))
-        ∙ shown_table (same_id q o.id) (is_in ops g q) (is_replaced ops g q) (names o q) (not_in g q) (not_named q)
-        ∙ (λ i. sym (in_here q) i && not (sym (replaced_here q) i))
-        ∙ sym (any_shown (put o ops) g q))
-
-    missing_here : (q : Id) → list_any (same_id q) after.missing.items ≡ is_missing (put o ops) g q
-    missing_here q =
-        a.missing q
-        ∙ ap (λ b. (b && not (same_id q o.id)) || (names o q && not (is_in held g q || is_in more g q))) (mi q)
-        ∙ missing_table (same_id q o.id) (is_in ops g q) (is_replaced ops g q) (names o q) (is_in held g q || is_in more g q) (not_in g q) (not_named q) (inside q)
-        ∙ (λ i. sym (replaced_here q) i && not (sym (in_here q) i))
-
 -- the test of a segment is that of the order
 pub in_segment-is : (g : Segment) (o : Operation) → in_segment g o ≡ is_eq (segment_cmp g o.segment)
 in_segment-is g o = same_segment-cmp o.segment g ∙ sym (tied_back segment_cmp segment_total o.segment g _ refl)
 
--- the index keeps what it has to, after one new operation
-pub index_put : (ops : List Operation) (o : Operation) (held more : List Operation) (before after : List Chapter) → rises ops ≡ true → get ops o.id ≡ None → IsOperation o → ((n : Id) → names o n ≡ true → (is_in held o.segment n || is_in more o.segment n) ≡ is_in ops o.segment n) → IsIndex ops before → AdmitsIn held more o before after → IsIndex (put o ops) after
-index_put ops o held more before after hr new ok inside h a = record {
-  orderly = a.orderly;
-  keeps = record {
-    shown = λ k. ap shown_in (a.is_now k) ∙ shown k (is_eq (segment_cmp k o.segment)) refl;
-    rising = λ k. subst (λ (r : Option Register). ids_rise (missing_in r) ≡ true) (sym (a.is_now k)) (rising k (is_eq (segment_cmp k o.segment)));
-    missing = λ k q. ap (λ (r : Option Register). list_any (same_id q) (missing_in r)) (a.is_now k) ∙ missing k q (is_eq (segment_cmp k o.segment)) refl;
-  };
-}
+-- what one of the operations of a union is, one of either set is, where these hold no id both
+pub any_join : (p : Operation → Bool) (held new : List Operation) → rises held ≡ true → rises new ≡ true → AreApart held new → list_any p (join held new) ≡ (list_any p held || list_any p new)
+any_join p held [] hh hn apart = or_false (list_any p held)
   where
-    here : in_segment o.segment o ≡ true
-    here = in_segment-is o.segment o ∙ ap is_eq (tied_itself segment_total o.segment)
-
-    was_shown : a.old.shown.items ≡ shown_ids ops o.segment
-    was_shown = sym (ap shown_in a.was) ∙ h.keeps.shown o.segment
-
-    was_missing : (q : Id) → list_any (same_id q) a.old.missing.items ≡ is_missing ops o.segment q
-    was_missing q = sym (ap (λ (r : Option Register). list_any (same_id q) (missing_in r)) a.was) ∙ h.keeps.missing o.segment q
-
-    at : (k : Segment) → is_eq (segment_cmp k o.segment) ≡ true → k ≡ o.segment
-    at k e = segment_exact k o.segment ((Equal-is _).0 e)
-
-    shown : (k : Segment) (b : Bool) → is_eq (segment_cmp k o.segment) ≡ b → shown_in (cond b (Some a.new) (register_of k before)) ≡ shown_ids (put o ops) k
-    shown k true e = shown_here ops o hr new ok held more inside here a.old a.new a.admits was_shown was_missing ∙ ap (shown_ids (put o ops)) (sym (at k e))
-    shown k false e = h.keeps.shown k ∙ shown_away ops o hr new ok k (in_segment-is k o ∙ e)
-
-    rising : (k : Segment) (b : Bool) → ids_rise (missing_in (cond b (Some a.new) (register_of k before))) ≡ true
-    rising k true = a.admits.missing_rises
-    rising k false = h.keeps.rising k
-
-    missing : (k : Segment) (q : Id) (b : Bool) → is_eq (segment_cmp k o.segment) ≡ b → list_any (same_id q) (missing_in (cond b (Some a.new) (register_of k before))) ≡ is_missing (put o ops) k q
-    missing k q true e = missing_here ops o hr new ok held more inside here a.old a.new a.admits was_shown was_missing q ∙ ap (λ (s : Segment). is_missing (put o ops) s q) (sym (at k e))
-    missing k q false e = h.keeps.missing k q ∙ missing_away ops o hr new ok k (in_segment-is k o ∙ e) q
+    or_false : (b : Bool) → b ≡ (b || false)
+    or_false true = refl
+    or_false false = refl
+any_join p held (o ∷ new) hh hn apart =
+    let q = rises_parts o new hn in
+    let none : get (join held new) o.id ≡ None = get-join held new o.id hh q.1 ∙ (λ i. met (apart.0 i) (get_above o.id new q.0 i)) in
+    any_put p o (join held new) none ∙ ap (λ b. p o || b) (any_join p held new hh q.1 apart.1) ∙ swap (p o) (list_any p held) (list_any p new)
+  where
+    swap : (a b c : Bool) → (a || (b || c)) ≡ (b || (a || c))
+    swap true true c = refl
+    swap true false c = refl
+    swap false b c = refl

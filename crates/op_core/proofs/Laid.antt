@@ -6,11 +6,11 @@ use Rattle.usfm_ref.specs.Keys.{KeyParts, key_cmp, head_of}
 use Rattle.usfm_ref.specs.Segments.{Segment, segment_cmp}
 use Rattle.usfm_ref.proofs.Orders.{key_total, segment_total}
 use Rattle.usfm_ref.proofs.Sorted.{place}
-use Rattle.op_core.specs.Index.{place_of, chapter_of, registers_in, register_at, HasRoom}
-use Rattle.op_core.specs.Index.{HasRoomIn, begins_above, IsOrderly, PreparesKey, LaysKeys, Lays}
+use Rattle.op_core.specs.Index.{place_of, chapter_of, registers_in, register_at}
+use Rattle.op_core.specs.Index.{begins_above, IsOrderly, LaysKeys, Lays}
 use Rattle.op_core.specs.declared.register.Register.{Register}
 use Rattle.op_core.specs.declared.chapter.Chapter.{Chapter}
-use Rattle.op_core.proofs.Registers.{rise, insert_changes, prepares}
+use Rattle.op_core.proofs.Registers.{rise, insert_changes, lays_at}
 use Rattle.op_core.proofs.Chapters.{insert_chapter, lays_in}
 use Rattle.op_core.proofs.Between.{place_between, none_between, put_between}
 
@@ -27,40 +27,28 @@ last_first xs ys y e = ap reverse e ∙ reverse-append xs (y ∷ [])
 
 -- ---- registers of a chapter
 
-pub keys_same : (head : KeyParts) (rs : List Register) → rise rs ≡ true →
-    ((k : KeyParts) → HasRoomIn (register_at k rs)) → LaysKeys head rs rs
-keys_same head rs h all = record { rising = h; homes = λ k e. inl e; room = all; shown = λ k. refl; missing = λ k. refl }
+pub keys_same : (head : KeyParts) (rs : List Register) → rise rs ≡ true → LaysKeys head rs rs
+keys_same head rs h = record { rising = h; homes = λ k e. inl e; shown = λ k. refl; missing = λ k. refl }
 
 pub keys_more : (head : KeyParts) (a b c : List Register) → LaysKeys head a b → LaysKeys head b c → LaysKeys head a c
 keys_more head a b c h k = record {
   rising = k.rising;
   homes = λ q e. elim (k.homes q e) [ inl f ↦ h.homes q f | inr t ↦ inr t ];
-  room = k.room;
   shown = λ q. k.shown q ∙ h.shown q;
   missing = λ q. k.missing q ∙ h.missing q;
 }
 
--- where the room for a key is nothing, a register more is all that changes
-laid_key : (head key : KeyParts) (a b : List Register) → head_of key ≡ head → PreparesKey key 0 0 a b → LaysKeys head a b
-laid_key head key a b e p = record {
-  rising = p.rising;
-  homes = λ q f. elim (p.homes q f) [ inl g ↦ inl g | inr t ↦ inr (ap head_of t ∙ e) ];
-  room = p.room;
-  shown = p.shown;
-  missing = p.missing;
-}
-
 pub register_laid : (head : KeyParts) (rs zs before : List Register) (n : ℕ) (y : Register) → n ≤ length rs →
     n ≡ place key_cmp key_total (λ (r : Register). r.key) y.key rs → begins_above key_cmp (λ r. r.key) y.key zs ≡ true →
-    head_of y.key ≡ head → y.shown.items ≡ [] → y.missing.items ≡ [] → y.shown_room ≡ 0 → y.missing_room ≡ 0 → HasRoom y →
+    head_of y.key ≡ head → y.shown.items ≡ [] → y.missing.items ≡ [] →
     LaysKeys head before (take n rs ++ zs) → LaysKeys head before (take n rs ++ y ∷ zs)
-register_laid head rs zs before n y l e b home sh mi sr mr room h =
+register_laid head rs zs before n y l e b home sh mi h =
     let full = take n rs ++ zs in
     let at = place_between key_cmp key_total (λ (r : Register). r.key) y.key rs zs n e b in
     let none = none_between key_cmp key_total (λ (r : Register). r.key) y.key rs zs n e h.rising b in
     let changes = insert_changes y.key full n h.rising at y none refl in
-    let p = prepares y.key y full _ changes None none 0 0 sh mi (omega (arith, sr)) (omega (arith, mr)) room h.room in
-    subst (LaysKeys head before) (put_between rs zs n y l) (keys_more head before full _ h (laid_key head y.key full _ home p))
+    let p = lays_at y.key y full _ changes None none head home sh mi in
+    subst (LaysKeys head before) (put_between rs zs n y l) (keys_more head before full _ h p)
 
 -- what is from a register's place on was moved to the tail
 pub keys_moved : (head : KeyParts) (before rs ts rs' ts' : List Register) (n : ℕ) → rs' ≡ take n rs → ts' ≡ ts ++ reverse (drop n rs) →
@@ -71,10 +59,10 @@ keys_moved head before rs ts rs' ts' n e f h = rw (e, f, moved_whole rs ts n) h
 pub key_more : (head : KeyParts) (before rs ts rs' ts' ts'' : List Register) (n : ℕ) (y : Register) → n ≤ length rs →
     n ≡ place key_cmp key_total (λ (r : Register). r.key) y.key rs → rs' ≡ take n rs → ts' ≡ ts ++ reverse (drop n rs) →
     begins_above key_cmp (λ r. r.key) y.key (reverse ts') ≡ true → head_of y.key ≡ head → y.shown.items ≡ [] → y.missing.items ≡ [] →
-    y.shown_room ≡ 0 → y.missing_room ≡ 0 → HasRoom y → ts'' ≡ ts' ++ y ∷ [] → LaysKeys head before (rs ++ reverse ts) →
+    ts'' ≡ ts' ++ y ∷ [] → LaysKeys head before (rs ++ reverse ts) →
     LaysKeys head before (rs' ++ reverse ts'')
-key_more head before rs ts rs' ts' ts'' n y l at e f b home sh mi sr mr room g h =
-    rw (e, last_first ts' ts'' y g) (register_laid head rs (reverse ts') before n y l at b home sh mi sr mr room
+key_more head before rs ts rs' ts' ts'' n y l at e f b home sh mi g h =
+    rw (e, last_first ts' ts'' y g) (register_laid head rs (reverse ts') before n y l at b home sh mi
     (keys_moved head before rs ts (take n rs) ts' n refl f h))
 
 -- ---- chapters
@@ -87,7 +75,7 @@ lays_more a b c h k = record { orderly = k.orderly; shown = λ g. k.shown g ∙ 
 
 -- a chapter without registers
 none_laid : (head : KeyParts) (a b : List Register) → a ≡ [] → b ≡ [] → LaysKeys head a b
-none_laid head a b e f = rw (e, f) (keys_same head [] refl (λ k. tt))
+none_laid head a b e f = rw (e, f) (keys_same head [] refl)
 
 pub chapter_laid : (g : Segment) (cs zs before : List Chapter) (n : ℕ) (y : Chapter) → n ≤ length cs →
     n ≡ place segment_cmp segment_total place_of (chapter_of g) cs → begins_above segment_cmp place_of (chapter_of g) zs ≡ true →

@@ -1,8 +1,9 @@
 -- The front of a project file: what is spelled is read, and what is read is spelled so.
-use Rattle.std.proofs.Common.{◌≡◌, ℕ, Bool, true, false, ◌&&◌, cond, eqb, leb, List, [], ◌∷◌, ◌++◌, length, take, drop, Some, None, IsTrue, refl, sym, ap, subst, ◌∙◌, arith}
+use Rattle.std.proofs.Common.{◌≡◌, ℕ, Bool, true, false, ◌&&◌, eqb, leb, List, [], ◌∷◌, ◌++◌, length, take, drop, Some, None, IsTrue, refl, sym, ap, subst, ◌∙◌, arith}
 use Rattle.std.specs.List.{starts_with}
 use Rattle.std.proofs.lemmas.Bool.{and_parts, leb-true, le-leb}
 use Rattle.std.proofs.lemmas.Bool.Decides.{Decides-eqb}
+use Rattle.std.proofs.lemmas.Option.{cond_some}
 use Rattle.std.proofs.lemmas.List.{take_at, drop_at, take-append-drop, length-append, length-take-le}
 use Rattle.std.proofs.lemmas.Slice.Eq.{starts_is}
 use Rattle.op_core.specs.Names.{is_name}
@@ -30,14 +31,10 @@ front_again name rest h = name_again name rest h
 
 -- ---- what is read is spelled so
 
-if_some : {A : Type 0} (b : Bool) (x y : A) → cond b (Some x) None ≡ Some y → (b ≡ true) × (x ≡ y)
-if_some true x y e = (refl, cc e)
-if_some false x y e = cc e
-
 name_is : (bytes name rest : List ℕ) → name_at bytes ≡ Some (name, rest) → (bytes ≡ length name ∷ (name ++ rest)) × IsTrue (is_name name)
 name_is [] name rest e = cc e
 name_is (n ∷ bytes) name rest e =
-    let p = if_some (leb n (length bytes) && is_name (take n bytes)) (take n bytes, drop n bytes) (name, rest) e in
+    let p = cond_some (leb n (length bytes) && is_name (take n bytes)) (take n bytes, drop n bytes) (name, rest) e in
     let tests = and_parts (leb n (length bytes)) (is_name (take n bytes)) p.0 in
     let front : take n bytes ≡ name = ap (λ (x : List ℕ × List ℕ). x.0) p.1 in
     let later : drop n bytes ≡ rest = ap (λ (x : List ℕ × List ℕ). x.1) p.1 in

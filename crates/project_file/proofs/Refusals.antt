@@ -1,5 +1,5 @@
 -- What the refusal of a bundle says of the project file that ends with it, and where none is for memory.
-use Rattle.std.proofs.Common.{◌≡◌, ◌≢◌, ℕ, true, false, List, [], ◌∷◌, Some, Result, Ok, Err, sym, ap, subst, inl, ◌∙◌}
+use Rattle.std.proofs.Common.{◌≡◌, ◌≢◌, ℕ, false, List, [], ◌∷◌, Some, Result, Ok, Err, sym, ap, subst, inl, ◌∙◌}
 use Rattle.std.proofs.lemmas.Bool.{true≢false}
 use Rattle.op_core.specs.Ops.{Operation}
 use Rattle.op_core.specs.Thinned.{all_full}

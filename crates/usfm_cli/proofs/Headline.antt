@@ -1,10 +1,10 @@
 -- What replicas that accepted the same operations write.
-use Rattle.std.proofs.Common.{◌≡◌, ℕ, true, List, [], ◌∷◌, Option, None, Some, Result, Ok, Err, refl, sym, ap, subst, ◌∙◌}
+use Rattle.std.proofs.Common.{◌≡◌, ℕ, true, List, [], ◌∷◌, Option, None, Some, Ok, refl, sym, ap, subst, ◌∙◌}
 use Rattle.std.specs.List.{AllByRecursion}
 use Rattle.op_core.specs.Ids.{Id}
 use Rattle.op_core.specs.Ops.{Operation}
 use Rattle.op_core.specs.Sets.{rises, clash, join}
-use Rattle.op_core.specs.Thinned.{is_legal, skeleton}
+use Rattle.op_core.specs.Thinned.{is_legal}
 use Rattle.op_core.proofs.Groupings.{skeleton_exports}
 use Rattle.op_core.proofs.Legal.{join_legal}
 use Rattle.op_core.proofs.Union.{rises-join, agree_from_no_clash}
@@ -19,7 +19,6 @@ use Rattle.usfm_cli.specs.Executing.{executed, file_after}
 use Rattle.usfm_cli.specs.ExecLaws.{output_of}
 use Rattle.usfm_cli.specs.declared.command.Command.{Command}
 use Rattle.usfm_cli.specs.declared.command.Command.TheVariants.{Report}
-use Rattle.usfm_cli.specs.declared.fault.Fault.{Fault}
 use Rattle.usfm_cli.proofs.ReadTheSame.{exported, reported}
 use Rattle.usfm_cli.proofs.ReadAlike.{texts_alike}
 use Rattle.usfm_cli.proofs.StreamLemmas.{stream_of}

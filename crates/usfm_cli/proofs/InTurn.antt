@@ -3,7 +3,6 @@ use Rattle.std.proofs.Common.{◌≡◌, ℕ, suc, Bool, false, ◌+◌, ◌<◌
 use Rattle.std.proofs.Common.{drop, Result, Ok, Err, refl, sym, ap, subst, ◌∙◌, ◌≤◌, get_or, arith, drop-cons, length-append}
 use Rattle.std.proofs.lemmas.List.{take-append-drop, take_more, take_all, length-take-le}
 use Rattle.replica_state.specs.States.{State}
-use Rattle.bundle_codec.specs.Reading.{AreBytes}
 use Rattle.project_file.specs.Projects.{project, project_at}
 use Rattle.project_file.proofs.Files.{project_is}
 use Rattle.usfm_cli.specs.Commands.{Done, outcome, is_late}
@@ -15,7 +14,7 @@ use Rattle.usfm_cli.specs.declared.command.Command.{Command}
 use Rattle.usfm_cli.specs.declared.fault.Fault.{Fault}
 use Rattle.usfm_cli.specs.declared.fault.Fault.TheVariants.{Memory, NotText, Reference, NoId, FieldBeforeMarker, EmptyMarker, BadStyleType}
 use Rattle.usfm_cli.specs.declared.fault.Fault.TheVariants.{Naming, Clash, Bundle, Trailing, BadSummary, BadSegment, NumbersUsedUp, NoBook}
-use Rattle.usfm_cli.specs.declared.fault.Fault.TheVariants.{NotShown, WriteFailed, EmptyNeedle, BadProject, ReadFailed, TooLong, FileFailed}
+use Rattle.usfm_cli.specs.declared.fault.Fault.TheVariants.{NotShown, WriteFailed, EmptyNeedle, BadProject, ReadFailed, TooLong, FileFailed, FileChanged}
 use Rattle.usfm_cli.specs.declared.turns.TurnFault.{TurnFault}
 use Rattle.usfm_cli.specs.declared.turns.TurnFault.TheVariants.{Project, Turn}
 
@@ -129,6 +128,7 @@ exact_fault late wanted BadProject e h = h
 exact_fault late wanted ReadFailed e h = h
 exact_fault late wanted TooLong e h = h
 exact_fault late wanted FileFailed e h = h
+exact_fault late wanted FileChanged e h = h
 
 -- the first that is refused, which is not for memory, is the refusal of the commands in turn
 pub refused_is : (s : State) (commands : List Command) (at : ℕ) (fault : Fault) → is_memory fault ≡ false

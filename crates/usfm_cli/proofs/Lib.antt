@@ -11,3 +11,5 @@ pub mod Running
 pub mod Searched
 pub mod Headline
 pub mod InTurn
+pub mod Puts
+pub mod ShownSets

@@ -1,12 +1,12 @@
 -- Projects and streams that hold the same but for texts left out read alike.
-use Rattle.std.proofs.Common.{◌≡◌, ℕ, Bool, true, false, ◌||◌, cond, List, [], ◌∷◌, Option, None, Some, Result, Ok, Err, refl, sym, ap, ◌∙◌}
+use Rattle.std.proofs.Common.{◌≡◌, ℕ, Bool, true, false, ◌||◌, cond, List, [], ◌∷◌, None, Result, Ok, Err, refl, sym, ap, ◌∙◌}
 use Rattle.std.specs.List.{AllByRecursion}
 use Rattle.op_core.specs.Ids.{Id, same_id}
 use Rattle.op_core.specs.Ops.{Operation}
 use Rattle.op_core.specs.Sets.{rises, clash, join}
 use Rattle.op_core.specs.Lists.{ids_of, is_held}
 use Rattle.op_core.specs.NextIds.{is_among}
-use Rattle.op_core.specs.Export.{of_book, has_book, export}
+use Rattle.op_core.specs.Export.{of_book, export}
 use Rattle.op_core.specs.Thinned.{skeleton, is_legal, IsOf}
 use Rattle.op_core.specs.Laws.{Joining, union_by}
 use Rattle.op_core.specs.Laws.Joining.{Part, Joined}
@@ -17,7 +17,6 @@ use Rattle.op_core.proofs.Groupings.{skeleton_exports}
 use Rattle.op_core.proofs.Together.{joined_in}
 use Rattle.replica_state.specs.States.{State}
 use Rattle.project_file.specs.Projects.{project_at}
-use Rattle.conflict_report.specs.Reports.{report}
 use Rattle.conflict_report.proofs.SameReports.{skeleton_reports}
 use Rattle.usfm_cli.specs.Commands.{export_text}
 use Rattle.usfm_cli.specs.Streams.{unless_clash, union_in, union_with, AreSpelled, book_in, book_of_stream}
@@ -25,7 +24,6 @@ use Rattle.usfm_cli.specs.StreamLaws.{one_holds, FoldAlike}
 use Rattle.usfm_cli.specs.Executing.{executed}
 use Rattle.usfm_cli.specs.ExecLaws.{output_of, ReadTheSame}
 use Rattle.usfm_cli.specs.declared.command.Command.TheVariants.{Export}
-use Rattle.usfm_cli.specs.declared.fault.Fault.{Fault}
 use Rattle.usfm_cli.specs.declared.fault.Fault.TheVariants.{NoBook}
 use Rattle.usfm_cli.proofs.ReadTheSame.{exported, reported}
 use Rattle.usfm_cli.proofs.StreamLemmas.{union_joined, gives_union}

@@ -7,7 +7,6 @@ use Rattle.op_core.specs.Thinned.{skeleton}
 use Rattle.bundle_codec.specs.Reading.{AreBytes}
 use Rattle.replica_state.specs.States.{State}
 use Rattle.project_file.specs.Projects.{project_at}
-use Rattle.conflict_report.specs.Reports.{report}
 use Rattle.usfm_cli.specs.Streams.{union_in, book_of_stream}
 use Rattle.usfm_cli.specs.Executing.{executed, file_after}
 use Rattle.usfm_cli.specs.ExecLaws.{output_of}

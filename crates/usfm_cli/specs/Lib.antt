@@ -5,6 +5,8 @@ pub mod Looking
 pub mod Commands
 pub mod Executing
 pub mod Turns
+pub mod Folders
+pub mod Standing
 pub mod ExecLaws
 pub mod DeltaLaws
 pub mod Streams

@@ -19,6 +19,7 @@ use Rattle.usfm_cli.specs.declared.fault.Fault.TheVariants.{Trailing, BadSummary
 use Rattle.usfm_cli.specs.declared.fault.Fault.TheVariants.{NumbersUsedUp, NoBook, NotShown}
 use Rattle.usfm_cli.specs.declared.fault.Fault.TheVariants.{WriteFailed, EmptyNeedle, BadProject}
 use Rattle.usfm_cli.specs.declared.fault.Fault.TheVariants.{ReadFailed, TooLong, FileFailed}
+use Rattle.usfm_cli.specs.declared.fault.Fault.TheVariants.{FileChanged}
 
 -- the number of a fault of a bundle
 abbrev pub bundle_number : BundleFault → ℕ
@@ -75,6 +76,7 @@ fault_number BadProject = 110
 fault_number ReadFailed = 120
 fault_number TooLong = 121
 fault_number FileFailed = 130
+fault_number FileChanged = 131
 
 -- the details of a fault: an id by its number and its name; a count of bytes, a line or the place of an operation
 -- in decimal

@@ -87,6 +87,10 @@ pub enum Fault {
     /// 130: a project's file was not made, replaced or renamed.
     #[error("the project's file was not written")]
     FileFailed,
+    /// 131: a book's file in a folder was changed, and what it was written from is not known; or there
+    /// are two of one book, or another file in the place of one.
+    #[error("the folder's file would lose what stands in it")]
+    FileChanged,
 }
 
 impl From<AllocError> for Fault {

@@ -6,6 +6,7 @@ ghost use Rattle.usfm_cli.specs.StreamLaws as laws;
 ghost use Rattle.usfm_cli.specs.TreeLaws as trees;
 
 pub mod deltas;
+pub mod folders;
 pub mod headline;
 pub mod turns;
 

@@ -121,6 +121,7 @@ fn fault_number(fault: &Fault) -> u64
         Fault::ReadFailed => 120,
         Fault::TooLong => 121,
         Fault::FileFailed => 130,
+        Fault::FileChanged => 131,
     }
 }
 

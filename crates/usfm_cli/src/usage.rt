@@ -1,7 +1,9 @@
 // The program's subcommands, their words and their help.
+mod folders;
 mod looking;
 
-use self::looking::{check, delta, export, find, fold, report, send, shown, summary, words};
+use self::folders::{export, sync};
+use self::looking::{check, delta, find, fold, report, send, shown, summary, words};
 use clap::{Arg, Command};
 use std::alloc::{AllocError, Global};
 
@@ -43,6 +45,7 @@ pub(crate) fn program<'a>(alloc: Global) -> Result<Command<'a>, AllocError> {
     let program = with(program, edit_over(alloc))?;
     let program = with(program, shown(alloc))?;
     let program = with(program, receive(alloc))?;
+    let program = with(program, sync(alloc))?;
     let program = with(program, send(alloc))?;
     let program = with(program, export(alloc))?;
     let program = with(program, summary(alloc))?;

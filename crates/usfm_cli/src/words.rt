@@ -55,6 +55,19 @@ pub enum Line {
         project: String,
         book: Book,
     },
+    /// `export PROJECT --into FOLDER [BOOK..]`: write the books into a folder, all where none is given.
+    ExportInto {
+        project: String,
+        folder: String,
+        books: Vec<Book>,
+    },
+    /// `sync PROJECT FOLDER [BUNDLE..]`: take in what was changed in a folder and bundles, and write the
+    /// books into the folder.
+    Sync {
+        project: String,
+        folder: String,
+        bundles: Vec<String>,
+    },
     /// `summary PROJECT`: write the summary of what the project holds.
     Summary {
         project: String,
@@ -170,9 +183,11 @@ fn line_of(alloc: Global, name: &str, given: &ArgMatches<'_>) -> Result<Line, Li
         "send" => Ok(Line::Send {
             project: text(alloc, given, "PROJECT")?,
         }),
-        "export" => Ok(Line::Export {
+        "export" => export_line(alloc, given),
+        "sync" => Ok(Line::Sync {
             project: text(alloc, given, "PROJECT")?,
-            book: Book::read(word(given, "BOOK"))?,
+            folder: text(alloc, given, "FOLDER")?,
+            bundles: texts(alloc, given, "BUNDLE")?,
         }),
         "summary" => Ok(Line::Summary {
             project: text(alloc, given, "PROJECT")?,
@@ -207,6 +222,38 @@ fn line_of(alloc: Global, name: &str, given: &ArgMatches<'_>) -> Result<Line, Li
         _ => segment_line(alloc, name, given),
     }
 }
+
+// The line of an export: of one book, or of any number of them into a folder.
+fn export_line(alloc: Global, given: &ArgMatches<'_>) -> Result<Line, LineFault> {
+    let project = text(alloc, given, "PROJECT")?;
+    let words = given.get_strs("BOOK").unwrap_or(&[]);
+    if let Some(folder) = text_if_given(alloc, given, "FOLDER")? {
+        let mut books = Vec::new(alloc);
+        for word in words {
+            books.push(Book::read(*word)?)?;
+        }
+        return Ok(Line::ExportInto {
+            project,
+            folder,
+            books,
+        });
+    }
+    match words {
+        [book] => Ok(Line::Export {
+            project,
+            book: Book::read(*book)?,
+        }),
+        _ => Err(LineFault::Usage(String::from_str(alloc, ONE_BOOK)?)),
+    }
+}
+
+const ONE_BOOK: &str = "\
+error: without --into FOLDER one BOOK is exported
+
+Usage: usfm_team export <PROJECT> <BOOK>
+
+For more information, try '--help'.
+";
 
 // The line of a subcommand on a segment.
 fn segment_line(alloc: Global, name: &str, given: &ArgMatches<'_>) -> Result<Line, LineFault> {

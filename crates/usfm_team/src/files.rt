@@ -21,12 +21,23 @@ pub(crate) fn read_open(rt: &HostRuntime, file: &File) -> Result<Vec<u8>, Fault>
     Ok(read_to_end(rt.alloc(), &mut source)?)
 }
 
+// Removes a file or a link, if one stands there.
+pub(crate) fn remove_if_there(rt: &HostRuntime, path: &str) -> Result<(), Fault> {
+    match fs::remove_file(rt, path) {
+        Err(error) if error.kind() != ErrorKind::NotFound => Err(Fault::FileFailed),
+        _ => Ok(()),
+    }
+}
+
+// Makes a file with the rights that the system gives a new one, in the place of a file or a link that stands there.
+pub(crate) fn make_file(rt: &HostRuntime, path: &str) -> Result<File, Fault> {
+    remove_if_there(rt, path)?;
+    File::create_new(rt, path).map_err(|_| Fault::FileFailed)
+}
+
 // Makes a file that its owner alone may read, in the place of a file or a link that stands there.
 pub(crate) fn make_private(rt: &HostRuntime, path: &str) -> Result<File, Fault> {
-    match fs::remove_file(rt, path) {
-        Err(error) if error.kind() != ErrorKind::NotFound => return Err(Fault::FileFailed),
-        _ => {}
-    }
+    remove_if_there(rt, path)?;
     let made = OpenOptions::new()
         .write(true)
         .create_new(true)

@@ -2,13 +2,17 @@
 #![tactic(auto)]
 
 mod files;
+mod folder;
+mod placing;
 mod project;
+mod sync;
 #[cfg(test)]
 mod tests;
 mod turns;
 
 use crate::files::read_file;
 use crate::project::{begin_project, lock_project};
+use crate::sync::{export_into, sync};
 use crate::turns::{Refusal, import, receive};
 use std::io;
 use std::io::{ErrorKind, IsTerminal, Write};
@@ -103,6 +107,16 @@ fn run(rt: &HostRuntime, line: Line) -> Result<(), Refusal> {
         Line::Shown { project, book, key } => ask(rt, &project, &Command::Shown(book, key)),
         Line::Send { project } => ask(rt, &project, &Command::Send),
         Line::Export { project, book } => ask(rt, &project, &Command::Export(book)),
+        Line::ExportInto {
+            project,
+            folder,
+            books,
+        } => export_into(rt, &project, &folder, &books),
+        Line::Sync {
+            project,
+            folder,
+            bundles,
+        } => sync(rt, &project, &folder, bundles),
         Line::Summary { project } => ask(rt, &project, &Command::Summary),
         Line::Delta { project, summary } => {
             let bytes = read_file(rt, &project)?;

@@ -84,7 +84,7 @@ fn open_project(rt: &HostRuntime, path: &str) -> Result<File, Fault> {
 
 // Where the file of a project stands: under its name, or where that link leads. Were the link replaced, the two would
 // be two projects of one name from then on.
-fn place_of(rt: &HostRuntime, path: &str) -> Result<PathBuf, Fault> {
+pub(crate) fn place_of(rt: &HostRuntime, path: &str) -> Result<PathBuf, Fault> {
     let found = fs::symlink_metadata(rt, path).map_err(|_| Fault::FileFailed)?;
     if found.is_symlink() {
         fs::canonicalize(rt, path).map_err(link_fault)
@@ -109,7 +109,7 @@ fn look_at(file: &File) -> Result<Metadata, Fault> {
 
 // Gives a file the group and the mode of the one that it will replace. A new file's mode is no more than that of its
 // owner's by then.
-fn keep_rights(old: &File, new: &File) -> Result<(), Fault> {
+pub(crate) fn keep_rights(old: &File, new: &File) -> Result<(), Fault> {
     let old = look_at(old)?;
     let made = look_at(new)?;
     let is_kept = made.gid() == old.gid() || fchown(new, None, Some(old.gid())).is_ok();

@@ -3,6 +3,7 @@ mod books;
 mod checks;
 mod commands;
 mod concordances;
+mod folders;
 mod folding;
 mod line_words;
 mod looking;

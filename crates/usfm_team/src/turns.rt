@@ -17,6 +17,16 @@ impl From<Fault> for Refusal {
     }
 }
 
+impl Refusal {
+    // The refusal of a file. Where out of memory keeps its name from being copied, the fault alone is said.
+    pub(crate) fn at(rt: &HostRuntime, fault: Fault, file: &str) -> Refusal {
+        Refusal {
+            fault,
+            file: String::from_str(rt.alloc(), file).ok(),
+        }
+    }
+}
+
 // Takes in the files of books, or what was changed in them since a bundle.
 pub(crate) fn import(
     rt: &HostRuntime,
@@ -83,7 +93,7 @@ fn receive_all(rt: &HostRuntime, project: &str, names: &[String]) -> Result<(), 
 }
 
 // The bytes of files, or the first that is not read.
-fn read_files(rt: &HostRuntime, names: &[String]) -> Result<Vec<Vec<u8>>, TurnFault> {
+pub(crate) fn read_files(rt: &HostRuntime, names: &[String]) -> Result<Vec<Vec<u8>>, TurnFault> {
     let mut files = Vec::new(rt.alloc());
     for name in names {
         match read_file(rt, name) {
@@ -115,6 +125,17 @@ fn write_outputs(rt: &HostRuntime, outputs: &[Vec<u8>]) -> Result<(), Fault> {
         gone = write_more(&mut sink, gone, output)?;
     }
     Ok(())
+}
+
+// The refusal of one of several bundles, beside which the line names other files.
+pub(crate) fn refusal_in(rt: &HostRuntime, fault: TurnFault, names: &[String]) -> Refusal {
+    match fault {
+        TurnFault::Project(fault) => Refusal::from(fault),
+        TurnFault::Turn(at, fault) => match names.get(at) {
+            Some(name) => Refusal::at(rt, fault, name),
+            None => Refusal::from(fault),
+        },
+    }
 }
 
 // The refusal of a line that names these files.

@@ -1,18 +1,19 @@
-// New chapters and registers, put into their lists before room is promised in them. A list is gone
+// New chapters and registers, put into their lists before anything changes in them. A list is gone
 // over once for all that is new in it, from the back, so that no order of operations moves a list
 // once for each of them.
 ghost use Rattle.std.specs.Prelude.{◌≡◌, ◌<◌, ◌≤◌, [], IsTrue, length, reverse, vec_len};
-ghost use Rattle.std.specs.Prelude.{vec_capacity};
+ghost use Rattle.std.specs.Prelude.{vec_capacity, true, OnOk};
 ghost use Rattle.usfm_ref.specs.Keys as keys;
 ghost use Rattle.usfm_ref.specs.Keys.{key_cmp, same_key};
 ghost use Rattle.usfm_ref.specs.Segments.{segment, segment_cmp};
 ghost use Rattle.usfm_ref.specs.Rising.{rises_by};
-ghost use Rattle.op_core.specs.Index.{place_of, register_at, HasRoomIn, IsOrderly, begins_above};
-ghost use Rattle.op_core.specs.Index.{Lays, LaysKeys};
+ghost use Rattle.op_core.specs.Index.{place_of, is_there, IsOrderly, begins_above};
+ghost use Rattle.op_core.specs.Index.{Lays, LaysKeys, Readies};
 
+use super::put_in;
+use super::turns::Turn;
 use crate::chapter::Chapter;
 use crate::merge::move_behind;
-use crate::op::Op;
 use crate::place::{Near, head_of, place_chapter, place_register, register_at, registers_of};
 use crate::register::Register;
 use std::alloc::{AllocError, Global};
@@ -35,23 +36,23 @@ impl Spot {
     }
 }
 
-// Puts in registers, and chapters for them, at the segments of the operations that have none. What
-// the index keeps stays, also where a growth was refused.
+// Puts in registers, and chapters for them, at the segments of the turns, where many have none. What the
+// index keeps stays, also where a growth was refused.
 #[tactic(auto, using(crate::proofs::Laid::lays_same, crate::proofs::Laid::lays_more))]
 pub(crate) fn lay_out(
     chapters: &mut Vec<Chapter>,
     alloc: Global,
-    new: &[Op],
+    turns: &[Turn],
     near: &mut Near,
     compared: &mut u64,
 ) -> Result<(), AllocError>
     requires { IsOrderly chapters.old.items }
     ensures { Lays chapters.old.items chapters.new.items }
 {
-    if new.len() < FEW {
+    if turns.len() < FEW {
         return Ok(());
     }
-    let spots = spots_of(chapters, alloc, new, near, compared)?;
+    let spots = spots_of(chapters, alloc, turns, near, compared)?;
     if spots.len() < FEW {
         return Ok(());
     }
@@ -59,30 +60,54 @@ pub(crate) fn lay_out(
     lay_registers(chapters, alloc, &spots, compared)
 }
 
-// The segments of the operations that have no register, rising, each once.
+// The segments of the turns that have no register, in the turns' order, each once.
 fn spots_of(
     chapters: &[Chapter],
     alloc: Global,
-    new: &[Op],
+    turns: &[Turn],
     near: &mut Near,
     compared: &mut u64,
 ) -> Result<Vec<Spot>, AllocError>
     requires { IsOrderly chapters.now }
 {
     let mut spots: Vec<Spot> = Vec::new(alloc);
-    for op in new {
-        let (book, key) = (op.book(), op.key());
-        let registers = registers_of(chapters, book, key, &mut near.chapter, compared);
-        if register_at(registers, key, &mut near.register, compared).is_none() {
+    for turn in turns {
+        let (book, key) = (turn.book, turn.key);
+        if !is_laid(chapters, book, key, near, compared) {
             spots.push(Spot { book, key })?;
         }
     }
-    spots.sort_unstable_by(|a, b| {
-        *compared = compared.saturating_add(1);
-        a.cmp(b)
-    });
     spots.dedup();
     Ok(spots)
+}
+
+// Whether a segment has a register.
+fn is_laid(chapters: &[Chapter], book: Book, key: Key, near: &mut Near, compared: &mut u64) -> bool
+    requires { IsOrderly chapters.now }
+    ensures { result ≡ is_there (segment book key) chapters.now }
+{
+    let registers = registers_of(chapters, book, key, &mut near.chapter, compared);
+    register_at(registers, key, &mut near.register, compared).is_some()
+}
+
+// Puts in a register at a segment that has none.
+pub(crate) fn lay(
+    chapters: &mut Vec<Chapter>,
+    alloc: Global,
+    book: Book,
+    key: Key,
+    near: &mut Near,
+    compared: &mut u64,
+) -> Result<(), AllocError>
+    requires { IsOrderly chapters.old.items }
+    ensures same { Readies chapters.old.items chapters.new.items }
+    ensures there { OnOk result (is_there (segment book key) chapters.new.items ≡ true) }
+{
+    if is_laid(chapters, book, key, near, compared) {
+        return Ok(());
+    }
+    let register = Register::new(alloc, key);
+    put_in(chapters, alloc, book, register, near, compared)
 }
 
 // Puts in the chapters of the segments that are not there.
@@ -242,7 +267,6 @@ fn lay_keys(
     compared: &mut u64,
 ) -> Result<(), AllocError>
     requires rising { IsTrue (rises_by key_cmp (λ r. r.key) registers.old.items) }
-    requires room { (k : _) → HasRoomIn (register_at k registers.old.items) }
     ensures { LaysKeys head registers.old.items registers.new.items }
 {
     registers.reserve_exact(own.len())?;
@@ -261,7 +285,6 @@ fn merge_registers(
     compared: &mut u64,
 )
     requires rising { IsTrue (rises_by key_cmp (λ r. r.key) registers.old.items) }
-    requires rooms { (k : _) → HasRoomIn (register_at k registers.old.items) }
     requires tail { tail.items ≡ [] }
     requires room { vec_len registers.old ≤ vec_capacity tail }
     ensures { LaysKeys head registers.old.items registers.new.items }

@@ -45,29 +45,6 @@ Faults:
   fault 90 BYTES           writing failed after so many bytes
   fault 120, fault 121     the file was not read, or is over 268,435,456 bytes";
 
-pub(crate) fn export<'a>(alloc: Global) -> Result<Command<'a>, AllocError> {
-    command(
-        alloc,
-        "export",
-        "Writes the text of a book",
-        EXPORT,
-        &[PROJECT, BOOK],
-    )
-}
-
-const EXPORT: &str = "\
-Where a segment shows several texts, the one of the greatest id is written.
-
-Example: usfm_team export ana.project MAT > matthew.usfm
-
-Faults:
-  fault 1                  out of memory
-  fault 20                 BOOK is no book's code
-  fault 60 to 70, 110      PROJECT is no project
-  fault 82                 the project has no operation of the book
-  fault 90 BYTES           writing failed after so many bytes
-  fault 120, fault 121     the file was not read, or is over 268,435,456 bytes";
-
 pub(crate) fn summary<'a>(alloc: Global) -> Result<Command<'a>, AllocError> {
     command(
         alloc,

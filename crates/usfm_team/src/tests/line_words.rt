@@ -55,6 +55,26 @@ fn told(alloc: Global, line: &Line) -> Result<String, Fail> {
         Line::Export { project, book } => {
             format!(in alloc; "export {project} book {}", str::from_utf8(&book.code())?)?
         }
+        Line::ExportInto {
+            project,
+            folder,
+            books,
+        } => {
+            let mut text = format!(in alloc; "export {project} into {folder}")?;
+            for book in books {
+                let code = book.code();
+                text.push_str(format!(in alloc; " book {}", str::from_utf8(&code)?)?.as_str())?;
+            }
+            text
+        }
+        Line::Sync {
+            project,
+            folder,
+            bundles,
+        } => {
+            let begun = format!(in alloc; "{project} folder {folder}")?;
+            several(alloc, "sync", &begun, "bundle", bundles)?
+        }
         Line::Summary { project } => format!(in alloc; "summary {project}")?,
         Line::Delta { project, summary } => {
             format!(in alloc; "delta {project} summary {summary}")?
@@ -176,6 +196,19 @@ const LINES: &[(&str, &str)] = &[
     ),
     ("send|ana.project", "send ana.project"),
     ("export|ana.project|LUK", "export ana.project book LUK"),
+    (
+        "export|ana.project|--into|texts",
+        "export ana.project into texts",
+    ),
+    (
+        "export|ana.project|MAT|--into|texts|LUK",
+        "export ana.project into texts book MAT book LUK",
+    ),
+    ("sync|ana.project|texts", "sync ana.project folder texts"),
+    (
+        "sync|ana.project|texts|ben.bundle|cy.bundle",
+        "sync ana.project folder texts bundle ben.bundle bundle cy.bundle",
+    ),
     ("summary|ana.project", "summary ana.project"),
     (
         "delta|ana.project|ben.summary",
@@ -205,6 +238,7 @@ const LINES: &[(&str, &str)] = &[
     ("edit|p|MAT", "fault 21\n"),
     ("shown|p|MAT 1000", "fault 21\n"),
     ("export|p|mat", "fault 20\n"),
+    ("export|p|--into|t|MAT|mat", "fault 20\n"),
     ("fold|mat", "fault 20\n"),
     // The shape goes before them.
     ("", "usage"),
@@ -226,6 +260,9 @@ const LINES: &[(&str, &str)] = &[
     ("receive|p", "usage"),
     ("send|p|q", "usage"),
     ("export|p", "usage"),
+    ("export|p|MAT|LUK", "usage"),
+    ("export|p|--into", "usage"),
+    ("sync|p", "usage"),
     ("thin", "usage"),
     ("thin|p|MAT", "usage"),
     ("report", "usage"),

@@ -4,14 +4,14 @@ use Rattle.usfm_ref.specs.Keys.{KeyParts, head_of}
 use Rattle.usfm_ref.specs.Segments.{segment, segment_cmp}
 use Rattle.usfm_ref.proofs.Orders.{segment_total}
 use Rattle.usfm_ref.proofs.Sorted.{place}
-use Rattle.op_core.specs.Index.{place_of, registers_of, register_at, HasRoomIn, LaysKeys}
+use Rattle.op_core.specs.Index.{place_of, registers_of, LaysKeys}
 use Rattle.op_core.specs.declared.register.Register.{Register}
 use Rattle.op_core.proofs.Registers.{rise}
 use Rattle.op_core.proofs.Chapters.{were_there, set_chapter, lays_in}
 use Rattle.op_core.proofs.index.lay.lay_beside.Goals as goal
 
-pub lay_keys-requires-clause-rising : goal.lay_keys-requires-clause-rising
-lay_keys-requires-clause-rising c =
+pub lay_keys-requires : goal.lay_keys-requires
+lay_keys-requires c =
     let there : registers_of (segment c.args.spot.book c.args.spot.key) c.args.chapters.now.items
     ≡ c.index_mut-chapter.result.now.registers.items = were_there (segment c.args.spot.book c.args.spot.key) c.args.chapters.now.items
     c.place_chapter-at.result c.requires.rising (rw (← c.deref.ensures.value) c.place_chapter-at.ensures.place
@@ -19,18 +19,7 @@ lay_keys-requires-clause-rising c =
     c.head_of-head.ensures) c.index_mut-chapter.result.now (omega arith) c.index_mut-chapter.ensures.value
     (ap (λ (k : KeyParts). is_eq (segment_cmp (place_of c.index_mut-chapter.result.now) (segment c.args.spot.book k)))
     (sym c.head_of-head.ensures) ∙ sym (c.is_eq.ensures ∙ ap is_eq c.order.ensures) ∙ c.if-is_eq.true) in
-    ap rise (sym there) ∙ c.requires.registers (segment c.args.spot.book c.args.spot.key)
-
-pub lay_keys-requires-clause-room : goal.lay_keys-requires-clause-room
-lay_keys-requires-clause-room c =
-    let there : registers_of (segment c.args.spot.book c.args.spot.key) c.args.chapters.now.items
-    ≡ c.index_mut-chapter.result.now.registers.items = were_there (segment c.args.spot.book c.args.spot.key) c.args.chapters.now.items
-    c.place_chapter-at.result c.requires.rising (rw (← c.deref.ensures.value) c.place_chapter-at.ensures.place
-    ∙ ap (λ (k : KeyParts). place segment_cmp segment_total place_of (segment c.args.spot.book k) c.args.chapters.now.items)
-    c.head_of-head.ensures) c.index_mut-chapter.result.now (omega arith) c.index_mut-chapter.ensures.value
-    (ap (λ (k : KeyParts). is_eq (segment_cmp (place_of c.index_mut-chapter.result.now) (segment c.args.spot.book k)))
-    (sym c.head_of-head.ensures) ∙ sym (c.is_eq.ensures ∙ ap is_eq c.order.ensures) ∙ c.if-is_eq.true) in
-    λ k. subst (λ (rs : List Register). HasRoomIn (register_at k rs)) there (c.requires.room (segment c.args.spot.book c.args.spot.key) k)
+    record { rising = ap rise (sym there) ∙ c.requires.registers (segment c.args.spot.book c.args.spot.key) }
 
 pub returns-then-is_eq : goal.returns-then-is_eq
 returns-then-is_eq c =

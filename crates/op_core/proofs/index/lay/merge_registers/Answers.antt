@@ -35,7 +35,7 @@ laying-preserved-then-is_key_under c =
     record {
       lays = key_more c.args.head c.args.registers.now.items c.laying.registers.items c.laying.tail.items c.move_behind.new.list.items
           c.move_behind.new.to.items c.push.new.self.items n y within at m.left m.moved under home c.new.ensures.shown c.new.ensures.missing
-          c.new.ensures.shown_room c.new.ensures.missing_room c.new.ensures.room (c.push.ensures.items ∙ cond-true _ _ _ went) h.lays;
+          (c.push.ensures.items ∙ cond-true _ _ _ went) h.lays;
       room = omega (arith, h.room, m.left_len, m.moved_len, m.left_room, pushed, c.if-len-capacity.true);
       behind = omega (arith, h.behind, m.left_len, m.moved_len, m.moved_room, pushed, c.push.ensures.capacity, c.if-len-capacity-2.true);
     }

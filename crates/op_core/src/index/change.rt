@@ -1,0 +1,82 @@
+// What new operations change of what a segment shows and misses: four sets of ids, which follow from the
+// ids that arrive, those that are named, and what the segment showed and missed before.
+ghost use Rattle.std.specs.Prelude.{◌≡◌, ◌&&◌, not, IsTrue, IfOk};
+ghost use Rattle.usfm_ref.specs.Segments.{segment};
+ghost use Rattle.op_core.specs.Ids.{Id, ids_rise};
+ghost use Rattle.op_core.specs.Sets as sets;
+ghost use Rattle.op_core.specs.Index.{IsChangeOf, IsRisingChange, among, is_in};
+
+use crate::ids::{common_ids, leave_ids};
+use crate::op::Op;
+use crate::op_id::OpId;
+use crate::place::is_in;
+use crate::register::Register;
+use std::alloc::{AllocError, Global};
+use usfm_ref::{Book, Key};
+
+/// What changes at a segment: which ids it comes to show and no longer shows, and which it comes to
+/// miss and no longer misses. Each list rises.
+#[derive(Debug, Drop)]
+pub(crate) struct Change {
+    pub(crate) book: Book,
+    pub(crate) key: Key,
+    pub(crate) arrived: Vec<OpId>,
+    pub(crate) leaving: Vec<OpId>,
+    pub(crate) lacking: Vec<OpId>,
+    pub(crate) found: Vec<OpId>,
+}
+
+// What changes at a register's segment as these ids arrive, of whose operations those name others. What
+// arrives is shown if it is neither named nor was missed; what is named and is of no operation is missed.
+pub(crate) fn change_of(
+    alloc: Global,
+    held: &[Op],
+    book: Book,
+    register: &Register,
+    mut arrived: Vec<OpId>,
+    mut named: Vec<OpId>,
+    compared: &mut u64,
+) -> Result<Change, AllocError>
+    requires held { IsTrue (sets.rises held.now) }
+    requires shown { IsTrue (ids_rise register.now.shown.items) }
+    requires missing { IsTrue (ids_rise register.now.missing.items) }
+    requires arrived { IsTrue (ids_rise arrived.items) }
+    requires named { IsTrue (ids_rise named.items) }
+    ensures change { IfOk result (λ c. IsChangeOf held.now (segment book register.now.key) (among arrived.items) (among named.items) register.now.shown.items register.now.missing.items c) }
+    ensures rising { IfOk result IsRisingChange }
+{
+    let leaving = common_ids(alloc, &named, &register.shown, compared)?;
+    let found = common_ids(alloc, &arrived, &register.missing, compared)?;
+    let both = common_ids(alloc, &arrived, &named, compared)?;
+    leave_ids(&mut arrived, &both, compared);
+    leave_ids(&mut arrived, &found, compared);
+    leave_ids(&mut named, &both, compared);
+    leave_ids(&mut named, &leaving, compared);
+    leave_ids(&mut named, &register.missing, compared);
+    leave_held(&mut named, held, book, register.key, compared);
+    Ok(Change {
+        book,
+        key: register.key,
+        arrived,
+        leaving,
+        lacking: named,
+        found,
+    })
+}
+
+// Takes out of a list the ids of operations of a segment.
+fn leave_held(ids: &mut Vec<OpId>, held: &[Op], book: Book, key: Key, compared: &mut u64)
+    requires held { IsTrue (sets.rises held.now) }
+    requires rising { IsTrue (ids_rise ids.old.items) }
+    ensures rising { IsTrue (ids_rise ids.new.items) }
+    ensures members { (q : Id) → among ids.new.items q ≡ (among ids.old.items q && not (is_in held.now (segment book key) q)) }
+{
+    let mut kept = 0;
+    for i in 0..ids.len() {
+        if !is_in(held, book, key, ids[i], compared) {
+            ids.swap(kept, i);
+            kept += 1;
+        }
+    }
+    ids.truncate(kept);
+}

@@ -1,0 +1,116 @@
+// What new operations change, segment by segment, and the room for it. Nothing that the index keeps
+// changes yet.
+ghost use Rattle.std.specs.Prelude.{◌≡◌, IsTrue, IfOk};
+ghost use Rattle.usfm_ref.specs.Segments.{segment};
+ghost use Rattle.op_core.specs.Ids.{ids_rise};
+ghost use Rattle.op_core.specs.Sets as sets;
+ghost use Rattle.op_core.specs.Index.{IsOrderly, IsIndex, register_of, shown_in, missing_in, is_there, among};
+ghost use Rattle.op_core.specs.Index.{IsAt, IsSameBut, IsChangeOf, IsRisingChange, HasRoomIn, Readies};
+ghost use Rattle.op_core.specs.Turns.{never_fall, comes, is_called};
+ghost use Rattle.op_core.specs.Changes.{AreChanges, AllHaveRoom};
+
+use super::change::Change;
+use super::lay::lay;
+use super::turns::{Turn, arrived_in, named_in, run_len};
+use crate::chapter::{Chapter, ready_at_key};
+use crate::op::Op;
+use crate::op_id::OpId;
+use crate::place::{Near, head_of, place_chapter};
+use std::alloc::{AllocError, Global};
+use usfm_ref::{Book, Key};
+
+// What changes at each segment as the operations of the turns arrive, by segments that rise.
+pub(crate) fn ready_all(
+    chapters: &mut Vec<Chapter>,
+    alloc: Global,
+    held: &[Op],
+    new: &[Op],
+    turns: &[Turn],
+    near: &mut Near,
+    compared: &mut u64,
+) -> Result<Vec<Change>, AllocError>
+    requires held { IsTrue (sets.rises held.now) }
+    requires index { IsIndex held.now chapters.old.items }
+    requires sorted { IsTrue (never_fall turns.now) }
+    ensures same { Readies chapters.old.items chapters.new.items }
+    ensures changes { IfOk result (λ changes. AreChanges held.now new.now turns.now chapters.new.items changes.items) }
+    ensures room { IfOk result (λ changes. AllHaveRoom chapters.new.items changes.items) }
+{
+    let mut changes = Vec::new(alloc);
+    let mut rest = turns;
+    'runs: while let Some((first, others)) = rest.split_first() {
+        let len = 1 + run_len(first, others, compared);
+        let (own, later) = rest.split_at(len);
+        let change = ready_run(
+            chapters, alloc, held, new, first.book, first.key, own, near, compared,
+        )?;
+        changes.push(change)?;
+        rest = later;
+    }
+    Ok(changes)
+}
+
+// What changes at the segment of some turns, which are all of that segment.
+fn ready_run(
+    chapters: &mut Vec<Chapter>,
+    alloc: Global,
+    held: &[Op],
+    new: &[Op],
+    book: Book,
+    key: Key,
+    own: &[Turn],
+    near: &mut Near,
+    compared: &mut u64,
+) -> Result<Change, AllocError>
+    requires held { IsTrue (sets.rises held.now) }
+    requires index { IsIndex held.now chapters.old.items }
+    ensures same { Readies chapters.old.items chapters.new.items }
+    ensures change { IfOk result (λ c. IsChangeOf held.now (segment book key) (comes new.now own.now) (is_called new.now own.now) (shown_in (register_of (segment book key) chapters.new.items)) (missing_in (register_of (segment book key) chapters.new.items)) c) }
+    ensures rising { IfOk result IsRisingChange }
+    ensures room { IfOk result (λ c. HasRoomIn c (register_of (segment book key) chapters.new.items)) }
+{
+    lay(chapters, alloc, book, key, near, compared)?;
+    let arrived = arrived_in(alloc, new, own, compared)?;
+    let named = named_in(alloc, new, own, compared)?;
+    ready(
+        chapters, alloc, held, book, key, arrived, named, near, compared,
+    )
+}
+
+// What changes at a segment, which has a register, as these ids arrive there, and the room for that.
+fn ready(
+    chapters: &mut Vec<Chapter>,
+    alloc: Global,
+    held: &[Op],
+    book: Book,
+    key: Key,
+    arrived: Vec<OpId>,
+    named: Vec<OpId>,
+    near: &mut Near,
+    compared: &mut u64,
+) -> Result<Change, AllocError>
+    requires held { IsTrue (sets.rises held.now) }
+    requires orderly { IsOrderly chapters.old.items }
+    requires there { IsTrue (is_there (segment book key) chapters.old.items) }
+    requires shown { IsTrue (ids_rise (shown_in (register_of (segment book key) chapters.old.items))) }
+    requires missing { IsTrue (ids_rise (missing_in (register_of (segment book key) chapters.old.items))) }
+    requires arrived { IsTrue (ids_rise arrived.items) }
+    requires named { IsTrue (ids_rise named.items) }
+    ensures same { IsAt IsSameBut (segment book key) chapters.old.items chapters.new.items }
+    ensures change { IfOk result (λ c. IsChangeOf held.now (segment book key) (among arrived.items) (among named.items) (shown_in (register_of (segment book key) chapters.old.items)) (missing_in (register_of (segment book key) chapters.old.items)) c) }
+    ensures rising { IfOk result IsRisingChange }
+    ensures room { IfOk result (λ c. HasRoomIn c (register_of (segment book key) chapters.new.items)) }
+{
+    let at = place_chapter(chapters, book, head_of(key), &mut near.chapter, compared);
+    ready_at_key(
+        &mut chapters[at].registers,
+        alloc,
+        held,
+        book,
+        key,
+        arrived,
+        named,
+        &mut near.register,
+        compared,
+    )
+}

@@ -1,0 +1,80 @@
+// The subcommands on a folder of books' files, and the export of one book: their words and their help.
+use super::{PROJECT, command};
+use clap::{Arg, Command};
+use std::alloc::{AllocError, Global};
+
+const FOLDER: (&str, &str) = ("FOLDER", "The folder with the files of the books");
+
+pub(crate) fn sync<'a>(alloc: Global) -> Result<Command<'a>, AllocError> {
+    let bundles = Arg::new(alloc, "BUNDLE")
+        .num_args(0..)
+        .help("Bundles, as `send` and `delta` write them");
+    command(
+        alloc,
+        "sync",
+        "Takes in a folder's changes and bundles, and writes its books",
+        SYNC,
+        &[PROJECT, FOLDER],
+    )?
+    .arg(bundles)
+}
+
+const SYNC: &str = "\
+A book's file is the one whose name ends in .usfm or .sfm and that begins with
+\\id and the book's code; it keeps its name. A book without one becomes
+CODE.usfm. Of a file only what was changed since it was written is taken in, so
+that what came from others stays. All is taken in, or nothing: then a second
+line `in FILE` on standard error says where. Writes
+  added N CODE     for each file in which something was changed
+  new N            for each BUNDLE
+  wrote FILE       for each file that was written
+  left FILE        for each that was changed meanwhile: sync again
+  conflicts N      if there is something to see in `report`
+
+Example: usfm_team sync ana.project texts ben.bundle
+
+After fault 131 look at FILE: two files may be of one book (move one away). Or
+it is not known what FILE was written from. Then move it away and sync, and make
+its changes in the file that is written; or, to have FILE replace all that the
+book shows, `usfm_team import PROJECT FILE`, and sync.
+
+Faults: those of `import`, `receive` and `export`, and
+  fault 131                FILE would lose what stands in it";
+
+pub(crate) fn export<'a>(alloc: Global) -> Result<Command<'a>, AllocError> {
+    let books = Arg::new(alloc, "BOOK")
+        .num_args(0..)
+        .required_unless_present("FOLDER")?
+        .help("The book's code: three of A to Z and 0 to 9, as MAT");
+    let folder = Arg::new(alloc, "FOLDER")
+        .long("into")
+        .help("Into the files of a folder, all where no BOOK is given");
+    command(
+        alloc,
+        "export",
+        "Writes the text of a book",
+        EXPORT,
+        &[PROJECT],
+    )?
+    .arg(books)?
+    .arg(folder)
+}
+
+const EXPORT: &str = "\
+Where a segment shows several texts, the one of the greatest id is written.
+
+With --into the books go into the files of FOLDER, as `usfm_team help sync` has
+it, but nothing is taken in: a file that was changed is refused.
+
+Example: usfm_team export ana.project MAT > matthew.usfm
+Example: usfm_team export ana.project --into texts
+
+Faults:
+  fault 1                  out of memory
+  fault 20                 BOOK is no book's code
+  fault 60 to 70, 110      PROJECT is no project
+  fault 82                 the project has no operation of the book
+  fault 90 BYTES           writing failed after so many bytes
+  fault 120, fault 121     a file was not read, or is over 268,435,456 bytes
+  fault 130                a file of FOLDER was not written
+  fault 131                a file of FOLDER was changed: `sync` takes it in";

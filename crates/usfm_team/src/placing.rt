@@ -1,0 +1,339 @@
+// Puts the books of a project into the files of a folder. All of it is first written beside them, into the program's
+// own folder, so that a full disk changes nothing; then each file is renamed into its place, between the bundle that it
+// was written from and the new one.
+use crate::files::{
+    make_file, make_private, read_file, remove_if_there, sync_file, sync_folder, write_made,
+};
+use crate::folder::{BookFile, OWN, file_of, own_path, path_in, places_of};
+use crate::project::keep_rights;
+use crate::turns::Refusal;
+use std::fs;
+use std::fs::File;
+use std::io::ErrorKind;
+use usfm_cli::{Fault, StandingBook};
+use usfm_ref::Book;
+
+// What is put in place for a book. The paths that are there are written by then.
+#[derive(Drop)]
+pub(crate) struct Staged {
+    pub(crate) book: Book,
+    pub(crate) path: String,
+    // The new file, and where it goes: to the path, or where a link there leads.
+    file: Option<(String, String)>,
+    // The new bundle.
+    bundle: Option<String>,
+    // Whether the old file was left, since it had changed meanwhile.
+    pub(crate) is_left: bool,
+}
+
+impl Staged {
+    // Whether a new file was written.
+    pub(crate) fn has_file(&self) -> bool {
+        self.file.is_some()
+    }
+}
+
+// Writes what is to be put in place for some books. Where that fails, nothing of it stays.
+pub(crate) fn stage(
+    rt: &HostRuntime,
+    folder: &str,
+    files: &[BookFile],
+    books: &[&StandingBook],
+) -> Result<Vec<Staged>, Refusal> {
+    for book in books {
+        if file_of(files, book.book()).is_none() {
+            let path = path_for(rt, folder, book.book())?;
+            refuse_another(rt, &path).map_err(|fault| Refusal::at(rt, fault, &path))?;
+        }
+    }
+    let mut staged = Vec::new(rt.alloc());
+    for book in books {
+        let file = file_of(files, book.book());
+        if let Err(refusal) = stage_book(rt, folder, file, book, &mut staged) {
+            unstage(rt, folder, &staged);
+            return Err(refusal);
+        }
+    }
+    Ok(staged)
+}
+
+// Takes away what was written to be put in place.
+pub(crate) fn unstage(rt: &HostRuntime, folder: &str, staged: &[Staged]) {
+    for book in staged {
+        if let Some((new, _)) = &book.file {
+            let _ = fs::remove_file(rt, new.as_str());
+        }
+        if let Some(made) = &book.bundle {
+            let _ = fs::remove_file(rt, made.as_str());
+        }
+    }
+    if let Ok(own) = path_in(rt, folder, OWN) {
+        // It stays where something is in it.
+        let _ = fs::remove_dir(rt, own.as_str());
+    }
+}
+
+// Writes what is to be put in place for a book. A file that has the right bytes by then is left alone, and so is a
+// bundle.
+fn stage_book(
+    rt: &HostRuntime,
+    folder: &str,
+    file: Option<&BookFile>,
+    book: &StandingBook,
+    staged: &mut Vec<Staged>,
+) -> Result<(), Refusal> {
+    let is_written = file.is_some_and(|file| file.bytes.as_slice() == book.text());
+    let is_kept = file.is_some_and(|file| file.keeps(book.base()));
+    if is_written && is_kept {
+        return Ok(clear(rt, folder, book.book())?);
+    }
+    let path = match file {
+        Some(file) => file.path.clone().map_err(Fault::from)?,
+        None => path_for(rt, folder, book.book())?,
+    };
+    match stage_at(rt, folder, file, book, &path, (is_written, is_kept), staged) {
+        Ok(()) => Ok(()),
+        Err(fault) => Err(Refusal {
+            fault,
+            file: Some(path),
+        }),
+    }
+}
+
+// Takes away what a command that was cut short had written for a book and not put in place.
+fn clear(rt: &HostRuntime, folder: &str, book: Book) -> Result<(), Fault> {
+    for ending in ["usfm.new", "bundle.made"] {
+        let _ = fs::remove_file(rt, own_path(rt, folder, book, ending)?.as_str());
+    }
+    Ok(())
+}
+
+// The path of a book that has no file.
+fn path_for(rt: &HostRuntime, folder: &str, book: Book) -> Result<String, Fault> {
+    let code = book.code();
+    let name = format!(in rt.alloc(); "{}.usfm", str::from_utf8(&code).unwrap_or(""))?;
+    path_in(rt, folder, &name)
+}
+
+fn stage_at(
+    rt: &HostRuntime,
+    folder: &str,
+    file: Option<&BookFile>,
+    book: &StandingBook,
+    path: &str,
+    (is_written, is_kept): (bool, bool),
+    staged: &mut Vec<Staged>,
+) -> Result<(), Fault> {
+    make_own(rt, folder)?;
+    if let Some(file) = file {
+        settle_cut(rt, folder, file)?;
+    }
+    clear(rt, folder, book.book())?;
+    let old = match file {
+        Some(file) => Some(File::open(rt, file.path.as_str()).map_err(|_| Fault::FileFailed)?),
+        None => None,
+    };
+    let mut parts = Staged {
+        book: book.book(),
+        path: String::from_str(rt.alloc(), path)?,
+        file: None,
+        bundle: None,
+        is_left: false,
+    };
+    if !is_written {
+        parts.file = Some(places_for(rt, folder, file, book.book(), path)?);
+    }
+    if !is_kept {
+        parts.bundle = Some(own_path(rt, folder, book.book(), "bundle.made")?);
+    }
+    staged.push(parts)?;
+    match staged.last() {
+        Some(parts) => write_parts(rt, parts, book, &old),
+        None => Ok(()),
+    }
+}
+
+// Writes the new file of a book, and its new bundle.
+fn write_parts(
+    rt: &HostRuntime,
+    parts: &Staged,
+    book: &StandingBook,
+    old: &Option<File>,
+) -> Result<(), Fault> {
+    if let Some((new, _)) = &parts.file {
+        write_beside(rt, new, book.text(), old)?;
+    }
+    if let Some(made) = &parts.bundle {
+        write_beside(rt, made, book.base(), old)?;
+    }
+    Ok(())
+}
+
+// Where the new file of a book is written, and where it goes.
+fn places_for(
+    rt: &HostRuntime,
+    folder: &str,
+    file: Option<&BookFile>,
+    book: Book,
+    path: &str,
+) -> Result<(String, String), Fault> {
+    match file {
+        Some(_) => places_of(rt, folder, book, path),
+        None => Ok((
+            own_path(rt, folder, book, "usfm.new")?,
+            String::from_str(rt.alloc(), path)?,
+        )),
+    }
+}
+
+// Settles what a writing that was cut short has left: the bundle that the file was written from is kept.
+fn settle_cut(rt: &HostRuntime, folder: &str, file: &BookFile) -> Result<(), Fault> {
+    if file.newer.is_none() {
+        return Ok(());
+    }
+    let newer = own_path(rt, folder, file.book, "bundle.new")?;
+    if file.is_newer {
+        rename(rt, &newer, &own_path(rt, folder, file.book, "bundle")?)
+    } else {
+        remove_if_there(rt, &newer)
+    }
+}
+
+// Refuses to write a book's file where another file stands.
+fn refuse_another(rt: &HostRuntime, path: &str) -> Result<(), Fault> {
+    if is_free(rt, path)? {
+        Ok(())
+    } else {
+        Err(Fault::FileChanged)
+    }
+}
+
+// Whether nothing stands under a name.
+fn is_free(rt: &HostRuntime, path: &str) -> Result<bool, Fault> {
+    match fs::symlink_metadata(rt, path) {
+        Ok(_) => Ok(false),
+        Err(error) if error.kind() == ErrorKind::NotFound => Ok(true),
+        Err(_) => Err(Fault::FileFailed),
+    }
+}
+
+// Makes the program's own folder, if it is not there.
+fn make_own(rt: &HostRuntime, folder: &str) -> Result<(), Fault> {
+    let own = path_in(rt, folder, OWN)?;
+    match fs::create_dir(rt, own.as_str()) {
+        Err(error) if error.kind() != ErrorKind::AlreadyExists => Err(Fault::FileFailed),
+        _ => Ok(()),
+    }
+}
+
+// Writes a new file, and waits until it is on the disk. Where there is an old one, it gets its rights, and nobody
+// may read it before who may not read that one.
+fn write_beside(
+    rt: &HostRuntime,
+    path: &str,
+    bytes: &[u8],
+    old: &Option<File>,
+) -> Result<(), Fault> {
+    let file = match old {
+        Some(_) => make_private(rt, path)?,
+        None => make_file(rt, path)?,
+    };
+    write_made(&file, bytes)?;
+    if let Some(old) = old {
+        keep_rights(old, &file)?;
+    }
+    sync_file(&file)
+}
+
+// Puts in place what was written. A file that changed meanwhile is left, and marked so.
+pub(crate) fn place(
+    rt: &HostRuntime,
+    folder: &str,
+    files: &[BookFile],
+    staged: &mut Vec<Staged>,
+) -> Result<(), Refusal> {
+    if staged.is_empty() {
+        return Ok(());
+    }
+    for book in staged.iter() {
+        announce(rt, folder, book).map_err(|fault| Refusal::at(rt, fault, &book.path))?;
+    }
+    sync_path(rt, folder, OWN)?;
+    for book in staged.iter_mut() {
+        match put(rt, folder, files, book) {
+            Ok(is_put) => book.is_left = !is_put,
+            Err(fault) => return Err(Refusal::at(rt, fault, &book.path)),
+        }
+    }
+    sync_path(rt, folder, ".")?;
+    for book in staged.iter() {
+        settle(rt, folder, book).map_err(|fault| Refusal::at(rt, fault, &book.path))?;
+    }
+    Ok(sync_path(rt, folder, OWN)?)
+}
+
+// Puts a new bundle beside the one that a book's file was written from; in its place, where the file stays.
+fn announce(rt: &HostRuntime, folder: &str, book: &Staged) -> Result<(), Fault> {
+    let base = own_path(rt, folder, book.book, "bundle")?;
+    let newer = own_path(rt, folder, book.book, "bundle.new")?;
+    match (&book.bundle, &book.file) {
+        (None, _) => Ok(()),
+        (Some(made), Some(_)) => rename(rt, made, &newer),
+        (Some(made), None) => {
+            rename(rt, made, &base)?;
+            remove_if_there(rt, &newer)
+        }
+    }
+}
+
+// Puts a new file, if there is one, in its place, unless the old one is no longer what was read.
+fn put(rt: &HostRuntime, folder: &str, files: &[BookFile], book: &Staged) -> Result<bool, Fault> {
+    let Some((new, end)) = &book.file else {
+        return Ok(true);
+    };
+    let is_same = match file_of(files, book.book) {
+        Some(file) => read_file(rt, end).is_ok_and(|bytes| bytes == file.bytes),
+        None => is_free(rt, end)?,
+    };
+    if is_same {
+        rename(rt, new, end)?;
+        return Ok(true);
+    }
+    remove_if_there(rt, new)?;
+    remove_if_there(rt, &own_path(rt, folder, book.book, "bundle.new")?)?;
+    Ok(false)
+}
+
+// Puts the new bundle of a file that is in its place in the place of the old one.
+fn settle(rt: &HostRuntime, folder: &str, book: &Staged) -> Result<(), Fault> {
+    if book.file.is_none() || book.bundle.is_none() || book.is_left {
+        return Ok(());
+    }
+    let newer = own_path(rt, folder, book.book, "bundle.new")?;
+    rename(rt, &newer, &own_path(rt, folder, book.book, "bundle")?)
+}
+
+// Puts a bundle in the place of the one that a book's file was written from, and waits until it is on the disk.
+pub(crate) fn put_base(
+    rt: &HostRuntime,
+    folder: &str,
+    file: &BookFile,
+    base: &[u8],
+) -> Result<(), Fault> {
+    let made = own_path(rt, folder, file.book, "bundle.made")?;
+    let old = File::open(rt, file.path.as_str()).ok();
+    write_beside(rt, &made, base, &old)?;
+    rename(rt, &made, &own_path(rt, folder, file.book, "bundle")?)?;
+    sync_path(rt, folder, OWN)
+}
+
+fn rename(rt: &HostRuntime, from: &str, to: &str) -> Result<(), Fault> {
+    fs::rename(rt, from, to).map_err(|_| Fault::FileFailed)
+}
+
+// Waits until the names in a folder of the folder are on the disk.
+fn sync_path(rt: &HostRuntime, folder: &str, name: &str) -> Result<(), Fault> {
+    let path = path_in(rt, folder, name)?;
+    let handle = File::open(rt, path.as_str()).map_err(|_| Fault::FileFailed)?;
+    sync_folder(&handle)
+}

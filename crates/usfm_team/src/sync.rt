@@ -1,0 +1,291 @@
+// A folder of books' files: what was changed in it comes into the project, and the project's books go into it.
+use crate::files::read_file;
+use crate::folder::{BookFile, file_of, lock_books, read_books, refuse_twins};
+use crate::placing::{Staged, place, put_base, stage, unstage};
+use crate::project::lock_project;
+use crate::turns::{Refusal, read_files, refusal_in};
+use crate::write_output;
+use std::io::Write;
+use usfm_cli::{
+    Command, Fault, Outcomes, Standing, StandingBook, TurnFault, exec_in_turn, makes,
+    project_standing, written_from,
+};
+use usfm_ref::Book;
+
+// Takes in what was changed in a folder, and then bundles, and writes the books into the folder.
+//
+// The project is locked until it is replaced, and the folder until its files are.
+pub(crate) fn sync(
+    rt: &HostRuntime,
+    project: &str,
+    folder: &str,
+    bundles: Vec<String>,
+) -> Result<(), Refusal> {
+    let locked = lock_project(rt, project)?;
+    let before = locked.read(rt)?;
+    let _held = lock_books(rt, folder)?;
+    let mut files = read_books(rt, folder)?;
+    let given = read_files(rt, &bundles).map_err(|fault| refusal_in(rt, fault, &bundles))?;
+    refuse_twins(rt, &files)?;
+    find_bases(rt, &mut files)?;
+    let outcomes = take_in(rt, &before, &files, &bundles, &given)?;
+    let stands = project_standing(rt.alloc(), outcomes.project())?;
+    let books = all_books(rt, &stands)?;
+    let mut staged = stage(rt, folder, &files, &books)?;
+    if outcomes.project() != before.as_slice() {
+        if let Err(fault) = locked.replace(rt, outcomes.project()) {
+            unstage(rt, folder, &staged);
+            return Err(Refusal::from(fault));
+        }
+    }
+    drop(locked);
+    place(rt, folder, &files, &mut staged)?;
+    keep_left(rt, folder, &before, &files, &staged)?;
+    let told = told(rt, &files, &outcomes, &staged, &stands)?;
+    Ok(write_output(rt, &told)?)
+}
+
+// Writes books into a folder, all where none is named. A file of theirs that was changed is refused.
+pub(crate) fn export_into(
+    rt: &HostRuntime,
+    project: &str,
+    folder: &str,
+    books: &[Book],
+) -> Result<(), Refusal> {
+    read_file(rt, project)?;
+    let _held = lock_books(rt, folder)?;
+    let bytes = read_file(rt, project)?;
+    let stands = project_standing(rt.alloc(), &bytes)?;
+    let chosen = chosen_books(rt, &stands, books)?;
+    let mut files = read_books(rt, folder)?;
+    refuse_twins(rt, &files)?;
+    find_bases(rt, &mut files)?;
+    let replaced = replaced_files(rt, &files, &chosen)?;
+    refuse_lost(rt, &bytes, &replaced)?;
+    let mut staged = stage(rt, folder, &files, &chosen)?;
+    place(rt, folder, &files, &mut staged)?;
+    let mut told = Vec::new(rt.alloc());
+    tell_placed(&mut told, &staged)?;
+    Ok(write_output(rt, &told)?)
+}
+
+// Finds out which of its bundles each file was written from, where there are two, and whether it is what that one makes.
+fn find_bases(rt: &HostRuntime, files: &mut Vec<BookFile>) -> Result<(), Refusal> {
+    for file in files.iter_mut() {
+        let base = file.base.as_deref();
+        let newer = file.newer.as_deref();
+        let found = written_from(
+            rt.alloc(),
+            file.book,
+            &file.bytes,
+            base,
+            newer,
+            file.is_unplaced,
+        );
+        match found {
+            Ok(from) => file.is_newer = newer.is_some() && from == newer,
+            Err(fault) => return Err(Refusal::at(rt, fault, &file.path)),
+        }
+        file.is_unchanged = match file.from() {
+            Some(from) => { makes(rt.alloc(), from, file.book, &file.bytes).map_err(Fault::from)? }
+            None => false,
+        };
+    }
+    Ok(())
+}
+
+// The command that takes in a file: the whole of a new one, of one that was changed what was changed. Of one that was not, the
+// bundle that it was written from is received, which the project mostly has.
+fn take_of(file: &BookFile) -> Command<'_> {
+    match file.from() {
+        None => Command::ImportNew(&file.bytes),
+        Some(base) if file.is_unchanged => Command::Receive(base),
+        Some(base) => Command::ImportSince {
+            file: &file.bytes,
+            base,
+        },
+    }
+}
+
+// Does what takes in the files, and then receives the bundles.
+fn take_in<'a>(
+    rt: &HostRuntime,
+    before: &[u8],
+    files: &'a [BookFile],
+    bundles: &[String],
+    given: &'a [Vec<u8>],
+) -> Result<Outcomes, Refusal> {
+    let commands: Vec<Command<'a>> = files
+        .iter()
+        .map(|file| take_of(file))
+        .chain(given.iter().map(|bundle| Command::Receive(bundle)))
+        .collect(rt.alloc())
+        .map_err(Fault::from)?;
+    match exec_in_turn(rt.alloc(), before, &commands) {
+        Ok(outcomes) => Ok(outcomes),
+        Err(TurnFault::Project(fault)) => Err(Refusal::from(fault)),
+        Err(TurnFault::Turn(at, fault)) => {
+            let name = match files.get(at) {
+                Some(file) => Some(&file.path),
+                None => bundles.get(at.saturating_sub(files.len())),
+            };
+            Err(match name {
+                Some(name) => Refusal::at(rt, fault, name),
+                None => Refusal::from(fault),
+            })
+        }
+    }
+}
+
+// Of a file that was left, since it was changed after it was taken in: what it was when it was taken in is what the next
+// change is looked at from.
+fn keep_left(
+    rt: &HostRuntime,
+    folder: &str,
+    before: &[u8],
+    files: &[BookFile],
+    staged: &[Staged],
+) -> Result<(), Refusal> {
+    if !staged.iter().any(|one| one.is_left) {
+        return Ok(());
+    }
+    let Ok(outcomes) = take_in(rt, before, files, &[], &[]) else {
+        return Ok(());
+    };
+    let stands = project_standing(rt.alloc(), outcomes.project())?;
+    for one in staged.iter().filter(|one| one.is_left) {
+        let stood = stands.books().iter().find(|book| book.book() == one.book);
+        if let (Some(file), Some(stood)) = (file_of(files, one.book), stood) {
+            if file.bytes.as_slice() == stood.text() {
+                let kept = put_base(rt, folder, file, stood.base());
+                kept.map_err(|fault| Refusal::at(rt, fault, &one.path))?;
+            }
+        }
+    }
+    Ok(())
+}
+
+fn all_books<'a>(rt: &HostRuntime, stands: &'a Standing) -> Result<Vec<&'a StandingBook>, Refusal> {
+    let mut books = Vec::new(rt.alloc());
+    for book in stands.books() {
+        books.push(book).map_err(Fault::from)?;
+    }
+    Ok(books)
+}
+
+// The books that are named, all where none is; one that the project does not have is refused.
+fn chosen_books<'a>(
+    rt: &HostRuntime,
+    stands: &'a Standing,
+    named: &[Book],
+) -> Result<Vec<&'a StandingBook>, Refusal> {
+    if named.is_empty() {
+        return all_books(rt, stands);
+    }
+    for book in named {
+        if !stands.books().iter().any(|stood| stood.book() == *book) {
+            return Err(Refusal::from(Fault::NoBook));
+        }
+    }
+    let mut books = Vec::new(rt.alloc());
+    for stood in stands.books() {
+        if named.contains(&stood.book()) {
+            books.push(stood).map_err(Fault::from)?;
+        }
+    }
+    Ok(books)
+}
+
+// The files of books that are other than they are to be. One that was changed since it was written is refused.
+fn replaced_files<'a>(
+    rt: &HostRuntime,
+    files: &'a [BookFile],
+    books: &[&StandingBook],
+) -> Result<Vec<&'a BookFile>, Refusal> {
+    let mut found = Vec::new(rt.alloc());
+    for book in books {
+        if let Some(file) = file_of(files, book.book()) {
+            if file.bytes.as_slice() == book.text() {
+                continue;
+            }
+            if !file.is_unchanged {
+                return Err(Refusal::at(rt, Fault::FileChanged, &file.path));
+            }
+            found.push(file).map_err(Fault::from)?;
+        }
+    }
+    Ok(found)
+}
+
+// Refuses a file that was written from operations which the project does not have, as one that was set back.
+fn refuse_lost(rt: &HostRuntime, project: &[u8], files: &[&BookFile]) -> Result<(), Refusal> {
+    if files.is_empty() {
+        return Ok(());
+    }
+    let commands: Vec<Command<'_>> = files
+        .iter()
+        .map(|file| take_of(file))
+        .collect(rt.alloc())
+        .map_err(Fault::from)?;
+    let outcomes = match exec_in_turn(rt.alloc(), project, &commands) {
+        Ok(outcomes) => outcomes,
+        Err(TurnFault::Project(fault)) => return Err(Refusal::from(fault)),
+        Err(TurnFault::Turn(at, fault)) => {
+            return Err(match files.get(at) {
+                Some(file) => Refusal::at(rt, fault, &file.path),
+                None => Refusal::from(fault),
+            });
+        }
+    };
+    for (file, output) in files.iter().zip(outcomes.outputs()) {
+        if output.as_slice() != b"new 0\n".as_slice() {
+            return Err(Refusal::at(rt, Fault::FileChanged, &file.path));
+        }
+    }
+    Ok(())
+}
+
+// What a sync writes: what each file added and each bundle brought, the files that were written or left, and how many
+// segments are in conflict.
+fn told(
+    rt: &HostRuntime,
+    files: &[BookFile],
+    outcomes: &Outcomes,
+    staged: &[Staged],
+    stands: &Standing,
+) -> Result<Vec<u8>, Refusal> {
+    let mut told = Vec::new(rt.alloc());
+    for (at, output) in outcomes.outputs().iter().enumerate() {
+        match files.get(at) {
+            Some(file) => tell_added(&mut told, output, file)?,
+            None => told.extend_from_slice(output).map_err(Fault::from)?,
+        }
+    }
+    tell_placed(&mut told, staged)?;
+    if let Some(count) = stands.conflicts() {
+        writeln!(told, "conflicts {count}").map_err(|_| Fault::Memory)?;
+    }
+    Ok(told)
+}
+
+// The line of a file in which something was changed: what its command wrote, and the book's code.
+fn tell_added(told: &mut Vec<u8>, output: &[u8], file: &BookFile) -> Result<(), Fault> {
+    let Some(line) = output.strip_suffix(b"\n") else {
+        return Ok(());
+    };
+    if !line.starts_with(b"added ") || line == b"added 0".as_slice() {
+        return Ok(());
+    }
+    told.extend_from_slice(line)?;
+    told.push(b' ')?;
+    told.extend_from_slice(&file.book.code())?;
+    Ok(told.push(b'\n')?)
+}
+
+fn tell_placed(told: &mut Vec<u8>, staged: &[Staged]) -> Result<(), Fault> {
+    for one in staged.iter().filter(|one| one.has_file()) {
+        let word = if one.is_left { "left" } else { "wrote" };
+        writeln!(told, "{word} {}", one.path).map_err(|_| Fault::Memory)?;
+    }
+    Ok(())
+}

@@ -1,0 +1,144 @@
+// Files of a folder: which of them are books', what they were written from, and how a project's books stand.
+use super::vectors::{AFTER, B1, CLASHING, FIRST, NOTHING, Y};
+use std::alloc::Global;
+use std::test::Fail;
+use usfm_cli::{
+    Command, Fault, book_begun, create, exec, exec_in_turn, makes, may_be_book, project_standing,
+    written_from,
+};
+use usfm_ref::Book;
+
+const OTHER: &[u8] = b"\\id MAT\n\\c 1\n\\v 1 Or\n";
+
+#[test]
+fn names_of_books(rt: HostRuntime) {
+    for name in ["MAT.usfm", "41MATana.SFM", "a.b.Usfm", "x.sfm", "é.sFm"] {
+        assert!(rt; may_be_book(name), "{name}");
+    }
+    for name in [
+        ".MAT.usfm",
+        "MAT.usfm.new",
+        "MATusfm",
+        "usfm",
+        "sfm",
+        "MAT.usf",
+        "MAT.usfm~",
+        "",
+    ] {
+        assert!(rt; !may_be_book(name), "{name}");
+    }
+    assert!(rt; may_be_book("a.sfm") && !may_be_book(".sfm") && !may_be_book(".usfm"));
+}
+
+#[test]
+fn beginnings_of_books(rt: HostRuntime) -> Result<(), Fail> {
+    let mark = Book::read("MRK")?;
+    for file in [
+        b"\\id MRK".as_slice(),
+        b"\xef\xbb\xbf\\id\tMRK\\c 1",
+        b"\\id MRK \xff",
+        b"\\id MRK\xff",
+    ] {
+        assert!(rt; book_begun(file) == Some(mark));
+    }
+    for file in [
+        b"".as_slice(),
+        b"\\id mrk",
+        b"\\id MRKX",
+        b"\xff\\id MRK",
+        b"\\h MRK",
+        b"\\id  MRK",
+    ] {
+        assert!(rt; book_begun(file).is_none());
+    }
+    Ok(())
+}
+
+// Ana's project after these bundles.
+fn project_of(alloc: Global, bundles: &[&[u8]]) -> Result<Vec<u8>, Fail> {
+    let mut project = create(alloc, "ana")?;
+    for bundle in bundles {
+        project = exec(alloc, &project, &Command::Receive(*bundle))?
+            .project()
+            .to_vec(alloc)?;
+    }
+    Ok(project)
+}
+
+#[test]
+fn books_stand(rt: HostRuntime) -> Result<(), Fail> {
+    let alloc = rt.alloc();
+    let matthew = Book::read("MAT")?;
+    let stands = project_standing(alloc, &project_of(alloc, &[])?)?;
+    assert!(rt; stands.books().is_empty() && stands.conflicts().is_none());
+    for (bundles, text) in [([B1, B1], FIRST), ([B1, Y], AFTER)] {
+        let stands = project_standing(alloc, &project_of(alloc, &bundles)?)?;
+        let [book] = stands.books() else {
+            return Err(Fail::from(Fault::NoBook));
+        };
+        assert!(rt; book.book() == matthew && book.text() == text);
+        assert!(rt; stands.conflicts().is_none());
+        assert!(rt; makes(alloc, book.base(), matthew, text)?);
+        assert!(rt; !makes(alloc, book.base(), matthew, OTHER)?);
+        assert!(rt; !makes(alloc, book.base(), Book::read("MRK")?, text)?);
+    }
+    assert!(rt; project_standing(alloc, b"x").err() == Some(Fault::BadProject));
+    assert!(rt; !makes(alloc, b"", matthew, FIRST)? && !makes(alloc, NOTHING, matthew, b"")?);
+    Ok(())
+}
+
+#[test]
+fn what_a_file_was_written_from(rt: HostRuntime) -> Result<(), Fail> {
+    let alloc = rt.alloc();
+    let book = Book::read("MAT")?;
+    let stands = project_standing(alloc, &project_of(alloc, &[B1, Y])?)?;
+    let [after] = stands.books() else {
+        return Err(Fail::from(Fault::NoBook));
+    };
+    let newer = after.base();
+    let from = |file, base, newer, is_unplaced| written_from(
+        alloc,
+        book,
+        file,
+        base,
+        newer,
+        is_unplaced,
+    );
+    for base in [None, Some(B1)] {
+        assert!(rt; from(OTHER, base, None, false)? == base);
+        assert!(rt; from(AFTER, base, Some(newer), false)? == Some(newer));
+        assert!(rt; from(OTHER, base, Some(newer), true)? == base);
+        assert!(rt; from(OTHER, base, Some(newer), false).err() == Some(Fault::FileChanged));
+    }
+    assert!(rt; from(FIRST, Some(B1), Some(newer), false)? == Some(B1));
+    assert!(rt; from(FIRST, None, Some(newer), false).err() == Some(Fault::FileChanged));
+    Ok(())
+}
+
+#[test]
+fn imports_of_new_books(rt: HostRuntime) -> Result<(), Fail> {
+    let alloc = rt.alloc();
+    let project = project_of(alloc, &[B1])?;
+    let made = exec_in_turn(
+        alloc,
+        &project,
+        &[
+            Command::ImportNew(FIRST),
+            Command::ImportNew(b"\\id MRK\n\\c 1\n"),
+        ],
+    )?;
+    let [first, second] = made.outputs() else {
+        return Err(Fail::from(Fault::NoBook));
+    };
+    assert!(rt; first.as_slice() == b"added 0\n".as_slice());
+    assert!(rt; second.as_slice() == b"added 2\n".as_slice());
+    for (file, fault) in [
+        (OTHER, Fault::FileChanged),
+        (b"\\c 1", Fault::NoId),
+        (b"\\id MAT \xff", Fault::NotText { valid: 8 }),
+    ] {
+        assert!(rt; exec(alloc, &project, &Command::ImportNew(file)).err() == Some(fault));
+    }
+    assert!(rt; exec(alloc, &project, &Command::Receive(CLASHING)).is_err());
+    Ok(())
+}
