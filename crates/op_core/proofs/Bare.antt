@@ -1,12 +1,12 @@
 -- What does not hang on texts: it is the same of sets with equal skeletons.
-use Rattle.std.proofs.Common.{map, ◌≡◌, ℕ, Bool, not, ◌&&◌, ◌||◌, max, List, [], ◌∷◌, ◌++◌, filter, cond, true, false, refl, sym, ap, ◌∙◌}
+use Rattle.std.proofs.Common.{map, ◌≡◌, Bool, not, ◌&&◌, ◌||◌, max, List, [], ◌∷◌, ◌++◌, filter, cond, true, false, refl, sym, ap, ◌∙◌}
 use Rattle.std.specs.List.{list_any, list_all, flat_map}
 use Rattle.usfm_ref.specs.Rising.{rising}
 use Rattle.op_core.specs.Ids.{Id, id_cmp, id_below, same_id}
 use Rattle.op_core.specs.Ops.{Operation, bare, in_segment, names}
 use Rattle.op_core.specs.Sets.{rises}
 use Rattle.op_core.specs.Lists.{ids_of, is_held, awaited}
-use Rattle.op_core.specs.NextIds.{is_among, greatest_number}
+use Rattle.op_core.specs.NextIds.{greatest_number}
 use Rattle.op_core.specs.Shown.{is_replaced, is_shown}
 use Rattle.op_core.specs.Thinned.{skeleton, is_past}
 use Rattle.usfm_ref.specs.Segments.{Segment}

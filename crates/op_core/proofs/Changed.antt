@@ -11,8 +11,8 @@ use Rattle.op_core.specs.Ops.{Operation, in_segment, names}
 use Rattle.op_core.specs.Sets.{rises, get, join, IsOpSet}
 use Rattle.op_core.specs.Shown.{is_replaced}
 use Rattle.op_core.specs.Lists.{shown_ids}
-use Rattle.op_core.specs.Index.{is_in, is_missing, among, register_of, shown_in, missing_in, change_at, AreApart, IsIndex, IsChangeOf, Takes}
-use Rattle.op_core.specs.Turns.{turn_at, is_at, arrives, is_named, AreTurnsOf}
+use Rattle.op_core.specs.Index.{is_in, among, register_of, shown_in, missing_in, change_at, AreApart, IsIndex}
+use Rattle.op_core.specs.Turns.{AreTurnsOf}
 use Rattle.op_core.specs.Changes.{change_for, IsChangeAt, AreChanges, TakesIn, Taken, Settles}
 use Rattle.op_core.specs.declared.register.Register.{Register}
 use Rattle.op_core.specs.declared.chapter.Chapter.{Chapter}

@@ -1,5 +1,5 @@
 -- Rising operations, before and after one of them.
-use Rattle.std.proofs.Common.{◌≡◌, ℕ, zero, suc, ◌<◌, ◌+◌, Bool, true, false, cond, List, [], ◌∷◌, ◌++◌, Option, Some, None, length, get_or, take, drop, arith, add-one, refl, sym, ap, subst, ◌∙◌}
+use Rattle.std.proofs.Common.{◌≡◌, ℕ, zero, suc, ◌<◌, ◌+◌, Bool, true, false, cond, List, [], ◌∷◌, ◌++◌, Some, None, length, get_or, take, drop, arith, add-one, refl, sym, ap, subst, ◌∙◌}
 use Rattle.std.specs.Ordering.{is_eq}
 use Rattle.std.specs.List.{list_all, AllByRecursion}
 use Rattle.std.specs.Option.{option_or}
@@ -9,7 +9,6 @@ use Rattle.std.proofs.lemmas.List.{take-append-drop}
 use Rattle.std.proofs.lemmas.Bool.{and_parts, and_from, cond-false}
 use Rattle.usfm_ref.proofs.Orders.{segment_total}
 use Rattle.op_core.specs.Ids.{Id, id_below, same_id}
-use Rattle.op_core.specs.Equal.{id_from_same}
 use Rattle.op_core.specs.Ops.{Operation, in_segment}
 use Rattle.op_core.specs.Sets.{rises, get}
 use Rattle.op_core.specs.Index.{AreApart}

@@ -19,7 +19,7 @@ use Rattle.usfm_ref.specs.declared.key.Place.{Place}
 use Rattle.usfm_ref.specs.declared.key.Place.TheVariants.{Head, Verse}
 use Rattle.usfm_ref.proofs.Orders.{key_exact, same_bytes-is, same_bytes-refl, same_key-refl, same_segment-is}
 use Rattle.verse_cut.specs.Fits.{Fits}
-use Rattle.verse_cut.specs.Reading.{is_empty, text_fits}
+use Rattle.verse_cut.specs.Reading.{is_empty}
 use Rattle.verse_cut.specs.Joins.{chapter_line}
 use Rattle.verse_cut.proofs.ChapterLines.{chapter_lines_fit}
 use Rattle.verse_cut.proofs.FitLaws.{fits_is_read}

@@ -1,5 +1,5 @@
 -- Joining what is not held yet.
-use Rattle.std.proofs.Common.{◌≡◌, ℕ, suc, ◌+◌, ◌<◌, ◌++◌, Bor, get_or, take, Bool, true, false, ◌||◌, not, cond, List, [], ◌∷◌, Option, Some, None, length, filter, is_none, arith, refl, sym, ap, ◌∙◌}
+use Rattle.std.proofs.Common.{◌≡◌, ℕ, suc, ◌+◌, ◌<◌, Bor, get_or, take, Bool, true, false, ◌||◌, not, cond, List, [], ◌∷◌, Option, Some, None, length, filter, is_none, arith, refl, sym, ap, ◌∙◌}
 use Rattle.std.specs.declared.cmp.Ordering.TheVariants.{Less, Equal, Greater}
 use Rattle.std.specs.List.{find, list_any}
 use Rattle.std.proofs.lemmas.Bool.{false≢true}
@@ -9,7 +9,7 @@ use Rattle.std.specs.FinMap.Entries.{by_order}
 use Rattle.usfm_ref.proofs.Sorted.{rises_filter}
 use Rattle.op_core.specs.Ids.{Id, id_cmp, same_id}
 use Rattle.op_core.specs.Equal.{id_from_same}
-use Rattle.op_core.specs.Ops.{Operation, is_full, with_text, agree}
+use Rattle.op_core.specs.Ops.{Operation, is_full, with_text}
 use Rattle.op_core.specs.Sets.{rises, get, meet, met, put, join, differs, is_like, clash, AreHeld}
 use Rattle.op_core.specs.Index.{AreApart}
 use Rattle.op_core.specs.Thinned.{all_full}

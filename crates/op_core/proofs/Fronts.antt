@@ -1,20 +1,17 @@
 -- The union of two rising lists from their fronts, and three sets joined in both groupings.
-use Rattle.std.proofs.Common.{◌≡◌, true, false, not, List, [], ◌∷◌, Option, Some, None, refl, sym, ap, subst, ◌∙◌}
+use Rattle.std.proofs.Common.{◌≡◌, true, List, [], ◌∷◌, refl, sym, ap, subst, ◌∙◌}
 use Rattle.std.specs.declared.cmp.Ordering.{Ordering}
 use Rattle.std.specs.declared.cmp.Ordering.TheVariants.{Less, Equal, Greater}
 use Rattle.std.specs.Ordering.{ordering_reverse}
-use Rattle.std.specs.List.{list_all, find, AllByRecursion}
-use Rattle.std.specs.Option.{option_map, option_or}
+use Rattle.std.specs.List.{list_all}
 use Rattle.std.specs.FinMap.Entries.{by_order}
-use Rattle.std.proofs.lemmas.Bool.{and_parts, and_from, cond-false}
+use Rattle.std.proofs.lemmas.Bool.{and_parts, and_from}
 use Rattle.usfm_ref.proofs.Sorted.{is_less}
 use Rattle.op_core.specs.Ids.{Id, id_cmp, id_below}
 use Rattle.op_core.specs.Ops.{Operation}
-use Rattle.op_core.specs.Sets.{rises, get, meet, put, join, differs, clash}
-use Rattle.op_core.specs.Equal.{same_op-refl}
+use Rattle.op_core.specs.Sets.{rises, meet, put, join}
 use Rattle.op_core.proofs.Rising.{id_total}
-use Rattle.op_core.proofs.Union.{AllAbove, AgreeAtAll, above_trans, above-put, rises_parts, rises-join, get-join, less_below, greater_below, equal_ids, join_comm, agree_from_no_clash, held_itself}
-use Rattle.op_core.proofs.Clashes.{clash_comm}
+use Rattle.op_core.proofs.Union.{AllAbove, above_trans, above-put, rises_parts, less_below, greater_below, equal_ids}
 
 -- ---- the union, from the front
 

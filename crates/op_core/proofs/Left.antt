@@ -1,21 +1,20 @@
 -- Sets whose operations lose texts in place: the index stays, and steps add up.
 use Rattle.std.proofs.Math.Seq.{take-append_seam}
-use Rattle.std.specs.Prelude.{is_none}
 use Rattle.std.specs.Option.{is_some}
 use Rattle.std.proofs.lemmas.List.Folds.{list_any-append, list_any_at}
 use Rattle.op_core.proofs.Enrolled.{more_items, apart_at}
-use Rattle.std.proofs.Common.{◌+◌, zero, ◌<◌, get_or, option_map, arith, suc, length, take, drop, ◌≡◌, ℕ, Bool, true, false, not, cond, ◌&&◌, ◌||◌, List, [], ◌∷◌, ◌++◌, Option, Some, None, map, filter, refl, sym, ap, subst, ◌∙◌}
+use Rattle.std.proofs.Common.{◌+◌, zero, ◌<◌, get_or, option_map, arith, suc, length, take, drop, ◌≡◌, ℕ, Bool, true, false, not, cond, ◌&&◌, ◌||◌, List, [], ◌∷◌, ◌++◌, Option, Some, None, map, filter, refl, sym, ap, ◌∙◌}
 use Rattle.std.specs.List.{list_any, AllByRecursion}
 use Rattle.std.specs.Cmp.{both_ways}
 use Rattle.usfm_ref.specs.Segments.{Segment}
-use Rattle.op_core.specs.Ids.{Id, same_id, ids_rise}
+use Rattle.op_core.specs.Ids.{Id, same_id}
 use Rattle.op_core.specs.Equal.{id_from_same, same_id-refl}
 use Rattle.op_core.specs.Ops.{Operation, IsOperation, is_thinned, bare, in_segment}
 use Rattle.op_core.specs.Sets.{rises, get, join, IsOpSet}
 use Rattle.op_core.specs.Shown.{is_shown}
 use Rattle.op_core.specs.Lists.{shown_ids}
 use Rattle.op_core.specs.NextIds.{is_among}
-use Rattle.op_core.specs.Index.{is_in, is_missing, IsIndex, AreApart}
+use Rattle.op_core.specs.Index.{is_missing, IsIndex, AreApart}
 use Rattle.op_core.specs.Thinned.{is_past, is_legal, bare_where, thin_where, is_thinned_in, ArePast, thinned_in, thin, skeleton, all_full}
 use Rattle.op_core.specs.declared.chapter.Chapter.{Chapter}
 use Rattle.op_core.proofs.Held.{same_turned}

@@ -3,12 +3,11 @@ use Rattle.std.proofs.Common.{◌≡◌, true, false, not, List, [], ◌∷◌, 
 use Rattle.std.specs.List.{find, AllByRecursion}
 use Rattle.std.specs.Option.{option_map}
 use Rattle.std.proofs.lemmas.Bool.{cond-false}
-use Rattle.op_core.specs.Ids.{Id}
-use Rattle.op_core.specs.Ops.{Operation, agree}
+use Rattle.op_core.specs.Ops.{Operation}
 use Rattle.op_core.specs.Sets.{rises, get, differs, clash}
 use Rattle.op_core.proofs.Union.{AgreeAtAll, held_itself, agree_from_no_clash}
 use Rattle.op_core.specs.ThinLaws.{NoClashAs}
-use Rattle.op_core.proofs.Agreement.{Agree, agree-is, agree-from, agree_turned}
+use Rattle.op_core.proofs.Agreement.{agree-is, agree-from, agree_turned}
 
 -- sets that agree at each id do not clash
 pub no_clash : (xs ys : List Operation) → rises ys ≡ true → AgreeAtAll xs ys → clash xs ys ≡ None

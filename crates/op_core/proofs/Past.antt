@@ -1,14 +1,12 @@
 -- A walk over a set that leaves out what its segments do not show.
-use Rattle.std.proofs.Common.{◌≡◌, ℕ, zero, suc, ◌<◌, ◌≤◌, ◌+◌, Bool, true, false, not, cond, ◌&&◌, List, [], ◌∷◌, ◌++◌, Option, Some, None, map, filter, length, get_or, take, drop, arith, add-one, refl, sym, ap, subst, ◌∙◌}
+use Rattle.std.proofs.Common.{◌≡◌, ℕ, zero, suc, ◌<◌, ◌≤◌, ◌+◌, Bool, true, false, not, cond, List, [], ◌∷◌, ◌++◌, Some, map, filter, length, get_or, take, drop, arith, add-one, refl, sym, ap, ◌∙◌}
 use Rattle.std.specs.Prelude.{slice_set}
 use Rattle.std.specs.List.{list_any}
-use Rattle.usfm_ref.specs.Segments.{Segment}
 use Rattle.op_core.specs.Ids.{Id, same_id}
-use Rattle.op_core.specs.Ops.{Operation, is_full, bare}
+use Rattle.op_core.specs.Ops.{Operation, bare}
 use Rattle.op_core.specs.Sets.{rises, get}
-use Rattle.op_core.specs.Lists.{shown_ids}
 use Rattle.op_core.specs.Index.{register_of, shown_in, IsIndex}
-use Rattle.op_core.specs.Thinned.{is_past, is_left_out, thinned_in, thin}
+use Rattle.op_core.specs.Thinned.{is_past, is_left_out, thinned_in}
 use Rattle.op_core.specs.declared.chapter.Chapter.{Chapter}
 use Rattle.op_core.proofs.Union.{held_itself}
 use Rattle.op_core.proofs.Enrolled.{more_items, each_at}

@@ -1,5 +1,5 @@
 -- A walk over turns, run by run, and the changes that it gathers.
-use Rattle.std.proofs.Common.{◌≡◌, ℕ, zero, suc, ◌+◌, Bool, true, false, cond, ◌&&◌, ◌||◌, List, [], ◌∷◌, ◌++◌, Option, Some, None, take, drop, arith, refl, sym, ap, subst, ◌∙◌}
+use Rattle.std.proofs.Common.{◌≡◌, ℕ, suc, ◌+◌, Bool, true, false, cond, ◌&&◌, ◌||◌, List, [], ◌∷◌, ◌++◌, Option, Some, None, take, drop, arith, refl, sym, ap, subst, ◌∙◌}
 use Rattle.std.specs.Ordering.{is_eq, is_lt}
 use Rattle.std.specs.List.{list_all, list_any, AllByRecursion}
 use Rattle.std.specs.Option.{option_or}
@@ -9,7 +9,7 @@ use Rattle.std.proofs.lemmas.List.Folds.{find-append}
 use Rattle.usfm_ref.specs.Segments.{Segment, segment_cmp, same_segment}
 use Rattle.usfm_ref.proofs.Orders.{segment_total, same_segment-cmp}
 use Rattle.usfm_ref.proofs.Sorted.{tied_back}
-use Rattle.op_core.specs.Ids.{Id, same_id}
+use Rattle.op_core.specs.Ids.{same_id}
 use Rattle.op_core.specs.Ops.{Operation, names}
 use Rattle.op_core.specs.Index.{change_at, shown_in, missing_in, register_of, IsOrderly, IsChangeOf, IsRisingChange, HasRoomIn, Readies}
 use Rattle.op_core.specs.Turns.{turn_at, is_at, never_fall, comes, is_called, arrives, is_named}

@@ -9,9 +9,8 @@ use Rattle.std.proofs.lemmas.List.Folds.{find-append}
 use Rattle.usfm_ref.specs.Segments.{Segment, segment_cmp}
 use Rattle.usfm_ref.proofs.Orders.{segment_total, segment_exact}
 use Rattle.usfm_ref.proofs.Sorted.{parts, each_found}
-use Rattle.op_core.specs.Ids.{ids_rise}
-use Rattle.op_core.specs.Index.{register_of, change_at, IsOrderly, IsRisingChange, HasRoomIn, IsAt, Takes}
-use Rattle.op_core.specs.Changes.{change_for, AllHaveRoom, TakesIn, Taken, Settles}
+use Rattle.op_core.specs.Index.{register_of, change_at, IsOrderly, IsAt, Takes}
+use Rattle.op_core.specs.Changes.{change_for, TakesIn, Taken, Settles}
 use Rattle.op_core.specs.declared.register.Register.{Register}
 use Rattle.op_core.specs.declared.chapter.Chapter.{Chapter}
 use Rattle.op_core.specs.declared.index.change.Change.{Change}

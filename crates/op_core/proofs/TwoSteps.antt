@@ -1,29 +1,28 @@
 -- Sets that change in place.
-use Rattle.std.proofs.Common.{zero, suc, ◌<◌, length, get_or, arith, ◌≡◌, ℕ, ◌⊎◌, inl, inr, Bool, true, false, not, cond, ◌&&◌, ◌||◌, List, [], ◌∷◌, Option, Some, None, map, filter, option_map, refl, sym, ap, subst, ◌∙◌}
+use Rattle.std.proofs.Common.{zero, suc, ◌<◌, length, get_or, arith, ◌≡◌, ℕ, Bool, true, false, not, cond, ◌&&◌, List, [], ◌∷◌, Option, Some, None, filter, option_map, refl, sym, ap, ◌∙◌}
 use Rattle.std.specs.Prelude.{is_none, slice_set}
 use Rattle.std.specs.Option.{is_some}
 use Rattle.std.specs.Cmp.{both_ways}
-use Rattle.std.specs.List.{list_any, list_all, AllByRecursion}
-use Rattle.std.proofs.lemmas.Bool.{and_parts, and_from, true≢false, false≢true, not-true, not-false, cond-true, cond-false, false_from_ne_true}
+use Rattle.std.specs.List.{list_all, AllByRecursion}
+use Rattle.std.proofs.lemmas.Bool.{and_parts, and_from, false≢true, cond-true, false_from_ne_true}
 use Rattle.usfm_ref.proofs.Orders.{same_segment-refl}
 use Rattle.op_core.specs.Ids.{Id, same_id, id_below}
-use Rattle.op_core.specs.Ops.{Operation, is_full, is_thinned, bare, with_text, texts_agree, agree}
-use Rattle.op_core.specs.Sets.{rises, get, meet_text, meet, met, put, join, clash}
-use Rattle.op_core.specs.Lists.{ids_of, shown_ids}
+use Rattle.op_core.specs.Ops.{Operation, is_full, is_thinned, bare, with_text}
+use Rattle.op_core.specs.Sets.{rises, get, meet_text, meet, met, join, clash}
+use Rattle.op_core.specs.Lists.{shown_ids}
 use Rattle.op_core.specs.NextIds.{is_among}
-use Rattle.op_core.specs.Shown.{is_replaced, is_shown, shown}
+use Rattle.op_core.specs.Shown.{is_shown, shown}
 use Rattle.op_core.specs.Thinned.{is_past, is_legal, bare_where, thin_where, is_thinned_in, ArePast, skeleton}
 use Rattle.op_core.specs.ThinLaws.{TwoSteps}
 use Rattle.op_core.specs.Equal.{id_from_same, same_id-refl}
-use Rattle.op_core.proofs.Union.{AllAbove, rises_parts, get_above, apart_above, same_gets, rises-put, get-put, rises-join, get-join, AgreeAtAll, agree_from_no_clash}
+use Rattle.op_core.proofs.Union.{AllAbove, rises_parts, get_above, apart_above, same_gets, rises-join, get-join, AgreeAtAll, agree_from_no_clash}
 use Rattle.op_core.proofs.Clashes.{get_id}
-use Rattle.op_core.proofs.Gets.{any_from, AnyHeld, any_held}
-use Rattle.op_core.proofs.Agreement.{Agree, agree-is, meet_full, thinned_meets}
+use Rattle.op_core.proofs.Gets.{any_from, any_held}
+use Rattle.op_core.proofs.Agreement.{Agree, meet_full}
 use Rattle.op_core.proofs.Bare.{past_same, rises_same}
 use Rattle.op_core.proofs.Filters.{rises-filter, filter_within, filter_kept, filter_passes}
 use Rattle.op_core.proofs.Legal.{legal_at, legal_from, join_legal}
 use Rattle.op_core.proofs.Families.{among_held}
-use Rattle.op_core.proofs.Groupings.{get_bare}
 
 -- ---- some texts left out
 

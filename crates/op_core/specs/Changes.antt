@@ -1,5 +1,5 @@
 -- What new operations change in the index, segment by segment.
-use Rattle.std.specs.Prelude.{◌≡◌, Bool, false, List, Option, Some, None, IsTrue}
+use Rattle.std.specs.Prelude.{◌≡◌, false, List, Option, Some, None, IsTrue}
 use Rattle.std.specs.List.{find, list_any, AllByRecursion}
 use Rattle.std.specs.Ordering.{is_eq}
 use Rattle.usfm_ref.specs.Segments.{Segment, segment_cmp, same_segment}

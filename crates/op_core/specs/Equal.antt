@@ -3,7 +3,6 @@ use Rattle.std.proofs.Common.{◌≡◌, ℕ, true, List, [], ◌∷◌, Option,
 use Rattle.std.specs.Cmp.{IsEquivalence, decided}
 use Rattle.std.specs.Cmp.Lexicographic.{pointwise}
 use Rattle.std.proofs.lemmas.Bool.{and_parts, and_from, eqb-true, eq-eqb}
-use Rattle.usfm_ref.specs.Books.{same_bytes}
 use Rattle.usfm_ref.specs.Segments.{same_segment}
 use Rattle.usfm_ref.proofs.Orders.{same_segment-is, same_segment-refl, same_bytes-is, same_bytes-refl}
 use Rattle.op_core.specs.Ids.{Id, same_id}

@@ -1,5 +1,5 @@
 -- Laws of sets of which some operations may be thinned (this project's own rule).
-use Rattle.std.specs.Prelude.{◌≡◌, ◌⊎◌, ℕ, Bool, true, false, not, List, [], Option, Some, None, ◌||◌, Result, Ok, Err, filter, is_none}
+use Rattle.std.specs.Prelude.{◌≡◌, ◌⊎◌, ℕ, Bool, true, false, not, List, Some, None, ◌||◌, Result, Ok, filter, is_none}
 use Rattle.std.specs.Option.{is_some}
 use Rattle.usfm_ref.specs.Segments.{Segment}
 use Rattle.op_core.specs.Ids.{Id}

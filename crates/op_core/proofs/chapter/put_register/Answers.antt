@@ -1,4 +1,4 @@
-use Rattle.std.proofs.Common.{sym, ap, refl, ◌∙◌, ◌≡◌, true, is_ok, List}
+use Rattle.std.proofs.Common.{ap, refl, ◌∙◌, ◌≡◌, true, is_ok, List}
 use Rattle.std.specs.List.{insert}
 use Rattle.std.proofs.lemmas.Bool.{cond-true}
 use Rattle.usfm_ref.specs.Keys.{key_cmp}

@@ -1,4 +1,4 @@
-use Rattle.std.proofs.Common.{◌≡◌, arith, subst, refl, sym, ap, IsTrue, Option}
+use Rattle.std.proofs.Common.{arith, subst, refl, sym, ap, IsTrue, Option}
 use Rattle.usfm_ref.specs.Segments.{segment}
 use Rattle.op_core.specs.Ids.{ids_rise}
 use Rattle.op_core.specs.Index.{among, shown_in, missing_in, HasRoomIn}

@@ -1,5 +1,4 @@
-use Rattle.std.proofs.Common.{◌≡◌, arith, subst, sym, ap, true, IsTrue, Option, Some, None}
-use Rattle.std.specs.Option.{is_some}
+use Rattle.std.proofs.Common.{arith, subst, IsTrue, Option}
 use Rattle.op_core.specs.Ids.{ids_rise}
 use Rattle.op_core.specs.Index.{register_at, shown_in, missing_in, HasRoomIn}
 use Rattle.op_core.specs.declared.register.Register.{Register}

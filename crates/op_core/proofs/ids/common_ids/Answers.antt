@@ -1,4 +1,4 @@
-use Rattle.std.proofs.Common.{◌≡◌, ◌&&◌, filter, take_all, arith, ap, ◌∙◌}
+use Rattle.std.proofs.Common.{◌≡◌, filter, take_all, arith, ap, ◌∙◌}
 use Rattle.op_core.specs.Index.{among}
 use Rattle.op_core.proofs.IdSets.{filter_rises, filter_members}
 use Rattle.op_core.proofs.ids.common_ids.Goals as goal

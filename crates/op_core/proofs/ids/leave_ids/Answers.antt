@@ -1,4 +1,4 @@
-use Rattle.std.proofs.Common.{◌≡◌, ◌&&◌, ◌∷◌, [], List, not, ap, sym, ◌∙◌}
+use Rattle.std.proofs.Common.{◌&&◌, List, not, ap, sym, ◌∙◌}
 use Rattle.op_core.specs.Ids.{Id}
 use Rattle.op_core.specs.Index.{among}
 use Rattle.op_core.proofs.IdLists.{without_rises}

@@ -1,4 +1,4 @@
-use Rattle.std.proofs.Common.{◌≡◌, ◌≤◌, not, vec_capacity, vec_len, length}
+use Rattle.std.proofs.Common.{◌≡◌, ◌≤◌, not, vec_capacity, vec_len}
 use Rattle.std.proofs.lemmas.List.Filters.{FiltersInPlace}
 use Rattle.op_core.specs.Index.{among}
 use Rattle.op_core.proofs.ids.sift_ids.Given as goal

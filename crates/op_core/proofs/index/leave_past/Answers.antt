@@ -1,13 +1,13 @@
-use Rattle.std.proofs.Common.{◌≡◌, ℕ, ◌<◌, ◌≤◌, ◌+◌, ◌&&◌, true, false, not, List, length, filter, take, get_or, take_all, arith, sym, ap, ◌∙◌}
+use Rattle.std.proofs.Common.{◌≡◌, ◌<◌, ◌&&◌, true, false, not, List, length, take, get_or, arith, sym, ap, ◌∙◌}
 use Rattle.std.specs.Prelude.{slice_set, slice_index_or}
 use Rattle.std.specs.List.{list_any}
 use Rattle.std.proofs.lemmas.List.{get_or_default, length-take}
 use Rattle.op_core.specs.Ids.{same_id, ids_rise}
 use Rattle.op_core.specs.Ops.{Operation, is_full, bare}
 use Rattle.op_core.specs.Index.{register_of, shown_in}
-use Rattle.op_core.specs.Thinned.{is_past, is_left_out, thinned_in, thin}
+use Rattle.op_core.specs.Thinned.{is_past, is_left_out, thinned_in}
 use Rattle.op_core.proofs.Kept.{shown_ids_rise}
-use Rattle.op_core.proofs.Past.{walked, walk_get, walk_end, walk_length, walk_past, walk_stays, told_past, counts_more, counts_same, counts_within}
+use Rattle.op_core.proofs.Past.{walk_get, walk_length, walk_past, walk_stays, told_past, counts_more, counts_same, counts_within}
 use Rattle.op_core.proofs.index.leave_past.Goals.{then-is_past+then-leave_text, else-is_past, else-is_past-via-then-is_past+else-leave_text, else-is_past-via-else-is_past}
 use Rattle.op_core.proofs.index.leave_past.Goals as goal
 

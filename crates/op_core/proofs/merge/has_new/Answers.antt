@@ -1,4 +1,4 @@
-use Rattle.std.proofs.Common.{ap, sym, ◌∙◌, take_all, List, is_none}
+use Rattle.std.proofs.Common.{ap, sym, ◌∙◌, take_all, is_none}
 use Rattle.std.specs.List.{list_any}
 use Rattle.std.proofs.lemmas.List.Folds.{list_any_at}
 use Rattle.op_core.specs.Ops.{Operation}

@@ -1,4 +1,4 @@
-use Rattle.std.proofs.Common.{◌≡◌, ◌&&◌, not, refl, ap, ◌∙◌, List}
+use Rattle.std.proofs.Common.{◌&&◌, not, refl, ap, ◌∙◌, List}
 use Rattle.usfm_ref.specs.Segments.{segment}
 use Rattle.op_core.specs.Ids.{Id}
 use Rattle.op_core.specs.Index.{among, is_in}

@@ -1,4 +1,4 @@
-use Rattle.std.proofs.Common.{◌≡◌, arith, not, filter, sym, ap, ◌∙◌}
+use Rattle.std.proofs.Common.{arith, not, sym, ap, ◌∙◌}
 use Rattle.std.proofs.lemmas.List.Filters.{FiltersInPlace-more_swap, FiltersInPlace-more_no, FiltersInPlace-all}
 use Rattle.usfm_ref.specs.Segments.{segment}
 use Rattle.op_core.specs.Index.{is_in}

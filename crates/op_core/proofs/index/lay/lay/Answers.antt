@@ -1,7 +1,7 @@
 use Rattle.std.proofs.Common.{sym, ap, subst, ◌∙◌, ◌≡◌, true, false}
 use Rattle.usfm_ref.specs.Keys.{KeyParts}
 use Rattle.usfm_ref.specs.Segments.{segment}
-use Rattle.op_core.specs.Index.{register_of, is_there, Readies}
+use Rattle.op_core.specs.Index.{register_of, is_there}
 use Rattle.op_core.proofs.Registers.{map_ok}
 use Rattle.op_core.proofs.There.{not_there, there_itself, readies_same, readies_put, readies_like, either}
 use Rattle.op_core.proofs.index.lay.lay.Goals as goal

@@ -1,4 +1,4 @@
-use Rattle.std.proofs.Common.{◌≡◌, refl, sym}
+use Rattle.std.proofs.Common.{refl, sym}
 use Rattle.usfm_ref.specs.Segments.{segment}
 use Rattle.op_core.specs.Index.{among, register_of, shown_in, missing_in}
 use Rattle.op_core.specs.Turns.{comes, is_called}

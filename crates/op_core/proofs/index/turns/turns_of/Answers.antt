@@ -1,4 +1,4 @@
-use Rattle.std.proofs.Common.{rules, ◌≡◌, ◌&&◌, ◌∙◌, ap, arith, take_all}
+use Rattle.std.proofs.Common.{rules, ◌&&◌, ◌∙◌, ap, arith, take_all}
 use Rattle.std.specs.Ordering.{is_lt}
 use Rattle.std.specs.List.{list_any}
 use Rattle.std.proofs.lemmas.List.Sorted.{answers_always}

@@ -1,4 +1,4 @@
-use Rattle.std.proofs.Common.{◌≡◌, true, None, Some, ap, sym, subst, ◌∙◌, List, length, arith}
+use Rattle.std.proofs.Common.{◌≡◌, true, None, ap, sym, subst, ◌∙◌, List, length, arith}
 use Rattle.std.proofs.lemmas.Bool.{false≢true}
 use Rattle.op_core.specs.Ids.{Id}
 use Rattle.op_core.specs.Ops.{Operation}

@@ -1,4 +1,4 @@
-use Rattle.std.proofs.Common.{ap, sym, subst, ◌∙◌, ◌≡◌, take, take_all, List, true, false}
+use Rattle.std.proofs.Common.{ap, sym, subst, ◌∙◌, ◌≡◌, take, take_all, List, true}
 use Rattle.op_core.specs.Ids.{Id, same_id}
 use Rattle.op_core.specs.Ops.{Operation, is_thinned}
 use Rattle.op_core.specs.Thinned.{ArePast, thin_where, is_thinned_in}

@@ -1,10 +1,10 @@
-use Rattle.std.proofs.Common.{◌≡◌, List, ◌++◌, true, length, take, drop, sym, ap, subst, ◌∙◌}
+use Rattle.std.proofs.Common.{List, length, sym, ap, subst, ◌∙◌}
 use Rattle.std.specs.Prelude.{IsTrue}
 use Rattle.op_core.specs.Ids.{same_id}
 use Rattle.op_core.specs.Ops.{Operation}
 use Rattle.op_core.specs.Sets.{get, IsOpSet}
 use Rattle.op_core.specs.Index.{IsIndex}
-use Rattle.op_core.specs.Thinned.{is_past, is_legal, thin_where, has_text}
+use Rattle.op_core.specs.Thinned.{is_legal, thin_where, has_text}
 use Rattle.op_core.proofs.TwoSteps.{where_legal}
 use Rattle.op_core.proofs.Left.{IsOpSet-where, index_where, written, length_where}
 use Rattle.op_core.proofs.set.OpSet.thin_id.Goals as goal

@@ -1,4 +1,4 @@
-use Rattle.std.proofs.Common.{ap, sym, ◌∙◌, take_all, List}
+use Rattle.std.proofs.Common.{ap, ◌∙◌, take_all, List}
 use Rattle.op_core.specs.Ops.{Operation}
 use Rattle.op_core.specs.Thinned.{is_thinned_in}
 use Rattle.op_core.proofs.Left.{none_thinned, gathers, passes}
