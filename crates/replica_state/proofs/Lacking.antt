@@ -1,8 +1,8 @@
 -- The walk that copies the operations of a bundle which a set lacks.
-use Rattle.std.proofs.Common.{◌≡◌, ◌≢◌, ℕ, true, false, not, List, [], ◌∷◌, ◌++◌, length, Option, Some, None, Ok, refl, sym, ap, subst, ◌∙◌}
+use Rattle.std.proofs.Common.{◌≡◌, ◌≢◌, ℕ, Bool, true, false, not, List, [], ◌∷◌, ◌++◌, length, Option, Some, None, Ok, refl, sym, ap, subst, ◌∙◌}
 use Rattle.std.specs.List.{find}
 use Rattle.std.specs.Option.{option_map}
-use Rattle.std.proofs.lemmas.Bool.{cond-true}
+use Rattle.std.proofs.lemmas.Bool.{cond-true, cond-false}
 use Rattle.op_core.specs.Ops.{Operation, agree}
 use Rattle.op_core.specs.Sets.{IsOpSet, get, differs, clash, join, AreHeld}
 use Rattle.op_core.specs.Thinned.{all_full, is_legal, thin_where, is_thinned_in, ArePast}
@@ -10,7 +10,7 @@ use Rattle.op_core.proofs.Fresh.{none_new, nothing_fresh, held_without_clash}
 use Rattle.op_core.proofs.TwoSteps.{two_steps, past_between}
 use Rattle.replica_state.specs.declared.fault.ReceiveFault.{ReceiveFault}
 use Rattle.replica_state.specs.declared.fault.ReceiveFault.TheVariants.{Memory, Clash}
-use Rattle.replica_state.specs.Receives.{lacked, RefusesReceive}
+use Rattle.replica_state.specs.Receives.{lacked, before_clash, RefusesReceive}
 use Rattle.replica_state.specs.States.{State, IsState}
 use Rattle.replica_state.specs.Steps.{step, received, with_ops, Receive, Received}
 use Rattle.replica_state.proofs.Leaving.{none_left}
@@ -19,6 +19,7 @@ use Rattle.replica_state.proofs.Leaving.{none_left}
 pub record IsCopied (held all new walk : List Operation) : Type 0 where
   pub so_far : new ++ lacked held walk ≡ lacked held all
   pub same_clash : clash held walk ≡ clash held all
+  pub before : new ++ lacked held (before_clash held walk) ≡ lacked held (before_clash held all)
 
 -- the walk comes to an operation that does not agree with the held one
 pub clashes : (held all new walk rest : List Operation) (o p : Operation) → IsCopied held all new walk → walk ≡ o ∷ rest
@@ -28,6 +29,22 @@ clashes held all new walk rest o p k next g d =
     sym k.same_clash ∙ ap (clash held) next
     ∙ ap (option_map (λ (q : Operation). q.id))
     (cond-true (differs (get held o.id) o) (Some o) (find (λ (q : Operation). differs (get held q.id) q) rest) bad)
+
+-- where nothing clashes, all of a bundle comes before a clash
+pub all_before : (held bundle : List Operation) → clash held bundle ≡ None → before_clash held bundle ≡ bundle
+all_before held [] e = refl
+all_before held (o ∷ rest) e = by (differs (get held o.id) o) refl (λ later. ap (λ (ops : List Operation). o ∷ ops) (all_before held rest later))
+  where
+    found : Option Operation
+    found = find (λ (q : Operation). differs (get held q.id) q) rest
+
+    by : (b : Bool) → differs (get held o.id) o ≡ b → (clash held rest ≡ None → o ∷ before_clash held rest ≡ o ∷ rest)
+        → before_clash held (o ∷ rest) ≡ o ∷ rest
+    by true d whole =
+        cc (sym e ∙ ap (option_map (λ (q : Operation). q.id)) (cond-true (differs (get held o.id) o) (Some o) found d))
+    by false d whole =
+        cond-false (differs (get held o.id) o) [] (o ∷ before_clash held rest) d
+        ∙ whole (sym (ap (option_map (λ (q : Operation). q.id)) (cond-false (differs (get held o.id) o) (Some o) found d)) ∙ e)
 
 -- ---- what is lacked is joined, and then the texts are left out that the bundle has thinned
 

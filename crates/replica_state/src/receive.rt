@@ -13,7 +13,8 @@ use op_core::{Op, OpSet};
 impl Replica {
     /// Takes in the operations of a bundle, and says how many are new. Only the new ones are copied;
     /// then the text of each held one is left out that the bundle has thinned. So a bundle whose
-    /// operations are all held, alike or thinned on either side, takes no memory.
+    /// operations are all held, alike or thinned on either side, takes no memory, nor does one whose
+    /// new operations all come after a clash.
     ///
     /// # Errors
     /// `Clash` with the least id under which the replica and the bundle have operations that do not
@@ -29,6 +30,9 @@ impl Replica {
             (receives.RefusesReceive (sets.clash self.old.held bundle.now)) }
         ensures nothing_new { receives.lacked self.old.held bundle.now ≡ [] →
             result ≢ Err ReceiveFault.Memory }
+        // Nor is a clash reported as out of memory where nothing new comes before it.
+        ensures clash { let before = receives.before_clash self.old.held bundle.now in
+            receives.lacked self.old.held before ≡ [] → result ≢ Err ReceiveFault.Memory }
         ensures held { sets.AreHeld self.old.held bundle.now → result ≡ Ok 0 }
         ensures err { OnErr result (self.new ≡ self.old) }
     {
@@ -52,6 +56,8 @@ impl Replica {
             (receives.RefusesReceive (sets.clash self.now.held bundle.now)) }
         ensures nothing_new { receives.lacked self.now.held bundle.now ≡ [] →
             result ≢ Err ReceiveFault.Memory }
+        ensures clash { let before = receives.before_clash self.now.held bundle.now in
+            receives.lacked self.now.held before ≡ [] → result ≢ Err ReceiveFault.Memory }
     {
         let mut finder = self.set.finder();
         let mut new = Vec::new(self.alloc);

@@ -1,5 +1,5 @@
 // Imports of a file that was changed since a bundle.
-ghost use Rattle.std.specs.Prelude.{◌≡◌, ◌≢◌, ◌<◌, Err, IfOk, IfErr, IsTrue, OnErr, length, map};
+ghost use Rattle.std.specs.Prelude.{◌≡◌, ◌≢◌, ◌<◌, [], Err, IfOk, IfErr, IfSome, IsOk, IsTrue, OnErr, length, map};
 ghost use Rattle.std.specs.List.{list_any};
 ghost use Rattle.usfm_ref.specs.Books.{same_bytes};
 ghost use Rattle.usfm_ref.specs.Keys.{key_cmp};
@@ -10,8 +10,10 @@ ghost use Rattle.verse_cut.specs.Views.{parts_of};
 ghost use Rattle.op_core.specs.NextIds.{greatest_number, next_number};
 ghost use Rattle.op_core.specs.Ops.{own_text};
 ghost use Rattle.op_core.specs.Shown.{last, text_in};
+ghost use Rattle.op_core.specs.Sets.{clash};
 ghost use Rattle.replica_state.specs.Edits as edits;
 ghost use Rattle.replica_state.specs.Imports as imports;
+ghost use Rattle.replica_state.specs.Receives as receives;
 ghost use Rattle.replica_state.specs.Since as since;
 ghost use Rattle.replica_state.specs.States.{IsState};
 
@@ -45,13 +47,18 @@ impl Replica {
     /// - `Memory` where a growth was refused.
     ///
     /// The first of them is answered, and the replica is then unchanged: it has not received the base
-    /// either. A file that is no book's takes no memory.
+    /// either. A file that is no book's takes no memory, nor does a clash that comes in the base before
+    /// what is new.
     pub fn import_since(&mut self, base: &Bundle<'_>, file: &str) -> Result<u64, SinceFault>
         ensures step { result ≢ Err SinceFault.Memory →
             since.imported_since self.old base.now file.now
             ≡ record { after = self.new; answer = result } }
         ensures bad_file { IfErr (book_in file.now)
             (λ fault. result ≡ Err (SinceFault.BadFile fault)) }
+        // A clash is never reported as out of memory where nothing new comes before it in the base.
+        ensures clash { let before = receives.before_clash self.old.held base.now in
+            IsOk (book_in file.now) → receives.lacked self.old.held before ≡ []
+            → IfSome (clash self.old.held base.now) (λ id. result ≡ Err (SinceFault.Clash id)) }
         ensures err { OnErr result (self.new ≡ self.old) }
     {
         let book = book_of(file)?;

@@ -93,8 +93,9 @@ fn cut_streams(rt: HostRuntime) -> Result<(), Fail> {
     Ok(())
 }
 
-// Bytes, in pieces, that are no bundle, the line of the fault of them as a bundle that is received and
-// as that of a project, and what is written of them folded after B1.
+// Bytes, in pieces, that are no bundle, the line of the fault of them as a bundle that is received, as a base
+// of an import and as the bundle of a project, and what is written of them folded after B1. What they
+// are received by holds nothing, or operations, which take memory when the project is read.
 type Bad<'a> = (&'a [&'a [u8]], &'a [u8], &'a [u8]);
 
 const BAD_BUNDLES: &[Bad<'static>] = &[
@@ -182,9 +183,13 @@ fn bad_bundles_are_told(rt: HostRuntime) -> Result<(), Fail> {
     let alloc = rt.alloc();
     for (at, (pieces, wanted, written)) in BAD_BUNDLES.iter().enumerate() {
         let bundle = joined(alloc, pieces)?;
-        let project = joined(alloc, &[BEGUN, NOTHING])?;
-        let told = told_of(&rt, alloc, project, &Step::Receive(&bundle))?;
-        assert!(rt; told.as_slice() == *wanted, "row {at} received");
+        for held in [NOTHING, B1] {
+            for step in [Step::Receive(&bundle), Step::SinceBase(FIRST, &bundle)] {
+                let project = joined(alloc, &[BEGUN, held])?;
+                let told = told_of(&rt, alloc, project, &step)?;
+                assert!(rt; told.as_slice() == *wanted, "row {at}, {step:?}");
+            }
+        }
         let project = joined(alloc, &[BEGUN, &bundle])?;
         let told = told_of(&rt, alloc, project, &Step::Import(b"\xff"))?;
         assert!(rt; told.as_slice() == *wanted, "row {at} in a project");

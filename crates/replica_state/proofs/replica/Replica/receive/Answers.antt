@@ -1,7 +1,8 @@
-use Rattle.std.proofs.Common.{Ok, Err, ap, ◌∙◌, length}
+use Rattle.std.proofs.Common.{Ok, Err, ap, sym, ◌∙◌, length}
 use Rattle.std.proofs.lemmas.Bool.{false≢true}
 use Rattle.op_core.proofs.Fresh.{fresh_rises, fresh_apart}
-use Rattle.replica_state.proofs.Lacking.{lacked_legal, lacked_past, all_joined, answered, nothing_lacked, not_refused}
+use Rattle.replica_state.specs.Receives.{lacked}
+use Rattle.replica_state.proofs.Lacking.{lacked_legal, lacked_past, all_before, all_joined, answered, nothing_lacked, not_refused}
 use Rattle.replica_state.proofs.replica.Replica.receive.Goals as goal
 
 pub returns-in_err-new-clause-held : goal.returns-in_err-new-clause-held
@@ -25,6 +26,12 @@ pub returns-in_err-count-clause-held : goal.returns-in_err-count-clause-held
 returns-in_err-count-clause-held c =
     λ h. absurd (false≢true (c.in_err-count.ensures.none
     (c.in_ok-new.ensures.ok ∙ nothing_lacked c.args.self.now.held c.args.bundle.now h)))
+
+pub returns-in_err-count-clause-clash : goal.returns-in_err-count-clause-clash
+returns-in_err-count-clause-clash c = λ none.
+    let before = all_before c.args.self.now.held c.args.bundle.now c.in_ok-new.ensures.agrees in
+    absurd (false≢true (c.in_err-count.ensures.none
+    (c.in_ok-new.ensures.ok ∙ ap (lacked c.args.self.now.held) (sym before) ∙ none)))
 
 pub leave_texts-requires : goal.leave_texts-requires
 leave_texts-requires c = record {
