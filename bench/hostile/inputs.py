@@ -123,6 +123,26 @@ def arriving_late(count: int) -> Input:
     return fold(rising([last]), rising([operation(it, "MAT", 1, 1, [], text_of(1)) for it in ids]))
 
 
+def arriving_below(count: int) -> Input:
+    """One segment with so many texts, and then as many whose ids are below those."""
+    ids = [(at, b"a") for at in range(1, 2 * count + 1)]
+    texts = [operation(it, "MAT", 1, 1, [], text_of(1)) for it in ids]
+    return fold(rising(texts[count:]), rising(texts[:count]))
+
+
+def replacing_oldest(count: int) -> Input:
+    """One segment with so many texts, and as many operations more, each of which names the oldest that is shown."""
+    old = [operation((at, b"a"), "MAT", 1, 1, [], text_of(1)) for at in range(1, count + 1)]
+    new = [operation((count + at, b"a"), "MAT", 1, 1, [(at, b"a")], text_of(1)) for at in range(1, count + 1)]
+    return fold(rising(old + new))
+
+
+def awaited_falling(count: int) -> Input:
+    """Operations of one segment that name ids which never come, the greatest first."""
+    named = (operation((count + at, b"b"), "MAT", 1, 1, [(count - at, b"a")], text_of(1)) for at in range(1, count))
+    return Input(["report", PROJECT], {PROJECT: project(rising(list(named)))})
+
+
 def awaited(count: int) -> Input:
     """Operations that name ids which never come."""
     named = (operation((at, b"b"), "MAT", at % 999 + 1, 1, [(at - 1, b"a")], text_of(1)) for at in range(2, count + 2))
@@ -235,9 +255,12 @@ FAMILIES = [
     Family("one segment with many texts: shown", 10_000, 100_000, lambda n: Input(["shown", PROJECT, "MAT 1:1"], {PROJECT: project(conflicting(n))})),
     Family("one segment with many texts: an edit over all", 10_000, 100_000, lambda n: Input(["edit", PROJECT, "MAT 1:1"], {PROJECT: project(conflicting(n))}, b"\\v 1 b\n")),
     Family("what is replaced arrives after what replaces it", 10_000, 100_000, arriving_late),
+    Family("one segment with many texts, and as many with lower ids", 5_000, 50_000, arriving_below),
+    Family("each operation names the oldest that is shown", 5_000, 50_000, replacing_oldest),
     Family("operations without their texts, each named by a later one", 10_000, 100_000, without_texts),
     Family("operations without their texts, all named by the last", 10_000, 100_000, all_without_texts),
     Family("ids that never come", 10_000, 100_000, awaited),
+    Family("ids of one segment that never come, and fall", 10_000, 100_000, awaited_falling),
     Family("a delta among many replicas", 10_000, 100_000, lacking),
     Family("a summary of many replicas", 10_000, 100_000, lambda n: Input(["summary", PROJECT], {PROJECT: project(many_names(n))})),
     Family("nested marks: check", 100_000, 1_000_000, lambda n: asked("check", b"\\+nd" * n)),
