@@ -59,7 +59,7 @@ class Stage:
 
     def wrong_files(self, want: Wanted) -> list[str]:
         """What is wrong with the files of the folder."""
-        names = sorted(os.listdir(self.folder))
+        names = sorted(str(it.relative_to(self.folder)) for it in self.folder.rglob("*") if not it.is_dir())
         if names != sorted(want.folder):
             return [f"wanted files: {sorted(want.folder)}", f"given files:  {names}"]
         wrong = []
@@ -82,9 +82,12 @@ class Stage:
         return play
 
 
-def write(path: Path, content: Content) -> None:
-    """Writes a file. Zeros take no room on the disk."""
-    if isinstance(content, Zeros):
+def write(path: Path, content: Optional[Content]) -> None:
+    """Writes a file, or takes it away. Zeros take no room on the disk."""
+    path.parent.mkdir(parents=True, exist_ok=True)
+    if content is None:
+        path.unlink(missing_ok=True)
+    elif isinstance(content, Zeros):
         path.write_bytes(b"")
         os.truncate(path, content.length)
     else:

@@ -5,7 +5,7 @@ from making.plays import Play, Wanted
 from model.checks import CODES
 
 FAULTS = [10, 20, 21, 30, 40, 41, 42, 50, 51, 52, *range(60, 72), 80]
-FAULTS += [81, 82, 83, 100, 110, 120, 121, 130]
+FAULTS += [81, 82, 83, 100, 110, 120, 121, 130, 131]
 
 
 class Reach:
@@ -21,8 +21,10 @@ class Reach:
             command = words[0] if words else "no words"
             self.counts[f"status {want.answer.status}"] += 1
             if want.answer.status == 1:
-                self.counts[f"fault {want.answer.error.split()[1].decode()}"] += 1
-                self.counts["one of several files refused"] += b"\nin " in want.answer.error
+                error = want.answer.error[want.answer.error.index(b"fault ") :]
+                self.counts[f"fault {error.split()[1].decode()}"] += 1
+                self.counts[f"{command} refused by {error.split()[1].decode()}"] += command == "sync"
+                self.counts["one of several files refused"] += b"\nin " in error
             elif want.answer.status == 0:
                 self.counts[f"{command} done"] += 1
                 self.counts["several files taken in"] += command in ("import", "receive") and len(words) > 3
@@ -45,6 +47,8 @@ class Reach:
             self.counts["word not of ASCII"] += sum(not line.isascii() for line in lines)
         elif command in ("import", "receive"):
             self.counts[output.split()[0].decode() + (" 0" if output.split()[1] == b"0" else " more")] += 1
+        elif command == "sync" or command == "export" and b"wrote" in output:
+            self.counts.update(f"{command} {line.split()[0].decode()}" for line in lines)
         elif command == "shown":
             self.counts[f"shown with {'no' if not output else 'an'} operation"] += 1
 

@@ -12,6 +12,7 @@ from .forging import Forging
 from .plays import Play, Wanted
 from .steps import BOOKS, NAMES
 from .stylesheets import make_sheet
+from .syncing import Syncing
 from .texts import WORDS, make_book
 
 WRONG_BOOKS = ["mat", "MA", "MATT", "", "M\u00e9"]
@@ -20,7 +21,7 @@ WRONG_IDS = ["03:ana", "0:ana", "1:Ana", "1000000000000001:ana", "ana:1", "1", "
 WRONG_NAMES = ["Ana", "", "a b", "\u00e4", "a" * 33, "ana_"]
 # Lines that have too many words, too few, or no subcommand.
 WRONG_LINES = ["", "unfold MAT", "fold", "send", "send p q", "init p", "check p MAT", "find p mat s", "edit p"]
-WRONG_LINES += ["edit-over p", "export p mat MAT", "fold mat LUK"]
+WRONG_LINES += ["edit-over p", "export p mat MAT", "fold mat LUK", "sync p", "export p --into", "sync p t --into t"]
 NEEDLES = WORDS + ["a", "n", "a ", "n", " ", "\n", "", "", "", "|", "\\", "1", "-", "\u0301"]
 
 
@@ -31,7 +32,7 @@ def make_play(seed: int) -> tuple[Play, list[Wanted]]:
     return maker.play, maker.wanted
 
 
-class Maker(Forging):
+class Maker(Forging, Syncing):
     """Makes a play."""
 
     def make(self) -> None:
@@ -178,6 +179,8 @@ class Maker(Forging):
                 [self.rng.choice(["edit", "shown", "edit-over"]), project, ref],
                 ["edit-over", project, self.rng.choice([ref, "MAT 1:1"]), "1:ana", self.rng.choice(WRONG_IDS)],
                 ["export", project, self.rng.choice(WRONG_BOOKS)],
+                ["export", project, "--into", "missing", *self.rng.choice([[], ["MAT"], ["MAT", self.rng.choice(WRONG_BOOKS)]])],
+                ["sync", project, "missing"],
                 [self.rng.choice(["check", "words"]), "missing", self.rng.choice(["mat", "MAT"]), "missing"],
                 [self.rng.choice(["import", "receive", "delta"]), project, "missing"],
                 ["import", project, *self.rng.choice([["missing", "--since", "missing"], ["--since", "missing"]])],
@@ -210,5 +213,7 @@ ACTIONS += [Maker.thin, Maker.forge, Maker.forge_thinned, Maker.change_thinned, 
 WEIGHTS += [6, 12, 5, 3, 4]
 ACTIONS += [Maker.export, Maker.report, Maker.check, Maker.words, Maker.find, Maker.fold]
 WEIGHTS += [6, 7, 11, 8, 9, 4]
+ACTIONS += [Maker.sync, Maker.sync_all, Maker.set_back, Maker.export_into]
+WEIGHTS += [14, 3, 2, 5]
 ACTIONS += [Maker.odd_project, Maker.wrong_words, Maker.long_file]
 WEIGHTS += [2, 4, 0.5]

@@ -1,15 +1,16 @@
 """Plays: lines of the program one after another, with the files that they read."""
 from dataclasses import dataclass
+from typing import Optional
 
 from model.program import Answer, Content, Folder, run
 
 
 @dataclass(frozen=True)
 class Step:
-    """A line of words, the files that are written before it, and its standard input."""
+    """A line of words, the files that are written before it, or taken away where they are none, and its standard input."""
 
     words: tuple[str, ...]
-    files: tuple[tuple[str, Content], ...] = ()
+    files: tuple[tuple[str, Optional[Content]], ...] = ()
     given: Content = b""
 
 
@@ -32,6 +33,10 @@ def wanted_of(play: Play) -> list[Wanted]:
 
 def do(folder: Folder, step: Step) -> Wanted:
     """Does a step in a folder, which it changes."""
-    folder.update(step.files)
+    for name, content in step.files:
+        if content is None:
+            folder.pop(name, None)
+        else:
+            folder[name] = content
     answer = run(folder, step.words, step.given)
     return Wanted(answer, dict(folder))

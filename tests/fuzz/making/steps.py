@@ -1,6 +1,7 @@
 """The steps of a play that is being made, each done in a folder of its own to know what the next ones can build on."""
 from functools import lru_cache
 from random import Random
+from typing import Optional
 
 from model.bundles import read_project
 from model.operations import Set, keys_of
@@ -36,9 +37,9 @@ class Steps:
         self.sheet = make_sheet(rng)
         self.sizes = [150] if rng.random() < 0.02 else [2, 4, 8, 15]
 
-    def step(self, *words: str, given: Content = b"", **files: Content) -> Answer:
+    def step(self, *words: str, given: Content = b"", **files: Optional[Content]) -> Answer:
         """Adds a step with the files that it needs. Options end before words that begin with a hyphen."""
-        if any(it.startswith("-") and it not in ("-", "--since") for it in words):
+        if any(it.startswith("-") and it not in ("-", "--since", "--into") for it in words):
             words = (words[0], "--", *words[1:])
         step = Step(words, tuple(files.items()), given)
         self.play.append(step)

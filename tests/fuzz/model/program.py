@@ -2,6 +2,7 @@
 from dataclasses import dataclass
 from typing import Callable, Optional, Sequence, Union
 
+from . import folders
 from .bundles import write_project
 from .faults import Fault
 from .references import read_book, read_id, read_name, read_ref
@@ -43,6 +44,7 @@ SHAPES: dict[str, tuple[Callable, ...]] = {
     "edit-over": (FILE, read_ref),
     "shown": (FILE, read_ref),
     "receive": (FILE, FILE),
+    "sync": (FILE, FILE),
     "send": (FILE,),
     "summary": (FILE,),
     "delta": (FILE, FILE),
@@ -55,41 +57,52 @@ SHAPES: dict[str, tuple[Callable, ...]] = {
     "fold": (read_book,),
 }
 # The subcommands that take more words of the last kind, or ids.
-OPEN_ENDED = ("import", "receive", "edit-over")
+OPEN_ENDED = ("import", "receive", "sync", "edit-over")
+# The option that a subcommand has, and the least number of words beside it.
+OPTIONS = {"import": ("--since", 2), "export": ("--into", 1)}
 
 
 def run(folder: Folder, words: Sequence[str], given: Content) -> Answer:
     """What the program answers to these words in a folder, which it may change, with this standard input."""
-    values, base = parted([it for it in words if it != "--"])
-    if "--since" in values or not has_shape(values):
+    values, option = parted([it for it in words if it != "--"])
+    if any(it in ("--since", "--into") for it in values) or not has_shape(values, option):
         return USAGE
+    # What is said on standard error beside a refusal.
+    notes: list[bytes] = []
     try:
-        return Answer(0, act(folder, values[0], values[1:], base, given), b"")
+        return Answer(0, act(folder, values[0], values[1:], option, given, notes), b"".join(notes))
     except Fault as fault:
-        return Answer(1, b"", fault.line())
+        return Answer(1, b"", b"".join(notes) + fault.line())
 
 
 def parted(words: Sequence[str]) -> tuple[list[str], Optional[str]]:
-    """The words of a line without its option, and the bundle that this names."""
-    if words[:1] == ["import"] and "--since" in words[1:-1]:
-        place = words.index("--since")
+    """The words of a line without its option, and the bundle or the folder that this names."""
+    name, _ = OPTIONS.get(words[0] if words else "", ("", 0))
+    if name in words[1:-1]:
+        place = words.index(name)
         return [*words[:place], *words[place + 2 :]], words[place + 1]
     return list(words), None
 
 
-def has_shape(words: Sequence[str]) -> bool:
+def has_shape(words: Sequence[str], option: Optional[str]) -> bool:
     """Whether these are a subcommand and as many words as it takes."""
     if not words or words[0] not in SHAPES:
         return False
     count = len(words) - 1
-    least = len(SHAPES[words[0]])
-    return count >= least if words[0] in OPEN_ENDED else count == least
+    least = OPTIONS[words[0]][1] if option is not None else len(SHAPES[words[0]])
+    return count >= least if option is not None or words[0] in OPEN_ENDED else count == least
 
 
-def act(folder: Folder, command: str, words: Sequence[str], base: Optional[str], given: Content) -> bytes:
+def act(
+    folder: Folder, command: str, words: Sequence[str], option: Optional[str], given: Content, notes: list[bytes]
+) -> bytes:
     """Does a command whose line has its shape, and answers what it writes."""
     if command in ("import", "receive"):
-        return take_in(folder, command, words[0], words[1:], base)
+        return take_in(folder, command, words[0], words[1:], option)
+    if command == "sync":
+        return sync(folder, *words[:2], words[2:], notes)
+    if option is not None:
+        return export_into(folder, words[0], option, [read_book(it) for it in words[1:]], notes)
     shape = SHAPES[command]
     values = [read(word) for read, word in zip(shape, words)]
     ids = [read_id(word) for word in words[len(shape) :]]
@@ -122,6 +135,37 @@ def take_in(folder: Folder, command: str, project: str, names: Sequence[str], ba
     output = b"".join(of_file(names, name, call, content, *bundle) for name, content in zip(names, contents))
     folder[project] = save(replica)
     return output
+
+
+def sync(folder: Folder, project: str, place: str, names: Sequence[str], notes: list[bytes]) -> bytes:
+    """Takes in what was changed in a folder of files, and bundles, and writes the books there."""
+    before = read_file(folder, project)
+    files = folders.read_books(folder, place, read_file, notes)
+    bundles = [folders.within(it, read_file, folder, it) for it in names]
+    folders.refuse_twins(files)
+    folders.find_bases(folder, place, files)
+    replica = load(before)
+    told = b"".join(folders.within(it.path, folders.take, replica, it) for it in files)
+    told += b"".join(folders.within(name, replica.receive, it) for name, it in zip(names, bundles))
+    told += folders.put_books(folder, place, files, replica.held, folders.books_of(replica.held))
+    folder[project] = save(replica)
+    return told + folders.conflicts(replica.held)
+
+
+def export_into(folder: Folder, project: str, place: str, named: Sequence[str], notes: list[bytes]) -> bytes:
+    """Writes books into the files of a folder, all where none is named."""
+    before = read_file(folder, project)
+    folders.names_in(folder, place)
+    held = load(before).held
+    begun = folders.books_of(held)
+    if not set(named) <= set(begun):
+        raise Fault(82)
+    files = folders.read_books(folder, place, read_file, notes)
+    folders.refuse_twins(files)
+    folders.find_bases(folder, place, files)
+    books = [it for it in begun if it in named or not named]
+    folders.refuse_changed(held, files, books)
+    return folders.put_books(folder, place, files, held, books)
 
 
 def of_file(names: Sequence[str], name: str, call: Callable[..., bytes], *given: object) -> bytes:
