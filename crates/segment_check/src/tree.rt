@@ -61,8 +61,8 @@ fn has_name(sheet: &Sheet<'_>, name: &str, around: Option<&str>) -> bool
     }
 }
 
-// Whether a word of OccursUnder of a mark's style allows a node. The words are not gone through: each is looked up that
-// would allow one.
+// Whether a word of OccursUnder of a mark's style allows a node. The words are not gone through: each
+// that would allow one is looked up.
 fn any_allows(sheet: &Sheet<'_>, name: &str, allowed: Allowed<'_>) -> bool
     ensures { let words = under_words (records_of sheet.now) name.now in
         result ≡ list_any (is_among (allowed_names allowed.entry)) words }
@@ -90,17 +90,17 @@ fn is_restricted(kind: StyleKind) -> bool
 // Whether OccursUnder of a mark's style does not allow a node of the kind.
 fn is_under_another(
     sheet: &Sheet<'_>,
-    name: &str,
+    mark: Mark<'_>,
     kind: Option<StyleKind>,
     inside: Inside<'_>,
 ) -> bool
-    ensures { let words = under_words (records_of sheet.now) name.now in
+    ensures { let words = under_words (records_of sheet.now) (mark_parts mark.entry).name in
         result ≡ option_map_or (is_misplaced words (inside_view inside.entry)) kind false }
 {
     let Some(kind) = kind else {
         return false;
     };
-    is_restricted(kind) && forbids(sheet, name, inside.allowed(kind))
+    is_restricted(kind) && forbids(sheet, mark.name(), inside.allowed(kind))
 }
 
 // What is reported of a mark within nodes.
@@ -125,7 +125,7 @@ fn tell_mark(
         unclosed_char: matches!(kind, Some(StyleKind::Character)) && is_open && !inside.in_note,
         unclosed_note: matches!(kind, Some(StyleKind::Note)) && is_open,
         too_deep: is_leaf && !mark.closing() && begins_node(mark, style) && inside.room == 0,
-        not_under: is_under_another(sheet, mark.name(), kind, inside),
+        not_under: is_under_another(sheet, mark, kind, inside),
     }
 }
 

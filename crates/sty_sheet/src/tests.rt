@@ -103,12 +103,15 @@ fn reads_fields(rt: HostRuntime) -> Result<(), SheetFault> {
     Ok(())
 }
 
-// Words of OccursUnder that are few, none, and so many that they are looked up in a set; the words of a milestone's mark.
+// Words of OccursUnder that are few, none, and so many that they are kept in a set; those of the mark
+// that ends a milestone.
 #[test]
 fn looks_words_up(rt: HostRuntime) -> Result<(), Fail> {
     let alloc = rt.alloc();
     let mut text = String::new(alloc);
-    text.push_str("\\Marker few\n\\OccursUnder p NEST\n\\Marker none\n\\Marker ms\n\\Endmarker me\n")?;
+    text.push_str(
+        "\\Marker few\n\\OccursUnder p NEST\n\\Marker none\n\\Marker ms\n\\Endmarker me\n",
+    )?;
     text.push_str("\\StyleType Milestone\n\\OccursUnder q\n\\Marker many\n\\OccursUnder ")?;
     for _ in 0..400u16 {
         text.push_str(" w1 w2 ")?;
