@@ -6,4 +6,5 @@ pub mod Openings
 pub mod Pieces
 pub mod FoundLaw
 pub mod FindingLaws
+pub mod Allowing
 pub mod DepthLaw

@@ -7,7 +7,7 @@ use Rattle.std.specs.Prelude.{ℕ, nat_le, ◌==◌, Bool, true, false, not, ◌
 use Rattle.std.specs.Option.{is_some, option_map_or, option_map, option_to_list}
 use Rattle.std.specs.List.{list_any}
 use Rattle.std.specs.Str.{bytes_eq}
-use Rattle.sty_sheet.specs.Records.{Record, mark_style}
+use Rattle.sty_sheet.specs.Records.{Record, mark_style, under_in}
 use Rattle.usfm_token.specs.Tokens.{MarkParts, mark}
 use Rattle.usfm_tree.specs.Around.{Around}
 use Rattle.usfm_tree.specs.Reading.{Role, plain, alone, spans, opens, closes, role, is_paragraph_kind, is_character_kind, is_note_kind, most_open}
@@ -59,10 +59,6 @@ may_begin sheet m = begins_node (role (styles_in sheet) (mark m))
 abbrev pub too_deep : List Record → Spot → Bool
 too_deep sheet spot =
     not (is_some spot.node) && may_begin sheet spot.mark && nat_le most_open (length spot.around)
-
--- the words of OccursUnder of a record, if there is one
-abbrev pub under_in : Option Record → List (List ℕ)
-under_in style = option_map_or (λ r. r.under) style []
 
 -- the words of OccursUnder of the record that a mark of this name has, if it has one
 abbrev pub under_words : List Record → List ℕ → List (List ℕ)

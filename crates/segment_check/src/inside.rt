@@ -1,8 +1,6 @@
 //! What stands around a place of a tree.
 
 ghost use Rattle.std.specs.Prelude.{◌≡◌};
-ghost use Rattle.std.specs.Option.{option_map, option_to_list};
-ghost use Rattle.segment_check.specs.TreeConditions.{is_among};
 
 use sty_sheet::StyleKind;
 
@@ -94,25 +92,4 @@ impl<'a> Inside<'a> {
 pub(crate) struct Allowed<'a> {
     pub(crate) name: Option<&'a str>,
     pub(crate) nest: bool,
-}
-
-impl Allowed<'_> {
-    ghost use Rattle.segment_check.specs.TreeViews.{allowed_names};
-
-    // Whether a word is one of them.
-    pub(crate) fn has(self, word: &str) -> bool
-        ensures { result ≡ is_among (allowed_names self.entry) word.now }
-    {
-        is_name(self.name, word) || self.nest && word == "NEST"
-    }
-}
-
-// Whether there is a name, and the word is this name.
-fn is_name(name: Option<&str>, word: &str) -> bool
-    ensures { result ≡ is_among (option_to_list (option_map (λ n. n.now) name.entry)) word.now }
-{
-    match name {
-        None => false,
-        Some(name) => word == name,
-    }
 }

@@ -4,11 +4,12 @@ ghost use Rattle.std.specs.Prelude.{◌≡◌, false, IfOk, OnOk};
 ghost use Rattle.std.specs.List.{list_any};
 ghost use Rattle.std.specs.Option.{option_map, option_map_or};
 ghost use Rattle.segment_check.specs.TreeConditions as conditions;
-ghost use Rattle.segment_check.specs.TreeConditions.{is_among, is_restricted_kind, under_in};
+ghost use Rattle.segment_check.specs.TreeConditions.{is_among, is_restricted_kind, under_words};
 ghost use Rattle.segment_check.specs.TreeViews.{Tells, allowed_names, inside_view, is_misplaced};
 ghost use Rattle.segment_check.specs.TreeViews.{kind_here};
 ghost use Rattle.segment_check.specs.TreeViews.{told_by, told_under};
-ghost use Rattle.sty_sheet.specs.Views.{record_of, records_of, words_left};
+ghost use Rattle.sty_sheet.specs.Records.{has_word};
+ghost use Rattle.sty_sheet.specs.Views.{record_of, records_of};
 ghost use Rattle.usfm_token.specs.View.{mark_parts};
 ghost use Rattle.usfm_tree.specs.Reading.{marked, tree_of};
 ghost use Rattle.usfm_tree.specs.SheetViews.{style_view, styles_of};
@@ -17,7 +18,7 @@ ghost use Rattle.usfm_tree.specs.Views.{view, forest_of};
 use crate::inside::{Allowed, Inside};
 use crate::told::Told;
 use std::alloc::{AllocError, Global};
-use sty_sheet::{Sheet, Style, StyleKind, UnderWords};
+use sty_sheet::{Sheet, Style, StyleKind};
 use usfm_token::Mark;
 use usfm_tree::{Node, TreeReader};
 
@@ -49,22 +50,34 @@ fn begins_node(mark: Mark<'_>, style: Option<&Style<'_>>) -> bool
     }
 }
 
-// Whether one of the words allows a node.
-fn any_allows(mut words: UnderWords<'_>, allowed: Allowed<'_>) -> bool
-    ensures { let names = allowed_names allowed.entry in
-        result ≡ list_any (is_among names) (words_left words.entry) }
+// Whether there is a name, and it is a word of OccursUnder of a mark's style.
+fn has_name(sheet: &Sheet<'_>, name: &str, around: Option<&str>) -> bool
+    ensures { let words = under_words (records_of sheet.now) name.now in
+        result ≡ option_map_or (λ n. has_word n words) (option_map (λ n. n.now) around.entry) false }
 {
-    words.any(|word| allowed.has(word))
+    match around {
+        None => false,
+        Some(around) => sheet.has_under(name, around),
+    }
 }
 
-// Whether there are words, none of which allows a node.
-fn forbids(mut words: UnderWords<'_>, allowed: Allowed<'_>) -> bool
-    ensures { let names = allowed_names allowed.entry in
-        result ≡ conditions.forbids (words_left words.entry) names }
+// Whether a word of OccursUnder of a mark's style allows a node. The words are not gone through: each
+// that would allow one is looked up.
+fn any_allows(sheet: &Sheet<'_>, name: &str, allowed: Allowed<'_>) -> bool
+    ensures { let words = under_words (records_of sheet.now) name.now in
+        result ≡ list_any (is_among (allowed_names allowed.entry)) words }
 {
-    match words.next() {
+    has_name(sheet, name, allowed.name) || allowed.nest && sheet.has_under(name, "NEST")
+}
+
+// Whether OccursUnder of a mark's style has words, none of which allows a node.
+fn forbids(sheet: &Sheet<'_>, name: &str, allowed: Allowed<'_>) -> bool
+    ensures { let words = under_words (records_of sheet.now) name.now in
+        result ≡ conditions.forbids words (allowed_names allowed.entry) }
+{
+    match sheet.style_of(name) {
         None => false,
-        Some(first) => !allowed.has(first) && !any_allows(words, allowed),
+        Some(style) => style.has_under_words() && !any_allows(sheet, name, allowed),
     }
 }
 
@@ -74,15 +87,20 @@ fn is_restricted(kind: StyleKind) -> bool
     matches!(kind, StyleKind::Character | StyleKind::Note)
 }
 
-// Whether OccursUnder of the style does not allow a node of the kind.
-fn is_under_another(style: Option<&Style<'_>>, kind: Option<StyleKind>, inside: Inside<'_>) -> bool
-    ensures { let words = under_in (option_map (λ s. record_of s.now) style.entry) in
+// Whether OccursUnder of a mark's style does not allow a node of the kind.
+fn is_under_another(
+    sheet: &Sheet<'_>,
+    mark: Mark<'_>,
+    kind: Option<StyleKind>,
+    inside: Inside<'_>,
+) -> bool
+    ensures { let words = under_words (records_of sheet.now) (mark_parts mark.entry).name in
         result ≡ option_map_or (is_misplaced words (inside_view inside.entry)) kind false }
 {
-    let (Some(style), Some(kind)) = (style, kind) else {
+    let Some(kind) = kind else {
         return false;
     };
-    is_restricted(kind) && forbids(style.under_words(), inside.allowed(kind))
+    is_restricted(kind) && forbids(sheet, mark.name(), inside.allowed(kind))
 }
 
 // What is reported of a mark within nodes.
@@ -107,7 +125,7 @@ fn tell_mark(
         unclosed_char: matches!(kind, Some(StyleKind::Character)) && is_open && !inside.in_note,
         unclosed_note: matches!(kind, Some(StyleKind::Note)) && is_open,
         too_deep: is_leaf && !mark.closing() && begins_node(mark, style) && inside.room == 0,
-        not_under: is_under_another(style, kind, inside),
+        not_under: is_under_another(sheet, mark, kind, inside),
     }
 }
 

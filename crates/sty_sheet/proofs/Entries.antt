@@ -9,19 +9,20 @@ use Rattle.indexmap.specs.IndexMap.{insert_entry}
 use Rattle.sty_sheet.specs.Steps.{put}
 use Rattle.sty_sheet.specs.Records.{Record, named}
 use Rattle.sty_sheet.specs.Views.{record_of}
+use Rattle.sty_sheet.specs.declared.listed.Listed.{Listed}
 use Rattle.sty_sheet.specs.declared.style.Style.{Style}
 
 abbrev pub Entries : Type 0
-Entries = List (Bor (List ℕ) × Style)
+Entries = List (Bor (List ℕ) × Listed)
 
 abbrev pub texts : Entries → List (List ℕ)
 texts es = map (λ e. e.0.now) es
 
 abbrev pub markers : Entries → List (List ℕ)
-markers es = map (λ e. e.1.marker.now) es
+markers es = map (λ e. e.1.style.marker.now) es
 
 abbrev pub records : Entries → List Record
-records es = map record_of (map (λ e. e.1) es)
+records es = map record_of (map (λ l. l.style) (map (λ e. e.1) es))
 
 abbrev pub key_eq : Bor (List ℕ) → Bor (List ℕ) → Bool
 key_eq x y = bytes_eq x.now y.now
@@ -34,26 +35,26 @@ head_is : (x y : List ℕ) (xs ys : List (List ℕ)) → x ∷ xs ≡ y ∷ ys �
 unfolding first
 head_is x y xs ys h = ap first h
 
-puts_by : (b : Bool) (e : Bor (List ℕ) × Style) (v : Style) (es fs : Entries) (rs : List Record) → records fs ≡ rs
-    → records (cond b ((e.0, v) ∷ es) (e ∷ fs)) ≡ cond b (record_of v ∷ records es) (record_of e.1 ∷ rs)
+puts_by : (b : Bool) (e : Bor (List ℕ) × Listed) (v : Listed) (es fs : Entries) (rs : List Record) → records fs ≡ rs
+    → records (cond b ((e.0, v) ∷ es) (e ∷ fs)) ≡ cond b (record_of v.style ∷ records es) (record_of e.1.style ∷ rs)
 puts_by true e v es fs rs h = refl
-puts_by false e v es fs rs h = ap (λ l. record_of e.1 ∷ l) h
+puts_by false e v es fs rs h = ap (λ l. record_of e.1.style ∷ l) h
 
-pub puts : (es : Entries) (k : Bor (List ℕ)) (v : Style) → k.now ≡ v.marker.now → texts es ≡ markers es
-    → records (insert_entry key_eq es k v) ≡ put (records es) (record_of v)
+pub puts : (es : Entries) (k : Bor (List ℕ)) (v : Listed) → k.now ≡ v.style.marker.now → texts es ≡ markers es
+    → records (insert_entry key_eq es k v) ≡ put (records es) (record_of v.style)
 puts [] k v h keyed = refl
 puts (e ∷ es) k v h keyed =
     puts_by (bytes_eq k.now e.0.now) e v es (insert_entry key_eq es k v) _ (puts es k v h (ap (drop 1) keyed))
-    ∙ (λ i. cond (bytes_eq (h i) (head_is _ _ (texts es) (markers es) keyed i)) (record_of v ∷ records es)
-    (record_of e.1 ∷ put (records es) (record_of v)))
+    ∙ (λ i. cond (bytes_eq (h i) (head_is _ _ (texts es) (markers es) keyed i)) (record_of v.style ∷ records es)
+    (record_of e.1.style ∷ put (records es) (record_of v.style)))
 
-keys_by : (b : Bool) (e : Bor (List ℕ) × Style) (v : Style) (es fs : Entries) → (b ≡ true → e.0.now ≡ v.marker.now)
-    → e.0.now ≡ e.1.marker.now → texts es ≡ markers es → texts fs ≡ markers fs
+keys_by : (b : Bool) (e : Bor (List ℕ) × Listed) (v : Listed) (es fs : Entries) → (b ≡ true → e.0.now ≡ v.style.marker.now)
+    → e.0.now ≡ e.1.style.marker.now → texts es ≡ markers es → texts fs ≡ markers fs
     → texts (cond b ((e.0, v) ∷ es) (e ∷ fs)) ≡ markers (cond b ((e.0, v) ∷ es) (e ∷ fs))
 keys_by true e v es fs same head tail other = λ i. same refl i ∷ tail i
 keys_by false e v es fs same head tail other = λ i. head i ∷ other i
 
-pub keyed_after : (es : Entries) (k : Bor (List ℕ)) (v : Style) → k.now ≡ v.marker.now → texts es ≡ markers es
+pub keyed_after : (es : Entries) (k : Bor (List ℕ)) (v : Listed) → k.now ≡ v.style.marker.now → texts es ≡ markers es
     → texts (insert_entry key_eq es k v) ≡ markers (insert_entry key_eq es k v)
 keyed_after [] k v h keyed = ap (λ x. x ∷ []) h
 keyed_after (e ∷ es) k v h keyed =
@@ -61,20 +62,20 @@ keyed_after (e ∷ es) k v h keyed =
     (λ is. sym ((bytes_eq-Decides k.now e.0.now).0 is) ∙ h)
     (head_is _ _ (texts es) (markers es) keyed) (ap (drop 1) keyed) (keyed_after es k v h (ap (drop 1) keyed))
 
-found_by : (b : Bool) (e : Style) (o : Option Style) (rs : Option Record) → option_map record_of o ≡ rs
-    → option_map record_of (cond b (Some e) o) ≡ cond b (Some (record_of e)) rs
+found_by : (b : Bool) (e : Listed) (o : Option Listed) (rs : Option Record) → option_map (λ l. record_of l.style) o ≡ rs
+    → option_map (λ l. record_of l.style) (cond b (Some e) o) ≡ cond b (Some (record_of e.style)) rs
 found_by true e o rs h = refl
 found_by false e o rs h = h
 
 pub finds : (es : Entries) (name : List ℕ) → texts es ≡ markers es
-    → option_map record_of (lookup (λ k. bytes_eq name k.now) es) ≡ named name (records es)
+    → option_map (λ l. record_of l.style) (lookup (λ k. bytes_eq name k.now) es) ≡ named name (records es)
 finds [] name keyed = refl
 finds (e ∷ es) name keyed =
     found_by (bytes_eq name e.0.now) e.1 _ _ (finds es name (ap (drop 1) keyed))
-    ∙ (λ i. cond (bytes_eq name (head_is _ _ (texts es) (markers es) keyed i)) (Some (record_of e.1)) (named name (records es)))
+    ∙ (λ i. cond (bytes_eq name (head_is _ _ (texts es) (markers es) keyed i)) (Some (record_of e.1.style)) (named name (records es)))
 
 -- after an insertion, or where memory was refused
-pub keyed_result : {A B : Type 0} (r : Result A B) (es fs : Entries) (k : Bor (List ℕ)) (v : Style) → k.now ≡ v.marker.now
+pub keyed_result : {A B : Type 0} (r : Result A B) (es fs : Entries) (k : Bor (List ℕ)) (v : Listed) → k.now ≡ v.style.marker.now
     → texts es ≡ markers es → OnOk r (fs ≡ insert_entry key_eq es k v) → OnErr r (fs ≡ es) → texts fs ≡ markers fs
 keyed_result (Ok a) es fs k v h keyed ok err = subst (λ l. texts l ≡ markers l) (sym ok) (keyed_after es k v h keyed)
 keyed_result (Err b) es fs k v h keyed ok err = subst (λ l. texts l ≡ markers l) (sym err) keyed

@@ -8,5 +8,6 @@ pub mod MemoryLemmas
 pub mod RecordFields
 pub mod Resume
 pub mod Telling
+pub mod UnderLemmas
 pub mod WordLemmas
 pub mod WordList

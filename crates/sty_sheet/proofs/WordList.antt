@@ -1,7 +1,8 @@
 -- The words of a value, one after the other.
-use Rattle.std.proofs.Common.{◌≡◌, ℕ, suc, ◌+◌, ◌<◌, Bool, true, false, cond, List, [], ◌∷◌, length, take, drop, sym, refl, ap, ◌∙◌, arith}
+use Rattle.std.proofs.Common.{◌≡◌, ℕ, suc, ◌+◌, ◌<◌, Bool, true, false, cond, List, [], ◌∷◌, length, take, drop, sym, refl, subst, ap, ◌∙◌, ◌==◌, arith, eqb-true, false-eqb}
 use Rattle.std.specs.Prelude.{not, filter}
 use Rattle.std.specs.List.{prefix_len, slice_split, onto_first}
+use Rattle.std.proofs.lemmas.Bool.{false_from_ne_true}
 use Rattle.std.proofs.lemmas.List.Splits.{slice_split-cons_yes}
 use Rattle.sty_sheet.specs.Lines.{is_blank, not_blank, behind_blanks, first_word, behind_word}
 use Rattle.sty_sheet.specs.Records.{is_filled, words_of}
@@ -74,17 +75,47 @@ pub next_is : (bs : List ℕ) → 0 < length (first_word (behind_blanks bs))
     → words_of bs ≡ first_word (behind_blanks bs) ∷ words_of (behind_word (behind_blanks bs))
 next_is bs h = sym (words_behind bs) ∙ first_is (behind_blanks bs) h
 
+-- a word goes on from a byte that is no blank
+word_from : (b : ℕ) (bs : List ℕ) → is_blank b ≡ false → first_word (b ∷ bs) ≡ b ∷ first_word bs
+word_from b bs is =
+    ap (λ t. take (cond (not t) (1 + prefix_len not_blank bs) 0) (b ∷ bs)) is ∙ take_more (prefix_len not_blank bs) b bs
+
 none_by : (b : ℕ) (bs : List ℕ) (t : Bool) → is_blank b ≡ t → (length (first_word (behind_blanks bs)) ≡ 0 → words_of bs ≡ [])
     → length (first_word (drop (cond t (1 + prefix_len is_blank bs) 0) (b ∷ bs))) ≡ 0 → words_of (b ∷ bs) ≡ []
 none_by b bs true is rest h =
     blank_first b bs is ∙ rest (ap (λ l. length (first_word l)) (sym (drop_more (prefix_len is_blank bs) b bs)) ∙ h)
-none_by b bs false is rest h =
-    let word : first_word (b ∷ bs) ≡ b ∷ first_word bs = ap (λ t. take (cond (not t) (1 + prefix_len not_blank bs) 0) (b ∷ bs)) is
-    ∙ take_more (prefix_len not_blank bs) b bs in
-    absurd (omega (arith, ap length word))
+none_by b bs false is rest h = absurd (omega (arith, ap length (word_from b bs is)))
 
 -- or there is none
 pub none_is : (bs : List ℕ) → length (first_word (behind_blanks bs)) ≡ 0 → words_of bs ≡ []
 unfolding words_of
 none_is [] h = refl
 none_is (b ∷ bs) h = none_by b bs (is_blank b) refl (none_is bs) h
+
+begins_by : (b : ℕ) (bs : List ℕ) (t : Bool) → is_blank b ≡ t
+    → (0 < length (behind_blanks bs) → 0 < length (first_word (behind_blanks bs)))
+    → 0 < length (drop (cond t (1 + prefix_len is_blank bs) 0) (b ∷ bs))
+    → 0 < length (first_word (drop (cond t (1 + prefix_len is_blank bs) 0) (b ∷ bs)))
+begins_by b bs true is rest h =
+    let front = drop_more (prefix_len is_blank bs) b bs in
+    subst (λ (l : List ℕ). 0 < length (first_word l)) (sym front) (rest (subst (λ (l : List ℕ). 0 < length l) front h))
+begins_by b bs false is rest h = omega (arith, ap length (word_from b bs is))
+
+-- where not all are blanks, a word begins after those at the front
+begins : (bs : List ℕ) → 0 < length (behind_blanks bs) → 0 < length (first_word (behind_blanks bs))
+begins [] h = absurd (omega (arith, h))
+begins (b ∷ bs) h = begins_by b bs (is_blank b) refl (begins bs) h
+
+no_word : (bs : List ℕ) → length bs ≡ 0 → length (first_word bs) ≡ 0
+no_word [] h = refl
+no_word (b ∷ bs) h = absurd (omega (arith, h))
+
+-- there are no words exactly where all are blanks
+pub no_words : (bs : List ℕ) → (length (behind_blanks bs) == 0) ≡ (length (words_of bs) == 0)
+no_words bs = by (length (behind_blanks bs) == 0) refl
+  where
+    by : (t : Bool) → (length (behind_blanks bs) == 0) ≡ t → t ≡ (length (words_of bs) == 0)
+    by true e = sym (ap (λ ws. length ws == 0) (none_is bs (no_word (behind_blanks bs) (eqb-true _ 0 e))))
+    by false e =
+        let more = ap length (next_is bs (begins bs (omega (arith, false-eqb _ 0 (sym e))))) in
+        sym (false_from_ne_true (length (words_of bs) == 0) (λ none. omega (arith, more, eqb-true _ 0 none)))

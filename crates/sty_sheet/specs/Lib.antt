@@ -5,7 +5,9 @@ pub mod Records
 pub mod Sheets
 pub mod Memory
 pub mod StyleViews
+pub mod Listing
 pub mod Views
 pub mod Closers
+pub mod UnderSets
 pub mod FieldViews
 pub mod Steps

@@ -1,5 +1,5 @@
 -- Where memory may be taken before a sheet is refused (this project's own rule): a record is kept when the next one begins.
-use Rattle.std.specs.Prelude.{◌≡◌, ℕ, ◌+◌, nat_le, Bool, true, false, ◌||◌, List, [], ◌∷◌, length, if◌then◌else◌, Result, Ok, Err}
+use Rattle.std.specs.Prelude.{ℕ, ◌+◌, nat_le, Bool, true, false, ◌||◌, List, [], ◌∷◌, length, if◌then◌else◌, Result, Ok, Err}
 use Rattle.std.specs.Option.{is_some}
 use Rattle.sty_sheet.specs.Fields.{Field, fields_of, is_marker}
 use Rattle.sty_sheet.specs.Records.{Record}

@@ -3,7 +3,8 @@
 -- The fields are those of Paratext's `usfm.sty`. That a closing name is an Endmarker without its last '*', and which record a mark
 -- has where none has its name, is this project's own rule.
 use Rattle.std.specs.Prelude.{ℕ, ◌-◌, ◌==◌, Bool, true, false, ◌&&◌, not, List, [], ◌∷◌, length, take, filter, Option, None, Some, find, if◌then◌else◌, slice_index}
-use Rattle.std.specs.List.{slice_split}
+use Rattle.std.specs.List.{list_any, slice_split}
+use Rattle.std.specs.Option.{option_map_or}
 use Rattle.std.specs.Str.{bytes_eq}
 use Rattle.sty_sheet.specs.Lines.{is_blank}
 use Rattle.sty_sheet.specs.declared.kind.StyleKind.{StyleKind}
@@ -26,6 +27,10 @@ is_filled bs = not (bytes_eq bs [])
 -- the words of a value: what stands between blanks
 unfoldable pub words_of : List ℕ → List (List ℕ)
 words_of bs = filter is_filled (slice_split is_blank bs)
+
+-- whether a word is one of these
+abbrev pub has_word : List ℕ → List (List ℕ) → Bool
+has_word word words = list_any (bytes_eq word) words
 
 -- a text without a '*' (42) at its end, if one stands there
 abbrev pub without_star : List ℕ → List ℕ
@@ -60,6 +65,10 @@ is_name name (Some closer) = bytes_eq closer name
 -- a milestone that a mark of this name closes
 abbrev pub closes_milestone : List ℕ → Record → Bool
 closes_milestone name r = is_milestone r.kind && is_name name r.closer
+
+-- the words of OccursUnder of a record, if there is one
+abbrev pub under_in : Option Record → List (List ℕ)
+under_in r = option_map_or (λ s. s.under) r []
 
 -- the record that was found; where none was and the name is not empty, the first milestone that a mark of this name
 -- closes

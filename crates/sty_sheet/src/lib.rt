@@ -11,6 +11,7 @@ mod field;
 mod kind;
 pub mod laws;
 mod line;
+mod listed;
 mod reader;
 mod records;
 mod sheet;

@@ -58,6 +58,7 @@ fn field_fault(seen: bool, line: usize, field: Field<'_>) -> Option<SheetFault>
 // The records that are whole, and the one that is being read.
 #[derive(Drop)]
 pub(crate) struct Reader<'s> {
+    pub(crate) alloc: Global,
     pub(crate) records: Records<'s>,
     pub(crate) begun: Option<Style<'s>>,
 }
@@ -74,6 +75,7 @@ impl<'s> Reader<'s> {
         ensures { reading_of result ≡ record { whole = []; begun = None } }
     {
         Reader {
+            alloc,
             records: Records::new(alloc),
             begun: None,
         }
@@ -95,11 +97,11 @@ impl<'s> Reader<'s> {
     }
 
     // The sheet, with the record that was being read.
-    pub(crate) fn finish(mut self, alloc: Global) -> Result<Sheet<'s>, SheetFault>
+    pub(crate) fn finish(mut self) -> Result<Sheet<'s>, SheetFault>
         ensures { Gives result (Ok (finished (reading_of self.entry))) }
     {
         self.put_begun()?;
-        let sheet = self.records.into_sheet(alloc)?;
+        let sheet = self.records.into_sheet(self.alloc)?;
         Ok(sheet)
     }
 
@@ -149,7 +151,7 @@ impl<'s> Reader<'s> {
     {
         match self.begun.take() {
             None => Ok(()),
-            Some(style) => self.records.put(style),
+            Some(style) => self.records.put(self.alloc, style),
         }
     }
 }

@@ -1,10 +1,11 @@
 //! The records of a sheet while it is read.
 
 ghost use Rattle.std.specs.Prelude.{◌≡◌, map, OnOk, OnErr, IfOk, Err};
-ghost use Rattle.indexmap.specs.IndexMap.{values};
 ghost use Rattle.sty_sheet.specs.Closers.{AddsTo, HasFirstOf};
+ghost use Rattle.sty_sheet.specs.Listing.{styles_in};
 
 use crate::fault::SheetFault;
+use crate::listed::Listed;
 use crate::sheet::Sheet;
 use crate::style::Style;
 use indexmap::IndexMap;
@@ -13,8 +14,8 @@ use std::alloc::Global;
 // The records by their markers, in the order in which the markers first stand.
 #[derive(Drop)]
 pub(crate) struct Records<'s> {
-    pub(crate) styles: IndexMap<&'s str, Style<'s>>,
-    ghost keyed: { map (λ e. e.0.now) styles.entries ≡ map (λ e. e.1.marker.now) styles.entries },
+    pub(crate) styles: IndexMap<&'s str, Listed<'s>>,
+    ghost keyed: { map (λ e. e.0.now) styles.entries ≡ map (λ e. e.1.style.marker.now) styles.entries },
 }
 
 // Puts a milestone under its closing name, if none stands there.
@@ -36,14 +37,14 @@ fn add_closer<'s>(
 // The milestones by their closing names, of each name the first.
 fn closers_of<'s>(
     alloc: Global,
-    styles: &IndexMap<&'s str, Style<'s>>,
+    styles: &IndexMap<&'s str, Listed<'s>>,
 ) -> Result<IndexMap<&'s str, Style<'s>>, SheetFault>
-    ensures first { IfOk result (λ closers. HasFirstOf closers (values styles.now)) }
+    ensures first { IfOk result (λ closers. HasFirstOf closers (styles_in styles.now)) }
     ensures memory { OnErr result (result ≡ Err SheetFault.Memory) }
 {
     let mut closers = IndexMap::new(alloc);
-    for style in styles.values() {
-        add_closer(&mut closers, *style)?;
+    for listed in styles.values() {
+        add_closer(&mut closers, listed.style)?;
     }
     Ok(closers)
 }
@@ -63,12 +64,21 @@ impl<'s> Records<'s> {
     }
 
     // Puts a record after the others, or in the place of the one of its marker.
-    pub(crate) fn put(&mut self, style: Style<'s>) -> Result<(), SheetFault>
+    pub(crate) fn put(&mut self, alloc: Global, style: Style<'s>) -> Result<(), SheetFault>
         ensures puts { let later = put (records_in self.old) (record_of style.entry) in
             OnOk result (records_in self.new ≡ later) }
         ensures memory { OnErr result (result ≡ Err SheetFault.Memory) }
     {
-        self.styles.insert(style.marker(), style)?;
+        let listed = Listed::new(alloc, style)?;
+        self.insert(listed)
+    }
+
+    fn insert(&mut self, listed: Listed<'s>) -> Result<(), SheetFault>
+        ensures puts { let later = put (records_in self.old) (record_of listed.entry.style) in
+            OnOk result (records_in self.new ≡ later) }
+        ensures memory { OnErr result (result ≡ Err SheetFault.Memory) }
+    {
+        self.styles.insert(listed.style.marker(), listed)?;
         Ok(())
     }
 

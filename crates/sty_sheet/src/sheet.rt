@@ -1,10 +1,11 @@
 ghost use Rattle.std.specs.Prelude.{◌≡◌, map, Err, IsTrue};
-ghost use Rattle.indexmap.specs.IndexMap.{values};
 ghost use Rattle.sty_sheet.specs.Closers.{HasFirstOf};
+ghost use Rattle.sty_sheet.specs.Listing.{styles_in};
 
 use crate::fault::SheetFault;
 use crate::field::field_of;
 use crate::line::behind_feff;
+use crate::listed::Listed;
 use crate::reader::Reader;
 use crate::style::Style;
 use crate::styles::Styles;
@@ -14,11 +15,11 @@ use std::alloc::Global;
 /// A style sheet: the records of its markers, in the order in which the markers first stand.
 #[derive(Drop)]
 pub struct Sheet<'s> {
-    pub(crate) styles: IndexMap<&'s str, Style<'s>>,
+    pub(crate) styles: IndexMap<&'s str, Listed<'s>>,
     // The milestones by their closing names, of each name the first.
     pub(crate) closers: IndexMap<&'s str, Style<'s>>,
-    ghost keyed: { map (λ e. e.0.now) styles.entries ≡ map (λ e. e.1.marker.now) styles.entries },
-    ghost closed: { HasFirstOf closers (values styles) },
+    ghost keyed: { map (λ e. e.0.now) styles.entries ≡ map (λ e. e.1.style.marker.now) styles.entries },
+    ghost closed: { HasFirstOf closers (styles_in styles) },
 }
 
 impl<'s> Sheet<'s> {
@@ -26,6 +27,7 @@ impl<'s> Sheet<'s> {
     ghost use Rattle.std.specs.Option.{option_map};
     ghost use Rattle.sty_sheet.specs.Memory.{takes_memory};
     ghost use Rattle.sty_sheet.specs.Records.{named, mark_style, closes_milestone};
+    ghost use Rattle.sty_sheet.specs.Records.{has_word, under_in};
     ghost use Rattle.sty_sheet.specs.Sheets.{sheet_of};
     ghost use Rattle.sty_sheet.specs.Views.{record_of, records_of, records_left, Gives};
 
@@ -52,14 +54,17 @@ impl<'s> Sheet<'s> {
             number += 1;
             reader.take(field_of(line), number)?;
         }
-        reader.finish(alloc)
+        reader.finish()
     }
 
     /// The record of a marker. It takes no memory.
     pub fn style(&self, name: &str) -> Option<&Style<'s>>
         ensures { option_map (λ s. record_of s.now) result ≡ named name.now (records_of self.now) }
     {
-        self.styles.get(name)
+        match self.styles.get(name) {
+            Some(listed) => Some(&listed.style),
+            None => None,
+        }
     }
 
     /// The record of a mark's name. If none has it, and the name is not empty, the first milestone
@@ -78,6 +83,21 @@ impl<'s> Sheet<'s> {
                     self.milestone(name)
                 }
             }
+        }
+    }
+
+    /// Whether a word is one of those of OccursUnder of a mark's record, as `style_of` finds it. Many
+    /// words are looked up, and not gone through. It takes no memory.
+    pub fn has_under(&self, name: &str, word: &str) -> bool
+        ensures { let style = mark_style (records_of self.now) name.now in
+            result ≡ has_word word.now (under_in style) }
+    {
+        if let Some(listed) = self.styles.get(name) {
+            return listed.has_under(word);
+        }
+        match self.style_of(name) {
+            Some(style) => style.has_under(word),
+            None => false,
         }
     }
 

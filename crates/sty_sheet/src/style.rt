@@ -1,7 +1,8 @@
-ghost use Rattle.std.specs.Prelude.{◌≡◌, [], slice_get};
+ghost use Rattle.std.specs.Prelude.{◌≡◌, [], length, not, slice_get, ◌==◌};
 ghost use Rattle.std.specs.Option.{option_map};
 ghost use Rattle.sty_sheet.specs.FieldViews.{field_view};
 ghost use Rattle.sty_sheet.specs.Closers.{milestone_closer};
+ghost use Rattle.sty_sheet.specs.Records.{has_word};
 ghost use Rattle.sty_sheet.specs.Sheets.{record_with};
 ghost use Rattle.sty_sheet.specs.Steps.{with_field};
 ghost use Rattle.sty_sheet.specs.Views.{record_of, words_left};
@@ -9,7 +10,7 @@ ghost use Rattle.sty_sheet.specs.Views.{record_of, words_left};
 use crate::field::Field;
 use crate::kind::StyleKind;
 use crate::under::UnderWords;
-use crate::words::{closing_name, is_word, kind_named, word_at};
+use crate::words::{behind_blanks, closing_name, is_word, kind_named, word_at};
 
 /// The record of a marker. Its texts are slices of the sheet's text.
 #[derive(Clone, Copy, Debug)]
@@ -60,6 +61,13 @@ impl<'s> Style<'s> {
         word_at(self.under, place)
     }
 
+    /// Whether the field OccursUnder has a word. It looks at the first alone.
+    pub fn has_under_words(&self) -> bool
+        ensures { result ≡ not (length (record_of self.now).under == 0) }
+    {
+        !behind_blanks(self.under).is_empty()
+    }
+
     /// The field StyleType, `None` if there is none.
     pub fn kind(&self) -> Option<StyleKind>
         ensures { result ≡ (record_of self.now).kind }
@@ -72,6 +80,18 @@ impl<'s> Style<'s> {
         ensures { result ≡ (record_of self.now).verse_text }
     {
         self.verse_text
+    }
+
+    // Whether a word is one of those of OccursUnder. It goes through them.
+    pub(crate) fn has_under(&self, word: &str) -> bool
+        ensures { result ≡ has_word word.now (record_of self.now).under }
+    {
+        self.under_words().any(|it| word == it)
+    }
+
+    // How many bytes the words of OccursUnder take, with the blanks between them.
+    pub(crate) fn under_len(&self) -> usize {
+        self.under.len()
     }
 
     // The record of a marker, without fields.

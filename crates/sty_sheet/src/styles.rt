@@ -1,10 +1,11 @@
+use crate::listed::Listed;
 use crate::style::Style;
 use indexmap::map::Values;
 
 /// The records of a sheet, in order. It takes no memory.
 #[derive(Drop)]
 pub struct Styles<'t, 's> {
-    pub(crate) values: Values<'t, &'s str, Style<'s>>,
+    pub(crate) values: Values<'t, &'s str, Listed<'s>>,
 }
 
 impl<'t, 's> Iterator for Styles<'t, 's> {
@@ -18,6 +19,7 @@ impl<'t, 's> Iterator for Styles<'t, 's> {
     ghost remaining = { item_count records_left };
 
     fn next(&mut self) -> Option<&'t Style<'s>> {
-        self.values.next()
+        let listed = self.values.next()?;
+        Some(&listed.style)
     }
 }

@@ -1,5 +1,6 @@
 use super::*;
 use std::process::Abort;
+use std::test::Fail;
 
 // That a text has this fault.
 fn check_fault(rt: &impl Abort, read: Result<Sheet<'_>, SheetFault>, fault: SheetFault) {
@@ -98,6 +99,44 @@ fn reads_fields(rt: HostRuntime) -> Result<(), SheetFault> {
         check_words(&rt, x, &[]);
     } else {
         panic!(rt; "two records");
+    }
+    Ok(())
+}
+
+// Words of OccursUnder that are few, none, and so many that they are kept in a set; those of the mark
+// that ends a milestone.
+#[test]
+fn looks_words_up(rt: HostRuntime) -> Result<(), Fail> {
+    let alloc = rt.alloc();
+    let mut text = String::new(alloc);
+    text.push_str(
+        "\\Marker few\n\\OccursUnder p NEST\n\\Marker none\n\\Marker ms\n\\Endmarker me\n",
+    )?;
+    text.push_str("\\StyleType Milestone\n\\OccursUnder q\n\\Marker many\n\\OccursUnder ")?;
+    for _ in 0..400u16 {
+        text.push_str(" w1 w2 ")?;
+    }
+    text.push_str("NEST\n")?;
+    let sheet = Sheet::read(alloc, &text)?;
+    for (name, word, wanted) in [
+        ("few", "p", true),
+        ("few", "NEST", true),
+        ("few", "nest", false),
+        ("few", "", false),
+        ("none", "p", false),
+        ("unknown", "p", false),
+        ("me", "q", true),
+        ("many", "w1", true),
+        ("many", "w2", true),
+        ("many", "NEST", true),
+        ("many", "w", false),
+        ("many", "", false),
+    ] {
+        assert_eq!(rt; sheet.has_under(name, word), wanted, "{word} under {name}");
+    }
+    for (name, wanted) in [("few", true), ("none", false), ("many", true)] {
+        let style = sheet.style(name).ok_or("no style")?;
+        assert_eq!(rt; style.has_under_words(), wanted, "{name}");
     }
     Ok(())
 }

@@ -1,12 +1,34 @@
-use Rattle.std.proofs.Common.{rules, refl}
-use Rattle.std.proofs.lemmas.Iterator.Consumers.{YieldsList-from_first}
-use Rattle.std.proofs.lemmas.Iterator.Search.{any_from_yields_List}
-use Rattle.sty_sheet.specs.Views.{words_left}
-use Rattle.segment_check.specs.TreeConditions.{is_among}
-use Rattle.segment_check.specs.TreeViews.{allowed_names}
+use Rattle.std.proofs.Common.{◌≡◌, Bool, false, ◌&&◌, ◌||◌, List, ℕ, sym, ap, ◌∙◌}
+use Rattle.std.specs.Prelude.{codes}
+use Rattle.std.specs.Option.{option_map, option_map_or}
+use Rattle.sty_sheet.specs.Records.{has_word}
+use Rattle.sty_sheet.specs.Views.{records_of}
+use Rattle.segment_check.specs.TreeConditions.{under_words}
+use Rattle.segment_check.proofs.Allowing.{each_allowed}
 use Rattle.segment_check.proofs.tree.any_allows.Goals as goal
 
-pub returns : goal.returns
-returns c =
-    any_from_yields_List (is_among (allowed_names c.args.allowed)) c.any.new.self _ c.any.result c.any.ensures.ran
-    (YieldsList-from_first (λ w. w.now) words_left (words_left c.args.words) refl) (λ x b q h. search rules)
+pub returns-then-has_name : goal.returns-then-has_name
+returns-then-has_name c =
+    let words = under_words (records_of c.args.sheet.now) c.args.name.now in
+    let nest = c.args.allowed.nest in
+    c.if-has_name.true
+    ∙ sym (ap (λ b. b || (nest && has_word (codes "NEST") words)) (sym c.has_name.ensures ∙ c.if-has_name.true))
+    ∙ each_allowed (option_map (λ n. n.now) c.args.allowed.name) nest words
+
+pub returns-then-allowed : goal.returns-then-allowed
+returns-then-allowed c =
+    let words = under_words (records_of c.args.sheet.now) c.args.name.now in
+    let nest = c.args.allowed.nest in
+    let nested = has_word (codes "NEST") words in
+    c.has_under.ensures
+    ∙ sym (ap (λ b. b || (nest && nested)) (sym c.has_name.ensures ∙ c.if-has_name.false) ∙ ap (λ b. b && nested) c.if-allowed.true)
+    ∙ each_allowed (option_map (λ n. n.now) c.args.allowed.name) nest words
+
+pub returns-else-allowed : goal.returns-else-allowed
+returns-else-allowed c =
+    let words = under_words (records_of c.args.sheet.now) c.args.name.now in
+    let nest = c.args.allowed.nest in
+    let nested = has_word (codes "NEST") words in
+    c.if-allowed.false
+    ∙ sym (ap (λ b. b || (nest && nested)) (sym c.has_name.ensures ∙ c.if-has_name.false) ∙ ap (λ b. b && nested) c.if-allowed.false)
+    ∙ each_allowed (option_map (λ n. n.now) c.args.allowed.name) nest words
