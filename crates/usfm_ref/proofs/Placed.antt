@@ -4,7 +4,7 @@ use Rattle.std.specs.declared.cmp.Ordering.{Ordering}
 use Rattle.std.specs.declared.cmp.Ordering.TheVariants.{Less, Equal, Greater}
 use Rattle.std.specs.Ordering.{is_eq, is_lt}
 use Rattle.std.specs.List.{position_or_len, insert, remove, filter, AllByRecursion}
-use Rattle.std.specs.List.Sorted.{IsPartitionedBy}
+use Rattle.std.specs.List.Sorted.{IsPartitionedBy, IsPartitionPoint}
 use Rattle.std.specs.Cmp.{IsTotalOrder, tied_itself}
 use Rattle.std.specs.FinMap.Entries.{by_order}
 use Rattle.std.proofs.lemmas.Bool.{and_from, cond-true, cond-false, true≢false, false≢true}
@@ -73,6 +73,14 @@ pub narrowed_place : {X : Type 0} (p : X → Bool) (xs : List X) (low high : ℕ
     → low ≡ position_or_len (λ x. not (p x)) xs
 narrowed_place p [] low high h l = narrowed_none p low high h
 narrowed_place p (x ∷ xs) low high h l = narrowed_end p (x ∷ xs) low high x h l
+
+-- where a list is parted by a test, there the test fails for the first time
+pub partition_place : {X : Type 0} (p : X → Bool) (xs : List X) (n : ℕ) → n ≤ length xs
+    → IsPartitionPoint (λ x. p x ≡ true) (λ x. p x ≡ false) xs n → n ≡ position_or_len (λ x. not (p x)) xs
+partition_place p [] n l h = omega (arith, l)
+partition_place p (x ∷ xs) n l h =
+    sym (position_or_len_is (λ x. not (p x)) (x ∷ xs) n x l (λ k m. ap not (h.0 k x (omega arith) m))
+    (λ m. ap not (h.1 n x (omega arith) m)))
 
 -- ---- lists that rise by a key
 

@@ -66,6 +66,15 @@ key_at chapter (Some place) = Some (record { chapter = chapter; place = place })
 unfoldable pub key_in : List ℕ → Option KeyParts
 key_in bytes = option_and_then (λ n. key_at n.0 (place_in n.1)) (plain_at bytes)
 
+-- a key, or the refusal that there is none
+abbrev pub key_or_bad : Option KeyParts → Result KeyParts RefFault
+key_or_bad None = Err BadRef
+key_or_bad (Some key) = Ok key
+
+-- the key that a text writes; any other text is refused
+abbrev pub key_of : List ℕ → Result KeyParts RefFault
+key_of text = key_or_bad (key_in text)
+
 -- the key that all of the bytes are but a space (32) in front
 unfoldable pub key_behind : List ℕ → Option KeyParts
 key_behind [] = None

@@ -65,7 +65,8 @@ pub fn verse_after(text: &str) -> Option<VerseMark>
     })
 }
 
-fn is_blank(byte: u8) -> bool
+/// Whether a byte is a blank: a space, a tab, a CR or an LF.
+pub fn is_blank(byte: u8) -> bool
     ensures { result ≡ numbers.is_blank byte }
 {
     matches!(byte, b' ' | b'\t' | b'\r' | b'\n')
