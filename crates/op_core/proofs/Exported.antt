@@ -19,10 +19,9 @@ use Rattle.usfm_ref.specs.declared.key.Place.{Place}
 use Rattle.usfm_ref.specs.declared.key.Place.TheVariants.{Head, Verse}
 use Rattle.usfm_ref.proofs.Orders.{key_exact, same_bytes-is, same_bytes-refl, same_key-refl, same_segment-is}
 use Rattle.verse_cut.specs.Fits.{Fits}
-use Rattle.verse_cut.specs.Reading.{is_empty, text_fits}
+use Rattle.verse_cut.specs.Reading.{is_empty}
 use Rattle.verse_cut.specs.Joins.{chapter_line}
 use Rattle.verse_cut.proofs.ChapterLines.{chapter_lines_fit}
-use Rattle.verse_cut.proofs.FitLaws.{fits_is_read}
 use Rattle.op_core.specs.Ops.{Operation, IsOperation, in_segment, is_verse_in, MayBeText, or_empty}
 use Rattle.op_core.specs.Sets.{IsOpSet}
 use Rattle.op_core.specs.Shown.{is_replaced, is_shown, shown, last, text_in, text_of, is_verse_with_text, has_verse_text, wants_chapter_line, greatest, pick, picked_text}
@@ -184,7 +183,7 @@ pick_fits held book key set =
   where
     own : (t : Option (List ℕ)) → MayBeText (segment book key) t → (or_empty t ≡ []) ⊎ Fits book key (or_empty t)
     own None h = inl refl
-    own (Some t) h = inr ((fits_is_read book key t).0 h.fits)
+    own (Some t) h = inr h.fits
 
 -- and it is UTF-8
 line_is_text : (n : ℕ) → n ≤ 999 → IsUtf8 (chapter_line n)

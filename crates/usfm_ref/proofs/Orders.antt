@@ -59,7 +59,7 @@ segment_total = then_total (on_total (λ (a : Segment). a.book) book_total) (on_
 
 -- ---- what an order does not tell apart is equal
 
-then_parts : (a b : Ordering) → ordering_then a b ≡ Equal → (a ≡ Equal) × (b ≡ Equal)
+pub then_parts : (a b : Ordering) → ordering_then a b ≡ Equal → (a ≡ Equal) × (b ≡ Equal)
 then_parts Less b h = cc
 then_parts Equal b h = (refl, h)
 then_parts Greater b h = cc

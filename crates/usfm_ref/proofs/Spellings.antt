@@ -24,8 +24,9 @@ use Rattle.usfm_ref.proofs.Readings.{number_at-run, number_at-some, chapter_in-o
 -- ---- numbers in decimal
 
 -- std's words on digits are ours
-own : IsNumeralModel (λ ds. list_all is_ascii_digit ds ≡ true) number_of
-own = numerals_by_fold _ (search rules) number_behind (search rules)
+-- the numbers of digits are those of numerals
+pub numerals : IsNumeralModel (λ ds. list_all is_ascii_digit ds ≡ true) number_of
+numerals = numerals_by_fold _ (search rules) number_behind (search rules)
 
 all_digits : (digits : List ℕ) → are_digits digits ≡ true → list_all is_ascii_digit digits ≡ true
 all_digits digits h = (and_parts (nat_le 1 (length digits) && nat_le (length digits) 3) (list_all is_ascii_digit digits) h).1
@@ -38,7 +39,7 @@ lengths digits h =
 
 pub number_of-le : (digits : List ℕ) → are_digits digits ≡ true → number_of digits ≤ 999
 number_of-le digits h =
-    let short : number_of digits < 10 ^ 3 = digits_value_short own digits 3 (all_digits digits h) (lengths digits h).1 in omega arith
+    let short : number_of digits < 10 ^ 3 = digits_value_short numerals digits 3 (all_digits digits h) (lengths digits h).1 in omega arith
 
 pub number_at-le : (bytes : List ℕ) (n : ℕ × List ℕ) → number_at bytes ≡ Some n → n.0 ≤ 999
 number_at-le bytes n h =
@@ -48,7 +49,7 @@ decimal_are_digits : (n : ℕ) → n ≤ 999 → are_digits (decimal n) ≡ true
 decimal_are_digits n h =
     let some : 0 < length (decimal n) = decimal_nonempty n (omega arith) in
     let few : length (decimal n) ≤ 3 = length-decimal-le 3 n (omega arith) (omega arith) (omega arith) in
-    let all : list_all is_ascii_digit (decimal n) ≡ true = digits_decimal own n (omega arith) in
+    let all : list_all is_ascii_digit (decimal n) ≡ true = digits_decimal numerals n (omega arith) in
     and_from _ _ (and_from _ _ (le-leb 1 (length (decimal n)) some) (le-leb (length (decimal n)) 3 few)) all
 
 -- a number in decimal, with a letter or none, is read
@@ -58,7 +59,7 @@ decimal_starts number letter rest small l ends = record {
   digits = decimal number;
   bytes_are = refl;
   are_digits = decimal_are_digits number small;
-  number_is = sym (digits_value-decimal own number (omega arith));
+  number_is = sym (digits_value-decimal numerals number (omega arith));
   is_letter = l;
   ends = ends;
 }
@@ -96,7 +97,7 @@ unfolding plain_at
 plain_at-of n rest h s =
     let led = no_zero (decimal n) rest (first_is_one n h) (decimal_nonempty n (omega arith)) s in
     let read = number_at-run (decimal n) rest (decimal_are_digits n h) s in
-    let value : number_of (decimal n) ≡ n = digits_value-decimal own n (omega arith) in
+    let value : number_of (decimal n) ≡ n = digits_value-decimal numerals n (omega arith) in
     rw (led, read, value) refl
 
 -- what a number without leading zeros is
@@ -128,7 +129,7 @@ plain_at-some bytes n h = by_zero (is_zero_led bytes) refl h
         let led : is_zero_led (run.digits ++ n.1) ≡ false = rw (← run.bytes_are) e in
         let all = all_digits run.digits run.are_digits in
         let same : decimal (number_of run.digits)
-        ≡ run.digits = decimal-digits_value own run.digits all (omega arith) (λ z. first_of_led run.digits n.1 all led z (omega arith))
+        ≡ run.digits = decimal-digits_value numerals run.digits all (omega arith) (λ z. first_of_led run.digits n.1 all led z (omega arith))
         (omega arith) in
         record {
           bytes_are = run.bytes_are ∙ ap (λ (ds : List ℕ). ds ++ n.1) (sym same ∙ ap decimal (sym run.number_is));

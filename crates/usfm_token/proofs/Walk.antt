@@ -14,7 +14,8 @@ pub first_not_empty : (t : Lexeme) (ts : List Lexeme) → AreLexemes (t ∷ ts) 
 first_not_empty (mark m) ts h = omega arith
 first_not_empty (words w) ts h = h.0.0
 
-each_tail : (t : Lexeme) (ts : List Lexeme) → AreLexemes (t ∷ ts) → AreLexemes ts
+-- the lexemes after the first are lexemes too
+pub each_tail : (t : Lexeme) (ts : List Lexeme) → AreLexemes (t ∷ ts) → AreLexemes ts
 each_tail (mark m) ts h = h.2
 each_tail (words w) ts h = h.2
 

@@ -34,20 +34,23 @@ tests true same r = refl
 tests false true r = refl
 tests false false r = refl
 
-pub key_below-is : (a b : KeyParts) → key_below a b ≡ nat_lt a.chapter b.chapter || (a.chapter == b.chapter && is_lt (place_cmp a.place b.place))
+pub key_below-is : (a b : KeyParts)
+    → key_below a b ≡ nat_lt a.chapter b.chapter || (a.chapter == b.chapter && is_lt (place_cmp a.place b.place))
 key_below-is a b = tests (nat_lt a.chapter b.chapter) (a.chapter == b.chapter) (place_cmp a.place b.place)
 
 pub below_chapter : (a b : KeyParts) → key_below a b ≡ true → a.chapter ≤ b.chapter
 below_chapter a b p =
-    let t : nat_lt a.chapter b.chapter || (a.chapter == b.chapter && is_lt (place_cmp a.place b.place)) ≡ true = sym (key_below-is a b) ∙ p in
+    let t : nat_lt a.chapter b.chapter || (a.chapter == b.chapter && is_lt (place_cmp a.place b.place)) ≡ true = sym (key_below-is a b)
+    ∙ p in
     grind (arith, nat_tests)
 
 pub not_below_chapter : (a b : KeyParts) → key_below a b ≡ false → b.chapter ≤ a.chapter
 not_below_chapter a b p =
-    let t : nat_lt a.chapter b.chapter || (a.chapter == b.chapter && is_lt (place_cmp a.place b.place)) ≡ false = sym (key_below-is a b) ∙ p in
+    let t : nat_lt a.chapter b.chapter || (a.chapter == b.chapter && is_lt (place_cmp a.place b.place)) ≡ false = sym (key_below-is a b)
+    ∙ p in
     grind (arith, nat_tests)
 
-nothing_before_head : (x : Place) → is_lt (place_cmp x Head) ≡ false
+pub nothing_before_head : (x : Place) → is_lt (place_cmp x Head) ≡ false
 nothing_before_head Head = refl
 nothing_before_head (Verse n l) = refl
 
@@ -56,7 +59,8 @@ pub not_below_own_head : (k : KeyParts) → key_below k (head_of k) ≡ false
 not_below_own_head k =
     let none : is_lt (place_cmp k.place Head) ≡ false = nothing_before_head k.place in
     let t = key_below-is k (head_of k) in
-    t ∙ ap (λ e. nat_lt k.chapter k.chapter || (k.chapter == k.chapter && e)) none ∙ later (nat_lt k.chapter k.chapter) (k.chapter == k.chapter) (irreflexive k.chapter)
+    t ∙ ap (λ e. nat_lt k.chapter k.chapter || (k.chapter == k.chapter && e)) none
+    ∙ later (nat_lt k.chapter k.chapter) (k.chapter == k.chapter) (irreflexive k.chapter)
   where
     irreflexive : (n : ℕ) → nat_lt n n ≡ false
     irreflexive n = grind (arith, nat_tests)

@@ -5,7 +5,7 @@ ghost use Rattle.verse_cut.specs.Walks.{read_of};
 
 use crate::walk::Walk;
 use std::alloc::{AllocError, Global};
-use usfm_ref::{Key, Place};
+use usfm_ref::Key;
 
 /// A piece of a book.
 #[derive(Clone, Copy, Debug)]
@@ -38,10 +38,7 @@ impl<'a> Pieces<'a> {
         ensures { parts_left result ≡ pieces_of text.now }
     {
         Pieces {
-            key: Key {
-                chapter: 0,
-                place: Place::Head,
-            },
+            key: Key::chapter_head(0),
             start: 0,
             from: text,
             rest: text,

@@ -125,10 +125,7 @@ fn key_of(chapter: u16, token: Token<'_>, next: Option<Token<'_>>) -> Option<Key
         Some(Token::Mark(_)) | None => "",
     };
     match mark.name() {
-        "c" => Some(Key {
-            chapter: chapter_after(after)?,
-            place: Place::Head,
-        }),
+        "c" => chapter_after(after).map(Key::chapter_head),
         "v" => {
             let verse = verse_after(after)?;
             let place = Place::Verse {

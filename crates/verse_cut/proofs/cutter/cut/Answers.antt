@@ -15,7 +15,8 @@ pub returns-clause-cut : goal.returns-clause-cut
 returns-clause-cut c = IfOk-weaker c.collect.result _ _ (λ list is. (one_cut (parts_of list.items) c.args.text.now).1 is) (value c)
 
 pub returns-clause-lie : goal.returns-clause-lie
-returns-clause-lie c = IfOk-weaker c.collect.result _ _ (λ list is. subst (LieIn c.args.text.now) (sym is) (pieces_lie c.args.text.now)) (value c)
+returns-clause-lie c =
+    IfOk-weaker c.collect.result _ _ (λ list is. subst (LieIn c.args.text.now) (sym is) (pieces_lie c.args.text.now)) (value c)
 
 pub returns-clause-rise : goal.returns-clause-rise
 returns-clause-rise c = IfOk-weaker c.collect.result _ _ (λ list is. subst KeysRise (sym is) (pieces_rise c.args.text.now)) (value c)
