@@ -144,9 +144,7 @@ pub(crate) fn made_name(bytes: &[u8]) -> ReplicaName
     requires { IsTrue (is_name bytes.now) }
     ensures { result ≡ bytes.now }
 {
-    // A name is ASCII, so it is text.
-    let text = unsafe { str::from_utf8_unchecked(bytes) };
-    ReplicaName::read(text).unwrap()
+    ReplicaName::of_bytes(bytes).unwrap()
 }
 
 // How one id stands to another.

@@ -104,9 +104,8 @@ pub(crate) fn book_in(code: &[u8]) -> Book
     requires { IsTrue (is_book_code code.now) }
     ensures { result ≡ code.now }
 {
-    // A book's code is ASCII, so it is text.
-    let code = unsafe { str::from_utf8_unchecked(code) };
-    Book::read(code).unwrap()
+    let (code, _) = code.split_first_chunk::<3>().unwrap();
+    Book::of_code(*code).unwrap()
 }
 
 // Whether a text fits a code and a key that were judged.

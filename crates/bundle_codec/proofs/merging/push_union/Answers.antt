@@ -15,7 +15,8 @@ union-preserved c =
     subst (Steps c.union.left c.union.right c.pass_least.new.left c.pass_least.new.right) c.in-Some.is c.in_ok-op.ensures.next in
     rw c.in_ok-extend_from_slice.ensures.items
     (goes_on c.args.left c.args.right c.args.bytes.now.items c.union.bytes.items c.spelled.result.now c.union.full c.if-full.full
-    c.union.count c.union.left c.union.right c.pass_least.new.left c.pass_least.new.right c.in-Some.op c.union.invariant step c.spelled.ensures
+    c.union.count c.union.left c.union.right c.pass_least.new.left c.pass_least.new.right c.in-Some.op c.union.invariant step
+    c.spelled.ensures
     (elim c.if-full.branch [
       | then-full w ↦
           w.full-is ∙ w.is_some-full.ensures ∙ lent_some w.text.result c.in-Some.op.text w.text.ensures

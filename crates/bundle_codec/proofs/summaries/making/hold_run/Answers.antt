@@ -20,9 +20,11 @@ returns-in-Some c = if_ok c.push_run.result _ _
 
 pub returns : goal.returns
 returns c =
-    run_as c.get_mut.follows.lender-at-none c.args.held.now c.insert.new.self c.args.first c.args.ops.now (at_hand (option_copied c.in_ok-next.next) c.push_run-2.new.ops)
+    run_as c.get_mut.follows.lender-at-none c.args.held.now c.insert.new.self c.args.first c.args.ops.now
+    (at_hand (option_copied c.in_ok-next.next) c.push_run-2.new.ops)
     (ap (λ (m : BTreeMap (List ℕ) (Vec NumberRange Global)). m.entries) c.get_mut.follows.holds-at-none)
-    (holds_named c.get_mut.follows.lender-at-none c.insert.new.self c.args.first c.args.ops.now (at_hand (option_copied c.in_ok-next.next) c.push_run-2.new.ops)
+    (holds_named c.get_mut.follows.lender-at-none c.insert.new.self c.args.first c.args.ops.now
+    (at_hand (option_copied c.in_ok-next.next) c.push_run-2.new.ops)
     None c.push_run-2.new.ranges
     c.first.inside.name (ap (λ (i : Id). i.name) c.first.view_is)
     (ap (λ (m : BTreeMap (List ℕ) (Vec NumberRange Global)). lookup (is_at (name_cmp c.first.inside.name)) m.entries)
