@@ -20,7 +20,7 @@ use Rattle.op_core.proofs.Union.{apart_below}
 use Rattle.op_core.specs.Sets.{get, rises}
 use Rattle.bundle_codec.specs.declared.summaries.range.NumberRange.{NumberRange}
 use Rattle.bundle_codec.specs.Summaries.{is_range, has_number}
-use Rattle.bundle_codec.specs.SummaryMaking.{with_last, with_each, under, numbers, AddsRun, HoldsRun, AreUnder}
+use Rattle.bundle_codec.specs.Loops.SummaryMaking.{with_last, with_each, under, numbers, AddsRun, HoldsRun, AreUnder}
 use Rattle.bundle_codec.proofs.Lasts.{AllBelow, last_has, last_ranges}
 use Rattle.bundle_codec.proofs.SummaryReads.{range_bounds}
 use Rattle.bundle_codec.proofs.Covered.{lies_in, lies_yes, same_tied}

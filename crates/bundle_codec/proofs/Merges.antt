@@ -16,7 +16,7 @@ use Rattle.op_core.proofs.SideBySide.{clash_none, clash_less, clash_greater, cla
 use Rattle.op_core.proofs.Fronts.{join_none, join_less, join_greater, join_tied}
 use Rattle.bundle_codec.specs.Spelling.{operation}
 use Rattle.bundle_codec.specs.Views.{lent}
-use Rattle.bundle_codec.specs.Merging.{GoesPast, Meets, Leaves, Steps}
+use Rattle.bundle_codec.specs.Loops.Merging.{GoesPast, Meets, Leaves, Steps}
 use Rattle.bundle_codec.proofs.OneSpelling.{takes_bytes}
 
 -- the rest of a list, by its two parts in two words

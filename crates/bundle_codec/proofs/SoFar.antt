@@ -18,7 +18,7 @@ use Rattle.op_core.specs.Ops.{Operation, IsOperation}
 use Rattle.op_core.specs.Sets.{rises, get, IsOpSet}
 use Rattle.bundle_codec.specs.declared.summaries.range.NumberRange.{NumberRange}
 use Rattle.bundle_codec.specs.Summaries.{Known, IsKnown, IsSummaryOf, covers, has_number}
-use Rattle.bundle_codec.specs.SummaryMaking.{under, HoldsRun, AreRanges, AreUnder, HoldsRanges, listed}
+use Rattle.bundle_codec.specs.Loops.SummaryMaking.{under, HoldsRun, AreRanges, AreUnder, HoldsRanges, listed}
 use Rattle.bundle_codec.proofs.SummaryReads.{name_total}
 use Rattle.bundle_codec.proofs.Covered.{covers-found, under_name, found_has}
 use Rattle.bundle_codec.proofs.Holding.{names_run, all_push}

@@ -16,7 +16,7 @@ use Rattle.op_core.proofs.Left.{same_id-sym}
 use Rattle.bundle_codec.specs.declared.fault.BundleFault.TheVariants.{Unsupported}
 use Rattle.bundle_codec.specs.Reading.{unnamed_from, unnamed_place, judge_named, judge_thinned}
 use Rattle.bundle_codec.specs.Views.{lent}
-use Rattle.bundle_codec.specs.Thinning.{Place, Places, thinned_place, HoldsThinned, is_beside, is_naming, left_of, LeavesNamed, first_of}
+use Rattle.bundle_codec.specs.Loops.Thinning.{Place, Places, thinned_place, HoldsThinned, is_beside, is_naming, left_of, LeavesNamed, first_of}
 
 -- the key that a map finds for an id is that id
 same_key : (q k : Id) → is_at (id_cmp k) q ≡ same_id q k

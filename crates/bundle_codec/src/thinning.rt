@@ -5,7 +5,7 @@ ghost use Rattle.op_core.specs.Sets.{rises};
 ghost use Rattle.op_core.specs.Thinned.{all_full};
 ghost use Rattle.bundle_codec.specs.Reading as reading;
 ghost use Rattle.bundle_codec.specs.Views.{operations_in, SpellsSet};
-ghost use Rattle.bundle_codec.specs.Thinning as thinning;
+ghost use Rattle.bundle_codec.specs.Loops.Thinning as thinning;
 
 use crate::fault::BundleFault;
 use crate::view::OpView;

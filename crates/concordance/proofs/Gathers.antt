@@ -14,7 +14,7 @@ use Rattle.usfm_tree.specs.Forest.{Forest, nothing, text, leaf, node}
 use Rattle.usfm_tree.specs.StepViews.{entry_before, placed_text}
 use Rattle.usfm_tree.specs.declared.step.Entry.{Entry}
 use Rattle.usfm_tree.specs.declared.step.Entry.TheVariants as entries
-use Rattle.concordance.specs.Gathered.{root, enclosed, counted, settled, closes_character, behind_milestone, gathered, EventsFit, EntryFits}
+use Rattle.concordance.specs.Loops.Gathered.{root, enclosed, counted, settled, closes_character, behind_milestone, gathered, EventsFit, EntryFits}
 use Rattle.concordance.specs.Passages.{Passage}
 use Rattle.concordance.specs.Plain.{is_nothing, node_end, mark_at_end, number_length}
 use Rattle.concordance.specs.Reading.{Surroundings, inside_of, left_of, with_text, leaves_from, TextsFit}

@@ -10,7 +10,7 @@ use Rattle.std.proofs.lemmas.Cmp.{on_total, then_total}
 use Rattle.usfm_ref.specs.Keys.{key_cmp}
 use Rattle.usfm_ref.proofs.Orders.{key_total, key_exact}
 use Rattle.concordance.specs.Words.{Spelling, form_cmp}
-use Rattle.concordance.specs.SpellingOrder.{spelling_cmp}
+use Rattle.concordance.specs.Loops.SpellingOrder.{spelling_cmp}
 
 pub form_total : IsTotalOrder form_cmp
 form_total = nat_list_cmp_total

@@ -10,7 +10,7 @@ use Rattle.std.proofs.lemmas.List.Sums.{sum_by-cons, AllPass-from_list_all}
 use Rattle.std.proofs.lemmas.Str.{encodes-append}
 use Rattle.concordance.specs.Laws.{IsLongestRun, RunsAreLongest, WordCharactersAreInOneRun, lies_in}
 use Rattle.concordance.specs.Passages.{Passage}
-use Rattle.concordance.specs.RunReading.{is_like, behind, front_bytes}
+use Rattle.concordance.specs.Loops.RunReading.{is_like, behind, front_bytes}
 use Rattle.concordance.specs.Words.{is_word_char, runs_behind}
 use Rattle.concordance.proofs.RunLemmas.{after, front_more, front_none, behind_more, behind_none, bytes_more, bytes_none, char_some}
 

@@ -7,7 +7,7 @@ use Rattle.std.proofs.Math.Seq.{take-append_seam}
 use Rattle.std.specs.Prelude.{chars, take_while, encode_utf8, encode_utf8_all}
 use Rattle.concordance.specs.Passages.{Passage}
 use Rattle.concordance.specs.Words.{is_word_char, runs_behind}
-use Rattle.concordance.specs.RunReading.{is_like, behind, front_bytes}
+use Rattle.concordance.specs.Loops.RunReading.{is_like, behind, front_bytes}
 
 abbrev pub after : Bool → ℕ → ℕ → List ℕ → List Passage
 after b n c cs = runs_behind b (n + length (encode_utf8 c)) cs

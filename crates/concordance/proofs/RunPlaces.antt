@@ -10,9 +10,9 @@ use Rattle.concordance.specs.Hits.{keyed}
 use Rattle.concordance.specs.Passages.{Passage}
 use Rattle.concordance.specs.Plain.{plain_leaves}
 use Rattle.concordance.specs.Reading.{IsText}
-use Rattle.concordance.specs.RunReading.{is_like, behind, front_bytes}
+use Rattle.concordance.specs.Loops.RunReading.{is_like, behind, front_bytes}
 use Rattle.concordance.specs.Groups.{composed}
-use Rattle.concordance.specs.KeyedViews.{spelled}
+use Rattle.concordance.specs.Loops.KeyedViews.{spelled}
 use Rattle.concordance.specs.Words.{is_word_char, runs_behind, runs_in, spelling_at}
 use Rattle.concordance.proofs.Holding.{Filled, filled_each}
 use Rattle.concordance.proofs.RunLemmas.{one_step, char_some, bytes_more, bytes_none, behind_more, behind_none}

@@ -4,8 +4,8 @@ ghost use Rattle.usfm_ref.specs.Keys.{key_cmp};
 ghost use Rattle.usfm_ref.specs.Rising.{rising};
 ghost use Rattle.concordance.specs.Groups.{told, told_with, has_bare, rise, AlsoTells, TellsSame};
 ghost use Rattle.concordance.specs.Groups.{form_at, composed};
-ghost use Rattle.concordance.specs.KeyedViews.{hits_left, spelled};
-ghost use Rattle.concordance.specs.FormViews.{forms_view};
+ghost use Rattle.concordance.specs.Loops.KeyedViews.{hits_left, spelled};
+ghost use Rattle.concordance.specs.Loops.FormViews.{forms_view};
 ghost use Rattle.concordance.specs.Words as spec;
 
 use crate::form::Form;

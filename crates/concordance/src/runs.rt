@@ -3,7 +3,7 @@
 ghost use Rattle.std.specs.Prelude.{◌≡◌, ◌<◌, ◌+◌, ◌^◌, ◌++◌, length, chars, IsUtf8, OnOk, IfOk};
 ghost use Rattle.std.specs.List.{flat_map, All};
 ghost use Rattle.concordance.specs.Reading.{EndsWithin, IsText};
-ghost use Rattle.concordance.specs.RunReading.{behind, front_bytes};
+ghost use Rattle.concordance.specs.Loops.RunReading.{behind, front_bytes};
 ghost use Rattle.concordance.specs.Views.{passage_view, passages_view};
 ghost use Rattle.concordance.specs.Words as words;
 

@@ -4,7 +4,7 @@ ghost use Rattle.usfm_ref.specs.Segments.{segment};
 ghost use Rattle.op_core.specs.Ops.{own_text};
 ghost use Rattle.usfm_export.specs.Counts.{failures_after};
 ghost use Rattle.usfm_export.specs.Writing.{TakesAll, TakesFront};
-ghost use Rattle.conflict_report.specs.Parts.{part_bytes, bytes_of};
+ghost use Rattle.conflict_report.specs.Loops.Parts.{part_bytes, bytes_of};
 ghost use Rattle.conflict_report.specs.Reports as reports;
 ghost use Rattle.std.specs.Io.KnownBytes.{Appends};
 

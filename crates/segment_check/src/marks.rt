@@ -8,7 +8,7 @@ ghost use Rattle.segment_check.specs.Reading.{finding_if, findings_with, found_i
 ghost use Rattle.usfm_token.specs.Tokens.{Lexeme};
 ghost use Rattle.usfm_token.specs.View.{mark_parts};
 ghost use Rattle.verse_cut.specs.Keys.{text_after};
-ghost use Rattle.verse_cut.specs.Walks.{IsFirst};
+ghost use Rattle.verse_cut.specs.Loops.Walks.{IsFirst};
 
 use crate::code::Code;
 use crate::finding::Finding;

@@ -7,7 +7,7 @@ use Rattle.op_core.specs.Ops.{Operation}
 use Rattle.op_core.specs.Export.{exported_keys, export}
 use Rattle.op_core.specs.CutsBack.{picked_at}
 use Rattle.op_core.specs.Lists.{keys_of}
-use Rattle.usfm_export.specs.Heads.{lacks_head, with_head, with_heads, texts_at}
+use Rattle.usfm_export.specs.Loops.Heads.{lacks_head, with_head, with_heads, texts_at}
 use Rattle.usfm_export.specs.Writing.{TakesAll, TakesFront}
 use Rattle.usfm_export.specs.declared.writing.WriteFault.{WriteFault}
 use Rattle.usfm_export.proofs.Heads.{heads_are}

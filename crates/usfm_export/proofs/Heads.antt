@@ -19,7 +19,7 @@ use Rattle.usfm_ref.proofs.Members.{same_tested, tested_rising}
 use Rattle.op_core.specs.Ops.{Operation}
 use Rattle.op_core.specs.Export.{of_book, has_book, keys_in, exported_keys}
 use Rattle.op_core.specs.Lists.{keys_of}
-use Rattle.usfm_export.specs.Heads.{lacks_head, with_heads}
+use Rattle.usfm_export.specs.Loops.Heads.{lacks_head, with_heads}
 
 -- ---- whether a book has keys
 

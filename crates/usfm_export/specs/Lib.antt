@@ -1,5 +1,5 @@
 pub mod Padded
 pub mod Counts
 pub mod Writing
-pub mod Heads
 pub mod Books
+pub mod Loops

@@ -7,7 +7,7 @@ ghost use Rattle.op_core.specs.Sets.{IsOpSet};
 ghost use Rattle.op_core.specs.Shown.{picked, picked_text, chapter_line};
 ghost use Rattle.usfm_export.specs.Books.{IsBookOf, AnswersBook, AnswersText, sink_failures};
 ghost use Rattle.usfm_export.specs.Counts.{failures_after};
-ghost use Rattle.usfm_export.specs.Heads.{lacks_head, with_head, texts_at};
+ghost use Rattle.usfm_export.specs.Loops.Heads.{lacks_head, with_head, texts_at};
 ghost use Rattle.usfm_export.specs.Writing.{TakesAll, TakesFront};
 
 use crate::{ByteSink, ExportFault, ShortLine, StdSink, TextFault, WriteFault, write_more};

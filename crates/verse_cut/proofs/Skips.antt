@@ -15,7 +15,7 @@ use Rattle.usfm_token.proofs.TokenLaws.{joined-tokens_of}
 use Rattle.usfm_token.proofs.TokenLemmas.{tokens_of-nil, tokens_of-cons, tokens_of-text}
 use Rattle.verse_cut.specs.Keys.{mark_key, verse_key, text_after}
 use Rattle.verse_cut.specs.Reading.{Later, goes_on, cut_from, not_above, is_quiet}
-use Rattle.verse_cut.specs.Walks.{read_of, may_have_key, from_mark}
+use Rattle.verse_cut.specs.Loops.Walks.{read_of, may_have_key, from_mark}
 use Rattle.verse_cut.proofs.Quiet.{key_of-append, quiet_parts, quiet_goes_on}
 use Rattle.verse_cut.proofs.Steps.{Goes, read_more}
 

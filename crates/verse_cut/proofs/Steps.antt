@@ -7,7 +7,7 @@ use Rattle.usfm_token.proofs.Walk.{no_tokens, token_front}
 use Rattle.verse_cut.specs.Keys.{key_below}
 use Rattle.verse_cut.specs.Pieces.{pieces_of}
 use Rattle.verse_cut.specs.Reading.{key_of, Later, goes_on, opens_at, cut_from, pieces_with, cut_of, not_above, is_quiet}
-use Rattle.verse_cut.specs.Walks.{read_of, parts_at, GoesToEnd, OpensAt}
+use Rattle.verse_cut.specs.Loops.Walks.{read_of, parts_at, GoesToEnd, OpensAt}
 use Rattle.verse_cut.proofs.MarkLaws.{cut_is_read}
 use Rattle.verse_cut.proofs.Quiet.{by_key, stays}
 

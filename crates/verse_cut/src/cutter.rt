@@ -1,7 +1,7 @@
 ghost use Rattle.std.specs.Prelude.{◌≡◌, ◌+◌, ◌^◌, ◌<◌, ◌++◌, length, IfOk};
 ghost use Rattle.verse_cut.specs.Pieces.{IsCutOf, KeysRise, LieIn, pieces_of};
 ghost use Rattle.verse_cut.specs.Views.{parts_of};
-ghost use Rattle.verse_cut.specs.Walks.{read_of};
+ghost use Rattle.verse_cut.specs.Loops.Walks.{read_of};
 
 use crate::walk::Walk;
 use std::alloc::{AllocError, Global};
@@ -32,7 +32,7 @@ struct Pieces<'a> {
 }
 
 impl<'a> Pieces<'a> {
-    ghost use Rattle.verse_cut.specs.Left.{parts_left};
+    ghost use Rattle.verse_cut.specs.Loops.Left.{parts_left};
 
     fn new(text: &'a str) -> Self
         ensures { parts_left result ≡ pieces_of text.now }
@@ -49,7 +49,7 @@ impl<'a> Pieces<'a> {
 
 impl<'a> Iterator for Pieces<'a> {
     ghost use Rattle.std.specs.Iterator.{YieldsFirstBy, item_count};
-    ghost use Rattle.verse_cut.specs.Left.{parts_left};
+    ghost use Rattle.verse_cut.specs.Loops.Left.{parts_left};
     ghost use Rattle.verse_cut.specs.Views.{part_of};
 
     type Item = Piece<'a>;

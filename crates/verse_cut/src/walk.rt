@@ -5,7 +5,7 @@ ghost use Rattle.usfm_token.specs.Tokens.{Lexeme, tokens_of};
 ghost use Rattle.usfm_token.specs.View.{lexeme};
 ghost use Rattle.verse_cut.specs.Keys.{key_below, text_after};
 ghost use Rattle.verse_cut.specs.Reading.{key_of};
-ghost use Rattle.verse_cut.specs.Walks.{IsFirst, from_mark, may_have_key};
+ghost use Rattle.verse_cut.specs.Loops.Walks.{IsFirst, from_mark, may_have_key};
 
 use usfm_ref::{Key, Place, chapter_after, verse_after};
 use usfm_token::{Token, TokenIter};
@@ -26,7 +26,7 @@ pub(crate) struct Walk<'a> {
 }
 
 impl<'a> Walk<'a> {
-    ghost use Rattle.verse_cut.specs.Walks.{GoesToEnd, OpensAt, TakesToken};
+    ghost use Rattle.verse_cut.specs.Loops.Walks.{GoesToEnd, OpensAt, TakesToken};
     ghost use Rattle.verse_cut.specs.Reading.{is_quiet, leads};
 
     pub(crate) fn new(text: &'a str) -> Self

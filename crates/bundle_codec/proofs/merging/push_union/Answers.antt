@@ -1,6 +1,6 @@
 use Rattle.std.proofs.Common.{◌&&◌, subst, sym, ap, ◌∙◌}
 use Rattle.op_core.specs.Ops.{is_full}
-use Rattle.bundle_codec.specs.Merging.{Steps}
+use Rattle.bundle_codec.specs.Loops.Merging.{Steps}
 use Rattle.bundle_codec.proofs.Merges.{lent_some, begins, goes_on}
 use Rattle.bundle_codec.proofs.merging.push_union.Goals.{then-full, else-full}
 use Rattle.bundle_codec.proofs.merging.push_union.Goals as goal

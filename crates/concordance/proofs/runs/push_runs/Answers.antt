@@ -2,7 +2,7 @@ use Rattle.std.proofs.Common.{List, ℕ, true, false, ◌==◌, IsUtf8, take, �
 use Rattle.std.proofs.lemmas.List.{nil_from_length, map-append}
 use Rattle.usfm_token.proofs.Walk.{boundary_at_rest}
 use Rattle.concordance.specs.Passages.{Passage}
-use Rattle.concordance.specs.RunReading.{front_bytes}
+use Rattle.concordance.specs.Loops.RunReading.{front_bytes}
 use Rattle.concordance.specs.Words.{runs_behind}
 use Rattle.concordance.specs.Views.{passage_view, passages_view}
 use Rattle.concordance.proofs.RunLemmas.{no_more, run_some, chars_some, next_run}

@@ -2,7 +2,7 @@ use Rattle.std.proofs.Common.{◌≡◌, sym, subst}
 use Rattle.std.proofs.lemmas.Iterator.Consumers.{YieldsList-from_first, map_from_collect}
 use Rattle.std.proofs.lemmas.Result.{IfOk-weaker}
 use Rattle.std.specs.Prelude.{IfOk}
-use Rattle.verse_cut.specs.Left.{parts_left}
+use Rattle.verse_cut.specs.Loops.Left.{parts_left}
 use Rattle.verse_cut.specs.Pieces.{pieces_of, KeysRise, LieIn}
 use Rattle.verse_cut.specs.Views.{part_of, parts_of}
 use Rattle.verse_cut.proofs.CutLaws.{one_cut, pieces_lie, pieces_rise}

@@ -5,8 +5,8 @@ use Rattle.std.specs.BTreeMap.{BTreeMap, is_at}
 use Rattle.op_core.specs.Names.{name_cmp}
 use Rattle.op_core.specs.Ids.{Id}
 use Rattle.bundle_codec.specs.declared.summaries.range.NumberRange.{NumberRange}
-use Rattle.bundle_codec.specs.Merging.{at_hand}
-use Rattle.bundle_codec.specs.SummaryMaking.{AddsRun}
+use Rattle.bundle_codec.specs.Loops.Merging.{at_hand}
+use Rattle.bundle_codec.specs.Loops.SummaryMaking.{AddsRun}
 use Rattle.bundle_codec.proofs.Holding.{holds_named, run_as, if_ok}
 use Rattle.bundle_codec.proofs.summaries.making.hold_run.Goals as goal
 

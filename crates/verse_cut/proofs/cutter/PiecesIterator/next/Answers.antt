@@ -1,5 +1,5 @@
 use Rattle.std.proofs.Common.{◌∙◌, ◌+◌, ◌∷◌, [], length, cond, sym, ap, subst}
-use Rattle.verse_cut.specs.Walks.{parts_at, OpensAt}
+use Rattle.verse_cut.specs.Loops.Walks.{parts_at, OpensAt}
 use Rattle.verse_cut.proofs.Steps.{parts_open, read_join}
 use Rattle.verse_cut.proofs.cutter.PiecesIterator.next.Goals as goal
 

@@ -6,7 +6,7 @@ use Rattle.usfm_token.proofs.TokenLemmas.{tokens_of_empty}
 use Rattle.usfm_token.proofs.Walk.{token_shorter}
 use Rattle.verse_cut.specs.Keys.{key_below}
 use Rattle.verse_cut.specs.Reading.{key_of, not_above}
-use Rattle.verse_cut.specs.Walks.{GoesToEnd, OpensAt}
+use Rattle.verse_cut.specs.Loops.Walks.{GoesToEnd, OpensAt}
 use Rattle.verse_cut.proofs.Steps.{Goes, goes_step, goes_end, goes_open}
 use Rattle.verse_cut.proofs.Skips.{goes_skip, skip_shorter}
 use Rattle.verse_cut.proofs.walk.Walk.next_above.Goals as goal

@@ -5,7 +5,7 @@ use Rattle.usfm_token.specs.View.{lexeme, rest_of}
 use Rattle.usfm_token.specs.declared.iter.TokenIter.{TokenIter}
 use Rattle.usfm_token.specs.declared.token.Token.{Token}
 use Rattle.verse_cut.specs.Reading.{key_of}
-use Rattle.verse_cut.specs.Walks.{IsFirst}
+use Rattle.verse_cut.specs.Loops.Walks.{IsFirst}
 use Rattle.verse_cut.proofs.walk.Walk.step.Goals as goal
 
 -- what an iterator gives is the first of its tokens
