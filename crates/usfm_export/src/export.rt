@@ -1,7 +1,6 @@
 // The export of a book out of a replica.
 ghost use Rattle.std.specs.Prelude.{◌≡◌, OnOk, IfOk, IfErr};
 ghost use Rattle.std.specs.Io.KnownBytes.{Appends};
-ghost use Rattle.usfm_ref.specs.Keys.{head_of};
 ghost use Rattle.op_core.specs.Export as exports;
 ghost use Rattle.op_core.specs.Sets.{IsOpSet};
 ghost use Rattle.op_core.specs.Shown.{picked, picked_text, chapter_line};
@@ -107,7 +106,7 @@ fn write_key<W: ByteSink>(
     if !lacks_head(before, key) {
         return write_picked(sink, gone, replica.pick(book, key));
     }
-    let with_head = write_picked(sink, gone, replica.pick(book, head_of(key)))?;
+    let with_head = write_picked(sink, gone, replica.pick(book, key.head()))?;
     write_picked(sink, with_head, replica.pick(book, key))
 }
 
@@ -149,14 +148,4 @@ fn lacks_head(before: Option<Key>, key: Key) -> bool
         Some(before) => before.chapter != key.chapter,
     };
     first && key.place != Place::Head
-}
-
-// The head of the chapter that a key stands in.
-fn head_of(key: Key) -> Key
-    ensures { result ≡ head_of key }
-{
-    Key {
-        chapter: key.chapter,
-        place: Place::Head,
-    }
 }

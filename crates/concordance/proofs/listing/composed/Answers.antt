@@ -37,7 +37,8 @@ loop-index-preserved c =
           let at = sym w.in-Some.ensures.entry in
           let form =
           w.text.ensures
-          ∙ form_here c.args.forms.now runs i c.index-forms-index.result g c.requires.forms c.loop-index-test.true c.index-forms-index.is at in
+          ∙ form_here c.args.forms.now runs i c.index-forms-index.result g c.requires.forms c.loop-index-test.true c.index-forms-index.is
+          at in
           let also : AlsoTells (told old) (told_with (form_at g) g.1.items) (told w.note.new.groups.entries) =
           λ s. w.in_ok-note.ensures.told s
           ∙ (λ j. is_told s (told old) || is_told s (told_with (form j) (w.as_slice.ensures.value j))) in

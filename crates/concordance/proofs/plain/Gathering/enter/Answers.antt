@@ -27,7 +27,8 @@ returns-in_ok-push-in-Begin c =
     (waiting_of old) _ (gathered sheet (enclosed sheet (innermost es) kind m ∷ es) (Some m) None later) kept.leaves
     (λ i. gathered sheet (around i) (Some m) (kept.waiting i) later)
     ∙ ap (λ x. passages_view old.leaves.items
-    ++ Rattle.concordance.specs.Loops.Gathered.settled x (waiting_of old) (gathered sheet (enclosed sheet (innermost es) kind m ∷ es) (Some m) None later)) may_end
+    ++ Rattle.concordance.specs.Loops.Gathered.settled x (waiting_of old)
+    (gathered sheet (enclosed sheet (innermost es) kind m ∷ es) (Some m) None later)) may_end
     ∙ ap (λ e. leaves_with sheet old (entry_before e later)) (sym c.in-Begin.is))
 
 pub returns-in-Milestone : goal.returns-in-Milestone
