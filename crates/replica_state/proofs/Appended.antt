@@ -41,7 +41,8 @@ keys_apart q k h = by (same_key k q) refl
     by true e = cc (sym h ∙ ap (λ (j : KeyParts). is_eq (key_cmp q j)) (same_key-is k q e) ∙ ap is_eq (tied_itself key_total q))
     by false e = e
 
-key_is : (q k : KeyParts) → is_eq (key_cmp q k) ≡ true → q ≡ k
+-- keys that tie are the same
+pub key_is : (q k : KeyParts) → is_eq (key_cmp q k) ≡ true → q ≡ k
 key_is q k h = key_exact q k ((Equal-is _).0 h)
 
 and_none : (a b : Bool) → b ≡ false → (a && b) ≡ false

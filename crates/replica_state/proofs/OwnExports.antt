@@ -38,7 +38,8 @@ use Rattle.replica_state.specs.ImportLaws.{OwnExportsAddNothing}
 use Rattle.replica_state.specs.Steps.{Import, Imported, imported, step}
 use Rattle.replica_state.proofs.Exports.{behind_head, later_at}
 use Rattle.replica_state.proofs.ImportedTexts.{any_found, verse_wants_none}
-use Rattle.replica_state.proofs.KeyTexts.{key_is, text_at, text_of_piece}
+use Rattle.replica_state.proofs.KeyTexts.{text_at, text_of_piece}
+use Rattle.replica_state.proofs.Appended.{key_is}
 
 some_last : (ops : List Operation) → ops ≢ [] → (o : Operation) × (last ops ≡ Some o)
 some_last [] h = absurd (h refl)

@@ -38,10 +38,9 @@ use Rattle.replica_state.specs.Since.{imported_since}
 use Rattle.replica_state.specs.SinceLaws.{changes_of, edits_over, IsReceivingAndEdits}
 use Rattle.replica_state.specs.declared.fault.EditFault.TheVariants.{NotShown}
 use Rattle.replica_state.specs.declared.fault.SinceFault.TheVariants.{NumbersUsedUp}
-use Rattle.replica_state.proofs.Appended.{is_there, keys_apart}
+use Rattle.replica_state.proofs.Appended.{is_there, key_is, keys_apart}
 use Rattle.replica_state.proofs.Changes.{change_at, changes_behind, changes_count}
 use Rattle.replica_state.proofs.FilePieces.{book_is_code, book_is_headed, piece_fits}
-use Rattle.replica_state.proofs.KeyTexts.{key_is}
 
 -- ---- ids of which some pass
 

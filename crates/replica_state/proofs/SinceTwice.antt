@@ -37,10 +37,9 @@ use Rattle.replica_state.specs.Steps.{with_ops}
 use Rattle.replica_state.specs.Since.{SinceStep, has_greatest_text, stood_ids, seen_ids, shows_text, is_none_seen, is_changed, changed_keys, changes_from}
 use Rattle.replica_state.specs.Since.{changed, changed_after, changed_in, imported_since}
 use Rattle.replica_state.specs.SinceLaws.{TwiceIsOnce}
-use Rattle.replica_state.proofs.Appended.{is_there, keys_apart}
+use Rattle.replica_state.proofs.Appended.{is_there, key_is, keys_apart}
 use Rattle.replica_state.proofs.Changes.{change_at, changes_behind, changes_are_new, changes_rise}
 use Rattle.replica_state.proofs.DueKeys.{due_among, walked, heads_map, there_kept}
-use Rattle.replica_state.proofs.KeyTexts.{key_is}
 use Rattle.replica_state.proofs.OwnExports.{none_pass}
 use Rattle.replica_state.proofs.SinceRuns.{Accepted, accepted, among_passing, any_received, shown_behind}
 use Rattle.replica_state.proofs.World.Held.{at_held, among_is_held, filter_held, not_held}
