@@ -96,7 +96,8 @@ pub(crate) fn look_at_each(new: &[Op])
 pub(crate) fn reserve_ops(ops: &mut Vec<Op>, count: usize) -> Result<(), AllocError>
     ensures items { ops.new.items ≡ ops.old.items }
     ensures len { vec_len ops.new ≡ vec_len ops.old }
-    ensures room { OnOk result (0 < vec_len ops.old → vec_len ops.old + count ≤ vec_capacity ops.new) }
+    ensures room { OnOk result
+        (0 < vec_len ops.old → vec_len ops.old + count ≤ vec_capacity ops.new) }
 {
     if ops.is_empty() {
         return Ok(());
@@ -137,7 +138,8 @@ pub(crate) fn merge(
     requires before { IsBefore from ops.old.items new.items }
     requires tail { tail.items ≡ [] }
     requires room { 0 < vec_len ops.old → vec_len ops.old + vec_len new ≤ vec_capacity ops.old }
-    requires room_behind { from < vec_len ops.old → vec_len ops.old + vec_len new ≤ vec_capacity tail + from }
+    requires room_behind { from < vec_len ops.old
+        → vec_len ops.old + vec_len new ≤ vec_capacity tail + from }
     ensures { ops.new.items ≡ sets.join ops.old.items new.items }
 {
     if ops.is_empty() {

@@ -177,7 +177,8 @@ impl PartialEq for Op {
 }
 
 fn same_text(left: Option<&str>, right: Option<&str>) -> bool
-    ensures { result ≡ ops.same_text (option_map (λ t. t.now) left.entry) (option_map (λ t. t.now) right.entry) }
+    ensures { result ≡ ops.same_text (option_map (λ t. t.now) left.entry)
+        (option_map (λ t. t.now) right.entry) }
 {
     match (left, right) {
         (None, None) => true,
@@ -187,7 +188,8 @@ fn same_text(left: Option<&str>, right: Option<&str>) -> bool
 }
 
 fn texts_agree(left: Option<&str>, right: Option<&str>) -> bool
-    ensures { result ≡ ops.texts_agree (option_map (λ t. t.now) left.entry) (option_map (λ t. t.now) right.entry) }
+    ensures { result ≡ ops.texts_agree (option_map (λ t. t.now) left.entry)
+        (option_map (λ t. t.now) right.entry) }
 {
     match (left, right) {
         (Some(left), Some(right)) => left.as_bytes() == right.as_bytes(),

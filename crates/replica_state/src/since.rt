@@ -200,7 +200,8 @@ impl Replica {
 
     // The ids that a segment shows with the text of the greatest of them.
     fn stood_ids(&self, book: Book, key: Key) -> Result<Vec<OpId>, AllocError>
-        ensures { IfOk result (λ ids. ids.items ≡ since.stood_ids self.now.held (segment book key)) }
+        ensures { IfOk result
+            (λ ids. ids.items ≡ since.stood_ids self.now.held (segment book key)) }
     {
         let shown = self.shown(self.alloc, book, key)?;
         let text = greatest_text(&shown);
@@ -288,7 +289,8 @@ fn greatest_text<'a>(ops: &[&'a Op]) -> &'a str
 
 // Whether one of some operations has the text.
 fn has_text(ops: &[&Op], text: &str) -> bool
-    ensures { result ≡ list_any (λ o. same_bytes (own_text o) text.now) (map (λ op. op.now) ops.now) }
+    ensures { result ≡ list_any (λ o. same_bytes (own_text o) text.now)
+        (map (λ op. op.now) ops.now) }
 {
     for op in ops {
         if is_text(op, text) {

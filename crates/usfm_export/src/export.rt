@@ -44,7 +44,8 @@ pub fn write_book<W: ByteSink>(
     book: Book,
     sink: &mut W,
 ) -> Result<(), ExportFault>
-    ensures answers { AnswersBook replica.now.held book (W.taken sink.old) (W.taken sink.new) result }
+    ensures answers { AnswersBook replica.now.held book (W.taken sink.old)
+        (W.taken sink.new) result }
     ensures is_book { OnOk result
         (IsBookOf replica.now.held book (exports.export replica.now.held book)) }
     ensures failed { W.failures sink.new ≡ sink_failures result (W.failures sink.old) }

@@ -75,7 +75,8 @@ pub fn is_blank(byte: u8) -> bool
 // What stands after one blank or more.
 #[tactic(auto, unfolding(crate::specs::Numbers::blanks_at))]
 fn blanks_at(bytes: &[u8]) -> Option<&[u8]>
-    ensures { MatchOption result (numbers.blanks_at bytes.now ≡ None) (λ rest. numbers.blanks_at bytes.now ≡ Some rest.now) }
+    ensures { MatchOption result (numbers.blanks_at bytes.now ≡ None)
+        (λ rest. numbers.blanks_at bytes.now ≡ Some rest.now) }
 {
     match blanks_len(bytes) {
         0 => None,
@@ -93,7 +94,8 @@ fn blanks_len(bytes: &[u8]) -> usize
 // The number that digits write, if they are one to three.
 fn number_of(digits: &[u8]) -> Option<u16>
     requires { IsTrue (list_all is_ascii_digit digits.now) }
-    ensures { result ≡ (if nat_le 1 (length digits.now) && nat_le (length digits.now) 3 then Some (numbers.number_of digits.now) else None) }
+    ensures { result ≡ (if nat_le 1 (length digits.now) && nat_le (length digits.now) 3
+        then Some (numbers.number_of digits.now) else None) }
 {
     match *digits {
         [a] => Some(digit(a)),
@@ -114,7 +116,8 @@ fn digit(byte: u8) -> u16
 // A run of one to three digits, and what stands after it.
 #[tactic(auto, unfolding(crate::specs::Numbers::number_at))]
 pub(crate) fn number_at(bytes: &[u8]) -> Option<(u16, &[u8])>
-    ensures { MatchOption result (numbers.number_at bytes.now ≡ None) (λ n. numbers.number_at bytes.now ≡ Some (n.0, n.1.now)) }
+    ensures { MatchOption result (numbers.number_at bytes.now ≡ None)
+        (λ n. numbers.number_at bytes.now ≡ Some (n.0, n.1.now)) }
 {
     let (digits, rest) = bytes.split_at(digits_len(bytes));
     Some((number_of(digits)?, rest))
@@ -140,7 +143,8 @@ fn ends_number(bytes: &[u8]) -> bool
 // A verse's number with its letter, which ends, and what stands after it.
 #[tactic(auto, unfolding(crate::specs::Numbers::verse_at))]
 fn verse_at(bytes: &[u8]) -> Option<(Verse, &[u8])>
-    ensures { MatchOption result (numbers.verse_at bytes.now ≡ None) (λ v. numbers.verse_at bytes.now ≡ Some (v.0, v.1.now)) }
+    ensures { MatchOption result (numbers.verse_at bytes.now ≡ None)
+        (λ v. numbers.verse_at bytes.now ≡ Some (v.0, v.1.now)) }
 {
     let (number, rest) = number_at(bytes)?;
     let (letter, rest) = match rest {
@@ -153,7 +157,8 @@ fn verse_at(bytes: &[u8]) -> Option<(Verse, &[u8])>
 // A bridge's last verse, and what stands after it.
 #[tactic(auto, unfolding(crate::specs::Numbers::bridge_at))]
 fn bridge_at(bytes: &[u8]) -> Option<(Verse, &[u8])>
-    ensures { MatchOption result (numbers.bridge_at bytes.now ≡ None) (λ v. numbers.bridge_at bytes.now ≡ Some (v.0, v.1.now)) }
+    ensures { MatchOption result (numbers.bridge_at bytes.now ≡ None)
+        (λ v. numbers.bridge_at bytes.now ≡ Some (v.0, v.1.now)) }
 {
     match bytes {
         [b'-', last @ ..] => verse_at(last),

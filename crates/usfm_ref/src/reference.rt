@@ -20,7 +20,8 @@ use std::str::FromStr;
 /// no reference.
 pub fn read_ref(text: &str) -> Result<(Book, Key), RefFault>
     ensures reads { IfOk result (λ r. IsRefTo text.now r.0 r.1) }
-    ensures only { (book : List ℕ) (key : KeyParts) → IsRefTo text.now book key → result ≡ Ok (book, key) }
+    ensures only { (book : List ℕ) (key : KeyParts) → IsRefTo text.now book key
+        → result ≡ Ok (book, key) }
     ensures bad_book { (result ≡ Err RefFault.BadBook) ↔ (is_book_code (take 3 text.now) ≡ false) }
     ensures value { result ≡ references.ref_in text.now }
 {
@@ -61,7 +62,8 @@ pub fn write_key(alloc: Global, key: Key) -> Result<String, AllocError>
 // A number of one to three digits without leading zeros, and what stands after it.
 #[tactic(auto, unfolding(crate::specs::References::plain_at))]
 fn plain_at(bytes: &[u8]) -> Option<(u16, &[u8])>
-    ensures value { MatchOption result (references.plain_at bytes.now ≡ None) (λ n. references.plain_at bytes.now ≡ Some (n.0, n.1.now)) }
+    ensures value { MatchOption result (references.plain_at bytes.now ≡ None)
+        (λ n. references.plain_at bytes.now ≡ Some (n.0, n.1.now)) }
     ensures within { IfSome result (λ n. n.0 ≤ 999) }
 {
     match bytes {
