@@ -14,7 +14,7 @@ use Rattle.usfm_tree.specs.Forest.{Forest, nothing, text, leaf, node, bytes_of, 
 use Rattle.usfm_tree.specs.Places.{Runs}
 use Rattle.usfm_tree.specs.Reading.{tree_of}
 use Rattle.usfm_tree.specs.SheetViews.{styles_in}
-use Rattle.usfm_tree.proofs.PlaceLemmas.{tree_runs}
+use Rattle.usfm_tree.proofs.PlaceLemmas.{tree_runs, past, runs_at}
 use Rattle.usfm_tree.proofs.LeavesLemmas.{tree_bytes}
 use Rattle.concordance.specs.Passages.{Passage, StandsIn, StandApart}
 use Rattle.concordance.specs.Plain.{is_nothing, node_end, mark_at_end, is_bar, number_length, verse_length, without_attributes, plain_leaves}
@@ -125,13 +125,6 @@ with_text_apart s sur b last a t z is k at high le later h = by (counts sur)
         apart_append s (length a) (length a + length t) high (left_of sur b last k t ∷ []) later (omega arith) le
         (left_apart s sur b last a t z is k at) h
     by false = apart_from s (length a) (length a + length t) high later (omega arith) h
-
--- past what stands in front
-past : (s a x y z : List ℕ) → s ≡ a ++ ((x ++ y) ++ z) → s ≡ (a ++ x) ++ (y ++ z)
-past s a x y z h = h ∙ ap (λ l. a ++ l) (append_assoc x y z) ∙ sym (append_assoc a x (y ++ z))
-
-runs_at : (n m : ℕ) (f : Forest) → n ≡ m → Runs n f → Runs m f
-runs_at n m f e r = subst (λ k. Runs k f) e r
 
 from_to : (s : List ℕ) (low low' high high' : ℕ) (ps : List Passage) → low ≡ low' → high ≡ high' → Apart s low high ps
     → Apart s low' high' ps

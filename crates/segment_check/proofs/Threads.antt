@@ -5,6 +5,7 @@ use Rattle.std.specs.List.{flat_map}
 use Rattle.std.specs.Option.{is_some}
 use Rattle.std.proofs.lemmas.Bool.{eq-eqb}
 use Rattle.std.proofs.lemmas.Bool.Decides.{nat_tests}
+use Rattle.std.proofs.Math.Bool.{or-false}
 use Rattle.sty_sheet.specs.Records.{Record}
 use Rattle.usfm_token.specs.Tokens.{MarkParts, IsText, mark_bytes, slice_of, tokens_of}
 use Rattle.usfm_tree.specs.Around.{Around}
@@ -122,10 +123,6 @@ pub record Passes (sheet : List Record) (at : ℕ) (l : List ℕ) (ls : List (Li
   pub first : (test : Spot → Bool) (field : Told → Bool) → ((x : Spot) → field (told_of sheet x) ≡ test x) → field (untold at) ≡ false
       → field (told_first at (map (told_of sheet) xs)) ≡ stands_at xs at test
 
-or_false : (b : Bool) → b ≡ b || false
-or_false true = refl
-or_false false = refl
-
 pub passes : (sheet : List Record) (at : ℕ) (l : List ℕ) (ls : List (List ℕ)) (xs : List Spot) → 0 < length l → Thread at (l ∷ ls) xs
     → Passes sheet at l ls xs
 passes sheet at l ls [] some t = record {
@@ -147,7 +144,7 @@ passes sheet at l ls (x ∷ xs) some t = ⊎_elim (λ a. here a.0 a.2) (λ b. be
               ap (λ b. cond b (map (told_of sheet) xs) (told_of sheet x ∷ map (told_of sheet) xs)) is
               ∙ ap (λ b. map (told_of sheet) (cond b xs (x ∷ xs))) (sym is);
           first = λ test field same none.
-              ap (λ b. field (cond b (told_of sheet x) (untold at))) is ∙ same x ∙ or_false (test x)
+              ap (λ b. field (cond b (told_of sheet x) (untold at))) is ∙ same x ∙ sym (or-false (test x))
               ∙ ap (λ r. test x || r) (sym (thread_beyond (at + length l) at ls xs test (omega arith) h))
               ∙ ap (λ b. (b && test x) || stands_at xs at test) (sym is);
         }

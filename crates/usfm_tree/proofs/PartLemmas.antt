@@ -40,7 +40,8 @@ pub part_one : (path js : List ℕ) (i : ℕ) (f : Forest) → path ≡ i ∷ js
 part_one path [] i f h e = ap (λ p. part_at p f) h
 part_one path (j ∷ js) i f h e = absurd (omega arith)
 
-pub part_more : (path js : List ℕ) (i : ℕ) (f : Forest) → path ≡ i ∷ js → 0 < length js → part_at path f ≡ option_and_then (λ g. part_at js (kids_of g)) (entry_at i f)
+pub part_more : (path js : List ℕ) (i : ℕ) (f : Forest) → path ≡ i ∷ js → 0 < length js
+    → part_at path f ≡ option_and_then (λ g. part_at js (kids_of g)) (entry_at i f)
 part_more path [] i f h e = absurd (omega arith)
 part_more path (j ∷ js) i f h e = ap (λ p. part_at p f) h
 
