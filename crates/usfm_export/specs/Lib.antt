@@ -1,4 +1,3 @@
-pub mod Padded
 pub mod Counts
 pub mod Writing
 pub mod Books
