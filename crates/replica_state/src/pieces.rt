@@ -43,7 +43,7 @@ fn place_piece(pieces: &[Piece<'_>], key: Key) -> usize
 {
     pieces.partition_point(
         |piece| -> bool
-            ensures { result ≡ is_lt (key_cmp piece.now.key key.entry) }
+            ensures { result ≡ is_lt (key_cmp piece.now.key key) }
         { order(piece, key).is_lt() },
     )
 }
