@@ -142,7 +142,7 @@ module _ (n : ℕ) (rs : List NumberRange) where
 
 -- ---- an id in a summary
 
--- the ranges that stand under a name
+-- the ranges that are under a name
 abbrev pub under_name : List ℕ → List Known → Option Known
 under_name q s = find (λ k. is_eq (name_cmp q k.name)) s
 

@@ -120,7 +120,7 @@ pub gives_the_same : (x y z : List ℕ) → IsBundle x → IsBundle y → IsBund
     (then_joined (bundles_joined y z) (λ made. bundles_joined x made))
 gives_the_same x y z a b c = grouped x y z a b c GiveTheSame (same_given a.ops b.ops c.ops a.set b.set c.set _ _ _ _)
 
--- ---- of sets in which no id of a thinned operation stands for two
+-- ---- of sets in which no id of a thinned operation has two operations
 
 some_none : (id : Id) → Some id ≡ None → ⊥
 some_none id h = cc h

@@ -25,7 +25,7 @@ use Rattle.verse_cut.proofs.FitLaws.{fits_is_read}
 
 -- ---- an operation
 
--- an operation that may stand in a bundle of a format after the one before it
+-- an operation that may be in a bundle of a format after the one before it
 abbrev pub Follows : Bool → Option Id → Operation → Type 0
 Follows full before o = (comes_after before o.id ≡ true) × ((is_tag full (tag_of o.text) ≡ true) × (IsOperation o × IsCounted o))
 

@@ -1,4 +1,4 @@
-// Books and keys, judged where they stand in the bytes.
+// Books and keys, judged where they are in the bytes.
 ghost use Rattle.std.specs.Prelude.{◌≡◌, IsTrue, IfOk, IsOk, Ok, Err};
 ghost use Rattle.usfm_ref.specs.Books.{is_code_char, is_book_code};
 ghost use Rattle.usfm_ref.specs.Keys.{is_key, is_place};

@@ -159,7 +159,7 @@ reverse_front n k xs is = ⊎_elim below past (order n (length xs))
         ap (λ j. reverse (take j xs)) (let zero_is : k ≡ 0 = omega (arith, is) in zero_is)
         ∙ sym (nil_from_length (drop n (reverse xs)) (omega (arith, length-drop n (reverse xs), length-reverse xs)))
 
--- a list without so many from its end, from the back
+-- a list without this many from its end, from the back
 pub reverse_take : {A : Type 0} (n : ℕ) (xs : List A) → reverse (take (length xs - n) xs) ≡ drop n (reverse xs)
 reverse_take n xs = reverse_front n (length xs - n) xs refl
 

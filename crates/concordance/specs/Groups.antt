@@ -9,7 +9,7 @@ use Rattle.usfm_ref.specs.Rising.{rises_by}
 use Rattle.concordance.specs.Loops.SpellingOrder.{spelling_cmp}
 use Rattle.concordance.specs.Words.{Spelling, form_cmp, form_of}
 
--- a form, and keys at which it stands, in the order in which they came
+-- a form, and keys at which it occurs, in the order in which they came
 abbrev pub Group : Type 0
 Group = Bor (List ℕ) × Vec KeyParts
 

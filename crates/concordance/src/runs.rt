@@ -33,7 +33,7 @@ fn is_combining(category: GeneralCategory) -> bool
     )
 }
 
-// What stands after the word characters at the front of a text, or after the others.
+// What comes after the word characters at the front of a text, or after the others.
 fn behind_front(text: &str, is_word: bool) -> &str
     ensures front { text.now ≡ front_bytes is_word (chars text.now) ++ result.now }
     ensures rest { chars result.now ≡ behind is_word (chars text.now) }

@@ -140,7 +140,7 @@ wants_line held g h =
       verse = a.1;
     }
 
--- a verse of a chapter of a set stands in a chapter up to 999
+-- a verse of a chapter of a set is in a chapter up to 999
 is_small : (o : Operation) → IsOperation o → o.segment.key.chapter ≤ 999
 is_small o h =
     let g = and_parts (is_book_code o.segment.book) (is_key o.segment.key.chapter o.segment.key.place) h.segment in

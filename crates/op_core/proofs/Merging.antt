@@ -25,7 +25,7 @@ place = sorted.place id_cmp id_total (λ (o : Operation). o.id)
 
 -- ---- a new operation in its place
 
--- a new operation stands after so many, and what follows is above it
+-- a new operation is after this many, and what follows is above it
 record At (n : ℕ) (o : Operation) (ops : List Operation) : Type 0 where
   stands : put o ops ≡ take n ops ++ o ∷ drop n ops
   above : AllAbove o.id (drop n ops)

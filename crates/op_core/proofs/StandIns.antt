@@ -50,7 +50,7 @@ pairs_skeletons [] (u ∷ us) h = absurd h
 pairs_skeletons (s ∷ ss) [] h = absurd h
 pairs_skeletons (s ∷ ss) (u ∷ us) h = λ i. h.0.bares i ∷ pairs_skeletons ss us h.1 i
 
--- what stands at an id in one stands for what stands there in the other
+-- what is at an id in one stands for what is there in the other
 pub record Stood (u : List Operation) (q : Id) (o : Operation) : Type 0 where
   pub for : Operation
   pub held : get u q ≡ Some for

@@ -39,7 +39,7 @@ get_above id (o ∷ ops) h =
 pub rises_parts : (o : Operation) (ops : List Operation) → rises (o ∷ ops) ≡ true → AllAbove o.id ops × (rises ops ≡ true)
 rises_parts o ops h = and_parts (list_all (λ p. id_below o.id p.id) ops) (rises ops) h
 
--- how o's id stands to p's
+-- how o's id compares to p's
 module _ (o p : Operation) where
   pub less_below : id_cmp o.id p.id ≡ Less → id_below o.id p.id ≡ true
   less_below h = ap is_lt h

@@ -22,7 +22,7 @@ use crate::register::unheld;
 use std::alloc::{AllocError, Global};
 use usfm_ref::{Book, Key};
 
-// Promises room at a segment for one more shown id and so many more missing ones.
+// Promises room at a segment for one more shown id and this many more missing ones.
 pub(crate) fn prepare(
     chapters: &mut Vec<Chapter>,
     alloc: Global,

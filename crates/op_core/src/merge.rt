@@ -92,7 +92,7 @@ pub(crate) fn look_at_each(new: &[Op])
     }
 }
 
-// Makes room for so many operations more. To an empty list they come with their own.
+// Makes room for this many operations more. To an empty list they come with their own.
 pub(crate) fn reserve_ops(ops: &mut Vec<Op>, count: usize) -> Result<(), AllocError>
     ensures items { ops.new.items ≡ ops.old.items }
     ensures len { vec_len ops.new ≡ vec_len ops.old }
@@ -105,7 +105,7 @@ pub(crate) fn reserve_ops(ops: &mut Vec<Op>, count: usize) -> Result<(), AllocEr
     ops.reserve(count)
 }
 
-// An empty list with room for so many new operations and what is after the first of them. Where nothing is
+// An empty list with room for this many new operations and what is after the first of them. Where nothing is
 // after it, none is needed.
 pub(crate) fn tail_of(
     alloc: Global,

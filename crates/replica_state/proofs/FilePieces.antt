@@ -1,4 +1,4 @@
--- What stands at the keys of a file's pieces.
+-- What is at the keys of a file's pieces.
 use Rattle.std.proofs.Common.{◌≡◌, ℕ, Bool, true, false, ◌&&◌, cond, List, [], ◌∷◌, take}
 use Rattle.std.proofs.Common.{drop, Option, None, Some, Ok, refl, sym, ap, subst, ◌∙◌}
 use Rattle.std.specs.Cmp.{Equal-is}

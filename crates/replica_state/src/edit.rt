@@ -56,7 +56,7 @@ impl Replica {
     }
 
     /// Gives a segment a text, by an operation of the replica that names the given ids, and answers
-    /// its id: the replica's name, and the greatest held number and one. The ids stand in any order,
+    /// its id: the replica's name, and the greatest held number and one. The ids are in any order,
     /// and one that is repeated counts once. No ids name nothing.
     ///
     /// # Errors

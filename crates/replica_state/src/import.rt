@@ -56,7 +56,7 @@ impl Replica {
         Ok(self.join_new(edits)?)
     }
 
-    // Whether numbers up to the last one are left for so many operations more.
+    // Whether numbers up to the last one are left for this many operations more.
     pub(crate) fn has_numbers(&self, count: usize) -> bool
         ensures { result ≡ edits.has_numbers self.now.held count }
     {

@@ -48,7 +48,7 @@ fn place_piece(pieces: &[Piece<'_>], key: Key) -> usize
     )
 }
 
-// How the piece stands to the one of this key.
+// How the piece compares to the one of this key.
 fn order(piece: &Piece<'_>, key: Key) -> Ordering
     ensures { result ≡ key_cmp piece.now.key key }
 {

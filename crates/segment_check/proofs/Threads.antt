@@ -21,7 +21,7 @@ use Rattle.segment_check.specs.Reading.{told_first, told_rest, untold}
 use Rattle.segment_check.specs.TreeViews.{told_of}
 use Rattle.segment_check.specs.declared.told.Told.{Told}
 
--- marks of a tree stand, each once and in order, at leaves from a place on
+-- marks of a tree are there, each once and in order, at leaves from a place on
 abbrev pub Thread : ℕ → List (List ℕ) → List Spot → Type 0
 Thread n [] [] = Unit {0}
 Thread n [] (x ∷ xs) = ⊥
@@ -84,7 +84,7 @@ tree_thread sheet s =
     let F : List (List ℕ) → Type 0 = λ ls. Thread 0 ls (spots [] (tree_of (styles_in sheet) s)) in
     subst F (tree_leaves (styles_in sheet) s) (forest_thread [] 0 (tree_of (styles_in sheet) s) (tree_runs (styles_in sheet) s))
 
--- ---- what stands at a place
+-- ---- what is at a place
 
 not_at : (a b : ℕ) → a < b → (b == a) ≡ false
 not_at a b h = grind (arith, nat_tests)
@@ -92,7 +92,7 @@ not_at a b h = grind (arith, nat_tests)
 is_at : (a b : ℕ) → a ≡ b → (a == b) ≡ true
 is_at a b h = eq-eqb a b h
 
--- nothing stands before where the leaves begin
+-- nothing comes before where the leaves begin
 pub thread_beyond : (n p : ℕ) (ls : List (List ℕ)) (xs : List Spot) (test : Spot → Bool) → p < n → Thread n ls xs
     → stands_at xs p test ≡ false
 thread_beyond n p [] [] test h t = refl
@@ -114,7 +114,7 @@ thread_start n [] x xs t = absurd t
 thread_start n (l ∷ ls) x xs t =
     ⊎_elim (λ a. let e = a.0 in omega (arith, e)) (λ b. let e = thread_start (n + length l) ls x xs b in omega (arith, e)) t
 
--- What one leaf does: the marks after it stand after it, those at later places are the same, and what is reported in front is reported of
+-- What one leaf does: the marks after it come after it, those at later places are the same, and what is reported in front is reported of
 -- the mark there.
 pub record Passes (sheet : List Record) (at : ℕ) (l : List ℕ) (ls : List (List ℕ)) (xs : List Spot) : Type 0 where
   pub thread : Thread (at + length l) ls (left_behind at xs)
@@ -166,7 +166,7 @@ passes sheet at l ls (x ∷ xs) some t = ⊎_elim (λ a. here a.0 a.2) (λ b. be
               ∙ sym (thread_beyond (at + length l) at ls (x ∷ xs) test (omega arith) h);
         }
 
--- no mark stands at a text
+-- no mark is at a text
 pub text_thread : (at : ℕ) (t : List ℕ) (ls : List (List ℕ)) (xs : List Spot) → IsText t → Thread at (t ∷ ls) xs
     → Thread (at + length t) ls xs
 text_thread at t ls [] is h = thread_none (at + length t) ls

@@ -23,11 +23,11 @@ pub record Record : Type 0 where
 abbrev pub is_filled : List ℕ → Bool
 is_filled bs = not (bytes_eq bs [])
 
--- the words of a value: what stands between blanks
+-- the words of a value: what is between blanks
 unfoldable pub words_of : List ℕ → List (List ℕ)
 words_of bs = filter is_filled (slice_split is_blank bs)
 
--- a text without a '*' (42) at its end, if one stands there
+-- a text without a '*' (42) at its end, if one is there
 abbrev pub without_star : List ℕ → List ℕ
 without_star bs = if slice_index bs (length bs - 1) == 42 then take (length bs - 1) bs else bs
 

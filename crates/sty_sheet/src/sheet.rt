@@ -11,7 +11,7 @@ use crate::styles::Styles;
 use indexmap::IndexMap;
 use std::alloc::Global;
 
-/// A style sheet: the records of its markers, in the order in which the markers first stand.
+/// A style sheet: the records of its markers, in the order in which the markers first come.
 #[derive(Drop)]
 pub struct Sheet<'s> {
     pub(crate) styles: IndexMap<&'s str, Style<'s>>,
@@ -81,7 +81,7 @@ impl<'s> Sheet<'s> {
         }
     }
 
-    /// The records, in the order in which their markers first stand. It takes no memory.
+    /// The records, in the order in which their markers first come. It takes no memory.
     pub fn iter(&self) -> Styles<'_, 's>
         ensures { records_left result ≡ records_of self.now }
     {

@@ -38,7 +38,7 @@ pub fn book_text(alloc: Global, replica: &Replica, book: Book) -> Result<Vec<u8>
 /// # Errors
 /// - `NoBook` (82) exactly where the book has no operation. Nothing was written.
 /// - `WriteFailed` (90) where the sink answers an error, of whatever kind, or takes 0 bytes, with the
-///   bytes gone out: they are the front of the book of that length. No write is tried again.
+///   bytes that were written: they are the front of the book of that length. No write is tried again.
 pub fn write_book<W: ByteSink>(
     replica: &Replica,
     book: Book,
@@ -111,7 +111,7 @@ fn write_key<W: ByteSink>(
     write_picked(sink, with_head, replica.pick(book, key))
 }
 
-// Writes a picked text of a book of which `gone` bytes are gone out, and answers how many are then.
+// Writes a picked text of a book of which `gone` bytes are written, and answers how many are then.
 fn write_picked<W: ByteSink>(sink: &mut W, gone: u64, choice: Picked<'_>) -> Result<u64, WriteFault>
     ensures all { IfOk result (λ total.
         TakesAll (W.taken sink.old) (W.taken sink.new) (picked_text (picked choice.entry))

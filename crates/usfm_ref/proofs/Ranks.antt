@@ -15,7 +15,7 @@ same_number h = grind (arith, nat_tests)
 abbrev are_ranked : List (List ℕ × ℕ) → Bool
 are_ranked known = list_all (λ e. rank_of e.0 == e.1) known
 
--- what stands beside a code, and 66 for all others
+-- what is beside a code, and 66 for all others
 abbrev pub beside : Option (List ℕ × ℕ) → ℕ
 beside None = 66
 beside (Some e) = e.1

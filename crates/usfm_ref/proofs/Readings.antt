@@ -192,7 +192,7 @@ blanks_at-run blanks bytes h s =
     let run : prefix_len is_blank (blanks ++ bytes) ≡ length blanks = prefix_len-run is_blank blanks bytes parts.1 s in
     rw (run, parts.0, drop_at blanks bytes (length blanks) refl) refl
 
--- what stands after blanks
+-- what comes after blanks
 pub record AreBlanks (text bytes : List ℕ) : Type 0 where
   pub blanks : List ℕ
   pub text_is : text ≡ blanks ++ bytes

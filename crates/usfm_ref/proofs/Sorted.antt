@@ -76,7 +76,7 @@ module _ {K X : Type 0} (R : K → K → Ordering) (o : IsTotalOrder R) (key : X
       let p = parts x xs h in
       (cond-true _ _ _ (ap is_eq (tied_itself o (key x))), below_found x xs xs p.0 (each_found xs p.1))
 
-  -- what stands at the place of a key
+  -- what is at the place of a key
   abbrev pub place : K → List X → ℕ
   place q xs = position_or_len (λ x. not (is_lt (R (key x) q))) xs
 

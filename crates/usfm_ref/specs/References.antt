@@ -34,7 +34,7 @@ pub record IsRefTo (text : List ℕ) (book : List ℕ) (key : KeyParts) : Type 0
   pub is_key : IsTrue (is_key key.chapter key.place)
   pub text_is : text ≡ ref_text book key
 
--- ---- the same, as a reading from the left: what is read, if it stands at the front, and the bytes after it
+-- ---- the same, as a reading from the left: what is read, if it is at the front, and the bytes after it
 
 -- a zero, and a digit after it
 abbrev pub is_zero_led : List ℕ → Bool

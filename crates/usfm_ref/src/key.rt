@@ -18,7 +18,7 @@ pub enum Place {
     Verse { number: u16, letter: Option<u8> },
 }
 
-/// A chapter 0 to 999 and a place in it: where in a book a text stands.
+/// A chapter 0 to 999 and a place in it: where in a book a text is.
 ///
 /// Keys go by chapter, and then by place. A literal with a part out of its range is refused by the
 /// proof.

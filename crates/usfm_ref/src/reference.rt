@@ -59,7 +59,7 @@ pub fn write_key(alloc: Global, key: Key) -> Result<String, AllocError>
     key.to_string(alloc)
 }
 
-// A number of one to three digits without leading zeros, and what stands after it.
+// A number of one to three digits without leading zeros, and what comes after it.
 #[tactic(auto, unfolding(crate::specs::References::plain_at))]
 fn plain_at(bytes: &[u8]) -> Option<(u16, &[u8])>
     ensures value { MatchOption result (references.plain_at bytes.now ≡ None)

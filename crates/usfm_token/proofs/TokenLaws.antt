@@ -20,7 +20,7 @@ optional_nil : (b : ℕ) (e : Bool) → 0 < b → (0 == b) ≡ e → ◌≡◌ {
 optional_nil b true some h = absurd (let e : 0 ≡ b = eqb-true 0 b h in omega arith)
 optional_nil b false some h = refl
 
--- a byte that may stand at the front, and the rest
+-- a byte that may be at the front, and the rest
 optional_front : (xs : List ℕ) (b : ℕ) → 0 < b → xs ≡ optional_byte (get_or xs 0 0 == b) b ++ cond (get_or xs 0 0 == b) (drop 1 xs) xs
 optional_front [] b some = optional_nil b (0 == b) some refl
 optional_front (x ∷ xs) b some = optional_cons x xs b (x == b) refl

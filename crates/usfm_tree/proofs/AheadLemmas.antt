@@ -1,4 +1,4 @@
--- What stands under the root from a place of the source on.
+-- What is under the root from a place of the source on.
 use Rattle.std.proofs.Common.{◌≡◌, ℕ, ◌-◌, List, [], ◌∷◌, length, map, reverse, refl, ap, ◌∙◌, arith}
 use Rattle.usfm_token.specs.Tokens.{tokens_of}
 use Rattle.usfm_token.specs.Tokens as tokens

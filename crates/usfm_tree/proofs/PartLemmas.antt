@@ -1,4 +1,4 @@
--- The parts of nodes that stand side by side.
+-- The parts of nodes that are side by side.
 use Rattle.std.proofs.Common.{◌≡◌, ◌<◌, ◌≤◌, get_or, ℕ, zero, suc, List, [], ◌∷◌, length, None, Some, sym, refl, ap, ◌∙◌, subst, arith}
 use Rattle.std.specs.Prelude.{option_and_then}
 use Rattle.usfm_tree.specs.Forest.{Forest, nothing, ◌then◌, entry_at, part_at, kids_of}

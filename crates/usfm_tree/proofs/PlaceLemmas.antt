@@ -1,4 +1,4 @@
--- Where the entries of a tree stand.
+-- Where the entries of a tree are.
 use Rattle.std.proofs.Common.{◌≡◌, ℕ, zero, suc, ◌+◌, ◌-◌, Bool, true, false, cond, List, [], ◌∷◌, ◌++◌, length, take, drop, Option, None, Some, sym, refl, ap, ◌∙◌, subst, arith, append_assoc, append-nil, length-append}
 use Rattle.std.specs.Prelude.{nat_lt, ◌==◌, option_and_then, unwrap_or}
 use Rattle.std.proofs.Math.Seq.{take-append_seam, drop-append_seam}
@@ -12,7 +12,7 @@ use Rattle.usfm_tree.specs.Reading.{Styles, Placed, placed, Role, plain, alone, 
 use Rattle.usfm_tree.proofs.LeavesLemmas.{role_slice, bare_slice}
 use Rattle.usfm_tree.proofs.SpanLemmas.{span_is, bytes_then}
 
--- tokens that stand one after another from n on
+-- tokens that come one after another from n on
 abbrev Placing : ℕ → List Placed → Type 0
 Placing n [] = Unit {0}
 Placing n (t ∷ l) = (t.start ≡ n) × Placing (n + length (slice_of t.token)) l
@@ -159,7 +159,7 @@ kids_places styles (suc k) os n (t ∷ l) p =
     (tt, placing_at n (n + 0) (t ∷ l) (omega arith) p)
     (enter_places n styles (kids styles k) os t l (role styles t.token) (kids_places styles k) (role_slice styles t.token) p)
 
--- the entries of a tree stand one after another
+-- the entries of a tree come one after another
 pub tree_runs : (styles : Styles) (s : List ℕ) → Runs 0 (tree_of styles s)
 unfolding tree_of
 tree_runs styles s = let l = placed 0 (tokens_of s) in (kids_places styles (suc (length l)) [] 0 l (placed_places 0 (tokens_of s))).0
@@ -246,7 +246,7 @@ stands_in s g (a, b, is, at, h) =
     ∙ ap (λ l. take (length x) (drop (length a) l)) is
     ∙ ap (take (length x)) (drop-append_seam a (x ++ b)) ∙ take-append_seam x b
 
--- each part of a tree stands in the text
+-- each part of a tree is in the text
 pub parts_stand : (s : List ℕ) (path : List ℕ) (f g : Forest) → Runs 0 f → bytes_of f ≡ s → part_at path f ≡ Some g → StandsIn s g
 parts_stand s path f g runs join e = stands_in s g (part_stands s path f g ([], [], sym join ∙ sym (append-nil (bytes_of f)), runs) e)
 

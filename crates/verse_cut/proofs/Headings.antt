@@ -11,7 +11,7 @@ use Rattle.verse_cut.specs.Reading.{behind_bom, begins_blank, id_at, behind_id, 
 use Rattle.verse_cut.specs.declared.fault.BookFault.{BookFault}
 use Rattle.verse_cut.specs.declared.fault.BookFault.TheVariants.{NoId}
 
--- `\id`, a blank, and what stands after
+-- `\id`, a blank, and what comes after
 record IsId (bytes behind : List ℕ) : Type 0 where
   blank : ℕ
   is_blank : is_blank blank ≡ true

@@ -140,7 +140,7 @@ has_head_cons k t ts (h, c, key, some) = by c
     by (zero, lt, is) = inl (ap (λ x. x.key) is ∙ key, ap (λ x. is_empty x.text) is ∙ some)
     by (suc j, lt, is) = inr (h, (j, omega arith, is), key, some)
 
--- each verse's head stands not above the greatest key so far, or is to come
+-- each verse's head is not above the greatest key so far, or is to come
 abbrev Ready : KeyParts → List KeyText → KeyText → Type 0
 Ready g ts t =
     is_empty t.text ≡ false → is_head t.key.place ≡ false → 0 < t.key.chapter → (key_below g (head_of t.key) ≡ false) ⊎ HasHead t.key ts

@@ -126,12 +126,12 @@ reads g at (t ∷ ts) each =
         by_test true above = begin q is above (cut_from q (at + length (slice_of t)) ts) (on q)
         by_test false below = stay (Some q) is (ap not below) (cut_from g (at + length (slice_of t)) ts) here
 
--- ---- where a heading stands before a seam
+-- ---- where a heading comes before a seam
 
 abbrev HasNoBackslash : List ℕ → Type 0
 HasNoBackslash code = EachIndex code (λ k. get_or code k 0 ≢ 92)
 
--- what stands before a backslash begins with all that has none
+-- what comes before a backslash begins with all that has none
 cut_off : (x y p r : List ℕ) → HasNoBackslash x → x ++ y ≡ p ++ (92 ∷ r) → (p' : List ℕ) × (p ≡ x ++ p') × (y ≡ p' ++ (92 ∷ r))
 cut_off [] y p r none e = (p, refl, e)
 cut_off (b ∷ x) y [] r none e = absurd (none 0 (omega arith) cc)

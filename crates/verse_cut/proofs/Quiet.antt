@@ -174,7 +174,7 @@ quiet_head s h = opening-from s ∙ quiet_rising book_head 0 (tokens_of s) h
 
 -- ---- a text that a mark leads
 
--- a mark with a key that stands at 0 stands after no token
+-- a mark with a key that is at 0 comes after no token
 leads_place : (k : KeyParts) (c at : ℕ) (ts : List Lexeme) → LeadsWith k (keyed_from c at ts) → at ≡ 0
 leads_place k c at [] h = absurd h
 leads_place k c at (t ∷ ts) h = by (key_of c t ts) (λ l. let e = leads_place k c (at + length (slice_of t)) ts l in omega arith) h

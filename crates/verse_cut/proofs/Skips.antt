@@ -1,4 +1,4 @@
--- What a walk passes over: what stands before a mark, and a mark whose name begins as no mark's with a key.
+-- What a walk passes over: what comes before a mark, and a mark whose name begins as no mark's with a key.
 use Rattle.std.proofs.Common.{◌≡◌, ℕ, ◌+◌, ◌<◌, Bool, true, false, not, cond, ◌==◌, ◌||◌, ◌&&◌, List, [], ◌∷◌, ◌++◌, length, drop, get_or, codes, None, option_map, sym, refl, ap, ◌∙◌, subst, add-zero, arith, eqb-true, length-drop, length-append, append_assoc, take-append-drop, zero, suc}
 use Rattle.std.proofs.lemmas.Bool.{or_parts}
 use Rattle.std.proofs.lemmas.Bool.Decides.{nat_tests}
@@ -21,7 +21,7 @@ use Rattle.verse_cut.proofs.Steps.{Goes, read_more}
 
 -- ---- names that begin otherwise
 
--- the first byte of a name of one byte stands at the front
+-- the first byte of a name of one byte is at the front
 name_front : (t : List ℕ) (b : ℕ) → take_while is_name_byte t ≡ b ∷ [] → get_or t 0 0 ≡ b
 name_front [] b h = absurd (cc)
 name_front (x ∷ xs) b h = by (is_name_byte x) (sym (take_while-cons is_name_byte x xs) ∙ h)
@@ -139,7 +139,7 @@ goes_over key text here part behind on here_is begins quiet =
           ∙ ap (λ r. goes_on r (far (at + length r))) (sym sofar_more);
     }
 
--- what stands before the first mark, and that mark
+-- what comes before the first mark, and that mark
 first_mark : (s : List ℕ) → s ≡ before_first is_backslash s ++ from_mark s
 first_mark s = sym (take-append-drop (position_or_len is_backslash s) s)
 

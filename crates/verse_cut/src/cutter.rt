@@ -82,7 +82,7 @@ impl<'a> Iterator for Pieces<'a> {
     }
 }
 
-// What of a text stands before its rest.
+// What of a text comes before its rest.
 fn before<'a>(from: &'a str, rest: &'a str) -> &'a str
     requires { read_of from.now rest.now ++ rest.now ≡ from.now }
     ensures { result.now ≡ read_of from.now rest.now }

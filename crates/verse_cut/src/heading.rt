@@ -7,12 +7,12 @@ use crate::fault::BookFault;
 use usfm_ref::{Book, is_blank};
 
 /// The book that a text begins with: at most one U+FEFF, `\id`, one blank (space, tab, CR, LF),
-/// the book's code, and then a blank, a backslash or the end. What stands after is not looked at.
+/// the book's code, and then a blank, a backslash or the end. What comes after is not looked at.
 /// It takes no memory.
 ///
 /// # Errors
 /// `NoId` where the text does not begin with at most one U+FEFF, `\id` and a blank, and else
-/// `BadBook` where no code, and what may follow it, stands after.
+/// `BadBook` where no code, and what may follow it, comes after.
 pub fn book_of(text: &str) -> Result<Book, BookFault>
     ensures reads { IfOk result (λ book. IsHeaded book text.now) }
     ensures only { (book : List ℕ) → IsTrue (is_book_code book)
@@ -43,7 +43,7 @@ pub(crate) fn is_headed(book: Book, text: &str) -> bool
     }
 }
 
-// What stands after `\id` and one blank at the front, or after U+FEFF at the front.
+// What comes after `\id` and one blank at the front, or after U+FEFF at the front.
 #[tactic(auto, unfolding(crate::specs::Reading::behind_id))]
 fn behind_id(text: &[u8]) -> Option<&[u8]>
     ensures { MatchOption result (reading.behind_id text.now ≡ None)
@@ -75,7 +75,7 @@ fn ends_code(rest: &[u8]) -> bool
     }
 }
 
-// The book whose code stands at the front and ends.
+// The book whose code is at the front and ends.
 fn leading_book(bytes: &[u8]) -> Option<Book>
     ensures { result ≡ reading.leading_book bytes.now }
 {

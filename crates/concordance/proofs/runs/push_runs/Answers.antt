@@ -22,7 +22,7 @@ split_at-requires c =
     boundary_at_rest c.behind_front-at.result.now _ c.behind_front-rest.result.now
     c.behind_front-rest.ensures.front c.behind_front-rest.utf8
 
--- a character stands where a text is not empty
+-- a character is where a text is not empty
 some : (bs : List ℕ) → false ≡ (length bs == 0) → IsUtf8 bs → 0 < length (chars bs)
 some bs e u = chars_some bs u (let n = false-eqb (length bs) 0 e in omega arith)
 

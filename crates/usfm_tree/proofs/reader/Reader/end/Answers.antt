@@ -46,7 +46,7 @@ made c is =
     ∙ ap (λ b. node o.kind o.kept.start b (mark_parts o.kept.mark) (forest_of before) close nothing)
     (c.cut_off-slice.ensures (span_bytes (mark_parts o.kept.mark) (forest_of before) close) is)
 
--- and where it stands
+-- and where it is
 placed : (c : In_ok-push) → c.push.new.self.items ≡ c.in-Some.open.kept.before.items ++ c.node_of.result ∷ []
 placed c = c.in_ok-push.ensures.items ∙ ap (λ v. v.items ++ c.node_of.result ∷ []) c.replace-kids.ensures.after
 
