@@ -35,7 +35,7 @@ fn number_at(text: &[u8], letters: bool) -> Option<(u16, u8)> {
     }
 }
 
-/// The key of the mark after a backslash, where a verse stands in the chapter.
+/// The key of the mark after a backslash, where a verse is in the chapter.
 pub fn key_at(text: &[u8], chapter: u16) -> Option<Key> {
     let is_name = |b: &&u8| b.is_ascii_alphanumeric() || matches!(**b, b'-' | b'_');
     let name = text.iter().take_while(is_name).count();
@@ -56,7 +56,7 @@ fn is_quiet(text: &str, key: Key) -> bool {
         .all(|(at, _)| key_at(&text.as_bytes()[at + 1..], key.chapter).is_none_or(|found| found <= key))
 }
 
-/// What stands after `\id` and a blank, at most one U+FEFF before them: it begins with the code of a book.
+/// What comes after `\id` and a blank, at most one U+FEFF before them: it begins with the code of a book.
 pub fn code_of_head(text: &str) -> Option<&[u8]> {
     match text.strip_prefix('\u{FEFF}').unwrap_or(text).as_bytes().strip_prefix(b"\\id")? {
         [blank, code @ ..] if is_blank(*blank) => Some(code),

@@ -6,7 +6,7 @@ work=$(mktemp -d)
 trap 'rm -rf "$work"' EXIT
 plain=$work/plain
 
-# A generated book of a kind, prose or marks, of so many bytes.
+# A generated book of a kind, prose or marks, of this many bytes.
 make_text() { awk -v kind="$1" -v size="$2" -f "$top/bench/book.awk"; }
 
 # Builds the plain program for the processor that Rattle builds for. The words after go to rustc.

@@ -80,7 +80,7 @@ impl Held {
         Ok((count, reader.rest))
     }
 
-    /// Where an operation of this id stands, or would stand. Most that come are after all that are held.
+    /// Where an operation of this id is, or would be. Most that come are after all that are held.
     fn place(&self, id: &Id) -> Result<usize, usize> {
         match self.ops.last() {
             Some(last) if *id <= last.id => self.ops.binary_search_by(|held| held.id.cmp(id)),

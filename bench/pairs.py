@@ -10,7 +10,7 @@ MAGIC = b"USFMSR1\n"
 
 
 def lines_of(crate):
-    """The lines of crates.txt of a crate and of all that it stands on, in their order."""
+    """The lines of crates.txt of a crate and of all that it is built on, in their order."""
     with open(os.path.join(TOP, "crates.txt")) as every:
         lines = [line for line in every if line.strip()]
     wanted = {crate}
@@ -44,7 +44,7 @@ def build(work, folder, crate, words, beside=()):
 
 
 def write_bundles(count, names):
-    """Writes bundles of so many operations each: the first of a generated stream of three."""
+    """Writes bundles of this many operations each: the first of a generated stream of three."""
     generate = os.path.join(HERE, "fold/generate.py")
     stream = subprocess.run([generate, str(count * 10 // 6)], stdout=subprocess.PIPE, check=True).stdout
     for name, bundle in zip(names, stream.split(MAGIC)[1:]):
@@ -79,7 +79,7 @@ def turn_about(programs, words, turns):
 
 def compare_jobs(programs, jobs, turns=7, limit=1.5):
     """Prints the least time and the peak memory of both programs for each job, which has a label and its words. Answers
-    whether the proved one takes at most so many times as long in each."""
+    whether the proved one takes at most this many times as long in each."""
     held = True
     for label, words in jobs:
         least, _ = turn_about(programs, words, turns)

@@ -84,7 +84,7 @@ enum Token<'a> {
     Mark(Mark<'a>),
 }
 
-// The token that stands at a place, and where it ends.
+// The token that is at a place, and where it ends.
 fn token_at(text: &str, at: usize) -> (Token<'_>, usize) {
     let bytes = text.as_bytes();
     if bytes[at] != b'\\' {

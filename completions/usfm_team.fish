@@ -4,13 +4,13 @@ set -g __usfm_team_books GEN EXO LEV NUM DEU JOS JDG RUT 1SA 2SA 1KI 2KI 1CH 2CH
     ISA JER LAM EZK DAN HOS JOL AMO OBA JON MIC NAM HAB ZEP HAG ZEC MAL MAT MRK LUK JHN ACT \
     ROM 1CO 2CO GAL EPH PHP COL 1TH 2TH 1TI 2TI TIT PHM HEB JAS 1PE 2PE 1JN 2JN 3JN JUD REV
 
-# Whether the word after the command's name and so many words is completed, for one of these commands.
+# Whether the word after the command's name and this many words is completed, for one of these commands.
 function __usfm_team_at
     set -l words (commandline -opc)
     test (count $words) -eq (math $argv[1] + 2); and contains -- $words[2] $argv[2..]
 end
 
-# The same of the word after the command's name and so many words, and of each after that.
+# The same of the word after the command's name and this many words, and of each after that.
 function __usfm_team_from
     set -l words (commandline -opc)
     test (count $words) -ge (math $argv[1] + 2); and contains -- $words[2] $argv[2..]

@@ -60,7 +60,7 @@ def closing(text, at):
 
 
 def parts_of(text, sign=","):
-    """The parts between signs that stand in no bracket."""
+    """The parts between signs that are in no bracket."""
     found, depth, start = [], 0, 0
     for at, char in enumerate(text):
         if char in "([{<":

@@ -24,7 +24,7 @@ struct Finding {
     key: Key,
 }
 
-/// What stands around a mark.
+/// What is around a mark.
 #[derive(Clone, Copy, Default)]
 struct Inside<'a> {
     in_note: bool,
@@ -108,7 +108,7 @@ impl<'a> Checker<'a, '_> {
         }
     }
 
-    /// Settles what is found at the mark before, after which this text stands.
+    /// Settles what is found at the mark before, after which this text comes.
     fn settle(&mut self, after: &str) {
         let Some((start, mark, told)) = self.last.take() else { return };
         let (mut number, mut verse, mut key) = (false, None, None);

@@ -43,7 +43,7 @@ make_sheet() {
         }'
 }
 
-# The sheet with one record more, whose OccursUnder has so many bytes of words, none of which allows the node.
+# The sheet with one record more, whose OccursUnder has this many bytes of words, none of which allows the node.
 with_words() {
     cat "$work/sheet"
     awk -v size="$1" 'BEGIN {
@@ -98,7 +98,7 @@ compare() {
     }' || status=1
 }
 
-# The instructions of a process of one check, or the times of so many such processes: no size finds memory that an
+# The instructions of a process of one check, or the times of as many such processes: no size finds memory that an
 # earlier round has taken.
 if command -v valgrind >"$work/log"; then unit=instructions; else unit=nanoseconds; fi
 check_once() {

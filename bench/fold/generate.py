@@ -1,5 +1,5 @@
 #!/usr/bin/env python3
-"""Writes a stream of three overlapping bundles with so many operations in all.
+"""Writes a stream of three overlapping bundles with this many operations in all.
 
     generate.py OPERATIONS > stream
 

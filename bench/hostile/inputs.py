@@ -65,7 +65,7 @@ def project(data: bytes) -> bytes:
 
 
 def rising(operations: list[bytes]) -> bytes:
-    """A bundle of operations that stand in the order of their ids."""
+    """A bundle of operations that are in the order of their ids."""
     return bundle([(None, it) for it in operations])
 
 
@@ -112,26 +112,26 @@ def naming_all(count: int) -> Input:
 
 
 def conflicting(count: int) -> bytes:
-    """One segment with so many texts."""
+    """One segment with this many texts."""
     return rising([operation((at, b"a"), "MAT", 1, 1, [], b"\\v 1 %d\n" % at) for at in range(1, count + 1)])
 
 
 def arriving_late(count: int) -> Input:
-    """An operation that names so many, and then these."""
+    """An operation that names this many, and then these."""
     ids = [(at, b"a") for at in range(1, count + 1)]
     last = operation((count + 1, b"a"), "MAT", 1, 1, ids, text_of(1))
     return fold(rising([last]), rising([operation(it, "MAT", 1, 1, [], text_of(1)) for it in ids]))
 
 
 def arriving_below(count: int) -> Input:
-    """One segment with so many texts, and then as many whose ids are below those."""
+    """One segment with this many texts, and then as many whose ids are below those."""
     ids = [(at, b"a") for at in range(1, 2 * count + 1)]
     texts = [operation(it, "MAT", 1, 1, [], text_of(1)) for it in ids]
     return fold(rising(texts[count:]), rising(texts[:count]))
 
 
 def replacing_oldest(count: int) -> Input:
-    """One segment with so many texts, and as many operations more, each of which names the oldest that is shown."""
+    """One segment with this many texts, and as many operations more, each of which names the oldest that is shown."""
     old = [operation((at, b"a"), "MAT", 1, 1, [], text_of(1)) for at in range(1, count + 1)]
     new = [operation((count + at, b"a"), "MAT", 1, 1, [(at, b"a")], text_of(1)) for at in range(1, count + 1)]
     return fold(rising(old + new))
@@ -211,24 +211,24 @@ def imported(text: bytes) -> Input:
 
 
 def words_of(count: int) -> bytes:
-    """So many distinct words, that rise and fall in turn."""
+    """This many distinct words, that rise and fall in turn."""
     numbers = (at if at % 2 else count - at for at in range(count))
     return b" ".join("".join(chr(97 + int(digit)) for digit in "%07d" % it).encode() for it in numbers)
 
 
 def composed(count: int) -> bytes:
-    """A letter with so many marks above and below it in turn, which have to be put in order."""
+    """A letter with this many marks above and below it in turn, which have to be put in order."""
     return ("a" + "\u0301\u0323" * (count // 2)).encode()
 
 
 def records(count: int, kind: bytes) -> bytes:
-    """A sheet with so many records more."""
+    """A sheet with this many records more."""
     more = b"".join(b"\\Marker m%d\n\\Endmarker e%d\n\\StyleType %s\n" % (at, count - at, kind) for at in range(count))
     return SHEET + more
 
 
 def words_under(count: int) -> Input:
-    """So many marks whose style has as many words in OccursUnder."""
+    """This many marks whose style has as many words in OccursUnder."""
     under = b"\\OccursUnder " + b" ".join(b"w%d" % at for at in range(count))
     sheet = SHEET + b"\\Marker x\n\\Endmarker x*\n" + under + b"\n\\StyleType Character\n"
     return asked("check", b"\\x a\\x*" * count, sheet=sheet)
@@ -240,7 +240,7 @@ def falling_book(count: int) -> Input:
 
 
 def many_verses(count: int) -> Input:
-    """A book of so many verses."""
+    """A book of this many verses."""
     chapters = (b"\\c %d\n" % at + b"".join(b"\\v %d a\n" % it for it in range(1, 201)) for at in range(1, count // 200 + 1))
     return imported(HEAD + b"".join(chapters))
 

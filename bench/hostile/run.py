@@ -73,7 +73,7 @@ def measure(program: str, family: Family, folder: str) -> bool:
 
 
 def program_of_repository() -> str:
-    """The program that stands in this repository, built if need be."""
+    """The program that is in this repository, built if need be."""
     with open(os.path.join(TOP, "samples/first.bundle"), "rb") as sample:
         subprocess.run([os.path.join(TOP, "usfm_team"), "fold", "MAT"], stdin=sample, stdout=subprocess.DEVNULL, check=True)
     return os.path.join(TOP, "crates/usfm_team/out/usfm_team")

@@ -1,6 +1,6 @@
 #!/usr/bin/env bash
 # Times sets of operations (bench.rt.txt) against sets in plain Rust by maps (plain.rs), both built for the processor
-# that Rattle builds for: so many single inserts with the making of the operations, two thirds of them each in a new
+# that Rattle builds for: this many single inserts with the making of the operations, two thirds of them each in a new
 # segment and the others over what a segment shows; the join of a first set of six tenths of them into an empty one,
 # and then of two more, which lie after it or overlap. Needs rt and rustc, and takes some minutes.
 #

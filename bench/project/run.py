@@ -10,7 +10,7 @@ which other work disturbs less, and the peak of resident memory of one more run 
 script would begin with the script's own. The files lie in /dev/shm where it is there, so that no disk is measured.
 
 The plain program looks at the segments of one book alone. What an index of all segments takes is measured apart, as
-the plain program's `index` without its `load`, and each quotient of times stands a second time with that added to the
+the plain program's `index` without its `load`, and each quotient of times is there a second time with that added to the
 plain program. The exit status is 1 where the two programs write different outputs or projects, or where a book that was
 imported is not exported again byte for byte.
 """

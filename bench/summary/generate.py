@@ -4,7 +4,7 @@
     generate.py OPERATIONS FILE
 
 The operations are numbered from 1 on, each of a segment of its own. A run of 1 to 100 numbers is of one name, out of
-eight; every tenth run or so is missing. They stand in bundles of 1,000 in random order. Each run writes the same bytes.
+eight; every tenth run or so is missing. They are in bundles of 1,000 in random order. Each run writes the same bytes.
 """
 import os
 import random

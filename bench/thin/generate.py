@@ -20,7 +20,7 @@ VERSES = 40
 
 
 def segments():
-    """So many heads and verses, book after book."""
+    """This many heads and verses, book after book."""
     for place in range(SEGMENTS):
         book, place = BOOKS[place * len(BOOKS) // SEGMENTS], place - first_of_book(place)
         chapter, verse = divmod(place - 1, VERSES + 1) if place else (-1, 0)

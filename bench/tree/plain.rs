@@ -1,6 +1,6 @@
 //! A plain reader of style sheets and of the trees of USFM texts, to which the proved one is compared.
 //! It is run as `plain SHEET FILE ROUNDS`, and prints the least times of reading the sheet and the tree
-//! in nanoseconds, and what stands in the tree.
+//! in nanoseconds, and what is in the tree.
 
 #[path = "../plain_tree.rs"]
 mod plain_tree;

@@ -61,7 +61,7 @@ class Killing:
         return time.monotonic() - began
 
     def kill(self, after: float) -> str:
-        """Kills an edit after so many seconds, and looks at what is left; then gives a command that is not killed."""
+        """Kills an edit after this many seconds, and looks at what is left; then gives a command that is not killed."""
         words, text = self.edit()
         old = self.project.read_bytes()
         shutil.copy(self.project, self.twin / "p")

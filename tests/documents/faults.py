@@ -8,7 +8,7 @@ import re
 from tally import check, numbers_in, program, text_of
 
 FAULT = "crates/usfm_cli/src/fault.rt"
-# The faults that a variant of `Fault` may hold, and where they stand.
+# The faults that a variant of `Fault` may hold, and where they are.
 INSIDE = {
     "RefFault": "crates/usfm_ref/src/fault.rt",
     "IdFault": "crates/op_core/src/fault.rt",

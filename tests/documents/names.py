@@ -47,7 +47,7 @@ def check_paths():
 
 
 def check_calls(page):
-    """Each call and law that the page names stands in its crate, and each clause in the call's contract."""
+    """Each call and law that the page names is in its crate, and each clause in the call's contract."""
     text = page.read_text()
     for crate, path, names in CALL.findall(text):
         sources = sources_of(crate)
@@ -60,7 +60,7 @@ def check_calls(page):
 
 
 def check_tests(page):
-    """Each test and table of tests that the last column of a table names stands in a crate."""
+    """Each test and table of tests that the last column of a table names is in a crate."""
     tests = "".join(text_of(path) for path in kept_files() if re.search(r"/src/tests.*\.rt$", path))
     for row in ROW.findall(text_of(page)):
         for name in re.findall(r"`(\w+)`", row.split(" | ")[-1]):

@@ -9,6 +9,8 @@ INSTEAD = [
     (re.compile(r"\bbehind\b", re.I), "after"),
     (re.compile(r"\b(is|are|was|were|be|been|being) told\b(?! to\b)", re.I), "is reported"),
     (re.compile(r"\btells?\b(?! (\w+ )?apart\b)", re.I), "says"),
+    (re.compile(r"\bso many\b", re.I), "this many"),
+    (re.compile(r"\bgone out\b", re.I), "written"),
 ]
 # Files that may still have such words, each with its reason.
 EXCEPTIONS = {}

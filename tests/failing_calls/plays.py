@@ -36,7 +36,7 @@ def verse(number: int) -> Key:
 
 
 HEAD_OF_BOOK = (BOOK_HEAD, b"\\id MAT\n")
-# Verse 2 stands after verse 3.
+# Verse 2 comes after verse 3.
 FALLING = book(
     HEAD_OF_BOOK,
     (Key(1, HEAD), b"\\c 1\n"),

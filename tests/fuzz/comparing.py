@@ -95,7 +95,7 @@ def write(path: Path, content: Optional[Content]) -> None:
 
 
 def same_answer(want: Answer, given: Answer) -> bool:
-    """Whether an answer is the wanted one. Of usage it is only known that it stands on standard error."""
+    """Whether an answer is the wanted one. Of usage it is only known that it is on standard error."""
     if want.error is None:
         right = given.error != b"" and not given.error.startswith(b"fault")
     else:

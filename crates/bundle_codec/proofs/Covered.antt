@@ -6,6 +6,7 @@ use Rattle.std.proofs.lemmas.Bool.{and_parts, and_from, leb-true, ltb-true, le-l
 use Rattle.std.proofs.lemmas.List.{get_or_default}
 use Rattle.usfm_ref.specs.Books.{same_bytes}
 use Rattle.std.specs.Cmp.Lexicographic.{texts_ties}
+use Rattle.std.proofs.Math.Bool.{or-false}
 use Rattle.usfm_ref.specs.Rising.{rises_by}
 use Rattle.usfm_ref.proofs.Orders.{same_bytes-is}
 use Rattle.usfm_ref.proofs.Sorted.{is_less, tied_back}
@@ -141,7 +142,7 @@ module _ (n : ℕ) (rs : List NumberRange) where
 
 -- ---- an id in a summary
 
--- the ranges that stand under a name
+-- the ranges that are under a name
 abbrev pub under_name : List ℕ → List Known → Option Known
 under_name q s = find (λ k. is_eq (name_cmp q k.name)) s
 
@@ -149,10 +150,6 @@ under_name q s = find (λ k. is_eq (name_cmp q k.name)) s
 abbrev pub found_has : Option Known → ℕ → Bool
 found_has None n = false
 found_has (Some k) n = has_number k.ranges n
-
-or_right_false : (b : Bool) → (b || false) ≡ b
-or_right_false true = refl
-or_right_false false = refl
 
 pub same_tied : (a b : List ℕ) → same_bytes b a ≡ is_eq (name_cmp a b)
 same_tied a b = texts_ties b a ∙ sym (tied_back name_cmp name_total b a (is_eq (name_cmp b a)) refl)
@@ -181,7 +178,7 @@ covers-found id (k ∷ s) h =
         let same : k.name ≡ id.name = same_bytes-is k.name id.name (same_tied id.name k.name ∙ e) in
         let none : covers s id ≡ false =
         above_covers_none id s (subst (λ (q : List ℕ). list_all (λ (x : Known). is_lt (name_cmp q x.name)) s ≡ true) same p.0) in
-        rw (same_tied id.name k.name ∙ e, e, none) (or_right_false (has_number k.ranges id.number))
+        rw (same_tied id.name k.name ∙ e, e, none) (or-false (has_number k.ranges id.number))
     by false e p on = rw (same_tied id.name k.name ∙ e, e) (on p.1)
 
 pub covered_is : (id : Id) (name : List ℕ) (number : ℕ) (s names : List Known) (one : Option Known)

@@ -44,7 +44,7 @@ id_reads bad =
 
 -- ---- ids that are named as replaced
 
--- an id that may stand after those before it
+-- an id that may be after those before it
 abbrev pub IsNamed : Id → Option Id → Id → Type 0
 IsNamed own before i = (is_id i ≡ true) × ((comes_after before i && ltb i.number own.number) ≡ true)
 

@@ -102,7 +102,8 @@ module _ (x y z : List ℕ) (a : IsBundle x) (b : IsBundle y) (c : IsBundle z) w
       → Q (left_of a.ops b.ops c.ops (clash a.ops b.ops) (clash (join a.ops b.ops) c.ops))
       (right_of a.ops b.ops c.ops (clash b.ops c.ops) (clash a.ops (join b.ops c.ops)))
       → IsHeld (bundles_joined x y) → IsHeld (bundles_joined y z)
-      → Q (then_joined (bundles_joined x y) (λ made. bundles_joined made z)) (then_joined (bundles_joined y z) (λ made. bundles_joined x made))
+      → Q (then_joined (bundles_joined x y) (λ made. bundles_joined made z))
+      (then_joined (bundles_joined y z) (λ made. bundles_joined x made))
   grouped Q h one other = rw (grouped_left one, grouped_right other) h
 
 -- whatever the three sets, what both groupings give is the same
@@ -119,7 +120,7 @@ pub gives_the_same : (x y z : List ℕ) → IsBundle x → IsBundle y → IsBund
     (then_joined (bundles_joined y z) (λ made. bundles_joined x made))
 gives_the_same x y z a b c = grouped x y z a b c GiveTheSame (same_given a.ops b.ops c.ops a.set b.set c.set _ _ _ _)
 
--- ---- of sets in which no id of a thinned operation stands for two
+-- ---- of sets in which no id of a thinned operation has two operations
 
 some_none : (id : Id) → Some id ≡ None → ⊥
 some_none id h = cc h
@@ -169,9 +170,11 @@ module _ (a b c : List Operation) where
       back o (inr (inr h)) = inr h
 
   alike : IsOpSet a → IsOpSet b → IsOpSet c → ThinnedAgree left_first → (p q r s : Option Id)
-      → clash a b ≡ p → clash (join a b) c ≡ q → clash b c ≡ r → clash a (join b c) ≡ s → AnswerAlike (left_of a b c p q) (right_of a b c r s)
+      → clash a b ≡ p → clash (join a b) c ≡ q → clash b c ≡ r → clash a (join b c) ≡ s
+      → AnswerAlike (left_of a b c p q) (right_of a b c r s)
   alike ha hb hc agree p q r s ep eq er es =
-      by p q r s (sym (left_joined p q ep eq) ∙ refused_alike left_first right_first ((ha, hb), hc) (ha, (hb, hc)) same_operations agree ∙ right_joined r s er es)
+      by p q r s (sym (left_joined p q ep eq) ∙ refused_alike left_first right_first ((ha, hb), hc) (ha, (hb, hc)) same_operations agree
+      ∙ right_joined r s er es)
     where
       by : (p q r s : Option Id) → is_joined p q ≡ is_joined r s → AnswerAlike (left_of a b c p q) (right_of a b c r s)
       by (Some id) q (Some jd) s e = tt

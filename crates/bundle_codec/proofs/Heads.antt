@@ -3,6 +3,7 @@ use Rattle.std.proofs.Common.{◌≡◌, ℕ, ◌+◌, ◌-◌, ◌^◌, ◌<◌
 use Rattle.std.specs.Int.{w64, to_be_bytes}
 use Rattle.std.specs.Cmp.{both_ways}
 use Rattle.std.proofs.lemmas.List.{length-append, take_at}
+use Rattle.std.proofs.Math.Bool.{and-true}
 use Rattle.usfm_ref.specs.Books.{same_bytes}
 use Rattle.usfm_ref.proofs.Orders.{same_bytes-is, same_bytes-refl}
 use Rattle.op_core.specs.Ops.{Operation, IsOperation, bare, same_bare, texts_agree, agree}
@@ -61,13 +62,9 @@ same_heads o p f g short = both_ways (same_bytes (head o) (head p)) (same_bare o
     (sym (headed (bare o)) ∙ ap (λ (w : List ℕ). w ++ body None) (same_bytes-is (head o) (head p) h) ∙ headed (bare p))))
     (λ h. subst (λ (q : Operation). same_bytes (head o) (head q) ≡ true) (same_bare-is o p h) (same_bytes-refl (head o)))
 
-and_all : (b : Bool) → (b && true) ≡ b
-and_all true = refl
-and_all false = refl
-
 -- two of which one is thinned agree where they are equal but for their texts
 pub agree_bare : (o p : Operation) → texts_agree o.text p.text ≡ true → same_bare o p ≡ agree o p
-agree_bare o p e = sym (ap (λ b. same_bare o p && b) e ∙ and_all (same_bare o p))
+agree_bare o p e = sym (ap (λ b. same_bare o p && b) e ∙ and-true (same_bare o p))
 
 pub left_none : (s t : Option (List ℕ)) → None ≡ s → texts_agree s t ≡ true
 left_none s t e = ap (λ (x : Option (List ℕ)). texts_agree x t) (sym e)

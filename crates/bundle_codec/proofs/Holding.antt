@@ -1,13 +1,13 @@
 -- A map from names to ranges, with the ids of a set added one after another.
 use Rattle.std.proofs.Common.{◌≡◌, ℕ, ◌<◌, Bool, true, false, cond, ◌&&◌, ◌||◌, eqb, leb, List, [], ◌∷◌, ◌++◌, Option, Some, None, Result, Ok, Err, Vec, option_map, map, IsTrue, refl, sym, ap, subst, ◌∙◌, append_assoc, arith, inl, inr}
-use Rattle.std.proofs.Math.Bool.{and-true}
+use Rattle.std.proofs.Math.Bool.{and-true, or-false, and-false}
 use Rattle.std.specs.List.{list_all, AllByRecursion}
 use Rattle.std.specs.Option.{unwrap_or, is_some}
 use Rattle.std.specs.Ordering.{is_eq}
 use Rattle.std.specs.Result.{IfOk}
 use Rattle.std.specs.Map.{lookup}
 use Rattle.std.specs.BTreeMap.{BTreeMap, get as value_at, is_at}
-use Rattle.std.proofs.lemmas.Bool.{and_parts, and_from, lt-ltb, leb-true, eq-eqb, true≢false, cases_lt}
+use Rattle.std.proofs.lemmas.Bool.{and_parts, and_from, lt-ltb, leb-true, eq-eqb, true≢false, cases_lt, or_right}
 use Rattle.std.proofs.lemmas.List.{map-append}
 use Rattle.usfm_ref.specs.Books.{same_bytes}
 use Rattle.usfm_ref.proofs.Orders.{same_bytes-is, same_bytes-refl}
@@ -20,7 +20,7 @@ use Rattle.op_core.proofs.Union.{apart_below}
 use Rattle.op_core.specs.Sets.{get, rises}
 use Rattle.bundle_codec.specs.declared.summaries.range.NumberRange.{NumberRange}
 use Rattle.bundle_codec.specs.Summaries.{is_range, has_number}
-use Rattle.bundle_codec.specs.SummaryMaking.{with_last, with_each, under, numbers, AddsRun, HoldsRun, AreUnder}
+use Rattle.bundle_codec.specs.Loops.SummaryMaking.{with_last, with_each, under, numbers, AddsRun, HoldsRun, AreUnder}
 use Rattle.bundle_codec.proofs.Lasts.{AllBelow, last_has, last_ranges}
 use Rattle.bundle_codec.proofs.SummaryReads.{range_bounds}
 use Rattle.bundle_codec.proofs.Covered.{lies_in, lies_yes, same_tied}
@@ -49,13 +49,10 @@ module _ {A : Type 0} (m n : BTreeMap (List ℕ) (Vec NumberRange A)) (id : Id) 
       → ((q : List ℕ) → value_at name_cmp n q ≡ cond (is_eq (name_cmp name q)) (Some w) (value_at name_cmp m q))
       → HoldsRun id ops rest m n
   holds_named name e was made updates = holds_run (ap (value_at name_cmp m) (sym e) ∙ was) made
-      (subst (λ (k : List ℕ). (q : List ℕ) → value_at name_cmp n q ≡ cond (is_eq (name_cmp k q)) (Some w) (value_at name_cmp m q)) e updates)
+      (subst (λ (k : List ℕ). (q : List ℕ)
+      → value_at name_cmp n q ≡ cond (is_eq (name_cmp k q)) (Some w) (value_at name_cmp m q)) e updates)
 
 -- ---- held ids
-
-or_none_right : (b : Bool) → (b || false) ≡ b
-or_none_right true = refl
-or_none_right false = refl
 
 -- a set with one operation more at its end
 pub held_append : (done : List Operation) (o : Operation) (id : Id)
@@ -99,21 +96,13 @@ below_strict n id h = elim (cases_lt n id.number) [
 abbrev pub id_of : ℕ → List ℕ → Id
 id_of n q = record { number = n; name = q }
 
-or_later : (a b : Bool) → b ≡ true → (a || b) ≡ true
-or_later true b e = refl
-or_later false b e = e
-
 all_below : (n : ℕ) (rs : List NumberRange) → list_all is_range rs ≡ true → ((k : ℕ) → has_number rs k ≡ true → k < n) → AllBelow n rs
 all_below n [] each has = refl
 all_below n (r ∷ rs) each has =
     let p = and_parts (is_range r) (list_all is_range rs) each in
     let here : has_number (r ∷ rs) r.last ≡ true =
     ap (λ b. b || has_number rs r.last) (lies_yes r.last r (range_bounds r p.0).1.0 (omega arith)) in
-    and_from _ _ (lt-ltb r.last n (has r.last here)) (all_below n rs p.1 (λ k e. has k (or_later (lies_in k r) (has_number rs k) e)))
-
-and_false : (b : Bool) → (b && false) ≡ false
-and_false true = refl
-and_false false = refl
+    and_from _ _ (lt-ltb r.last n (has r.last here)) (all_below n rs p.1 (λ k e. has k (or_right (lies_in k r) (has_number rs k) e)))
 
 module _ (done : List Operation) (o : Operation) (rest : List Operation) (rising : rises (done ++ o ∷ rest) ≡ true) where
   more_held : (q : List ℕ) (k : ℕ) → same_bytes q o.id.name ≡ true
@@ -124,7 +113,7 @@ module _ (done : List Operation) (o : Operation) (rest : List Operation) (rising
   as_held : (q : List ℕ) (k : ℕ) → same_bytes q o.id.name ≡ false
       → is_some (get (done ++ o ∷ []) (id_of k q)) ≡ is_some (get done (id_of k q))
   as_held q k other = held_append done o (id_of k q) ∙ ap (λ b. is_some (get done (id_of k q)) || (eqb k o.id.number && b)) other
-      ∙ ap (λ b. is_some (get done (id_of k q)) || b) (and_false (eqb k o.id.number)) ∙ or_none_right (is_some (get done (id_of k q)))
+      ∙ ap (λ b. is_some (get done (id_of k q)) || b) (and-false (eqb k o.id.number)) ∙ or-false (is_some (get done (id_of k q)))
 
   numbers_below : (q : List ℕ) (k : ℕ) → same_bytes q o.id.name ≡ true → is_some (get done (id_of k q)) ≡ true → k < o.id.number
   numbers_below q k same held = below_strict k o.id
@@ -162,9 +151,10 @@ added : (old : List NumberRange) (ns : List ℕ) (n : ℕ) → with_last (with_e
 added old [] n = refl
 added old (m ∷ ns) n = added (with_last old m) ns n
 
-all_more : {X : Type 0} (P : X → Type 0) (xs : List X) (x : X) → AllByRecursion P xs → P x → AllByRecursion P (xs ++ x ∷ [])
-all_more P [] x h p = (p, tt)
-all_more P (y ∷ xs) x h p = (h.0, all_more P xs x h.1 p)
+-- what holds of each item holds with one more, of which it holds too
+pub all_push : {X : Type 0} (P : X → Type 0) (xs : List X) (x : X) → AllByRecursion P xs → P x → AllByRecursion P (xs ++ x ∷ [])
+all_push P [] x h p = (p, tt)
+all_push P (y ∷ xs) x h p = (h.0, all_push P xs x h.1 p)
 
 module _ (id : Id) (ops : List Operation) (old : List NumberRange) where
   pub run_begins : (new : List NumberRange) → new ≡ with_last old id.number → AddsRun id ops ops old new
@@ -175,7 +165,7 @@ module _ (id : Id) (ops : List Operation) (old : List NumberRange) where
   run_more it rest o now new next same more h = (
     record {
       run = h.0.run ++ o ∷ [];
-      same = all_more _ h.0.run o h.0.same same;
+      same = all_push _ h.0.run o h.0.same same;
       parts = h.0.parts ∙ ap (λ (w : List Operation). h.0.run ++ w) next ∙ sym (append_assoc h.0.run (o ∷ []) rest);
     },
     more ∙ ap (λ (w : List NumberRange). with_last w o.id.number) h.1

@@ -4,7 +4,7 @@ use Rattle.std.specs.List.{list_all}
 use Rattle.std.proofs.lemmas.Bool.{and_parts, and_from, ltb-true, le-leb, lt-ltb, eqb-true, eq-eqb, ne_eqb, eqb-false, true≢false, cases_lt}
 use Rattle.bundle_codec.specs.declared.summaries.range.NumberRange.{NumberRange}
 use Rattle.bundle_codec.specs.Summaries.{is_range, are_apart, has_number}
-use Rattle.bundle_codec.specs.SummaryMaking.{with_last, AreRanges}
+use Rattle.bundle_codec.specs.Loops.SummaryMaking.{with_last, AreRanges}
 use Rattle.bundle_codec.proofs.SummaryReads.{range_bounds}
 use Rattle.bundle_codec.proofs.Covered.{lies_in, lies_yes, lies_not, lies_bounds}
 

@@ -16,7 +16,7 @@ use Rattle.op_core.proofs.SideBySide.{clash_none, clash_less, clash_greater, cla
 use Rattle.op_core.proofs.Fronts.{join_none, join_less, join_greater, join_tied}
 use Rattle.bundle_codec.specs.Spelling.{operation}
 use Rattle.bundle_codec.specs.Views.{lent}
-use Rattle.bundle_codec.specs.Merging.{GoesPast, Meets, Leaves, Steps}
+use Rattle.bundle_codec.specs.Loops.Merging.{GoesPast, Meets, Leaves, Steps}
 use Rattle.bundle_codec.proofs.OneSpelling.{takes_bytes}
 
 -- the rest of a list, by its two parts in two words
@@ -162,7 +162,8 @@ pub all_more : (done : List Operation) (o : Operation) (full now : Bool) → ful
 all_more done o full now h e =
     e ∙ (λ i. h i && sym (and-true (is_full o)) i) ∙ sym (list_all-append is_full done (o ∷ []))
 
-pub goes_on : (a b : List Operation) (front bytes more : List ℕ) (full now : Bool) (count : ℕ) (xs ys xs' ys' : List Operation) (o : Operation)
+pub goes_on : (a b : List Operation) (front bytes more : List ℕ) (full now : Bool) (count : ℕ) (xs ys xs' ys' : List Operation)
+    (o : Operation)
     → Kept a b front bytes full count xs ys → Leaves xs ys o xs' ys' → more ≡ operation o → now ≡ (full && is_full o)
     → Kept a b front (bytes ++ more) now (count + 1) xs' ys'
 goes_on a b front bytes more full now count xs ys xs' ys' o k l spelled e = record {

@@ -58,7 +58,8 @@ module _ (q : List ℕ) (ks : List Known) where
       around_found e =
           let same : k.name ≡ q = sym (same_bytes-is q k.name (same_tied k.name q ∙ ap is_eq e)) in
           sym (ap (λ (w : List ℕ). under_name w ks) same)
-          ∙ all_at (λ (x : Known). under_name x.name ks ≡ Some x) ks middle k (each_found name_cmp name_total (λ (x : Known). x.name) ks rises)
+          ∙ all_at (λ (x : Known). under_name x.name ks ≡ Some x) ks middle k
+          (each_found name_cmp name_total (λ (x : Known). x.name) ks rises)
           within is
 
     pub around_none : (low high : ℕ) → IsAround q ks low high → high ≤ low → under_name q ks ≡ None

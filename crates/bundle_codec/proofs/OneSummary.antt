@@ -4,7 +4,7 @@ use Rattle.std.specs.declared.cmp.Ordering.{Ordering}
 use Rattle.std.specs.declared.cmp.Ordering.TheVariants.{Less, Equal, Greater}
 use Rattle.std.specs.Ordering.{is_lt, is_eq}
 use Rattle.std.specs.List.{list_all, AllByRecursion}
-use Rattle.std.proofs.lemmas.Bool.{and_parts, and_from, ltb-true, true≢false, cases_lt}
+use Rattle.std.proofs.lemmas.Bool.{and_parts, and_from, ltb-true, true≢false, cases_lt, false_from_ne_true, or_left}
 use Rattle.usfm_ref.specs.Books.{same_bytes}
 use Rattle.usfm_ref.specs.Rising.{rises_by}
 use Rattle.usfm_ref.proofs.Orders.{same_bytes-is, same_bytes-refl}
@@ -16,13 +16,7 @@ use Rattle.bundle_codec.specs.declared.summaries.range.NumberRange.{NumberRange}
 use Rattle.bundle_codec.specs.Summaries.{Known, IsKnown, IsSummaryOf, is_range, are_apart, has_number, covers}
 use Rattle.bundle_codec.proofs.SummaryReads.{range_bounds, name_total}
 use Rattle.bundle_codec.proofs.Covered.{lies_in, lies_yes, lies_bounds, lies_not, same_tied, above_covers_none}
-
-not_true : (b : Bool) → (b ≡ true → ⊥) → b ≡ false
-not_true true h = absurd (h refl)
-not_true false h = refl
-
-or_first : (a b : Bool) → a ≡ true → (a || b) ≡ true
-or_first a b e = ap (λ c. c || b) e
+use Rattle.bundle_codec.proofs.Holding.{id_of}
 
 or_rest : (a b : Bool) → a ≡ false → (a || b) ≡ b
 or_rest a b e = ap (λ c. c || b) e
@@ -67,7 +61,7 @@ module _ (r : NumberRange) (rs : List NumberRange) (right : Right (r ∷ rs)) wh
   }
 
   has_first : has_number (r ∷ rs) r.first ≡ true
-  has_first = or_first (lies_in r.first r) (has_number rs r.first) (lies_yes r.first r (omega arith) first_right.1.0)
+  has_first = or_left (lies_in r.first r) (has_number rs r.first) (lies_yes r.first r (omega arith) first_right.1.0)
 
   first_least : (n : ℕ) → has_number (r ∷ rs) n ≡ true → r.first ≤ n
   first_least n e = by (lies_in n r) refl
@@ -87,14 +81,14 @@ module _ (r : NumberRange) (rs : List NumberRange) (right : Right (r ∷ rs)) wh
   rest_over n over = or_rest (lies_in n r) (has_number rs n) (lies_not n r (λ h. omega (arith, h.1, over)))
 
   rest_under : (n : ℕ) → n ≤ r.last → has_number rs n ≡ false
-  rest_under n under = not_true (has_number rs n) (λ e. omega (arith, from_above r.last rs n behind_first e, under))
+  rest_under n under = false_from_ne_true (has_number rs n) (λ e. omega (arith, from_above r.last rs n behind_first e, under))
 
 last_no_more : (r s : NumberRange) (rs ss : List NumberRange) → Right (r ∷ rs) → Right (s ∷ ss) → r.first ≡ s.first
     → ((n : ℕ) → has_number (r ∷ rs) n ≡ has_number (s ∷ ss) n) → s.last ≤ r.last
 last_no_more r s rs ss a b f same = elim (cases_lt r.last s.last) [
   | inl lt ↦
       let inside : has_number (s ∷ ss) (suc r.last)
-      ≡ true = or_first (lies_in (suc r.last) s) (has_number ss (suc r.last))
+      ≡ true = or_left (lies_in (suc r.last) s) (has_number ss (suc r.last))
       (lies_yes (suc r.last) s (omega (arith, f, (first_right r rs a).1.0)) lt) in
       absurd (ends_so r rs a (suc r.last) (omega arith) (omega arith) (same (suc r.last) ∙ inside))
   | inr le ↦ le
@@ -120,9 +114,6 @@ same_ranges (r ∷ rs) (s ∷ ss) a b same =
     λ i. record { first = f i; last = l i } ∷ rest i
 
 -- ---- names
-
-abbrev id_of : ℕ → List ℕ → Id
-id_of n q = record { number = n; name = q }
 
 abbrev Rises : List Known → Type 0
 Rises ks = rises_by name_cmp (λ (k : Known). k.name) ks ≡ true

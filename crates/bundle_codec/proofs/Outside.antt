@@ -13,6 +13,7 @@ use Rattle.op_core.proofs.Rising.{id_total}
 use Rattle.bundle_codec.specs.Spelling.{magic_of, operation, bundle}
 use Rattle.bundle_codec.specs.Summaries.{Known, covers, outside}
 use Rattle.bundle_codec.proofs.Refronted.{begun, refronted}
+use Rattle.op_core.proofs.Past.{counts_within}
 
 all_filter : {A : Type 0} (P : A → Type 0) (p : A → Bool) (xs : List A) → AllByRecursion P xs → AllByRecursion P (filter p xs)
 all_filter P p [] h = tt
@@ -25,12 +26,6 @@ outside_set s held set = record {
   each = all_filter _ (is_sent held (covers s)) held set.each;
 }
 
-fewer : (p : Operation → Bool) (held : List Operation) → length (filter p held) ≤ length held
-fewer p [] = omega arith
-fewer p (o ∷ held) = let rest = fewer p held in
-    elim (p o) as (λ b. length (cond b (o ∷ filter p held) (filter p held)) ≤ length (o ∷ held))
-    [ true ↦ omega (arith, rest) | false ↦ omega (arith, rest) ]
-
 -- ---- a walk over operations that writes those that pass, and counts the others off
 
 pub record Written (p : Operation → Bool) (all rest : List Operation) (bytes : List ℕ) (full : Bool) (count : ℕ) : Type 0 where
@@ -38,7 +33,8 @@ pub record Written (p : Operation → Bool) (all rest : List Operation) (bytes :
   pub format : (full && all_full (filter p rest)) ≡ all_full (filter p all)
   pub counted : count + length (filter p rest) ≡ length (filter p all) + length rest
 
-module _ (p : Operation → Bool) (all it rest : List Operation) (o : Operation) (bytes : List ℕ) (full : Bool) (count : ℕ) (next : it ≡ o ∷ rest)
+module _ (p : Operation → Bool) (all it rest : List Operation) (o : Operation) (bytes : List ℕ) (full : Bool) (count : ℕ)
+    (next : it ≡ o ∷ rest)
     (w : Written p all it bytes full count) where
   longer : length it ≡ suc (length rest)
   longer = ap length next
@@ -48,7 +44,7 @@ module _ (p : Operation → Bool) (all it rest : List Operation) (o : Operation)
     same = ap (filter p) next ∙ ap (λ b. cond b (o ∷ filter p rest) (filter p rest)) off
 
     pub counted_some : 1 ≤ count
-    counted_some = omega (arith, ap length same, longer, w.counted, fewer p rest)
+    counted_some = omega (arith, ap length same, longer, w.counted, counts_within p rest)
 
     pub goes_past : Written p all rest bytes full (count - 1)
     goes_past = record {

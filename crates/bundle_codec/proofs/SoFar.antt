@@ -18,10 +18,10 @@ use Rattle.op_core.specs.Ops.{Operation, IsOperation}
 use Rattle.op_core.specs.Sets.{rises, get, IsOpSet}
 use Rattle.bundle_codec.specs.declared.summaries.range.NumberRange.{NumberRange}
 use Rattle.bundle_codec.specs.Summaries.{Known, IsKnown, IsSummaryOf, covers, has_number}
-use Rattle.bundle_codec.specs.SummaryMaking.{under, HoldsRun, AreRanges, AreUnder, HoldsRanges, listed}
+use Rattle.bundle_codec.specs.Loops.SummaryMaking.{under, HoldsRun, AreRanges, AreUnder, HoldsRanges, listed}
 use Rattle.bundle_codec.proofs.SummaryReads.{name_total}
 use Rattle.bundle_codec.proofs.Covered.{covers-found, under_name, found_has}
-use Rattle.bundle_codec.proofs.Holding.{names_run}
+use Rattle.bundle_codec.proofs.Holding.{names_run, all_push}
 
 pub record SoFar {A : Type 0} (all rest : List Operation) (m : BTreeMap (List ℕ) (Vec NumberRange A)) : Type 0 where
   pub done : List Operation
@@ -133,10 +133,6 @@ module _ {A : Type 0} where
   }
 
 -- ---- the names of a map, one after another
-
-all_push : {X : Type 0} (P : X → Type 0) (xs : List X) (x : X) → AllByRecursion P xs → P x → AllByRecursion P (xs ++ x ∷ [])
-all_push P [] x h p = (p, tt)
-all_push P (y ∷ xs) x h p = (h.0, all_push P xs x h.1 p)
 
 pub record Walked {A : Type 0} (m : BTreeMap (List ℕ) (Vec NumberRange A)) (it : List (List ℕ × Vec NumberRange A))
     (names : List Known) : Type 0 where

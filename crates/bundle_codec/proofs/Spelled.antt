@@ -20,28 +20,23 @@ use Rattle.bundle_codec.proofs.Readers.{Each, Reads, step, ends, checked, judged
 use Rattle.bundle_codec.proofs.FieldReaders.{byte_reads, block_reads, number_reads, exactly_reads, wide64}
 use Rattle.bundle_codec.proofs.RisingIds.{Climbs, rises-from_climbs, climbs-from_rises}
 use Rattle.bundle_codec.proofs.FieldsSpelled.{id_reads, replaced_reads, key_reads, tag_of, body_reads}
+use Rattle.usfm_ref.proofs.Codes.{code_length}
+use Rattle.verse_cut.proofs.FitLaws.{fits_is_read}
 
 -- ---- an operation
 
--- an operation that may stand in a bundle of a format after the one before it
+-- an operation that may be in a bundle of a format after the one before it
 abbrev pub Follows : Bool → Option Id → Operation → Type 0
 Follows full before o = (comes_after before o.id ≡ true) × ((is_tag full (tag_of o.text) ≡ true) × (IsOperation o × IsCounted o))
 
 -- a text that is not left out, as it is judged and as it is said
 text_to : (g : Segment) (text : Option (List ℕ)) → may_be_utf8 text ≡ true → may_fit g.book g.key text ≡ true → MayBeText g text
 text_to g None u f = tt
-text_to g (Some text) u f = record { utf8 = IsUtf8-from_is_utf8 text u; fits = f }
+text_to g (Some text) u f = record { utf8 = IsUtf8-from_is_utf8 text u; fits = (fits_is_read g.book g.key text).0 f }
 
 pub text_from : (g : Segment) (text : Option (List ℕ)) → MayBeText g text → (may_be_utf8 text ≡ true) × (may_fit g.book g.key text ≡ true)
 text_from g None f = (refl, refl)
-text_from g (Some text) f = (is_utf8-from_IsUtf8 text f.utf8, f.fits)
-
-pub code_length : (code : List ℕ) → is_book_code code ≡ true → length code ≡ 3
-code_length [] h = cc
-code_length (a ∷ []) h = cc
-code_length (a ∷ b ∷ []) h = cc
-code_length (a ∷ b ∷ c ∷ []) h = refl
-code_length (a ∷ b ∷ c ∷ d ∷ rest) h = cc
+text_from g (Some text) f = (is_utf8-from_IsUtf8 text f.utf8, (fits_is_read g.book g.key text).1 f.fits)
 
 pub operation_reads : (full : Bool) (k : ℕ) (before : Option Id)
     → Reads (operation_at full k before) operation (Follows full before)

@@ -7,6 +7,7 @@ use Rattle.std.proofs.lemmas.Bool.{and_parts, and_from}
 use Rattle.usfm_ref.specs.Books.{is_book_code}
 use Rattle.usfm_ref.specs.Keys.{KeyParts, is_key}
 use Rattle.usfm_ref.specs.Segments.{segment}
+use Rattle.usfm_ref.proofs.Codes.{code_length}
 use Rattle.op_core.specs.Names.{is_name}
 use Rattle.op_core.specs.Ids.{Id, is_number, is_id}
 use Rattle.op_core.specs.Ops.{Operation}
@@ -18,7 +19,7 @@ use Rattle.bundle_codec.specs.Views.{each_at, found, each_id_at, ids_at}
 use Rattle.bundle_codec.proofs.Readers.{Each, Reader, Reads, step, reads_as, many_reads, ok_is}
 use Rattle.bundle_codec.proofs.FieldReaders.{block_reads, number_reads, wide64}
 use Rattle.bundle_codec.proofs.FieldsSpelled.{number_below, id_reads, key_reads, body_reads}
-use Rattle.bundle_codec.proofs.Spelled.{Follows, code_length, text_from, operation_reads}
+use Rattle.bundle_codec.proofs.Spelled.{Follows, text_from, operation_reads}
 
 pub is_ok : {A : Type 0} (r : Result A BundleFault) (x : A) → r ≡ Ok x → IsOk r
 is_ok r x e = rw e refl

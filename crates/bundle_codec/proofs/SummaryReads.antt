@@ -23,7 +23,7 @@ name_total = nat_list_cmp_total
 
 -- ---- a range
 
--- a range that may stand after the one before it
+-- a range that may be after the one before it
 abbrev pub RangeFollows : Option ℕ → NumberRange → Type 0
 RangeFollows before r = (is_range r && begins_after before r.first) ≡ true
 

@@ -6,6 +6,7 @@ use Rattle.std.specs.List.{list_all, list_any, AllByRecursion}
 use Rattle.std.specs.Option.{is_some}
 use Rattle.std.specs.FinMap.Entries.{by_order}
 use Rattle.std.proofs.lemmas.Bool.{and_parts, and_from, lt-ltb, true≢false}
+use Rattle.std.proofs.Math.Bool.{and-false}
 use Rattle.usfm_ref.specs.Books.{same_bytes}
 use Rattle.usfm_ref.specs.Rising.{rises_by, rising, with_item}
 use Rattle.usfm_ref.proofs.Orders.{same_bytes-is, same_bytes-refl}
@@ -87,10 +88,6 @@ among q k (o ∷ ops) = by (same_bytes o.id.name q) (eqb k o.id.number) refl ref
 
 -- ---- the names of a set
 
-and_none : (b : Bool) → (b && false) ≡ false
-and_none true = refl
-and_none false = refl
-
 module _ (q : List ℕ) where
   abbrev is_q : List ℕ → Bool
   is_q x = same_bytes x q
@@ -171,7 +168,7 @@ module _ (held : List Operation) where
           let here : has_number (ranges_of (numbers_of held x)) id.number ≡ false =
           ap (λ (w : List ℕ). has_number (ranges_of (numbers_of held w)) id.number) (same_bytes-is x id.name e) ∙ f in
           let none : covers (map told xs) id ≡ false =
-          rest ∙ ap (λ b. list_any (is_q id.name) xs && b) f ∙ and_none (list_any (is_q id.name) xs) in
+          rest ∙ ap (λ b. list_any (is_q id.name) xs && b) f ∙ and-false (list_any (is_q id.name) xs) in
           rw (e, here, f, none) refl
       by false e c f rest = ap (λ b. (b && has_number (ranges_of (numbers_of held x)) id.number) || covers (map told xs) id) e ∙ rest
           ∙ ap (λ b. (b || list_any (is_q id.name) xs) && has_number (ranges_of (numbers_of held id.name)) id.number) (sym e)
@@ -190,7 +187,7 @@ module _ (held : List Operation) where
       by true e = ap (λ b. b && is_some (get held id))
           (any_rising id.name (map (λ (o : Operation). o.id.name) held) (named_held id.name id.number held e))
       by false e = ap (λ b. list_any (is_q id.name) (rising name_cmp (map (λ (o : Operation). o.id.name) held)) && b) e
-          ∙ and_none (list_any (is_q id.name) (rising name_cmp (map (λ (o : Operation). o.id.name) held))) ∙ sym e
+          ∙ and-false (list_any (is_q id.name) (rising name_cmp (map (λ (o : Operation). o.id.name) held))) ∙ sym e
 
 module _ (held : List Operation) (set : IsOpSet held) where
   right : (q : List ℕ) → Made (numbers_of held q) (ranges_of (numbers_of held q))

@@ -4,6 +4,7 @@ use Rattle.std.specs.List.{list_any, AllByRecursion}
 use Rattle.std.specs.BTreeMap.{get as value_at, is_at}
 use Rattle.std.specs.Map.{lookup}
 use Rattle.std.proofs.lemmas.Bool.{and_parts, and_from}
+use Rattle.std.proofs.Math.Bool.{and-false, or-false}
 use Rattle.op_core.specs.Ids.{Id, id_cmp, same_id}
 use Rattle.op_core.specs.Equal.{id_from_same, same_id-refl}
 use Rattle.op_core.specs.Ops.{Operation, is_full}
@@ -15,7 +16,7 @@ use Rattle.op_core.proofs.Left.{same_id-sym}
 use Rattle.bundle_codec.specs.declared.fault.BundleFault.TheVariants.{Unsupported}
 use Rattle.bundle_codec.specs.Reading.{unnamed_from, unnamed_place, judge_named, judge_thinned}
 use Rattle.bundle_codec.specs.Views.{lent}
-use Rattle.bundle_codec.specs.Thinning.{Place, Places, thinned_place, HoldsThinned, is_beside, is_naming, left_of, LeavesNamed, first_of}
+use Rattle.bundle_codec.specs.Loops.Thinning.{Place, Places, thinned_place, HoldsThinned, is_beside, is_naming, left_of, LeavesNamed, first_of}
 
 -- the key that a map finds for an id is that id
 same_key : (q k : Id) → is_at (id_cmp k) q ≡ same_id q k
@@ -24,14 +25,6 @@ same_key q k = sym (same_id-cmp k q) ∙ same_id-sym k q
 cond_same : {A : Type 0} (b : Bool) (x : A) → cond b x x ≡ x
 cond_same true x = refl
 cond_same false x = refl
-
-and_none : (b : Bool) → (b && false) ≡ false
-and_none true = refl
-and_none false = refl
-
-or_none : (b : Bool) → (b || false) ≡ b
-or_none true = refl
-or_none false = refl
 
 -- ---- the thinned operations, one by one
 
@@ -89,7 +82,7 @@ module _ (ops it rest : List Operation) (o : Operation) (m : Places) (next : it 
     values = λ q.
         ap (with_ops rest q)
         (sym (ap (λ b. cond (same_id q o.id && not b) (Some (place_of o)) (value_at id_cmp m q)) f
-        ∙ ap (λ b. cond b (Some (place_of o)) (value_at id_cmp m q)) (and_none (same_id q o.id))))
+        ∙ ap (λ b. cond b (Some (place_of o)) (value_at id_cmp m q)) (and-false (same_id q o.id))))
         ∙ values_on q;
     fulls = λ h. (fulls_on h).1;
   }
@@ -228,8 +221,8 @@ module _ (o : Operation) (ids it rest : List Id) (id : Id) (m n : Places) (next 
 pub named_left : (o : Operation) (it : List Id) (m n : Places) → it ≡ [] → SoFarNamed o o.replaced it m n → LeavesNamed (o ∷ []) m n
 named_left o it m n end s q =
     let g = value_at id_cmp n q in
-    sym (ap (λ b. cond b None g) (and_none (is_beside g o))) ∙ ap (λ (xs : List Id). left_by o xs q g) (sym end) ∙ s q
-    ∙ ap (λ b. cond b None (value_at id_cmp m q)) (sym (or_none (is_naming q (value_at id_cmp m q) o)))
+    sym (ap (λ b. cond b None g) (and-false (is_beside g o))) ∙ ap (λ (xs : List Id). left_by o xs q g) (sym end) ∙ s q
+    ∙ ap (λ b. cond b None (value_at id_cmp m q)) (sym (or-false (is_naming q (value_at id_cmp m q) o)))
 
 -- one operation after another
 abbrev pub SoFarLeft : List Operation → List Operation → Places → Places → Type 0

@@ -65,7 +65,7 @@ abbrev pub BothGive : Result (List ℕ) JoinFault → Result (List ℕ) JoinFaul
 BothGive (Ok one) (Ok other) = one ≡ other
 BothGive one other = ⊥
 
--- the bytes are a bundle, and its operations are of a family, in which no id stands for two
+-- the bytes are a bundle, and its operations are of a family, in which no id has two operations
 pub record IsBundleOf (family : Id → Operation) (bytes : List ℕ) : Type 0 where
   pub is : IsBundle bytes
   pub of : IsOf family is.ops
@@ -75,7 +75,7 @@ abbrev pub IsHeld : Result (List ℕ) JoinFault → Type 0
 IsHeld (Ok made) = length made < 2 ^ 64
 IsHeld (Err fault) = Unit {0}
 
--- Both groupings of three bundles in which no id of a thinned operation stands for two, as where none is thinned, give the
+-- Both groupings of three bundles in which no id of a thinned operation has two operations, as where none is thinned, give the
 -- same bytes, and one is refused with a clash exactly where the other is.
 abbrev pub BundlesAssociate : Type 0
 BundlesAssociate =

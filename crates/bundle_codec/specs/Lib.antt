@@ -3,9 +3,7 @@ pub mod Reading
 pub mod Views
 pub mod Laws
 pub mod Joining
-pub mod Thinning
-pub mod Merging
 pub mod Summaries
 pub mod SummaryReading
-pub mod SummaryMaking
 pub mod SummaryLaws
+pub mod Loops

@@ -44,7 +44,7 @@ abbrev pub byte_at : (ℕ → Bool) → BundleFault → List ℕ → Result (ℕ
 byte_at rule bad [] = Err Truncated
 byte_at rule bad (b ∷ rest) = if rule b then Ok (b, rest) else Err bad
 
--- so many bytes
+-- this many bytes
 abbrev pub block_at : ℕ → (List ℕ → Bool) → BundleFault → List ℕ
     → Result (List ℕ × List ℕ) BundleFault
 block_at n rule bad bytes =
@@ -204,7 +204,7 @@ operation_at full k before bytes = do
 abbrev pub after_operation : ℕ × Option Id → Operation → ℕ × Option Id
 after_operation s o = (s.0 + 1, Some o.id)
 
--- so many operations, from a place and the id before it on
+-- this many operations, from a place and the id before it on
 abbrev pub operations_at : Bool → ℕ → ℕ × Option Id → List ℕ
     → Result (List Operation × List ℕ) BundleFault
 operations_at full n s bytes = many_at (λ t. operation_at full t.0 t.1) after_operation n s bytes

@@ -34,7 +34,7 @@ range_at before bytes = do
 abbrev pub after_range : Option ℕ → NumberRange → Option ℕ
 after_range before r = Some r.last
 
--- so many ranges
+-- this many ranges
 abbrev pub ranges_at : ℕ → List ℕ → Result (List NumberRange × List ℕ) BundleFault
 ranges_at n bytes = many_at range_at after_range n None bytes
 
@@ -67,7 +67,7 @@ name_read read = read >>= λ k. Ok (k.0.name, k.1)
 abbrev pub after_known : Option (List ℕ) → Known → Option (List ℕ)
 after_known before k = Some k.name
 
--- so many names with their ranges
+-- this many names with their ranges
 abbrev pub names_at : ℕ → List ℕ → Result (List Known × List ℕ) BundleFault
 names_at n bytes = many_at known_at after_known n None bytes
 

@@ -41,7 +41,7 @@ id_view i = record { number = i.number; name = i.name.now }
 abbrev pub key_view : KeyView → KeyParts
 key_view k = record { chapter = k.chapter; place = k.place }
 
--- so many ids, whatever their order
+-- this many ids, whatever their order
 abbrev pub each_id_at : ℕ → List ℕ → Result (List Id × List ℕ) BundleFault
 each_id_at n bytes = each_at (id_at Truncated) n bytes
 
@@ -64,21 +64,21 @@ op_view f = record {
   text = lent f.text;
 }
 
--- so many operations, of either format, whatever their order and their places
+-- this many operations, of either format, whatever their order and their places
 abbrev pub each_operation_at : ℕ → List ℕ → Result (List Operation × List ℕ) BundleFault
 each_operation_at n bytes = each_at (operation_at false 0 None) n bytes
 
--- the operations that the bytes spell, so many
+-- the operations that the bytes spell, this many
 abbrev pub operations_in : ℕ → List ℕ → List Operation
 operations_in n bytes = found (each_operation_at n bytes)
 
--- the bytes after the count spell a set of so many operations, and no more
+-- the bytes after the count spell a set of this many operations, and no more
 pub record SpellsSet (n : ℕ) (bytes : List ℕ) : Type 0 where
   pub read : each_operation_at n bytes ≡ Ok (operations_in n bytes, [])
   pub count : n ≡ length (operations_in n bytes)
   pub set : IsOpSet (operations_in n bytes)
 
--- the bytes after the count spell a legal set of so many operations, and no more, and the format is the set's
+-- the bytes after the count spell a legal set of this many operations, and no more, and the format is the set's
 pub record Spells (full : Bool) (n : ℕ) (bytes : List ℕ) : Type 0 where
   pub spells : SpellsSet n bytes
   pub legal : IsTrue (is_legal (operations_in n bytes))

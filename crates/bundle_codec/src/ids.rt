@@ -21,7 +21,7 @@ pub(crate) struct IdView<'a> {
     pub(crate) name: &'a [u8],
 }
 
-// So many ids, which the bytes begin with.
+// This many ids, which the bytes begin with.
 #[derive(Clone, Copy, Debug)]
 pub(crate) struct IdList<'a> {
     pub(crate) count: u64,
@@ -144,12 +144,10 @@ pub(crate) fn made_name(bytes: &[u8]) -> ReplicaName
     requires { IsTrue (is_name bytes.now) }
     ensures { result ≡ bytes.now }
 {
-    // A name is ASCII, so it is text.
-    let text = unsafe { str::from_utf8_unchecked(bytes) };
-    ReplicaName::read(text).unwrap()
+    ReplicaName::of_bytes(bytes).unwrap()
 }
 
-// How one id stands to another.
+// How one id compares to another.
 pub(crate) fn compared(a: &IdView<'_>, b: &IdView<'_>) -> Ordering
     ensures { result ≡ id_cmp (id_view a.now) (id_view b.now) }
 {
@@ -186,7 +184,7 @@ fn named_of<'a>(
     Ok((id, rest))
 }
 
-// Judges so many replaced ids, and gives the bytes after them.
+// Judges this many replaced ids, and gives the bytes after them.
 fn after_ids<'a>(
     bad: BundleFault,
     own: &IdView<'_>,
@@ -234,7 +232,7 @@ pub(crate) fn replaced_of<'a>(
     Ok((IdList { count, bytes: ids }, rest))
 }
 
-// The bytes after so many ids that were judged.
+// The bytes after this many ids that were judged.
 fn after_ids_in(count: u64, bytes: &[u8]) -> &[u8]
     requires { IsOk (each_id_at count bytes.now) }
     ensures { after (each_id_at count bytes.now) ≡ Ok result.now }

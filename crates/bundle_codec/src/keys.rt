@@ -1,4 +1,4 @@
-// Books and keys, judged where they stand in the bytes.
+// Books and keys, judged where they are in the bytes.
 ghost use Rattle.std.specs.Prelude.{◌≡◌, IsTrue, IfOk, IsOk, Ok, Err};
 ghost use Rattle.usfm_ref.specs.Books.{is_code_char, is_book_code};
 ghost use Rattle.usfm_ref.specs.Keys.{is_key, is_place};
@@ -104,9 +104,8 @@ pub(crate) fn book_in(code: &[u8]) -> Book
     requires { IsTrue (is_book_code code.now) }
     ensures { result ≡ code.now }
 {
-    // A book's code is ASCII, so it is text.
-    let code = unsafe { str::from_utf8_unchecked(code) };
-    Book::read(code).unwrap()
+    let (code, _) = code.split_first_chunk::<3>().unwrap();
+    Book::of_code(*code).unwrap()
 }
 
 // Whether a text fits a code and a key that were judged.

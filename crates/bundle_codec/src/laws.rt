@@ -24,7 +24,7 @@ pub fn bundle_with_itself()
     ensures { laws.BundleWithItself }
 {}
 
-/// Both groupings of three bundles in which no id of a thinned operation stands for two give the same
+/// Both groupings of three bundles in which no id of a thinned operation has two operations give the same
 /// bytes, and one is refused with a clash exactly where the other is.
 pub fn bundles_associate()
     ensures { laws.BundlesAssociate }
@@ -35,7 +35,7 @@ pub fn groupings_give_the_same()
     ensures { laws.GroupingsGiveTheSame }
 {}
 
-/// Both groupings of three bundles of one family, in which no id stands for two operations, give the
+/// Both groupings of three bundles of one family, in which no id has two operations, give the
 /// same bytes.
 pub fn bundles_of_one_family()
     ensures { laws.BundlesOfOneFamily }

@@ -5,7 +5,7 @@ ghost use Rattle.op_core.specs.Ops.{Operation};
 ghost use Rattle.op_core.specs.Sets as sets;
 ghost use Rattle.op_core.specs.Thinned.{all_full};
 ghost use Rattle.bundle_codec.specs.Spelling.{operation};
-ghost use Rattle.bundle_codec.specs.Merging as merging;
+ghost use Rattle.bundle_codec.specs.Loops.Merging as merging;
 
 use crate::fault::JoinFault;
 use crate::view::OpView;
@@ -23,7 +23,7 @@ struct Walk<'a> {
 impl<'a> Model for Walk<'a> {
     ghost use Rattle.std.specs.Prelude.{List};
     ghost use Rattle.op_core.specs.Ops.{Operation};
-    ghost use Rattle.bundle_codec.specs.Merging.{at_hand};
+    ghost use Rattle.bundle_codec.specs.Loops.Merging.{at_hand};
 
     ghost Value = { List Operation };
 

@@ -1,4 +1,4 @@
-// Operations, judged where they stand in the bytes.
+// Operations, judged where they are in the bytes.
 ghost use Rattle.std.specs.Prelude.{◌≡◌, None, false, Ok, Err, IfOk, IsOk, IsTrue, option_map};
 ghost use Rattle.usfm_ref.specs.Books.{is_book_code};
 ghost use Rattle.usfm_ref.specs.Keys.{is_key};
@@ -29,7 +29,7 @@ fn counted_text_of(bytes: &[u8]) -> Result<(&[u8], &[u8]), BundleFault>
     block_of(len, rest)
 }
 
-// Whether the tag may stand in a bundle of the format: 1 in both, and 0 in format 2.
+// Whether the tag may be in a bundle of the format: 1 in both, and 0 in format 2.
 fn is_tag_of(full: bool, tag: u8) -> bool
     ensures { result ≡ is_tag full tag }
 {
@@ -147,7 +147,7 @@ fn fields_of<'a>(
     Ok((fields, rest))
 }
 
-// Judges so many operations of a bundle of the format, and gives the bytes after them.
+// Judges this many operations of a bundle of the format, and gives the bytes after them.
 pub(crate) fn after_operations(full: bool, count: u64, bytes: &[u8]) -> Result<&[u8], BundleFault>
     ensures { Gives (λ r. r.now) result (after (operations_at full count (1, None) bytes.now)) }
 {

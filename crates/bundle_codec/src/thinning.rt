@@ -5,7 +5,7 @@ ghost use Rattle.op_core.specs.Sets.{rises};
 ghost use Rattle.op_core.specs.Thinned.{all_full};
 ghost use Rattle.bundle_codec.specs.Reading as reading;
 ghost use Rattle.bundle_codec.specs.Views.{operations_in, SpellsSet};
-ghost use Rattle.bundle_codec.specs.Thinning as thinning;
+ghost use Rattle.bundle_codec.specs.Loops.Thinning as thinning;
 
 use crate::fault::BundleFault;
 use crate::view::OpView;
@@ -18,7 +18,7 @@ use usfm_ref::{Book, Key};
 // Thinned operations, by their ids, each with its segment.
 type Thinned = BTreeMap<OpId, (Book, Key)>;
 
-// Judges the operations of a bundle of format 2, so many, which the bytes spell: at least one is
+// Judges the operations of a bundle of format 2, this many, which the bytes spell: at least one is
 // thinned, and each that is thinned is named by one of its segment. Each operation is looked at three
 // times, and memory is taken for the thinned ones alone.
 pub(crate) fn judge_thinned(alloc: Global, count: u64, bytes: &[u8]) -> Result<(), BundleFault>

@@ -94,7 +94,7 @@ impl<'a> OpView<'a> {
         self.book() == op.book() && self.key() == op.key()
     }
 
-    // How its id stands to another's.
+    // How its id compares to another's.
     pub(crate) fn compare_id(&self, other: &OpView<'_>) -> Ordering
         ensures { result ≡ id_cmp self.now.id other.now.id }
     {

@@ -25,7 +25,7 @@ pub fn decode_whole(alloc: Global, bytes: &[u8]) -> Result<Bundle<'_>, WholeFaul
         IsOpSet ops → IsTrue (is_legal ops) → bytes.now ≡ bundle ops
         → MatchResult result (λ x. x ≡ ops)
         (λ fault. (fault ≡ out_of_memory) × (all_full ops ≡ false)) }
-    // Something more than a bundle is reported exactly where it stands, but for memory that is
+    // Something more than a bundle is reported exactly where it is, but for memory that is
     // refused for a set with a thinned operation.
     ensures followed { IfErr result (λ fault. fault ≡ WholeFault.Trailing → IsFollowed bytes.now) }
     ensures trailing { (more : IsFollowed bytes.now) → MatchResult result (λ _. ⊥)

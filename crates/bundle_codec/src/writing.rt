@@ -60,7 +60,7 @@ pub(crate) fn push_front(bytes: &mut Vec<u8>, full: bool, count: u64) -> Result<
     bytes.extend_from_slice(&front_of(full, count))
 }
 
-// Writes the format and the count of a bundle over those that stand in its bytes.
+// Writes the format and the count of a bundle over those that are in its bytes.
 pub(crate) fn set_front(bytes: &mut Vec<u8>, full: bool, count: u64)
     requires { 16 ≤ vec_len bytes.old }
     ensures { let front = spelled.magic_of full ++ to_be_bytes w64 count in

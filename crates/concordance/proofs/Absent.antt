@@ -1,4 +1,4 @@
--- A needle that stands nowhere in a text has no hits in it.
+-- A needle that occurs nowhere in a text has no hits in it.
 use Rattle.std.proofs.Common.{◌≡◌, ℕ, ◌+◌, ◌<◌, true, false, true≢false, List, [], ◌∷◌, ◌++◌, length, take, drop, Option, None, Some, is_some, sym, ap, ◌∙◌, refl, arith, length-append}
 use Rattle.std.specs.List.{flat_map}
 use Rattle.std.specs.Prelude.{map}
@@ -23,7 +23,7 @@ pub found_nowhere : (s needle : List ℕ) (r : Option ℕ) → FindsNeedle s nee
 found_nowhere s needle None h e = h
 found_nowhere s needle (Some k) h e = absurd (true≢false e)
 
--- a passage that stands in a text occurs there
+-- a passage that is in a text occurs there
 occurs_where : (s : List ℕ) (p : Passage) → Stands s p → OccursAt s p.text p.start
 occurs_where s p (x, y, is, at) =
     let whole = ap length is ∙ length-append x (p.text ++ y) in

@@ -14,7 +14,7 @@ use Rattle.usfm_tree.specs.Forest.{Forest, nothing, text, leaf, node}
 use Rattle.usfm_tree.specs.StepViews.{entry_before, placed_text}
 use Rattle.usfm_tree.specs.declared.step.Entry.{Entry}
 use Rattle.usfm_tree.specs.declared.step.Entry.TheVariants as entries
-use Rattle.concordance.specs.Gathered.{root, enclosed, counted, settled, closes_character, behind_milestone, gathered, EventsFit, EntryFits}
+use Rattle.concordance.specs.Loops.Gathered.{root, enclosed, counted, settled, closes_character, behind_milestone, gathered, EventsFit, EntryFits}
 use Rattle.concordance.specs.Passages.{Passage}
 use Rattle.concordance.specs.Plain.{is_nothing, node_end, mark_at_end, number_length}
 use Rattle.concordance.specs.Reading.{Surroundings, inside_of, left_of, with_text, leaves_from, TextsFit}
@@ -159,7 +159,7 @@ reverse_front n k xs is = ⊎_elim below past (order n (length xs))
         ap (λ j. reverse (take j xs)) (let zero_is : k ≡ 0 = omega (arith, is) in zero_is)
         ∙ sym (nil_from_length (drop n (reverse xs)) (omega (arith, length-drop n (reverse xs), length-reverse xs)))
 
--- a list without so many from its end, from the back
+-- a list without this many from its end, from the back
 pub reverse_take : {A : Type 0} (n : ℕ) (xs : List A) → reverse (take (length xs - n) xs) ≡ drop n (reverse xs)
 reverse_take n xs = reverse_front n (length xs - n) xs refl
 

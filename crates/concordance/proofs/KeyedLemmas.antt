@@ -38,6 +38,10 @@ keyed_step ps ps' (x ∷ items) p key l e held same is =
     let b = and_parts (nat_lt x.start (end_of ps)) (rise_between x.start (end_of ps) (passages_view items)) a.1 in
     let same' : (n : ℕ) → x.start ≤ n → key_at ps' n ≡ key_at ps n =
     λ n h. same n (let s = ap (λ (q : passages.Passage). q.start) e in omega arith) in
-    λ i. (let one : HitParts = record { key = (ap (λ (q : passages.Passage). key_at ps q.start) (sym e) ∙ sym is) i; start = (sym e i).start; text = (sym e i).text.now }
+    λ i. (let one : HitParts = record {
+      key = (ap (λ (q : passages.Passage). key_at ps q.start) (sym e) ∙ sym is) i;
+      start = (sym e i).start;
+      text = (sym e i).text.now;
+    }
     in one)
     ∷ keyed_from ps ps' x.start (end_of ps) (passages_view items) b.1 same' i

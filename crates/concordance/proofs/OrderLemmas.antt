@@ -8,9 +8,9 @@ use Rattle.std.specs.Cmp.Lexicographic.{nat_list_cmp_total}
 use Rattle.std.specs.FinMap.{slice_cmp-IsAntisymmetric, nat_cmp-IsAntisymmetric}
 use Rattle.std.proofs.lemmas.Cmp.{on_total, then_total}
 use Rattle.usfm_ref.specs.Keys.{key_cmp}
-use Rattle.usfm_ref.proofs.Orders.{key_total, key_exact}
+use Rattle.usfm_ref.proofs.Orders.{key_total, key_exact, then_parts}
 use Rattle.concordance.specs.Words.{Spelling, form_cmp}
-use Rattle.concordance.specs.SpellingOrder.{spelling_cmp}
+use Rattle.concordance.specs.Loops.SpellingOrder.{spelling_cmp}
 
 pub form_total : IsTotalOrder form_cmp
 form_total = nat_list_cmp_total
@@ -20,11 +20,6 @@ form_exact a b h = slice_cmp-IsAntisymmetric nat_cmp-IsAntisymmetric a b h
 
 pub spelling_total : IsTotalOrder spelling_cmp
 spelling_total = then_total (on_total (λ (s : Spelling). s.form) form_total) (on_total (λ (s : Spelling). s.key) key_total)
-
-then_parts : (a b : Ordering) → ordering_then a b ≡ Equal → (a ≡ Equal) × (b ≡ Equal)
-then_parts Less b h = cc
-then_parts Equal b h = (refl, h)
-then_parts Greater b h = cc
 
 pub spelling_exact : (a b : Spelling) → spelling_cmp a b ≡ Equal → a ≡ b
 spelling_exact a b h =

@@ -10,7 +10,7 @@ use Rattle.std.proofs.lemmas.List.Sums.{sum_by-cons, AllPass-from_list_all}
 use Rattle.std.proofs.lemmas.Str.{encodes-append}
 use Rattle.concordance.specs.Laws.{IsLongestRun, RunsAreLongest, WordCharactersAreInOneRun, lies_in}
 use Rattle.concordance.specs.Passages.{Passage}
-use Rattle.concordance.specs.RunReading.{is_like, behind, front_bytes}
+use Rattle.concordance.specs.Loops.RunReading.{is_like, behind, front_bytes}
 use Rattle.concordance.specs.Words.{is_word_char, runs_behind}
 use Rattle.concordance.proofs.RunLemmas.{after, front_more, front_none, behind_more, behind_none, bytes_more, bytes_none, char_some}
 
@@ -19,7 +19,7 @@ use Rattle.concordance.proofs.RunLemmas.{after, front_more, front_none, behind_m
 abbrev front : List ℕ → List ℕ
 front cs = take_while (is_like true) cs
 
--- the run that begins with characters that stand at a place
+-- the run that begins with characters that are at a place
 abbrev run_of : ℕ → List ℕ → Passage
 run_of n cs = record { start = n; text = front_bytes true cs }
 
@@ -79,7 +79,7 @@ one_more_before before c =
     ∙ ap (λ l. length (encode_utf8_all before) + length l) (append-nil (encode_utf8 c))
 
 module _ (p : Passage) where
-  -- the runs in characters that stand after others of the passage
+  -- the runs in characters that come after others of the passage
   longest_behind : (before cs : List ℕ) (within : Bool) (n : ℕ) → chars p.text ≡ before ++ cs
       → ends_with_word before ≡ within → n ≡ p.start + length (encode_utf8_all before)
       → All (IsLongestRun p) (runs_behind within n cs)

@@ -7,7 +7,7 @@ use Rattle.std.proofs.Math.Seq.{take-append_seam}
 use Rattle.std.specs.Prelude.{chars, take_while, encode_utf8, encode_utf8_all}
 use Rattle.concordance.specs.Passages.{Passage}
 use Rattle.concordance.specs.Words.{is_word_char, runs_behind}
-use Rattle.concordance.specs.RunReading.{is_like, behind, front_bytes}
+use Rattle.concordance.specs.Loops.RunReading.{is_like, behind, front_bytes}
 
 abbrev pub after : Bool → ℕ → ℕ → List ℕ → List Passage
 after b n c cs = runs_behind b (n + length (encode_utf8 c)) cs
@@ -20,7 +20,7 @@ one_step w n c cs b e =
     ((let run : Passage = record { start = n; text = encode_utf8_all (take_while is_word_char (c ∷ cs)) } in run) ∷ after k n c cs)
     (after k n c cs)) e
 
--- ---- what stands at the front of characters
+-- ---- what is at the front of characters
 
 pub front_more : (w : Bool) (c : ℕ) (cs : List ℕ) → is_like w c ≡ true → take_while (is_like w) (c ∷ cs) ≡ c ∷ take_while (is_like w) cs
 front_more w c cs e =
@@ -82,7 +82,7 @@ past_run n (c ∷ cs) = by (past_run (n + length (encode_utf8 c)) cs) (is_word_c
     by rest true e = one_step true n c cs true e ∙ rest ∙ more true n c cs e
     by rest false e = one_step true n c cs false e ∙ sym (one_step false n c cs false e) ∙ none true n c cs e
 
--- after the others stands nothing, or a run
+-- after the others comes nothing, or a run
 pub run_at : (n : ℕ) (cs ds : List ℕ) → behind false cs ≡ ds → 0 < length ds → runs_behind false n ds
     ≡ (let run : Passage = record { start = n; text = front_bytes true ds } in run)
     ∷ runs_behind false (n + length (front_bytes true ds)) (behind true ds)

@@ -1,4 +1,4 @@
--- Where the runs of a text stand: apart within their passages, and none is empty.
+-- Where the runs of a text are: apart within their passages, and none is empty.
 use Rattle.std.proofs.Common.{◌≡◌, ℕ, ◌+◌, Bool, true, false, List, [], ◌∷◌, ◌++◌, All, length, refl, sym, ap, subst, ◌∙◌, arith, append_assoc, append-nil, length-append}
 use Rattle.std.specs.List.{flat_map}
 use Rattle.std.specs.Prelude.{chars, encode_utf8, encode_utf8_all, map}
@@ -10,9 +10,9 @@ use Rattle.concordance.specs.Hits.{keyed}
 use Rattle.concordance.specs.Passages.{Passage}
 use Rattle.concordance.specs.Plain.{plain_leaves}
 use Rattle.concordance.specs.Reading.{IsText}
-use Rattle.concordance.specs.RunReading.{is_like, behind, front_bytes}
+use Rattle.concordance.specs.Loops.RunReading.{is_like, behind, front_bytes}
 use Rattle.concordance.specs.Groups.{composed}
-use Rattle.concordance.specs.KeyedViews.{spelled}
+use Rattle.concordance.specs.Loops.KeyedViews.{spelled}
 use Rattle.concordance.specs.Words.{is_word_char, runs_behind, runs_in, spelling_at}
 use Rattle.concordance.proofs.Holding.{Filled, filled_each}
 use Rattle.concordance.proofs.RunLemmas.{one_step, char_some, bytes_more, bytes_none, behind_more, behind_none}
@@ -111,7 +111,7 @@ each_apart s low high (p ∷ ps) u a =
     (apart_from s low p.start (p.start + length p.text) (runs_in p) b (runs_apart s p (All-head IsText p ps u) a.1))
     (each_apart s (p.start + length p.text) high ps (All-tail IsText p ps u) a.3)
 
--- the runs of a text stand apart in it
+-- the runs of a text do not overlap in it
 pub all_runs_apart : (sheet : List Record) (s : List ℕ) → All IsText (plain_leaves sheet s)
     → Apart s 0 (length s) (flat_map runs_in (plain_leaves sheet s))
 all_runs_apart sheet s u = each_apart s 0 (length s) (plain_leaves sheet s) u (leaves_apart sheet s)

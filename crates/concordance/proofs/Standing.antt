@@ -1,4 +1,4 @@
--- Passages that stand apart in a text: those of a tree, and those within others.
+-- Passages that do not overlap in a text: those of a tree, and those within others.
 use Rattle.std.proofs.Common.{◌≡◌, ℕ, ◌+◌, ◌-◌, ◌≤◌, Bool, true, false, cond, ◌&&◌, List, [], ◌∷◌, ◌++◌, length, take, drop, Option, None, Some, refl, sym, ap, subst, ◌∙◌, arith, append_assoc, append-nil, length-append}
 use Rattle.std.specs.Prelude.{is_some}
 use Rattle.std.specs.List.{flat_map, position_or_len}
@@ -14,18 +14,18 @@ use Rattle.usfm_tree.specs.Forest.{Forest, nothing, text, leaf, node, bytes_of, 
 use Rattle.usfm_tree.specs.Places.{Runs}
 use Rattle.usfm_tree.specs.Reading.{tree_of}
 use Rattle.usfm_tree.specs.SheetViews.{styles_in}
-use Rattle.usfm_tree.proofs.PlaceLemmas.{tree_runs}
+use Rattle.usfm_tree.proofs.PlaceLemmas.{tree_runs, past, runs_at}
 use Rattle.usfm_tree.proofs.LeavesLemmas.{tree_bytes}
 use Rattle.concordance.specs.Passages.{Passage, StandsIn, StandApart}
 use Rattle.concordance.specs.Plain.{is_nothing, node_end, mark_at_end, is_bar, number_length, verse_length, without_attributes, plain_leaves}
 use Rattle.concordance.specs.Reading.{Surroundings, inside_of, within, left_of, counts, with_text, leaves_from}
 use Rattle.concordance.proofs.Sites.{sites_read, node_bytes}
 
--- what stands before the passage in the text, and what after it
+-- what comes before the passage in the text, and what after it
 abbrev pub Stands : List ℕ → Passage → Type 0
 Stands s p = (x : List ℕ) × (y : List ℕ) × (s ≡ x ++ (p.text ++ y)) × (length x ≡ p.start)
 
--- passages that stand in the text between two places, none overlapping the one before it
+-- passages that are in the text between two places, none overlapping the one before it
 abbrev pub Apart : List ℕ → ℕ → ℕ → List Passage → Type 0
 Apart s low high [] = Unit {0}
 Apart s low high (p ∷ ps) = (low ≤ p.start) × Stands s p × (p.start + length p.text ≤ high) × Apart s (p.start + length p.text) high ps
@@ -44,7 +44,7 @@ apart_append s low mid high [] qs l h a b = apart_from s low mid high qs l b
 apart_append s low mid high (p ∷ ps) qs l h a b =
     let e = a.2 in (a.0, a.1, omega arith, apart_append s (p.start + length p.text) mid high ps qs e h a.3 b)
 
--- passages within each of some that stand apart
+-- passages within each of some that do not overlap
 pub apart_within : (s : List ℕ) (parts : Passage → List Passage) (low high : ℕ) (ps : List Passage)
     → ((p : Passage) → Stands s p → Apart s p.start (p.start + length p.text) (parts p)) → Apart s low high ps
     → Apart s low high (flat_map parts ps)
@@ -55,7 +55,7 @@ apart_within s parts low high (p ∷ ps) within a =
     (apart_from s low p.start (p.start + length p.text) (parts p) b (within p a.1))
     (apart_within s parts (p.start + length p.text) high ps within a.3)
 
--- a part of a passage stands in the text
+-- a part of a passage is in the text
 pub stands_within : (s : List ℕ) (p q : Passage) (x y : List ℕ) → Stands s p → p.text ≡ x ++ (q.text ++ y) → p.start + length x ≡ q.start
     → Stands s q
 stands_within s p q x y (a, b, is, at) e l = (
@@ -97,7 +97,7 @@ attributes_behind : (may : Bool) (t : List ℕ) → (q : List ℕ) × (t ≡ wit
 attributes_behind true t = (drop (position_or_len is_bar t) t, sym (take-append-drop (position_or_len is_bar t) t))
 attributes_behind false t = ([], sym (append-nil t))
 
--- what is left of a text stands in it
+-- what is left of a text is in it
 left_apart : (s : List ℕ) (sur : Surroundings) (b : Option MarkParts) (last : Bool) (a t z : List ℕ) → s ≡ a ++ (t ++ z) → (k : ℕ)
     → k ≡ length a → Apart s (length a) (length a + length t) (left_of sur b last k t ∷ [])
 left_apart s sur b last a t z is k at =
@@ -125,13 +125,6 @@ with_text_apart s sur b last a t z is k at high le later h = by (counts sur)
         apart_append s (length a) (length a + length t) high (left_of sur b last k t ∷ []) later (omega arith) le
         (left_apart s sur b last a t z is k at) h
     by false = apart_from s (length a) (length a + length t) high later (omega arith) h
-
--- past what stands in front
-past : (s a x y z : List ℕ) → s ≡ a ++ ((x ++ y) ++ z) → s ≡ (a ++ x) ++ (y ++ z)
-past s a x y z h = h ∙ ap (λ l. a ++ l) (append_assoc x y z) ∙ sym (append_assoc a x (y ++ z))
-
-runs_at : (n m : ℕ) (f : Forest) → n ≡ m → Runs n f → Runs m f
-runs_at n m f e r = subst (λ k. Runs k f) e r
 
 from_to : (s : List ℕ) (low low' high high' : ℕ) (ps : List Passage) → low ≡ low' → high ≡ high' → Apart s low high ps
     → Apart s low' high' ps
@@ -185,7 +178,7 @@ forest_apart sheet sur b (node k n x m ks c f) s a z is r =
     (apart_to s _ (length (a ++ mark_bytes m) + length (bytes_of ks)) (length (a ++ x)) _ (omega arith) first))
     later)
 
--- the plain leaves of a text stand apart in it
+-- the plain leaves of a text do not overlap in it
 pub leaves_apart : (sheet : List Record) (s : List ℕ) → Apart s 0 (length s) (plain_leaves sheet s)
 unfolding plain_leaves
 leaves_apart sheet s =

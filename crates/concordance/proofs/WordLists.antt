@@ -21,7 +21,7 @@ use Rattle.usfm_ref.specs.Rising.{rises_by, with_item, rising}
 use Rattle.usfm_ref.proofs.Members.{same_tested, tested_rising}
 use Rattle.usfm_ref.proofs.Orders.{key_total, key_exact}
 use Rattle.usfm_ref.proofs.Sorted.{rises-rising, is_less}
-use Rattle.concordance.specs.SpellingOrder.{spelling_cmp}
+use Rattle.concordance.specs.Loops.SpellingOrder.{spelling_cmp}
 use Rattle.concordance.specs.Groups.{Group, told_with, told_by, told, is_bare, has_bare, is_told, AlsoTells, TellsSame, composed, form_at}
 use Rattle.concordance.specs.Words.{Spelling, WordParts, form_cmp, form_of, keys_with, word_with, words_in}
 use Rattle.concordance.proofs.OrderLemmas.{form_total, form_exact, spelling_total, spelling_exact}

@@ -6,10 +6,10 @@ use Rattle.std.specs.Borrow.{Bor}
 use Rattle.std.specs.Global.{Vec}
 use Rattle.usfm_ref.specs.Keys.{KeyParts}
 use Rattle.usfm_ref.specs.Rising.{rises_by}
-use Rattle.concordance.specs.SpellingOrder.{spelling_cmp}
+use Rattle.concordance.specs.Loops.SpellingOrder.{spelling_cmp}
 use Rattle.concordance.specs.Words.{Spelling, form_cmp, form_of}
 
--- a form, and keys at which it stands, in the order in which they came
+-- a form, and keys at which it occurs, in the order in which they came
 abbrev pub Group : Type 0
 Group = Bor (List ℕ) × Vec KeyParts
 

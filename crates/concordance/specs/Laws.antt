@@ -27,7 +27,7 @@ RunsAreLongest = (p : Passage) → All (IsLongestRun p) (runs_in p)
 abbrev pub lies_in : ℕ → Passage → Bool
 lies_in at p = nat_le p.start at && nat_lt at (p.start + length p.text)
 
--- A character that stands in a passage after others lies in exactly one run of the passage if it is a
+-- A character that is in a passage after others lies in exactly one run of the passage if it is a
 -- word character, and else in none.
 abbrev pub WordCharactersAreInOneRun : Type 0
 WordCharactersAreInOneRun =

@@ -2,12 +2,8 @@ pub mod Passages
 pub mod Plain
 pub mod Hits
 pub mod Reading
-pub mod Gathered
 pub mod Views
-pub mod KeyedViews
 pub mod Words
-pub mod RunReading
-pub mod FormViews
-pub mod SpellingOrder
 pub mod Groups
 pub mod Laws
+pub mod Loops

@@ -23,7 +23,7 @@ use Rattle.concordance.specs.Passages.{Passage}
 -- ---- the texts of a tree
 
 -- A text of a tree: where it begins and its bytes; the nodes around it, the innermost first; the mark directly before it, if one
--- stands there; and whether it is the last kid of the innermost node.
+-- is there; and whether it is the last kid of the innermost node.
 pub record Site : Type 0 where
   pub start : ℕ
   pub bytes : List ℕ
@@ -36,7 +36,7 @@ abbrev pub node_end : Option MarkParts → Option MarkParts → Option MarkParts
 node_end inside None = inside
 node_end inside (Some close) = Some close
 
--- the mark at the end of entries that stand after a mark or a text, if they do not end with a text
+-- the mark at the end of entries that come after a mark or a text, if they do not end with a text
 abbrev pub mark_at_end : Option MarkParts → Forest → Option MarkParts
 mark_at_end behind nothing = behind
 mark_at_end behind (text s t f) = mark_at_end None f
@@ -50,7 +50,7 @@ is_nothing (text s t f) = false
 is_nothing (leaf s m f) = false
 is_nothing (node k s b m ks c f) = false
 
--- the texts of entries within these nodes and after a mark, if one stands there, in order
+-- the texts of entries within these nodes and after a mark, if one is there, in order
 abbrev pub sites_in : List Around → Option MarkParts → Forest → List Site
 sites_in around behind nothing = []
 sites_in around behind (text s t f) =
@@ -93,7 +93,7 @@ verse_length None = 0
 verse_length (Some v) = v.length
 
 -- the bytes of the number directly after the mark `\v`, with its bridge and the blanks before; after `\+v` and
--- `\v*` stands none
+-- `\v*` is none
 abbrev pub number_length : Option MarkParts → List ℕ → ℕ
 number_length None bytes = 0
 number_length (Some m) bytes = if bytes_eq (mark_bytes m) (codes "\\v") then verse_length (verse_in bytes) else 0
@@ -107,11 +107,11 @@ in_closed_character (a ∷ around) = is_character_kind a.kind && a.is_closed
 abbrev pub may_end_with_attributes : Site → Bool
 may_end_with_attributes t = t.is_last && in_closed_character t.around
 
--- a bar (124) stands before them
+-- a bar (124) comes before them
 abbrev pub is_bar : ℕ → Bool
 is_bar b = b == 124
 
--- where attributes may end a text, what stands before its first bar, and else all
+-- where attributes may end a text, what comes before its first bar, and else all
 abbrev pub without_attributes : Bool → List ℕ → List ℕ
 without_attributes may_end bytes = if may_end then before_first is_bar bytes else bytes
 

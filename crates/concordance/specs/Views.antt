@@ -7,7 +7,7 @@ use Rattle.sty_sheet.specs.Records.{Record}
 use Rattle.usfm_tree.specs.Events.{Event}
 use Rattle.verse_cut.specs.Pieces.{Part}
 use Rattle.verse_cut.specs.Views.{parts_of}
-use Rattle.concordance.specs.Gathered.{gathered}
+use Rattle.concordance.specs.Loops.Gathered.{gathered}
 use Rattle.concordance.specs.Passages as passages
 use Rattle.concordance.specs.declared.plain.Enclosure.{Enclosure}
 use Rattle.concordance.specs.declared.places.Places.{Places}

@@ -32,7 +32,7 @@ is_combining _ = false
 abbrev pub is_word_char : ℕ → Bool
 is_word_char c = is_alphabetic c || is_combining (general_category c)
 
--- The longest runs of word characters, in characters that begin at a place, where a word character stands before them or not: a run
+-- The longest runs of word characters, in characters that begin at a place, where a word character comes before them or not: a run
 -- begins at each that has none directly before it, and goes on as far as they last.
 abbrev pub runs_behind : Bool → ℕ → List ℕ → List Passage
 runs_behind within at [] = []
@@ -47,7 +47,7 @@ runs_in p = runs_behind false p.start (chars p.text)
 
 -- ---- spellings
 
--- a run's form, and the key at which it stands
+-- a run's form, and the key at which it occurs
 pub record Spelling : Type 0 where
   pub form : List ℕ
   pub key : KeyParts
@@ -62,7 +62,7 @@ spelling_at ps run = record { form = form_of run.text; key = key_at ps run.start
 
 -- ---- words
 
--- a word: its form, and the keys at which it stands
+-- a word: its form, and the keys at which it occurs
 pub record WordParts : Type 0 where
   pub form : List ℕ
   pub keys : List KeyParts
@@ -84,6 +84,6 @@ abbrev pub words_in : List Spelling → List WordParts
 words_in ss = map (word_with ss) (rising form_cmp (map (λ s. s.form) ss))
 
 -- the words of a text, by the records of a style sheet: the forms of the longest runs of word characters in its
--- plain leaves, rising, each with the keys at which it stands
+-- plain leaves, rising, each with the keys at which it occurs
 unfoldable pub words_of : List Record → List ℕ → List WordParts
 words_of sheet s = words_in (map (spelling_at (pieces_of s)) (flat_map runs_in (plain_leaves sheet s)))

@@ -22,7 +22,7 @@ use std::alloc::{AllocError, Global};
 use sty_sheet::Sheet;
 use verse_cut::cut;
 
-// So many bytes of a text from a place on.
+// This many bytes of a text from a place on.
 fn part(text: &str, at: usize, len: usize) -> &str
     requires within { at + len ≤ length text.now }
     requires start { IsCharBoundary text.now at }
@@ -81,7 +81,7 @@ fn occurrences<'a>(
 ///
 /// # Errors
 /// `EmptyNeedle` exactly where the needle is empty, and else `Memory` where a growth is refused. A
-/// needle that stands nowhere in the text, not even in a mark or a note, takes no memory.
+/// needle that occurs nowhere in the text, not even in a mark or a note, takes no memory.
 pub fn find<'a>(
     alloc: Global,
     text: &'a str,
@@ -102,7 +102,7 @@ pub fn find<'a>(
     Ok(hits)
 }
 
-// Whether a needle stands anywhere in a text.
+// Whether a needle occurs anywhere in a text.
 fn occurs(text: &str, needle: &str) -> bool
     ensures yes { IsTrue result → matches text.now needle.now 0 ≢ [] }
     ensures no { IsFalse result → Nowhere (OccursAt text.now needle.now) 0 (length text.now + 1) }

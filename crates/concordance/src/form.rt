@@ -1,7 +1,7 @@
 //! The forms of runs.
 
 ghost use Rattle.std.specs.Prelude.{◌≡◌, IfOk};
-ghost use Rattle.concordance.specs.FormViews.{form_bytes};
+ghost use Rattle.concordance.specs.Loops.FormViews.{form_bytes};
 ghost use Rattle.concordance.specs.Words as words;
 
 use std::alloc::{AllocError, Global};

@@ -20,7 +20,7 @@ pub(crate) struct Keyed<'p, 'a> {
 }
 
 impl<'p, 'a> Keyed<'p, 'a> {
-    ghost use Rattle.concordance.specs.KeyedViews.{hits_left};
+    ghost use Rattle.concordance.specs.Loops.KeyedViews.{hits_left};
 
     pub(crate) fn new(passages: &'p [Passage<'a>], pieces: &'p [Piece<'a>]) -> Self
         requires { IsTrue (hold_all (parts_of pieces.now) (passages_view passages.now)) }
@@ -37,7 +37,7 @@ impl<'p, 'a> Keyed<'p, 'a> {
 impl<'p, 'a> Iterator for Keyed<'p, 'a> {
     ghost use Rattle.std.specs.Iterator.{YieldsFirstBy, item_count};
     ghost use Rattle.concordance.specs.Views.{hit_view};
-    ghost use Rattle.concordance.specs.KeyedViews.{hits_left};
+    ghost use Rattle.concordance.specs.Loops.KeyedViews.{hits_left};
 
     type Item = Hit<'a>;
 

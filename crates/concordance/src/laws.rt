@@ -4,7 +4,7 @@
 ghost use Rattle.concordance.specs.Laws.{RunsAreLongest, WordCharactersAreInOneRun};
 
 /// Each run of word characters is a longest one: it has word characters alone, and directly before
-/// it and directly after it stands none.
+/// it and directly after it is none.
 pub fn runs_are_longest()
     ensures { RunsAreLongest }
 {}

@@ -4,8 +4,8 @@ ghost use Rattle.usfm_ref.specs.Keys.{key_cmp};
 ghost use Rattle.usfm_ref.specs.Rising.{rising};
 ghost use Rattle.concordance.specs.Groups.{told, told_with, has_bare, rise, AlsoTells, TellsSame};
 ghost use Rattle.concordance.specs.Groups.{form_at, composed};
-ghost use Rattle.concordance.specs.KeyedViews.{hits_left, spelled};
-ghost use Rattle.concordance.specs.FormViews.{forms_view};
+ghost use Rattle.concordance.specs.Loops.KeyedViews.{hits_left, spelled};
+ghost use Rattle.concordance.specs.Loops.FormViews.{forms_view};
 ghost use Rattle.concordance.specs.Words as spec;
 
 use crate::form::Form;
@@ -19,7 +19,7 @@ use sty_sheet::Sheet;
 use usfm_ref::Key;
 use verse_cut::cut;
 
-/// A word, and the keys at which it stands.
+/// A word, and the keys at which it occurs.
 #[derive(Debug, Drop)]
 pub struct Word {
     form: String,
@@ -124,7 +124,7 @@ fn composed<'f>(
     Ok(groups)
 }
 
-// The word of a form that stands at keys.
+// The word of a form that is at keys.
 fn word_of(alloc: Global, form: &str, keys: &[Key]) -> Result<Word, AllocError>
     ensures form { IfOk result (λ word. word.form ≡ form.now) }
     ensures keys { IfOk result (λ word. word.keys ≡ rising key_cmp keys.now) }
@@ -168,7 +168,7 @@ fn gathered(alloc: Global, groups: &IndexMap<&str, Vec<Key>>) -> Result<Vec<Word
 }
 
 /// The words of a book, by a style sheet: each form once, rising by its bytes, with the keys at
-/// which it stands, rising, each once.
+/// which it occurs, rising, each once.
 ///
 /// A word is a longest run of characters in one plain leaf that are alphabetic or combining marks,
 /// in Normalization Form C. Runs are found before that form is taken.

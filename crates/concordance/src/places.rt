@@ -6,7 +6,7 @@ ghost use Rattle.concordance.specs.Reading.{are_neighbours, begin_of, end_of};
 ghost use Rattle.concordance.specs.Views.{pieces_left};
 ghost use Rattle.verse_cut.specs.Views.{parts_of};
 
-use usfm_ref::{Key, Place};
+use usfm_ref::Key;
 use verse_cut::Piece;
 
 // The pieces of a text from the one on that holds the place last asked for.
@@ -43,10 +43,7 @@ impl<'p, 'a> Places<'p, 'a> {
             self.pieces = &self.pieces[1..];
         }
         match self.pieces {
-            [] => Key {
-                chapter: 0,
-                place: Place::Head,
-            },
+            [] => Key::chapter_head(0),
             [piece, ..] => piece.key,
         }
     }

@@ -12,8 +12,8 @@ ghost use Rattle.usfm_token.specs.Tokens.{MarkParts};
 ghost use Rattle.usfm_token.specs.View.{mark_parts};
 ghost use Rattle.usfm_tree.specs.Events.{Event, ends_before};
 ghost use Rattle.usfm_tree.specs.StepViews.{IsStyled, entry_before, step_before};
-ghost use Rattle.concordance.specs.Gathered as gathered;
-ghost use Rattle.concordance.specs.Gathered.{EntryFits, innermost, settled};
+ghost use Rattle.concordance.specs.Loops.Gathered as gathered;
+ghost use Rattle.concordance.specs.Loops.Gathered.{EntryFits, innermost, settled};
 ghost use Rattle.concordance.specs.Plain as plain;
 ghost use Rattle.concordance.specs.Views.{passage_view, passages_view, mark_behind, waiting_of};
 ghost use Rattle.concordance.specs.Views.{enclosures, leaves_with};
@@ -36,7 +36,7 @@ pub(crate) struct Enclosure {
 }
 
 // The plain leaves so far; a text that will be one, while it is not known whether attributes may
-// end it; the mark directly before what comes next, if one stands there; and the open nodes, the
+// end it; the mark directly before what comes next, if one is there; and the open nodes, the
 // innermost last.
 #[derive(Drop)]
 pub(crate) struct Gathering<'a> {
@@ -67,7 +67,7 @@ fn verse_len(text: &str) -> usize
     }
 }
 
-// What stands before the first bar, or all.
+// What comes before the first bar, or all.
 fn before_bar(text: &str) -> &str
     ensures { result.now ≡ before_first plain.is_bar text.now }
 {
@@ -178,7 +178,7 @@ impl<'a> Gathering<'a> {
         Ok(())
     }
 
-    // Ends so many nodes without closing marks.
+    // Ends this many nodes without closing marks.
     fn end(&mut self, count: usize) -> Result<(), AllocError>
         ensures { OnOk result ((sheet : List Record) (later : List Event)
             → leaves_with sheet self.new later

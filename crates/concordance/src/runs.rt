@@ -3,7 +3,7 @@
 ghost use Rattle.std.specs.Prelude.{◌≡◌, ◌<◌, ◌+◌, ◌^◌, ◌++◌, length, chars, IsUtf8, OnOk, IfOk};
 ghost use Rattle.std.specs.List.{flat_map, All};
 ghost use Rattle.concordance.specs.Reading.{EndsWithin, IsText};
-ghost use Rattle.concordance.specs.RunReading.{behind, front_bytes};
+ghost use Rattle.concordance.specs.Loops.RunReading.{behind, front_bytes};
 ghost use Rattle.concordance.specs.Views.{passage_view, passages_view};
 ghost use Rattle.concordance.specs.Words as words;
 
@@ -33,7 +33,7 @@ fn is_combining(category: GeneralCategory) -> bool
     )
 }
 
-// What stands after the word characters at the front of a text, or after the others.
+// What comes after the word characters at the front of a text, or after the others.
 fn behind_front(text: &str, is_word: bool) -> &str
     ensures front { text.now ≡ front_bytes is_word (chars text.now) ++ result.now }
     ensures rest { chars result.now ≡ behind is_word (chars text.now) }

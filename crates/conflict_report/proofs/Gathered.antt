@@ -9,7 +9,7 @@ use Rattle.usfm_ref.specs.Segments.{Segment}
 use Rattle.op_core.specs.Ops.{Operation}
 use Rattle.usfm_export.proofs.Pieces.{flat_map-push}
 use Rattle.conflict_report.specs.Reports.{conflict_line, text_lines, conflict_lines}
-use Rattle.conflict_report.specs.Parts.{part_bytes, bytes_of}
+use Rattle.conflict_report.specs.Loops.Parts.{part_bytes, bytes_of}
 use Rattle.conflict_report.specs.declared.part.Part.{Part}
 
 -- one part more

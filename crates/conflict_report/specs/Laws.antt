@@ -34,7 +34,7 @@ SameBundlesSameReports =
     NoneRefused (begun name) (map Receive bundles) → NoneRefused (begun other) (map Receive others) →
     report (after (begun name) (map Receive bundles)).held ≡ report (after (begun other) (map Receive others)).held
 
--- Two sets that are equal but for texts left out, and in which no id stands for two operations, give the same report.
+-- Two sets that are equal but for texts left out, and in which no id has two operations, give the same report.
 abbrev pub SkeletonReports : Type 0
 SkeletonReports =
     (held other : List Operation) → IsTrue (rises held) → IsTrue (rises other) → IsTrue (is_legal held) → IsTrue (is_legal other) →

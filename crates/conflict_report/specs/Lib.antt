@@ -1,5 +1,5 @@
 pub mod Reports
 pub mod Answers
-pub mod Parts
 pub mod Laws
 pub mod Worlds
+pub mod Loops

@@ -11,7 +11,7 @@ pub enum ReportFault {
     /// 1: a growth was refused. Nothing was written.
     #[error("out of memory")]
     Memory,
-    /// 90: the writer failed after it had taken so many bytes.
+    /// 90: the writer failed after it had taken this many bytes.
     #[error("the writer failed after {gone} bytes")]
     WriteFailed { gone: u64 },
 }

@@ -15,7 +15,7 @@ pub fn same_bundles_same_reports()
     ensures { laws.SameBundlesSameReports }
 {}
 
-/// Sets that are equal but for texts left out, and in which no id stands for two operations, give the
+/// Sets that are equal but for texts left out, and in which no id has two operations, give the
 /// same report.
 pub fn skeleton_reports()
     ensures { laws.SkeletonReports }

@@ -4,7 +4,7 @@ ghost use Rattle.usfm_ref.specs.Segments.{segment};
 ghost use Rattle.op_core.specs.Ops.{own_text};
 ghost use Rattle.usfm_export.specs.Counts.{failures_after};
 ghost use Rattle.usfm_export.specs.Writing.{TakesAll, TakesFront};
-ghost use Rattle.conflict_report.specs.Parts.{part_bytes, bytes_of};
+ghost use Rattle.conflict_report.specs.Loops.Parts.{part_bytes, bytes_of};
 ghost use Rattle.conflict_report.specs.Reports as reports;
 ghost use Rattle.std.specs.Io.KnownBytes.{Appends};
 
@@ -21,7 +21,7 @@ pub(crate) enum Part<'a> {
     Text(&'a Op),
 }
 
-// The line of a segment that shows so many distinct texts.
+// The line of a segment that shows this many distinct texts.
 pub(crate) fn conflict_line(
     alloc: Global,
     book: Book,
@@ -69,7 +69,7 @@ pub(crate) fn write_parts<W: ByteSink>(sink: &mut W, parts: &[Part<'_>]) -> Resu
     Ok(())
 }
 
-// Writes a part of a report of which `gone` bytes are gone out, and answers how many are then.
+// Writes a part of a report of which `gone` bytes are written, and answers how many are then.
 fn write_part<W: ByteSink>(sink: &mut W, gone: u64, part: &Part<'_>) -> Result<u64, WriteFault>
     ensures all { IfOk result (λ total.
         TakesAll (W.taken sink.old) (W.taken sink.new) (part_bytes part.now) gone total) }

@@ -33,7 +33,7 @@ pub fn report_text(alloc: Global, replica: &Replica) -> Result<Vec<u8>, AllocErr
 /// # Errors
 /// - `Memory` (1) where a growth was refused. Nothing was written.
 /// - `WriteFailed` (90) where the sink answers an error, of whatever kind, or takes 0 bytes, with the
-///   bytes gone out: they are the front of the report of that length. No write is tried again.
+///   bytes that were written: they are the front of the report of that length. No write is tried again.
 pub fn write_report<W: ByteSink>(
     alloc: Global,
     replica: &Replica,

@@ -52,14 +52,16 @@ module _ (s u : List Operation) (e : skeleton s ≡ skeleton u) (shows : (seg : 
   picks_alike seg =
       let same = shows seg in
       let has = has_alike seg.book seg.key.chapter in
-      λ i. cond (is_head seg.key.place && nat_le 1 seg.key.chapter && is_empty (text_in (last (same i))) && has i) (Line seg.key.chapter) (greatest (last (same i)))
+      λ i. cond (is_head seg.key.place && nat_le 1 seg.key.chapter && is_empty (text_in (last (same i))) && has i) (Line seg.key.chapter)
+      (greatest (last (same i)))
 
   keys_alike : (book : List ℕ) → keys_in s book ≡ keys_in u book
   keys_alike book = told_same s u e (of_book book) (λ o. o.segment.key)
 
   pub exports_alike : (book : List ℕ) → export s book ≡ export u book
   exports_alike book i =
-      flat_map (λ key. picked_text (picks_alike (segment book key) i)) (rising key_cmp (flat_map (λ key. head_of key ∷ key ∷ []) (keys_alike book i)))
+      flat_map (λ key. picked_text (picks_alike (segment book key) i))
+      (rising key_cmp (flat_map (λ key. head_of key ∷ key ∷ []) (keys_alike book i)))
 
   pub answers_alike : AnswersSame s u
   answers_alike =

@@ -1,4 +1,4 @@
--- Sets of one family: no id stands for two operations.
+-- Sets of one family: no id has two operations.
 use Rattle.std.proofs.Common.{◌≡◌, Bool, true, false, cond, ◌||◌, List, [], ◌∷◌, Option, Some, None, option_map, Ok, map, refl, sym, ap, subst, ◌∙◌}
 use Rattle.std.specs.Option.{is_some}
 use Rattle.std.proofs.lemmas.Bool.{true≢false, false≢true}
@@ -39,7 +39,8 @@ among_held (o ∷ ops) q = by (same_id q o.id) (same_id q o.id) refl (among_held
     by true false e rest = cc
     by false true e rest = cc
 
-held_either : (m k : Option Operation) → is_some (met m k) ≡ (is_some m || is_some k)
+-- what a meeting of two holds is held by one of them
+pub held_either : (m k : Option Operation) → is_some (met m k) ≡ (is_some m || is_some k)
 held_either None k = refl
 held_either (Some x) None = refl
 held_either (Some x) (Some y) = refl
@@ -91,7 +92,8 @@ module _ (family : Id → Operation) where
       get_map : (ops : List Operation) (q : Id) → get (map (thinned_in s) ops) q ≡ option_map (thinned_in s) (get ops q)
       get_map [] q = refl
       get_map (x ∷ ops) q =
-          head x ops q (same_id q x.id) (same_id q (thinned_in s x).id) (ap (λ (o : Operation). same_id q o.id) (bare_thinned s x)) (get_map ops q)
+          head x ops q (same_id q x.id) (same_id q (thinned_in s x).id) (ap (λ (o : Operation). same_id q o.id) (bare_thinned s x))
+          (get_map ops q)
 
       by : (q : Id) (o : Operation) (m : Option Operation) → get s q ≡ m → option_map (thinned_in s) (get s q) ≡ Some o
           → StandsIn o (family q)

@@ -21,7 +21,8 @@ rises-filter p [] h = refl
 rises-filter p (x ∷ ops) h =
     let parts = rises_parts x ops h in
     let rest = rises-filter p ops parts.1 in
-    elim (p x) as (λ b. rises (cond b (x ∷ filter p ops) (filter p ops)) ≡ true) [ true ↦ and_from _ _ (above-filter x.id p ops parts.0) rest | false ↦ rest ]
+    elim (p x) as (λ b. rises (cond b (x ∷ filter p ops) (filter p ops))
+    ≡ true) [ true ↦ and_from _ _ (above-filter x.id p ops parts.0) rest | false ↦ rest ]
 
 -- what a subset holds, the set holds
 pub filter_within : (p : Operation → Bool) (ops : List Operation) → rises ops ≡ true → (q : Id) (o : Operation)

@@ -16,7 +16,7 @@ use Rattle.op_core.proofs.Union.{AllAbove, above_trans, above-put, rises_parts, 
 -- ---- the union, from the front
 
 -- an operation below all of a list is put before it
-put_first : (o : Operation) (ops : List Operation) → AllAbove o.id ops → put o ops ≡ o ∷ ops
+pub put_first : (o : Operation) (ops : List Operation) → AllAbove o.id ops → put o ops ≡ o ∷ ops
 put_first o [] h = refl
 put_first o (p ∷ ops) h = rw (is_less (id_cmp o.id p.id) (and_parts (id_below o.id p.id) (list_all (λ p. id_below o.id p.id) ops) h).0) refl
 

@@ -36,7 +36,11 @@ join_agrees a b c ha hb f g q x z gx gz = by (get a q) refl (get b q) refl (sym 
     by (Some m) e (Some k) d w =
         let r = f q m z e gz in
         let is : meet m k ≡ x = cc w in
-        record { bares = ap bare (sym is) ∙ r.bares; texts = ap (λ (o : Operation). texts_agree o.text z.text) (sym is) ∙ meet_text_agrees m.text k.text z.text r.texts }
+        record {
+          bares = ap bare (sym is) ∙ r.bares;
+          texts = ap (λ (o : Operation). texts_agree o.text z.text) (sym is)
+              ∙ meet_text_agrees m.text k.text z.text r.texts;
+        }
 
 -- what agrees with the union of full sets agrees with the first
 left_agrees : (a b c : List Operation) → rises a ≡ true → rises b ≡ true → all_full a ≡ true → all_full b ≡ true → AgreeAtAll (join a b) c
@@ -62,7 +66,8 @@ groupings_alike a b c ha hb hc fa fb n m =
     let bac : AgreeAtAll (join b a) c = λ q x z gx gz. abc q x z (ap (λ s. get s q) (join_comm a b ha hb ab) ∙ gx) gz in
     let bc = left_agrees b a c hb ha fb fa bac in (
       no_clash b c hc bc,
-      no_clash a (join b c) (rises-join b c hb) (agree_at_turned (join b c) a (join_agrees b c a hb hc (agree_at_turned a b ab) (agree_at_turned a c ac))),
+      no_clash a (join b c) (rises-join b c hb)
+          (agree_at_turned (join b c) a (join_agrees b c a hb hc (agree_at_turned a b ab) (agree_at_turned a c ac))),
     )
 
 -- sets that stand for full ones without a clash are joined in any order
@@ -74,8 +79,12 @@ stand_ins_join s u t v r w hs ht hr uv vw uw =
     let auw = agree_from_no_clash u w uw in
     let st = join_stands s u t v hs ht uv in
     let tr = join_stands t v r w ht hr vw in
-    let left : clash (join u v) w ≡ None = no_clash (join u v) w hr.whole_rising (join_agrees u v w hs.whole_rising ht.whole_rising auw avw) in
-    let right : clash u (join v w) ≡ None = no_clash u (join v w) (rises-join v w ht.whole_rising) (agree_at_turned (join v w) u (join_agrees v w u ht.whole_rising hr.whole_rising (agree_at_turned u v auv) (agree_at_turned u w auw))) in
+    let left : clash (join u v) w
+    ≡ None = no_clash (join u v) w hr.whole_rising (join_agrees u v w hs.whole_rising ht.whole_rising auw avw) in
+    let right : clash u (join v w)
+    ≡ None = no_clash u (join v w) (rises-join v w ht.whole_rising)
+    (agree_at_turned (join v w) u
+    (join_agrees v w u ht.whole_rising hr.whole_rising (agree_at_turned u v auv) (agree_at_turned u w auw))) in
     record {
       left_first = st.0;
       left_then = (join_stands (join s t) (join u v) r w st.1 hr left).0;
@@ -125,7 +134,8 @@ skeleton_filter P [] = refl
 skeleton_filter P (o ∷ ops) = by (P (bare o)) (skeleton_filter P ops)
   where
     by : (b : Bool) → skeleton (filter (λ o. P (bare o)) ops) ≡ filter P (skeleton ops)
-        → skeleton (cond b (o ∷ filter (λ o. P (bare o)) ops) (filter (λ o. P (bare o)) ops)) ≡ cond b (bare o ∷ filter P (skeleton ops)) (filter P (skeleton ops))
+        → skeleton (cond b (o ∷ filter (λ o. P (bare o)) ops) (filter (λ o. P (bare o)) ops))
+        ≡ cond b (bare o ∷ filter P (skeleton ops)) (filter P (skeleton ops))
     by true rest = ap (λ xs. bare o ∷ xs) rest
     by false rest = rest
 
@@ -156,7 +166,9 @@ pub covering_joins : (xs ys : List Operation) (p : Operation → Bool) → rises
     → join xs (filter p ys) ≡ join xs ys
 covering_joins xs ys p hx hy fx fy covers =
     let hp = rises-filter p ys hy in
-    same_gets _ _ (rises-join xs (filter p ys) hx) (rises-join xs ys hx) (λ q. get-join xs (filter p ys) q hx hp ∙ by q (get xs q) refl (get ys q) refl (get (filter p ys) q) refl ∙ sym (get-join xs ys q hx hy))
+    same_gets _ _ (rises-join xs (filter p ys) hx) (rises-join xs ys hx)
+    (λ q. get-join xs (filter p ys) q hx hp ∙ by q (get xs q) refl (get ys q) refl (get (filter p ys) q) refl
+    ∙ sym (get-join xs ys q hx hy))
   where
     met_full : (q : Id) (x : Operation) (k : Option Operation) (zs : List Operation) → all_full zs ≡ true → get xs q ≡ Some x → get zs q ≡ k
         → met (Some x) k ≡ Some x
@@ -184,7 +196,8 @@ delta_joins s t knows hs ht n k =
     let hd : rises (delta t knows) ≡ true = rises-filter sent t ht in
     let same = agree_from_no_clash s t n in (
       no_clash s (delta t knows) hd (λ q x y gx gy. same q x y gx (filter_within sent t ht q y gy)),
-      same_gets _ _ (sym (rises_bare (join s (delta t knows))) ∙ rises-join s (delta t knows) hs) (sym (rises_bare (join s t)) ∙ rises-join s t hs) (λ q.
+      same_gets _ _ (sym (rises_bare (join s (delta t knows))) ∙ rises-join s (delta t knows) hs)
+          (sym (rises_bare (join s t)) ∙ rises-join s t hs) (λ q.
           get_bare (join s (delta t knows)) q ∙ ap (option_map bare) (get-join s (delta t knows) q hs hd)
           ∙ by q (get s q) refl (get t q) refl (get (delta t knows) q) refl
           ∙ ap (option_map bare) (sym (get-join s t q hs ht)) ∙ sym (get_bare (join s t) q)),
@@ -201,7 +214,9 @@ delta_joins s t knows hs ht n k =
         (λ i. option_map bare (met (e i) (get (delta t knows) q))) ∙ met_bare x (get (delta t knows) q) ∙ sym (met_bare x (get t q))
         ∙ (λ i. option_map bare (met (sym e i) (get t q)))
     by q None e (Some y) f z g =
-        let lacked : is_sent t knows y ≡ true = ap (λ b. not b || lacks_thinned t knows y.segment) (unknown knows s y.id k (ap is_some (ap (get s) (get_id t q y f) ∙ e))) in
+        let lacked : is_sent t knows y
+        ≡ true = ap (λ b. not b || lacks_thinned t knows y.segment)
+        (unknown knows s y.id k (ap is_some (ap (get s) (get_id t q y f) ∙ e))) in
         ap (λ r. option_map bare (met (get s q) r)) (filter_kept (is_sent t knows) t q y f lacked ∙ sym f)
     by q None e None f None g = ap (λ r. option_map bare (met (get s q) r)) (g ∙ sym f)
     by q None e None f (Some z) g = cc (sym f ∙ filter_within (is_sent t knows) t ht q z g)
@@ -209,8 +224,10 @@ delta_joins s t knows hs ht n k =
 pub deltas_add : (s u t v : List Operation) (knows : Id → Bool) → StandsFor s u → StandsFor t v → clash u v ≡ None → KnowsNoMore knows s
     → (join u (filter (is_sent t knows) v) ≡ join u v) × (skeleton (join s (delta t knows)) ≡ skeleton (join s t))
 deltas_add s u t v knows h g n k =
-    let none = (join_stands s u t v h g n).0 in
-    (covering_joins u v (is_sent t knows) h.whole_rising g.whole_rising h.whole_full g.whole_full covers, (delta_joins s t knows h.rising g.rising none k).1)
+    let none = (join_stands s u t v h g n).0 in (
+      covering_joins u v (is_sent t knows) h.whole_rising g.whole_rising h.whole_full g.whole_full covers,
+      (delta_joins s t knows h.rising g.rising none k).1,
+    )
   where
     held_alike : (q : Id) → option_map bare (get s q) ≡ option_map bare (get u q)
     held_alike q = sym (get_bare s q) ∙ ap (λ xs. get xs q) h.skeletons ∙ get_bare u q

@@ -17,13 +17,15 @@ use Rattle.op_core.proofs.Agreement.{Agree, agree-from, agree_itself, kept_text,
 -- an operation that is held under an id is in the set
 pub Contains-get : (xs : List Operation) (q : Id) (o : Operation) → get xs q ≡ Some o → Contains xs o
 Contains-get [] q o g = cc g
-Contains-get (x ∷ xs) q o g = get_cases q x xs o g (λ e f. (0, omega arith, f)) (λ g. let r = Contains-get xs q o g in (suc r.0, omega (arith, r.1), r.2))
+Contains-get (x ∷ xs) q o g =
+    get_cases q x xs o g (λ e f. (0, omega arith, f)) (λ g. let r = Contains-get xs q o g in (suc r.0, omega (arith, r.1), r.2))
 
 -- an operation of a set is held under its id
 pub get-Contains : (xs : List Operation) (o : Operation) → IsOpSet xs → Contains xs o → get xs o.id ≡ Some o
 get-Contains xs o s h = subst (λ (p : Operation). get xs p.id ≡ Some p) h.2 (each xs h.0 h.1 (held_itself xs s.rising))
   where
-    each : (ys : List Operation) (k : ℕ) → k < length ys → AllByRecursion (λ p. get xs p.id ≡ Some p) ys → get xs (get_or ys k o).id ≡ Some (get_or ys k o)
+    each : (ys : List Operation) (k : ℕ) → k < length ys → AllByRecursion (λ p. get xs p.id ≡ Some p) ys
+        → get xs (get_or ys k o).id ≡ Some (get_or ys k o)
     each [] k l a = absurd (omega arith)
     each (y ∷ ys) zero l a = a.0
     each (y ∷ ys) (suc k) l a = each ys k (omega arith) a.1
@@ -40,11 +42,13 @@ record Made (l r : Joining) (a : List Operation) : Type 0 where
 made : (l r : Joining) (a : List Operation) → union_by (Joined l r) ≡ Ok a → Made l r a
 made l r a h = by (union_by l) refl (union_by r) refl h
   where
-    two : (x y : List Operation) → union_by l ≡ Ok x → union_by r ≡ Ok y → (c : Option Id) → clash x y ≡ c → joined_or_clash x y c ≡ Ok a → Made l r a
+    two : (x y : List Operation) → union_by l ≡ Ok x → union_by r ≡ Ok y → (c : Option Id) → clash x y ≡ c → joined_or_clash x y c ≡ Ok a
+        → Made l r a
     two x y ex ey None e h = record { left = x; right = y; left_is = ex; right_is = ey; agree = e; union = cc (sym h) }
     two x y ex ey (Some id) e h = cc h
 
-    by : (x : Result (List Operation) Id) → union_by l ≡ x → (y : Result (List Operation) Id) → union_by r ≡ y → with_both x y (λ a b. joined_or_clash a b (clash a b)) ≡ Ok a → Made l r a
+    by : (x : Result (List Operation) Id) → union_by l ≡ x → (y : Result (List Operation) Id) → union_by r ≡ y
+        → with_both x y (λ a b. joined_or_clash a b (clash a b)) ≡ Ok a → Made l r a
     by (Ok x) ex (Ok y) ey h = two x y ex ey (clash x y) refl h
     by (Ok x) ex (Err id) ey h = cc h
     by (Err id) ex y ey h = cc h
@@ -53,7 +57,8 @@ pub IsOpSet-union_by : (way : Joining) (a : List Operation) → AreSets way → 
 IsOpSet-union_by (Part set) a s h = let e : set ≡ a = cc h in subst IsOpSet e s
 IsOpSet-union_by (Joined l r) a s h =
     let m = made l r a h in
-    subst IsOpSet (sym m.union) (IsOpSet-join m.left m.right (IsOpSet-union_by l m.left s.0 m.left_is) (IsOpSet-union_by r m.right s.1 m.right_is))
+    subst IsOpSet (sym m.union)
+    (IsOpSet-join m.left m.right (IsOpSet-union_by l m.left s.0 m.left_is) (IsOpSet-union_by r m.right s.1 m.right_is))
 
 -- ---- what stays of two operations that agree
 
@@ -85,8 +90,17 @@ meet_is_one p z h = by p.text refl z.text refl
 
 -- what stays stands in for either
 meet_stands : (p z : Operation) → Agree p z → StandsIn (meet p z) p × StandsIn (meet p z) z
-meet_stands p z h =
-    (record { bares = refl; same = λ f. same_parts (meet p z) p refl (kept_text p.text z.text (meet_full p.text z.text f).1) }, record { bares = h.bares; same = λ f. same_parts (meet p z) z h.bares (later f) })
+meet_stands p z h = (
+  record {
+    bares = refl;
+    same = λ f. same_parts (meet p z) p refl
+        (kept_text p.text z.text (meet_full p.text z.text f).1);
+  },
+  record {
+    bares = h.bares;
+    same = λ f. same_parts (meet p z) z h.bares (later f);
+  },
+)
   where
     later : is_some (meet_text p.text z.text) ≡ true → meet_text p.text z.text ≡ z.text
     later f = text_comm p.text z.text h.texts ∙ kept_text z.text p.text (meet_full p.text z.text f).0
@@ -98,13 +112,16 @@ stands_through o p q h g = record { bares = h.bares ∙ g.bares; same = λ f. h.
 -- ---- what a union holds
 
 -- it is in one of the sets
-pub held_from_one : (way : Joining) (a : List Operation) (q : Id) (o : Operation) → AreSets way → union_by way ≡ Ok a → get a q ≡ Some o → IsInOne way o
-held_from_one (Part set) a q o s h g = let e : a ≡ set = cc (sym h) in Contains-get set q o (ap (λ (xs : List Operation). get xs q) (sym e) ∙ g)
+pub held_from_one : (way : Joining) (a : List Operation) (q : Id) (o : Operation) → AreSets way → union_by way ≡ Ok a → get a q ≡ Some o
+    → IsInOne way o
+held_from_one (Part set) a q o s h g =
+    let e : a ≡ set = cc (sym h) in Contains-get set q o (ap (λ (xs : List Operation). get xs q) (sym e) ∙ g)
 held_from_one (Joined l r) a q o s h g =
     let m = made l r a h in
     let sl = IsOpSet-union_by l m.left s.0 m.left_is in
     let sr = IsOpSet-union_by r m.right s.1 m.right_is in
-    either (get m.left q) (get m.right q) (λ p. held_from_one l m.left q p s.0 m.left_is) (λ p. held_from_one r m.right q p s.1 m.right_is) (agree_from_no_clash m.left m.right m.agree q)
+    either (get m.left q) (get m.right q) (λ p. held_from_one l m.left q p s.0 m.left_is) (λ p. held_from_one r m.right q p s.1 m.right_is)
+    (agree_from_no_clash m.left m.right m.agree q)
     (sym (get-join m.left m.right q sl.rising sr.rising) ∙ ap (λ (xs : List Operation). get xs q) (sym m.union) ∙ g)
   where
     one : (p z : Operation) → IsInOne l p → IsInOne r z → meet p z ≡ o → (meet p z ≡ p) ⊎ (meet p z ≡ z) → IsInOne l o ⊎ IsInOne r o
@@ -134,7 +151,8 @@ one_is_held (Joined l r) a o s h i =
     let m = made l r a h in
     let sl = IsOpSet-union_by l m.left s.0 m.left_is in
     let sr = IsOpSet-union_by r m.right s.1 m.right_is in
-    either (get m.left o.id) refl (get m.right o.id) refl (one_is_held l m.left o s.0 m.left_is) (one_is_held r m.right o s.1 m.right_is) (agree_from_no_clash m.left m.right m.agree o.id)
+    either (get m.left o.id) refl (get m.right o.id) refl (one_is_held l m.left o s.0 m.left_is) (one_is_held r m.right o s.1 m.right_is)
+    (agree_from_no_clash m.left m.right m.agree o.id)
     (ap (λ (xs : List Operation). get xs o.id) m.union ∙ get-join m.left m.right o.id sl.rising sr.rising) i
   where
     first : (p : Operation) (y : Option Operation) → ((z : Operation) → y ≡ Some z → Agree p z) → StandsIn p o → get a o.id ≡ met (Some p) y
@@ -153,13 +171,17 @@ one_is_held (Joined l r) a o s h i =
         → get a o.id ≡ met (get (made l r a h).left o.id) (get (made l r a h).right o.id) → IsInOne l o ⊎ IsInOne r o → HeldFor a o
     either x ex y ey f g k at (inl i) =
         let held = f i in
-        first held.one (get (made l r a h).right o.id) (λ z e. k held.one z held.held e) held.stands (at ∙ ap (λ (m : Option Operation). met m (get (made l r a h).right o.id)) held.held)
+        first held.one (get (made l r a h).right o.id) (λ z e. k held.one z held.held e) held.stands
+        (at ∙ ap (λ (m : Option Operation). met m (get (made l r a h).right o.id)) held.held)
     either x ex y ey f g k at (inr i) =
         let held = g i in
-        later (get (made l r a h).left o.id) held.one (λ p e. k p held.one e held.held) held.stands (at ∙ ap (met (get (made l r a h).left o.id)) held.held)
+        later (get (made l r a h).left o.id) held.one (λ p e. k p held.one e held.held) held.stands
+        (at ∙ ap (met (get (made l r a h).left o.id)) held.held)
 
-pub same_unions : (one other : Joining) (a b : List Operation) → AreSets one → AreSets other → SameOperations one other → union_by one ≡ Ok a → union_by other ≡ Ok b → a ≡ b
-same_unions one other a b s t same ha hb = same_gets a b (IsOpSet-union_by one a s ha).rising (IsOpSet-union_by other b t hb).rising (λ q. by q (get a q) refl (get b q) refl)
+pub same_unions : (one other : Joining) (a b : List Operation) → AreSets one → AreSets other → SameOperations one other
+    → union_by one ≡ Ok a → union_by other ≡ Ok b → a ≡ b
+same_unions one other a b s t same ha hb =
+    same_gets a b (IsOpSet-union_by one a s ha).rising (IsOpSet-union_by other b t hb).rising (λ q. by q (get a q) refl (get b q) refl)
   where
     crossed : (w v : Joining) (x y : List Operation) → AreSets w → AreSets v → union_by w ≡ Ok x → union_by v ≡ Ok y
         → ((o : Operation) → IsInOne w o → IsInOne v o) → (q : Id) (o : Operation) → get x q ≡ Some o → HeldFor y o
@@ -182,7 +204,8 @@ same_unions one other a b s t same ha hb = same_gets a b (IsOpSet-union_by one a
         let is_there : there.one ≡ p = cc (sym (held_at b q o (get_id a q o e) there) ∙ f) in
         let is_here : here.one ≡ o = cc (sym (held_at a q p (get_id b q p f) here) ∙ e) in
         e
-        ∙ ap Some (stand_in_both o p (subst (λ (z : Operation). StandsIn z p) is_here here.stands) (subst (λ (z : Operation). StandsIn z o) is_there there.stands))
+        ∙ ap Some (stand_in_both o p (subst (λ (z : Operation). StandsIn z p) is_here here.stands)
+        (subst (λ (z : Operation). StandsIn z o) is_there there.stands))
         ∙ sym f
 
 -- ---- refused alike
@@ -211,12 +234,14 @@ joined_if_agree (Joined l r) s one =
     let y = joined_if_agree r s.1 (λ o p i j. one o p (inr i) (inr j)) in
     by x.0 y.0 x.1 y.1 (clash x.0 y.0) refl
   where
-    by : (x y : List Operation) → union_by l ≡ Ok x → union_by r ≡ Ok y → (c : Option Id) → clash x y ≡ c → (a : List Operation) × (union_by (Joined l r) ≡ Ok a)
+    by : (x y : List Operation) → union_by l ≡ Ok x → union_by r ≡ Ok y → (c : Option Id) → clash x y ≡ c
+        → (a : List Operation) × (union_by (Joined l r) ≡ Ok a)
     by x y ex ey None e = (join x y, (λ i. with_both (ex i) (ey i) (λ a b. joined_or_clash a b (clash a b))) ∙ ap (joined_or_clash x y) e)
     by x y ex ey (Some id) e =
         let c = clash_is x y id (IsOpSet-union_by r y s.1 ey).rising e in
         let same = get_id x id c.one c.one_held ∙ sym (get_id y id c.other c.other_held) in
-        let agrees = one c.one c.other (inl (held_from_one l x id c.one s.0 ex c.one_held)) (inr (held_from_one r y id c.other s.1 ey c.other_held)) same in
+        let agrees = one c.one c.other (inl (held_from_one l x id c.one s.0 ex c.one_held))
+        (inr (held_from_one r y id c.other s.1 ey c.other_held)) same in
         absurd (true≢false (sym agrees ∙ c.differ))
 
 pub refused_alike : RefusedAlike
@@ -229,7 +254,8 @@ refused_alike one other s t same k = by (union_by one) refl (union_by other) ref
         → ((o : Operation) → IsInOne v o → IsInOne w o) → union_by w ≡ Ok a → (b : List Operation) × (union_by v ≡ Ok b)
     made_there w v a s t k f h = joined_if_agree v t (λ o p i j. agree_in_union w a o p s h k (f o i) (f p j))
 
-    by : (x : Result (List Operation) Id) → union_by one ≡ x → (y : Result (List Operation) Id) → union_by other ≡ y → is_ok (union_by one) ≡ is_ok (union_by other)
+    by : (x : Result (List Operation) Id) → union_by one ≡ x → (y : Result (List Operation) Id) → union_by other ≡ y
+        → is_ok (union_by one) ≡ is_ok (union_by other)
     by (Ok a) ex y ey = let b = made_there one other a s t k same.back ex in ap is_ok ex ∙ sym (ap is_ok b.1)
     by (Err id) ex (Ok b) ey = let a = made_there other one b t s turned same.there ey in ap is_ok a.1 ∙ sym (ap is_ok ey)
     by (Err id) ex (Err other) ey = ap is_ok ex ∙ sym (ap is_ok ey)

@@ -3,7 +3,7 @@ use Rattle.std.proofs.Common.{◌≡◌, ◌⊎◌, inl, inr, Bool, true, false,
 use Rattle.std.specs.declared.cmp.Ordering.TheVariants.{Less, Equal, Greater}
 use Rattle.std.specs.List.{list_all, list_any}
 use Rattle.std.specs.FinMap.Entries.{by_order}
-use Rattle.std.proofs.lemmas.Bool.{and_parts, and_from, false≢true, not-true}
+use Rattle.std.proofs.lemmas.Bool.{and_parts, and_from, false≢true, not-true, or_left, or_right}
 use Rattle.op_core.specs.Ids.{Id, id_cmp}
 use Rattle.op_core.specs.Ops.{Operation, is_full, is_thinned, bare, in_segment, names}
 use Rattle.op_core.specs.Sets.{rises, get, meet, met, put, join}
@@ -22,14 +22,6 @@ use Rattle.op_core.proofs.Clashes.{get_cases}
 or_cases : (a b : Bool) → (a || b) ≡ true → (a ≡ true) ⊎ (b ≡ true)
 or_cases true b h = inl refl
 or_cases false b h = inr h
-
-or_left : (a b : Bool) → a ≡ true → (a || b) ≡ true
-or_left true b h = refl
-or_left false b h = absurd (false≢true h)
-
-or_right : (a b : Bool) → b ≡ true → (a || b) ≡ true
-or_right true b h = refl
-or_right false b h = h
 
 full_or : (b p : Bool) → (b ≡ false → p ≡ true) → (b || p) ≡ true
 full_or true p h = refl
@@ -202,7 +194,8 @@ delta_legal s knows h l = legal_from (delta s knows) (rises-filter (is_sent s kn
     -- a thinned operation that is sent takes its segment along
     whole : (o : Operation) → get s o.id ≡ Some o → is_full o ≡ false → is_sent s knows o ≡ true → lacks_thinned s knows o.segment ≡ true
     whole o g n sent = elim (or_cases (is_lacked knows o) (lacks_thinned s knows o.segment) sent) [
-      | inl e ↦ any_from (λ p. in_segment o.segment p && (is_thinned p && is_lacked knows p)) s o.id o g (and_from _ _ (same_segment-refl o.segment) (and_from _ _ (ap not n) e))
+      | inl e ↦ any_from (λ p. in_segment o.segment p && (is_thinned p && is_lacked knows p)) s o.id o g
+          (and_from _ _ (same_segment-refl o.segment) (and_from _ _ (ap not n) e))
       | inr e ↦ e
     ]
 
@@ -212,9 +205,11 @@ delta_legal s knows h l = legal_from (delta s knows) (rises-filter (is_sent s kn
         let sent = filter_passes (is_sent s knows) s o.id o g in
         let w = whole o held n sent in
         let namer = any_held (λ p. in_segment o.segment p && names p o.id) s h (legal_at s o.id o l held n) in
-        let i = same_segment-is namer.one.segment o.segment (and_parts (in_segment o.segment namer.one) (names namer.one o.id) namer.passes).0 in
+        let i = same_segment-is namer.one.segment o.segment
+        (and_parts (in_segment o.segment namer.one) (names namer.one o.id) namer.passes).0 in
         let kept : is_sent s knows namer.one ≡ true = or_right (is_lacked knows namer.one) _ ((λ j. lacks_thinned s knows (i j)) ∙ w) in
-        any_from (λ p. in_segment o.segment p && names p o.id) (delta s knows) namer.one.id namer.one (filter_kept (is_sent s knows) s namer.one.id namer.one namer.held kept) namer.passes
+        any_from (λ p. in_segment o.segment p && names p o.id) (delta s knows) namer.one.id namer.one
+        (filter_kept (is_sent s knows) s namer.one.id namer.one namer.held kept) namer.passes
 
 -- of a full set, none of a segment is lacked thinned
 none_thinned : (at : Operation → Bool) (knows : Id → Bool) (xs : List Operation) → all_full xs ≡ true

@@ -18,17 +18,14 @@ use Rattle.op_core.specs.Index.{AreApart, IsBefore}
 use Rattle.op_core.proofs.Rising.{id_total, same_id-cmp, below_trans}
 use Rattle.op_core.proofs.Union.{AllAbove, rises_parts, above_trans, join_push, same_gets, rises-join, get-join}
 use Rattle.op_core.proofs.Enrolled.{AllBelow, split_rises, front_rises, get-append}
+use Rattle.op_core.proofs.Fronts.{put_first, join_none}
 
 abbrev pub place : Id → List Operation → ℕ
 place = sorted.place id_cmp id_total (λ (o : Operation). o.id)
 
 -- ---- a new operation in its place
 
-pub put_front : (o : Operation) (ops : List Operation) → AllAbove o.id ops → put o ops ≡ o ∷ ops
-put_front o [] h = refl
-put_front o (p ∷ ops) h = rw (is_less (id_cmp o.id p.id) (and_parts (id_below o.id p.id) (list_all (λ q. id_below o.id q.id) ops) h).0) refl
-
--- a new operation stands after so many, and what follows is above it
+-- a new operation is after this many, and what follows is above it
 record At (n : ℕ) (o : Operation) (ops : List Operation) : Type 0 where
   stands : put o ops ≡ take n ops ++ o ∷ drop n ops
   above : AllAbove o.id (drop n ops)
@@ -46,18 +43,24 @@ at_place o (p ∷ ops) n e h g = by (λ f. at_place o ops (place o.id ops) refl 
     by : (get ops o.id ≡ None → At (place o.id ops) o ops) → (r : Ordering) → id_cmp o.id p.id ≡ r → At n o (p ∷ ops)
     by later Less c =
         let above : AllAbove o.id (p ∷ ops) = and_from _ _ (ap is_lt c) (above_trans o.id p.id ops (ap is_lt c) (rises_parts p ops h).0) in
-        subst (λ (k : ℕ). At k o (p ∷ ops)) (sym (e ∙ sorted.place_here id_cmp id_total (λ (o : Operation). o.id) o.id p ops (back Less c))) (record { stands = put_front o (p ∷ ops) above; above = above })
+        subst (λ (k : ℕ). At k o (p ∷ ops))
+        (sym (e ∙ sorted.place_here id_cmp id_total (λ (o : Operation). o.id) o.id p ops (back Less c)))
+        (record { stands = put_first o (p ∷ ops) above; above = above })
     by later Equal c = cc (sym (cond-true (same_id o.id p.id) (Some p) (get ops o.id) (same_id-cmp o.id p.id ∙ ap is_eq c)) ∙ g)
     by later Greater c =
         let r = later (rest (ap is_eq c)) in
-        subst (λ (k : ℕ). At k o (p ∷ ops)) (sym (e ∙ sorted.place_later id_cmp id_total (λ (o : Operation). o.id) o.id p ops (back Greater c))) (record { stands = rw c (ap (λ zs. p ∷ zs) r.stands); above = r.above })
+        subst (λ (k : ℕ). At k o (p ∷ ops))
+        (sym (e ∙ sorted.place_later id_cmp id_total (λ (o : Operation). o.id) o.id p ops (back Greater c)))
+        (record { stands = rw c (ap (λ zs. p ∷ zs) r.stands); above = r.above })
 
 -- ---- what is joined in front of a list that is above all of it
 
 put_under : (y : Operation) (xs zs : List Operation) → AllAbove y.id zs → put y (xs ++ zs) ≡ put y xs ++ zs
-put_under y [] zs h = put_front y zs h
+put_under y [] zs h = put_first y zs h
 put_under y (x ∷ xs) zs h =
-    elim (id_cmp y.id x.id) as (λ r. by_order r (y ∷ x ∷ (xs ++ zs)) (meet x y ∷ (xs ++ zs)) (x ∷ put y (xs ++ zs)) ≡ by_order r (y ∷ x ∷ xs) (meet x y ∷ xs) (x ∷ put y xs) ++ zs) [
+    elim (id_cmp y.id x.id) as
+    (λ r. by_order r (y ∷ x ∷ (xs ++ zs)) (meet x y ∷ (xs ++ zs)) (x ∷ put y (xs ++ zs))
+    ≡ by_order r (y ∷ x ∷ xs) (meet x y ∷ xs) (x ∷ put y xs) ++ zs) [
       | Less ↦ refl
       | Equal ↦ refl
       | Greater ↦ ap (λ ws. x ∷ ws) (put_under y xs zs h)
@@ -74,7 +77,8 @@ all_under o zs (y ∷ ys) h a =
     (and_from _ _ p.0 (above_trans y.id o.id zs p.0 a), all_under o zs ys p.1 a)
 
 -- the last of the new operations goes before what stands at its place
-pub join_last : (ops ys : List Operation) (o : Operation) (n : ℕ) → n ≡ place o.id ops → rises ops ≡ true → rises (ys ++ o ∷ []) ≡ true → get ops o.id ≡ None → join ops (ys ++ o ∷ []) ≡ join (take n ops) ys ++ o ∷ drop n ops
+pub join_last : (ops ys : List Operation) (o : Operation) (n : ℕ) → n ≡ place o.id ops → rises ops ≡ true → rises (ys ++ o ∷ []) ≡ true
+    → get ops o.id ≡ None → join ops (ys ++ o ∷ []) ≡ join (take n ops) ys ++ o ∷ drop n ops
 join_last ops ys o n e h hy g =
     let at = at_place o ops n e h g in
     let below = (split_rises ys o [] hy).below in
@@ -83,12 +87,9 @@ join_last ops ys o n e h hy g =
 
 -- ---- what is left of the lists
 
--- what is joined to nothing stays
-pub join_none : (new : List Operation) → rises new ≡ true → join [] new ≡ new
-join_none new h = same_gets _ _ (rises-join [] new refl) h (λ q. get-join [] new q refl h)
-
 -- new operations after all of a list go to its end
-pub join_behind : (held new : List Operation) (n : ℕ) → length held ≤ n → rises held ≡ true → rises new ≡ true → AreApart held new → IsBefore n held new → join held new ≡ held ++ new
+pub join_behind : (held new : List Operation) (n : ℕ) → length held ≤ n → rises held ≡ true → rises new ≡ true → AreApart held new
+    → IsBefore n held new → join held new ≡ held ++ new
 join_behind held [] n l hh hn a b = sym (append-nil held)
 join_behind held (o ∷ new) n l hh hn a b =
     let p = rises_parts o new hn in
@@ -97,14 +98,17 @@ join_behind held (o ∷ new) n l hh hn a b =
     let at = at_place o held (place o.id held) refl hh a.0 in
     ap (put o) (join_behind held new n l hh p.1 a.1 b.1)
     ∙ put_under o held new p.0
-    ∙ ap (λ (xs : List Operation). xs ++ new) (at.stands ∙ (λ i. take_all (place o.id held) held behind i ++ o ∷ drop_all (place o.id held) held behind i))
+    ∙ ap (λ (xs : List Operation). xs ++ new)
+    (at.stands ∙ (λ i. take_all (place o.id held) held behind i ++ o ∷ drop_all (place o.id held) held behind i))
     ∙ append_assoc held (o ∷ []) new
 
 pub rises_take : (ops : List Operation) (n : ℕ) → rises ops ≡ true → rises (take n ops) ≡ true
-rises_take ops n h = front_rises (take n ops) (drop n ops) (subst (λ (xs : List Operation). rises xs ≡ true) (sym (take-append-drop n ops)) h)
+rises_take ops n h =
+    front_rises (take n ops) (drop n ops) (subst (λ (xs : List Operation). rises xs ≡ true) (sym (take-append-drop n ops)) h)
 
 get_take : (ops : List Operation) (n : ℕ) (q : Id) → get ops q ≡ None → get (take n ops) q ≡ None
-get_take ops n q g = none (get (take n ops) q) (get (drop n ops) q) (sym (get-append (take n ops) (drop n ops) q) ∙ ap (λ (xs : List Operation). get xs q) (take-append-drop n ops) ∙ g)
+get_take ops n q g = none (get (take n ops) q) (get (drop n ops) q)
+    (sym (get-append (take n ops) (drop n ops) q) ∙ ap (λ (xs : List Operation). get xs q) (take-append-drop n ops) ∙ g)
   where
     none : (a b : Option Operation) → option_or a b ≡ None → a ≡ None
     none None b h = refl
@@ -138,7 +142,8 @@ place_take q (x ∷ ops) (suc n) m a b c = by (place_take q ops n (m - 1) (omega
         let r = later (omega (arith, c, z)) in
         omega (arith, r, w)
 
-pub before_left : (from n : ℕ) (ops ys : List Operation) (o : Operation) → from ≤ n → n ≤ length ops → IsBefore from ops (ys ++ o ∷ []) → IsBefore from (take n ops) ys
+pub before_left : (from n : ℕ) (ops ys : List Operation) (o : Operation) → from ≤ n → n ≤ length ops → IsBefore from ops (ys ++ o ∷ [])
+    → IsBefore from (take n ops) ys
 before_left from' n ops ys o l b a = each ys (all_first (λ o. from' ≤ place o.id ops) ys (o ∷ []) a)
   where
     each : (zs : List Operation) → IsBefore from' ops zs → IsBefore from' (take n ops) zs
@@ -157,7 +162,8 @@ place_more p q (x ∷ ops) l = by (place_more p q ops l) (id_below x.id p) refl
         let w = sorted.place_later id_cmp id_total (λ (o : Operation). o.id) q x ops (below_trans x.id p q t l) in
         omega (arith, z, w, r)
 
-pub before_first : (held : List Operation) (o : Operation) (new : List Operation) (n : ℕ) → n ≡ place o.id held → rises (o ∷ new) ≡ true → IsBefore n held (o ∷ new)
+pub before_first : (held : List Operation) (o : Operation) (new : List Operation) (n : ℕ) → n ≡ place o.id held → rises (o ∷ new) ≡ true
+    → IsBefore n held (o ∷ new)
 before_first held o new n e h = (omega (arith, e), each new (rises_parts o new h).0)
   where
     each : (zs : List Operation) → AllAbove o.id zs → IsBefore n held zs
@@ -177,24 +183,34 @@ pub record Moved {X : Type 0} (all left start to : List X) : Type 0 where
 pub moved_none : {X : Type 0} (all start : List X) → Moved all all start start
 moved_none all start = record { gone = []; whole = sym (append-nil all); behind = sym (append-nil start) }
 
-pub moved_more : {X : Type 0} (all left left' start to to' : List X) (o : X) → left ≡ left' ++ o ∷ [] → to' ≡ to ++ o ∷ [] → Moved all left start to → Moved all left' start to'
+pub moved_more : {X : Type 0} (all left left' start to to' : List X) (o : X) → left ≡ left' ++ o ∷ [] → to' ≡ to ++ o ∷ []
+    → Moved all left start to → Moved all left' start to'
 moved_more {X} all left left' start to to' o e f m = record {
   gone = o ∷ m.gone;
   whole = m.whole ∙ ap (λ (xs : List X). xs ++ m.gone) e ∙ append_assoc left' (o ∷ []) m.gone;
-  behind = f ∙ ap (λ (xs : List X). xs ++ o ∷ []) m.behind ∙ append_assoc start (reverse m.gone) (o ∷ []) ∙ ap (λ (xs : List X). start ++ xs) (sym (reverse-append (o ∷ []) m.gone));
+  behind = f ∙ ap (λ (xs : List X). xs ++ o ∷ []) m.behind ∙ append_assoc start (reverse m.gone) (o ∷ [])
+      ∙ ap (λ (xs : List X). start ++ xs) (sym (reverse-append (o ∷ []) m.gone));
 }
 
 pub moved_left : {X : Type 0} (all left start to : List X) (n : ℕ) → n ≡ length left → Moved all left start to → left ≡ take n all
 moved_left all left start to n e m = sym (ap (take n) m.whole ∙ ap (λ (k : ℕ). take k (left ++ m.gone)) e ∙ take-append_seam left m.gone)
 
-pub moved_behind : {X : Type 0} (all left start to : List X) (n : ℕ) → n ≡ length left → Moved all left start to → to ≡ start ++ reverse (drop n all)
-moved_behind {X} all left start to n e m = m.behind ∙ ap (λ (xs : List X). start ++ reverse xs) (sym (ap (drop n) m.whole ∙ ap (λ (k : ℕ). drop k (left ++ m.gone)) e ∙ drop-append_seam left m.gone))
+pub moved_behind : {X : Type 0} (all left start to : List X) (n : ℕ) → n ≡ length left → Moved all left start to
+    → to ≡ start ++ reverse (drop n all)
+moved_behind {X} all left start to n e m = m.behind
+    ∙ ap (λ (xs : List X). start ++ reverse xs)
+    (sym (ap (drop n) m.whole ∙ ap (λ (k : ℕ). drop k (left ++ m.gone)) e ∙ drop-append_seam left m.gone))
 
 -- one new operation more is where it belongs
-pub union_more : (ops ops' ys new t t' all : List Operation) (o : Operation) (n : ℕ) → join ops (ys ++ o ∷ []) ≡ join (take n ops) ys ++ o ∷ drop n ops → ops' ≡ take n ops → t' ≡ (t ++ reverse (drop n ops)) ++ o ∷ [] → new ≡ ys ++ o ∷ [] → join ops new ++ reverse t ≡ all → join ops' ys ++ reverse t' ≡ all
+pub union_more : (ops ops' ys new t t' all : List Operation) (o : Operation) (n : ℕ)
+    → join ops (ys ++ o ∷ []) ≡ join (take n ops) ys ++ o ∷ drop n ops → ops' ≡ take n ops → t' ≡ (t ++ reverse (drop n ops)) ++ o ∷ []
+    → new ≡ ys ++ o ∷ [] → join ops new ++ reverse t ≡ all → join ops' ys ++ reverse t' ≡ all
 union_more ops ops' ys new t t' all o n e a b d h =
     (λ i. join (a i) ys ++ reverse (b i))
-    ∙ ap (λ (xs : List Operation). join (take n ops) ys ++ xs) (reverse-append (t ++ reverse (drop n ops)) (o ∷ []) ∙ ap (λ (xs : List Operation). o ∷ xs) (reverse-append t (reverse (drop n ops)) ∙ ap (λ (xs : List Operation). xs ++ reverse t) (reverse-reverse (drop n ops))))
+    ∙ ap (λ (xs : List Operation). join (take n ops) ys ++ xs)
+    (reverse-append (t ++ reverse (drop n ops)) (o ∷ [])
+    ∙ ap (λ (xs : List Operation). o ∷ xs)
+    (reverse-append t (reverse (drop n ops)) ∙ ap (λ (xs : List Operation). xs ++ reverse t) (reverse-reverse (drop n ops))))
     ∙ sym (append_assoc (join (take n ops) ys) (o ∷ drop n ops) (reverse t))
     ∙ ap (λ (xs : List Operation). xs ++ reverse t) (sym e ∙ ap (join ops) (sym d))
     ∙ h

@@ -34,15 +34,22 @@ pairs_of whole [] [] e f g = tt
 pairs_of whole [] (u ∷ us) e f g = cc
 pairs_of whole (s ∷ ss) [] e f g = cc
 pairs_of whole (s ∷ ss) (u ∷ us) e f g =
-    let same : bare s ≡ bare u = cc e in
-    (record { bares = same; same = λ full. some s u (sym (f.0 full) ∙ ap (λ (o : Operation). get whole o.id) same ∙ g.0) }, pairs_of whole ss us (cc e) f.1 g.1)
+    let same : bare s ≡ bare u = cc e in (
+      record {
+        bares = same;
+        same = λ full. some s u
+            (sym (f.0 full) ∙ ap (λ (o : Operation). get whole o.id) same ∙ g.0);
+      },
+      pairs_of whole ss us (cc e) f.1 g.1,
+    )
   where
     some : (x y : Operation) → Some x ≡ Some y → x ≡ y
     some x y e = cc
 
 pub pairs_from : (s u : List Operation) → StandsFor s u → ArePairs s u
 pairs_from s u h =
-    pairs_of u s u h.skeletons (all_held (λ o. is_full o ≡ true → get u o.id ≡ Some o) s h.rising (λ o g full. h.within o.id o g full)) (held_itself u h.whole_rising)
+    pairs_of u s u h.skeletons (all_held (λ o. is_full o ≡ true → get u o.id ≡ Some o) s h.rising (λ o g full. h.within o.id o g full))
+    (held_itself u h.whole_rising)
 
 pub pairs_skeletons : (s u : List Operation) → ArePairs s u → skeleton s ≡ skeleton u
 pairs_skeletons [] [] h = refl
@@ -50,7 +57,7 @@ pairs_skeletons [] (u ∷ us) h = absurd h
 pairs_skeletons (s ∷ ss) [] h = absurd h
 pairs_skeletons (s ∷ ss) (u ∷ us) h = λ i. h.0.bares i ∷ pairs_skeletons ss us h.1 i
 
--- what stands at an id in one stands for what stands there in the other
+-- what is at an id in one stands for what is there in the other
 pub record Stood (u : List Operation) (q : Id) (o : Operation) : Type 0 where
   pub for : Operation
   pub held : get u q ≡ Some for
@@ -99,7 +106,8 @@ pairs_put o p (s ∷ ss) [] g h = absurd h
 pairs_put o p (s ∷ ss) (u ∷ us) g h =
     let same : id_cmp o.id s.id ≡ id_cmp p.id u.id = λ i. id_cmp (g.bares i).id (h.0.bares i).id in
     subst (λ r. ArePairs (put o (s ∷ ss)) (by_order r (p ∷ u ∷ us) (meet u p ∷ us) (u ∷ put p us))) same
-    (elim (id_cmp o.id s.id) as (λ r. ArePairs (by_order r (o ∷ s ∷ ss) (meet s o ∷ ss) (s ∷ put o ss)) (by_order r (p ∷ u ∷ us) (meet u p ∷ us) (u ∷ put p us))) [
+    (elim (id_cmp o.id s.id) as
+    (λ r. ArePairs (by_order r (o ∷ s ∷ ss) (meet s o ∷ ss) (s ∷ put o ss)) (by_order r (p ∷ u ∷ us) (meet u p ∷ us) (u ∷ put p us))) [
       | Less ↦ (g, h)
       | Equal ↦ (stands_meet s u o p h.0 g, h.1)
       | Greater ↦ (h.0, pairs_put o p ss us g h.1)
@@ -167,7 +175,8 @@ rises_pairs s u e h = rises_same s u e ∙ h
 pub thin_stands : (s u : List Operation) → StandsFor s u → StandsFor (thin s) u
 thin_stands s u h =
     let p = pairs_thinned s s u (pairs_from s u h) in
-    pairs_stand (thin s) u (rises_pairs (thin s) u (pairs_skeletons (thin s) u p) h.whole_rising) h.whole_rising (thin_legal s h.legal) h.whole_full p
+    pairs_stand (thin s) u (rises_pairs (thin s) u (pairs_skeletons (thin s) u p) h.whole_rising) h.whole_rising
+    (thin_legal s h.legal) h.whole_full p
 
 -- ---- subsets
 
@@ -179,7 +188,8 @@ pairs_filter p q same (s ∷ ss) [] h = absurd h
 pairs_filter p q same (s ∷ ss) (u ∷ us) h =
     let rest = pairs_filter p q same ss us h.1 in
     subst (λ b. ArePairs (filter p (s ∷ ss)) (cond b (u ∷ filter q us) (filter q us))) (same s u h.0)
-    (elim (p s) as (λ b. ArePairs (cond b (s ∷ filter p ss) (filter p ss)) (cond b (u ∷ filter q us) (filter q us))) [ true ↦ (h.0, rest) | false ↦ rest ])
+    (elim (p s) as (λ b. ArePairs (cond b (s ∷ filter p ss) (filter p ss))
+    (cond b (u ∷ filter q us) (filter q us))) [ true ↦ (h.0, rest) | false ↦ rest ])
 
 -- a legal subset, chosen by anything but the texts
 pub filter_stands : (s u : List Operation) (kept : Operation → Bool) → StandsFor s u → is_legal (filter (λ o. kept (bare o)) s) ≡ true
@@ -206,5 +216,6 @@ pairs_equal (s ∷ ss) (u ∷ us) h f = let q = and_parts (is_full s) (all_full 
 
 pub shows_same : (s u : List Operation) (seg : Segment) → StandsFor s u → shown s seg ≡ shown u seg
 shows_same s u seg h = pairs_equal (shown s seg) (shown u seg)
-    (pairs_filter (is_shown s seg) (is_shown u seg) (λ x y g. is_shown_same s u h.skeletons seg x ∙ ap (is_shown u seg) g.bares) s u (pairs_from s u h))
+    (pairs_filter (is_shown s seg) (is_shown u seg) (λ x y g. is_shown_same s u h.skeletons seg x ∙ ap (is_shown u seg) g.bares) s u
+    (pairs_from s u h))
     (shown_full s seg h.legal)

@@ -34,7 +34,8 @@ is_in_one way (set ∷ rest) o (inr (inr later)) = is_in_one (Joined way (Part s
 abbrev pub from_none : List (List Operation) → Joining
 from_none sets = joined_in (Part []) sets
 
-crossed : (sets others : List (List Operation)) → ((o : Operation) → IsAmong sets o → IsAmong others o) → (o : Operation) → IsInOne (from_none sets) o → IsInOne (from_none others) o
+crossed : (sets others : List (List Operation)) → ((o : Operation) → IsAmong sets o → IsAmong others o) → (o : Operation)
+    → IsInOne (from_none sets) o → IsInOne (from_none others) o
 crossed sets others f o i = elim (among (Part []) sets o i) [
   | inl nowhere ↦ absurd (omega (arith, nowhere.1))
   | inr here ↦ is_in_one (Part []) others o (inr (f o here))
@@ -46,7 +47,8 @@ empty_set = record { rising = refl; each = tt }
 -- a set whose operations are together those of a list of sets is their union
 pub set_from_none : (held : List Operation) (sets : List (List Operation)) (union : List Operation) → IsOpSet held
     → AllByRecursion IsOpSet sets
-    → ((o : Operation) → Contains held o → IsAmong sets o) → ((o : Operation) → IsAmong sets o → Contains held o) → union_by (from_none sets) ≡ Ok union → held ≡ union
+    → ((o : Operation) → Contains held o → IsAmong sets o) → ((o : Operation) → IsAmong sets o → Contains held o)
+    → union_by (from_none sets) ≡ Ok union → held ≡ union
 set_from_none held sets union h s there back e =
     same_unions (Part held) (from_none sets) held union h (are_sets (Part []) sets empty_set s) (record {
       there = λ o i. is_in_one (Part []) sets o (inr (there o i));

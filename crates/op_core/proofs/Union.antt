@@ -39,7 +39,7 @@ get_above id (o ∷ ops) h =
 pub rises_parts : (o : Operation) (ops : List Operation) → rises (o ∷ ops) ≡ true → AllAbove o.id ops × (rises ops ≡ true)
 rises_parts o ops h = and_parts (list_all (λ p. id_below o.id p.id) ops) (rises ops) h
 
--- how o's id stands to p's
+-- how o's id compares to p's
 module _ (o p : Operation) where
   pub less_below : id_cmp o.id p.id ≡ Less → id_below o.id p.id ≡ true
   less_below h = ap is_lt h
@@ -99,13 +99,16 @@ pub get-put : (o : Operation) (ops : List Operation) (q : Id) → rises ops ≡ 
 get-put o [] q h = refl
 get-put o (p ∷ ops) q h =
     let parts = rises_parts p ops h in
-    elim (id_cmp o.id p.id) as (λ r. id_cmp o.id p.id ≡ r → get (by_order r (o ∷ p ∷ ops) (meet p o ∷ ops) (p ∷ put o ops)) q ≡ met (get (p ∷ ops) q) (cond (same_id q o.id) (Some o) None)) [
+    elim (id_cmp o.id p.id) as
+    (λ r. id_cmp o.id p.id ≡ r
+    → get (by_order r (o ∷ p ∷ ops) (meet p o ∷ ops) (p ∷ put o ops)) q ≡ met (get (p ∷ ops) q) (cond (same_id q o.id) (Some o) None)) [
       | Less ↦ λ e. here (get (p ∷ ops) q) (Some o) (same_id q o.id) (λ s.
           ap (get (p ∷ ops)) (id_from_same q o.id s)
           ∙ get_above o.id (p ∷ ops) (and_from _ _ (less_below o p e) (above_trans o.id p.id ops (less_below o p e) parts.0)))
       | Equal ↦ λ e. tied p o (get ops q) (same_id q p.id) (same_id q o.id) (ap (same_id q) (sym (equal_ids o p e)))
       | Greater ↦ λ e. ap (cond (same_id q p.id) (Some p)) (get-put o ops q parts.1)
-          ∙ later p (get ops q) (Some o) (same_id q p.id) (same_id q o.id) (λ s. ap (λ i. same_id i o.id) (id_from_same q p.id s) ∙ apart_below p.id o.id (greater_below o p e))
+          ∙ later p (get ops q) (Some o) (same_id q p.id) (same_id q o.id)
+          (λ s. ap (λ i. same_id i o.id) (id_from_same q p.id s) ∙ apart_below p.id o.id (greater_below o p e))
     ] refl
 
 pub above-put : (id : Id) (o : Operation) (ops : List Operation) → id_below id o.id ≡ true → AllAbove id ops → AllAbove id (put o ops)
@@ -146,7 +149,8 @@ unpaired : (ops : List Operation) → map (λ (e : Id × Operation). e.1) (map (
 unpaired [] = refl
 unpaired (o ∷ ops) = ap (λ xs. o ∷ xs) (unpaired ops)
 
-sorted_above : (id : Id) (ops : List Operation) → below_all id_cmp id (map (λ (o : Operation). (o.id, o)) ops) ≡ list_all (λ p. id_below id p.id) ops
+sorted_above : (id : Id) (ops : List Operation)
+    → below_all id_cmp id (map (λ (o : Operation). (o.id, o)) ops) ≡ list_all (λ p. id_below id p.id) ops
 sorted_above id [] = refl
 sorted_above id (o ∷ ops) = ap (λ b. id_below id o.id && b) (sorted_above id ops)
 
@@ -162,7 +166,8 @@ found_get q (o ∷ ops) = λ i. cond (sym (same_id-cmp q o.id) i) (Some o) (foun
 pub same_gets : (xs ys : List Operation) → rises xs ≡ true → rises ys ≡ true → ((q : Id) → get xs q ≡ get ys q) → xs ≡ ys
 same_gets xs ys hx hy is =
     sym (unpaired xs)
-    ∙ ap (map (λ (e : Id × Operation). e.1)) (same_entries id_cmp id_total id_exact (map (λ (o : Operation). (o.id, o)) xs) (map (λ (o : Operation). (o.id, o)) ys)
+    ∙ ap (map (λ (e : Id × Operation). e.1))
+    (same_entries id_cmp id_total id_exact (map (λ (o : Operation). (o.id, o)) xs) (map (λ (o : Operation). (o.id, o)) ys)
     (subst T (sym (sorted_rises xs ∙ hx)) tt) (subst T (sym (sorted_rises ys ∙ hy)) tt) (λ q. found_get q xs ∙ is q ∙ sym (found_get q ys)))
     ∙ unpaired ys
 
@@ -187,7 +192,8 @@ get-join xs (o ∷ ys) q hx hy =
     ∙ ap (λ x. met x (cond (same_id q o.id) (Some o) None)) (get-join xs ys q hx parts.1)
     ∙ last_met (get xs q) (get ys q) (Some o) (same_id q o.id) (λ s. ap (get ys) (id_from_same q o.id s) ∙ get_above o.id ys parts.0)
 
-pub join_assoc : (xs ys zs : List Operation) → rises xs ≡ true → rises ys ≡ true → rises zs ≡ true → join (join xs ys) zs ≡ join xs (join ys zs)
+pub join_assoc : (xs ys zs : List Operation) → rises xs ≡ true → rises ys ≡ true → rises zs ≡ true
+    → join (join xs ys) zs ≡ join xs (join ys zs)
 join_assoc xs ys zs hx hy hz = same_gets _ _ (rises-join (join xs ys) zs (rises-join xs ys hx)) (rises-join xs (join ys zs) hx) (λ q.
     get-join (join xs ys) zs q (rises-join xs ys hx) hz
     ∙ ap (λ x. met x (get zs q)) (get-join xs ys q hx hy)
@@ -239,7 +245,8 @@ join_comm xs ys hx hy h = same_gets _ _ (rises-join xs ys hx) (rises-join ys xs 
 -- a full operation of a held id adds nothing
 pub put_held : (o p : Operation) (ops : List Operation) → rises ops ≡ true → get ops o.id ≡ Some p → is_full o ≡ true → put o ops ≡ ops
 put_held o p ops h g f =
-    same_gets _ _ (rises-put o ops h) h (λ q. get-put o ops q h ∙ kept (get ops q) (same_id q o.id) (λ s. ap (get ops) (id_from_same q o.id s) ∙ g))
+    same_gets _ _ (rises-put o ops h) h
+    (λ q. get-put o ops q h ∙ kept (get ops q) (same_id q o.id) (λ s. ap (get ops) (id_from_same q o.id s) ∙ g))
   where
     kept : (x : Option Operation) (b : Bool) → (b ≡ true → x ≡ Some p) → met x (cond b (Some o) None) ≡ x
     kept (Some x) true h = ap (λ t. Some (with_text x t)) (kept_text x.text o.text f)
@@ -251,21 +258,29 @@ put_held o p ops h g f =
 inserted : (o p : Operation) (ops : List Operation) (n : ℕ) → put o ops ≡ insert ops n o → p ∷ put o ops ≡ insert (p ∷ ops) (1 + n) o
 inserted o p ops n h = let e : 1 + n ≡ suc n = omega arith in rw e (ap (λ xs. p ∷ xs) h)
 
-pub put_insert : (o : Operation) (ops : List Operation) → get ops o.id ≡ None → put o ops ≡ insert ops (position_or_len (λ p. not (id_below p.id o.id)) ops) o
+pub put_insert : (o : Operation) (ops : List Operation) → get ops o.id ≡ None
+    → put o ops ≡ insert ops (position_or_len (λ p. not (id_below p.id o.id)) ops) o
 put_insert o [] g = refl
 put_insert o (p ∷ ops) g =
-    elim (id_cmp o.id p.id) as (λ r. id_cmp o.id p.id ≡ r → by_order r (o ∷ p ∷ ops) (meet p o ∷ ops) (p ∷ put o ops) ≡ insert (p ∷ ops) (position_or_len (λ p. not (id_below p.id o.id)) (p ∷ ops)) o) [
+    elim (id_cmp o.id p.id) as
+    (λ r. id_cmp o.id p.id ≡ r
+    → by_order r (o ∷ p ∷ ops) (meet p o ∷ ops) (p ∷ put o ops)
+    ≡ insert (p ∷ ops) (position_or_len (λ p. not (id_below p.id o.id)) (p ∷ ops)) o) [
       | Less ↦ λ e.
           let above : id_below p.id o.id ≡ false = ap is_lt (id_total.antisymm p.id o.id ∙ ap ordering_reverse e) in
           rw above refl
       | Equal ↦ λ e. cc (sym (cond-true (same_id o.id p.id) (Some p) (get ops o.id) (same_id-cmp o.id p.id ∙ ap is_eq e)) ∙ g)
       | Greater ↦ λ e.
-          rw (greater_below o p e) (inserted o p ops _ (put_insert o ops (sym (cond-false (same_id o.id p.id) (Some p) (get ops o.id) (same_id-cmp o.id p.id ∙ ap is_eq e)) ∙ g)))
+          rw (greater_below o p e)
+          (inserted o p ops _ (put_insert o ops
+          (sym (cond-false (same_id o.id p.id) (Some p) (get ops o.id) (same_id-cmp o.id p.id ∙ ap is_eq e)) ∙ g)))
     ] refl
 
-pub put_at : (o : Operation) (ops : List Operation) (id : Id) (at : ℕ) → id ≡ o.id → None ≡ get ops id → at ≡ position_or_len (λ p. not (id_below p.id id)) ops → insert ops at o ≡ put o ops
+pub put_at : (o : Operation) (ops : List Operation) (id : Id) (at : ℕ) → id ≡ o.id → None ≡ get ops id
+    → at ≡ position_or_len (λ p. not (id_below p.id id)) ops → insert ops at o ≡ put o ops
 put_at o ops id at e g h =
-    ap (λ n. insert ops n o) (h ∙ ap (λ (i : Id). position_or_len (λ p. not (id_below p.id i)) ops) e) ∙ sym (put_insert o ops (sym (g ∙ ap (get ops) e)))
+    ap (λ n. insert ops n o) (h ∙ ap (λ (i : Id). position_or_len (λ p. not (id_below p.id i)) ops) e)
+    ∙ sym (put_insert o ops (sym (g ∙ ap (get ops) e)))
 
 pub IsOpSet-put : (o : Operation) (ops : List Operation) → IsOperation o → IsOpSet ops → IsOpSet (put o ops)
 IsOpSet-put o ops h g = record { rising = rises-put o ops g.rising; each = each-put IsOperation meet-IsOperation o ops h g.each }
@@ -282,7 +297,9 @@ pub put_kept : (o : Operation) (ops : List Operation) (id : Id) (r : Option (Bor
 put_kept o ops id None h e g n f = absurd (false≢true n)
 put_kept o ops id (Some b) h e g n f = put_held o b.now ops h (ap (get ops) (sym e) ∙ sym g) f
 
-pub put_new : (o : Operation) (ops : List Operation) (id : Id) (at : ℕ) (r : Option (Bor Operation)) → id ≡ o.id → option_copied r ≡ get ops id → is_some r ≡ false → at ≡ position_or_len (λ p. not (id_below p.id id)) ops → insert ops at o ≡ put o ops
+pub put_new : (o : Operation) (ops : List Operation) (id : Id) (at : ℕ) (r : Option (Bor Operation)) → id ≡ o.id
+    → option_copied r ≡ get ops id → is_some r ≡ false → at ≡ position_or_len (λ p. not (id_below p.id id)) ops
+    → insert ops at o ≡ put o ops
 put_new o ops id at None e g n h = put_at o ops id at e g h
 put_new o ops id at (Some b) e g n h = absurd (true≢false n)
 
@@ -315,7 +332,8 @@ agree_from_no_clash xs ys h = agree_at xs ys (unmapped (find_in (λ (o : Operati
     unmapped None h = refl
     unmapped (Some o) h = cc h
 
-later_held : (x : Operation) (xs ys : List Operation) → AllAbove x.id ys → AllByRecursion (λ o. get xs o.id ≡ Some o) ys → AllByRecursion (λ o. get (x ∷ xs) o.id ≡ Some o) ys
+later_held : (x : Operation) (xs ys : List Operation) → AllAbove x.id ys → AllByRecursion (λ o. get xs o.id ≡ Some o) ys
+    → AllByRecursion (λ o. get (x ∷ xs) o.id ≡ Some o) ys
 later_held x xs [] above h = tt
 later_held x xs (o ∷ ys) above h =
     let p = and_parts (id_below x.id o.id) (list_all (λ p. id_below x.id p.id) ys) above in
@@ -328,7 +346,8 @@ held_itself (x ∷ xs) h =
     let p = rises_parts x xs h in
     (cond-true (same_id x.id x.id) (Some x) (get xs x.id) (same_id-refl x.id), later_held x xs xs p.0 (held_itself xs p.1))
 
-none_differs : (xs ys : List Operation) → AllByRecursion (λ o. get xs o.id ≡ Some o) ys → find_in (λ (o : Operation). differs (get xs o.id) o) ys ≡ None
+none_differs : (xs ys : List Operation) → AllByRecursion (λ o. get xs o.id ≡ Some o) ys
+    → find_in (λ (o : Operation). differs (get xs o.id) o) ys ≡ None
 none_differs xs [] h = refl
 none_differs xs (o ∷ ys) h =
     let same : differs (get xs o.id) o ≡ false = ap (λ (r : Option Operation). differs r o) h.0

@@ -111,7 +111,7 @@ ThinnedAgree way =
     (thinned o p : Operation) → IsInOne way thinned → IsInOne way o → IsInOne way p → is_full thinned ≡ false →
     o.id ≡ thinned.id → p.id ≡ thinned.id → agree o p ≡ true
 
--- Sets that have the same operations together, and in which no id of a thinned operation stands for two, are joined either
+-- Sets that have the same operations together, and in which no id of a thinned operation has two operations, are joined either
 -- way, or refused either way. An id of full operations may stand for two: then they are refused.
 abbrev pub RefusedAlike : Type 0
 RefusedAlike =

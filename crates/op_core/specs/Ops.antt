@@ -8,7 +8,7 @@ use Rattle.std.specs.Cmp.Lexicographic.{pointwise}
 use Rattle.usfm_ref.specs.Books.{same_bytes, is_book_code}
 use Rattle.usfm_ref.specs.Keys.{is_key, is_verse_of}
 use Rattle.usfm_ref.specs.Segments.{Segment, same_segment}
-use Rattle.verse_cut.specs.Reading.{text_fits}
+use Rattle.verse_cut.specs.Fits.{Fits}
 use Rattle.op_core.specs.Ids.{Id, same_id, is_id, names_fall}
 
 -- the text that a replica gave to a segment, and the ids of the operations that it replaces there; a thinned operation is
@@ -26,7 +26,7 @@ is_segment g = is_book_code g.book && is_key g.key.chapter g.key.place
 -- a text is UTF-8, and fits the segment
 pub record IsTextFor (g : Segment) (text : List ℕ) : Type 0 where
   pub utf8 : IsUtf8 text
-  pub fits : IsTrue (text_fits g.book g.key text)
+  pub fits : Fits g.book g.key text
 
 -- a text that is not left out is one for the segment
 abbrev pub MayBeText : Segment → Option (List ℕ) → Type 0

@@ -155,7 +155,7 @@ abbrev pub FullGroupingsAlike : Type 0
 FullGroupingsAlike = (a b c : List Operation) → rises a ≡ true → rises b ≡ true → rises c ≡ true → all_full a ≡ true → all_full b ≡ true →
     clash a b ≡ None → clash (join a b) c ≡ None → (clash b c ≡ None) × (clash a (join b c) ≡ None)
 
--- Legal sets that are equal but for texts left out, and in which no id stands for two operations, show the same. So a full
+-- Legal sets that are equal but for texts left out, and in which no id has two operations, show the same. So a full
 -- set, if there is one, need not be known.
 abbrev pub SkeletonShows : Type 0
 SkeletonShows =

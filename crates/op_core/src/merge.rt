@@ -92,11 +92,12 @@ pub(crate) fn look_at_each(new: &[Op])
     }
 }
 
-// Makes room for so many operations more. To an empty list they come with their own.
+// Makes room for this many operations more. To an empty list they come with their own.
 pub(crate) fn reserve_ops(ops: &mut Vec<Op>, count: usize) -> Result<(), AllocError>
     ensures items { ops.new.items ≡ ops.old.items }
     ensures len { vec_len ops.new ≡ vec_len ops.old }
-    ensures room { OnOk result (0 < vec_len ops.old → vec_len ops.old + count ≤ vec_capacity ops.new) }
+    ensures room { OnOk result
+        (0 < vec_len ops.old → vec_len ops.old + count ≤ vec_capacity ops.new) }
 {
     if ops.is_empty() {
         return Ok(());
@@ -104,7 +105,7 @@ pub(crate) fn reserve_ops(ops: &mut Vec<Op>, count: usize) -> Result<(), AllocEr
     ops.reserve(count)
 }
 
-// An empty list with room for so many new operations and what is after the first of them. Where nothing is
+// An empty list with room for this many new operations and what is after the first of them. Where nothing is
 // after it, none is needed.
 pub(crate) fn tail_of(
     alloc: Global,
@@ -137,7 +138,8 @@ pub(crate) fn merge(
     requires before { IsBefore from ops.old.items new.items }
     requires tail { tail.items ≡ [] }
     requires room { 0 < vec_len ops.old → vec_len ops.old + vec_len new ≤ vec_capacity ops.old }
-    requires room_behind { from < vec_len ops.old → vec_len ops.old + vec_len new ≤ vec_capacity tail + from }
+    requires room_behind { from < vec_len ops.old
+        → vec_len ops.old + vec_len new ≤ vec_capacity tail + from }
     ensures { ops.new.items ≡ sets.join ops.old.items new.items }
 {
     if ops.is_empty() {

@@ -3,7 +3,7 @@ ghost use Rattle.std.specs.Cmp.{partial_equiv_from_equiv};
 ghost use Rattle.std.specs.Cmp.Lexicographic.{pointwise};
 ghost use Rattle.std.specs.List.{list_all};
 ghost use Rattle.usfm_ref.specs.Segments.{segment};
-ghost use Rattle.verse_cut.specs.Reading.{text_fits};
+ghost use Rattle.verse_cut.specs.Fits.{Fits};
 ghost use Rattle.op_core.specs.Ids as ids;
 ghost use Rattle.op_core.specs.Ops.{IsOperation, in_segment, bare, agree, same_bare};
 ghost use Rattle.op_core.specs.Ops as ops;
@@ -41,7 +41,7 @@ impl Op {
     /// which `verse_cut::fits` tests.
     pub fn new(id: OpId, book: Book, key: Key, replaced: Vec<OpId>, text: String) -> Op
         requires falls { IsTrue (ids.names_fall id replaced.items) }
-        requires fits { IsTrue (text_fits book key (string_bytes text)) }
+        requires fits { Fits book key (string_bytes text) }
         ensures { result ≡ record { id = id; segment = segment book key; replaced = replaced.items; text = Some (string_bytes text) } }
     {
         // Each part is looked at, which shows that it is within its ranges.
@@ -177,7 +177,8 @@ impl PartialEq for Op {
 }
 
 fn same_text(left: Option<&str>, right: Option<&str>) -> bool
-    ensures { result ≡ ops.same_text (option_map (λ t. t.now) left.entry) (option_map (λ t. t.now) right.entry) }
+    ensures { result ≡ ops.same_text (option_map (λ t. t.now) left.entry)
+        (option_map (λ t. t.now) right.entry) }
 {
     match (left, right) {
         (None, None) => true,
@@ -187,7 +188,8 @@ fn same_text(left: Option<&str>, right: Option<&str>) -> bool
 }
 
 fn texts_agree(left: Option<&str>, right: Option<&str>) -> bool
-    ensures { result ≡ ops.texts_agree (option_map (λ t. t.now) left.entry) (option_map (λ t. t.now) right.entry) }
+    ensures { result ≡ ops.texts_agree (option_map (λ t. t.now) left.entry)
+        (option_map (λ t. t.now) right.entry) }
 {
     match (left, right) {
         (Some(left), Some(right)) => left.as_bytes() == right.as_bytes(),

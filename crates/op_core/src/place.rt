@@ -247,7 +247,7 @@ pub(crate) fn shown_of<'a>(
     }
 }
 
-// The head of the chapter that a key stands in.
+// The head of the chapter that a key is in.
 pub(crate) fn head_of(key: Key) -> Key
     ensures { result ≡ keys.head_of key }
 {

@@ -276,7 +276,8 @@ impl OpSet {
     /// # Errors
     /// Out of memory alone.
     pub fn shown(&self, alloc: Global, book: Book, key: Key) -> Result<Vec<&Op>, AllocError>
-        ensures ops { IfOk result (λ v. map (λ op. op.now) v.items ≡ texts.shown self.now (segment book key)) }
+        ensures ops { IfOk result
+            (λ v. map (λ op. op.now) v.items ≡ texts.shown self.now (segment book key)) }
         ensures none { texts.shown self.now (segment book key) ≡ [] → IsOk result }
     {
         let _ = &self.ops;
@@ -378,7 +379,9 @@ impl OpSet {
 
     // Whether one of the registers is of a verse of the key's chapter with a text that is not empty.
     fn has_text_among(&self, registers: &[Register], book: Book, key: Key) -> bool
-        ensures { result ≡ list_any (λ r. is_verse_of key.chapter r.key && not (texts.is_empty (texts.text_of self.now (segment book r.key)))) registers.now }
+        ensures { result ≡ list_any
+            (λ r. is_verse_of key.chapter r.key
+            && not (texts.is_empty (texts.text_of self.now (segment book r.key)))) registers.now }
     {
         registers.iter().any(|register| {
             is_verse_beside(key, register.key) && !self.is_text_empty(book, register.key)

@@ -39,7 +39,7 @@ pub fn create(alloc: Global, name: &str) -> Result<Vec<u8>, CreateFault>
 /// - `BadProject` (110) where the magic or the name is cut or wrong.
 /// - `Bundle` with the refusal of what follows the name, as `bundle_codec::decode_whole` answers it: 60
 ///   to 69, and 70 where something follows the bundle.
-/// - `Memory` (1) where a growth was refused. It may stand in the place of 69 and 70 where each field of
+/// - `Memory` (1) where a growth was refused. It may be in the place of 69 and 70 where each field of
 ///   the bundle is right and an operation is thinned, and of no other refusal. A replica that holds
 ///   nothing is loaded without memory.
 pub fn load(alloc: Global, bytes: &[u8]) -> Result<Replica, LoadFault>
@@ -94,7 +94,7 @@ fn front_of(bytes: &[u8]) -> Option<(ReplicaName, &[u8])>
     name_at(after_magic(bytes)?)
 }
 
-// The bytes after the magic, where it stands at the front.
+// The bytes after the magic, where it is at the front.
 #[tactic(auto, unfolding(crate::specs::Projects::magic))]
 fn after_magic(bytes: &[u8]) -> Option<&[u8]>
     ensures { option_map (λ rest. rest.now) result ≡ projects.after_magic bytes.now }

@@ -1,4 +1,4 @@
--- A replica after an import: the edits stand after all that it held, and each is what its segment shows last.
+-- A replica after an import: the edits come after all that it held, and each is what its segment shows last.
 use Rattle.std.proofs.Common.{◌≡◌, ℕ, suc, ◌<◌, Bool, true, false, not, cond, ◌&&◌, ◌||◌, List, [], ◌∷◌, ◌++◌}
 use Rattle.std.proofs.Common.{filter, nat_lt, Option, Some, None, arith, refl, sym, ap, ◌∙◌, append-nil}
 use Rattle.std.specs.Cmp.{Equal-is, tied_itself}
@@ -41,7 +41,8 @@ keys_apart q k h = by (same_key k q) refl
     by true e = cc (sym h ∙ ap (λ (j : KeyParts). is_eq (key_cmp q j)) (same_key-is k q e) ∙ ap is_eq (tied_itself key_total q))
     by false e = e
 
-key_is : (q k : KeyParts) → is_eq (key_cmp q k) ≡ true → q ≡ k
+-- keys that tie are the same
+pub key_is : (q k : KeyParts) → is_eq (key_cmp q k) ≡ true → q ≡ k
 key_is q k h = key_exact q k ((Equal-is _).0 h)
 
 and_none : (a b : Bool) → b ≡ false → (a && b) ≡ false
@@ -71,7 +72,7 @@ module _ (s : State) (state : IsState s) (book : List ℕ) (pieces : List Part) 
   abbrev edits : ℕ → List KeyParts → List Operation
   edits n keys = edits_from n s book pieces keys
 
-  -- ---- the edits stand after
+  -- ---- the edits come after
 
   rises_behind : (ops : List Operation) (n : ℕ) (keys : List KeyParts) → rises ops ≡ true → greatest_number ops < n
       → rises (ops ++ edits n keys) ≡ true

@@ -57,7 +57,8 @@ module _ (s : State) (base : List Operation) (book : List ℕ) (pieces : List Pa
   pub changes_beyond : (held : List Operation) (n : ℕ) (keys : List KeyParts) → greatest_number held < n
       → AllByRecursion (λ o. get held o.id ≡ None) (changes_from n s base book pieces keys)
   changes_beyond held n [] l = tt
-  changes_beyond held n (k ∷ keys) l = (beyond held (record { number = n; name = s.name }) l, changes_beyond held (suc n) keys (omega arith))
+  changes_beyond held n (k ∷ keys) l =
+      (beyond held (record { number = n; name = s.name }) l, changes_beyond held (suc n) keys (omega arith))
 
   pub changes_are_new : (n : ℕ) (keys : List KeyParts) → greatest_number s.held < n
       → AllByRecursion (λ o. get s.held o.id ≡ None) (changes_from n s base book pieces keys)
@@ -90,11 +91,13 @@ module _ (s : State) (base : List Operation) (book : List ℕ) (pieces : List Pa
   pub changes_legal : (n : ℕ) (keys : List KeyParts) → IsState s → greatest_number s.held < n
       → is_legal (join s.held (changes_from n s base book pieces keys)) ≡ true
   changes_legal n keys state l =
-      join_full_legal s.held (changes_from n s base book pieces keys) state.set.rising (changes_rise n keys) state.legal (changes_full n keys)
+      join_full_legal s.held (changes_from n s base book pieces keys) state.set.rising (changes_rise n keys) state.legal
+      (changes_full n keys)
       (changes_are_new n keys l)
 
   changes_push : (n : ℕ) (keys : List KeyParts) (key : KeyParts)
-      → changes_from n s base book pieces (keys ++ key ∷ []) ≡ changes_from n s base book pieces keys ++ change_at (n + length keys) key ∷ []
+      → changes_from n s base book pieces (keys ++ key ∷ [])
+      ≡ changes_from n s base book pieces keys ++ change_at (n + length keys) key ∷ []
   changes_push n [] key = let e : n ≡ n + 0 = omega arith in ap (λ (m : ℕ). change_at m key ∷ []) e
   changes_push n (k ∷ keys) key =
       let e : suc n + length keys ≡ n + suc (length keys) = omega arith in
@@ -117,9 +120,11 @@ module _ (t : State) (base : List Operation) (book : List ℕ) (pieces : List Pa
       → changed c t base book pieces keys ≡ record { after = x; answer = Ok n }
   still_made b c x n e = by (has_numbers t.held (length keys)) e
     where
-      by : (h : Bool) → cond h (with_edits t (changes_from (next_number t.held) t base book pieces keys)) (record { after = b; answer = Err NumbersUsedUp })
+      by : (h : Bool) → cond h (with_edits t (changes_from (next_number t.held) t base book pieces keys))
+          (record { after = b; answer = Err NumbersUsedUp })
           ≡ record { after = x; answer = Ok n }
-          → cond h (with_edits t (changes_from (next_number t.held) t base book pieces keys)) (record { after = c; answer = Err NumbersUsedUp })
+          → cond h (with_edits t (changes_from (next_number t.held) t base book pieces keys))
+          (record { after = c; answer = Err NumbersUsedUp })
           ≡ record { after = x; answer = Ok n }
       by true e = e
       by false e = cc (ap (λ (s : SinceStep). s.answer) e)
@@ -128,9 +133,11 @@ module _ (t : State) (base : List Operation) (book : List ℕ) (pieces : List Pa
       → changed c t base book pieces keys ≡ record { after = c; answer = Err fault }
   still_refused b c x fault e = by (has_numbers t.held (length keys)) e
     where
-      by : (h : Bool) → cond h (with_edits t (changes_from (next_number t.held) t base book pieces keys)) (record { after = b; answer = Err NumbersUsedUp })
+      by : (h : Bool) → cond h (with_edits t (changes_from (next_number t.held) t base book pieces keys))
+          (record { after = b; answer = Err NumbersUsedUp })
           ≡ record { after = x; answer = Err fault }
-          → cond h (with_edits t (changes_from (next_number t.held) t base book pieces keys)) (record { after = c; answer = Err NumbersUsedUp })
+          → cond h (with_edits t (changes_from (next_number t.held) t base book pieces keys))
+          (record { after = c; answer = Err NumbersUsedUp })
           ≡ record { after = c; answer = Err fault }
       by true e = cc (ap (λ (s : SinceStep). s.answer) e)
       by false e = ap (λ (r : Result ℕ SinceFault). record { after = c; answer = r }) (ap (λ (s : SinceStep). s.answer) e)
@@ -158,7 +165,8 @@ module _ (s t : State) (base was : List Operation) (file book : List ℕ) (piece
       (still_made (with_ops s base) base book (pieces_of file) (changed_keys (with_ops s base).held base book (pieces_of file))
       (with_ops s base) s x n (same ∙ e))
 
-  pub made_as : (x y : State) (n : ℕ) → y ≡ x → changed t t was book pieces (changed_keys t.held was book pieces) ≡ record { after = x; answer = Ok n }
+  pub made_as : (x y : State) (n : ℕ) → y ≡ x
+      → changed t t was book pieces (changed_keys t.held was book pieces) ≡ record { after = x; answer = Ok n }
       → imported_since s base file ≡ record { after = y; answer = Ok n }
   made_as x y n is e = made_in x n e ∙ (λ i. record { after = sym is i; answer = Ok n })
 

@@ -5,6 +5,7 @@ use Rattle.std.specs.List.{list_any, flat_map}
 use Rattle.std.specs.Option.{is_some}
 use Rattle.std.specs.Ordering.{is_eq}
 use Rattle.std.proofs.lemmas.List.Folds.{list_any-append}
+use Rattle.std.proofs.lemmas.Bool.{or_left, or_right}
 use Rattle.usfm_ref.specs.Books.{same_bytes}
 use Rattle.usfm_ref.specs.Keys.{KeyParts, key_cmp, head_of, same_key}
 use Rattle.usfm_ref.specs.Rising.{rises_by}
@@ -21,17 +22,8 @@ use Rattle.op_core.specs.CutsBack.{picked_at}
 use Rattle.op_core.specs.Lists.{keys_of}
 use Rattle.op_core.proofs.Exported.{any-rising, picks_are_exported}
 use Rattle.replica_state.specs.Imports.{text_in, piece_of, is_due, walked_keys, due_keys, has_verse}
-use Rattle.replica_state.proofs.Appended.{is_there}
+use Rattle.replica_state.proofs.Appended.{is_there, key_is}
 use Rattle.replica_state.proofs.KeyLists.{same_key-cmp}
-use Rattle.replica_state.proofs.KeyTexts.{key_is}
-
-or_left : (a b : Bool) → a ≡ true → (a || b) ≡ true
-or_left true b h = refl
-or_left false b h = cc h
-
-or_right : (a b : Bool) → b ≡ true → (a || b) ≡ true
-or_right true b h = refl
-or_right false b h = h
 
 pub there_kept : (p : KeyParts → Bool) (q : KeyParts) (ks : List KeyParts) → p q ≡ true → is_there q ks ≡ true
     → is_there q (filter p ks) ≡ true

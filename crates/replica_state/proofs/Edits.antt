@@ -9,6 +9,9 @@ use Rattle.std.specs.Option.{is_some}
 use Rattle.usfm_ref.specs.Keys.{KeyParts, key_cmp}
 use Rattle.usfm_ref.specs.Rising.{rising, with_item}
 use Rattle.usfm_ref.specs.Segments.{Segment}
+use Rattle.verse_cut.specs.Fits.{Fits}
+use Rattle.verse_cut.specs.Reading.{text_fits}
+use Rattle.verse_cut.proofs.FitLaws.{fits_is_read}
 use Rattle.op_core.specs.Ids.{Id, names_fall}
 use Rattle.op_core.specs.Ops.{Operation}
 use Rattle.op_core.specs.Sets.{get, join}
@@ -19,7 +22,17 @@ use Rattle.op_core.specs.NextIds.{greatest_number, next_number, is_among, given_
 use Rattle.op_core.proofs.Left.{join_full_legal}
 use Rattle.op_core.proofs.NextIds.{beyond, shown_fall, some_fall}
 use Rattle.replica_state.specs.States.{State, IsState}
-use Rattle.replica_state.specs.Edits.{has_numbers, edit_with, next_id}
+use Rattle.replica_state.specs.Edits.{has_numbers, edit_with, edit_fault, next_id}
+use Rattle.replica_state.specs.declared.fault.EditFault.{EditFault}
+use Rattle.replica_state.specs.declared.fault.EditFault.TheVariants.{BadSegment}
+
+-- where no fault is found before an edit, its text fits
+pub may_begin : (held : List Operation) (g : Segment) (text : List ℕ) → edit_fault held g text ≡ None → Fits g.book g.key text
+may_begin held g text e = (fits_is_read g.book g.key text).0 (by (text_fits g.book g.key text) _ e)
+  where
+    by : (b : Bool) (later : Option EditFault) → cond (not b) (Some BadSegment) later ≡ None → b ≡ true
+    by true later e = refl
+    by false later e = cc e
 
 -- the next id is beyond all that are held
 pub next_beyond : (s : State) (id : Id) → Some id ≡ next_id s → greatest_number s.held < id.number

@@ -25,17 +25,14 @@ use Rattle.replica_state.specs.ImportLaws.{ImportsAreExported}
 use Rattle.replica_state.specs.Steps.{Step, Import, Imported, imported, step}
 use Rattle.replica_state.specs.declared.fault.ImportFault.{ImportFault}
 use Rattle.replica_state.specs.declared.fault.ImportFault.TheVariants.{NumbersUsedUp}
-use Rattle.replica_state.proofs.Appended.{is_there, joined_behind}
+use Rattle.replica_state.proofs.Appended.{is_there, key_is, joined_behind}
 use Rattle.replica_state.proofs.DueKeys.{there_kept}
 use Rattle.replica_state.proofs.ImportedTexts as imports
 use Rattle.replica_state.proofs.KeyLists.{same_key-cmp}
-use Rattle.replica_state.proofs.KeyTexts.{key_is, own_text, at_key, text_at, same_texts, filled_are, filled_at}
+use Rattle.replica_state.proofs.KeyTexts.{own_text, at_key, text_at, same_texts, filled_are, filled_at}
+use Rattle.replica_state.proofs.ImportedTexts.{empty_is}
 
 -- ---- the texts of an export
-
-empty_is : (t : List ℕ) → is_empty t ≡ true → t ≡ []
-empty_is [] h = refl
-empty_is (b ∷ bs) h = absurd (cc)
 
 -- keys that pass a test are among those that are kept, and no others
 there_passes : (p : KeyParts → Bool) (q : KeyParts) (ks : List KeyParts) → p q ≡ false → is_there q (filter p ks) ≡ false

@@ -1,4 +1,4 @@
--- What stands at the keys of a file's pieces.
+-- What is at the keys of a file's pieces.
 use Rattle.std.proofs.Common.{◌≡◌, ℕ, Bool, true, false, ◌&&◌, cond, List, [], ◌∷◌, take}
 use Rattle.std.proofs.Common.{drop, Option, None, Some, Ok, refl, sym, ap, subst, ◌∙◌}
 use Rattle.std.specs.Cmp.{Equal-is}
@@ -68,17 +68,17 @@ head_has_piece text book j = ap (λ ps. piece_of ps book_head) j.pieces
 
 -- what a file has at a key, perhaps nothing, fits it
 pub piece_fits : (book text : List ℕ) (key : KeyParts) → is_book_code book ≡ true → IsHeaded book text
-    → text_fits book key (piece_at (pieces_of text) key) ≡ true
+    → Fits book key (piece_at (pieces_of text) key)
 piece_fits book text key code headed = by (piece_of (pieces_of text) key) refl
   where
-    absent : (b : Bool) → same_key key book_head ≡ b → piece_of (pieces_of text) key ≡ None → text_fits book key [] ≡ true
+    absent : (b : Bool) → same_key key book_head ≡ b → piece_of (pieces_of text) key ≡ None → Fits book key []
     absent true e gone =
         absurd (let there = head_has_piece text book (books_are_joins book text code headed) in
         let here = ap (piece_of (pieces_of text)) (sym (same_key-is key book_head e)) ∙ gone in cc)
-    absent false e gone = sym (fits_other book key [] e)
+    absent false e gone = (fits_is_read book key []).0 (sym (fits_other book key [] e))
 
-    by : (o : Option Part) → piece_of (pieces_of text) key ≡ o → text_fits book key (text_in o) ≡ true
+    by : (o : Option Part) → piece_of (pieces_of text) key ≡ o → Fits book key (text_in o)
     by None e = absent (same_key key book_head) refl e
     by (Some p) e =
         let h = piece_has (λ q. Fits book q.key q.text) key (pieces_of text) p (pieces_fit book text code headed) e in
-        (fits_is_read book key p.text).1 (subst (λ k. Fits book k p.text) (sym h.1) h.0)
+        subst (λ k. Fits book k p.text) (sym h.1) h.0

@@ -37,7 +37,8 @@ any_found {X} p (x ∷ xs) h = by (λ g. any_found p xs g) (p x) refl h
 contains_later : (x : KeyText) (xs : List KeyText) (t : KeyText) → Contains xs t → Contains (x ∷ xs) t
 contains_later x xs t (j, lt, is) = (suc j, omega (arith, lt), is)
 
-empty_is : (t : List ℕ) → is_empty t ≡ true → t ≡ []
+-- a text that is tested as empty is
+pub empty_is : (t : List ℕ) → is_empty t ≡ true → t ≡ []
 empty_is [] h = refl
 empty_is (b ∷ bs) h = absurd (cc)
 

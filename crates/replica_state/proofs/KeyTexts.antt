@@ -17,7 +17,7 @@ use Rattle.verse_cut.specs.Reading.{is_empty}
 use Rattle.op_core.specs.Ops.{Operation}
 use Rattle.op_core.specs.CutsBack.{picked_at, keyed_text}
 use Rattle.replica_state.specs.Imports.{text_in, piece_of, piece_at}
-use Rattle.replica_state.proofs.Appended.{is_there}
+use Rattle.replica_state.proofs.Appended.{is_there, key_is}
 
 abbrev pub own_text : Option KeyText → List ℕ
 own_text None = []
@@ -29,9 +29,6 @@ at_key ts q = find (λ t. is_eq (key_cmp q t.key)) ts
 -- the text of a key, empty if there is none
 abbrev pub text_at : List KeyText → KeyParts → List ℕ
 text_at ts q = own_text (at_key ts q)
-
-pub key_is : (q k : KeyParts) → is_eq (key_cmp q k) ≡ true → q ≡ k
-key_is q k h = key_exact q k ((Equal-is _).0 h)
 
 pub text_of_piece : (n : ℕ) (ts : List KeyText) (q : KeyParts) → piece_at (pieces_from n ts) q ≡ text_at ts q
 text_of_piece n [] q = refl

@@ -10,13 +10,12 @@ use Rattle.usfm_ref.specs.Keys.{KeyParts, key_cmp, book_head, is_head, is_key, i
 use Rattle.usfm_ref.specs.Segments.{Segment, segment}
 use Rattle.usfm_ref.proofs.Orders.{same_bytes-is, same_bytes-refl, same_key-is}
 use Rattle.verse_cut.specs.Keys.{key_below}
-use Rattle.verse_cut.specs.Fits.{IsHeaded}
+use Rattle.verse_cut.specs.Fits.{IsHeaded, Fits}
 use Rattle.verse_cut.specs.Pieces.{Part, pieces_of}
 use Rattle.verse_cut.specs.Joins.{filled, at_book_head}
-use Rattle.verse_cut.specs.Reading.{book_in, is_empty, text_fits}
+use Rattle.verse_cut.specs.Reading.{book_in, is_empty}
 use Rattle.verse_cut.specs.declared.fault.BookFault.{BookFault}
 use Rattle.verse_cut.proofs.BookLaws.{joins_keep_their_book}
-use Rattle.verse_cut.proofs.FitLaws.{fits_is_read}
 use Rattle.verse_cut.proofs.Headings.{book_only}
 use Rattle.verse_cut.proofs.KeyOrder.{above_book_head}
 use Rattle.op_core.specs.Ids.{is_number}
@@ -39,17 +38,18 @@ use Rattle.replica_state.specs.ImportLaws.{OwnExportsAddNothing}
 use Rattle.replica_state.specs.Steps.{Import, Imported, imported, step}
 use Rattle.replica_state.proofs.Exports.{behind_head, later_at}
 use Rattle.replica_state.proofs.ImportedTexts.{any_found, verse_wants_none}
-use Rattle.replica_state.proofs.KeyTexts.{key_is, text_at, text_of_piece}
+use Rattle.replica_state.proofs.KeyTexts.{text_at, text_of_piece}
+use Rattle.replica_state.proofs.Appended.{key_is}
 
 some_last : (ops : List Operation) → ops ≢ [] → (o : Operation) × (last ops ≡ Some o)
 some_last [] h = absurd (h refl)
 some_last (o ∷ []) h = (o, refl)
 some_last (o ∷ p ∷ ops) h = some_last (p ∷ ops) (λ e. cc e)
 
-text_has_fit : (o : Operation) → IsOperation o → is_full o ≡ true → text_fits o.segment.book o.segment.key (own_text o) ≡ true
+text_has_fit : (o : Operation) → IsOperation o → is_full o ≡ true → Fits o.segment.book o.segment.key (own_text o)
 text_has_fit o h full = by o.text h.text full
   where
-    by : (t : Option (List ℕ)) → MayBeText o.segment t → is_some t ≡ true → text_fits o.segment.book o.segment.key (or_empty t) ≡ true
+    by : (t : Option (List ℕ)) → MayBeText o.segment t → is_some t ≡ true → Fits o.segment.book o.segment.key (or_empty t)
     by None h e = cc e
     by (Some t) h e = h.fits
 
@@ -108,11 +108,11 @@ module _ (s : State) (state : IsState s) (book : List ℕ) (begun : list_any (in
       let full =
       full_last (shown s.held (segment book book_head)) first.0 (shown_full s.held (segment book book_head) state.legal) first.1
       in
-      let fits : text_fits book book_head (own_text first.0) ≡ true =
-      ap (λ (g : Segment). text_fits g.book g.key (own_text first.0)) (sym of_head.segment)
-      ∙ text_has_fit first.0 of_head.is_operation full in
+      let fits : Fits book book_head (own_text first.0) =
+      subst (λ (g : Segment). Fits g.book g.key (own_text first.0)) of_head.segment
+      (text_has_fit first.0 of_head.is_operation full) in
       let begins : IsHeaded book (picked_at s.held book book_head) =
-      subst (IsHeaded book) (sym head_text) ((fits_is_read book book_head (own_text first.0)).0 fits).0 in
+      subst (IsHeaded book) (sym head_text) fits.0 in
       subst (IsHeaded book) (sym (split s.held book (exported_keys s.held book) (keys_rise s.held book)
       (picks_are_exported s.held book book_head)))
       (joins_keep_their_book book (picked_at s.held book book_head) (later_texts s.held book) begins (texts_fit s.held book state.set)

@@ -49,7 +49,8 @@ passed : {X : Type 0} (p : X → Bool) (xs : List X) (x : X) → Contains (filte
 passed p [] x h = absurd (none_there x h)
 passed p (y ∷ ys) x h = by (λ g. passed p ys x g) (p y) refl h
   where
-    by : (Contains (filter p ys) x → Contains ys x × (p x ≡ true)) → (b : Bool) → p y ≡ b → Contains (cond b (y ∷ filter p ys) (filter p ys)) x
+    by : (Contains (filter p ys) x → Contains ys x × (p x ≡ true)) → (b : Bool) → p y ≡ b
+        → Contains (cond b (y ∷ filter p ys) (filter p ys)) x
         → Contains (y ∷ ys) x × (p x ≡ true)
     by rest true e h = elim (first_or_later y (filter p ys) x h) [
       | inl here ↦ (is_first y ys x here, ap p (sym here) ∙ e)
@@ -87,7 +88,8 @@ seen_stood held base g id h =
     let stood = passed (has_greatest_text base g) (shown base g) one.0 one.1.0 in
     record { op = one.0; shown = stood.0; of_id = one.1.1; text = same_bytes-is (own_text one.0) (text_of base g) stood.1 }
 
-names_stood : (n : ℕ) (s : State) (base : List Operation) (book : List ℕ) (pieces : List Part) (keys : List KeyParts) (edit : Operation) (id : Id)
+names_stood : (n : ℕ) (s : State) (base : List Operation) (book : List ℕ) (pieces : List Part) (keys : List KeyParts) (edit : Operation)
+    (id : Id)
     → Contains (changes_from n s base book pieces keys) edit → Contains edit.replaced id → StoodInFile base edit.segment id
 names_stood n s base book pieces [] edit id h i = absurd (none_there edit h)
 names_stood n s base book pieces (key ∷ keys) edit id h i =
@@ -133,7 +135,8 @@ module _ (s : State) (state : IsState s) (base : List Operation) (book : List �
       let still : is_replaced (s.held ++ new) g o.id ≡ false =
       list_any-append (λ (p : Operation). in_segment g p && names p o.id) s.held new
       ∙ (λ i. not-true (is_replaced s.held g o.id) parts.1 i || unnamed g o.id (next_number s.held) keys unseen i) in
-      subst (λ (held : List Operation). Contains (shown held g) o) (sym (changes_behind s base book pieces s.held (next_number s.held) keys state.set.rising (omega arith)))
+      subst (λ (held : List Operation). Contains (shown held g) o)
+      (sym (changes_behind s base book pieces s.held (next_number s.held) keys state.set.rising (omega arith)))
       (passes (is_shown (s.held ++ new) g) (s.held ++ new) o (Contains-append_left s.held new o was.0)
       (and_from _ _ parts.0 (ap not still)))
 

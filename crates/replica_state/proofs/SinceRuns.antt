@@ -14,6 +14,7 @@ use Rattle.usfm_ref.specs.Segments.{Segment, segment}
 use Rattle.usfm_ref.proofs.Orders.{key_total}
 use Rattle.usfm_ref.proofs.Sorted.{is_less, rises_filter, rises-rising}
 use Rattle.verse_cut.specs.Pieces.{Part, pieces_of}
+use Rattle.verse_cut.proofs.FitLaws.{fits_is_read}
 use Rattle.verse_cut.specs.Reading.{book_in, text_fits}
 use Rattle.verse_cut.specs.declared.fault.BookFault.{BookFault}
 use Rattle.op_core.specs.Equal.{id_from_same, same_id-refl}
@@ -37,10 +38,9 @@ use Rattle.replica_state.specs.Since.{imported_since}
 use Rattle.replica_state.specs.SinceLaws.{changes_of, edits_over, IsReceivingAndEdits}
 use Rattle.replica_state.specs.declared.fault.EditFault.TheVariants.{NotShown}
 use Rattle.replica_state.specs.declared.fault.SinceFault.TheVariants.{NumbersUsedUp}
-use Rattle.replica_state.proofs.Appended.{is_there, keys_apart}
+use Rattle.replica_state.proofs.Appended.{is_there, key_is, keys_apart}
 use Rattle.replica_state.proofs.Changes.{change_at, changes_behind, changes_count}
 use Rattle.replica_state.proofs.FilePieces.{book_is_code, book_is_headed, piece_fits}
-use Rattle.replica_state.proofs.KeyTexts.{key_is}
 
 -- ---- ids of which some pass
 
@@ -106,7 +106,8 @@ shown_behind held new g h =
         ∙ ap (λ b. is_replaced held g id || b) (none_among g (λ o. names o id) new h) ∙ or_none (is_replaced held g id)
 
 -- the number of one that stands after is the greatest
-greatest_behind : (held : List Operation) (o : Operation) → greatest_number held < o.id.number → greatest_number (held ++ o ∷ []) ≡ o.id.number
+greatest_behind : (held : List Operation) (o : Operation) → greatest_number held < o.id.number
+    → greatest_number (held ++ o ∷ []) ≡ o.id.number
 greatest_behind [] o l = omega arith
 greatest_behind (p ∷ held) o l = let rest = greatest_behind held o (omega (arith, l)) in omega (arith, l, rest)
 
@@ -148,7 +149,8 @@ module _ (t : State) (base : List Operation) (book : List ℕ) (pieces : List Pa
       → step s (over key)
       ≡ record { after = with_ops s (change_at t base book pieces n key ∷ []); reply = Edited (Ok (record { number = n; name = t.name })) }
   one s n key named next room begun fits same =
-      ap (edited s) (λ i. unless (fault i) (unless (option_map NotShown (all_shown i)) (edit_by (id i) g (all_given i) (piece_at pieces key))))
+      ap (edited s) (λ i. unless (fault i)
+      (unless (option_map NotShown (all_shown i)) (edit_by (id i) g (all_given i) (piece_at pieces key))))
     where
       g : Segment
       g = segment book key
@@ -228,7 +230,8 @@ module _ (t : State) (base : List Operation) (book : List ℕ) (pieces : List Pa
           (ap (λ b. b || false) (and_right (same_bytes book book) (same_key key q) (keys_apart q key (behind_first key keys p.0 q h)))))
           ∙ same q (or_right (is_eq (key_cmp q key)) (is_there q keys) h)
 
-      joined : join u.held (changes_from (suc n) t base book pieces keys) ≡ join s.held (change ∷ changes_from (suc n) t base book pieces keys)
+      joined : join u.held (changes_from (suc n) t base book pieces keys)
+          ≡ join s.held (change ∷ changes_from (suc n) t base book pieces keys)
       joined =
           let rest = changes_from (suc n) t base book pieces keys in
           changes_behind t base book pieces u.held (suc n) keys (rises-join s.held (change ∷ []) rising) (omega (arith, greatest))
@@ -277,7 +280,8 @@ accepted s base file book count named answered =
     of_book_is = ap (λ (r : Result (List ℕ) BookFault). changed_in s base (pieces_of file) r) named
 
     numbered : clash s.held base ≡ None → (b : Bool) → has_numbers t.held (length keys) ≡ b
-        → (cond b (with_edits t (changes_of t base book (pieces_of file))) (record { after = s; answer = Err NumbersUsedUp })).answer ≡ Ok count
+        → (cond b (with_edits t (changes_of t base book (pieces_of file))) (record { after = s; answer = Err NumbersUsedUp })).answer
+        ≡ Ok count
         → Accepted s base file book count
     numbered none true room e = record {
       none = none;
@@ -318,5 +322,5 @@ is_receiving_and_edits s base file book count state set named has answered = (
         run t base book (pieces_of file) keys t (next_number t.held) refl (rises-join s.held base state.set.rising) refl taken.room
         (changed_rise t.held base book (pieces_of file))
         (any_received s.held base (λ g. same_bytes g.book book) state.set.rising set.rising taken.none has)
-        (λ key. piece_fits book file key (book_is_code file book named) (book_is_headed file book named))
+        (λ key. (fits_is_read book key _).1 (piece_fits book file key (book_is_code file book named) (book_is_headed file book named)))
         (λ q h. refl)

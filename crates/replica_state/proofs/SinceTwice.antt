@@ -37,17 +37,17 @@ use Rattle.replica_state.specs.Steps.{with_ops}
 use Rattle.replica_state.specs.Since.{SinceStep, has_greatest_text, stood_ids, seen_ids, shows_text, is_none_seen, is_changed, changed_keys, changes_from}
 use Rattle.replica_state.specs.Since.{changed, changed_after, changed_in, imported_since}
 use Rattle.replica_state.specs.SinceLaws.{TwiceIsOnce}
-use Rattle.replica_state.proofs.Appended.{is_there, keys_apart}
+use Rattle.replica_state.proofs.Appended.{is_there, key_is, keys_apart}
 use Rattle.replica_state.proofs.Changes.{change_at, changes_behind, changes_are_new, changes_rise}
 use Rattle.replica_state.proofs.DueKeys.{due_among, walked, heads_map, there_kept}
-use Rattle.replica_state.proofs.KeyTexts.{key_is}
 use Rattle.replica_state.proofs.OwnExports.{none_pass}
 use Rattle.replica_state.proofs.SinceRuns.{Accepted, accepted, among_passing, any_received, shown_behind}
 use Rattle.replica_state.proofs.World.Held.{at_held, among_is_held, filter_held, not_held}
 
 -- ---- operations of which some are shown
 
-any_shown : (test other : Operation → Bool) (ops : List Operation) → list_any other (filter test ops) ≡ list_any (λ o. test o && other o) ops
+any_shown : (test other : Operation → Bool) (ops : List Operation)
+    → list_any other (filter test ops) ≡ list_any (λ o. test o && other o) ops
 any_shown test other [] = refl
 any_shown test other (o ∷ ops) = by (any_shown test other ops) (test o)
   where
@@ -93,7 +93,8 @@ module _ (held base : List Operation) (book : List ℕ) (pieces : List Part) (hh
   -- what is due in the base is walked where the base is received
   due_received : (q : KeyParts) → is_due base book pieces q ≡ true → is_there q (walked_keys (join held base) book pieces) ≡ true
   due_received q h =
-      walked (join held base) book pieces q (three _ _ _ _ _ heads (key_received (λ k. is_eq (key_cmp q k))) (due_among base book pieces q h))
+      walked (join held base) book pieces q
+      (three _ _ _ _ _ heads (key_received (λ k. is_eq (key_cmp q k))) (due_among base book pieces q h))
     where
       heads : is_there q (map head_of (keys_of base book)) ≡ true → is_there q (map head_of (keys_of (join held base) book)) ≡ true
       heads e =
@@ -123,7 +124,8 @@ module _ (t : State) (base : List Operation) (book : List ℕ) (pieces : List Pa
   new n keys = changes_from n t base book pieces keys
 
   -- a key without an edit has none
-  none_of : (q : KeyParts) (n : ℕ) (keys : List KeyParts) → is_there q keys ≡ false → list_any (in_segment (segment book q)) (new n keys) ≡ false
+  none_of : (q : KeyParts) (n : ℕ) (keys : List KeyParts) → is_there q keys ≡ false
+      → list_any (in_segment (segment book q)) (new n keys) ≡ false
   none_of q n [] h = refl
   none_of q n (k ∷ keys) h =
       let p = or_parts (is_eq (key_cmp q k)) (is_there q keys) h in
@@ -151,10 +153,12 @@ module _ (t : State) (base : List Operation) (book : List ℕ) (pieces : List Pa
 
   -- nothing names an id beyond
   module _ (id : Id) (l : greatest_number t.held < id.number) (g : Segment) where
-    held_name_none : (ops : List Operation) → AllByRecursion IsOperation ops → greatest_number ops < id.number → is_replaced ops g id ≡ false
+    held_name_none : (ops : List Operation) → AllByRecursion IsOperation ops → greatest_number ops < id.number
+        → is_replaced ops g id ≡ false
     held_name_none [] all l = refl
     held_name_none (o ∷ ops) all l =
-        or_from _ _ (and_right (in_segment g o) (names o id) (names_none o id all.0 (omega (arith, l)))) (held_name_none ops all.1 (omega (arith, l)))
+        or_from _ _ (and_right (in_segment g o) (names o id) (names_none o id all.0 (omega (arith, l))))
+        (held_name_none ops all.1 (omega (arith, l)))
 
     new_name_none : rises t.held ≡ true → (n : ℕ) (keys : List KeyParts) → is_replaced (new n keys) g id ≡ false
     new_name_none h n [] = refl
@@ -164,7 +168,8 @@ module _ (t : State) (base : List Operation) (book : List ℕ) (pieces : List Pa
         let below : list_all (λ (i : Id). nat_lt i.number id.number) seen ≡ true =
         (and_parts (ids_rise seen) (list_all (λ (i : Id). nat_lt i.number id.number) seen)
         (some_fall id (is_among (stood_ids base at)) (shown_ids t.held at) (shown_fall t.held at id h l))).1 in
-        or_from _ _ (and_right (in_segment g (change_at t base book pieces n k)) (is_among seen id) (not_named id.number id seen below (omega arith)))
+        or_from _ _ (and_right (in_segment g (change_at t base book pieces n k)) (is_among seen id)
+        (not_named id.number id seen below (omega arith)))
         (new_name_none h (suc n) keys)
 
   module _ (set : IsOpSet t.held) (q : KeyParts) (keys : List KeyParts) (there : is_there q keys ≡ true)
@@ -234,7 +239,8 @@ module _ (t : State) (base : List Operation) (book : List ℕ) (pieces : List Pa
             → ((is_shown now g edit && same_bytes (own_text edit) (piece_at pieces q)) || later) ≡ true
         by rest true e h =
             or_left _ _ (and_from _ _ (and_from _ _ (here q k n e) (ap not unnamed))
-            (ap (λ (j : KeyParts). same_bytes (piece_at pieces k) (piece_at pieces j)) (key_is q k e) ∙ same_bytes-refl (piece_at pieces k)))
+            (ap (λ (j : KeyParts). same_bytes (piece_at pieces k) (piece_at pieces j)) (key_is q k e)
+            ∙ same_bytes-refl (piece_at pieces k)))
         by rest false e h = or_right _ _ (rest h)
 
     text_shown : shows_text now g (piece_at pieces q) ≡ true
@@ -337,7 +343,8 @@ module _ (s : State) (base : List Operation) (file book : List ℕ) (count : ℕ
   room : has_numbers u.held 0 ≡ true
   room =
       let m = greatest_new t base book pieces (greatest_number t.held) keys in
-      let g : greatest_number u.held ≡ max (greatest_number t.held) (greatest_number edits) = ap greatest_number at ∙ greatest_of_both t.held edits in
+      let g : greatest_number u.held ≡ max (greatest_number t.held) (greatest_number edits) = ap greatest_number at
+      ∙ greatest_of_both t.held edits in
       let r = leb-true (greatest_number t.held + length keys) 1000000000000000 taken.room in
       le-leb (greatest_number u.held + 0) 1000000000000000 (omega (arith, m, g, r))
 
@@ -352,7 +359,8 @@ module _ (s : State) (base : List Operation) (file book : List ℕ) (count : ℕ
       ∙ cond-true _ _ _ room
 
   twice : imported_since (imported_since s base file).after base file ≡ record { after = (imported_since s base file).after; answer = Ok 0 }
-  twice = subst (λ (x : State). imported_since x base file ≡ record { after = x; answer = Ok 0 }) (sym (ap (λ (x : SinceStep). x.after) taken.is)) again
+  twice = subst (λ (x : State). imported_since x base file ≡ record { after = x; answer = Ok 0 })
+      (sym (ap (λ (x : SinceStep). x.after) taken.is)) again
 
 pub twice_is_once : TwiceIsOnce
 twice_is_once s base file count state set answered = by (book_in file) refl

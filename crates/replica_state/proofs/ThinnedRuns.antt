@@ -9,7 +9,7 @@ use Rattle.op_core.specs.Sets.{get, met, clash, join}
 use Rattle.op_core.specs.Lists.{is_held}
 use Rattle.op_core.specs.Thinned.{is_sent, delta, thin, IsOf}
 use Rattle.op_core.proofs.Bare.{held_same}
-use Rattle.op_core.proofs.Families.{among_held, family_joins, family_thins}
+use Rattle.op_core.proofs.Families.{among_held, family_joins, family_thins, held_either}
 use Rattle.op_core.proofs.Filters.{rises-filter, filter_within}
 use Rattle.op_core.proofs.Groupings.{delta_joins}
 use Rattle.op_core.proofs.Legal.{delta_legal, skeleton_thin}
@@ -21,20 +21,13 @@ use Rattle.replica_state.specs.Runs.{after, IsTaken, NoneRefused}
 use Rattle.replica_state.specs.ThinLaws.{SameButThinned, TakesFrom, brought, is_brought, RunAlike, GivesUnion}
 use Rattle.replica_state.proofs.DeltasJoined.{delta_new}
 use Rattle.replica_state.proofs.Thinning.{held_among, same_family}
-
-got : (ops : List Operation) (q : Id) → is_held ops q ≡ is_some (get ops q)
-got ops q = held_among ops q ∙ among_held ops q
-
-either : (m k : Option Operation) → is_some (met m k) ≡ (is_some m || is_some k)
-either None k = refl
-either (Some x) None = refl
-either (Some x) (Some y) = refl
+use Rattle.op_core.proofs.Awaited.{held-get}
 
 module _ (family : Id → Operation) where
   pub held_by_both : (s t : List Operation) → IsOf family s → IsOf family t → (q : Id) → is_held (join s t) q ≡ (is_held s q || is_held t q)
   held_by_both s t hs ht q =
-      got (join s t) q ∙ ap is_some (get-join s t q hs.rising ht.rising) ∙ either (get s q) (get t q)
-      ∙ (λ i. sym (got s q) i || sym (got t q) i)
+      held-get (join s t) q ∙ ap is_some (get-join s t q hs.rising ht.rising) ∙ held_either (get s q) (get t q)
+      ∙ (λ i. sym (held-get s q) i || sym (held-get t q) i)
 
   -- ---- one command
 

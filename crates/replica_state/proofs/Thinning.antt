@@ -40,7 +40,8 @@ pub same_family : (family : Id → Operation) (s t : State) → IsOf family s.he
 same_family family s t hs ht same =
     by (unions_alike family (Part s.held) (Part t.held) hs ht (λ q. sym (held_among s.held q) ∙ same q ∙ held_among t.held q))
   where
-    same_answers : (k : Alike (Ok s.held) (Ok t.held)) → SameButThinned (record { name = s.name; held = k.a }) (record { name = t.name; held = k.b })
+    same_answers : (k : Alike (Ok s.held) (Ok t.held))
+        → SameButThinned (record { name = s.name; held = k.a }) (record { name = t.name; held = k.b })
     same_answers k = record {
       skeletons = k.skeletons;
       shows = k.shows;

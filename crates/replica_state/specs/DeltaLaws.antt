@@ -1,5 +1,5 @@
 -- Laws of deltas (this project's own rule): what a replica sends for the summary of another one. Those of replicas with thinned
--- operations stand with the laws of thinning.
+-- operations are with the laws of thinning.
 use Rattle.std.specs.Prelude.{◌≡◌, List, [], length, Ok, IsTrue}
 use Rattle.op_core.specs.Sets.{join}
 use Rattle.op_core.specs.Thinned.{all_full}

@@ -16,7 +16,7 @@ use Rattle.replica_state.specs.declared.fault.EditFault.{EditFault}
 use Rattle.replica_state.specs.declared.fault.EditFault.TheVariants.{BadSegment, NoBook}
 use Rattle.replica_state.specs.declared.fault.EditFault.TheVariants.{NotShown, NumbersUsedUp}
 
--- whether numbers up to 10^15 are left for so many operations more
+-- whether numbers up to 10^15 are left for this many operations more
 abbrev pub has_numbers : List Operation → ℕ → Bool
 has_numbers held count = nat_le (greatest_number held + count) 1000000000000000
 

@@ -38,7 +38,7 @@ pub record ThinsUnseen (s : State) : Type 0 where
 abbrev pub ThinningIsUnseen : Type 0
 ThinningIsUnseen = (s : State) → IsState s → ThinsUnseen s
 
--- ---- bundles of one family, in which no id stands for two operations
+-- ---- bundles of one family, in which no id has two operations
 
 -- the command is a receiving of a bundle of the family, or a thinning
 abbrev pub TakesFrom : (Id → Operation) → Command → Type 0

@@ -95,7 +95,7 @@ happens w (Receives name k) = received w name (slice_get w.bundles k)
 happens w (ReceivesCut name k length) = w
 happens w (FindsNoMemory name) = w
 
--- the world after some events, of which the last stands first
+-- the world after some events, of which the last comes first
 abbrev pub after : List Event → World
 after [] = beginning
 after (e ∷ past) = happens (after past) e

@@ -2,9 +2,8 @@
 ghost use Rattle.std.specs.Prelude.{◌≡◌, ◌≢◌, ◌∷◌, [], None, Err, IfOk, IfErr, IsOk, IsTrue, OnOk, OnErr, filter, length, not};
 ghost use Rattle.std.specs.List.{AllByRecursion, find};
 ghost use Rattle.std.specs.Option.{option_copied};
-ghost use Rattle.usfm_ref.specs.Keys.{book_head, same_key};
 ghost use Rattle.usfm_ref.specs.Segments.{segment};
-ghost use Rattle.verse_cut.specs.Reading.{text_fits};
+ghost use Rattle.verse_cut.specs.Fits.{Fits};
 ghost use Rattle.op_core.specs.Export.{has_book};
 ghost use Rattle.op_core.specs.Ids.{names_fall};
 ghost use Rattle.op_core.specs.Lists.{shown_ids};
@@ -19,7 +18,7 @@ use crate::fault::EditFault;
 use crate::replica::Replica;
 use op_core::{Op, OpId};
 use std::alloc::{AllocError, Global};
-use usfm_ref::{Book, Key, Place};
+use usfm_ref::{Book, Key};
 use verse_cut::fits;
 
 // The greatest number of an operation.
@@ -57,7 +56,7 @@ impl Replica {
     }
 
     /// Gives a segment a text, by an operation of the replica that names the given ids, and answers
-    /// its id: the replica's name, and the greatest held number and one. The ids stand in any order,
+    /// its id: the replica's name, and the greatest held number and one. The ids are in any order,
     /// and one that is repeated counts once. No ids name nothing.
     ///
     /// # Errors
@@ -103,7 +102,7 @@ impl Replica {
     {
         if !fits(book, key, text) {
             Some(EditFault::BadSegment)
-        } else if self.has_book(book) || is_book_head(key) {
+        } else if self.has_book(book) || key.is_book_head() {
             None
         } else {
             Some(EditFault::NoBook)
@@ -164,7 +163,7 @@ impl Replica {
     ) -> Result<(), AllocError>
         requires new { get self.old.held id ≡ None }
         requires falls { IsTrue (names_fall id replaced.items) }
-        requires fits { IsTrue (text_fits book key text.now) }
+        requires fits { Fits book key text.now }
         ensures ok { let edit = edits.edit_with id (segment book key) replaced.items text.now in
             OnOk result (self.new ≡ with_ops self.old (edit ∷ [])) }
         ensures err { OnErr result (self.new ≡ self.old) }
@@ -217,10 +216,4 @@ fn is_among(ids: &[OpId], id: OpId) -> bool
     ensures { result ≡ is_among ids.now id }
 {
     ids.iter().any(|one| id == *one)
-}
-
-fn is_book_head(key: Key) -> bool
-    ensures { result ≡ same_key key book_head }
-{
-    key.chapter == 0 && key.place == Place::Head
 }

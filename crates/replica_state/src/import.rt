@@ -5,7 +5,8 @@ ghost use Rattle.usfm_ref.specs.Keys.{key_cmp, head_of};
 ghost use Rattle.usfm_ref.specs.Rising.{rises_by};
 ghost use Rattle.usfm_ref.specs.Segments.{segment};
 ghost use Rattle.verse_cut.specs.Joins as joins;
-ghost use Rattle.verse_cut.specs.Reading.{book_in, text_fits};
+ghost use Rattle.verse_cut.specs.Fits.{Fits};
+ghost use Rattle.verse_cut.specs.Reading.{book_in};
 ghost use Rattle.verse_cut.specs.Views.{parts_of};
 ghost use Rattle.op_core.specs.Lists.{keys_of, shown_ids};
 ghost use Rattle.op_core.specs.NextIds.{greatest_number, next_number};
@@ -20,7 +21,7 @@ use crate::pieces::{has_verse, piece_at};
 use crate::replica::Replica;
 use op_core::{Op, OpId, Picked};
 use std::alloc::{AllocError, Global};
-use usfm_ref::{Book, Key, Place};
+use usfm_ref::{Book, Key};
 use verse_cut::{Piece, book_of, cut};
 
 impl Replica {
@@ -55,7 +56,7 @@ impl Replica {
         Ok(self.join_new(edits)?)
     }
 
-    // Whether numbers up to the last one are left for so many operations more.
+    // Whether numbers up to the last one are left for this many operations more.
     pub(crate) fn has_numbers(&self, count: usize) -> bool
         ensures { result ≡ edits.has_numbers self.now.held count }
     {
@@ -146,7 +147,7 @@ impl Replica {
         requires rising { IsTrue (rises_by key_cmp (λ p. p.key) pieces.now) }
         requires numbers { IsTrue (edits.has_numbers self.now.held (length due.now)) }
         requires fits { (key : _) →
-            IsTrue (text_fits book key (imports.piece_at (parts_of pieces.now) key)) }
+            Fits book key (imports.piece_at (parts_of pieces.now) key) }
         ensures ops { let first = next_number self.now.held in
             let made = imports.edits_from first self.now book (parts_of pieces.now) due.now in
             IfOk result (λ ops. ops.items ≡ made) }
@@ -176,7 +177,7 @@ impl Replica {
     ) -> Result<Op, AllocError>
         requires rising { IsTrue (rises_by key_cmp (λ p. p.key) pieces.now) }
         requires beyond { greatest_number self.now.held < id.number }
-        requires fits { IsTrue (text_fits book key (imports.piece_at (parts_of pieces.now) key)) }
+        requires fits { Fits book key (imports.piece_at (parts_of pieces.now) key) }
         ensures { let shown = shown_ids self.now.held (segment book key) in
             let text = imports.piece_at (parts_of pieces.now) key in
             IfOk result (λ op. op ≡ edits.edit_with id (segment book key) shown text) }
@@ -192,7 +193,7 @@ fn push_heads(keys: &mut Vec<Key>, held: &[Key]) -> Result<(), AllocError>
     ensures { OnOk result (keys.new.items ≡ keys.old.items ++ map head_of held.now) }
 {
     for key in held {
-        keys.push(head_of(*key))?;
+        keys.push(key.head())?;
     }
     Ok(())
 }
@@ -212,16 +213,6 @@ fn is_same(text: &str, other: &str) -> bool
     ensures { result ≡ same_bytes text.now other.now }
 {
     text.as_bytes() == other.as_bytes()
-}
-
-// The head of the chapter that a key stands in.
-fn head_of(key: Key) -> Key
-    ensures { result ≡ head_of key }
-{
-    Key {
-        chapter: key.chapter,
-        place: Place::Head,
-    }
 }
 
 // The line of a chapter's head: `\c`, a space, the number and a line feed.

@@ -8,7 +8,7 @@ ghost use Rattle.verse_cut.specs.Views.{parts_of};
 ghost use Rattle.replica_state.specs.Imports as imports;
 
 use std::cmp::Ordering;
-use usfm_ref::{Key, Place};
+use usfm_ref::Key;
 use verse_cut::Piece;
 
 // The text of the piece of a key, empty if there is none.
@@ -30,14 +30,9 @@ pub(crate) fn piece_at<'a>(pieces: &[Piece<'a>], key: Key) -> &'a str
 pub(crate) fn has_verse(pieces: &[Piece<'_>], key: Key) -> bool
     ensures { result ≡ list_any (λ p. is_verse_of key.chapter p.key) pieces.now }
 {
-    pieces.iter().any(|piece| is_verse_beside(key, piece.key))
-}
-
-// Whether the key is a verse of the other one's chapter.
-fn is_verse_beside(other: Key, key: Key) -> bool
-    ensures { result ≡ is_verse_of other.chapter key }
-{
-    key.chapter == other.chapter && key.place != Place::Head
+    pieces
+        .iter()
+        .any(|piece| piece.key.is_verse_of(key.chapter))
 }
 
 // How many pieces at the front have a key below this one.
@@ -46,20 +41,14 @@ fn place_piece(pieces: &[Piece<'_>], key: Key) -> usize
     ensures place { result ≡ position_or_len (λ p. not (is_lt (key_cmp p.key key))) pieces.now }
     ensures within { result ≤ length pieces.now }
 {
-    let mut low = 0;
-    let mut high = pieces.len();
-    'halves: while low < high {
-        let middle = low + (high - low) / 2;
-        if order(&pieces[middle], key).is_lt() {
-            low = middle + 1;
-        } else {
-            high = middle;
-        }
-    }
-    low
+    pieces.partition_point(
+        |piece| -> bool
+            ensures { result ≡ is_lt (key_cmp piece.now.key key) }
+        { order(piece, key).is_lt() },
+    )
 }
 
-// How the piece stands to the one of this key.
+// How the piece compares to the one of this key.
 fn order(piece: &Piece<'_>, key: Key) -> Ordering
     ensures { result ≡ key_cmp piece.now.key key }
 {

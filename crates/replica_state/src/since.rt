@@ -5,7 +5,8 @@ ghost use Rattle.usfm_ref.specs.Books.{same_bytes};
 ghost use Rattle.usfm_ref.specs.Keys.{key_cmp};
 ghost use Rattle.usfm_ref.specs.Rising.{rises_by};
 ghost use Rattle.usfm_ref.specs.Segments.{segment};
-ghost use Rattle.verse_cut.specs.Reading.{book_in, text_fits};
+ghost use Rattle.verse_cut.specs.Fits.{Fits};
+ghost use Rattle.verse_cut.specs.Reading.{book_in};
 ghost use Rattle.verse_cut.specs.Views.{parts_of};
 ghost use Rattle.op_core.specs.NextIds.{greatest_number, next_number};
 ghost use Rattle.op_core.specs.Ops.{own_text};
@@ -137,7 +138,7 @@ impl Replica {
     fn change(&mut self, was: &Replica, book: Book, pieces: &[Piece<'_>]) -> Result<u64, SinceFault>
         requires rising { IsTrue (rises_by key_cmp (λ p. p.key) pieces.now) }
         requires fits { (key : _) →
-            IsTrue (text_fits book key (imports.piece_at (parts_of pieces.now) key)) }
+            Fits book key (imports.piece_at (parts_of pieces.now) key) }
         ensures step { let keys = since.changed_keys self.old.held was.now.held book (parts_of pieces.now) in
             result ≢ Err SinceFault.Memory →
             since.changed self.old self.old was.now.held book (parts_of pieces.now) keys
@@ -206,7 +207,8 @@ impl Replica {
 
     // The ids that a segment shows with the text of the greatest of them.
     fn stood_ids(&self, book: Book, key: Key) -> Result<Vec<OpId>, AllocError>
-        ensures { IfOk result (λ ids. ids.items ≡ since.stood_ids self.now.held (segment book key)) }
+        ensures { IfOk result
+            (λ ids. ids.items ≡ since.stood_ids self.now.held (segment book key)) }
     {
         let shown = self.shown(self.alloc, book, key)?;
         let text = greatest_text(&shown);
@@ -239,7 +241,7 @@ impl Replica {
         requires rising { IsTrue (rises_by key_cmp (λ p. p.key) pieces.now) }
         requires numbers { IsTrue (edits.has_numbers self.now.held (length keys.now)) }
         requires fits { (key : _) →
-            IsTrue (text_fits book key (imports.piece_at (parts_of pieces.now) key)) }
+            Fits book key (imports.piece_at (parts_of pieces.now) key) }
         ensures ops { let first = next_number self.now.held in
             let made = since.changes_from first self.now was.now.held book (parts_of pieces.now) keys.now in
             IfOk result (λ ops. ops.items ≡ made) }
@@ -270,7 +272,7 @@ impl Replica {
     ) -> Result<Op, AllocError>
         requires rising { IsTrue (rises_by key_cmp (λ p. p.key) pieces.now) }
         requires beyond { greatest_number self.now.held < id.number }
-        requires fits { IsTrue (text_fits book key (imports.piece_at (parts_of pieces.now) key)) }
+        requires fits { Fits book key (imports.piece_at (parts_of pieces.now) key) }
         ensures { let seen = since.seen_ids self.now.held was.now.held (segment book key) in
             let text = imports.piece_at (parts_of pieces.now) key in
             IfOk result (λ op. op ≡ edits.edit_with id (segment book key) seen text) }
@@ -294,7 +296,8 @@ fn greatest_text<'a>(ops: &[&'a Op]) -> &'a str
 
 // Whether one of some operations has the text.
 fn has_text(ops: &[&Op], text: &str) -> bool
-    ensures { result ≡ list_any (λ o. same_bytes (own_text o) text.now) (map (λ op. op.now) ops.now) }
+    ensures { result ≡ list_any (λ o. same_bytes (own_text o) text.now)
+        (map (λ op. op.now) ops.now) }
 {
     for op in ops {
         if is_text(op, text) {

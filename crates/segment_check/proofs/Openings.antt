@@ -9,6 +9,7 @@ use Rattle.std.proofs.lemmas.Bool.{eq-eqb}
 use Rattle.std.proofs.lemmas.Bool.Decides.{nat_tests}
 use Rattle.std.proofs.lemmas.List.Folds.{list_any-append}
 use Rattle.std.proofs.lemmas.Slice.Eq.{bytes_eq-Decides}
+use Rattle.std.proofs.Math.Bool.{or-false}
 use Rattle.usfm_ref.specs.Keys.{KeyParts, chapter_head, place_cmp}
 use Rattle.usfm_ref.specs.Numbers.{chapter_in, verse_in}
 use Rattle.usfm_ref.specs.declared.key.Place.{Place}
@@ -17,7 +18,7 @@ use Rattle.usfm_ref.specs.declared.number.VerseMark.{VerseMark}
 use Rattle.usfm_token.specs.Tokens.{MarkParts}
 use Rattle.verse_cut.specs.Keys.{key_below, verse_key, mark_key}
 use Rattle.verse_cut.specs.Marks.{Site, Keyed, chapter_number, greater_of, chapter_in_force, key_behind, with_key, keyed_behind, opens}
-use Rattle.verse_cut.proofs.KeyOrder.{below_trans, below_weak, key_below-is}
+use Rattle.verse_cut.proofs.KeyOrder.{below_trans, below_weak, key_below-is, nothing_before_head}
 use Rattle.verse_cut.proofs.MarkLaws.{chapter_after, above_in_force, below_in_force, in_force-snoc, number_step, IsGreatest, greatest-more, both_first, both_second}
 use Rattle.segment_check.specs.Scenes.{Scene, scenes_behind, chapter_of, key_of, opens_piece, verse_behind, opened_verse}
 use Rattle.segment_check.specs.NumberConditions.{is_after, reaches, bridge_reaches, overlaps_from, not_rising, overlap}
@@ -140,13 +141,9 @@ beyond_reaches a b v h = by a.1 b.1 v.letter h
     by (Some x) (Some y) None h = grind (arith, nat_tests)
     by (Some x) (Some y) (Some z) h = grind (arith, nat_tests)
 
-or_false : (b : Bool) → b ≡ b || false
-or_false true = refl
-or_false false = refl
-
 further_reaches : (a b : Option Last) (v : VerseMark) → any_reaches (further a b) v ≡ any_reaches a v || any_reaches b v
 further_reaches None b v = refl
-further_reaches (Some a) None v = or_false (reaches a v)
+further_reaches (Some a) None v = sym (or-false (reaches a v))
 further_reaches (Some a) (Some b) v = by (is_within b a) refl
   where
     by : (e : Bool) → is_within b a ≡ e → any_reaches (cond (is_within b a) (Some a) (Some b)) v ≡ reaches a v || reaches b v
@@ -154,10 +151,6 @@ further_reaches (Some a) (Some b) v = by (is_within b a) refl
     by false is = ap (λ e. any_reaches (cond e (Some a) (Some b)) v) is ∙ beyond_reaches a b v is
 
 -- ---- one mark
-
-nothing_before_head : (x : Place) → is_lt (place_cmp x Head) ≡ false
-nothing_before_head Head = refl
-nothing_before_head (Verse n l) = refl
 
 -- the head of a chapter that is above a key is that of a later chapter
 head_later : (g : KeyParts) (n : ℕ) → key_below g (chapter_head n) ≡ true → g.chapter < n
@@ -193,7 +186,7 @@ or_nothing false false = refl
 
 and_or : (x r q : Bool) → (x && r) || ((x && q) || false) ≡ x && (r || q)
 and_or true true q = refl
-and_or true false q = sym (or_false q)
+and_or true false q = or-false q
 and_or false r q = refl
 
 and_false : (x : Bool) → false ≡ x && false

@@ -5,6 +5,7 @@ use Rattle.std.specs.List.{flat_map}
 use Rattle.std.specs.Option.{is_some}
 use Rattle.std.proofs.lemmas.Bool.{eq-eqb}
 use Rattle.std.proofs.lemmas.Bool.Decides.{nat_tests}
+use Rattle.std.proofs.Math.Bool.{or-false}
 use Rattle.sty_sheet.specs.Records.{Record}
 use Rattle.usfm_token.specs.Tokens.{MarkParts, IsText, mark_bytes, slice_of, tokens_of}
 use Rattle.usfm_tree.specs.Around.{Around}
@@ -20,7 +21,7 @@ use Rattle.segment_check.specs.Reading.{told_first, told_rest, untold}
 use Rattle.segment_check.specs.TreeViews.{told_of}
 use Rattle.segment_check.specs.declared.told.Told.{Told}
 
--- marks of a tree stand, each once and in order, at leaves from a place on
+-- marks of a tree are there, each once and in order, at leaves from a place on
 abbrev pub Thread : ℕ → List (List ℕ) → List Spot → Type 0
 Thread n [] [] = Unit {0}
 Thread n [] (x ∷ xs) = ⊥
@@ -83,7 +84,7 @@ tree_thread sheet s =
     let F : List (List ℕ) → Type 0 = λ ls. Thread 0 ls (spots [] (tree_of (styles_in sheet) s)) in
     subst F (tree_leaves (styles_in sheet) s) (forest_thread [] 0 (tree_of (styles_in sheet) s) (tree_runs (styles_in sheet) s))
 
--- ---- what stands at a place
+-- ---- what is at a place
 
 not_at : (a b : ℕ) → a < b → (b == a) ≡ false
 not_at a b h = grind (arith, nat_tests)
@@ -91,7 +92,7 @@ not_at a b h = grind (arith, nat_tests)
 is_at : (a b : ℕ) → a ≡ b → (a == b) ≡ true
 is_at a b h = eq-eqb a b h
 
--- nothing stands before where the leaves begin
+-- nothing comes before where the leaves begin
 pub thread_beyond : (n p : ℕ) (ls : List (List ℕ)) (xs : List Spot) (test : Spot → Bool) → p < n → Thread n ls xs
     → stands_at xs p test ≡ false
 thread_beyond n p [] [] test h t = refl
@@ -113,7 +114,7 @@ thread_start n [] x xs t = absurd t
 thread_start n (l ∷ ls) x xs t =
     ⊎_elim (λ a. let e = a.0 in omega (arith, e)) (λ b. let e = thread_start (n + length l) ls x xs b in omega (arith, e)) t
 
--- What one leaf does: the marks after it stand after it, those at later places are the same, and what is reported in front is reported of
+-- What one leaf does: the marks after it come after it, those at later places are the same, and what is reported in front is reported of
 -- the mark there.
 pub record Passes (sheet : List Record) (at : ℕ) (l : List ℕ) (ls : List (List ℕ)) (xs : List Spot) : Type 0 where
   pub thread : Thread (at + length l) ls (left_behind at xs)
@@ -121,10 +122,6 @@ pub record Passes (sheet : List Record) (at : ℕ) (l : List ℕ) (ls : List (Li
   pub rest : told_rest at (map (told_of sheet) xs) ≡ map (told_of sheet) (left_behind at xs)
   pub first : (test : Spot → Bool) (field : Told → Bool) → ((x : Spot) → field (told_of sheet x) ≡ test x) → field (untold at) ≡ false
       → field (told_first at (map (told_of sheet) xs)) ≡ stands_at xs at test
-
-or_false : (b : Bool) → b ≡ b || false
-or_false true = refl
-or_false false = refl
 
 pub passes : (sheet : List Record) (at : ℕ) (l : List ℕ) (ls : List (List ℕ)) (xs : List Spot) → 0 < length l → Thread at (l ∷ ls) xs
     → Passes sheet at l ls xs
@@ -147,7 +144,7 @@ passes sheet at l ls (x ∷ xs) some t = ⊎_elim (λ a. here a.0 a.2) (λ b. be
               ap (λ b. cond b (map (told_of sheet) xs) (told_of sheet x ∷ map (told_of sheet) xs)) is
               ∙ ap (λ b. map (told_of sheet) (cond b xs (x ∷ xs))) (sym is);
           first = λ test field same none.
-              ap (λ b. field (cond b (told_of sheet x) (untold at))) is ∙ same x ∙ or_false (test x)
+              ap (λ b. field (cond b (told_of sheet x) (untold at))) is ∙ same x ∙ sym (or-false (test x))
               ∙ ap (λ r. test x || r) (sym (thread_beyond (at + length l) at ls xs test (omega arith) h))
               ∙ ap (λ b. (b && test x) || stands_at xs at test) (sym is);
         }
@@ -169,7 +166,7 @@ passes sheet at l ls (x ∷ xs) some t = ⊎_elim (λ a. here a.0 a.2) (λ b. be
               ∙ sym (thread_beyond (at + length l) at ls (x ∷ xs) test (omega arith) h);
         }
 
--- no mark stands at a text
+-- no mark is at a text
 pub text_thread : (at : ℕ) (t : List ℕ) (ls : List (List ℕ)) (xs : List Spot) → IsText t → Thread at (t ∷ ls) xs
     → Thread (at + length t) ls xs
 text_thread at t ls [] is h = thread_none (at + length t) ls

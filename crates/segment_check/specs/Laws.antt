@@ -63,7 +63,7 @@ StartsAreTokens =
     (sheet : List Record) (s : List ℕ)
     → All (λ f. IsTokenStart s f.start) (findings sheet s)
 
--- a leaf whose mark begins a node stands within as many nodes as may stand one in the other
+-- a leaf whose mark begins a node is within as many nodes as may be one in the other
 abbrev pub IsLeftOutForDepth : List Record → Spot → Type 0
 IsLeftOutForDepth sheet x =
     x.node ≡ None → may_begin sheet x.mark ≡ true → most_open ≤ length x.around

@@ -13,7 +13,7 @@ use Rattle.usfm_ref.specs.declared.number.VerseMark.{VerseMark}
 use Rattle.usfm_token.specs.Tokens.{MarkParts}
 use Rattle.segment_check.specs.Scenes.{Scene, scenes_behind, chapter_of, key_of, opens_piece, is_plain_mark, verse_behind, opened_verse}
 
--- no number stands after a mark `\c` or `\v`
+-- no number comes after a mark `\c` or `\v`
 abbrev pub lacks_number : MarkParts → List ℕ → Bool
 lacks_number m after =
     (is_plain_mark (codes "c") m && not (is_some (chapter_in after)))
@@ -23,7 +23,7 @@ lacks_number m after =
 abbrev pub bad_number : Scene → Bool
 bad_number scene = lacks_number scene.here.parts scene.here.after
 
--- a hyphen (45) stands at a place
+-- a hyphen (45) is at a place
 abbrev pub hyphen_at : List ℕ → ℕ → Bool
 hyphen_at text place = option_map_or (λ b. b == 45) (slice_get text place) false
 

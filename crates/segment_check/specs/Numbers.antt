@@ -7,7 +7,7 @@ use Rattle.usfm_token.specs.Tokens.{MarkParts}
 use Rattle.verse_cut.specs.Keys.{verse_key}
 use Rattle.segment_check.specs.Scenes.{is_plain_mark}
 
--- the chapter that stands after a mark `\c`
+-- the chapter that comes after a mark `\c`
 abbrev pub chapter_behind : MarkParts → List ℕ → Option ℕ
 chapter_behind m after = if is_plain_mark (codes "c") m then chapter_in after else None
 

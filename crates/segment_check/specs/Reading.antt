@@ -40,7 +40,7 @@ further (Some reach) (Some last) = if is_within last reach then Some reach else 
 abbrev pub any_reaches : Option Last → VerseMark → Bool
 any_reaches reach v = option_map_or (λ last. reaches last v) reach false
 
--- Where a reading stands: the key of the open piece; of the bridges of its chapter so far the last verse that reaches most; and
+-- Where a reading is: the key of the open piece; of the bridges of its chapter so far the last verse that reaches most; and
 -- what a tree says of the marks that are left.
 pub record State : Type 0 where
   pub key : KeyParts

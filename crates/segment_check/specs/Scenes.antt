@@ -13,7 +13,7 @@ pub record Scene : Type 0 where
   pub before : List Site
   pub here : Site
 
--- marks that stand after others, each with all before it
+-- marks that come after others, each with all before it
 abbrev pub scenes_behind : List Site → List Site → List Scene
 scenes_behind before [] = []
 scenes_behind before (s ∷ ss) =
@@ -23,7 +23,7 @@ scenes_behind before (s ∷ ss) =
 unfoldable pub scenes_of : List ℕ → List Scene
 scenes_of s = scenes_behind [] (sites_from 0 (tokens_of s))
 
--- the chapter in force before a mark: the greatest number of the chapter marks before it, and 0 where none stands
+-- the chapter in force before a mark: the greatest number of the chapter marks before it, and 0 where there is none
 abbrev pub chapter_of : Scene → ℕ
 chapter_of scene = chapter_in_force 0 scene.before
 
@@ -44,7 +44,7 @@ opens_piece scene = option_map_or (opens_by scene) (key_of scene) false
 abbrev pub is_plain_mark : List ℕ → MarkParts → Bool
 is_plain_mark name m = not (m.nested || m.closing) && bytes_eq m.name name
 
--- the verse that stands after a mark `\v`
+-- the verse that comes after a mark `\v`
 abbrev pub verse_behind : MarkParts → List ℕ → Option VerseMark
 verse_behind m after = if is_plain_mark (codes "v") m then verse_in after else None
 

@@ -55,7 +55,7 @@ begins_node (closes m) = false
 abbrev pub may_begin : List Record → MarkParts → Bool
 may_begin sheet m = begins_node (role (styles_in sheet) (mark m))
 
--- `too-deep`: a leaf whose mark begins a node, which would stand deeper than the greatest depth
+-- `too-deep`: a leaf whose mark begins a node, which would be deeper than the greatest depth
 abbrev pub too_deep : List Record → Spot → Bool
 too_deep sheet spot =
     not (is_some spot.node) && may_begin sheet spot.mark && nat_le most_open (length spot.around)

@@ -35,7 +35,7 @@ told_in sheet around f = map (told_of sheet) (spots around f)
 abbrev pub told_under : List Record → Forest → List Told
 told_under sheet tree = told_in sheet [] tree
 
--- what the nodes around a place decide: whether one is a note, how many nodes more may stand inside, the name of
+-- what the nodes around a place decide: whether one is a note, how many nodes more may be inside, the name of
 -- the innermost if it is a character node, and those of the nearest paragraph or note and of the nearest paragraph
 pub record Surroundings : Type 0 where
   pub in_note : Bool

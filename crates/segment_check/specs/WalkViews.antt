@@ -6,7 +6,7 @@ use Rattle.usfm_token.specs.declared.token.Token.{Token}
 use Rattle.segment_check.specs.Reading.{State}
 use Rattle.segment_check.specs.declared.marks.Walk.{Walk}
 
--- where a walk stands, as a state of the reading
+-- where a walk is, as a state of the reading
 abbrev pub state_of : Walk → State
 state_of w = record { key = w.key; reach = w.reach; told = w.told.now }
 

@@ -9,7 +9,7 @@ pub enum Code {
     UnclosedChar,
     /// A note node without a closing mark.
     UnclosedNote,
-    /// A mark that begins no node because the node would stand too deep.
+    /// A mark that begins no node because the node would be too deep.
     TooDeep,
     /// A mark `\c` or `\v`, neither nested nor closing, without a number.
     BadNumber,
@@ -20,7 +20,7 @@ pub enum Code {
     NotRising,
     /// A verse that a bridge before it in its chapter reaches.
     Overlap,
-    /// A character or note node that stands where its style's OccursUnder does not allow it.
+    /// A character or note node that is where its style's OccursUnder does not allow it.
     NotUnder,
 }
 

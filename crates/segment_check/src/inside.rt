@@ -1,10 +1,10 @@
-//! What stands around a place of a tree.
+//! What is around a place of a tree.
 
 ghost use Rattle.std.specs.Prelude.{◌≡◌};
 
 use sty_sheet::StyleKind;
 
-// What the nodes around a mark decide: whether a note is among them, how many nodes may still stand
+// What the nodes around a mark decide: whether a note is among them, how many nodes may still be
 // one in the other, the node directly around it if it is a character, and the nearest paragraph or
 // note and the nearest paragraph, each by its name.
 #[derive(Clone, Copy)]
@@ -21,7 +21,7 @@ impl<'a> Inside<'a> {
     ghost use Rattle.segment_check.specs.TreeViews.{allowed_names, allowing, entering};
     ghost use Rattle.segment_check.specs.TreeViews.{inside_view, surroundings_of};
 
-    // Under the root, where 64 nodes may stand one in the other.
+    // Under the root, where 64 nodes may be one in the other.
     pub(crate) fn root() -> Self
         ensures { inside_view result ≡ surroundings_of [] }
     {

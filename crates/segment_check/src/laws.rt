@@ -14,7 +14,7 @@ pub fn starts_never_fall()
     ensures { StartsNeverFall }
 {}
 
-/// Findings at one start stand in the order of the codes.
+/// Findings at one start are in the order of the codes.
 pub fn codes_rise()
     ensures { CodesRise }
 {}
@@ -29,7 +29,7 @@ pub fn starts_are_tokens()
     ensures { StartsAreTokens }
 {}
 
-/// Each leaf whose mark begins a node stands within 64 nodes: it was left out for its depth alone.
+/// Each leaf whose mark begins a node is within 64 nodes: it was left out for its depth alone.
 pub fn leaves_are_too_deep()
     ensures { LeavesAreTooDeep }
 {}

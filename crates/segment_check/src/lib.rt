@@ -1,7 +1,7 @@
 //! Checks a USFM book against a style sheet: what is found at its marks.
 //!
 //! Ten codes report marks without a record, nodes without their closing marks and closing marks
-//! without a node, marks that stand where their style does not allow them, and chapters and verses
+//! without a node, marks that are where their style does not allow them, and chapters and verses
 //! whose numbers are missing, do not rise or overlap. Each finding has the start of its mark and
 //! the key of the piece of the book that holds it.
 //!

@@ -8,7 +8,7 @@ ghost use Rattle.segment_check.specs.Reading.{finding_if, findings_with, found_i
 ghost use Rattle.usfm_token.specs.Tokens.{Lexeme};
 ghost use Rattle.usfm_token.specs.View.{mark_parts};
 ghost use Rattle.verse_cut.specs.Keys.{text_after};
-ghost use Rattle.verse_cut.specs.Walks.{IsFirst};
+ghost use Rattle.verse_cut.specs.Loops.Walks.{IsFirst};
 
 use crate::code::Code;
 use crate::finding::Finding;
@@ -30,7 +30,7 @@ struct Held {
     overlap: bool,
 }
 
-// Where a walk over the marks of a text stands: the key of the piece that is open, the last verse
+// How far a walk over the marks of a text has come: the key of the piece that is open, the last verse
 // of its chapter that a bridge reaches so far, and what the tree says of the marks that are left.
 #[derive(Drop)]
 struct Walk<'t> {
@@ -72,7 +72,7 @@ impl Walk<'_> {
         }
     }
 
-    // Takes a mark, and what stands after it.
+    // Takes a mark, and what comes after it.
     fn take(&mut self, start: usize, mark: Mark<'_>, after: &str) -> Held
         ensures held { let st = state_of self.old in
             result ≡ held_at st start (mark_parts mark.entry) after.now }

@@ -44,7 +44,7 @@ pub(crate) fn chapter_behind(mark: Mark<'_>, after: &str) -> Option<u16>
     }
 }
 
-// The key of a mark with the chapter or verse after it, where a verse stands in the chapter.
+// The key of a mark with the chapter or verse after it, where a verse is in the chapter.
 pub(crate) fn key_of(chapter: u16, head: Option<u16>, verse: Option<VerseMark>) -> Option<Key>
     requires chapter { chapter ≤ 999 }
     requires head { IfSome head (λ number. number ≤ 999) }
@@ -67,7 +67,7 @@ pub(crate) fn key_of(chapter: u16, head: Option<u16>, verse: Option<VerseMark>) 
     }
 }
 
-// Whether no number stands after a mark that has one.
+// Whether no number comes after a mark that has one.
 pub(crate) fn lacks_number(mark: Mark<'_>, after: &str) -> bool
     ensures { result ≡ conditions.lacks_number (mark_parts mark.entry) after.now }
 {
@@ -79,7 +79,7 @@ pub(crate) fn lacks_number(mark: Mark<'_>, after: &str) -> bool
         }
 }
 
-// Whether a hyphen stands at a place.
+// Whether a hyphen is at a place.
 fn has_hyphen(text: &str, place: usize) -> bool
     ensures { result ≡ conditions.hyphen_at text.now place }
 {

@@ -129,7 +129,7 @@ fn tell_mark(
     }
 }
 
-// Adds what holds of all marks of nodes that stand side by side, in order.
+// Adds what holds of all marks of nodes that are side by side, in order.
 fn tell_nodes<'a>(
     told: &mut Vec<Told>,
     sheet: &Sheet<'_>,

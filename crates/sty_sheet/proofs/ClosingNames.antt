@@ -1,4 +1,4 @@
--- Milestones taken in one after the other: at each closing name stands the first.
+-- Milestones taken in one after the other: under each closing name is the first.
 use Rattle.std.proofs.Common.{◌≡◌, ℕ, Bool, true, false, cond, ◌&&◌, List, Option, None, Some, sym, refl, ap, ◌∙◌, Bor}
 use Rattle.std.specs.Option.{is_some, option_map, option_or}
 use Rattle.std.specs.Map.{update}

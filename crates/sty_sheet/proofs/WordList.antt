@@ -63,7 +63,7 @@ words_behind : (bs : List ℕ) → words_of (behind_blanks bs) ≡ words_of bs
 words_behind [] = refl
 words_behind (b ∷ bs) = behind_by b bs (is_blank b) refl (words_behind bs)
 
--- after the blanks stands a word
+-- after the blanks comes a word
 first_is : (bs : List ℕ) → 0 < length (first_word bs) → words_of bs ≡ first_word bs ∷ words_of (behind_word bs)
 unfolding words_of
 first_is bs h =

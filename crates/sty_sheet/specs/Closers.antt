@@ -17,7 +17,7 @@ milestone_closer r = if is_milestone r.kind then r.closer else None
 abbrev pub held : {S : Type 0} → IndexMap (Bor (List ℕ)) Style S → List ℕ → Option Style
 held closers name = lookup (λ k. bytes_eq name k.now) closers.entries
 
--- the map takes a style in, where the style is a milestone and no other stands under its closing name
+-- the map takes a style in, where the style is a milestone and no other is under its closing name
 abbrev pub AddsTo : {S : Type 0} → IndexMap (Bor (List ℕ)) Style S → Style → IndexMap (Bor (List ℕ)) Style S → Type 0
 AddsTo old s new =
     (name : List ℕ) → held new name ≡ option_or (held old name) (if closes name s then Some s else None)

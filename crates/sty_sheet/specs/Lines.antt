@@ -22,7 +22,7 @@ behind_blanks bs = drop (prefix_len is_blank bs) bs
 abbrev pub trimmed : List ℕ → List ℕ
 trimmed bs = let front = behind_blanks bs in take (length front - suffix_len is_blank front) front
 
--- what stands before the first blank
+-- what comes before the first blank
 abbrev pub first_word : List ℕ → List ℕ
 first_word bs = take_while not_blank bs
 
@@ -42,7 +42,7 @@ behind_feff bs = if begins (239 ∷ 187 ∷ 191 ∷ []) bs then drop 3 bs else b
 abbrev pub behind_bang : List ℕ → List ℕ
 behind_bang bs = if begins (35 ∷ 33 ∷ []) bs then behind_blanks (drop 2 bs) else bs
 
--- how many bytes stand before a '#' (35) that is at the front or follows a blank
+-- how many bytes come before a '#' (35) that is at the front or follows a blank
 abbrev pub comment_at : Bool → List ℕ → ℕ
 comment_at may [] = 0
 comment_at may (b ∷ bs) = if may && b == 35 then 0 else suc (comment_at (is_blank b) bs)
@@ -51,7 +51,7 @@ comment_at may (b ∷ bs) = if may && b == 35 then 0 else suc (comment_at (is_bl
 abbrev pub uncommented : List ℕ → List ℕ
 uncommented bs = take (comment_at true bs) bs
 
--- what counts of a line: what stands after its blanks and one '#!', and before a comment, which a '#' begins at the
+-- what counts of a line: what comes after its blanks and one '#!', and before a comment, which a '#' begins at the
 -- start or after a blank
 abbrev pub body : List ℕ → List ℕ
 body line = uncommented (behind_bang (behind_blanks line))

@@ -18,7 +18,7 @@ before_fault seen n (f ∷ fs) =
 abbrev pub begun_before_fault : List ℕ → ℕ
 begun_before_fault text = length (all_records (before_fault false 1 (fields_of text)))
 
--- Whether memory may be taken before this is answered, where so many records begin before the first faulty line: of a right
+-- Whether memory may be taken before this is answered, where this many records begin before the first faulty line: of a right
 -- sheet; and of a faulty one where two begin, as the first is kept then. None begins before a field that is misplaced.
 abbrev pub may_take : ℕ → Result (List Record) SheetFault → Bool
 may_take begun (Ok records) = true

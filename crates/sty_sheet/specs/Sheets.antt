@@ -13,7 +13,7 @@ use Rattle.sty_sheet.specs.declared.fault.SheetFault.TheVariants.{FieldBeforeMar
 
 -- ---- faults
 
--- only a field that follows a marker line may stand
+-- a field that is read follows a marker line
 abbrev pub misplaced : Bool → ℕ → Option SheetFault
 misplaced seen n = if seen then None else Some (FieldBeforeMarker n)
 
@@ -79,7 +79,7 @@ abbrev pub last_record : Record → List Record → Record
 last_record r [] = r
 last_record r (q ∷ qs) = last_record (if of_marker r.marker q then q else r) qs
 
--- each marker once, where it first stands, with its last record
+-- each marker once, where it first comes, with its last record
 abbrev pub each_once : List Record → List Record
 each_once [] = []
 each_once (r ∷ rs) = last_record r rs ∷ filter (λ q. not (of_marker r.marker q)) (each_once rs)

@@ -10,11 +10,11 @@ use Rattle.sty_sheet.specs.declared.records.Records.{Records}
 use Rattle.sty_sheet.specs.declared.styles.Styles.{Styles}
 use Rattle.sty_sheet.specs.declared.under.UnderWords.{UnderWords}
 
--- the records of a sheet, in the order in which their markers first stand
+-- the records of a sheet, in the order in which their markers first come
 abbrev pub records_of : Sheet → List Record
 records_of sheet = map record_of (styles_in sheet.styles)
 
--- the records that were read so far, in the order in which their markers first stand
+-- the records that were read so far, in the order in which their markers first come
 abbrev pub records_in : Records → List Record
 records_in records = map record_of (styles_in records.styles)
 

@@ -10,7 +10,7 @@ pub enum SheetFault {
     /// A growth was refused.
     #[error("out of memory")]
     Memory,
-    /// A field that is read stands before the first `\Marker`.
+    /// A field that is read comes before the first `\Marker`.
     #[error("line {line}: a field before the first marker")]
     FieldBeforeMarker { line: usize },
     /// A `\Marker` has no value.

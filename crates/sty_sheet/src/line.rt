@@ -5,7 +5,7 @@ ghost use Rattle.sty_sheet.specs.Lines.{comment_at, uncommented, behind_bang, be
 
 use crate::words::{behind_blanks, is_blank};
 
-// How many bytes stand before the comment, or the end.
+// How many bytes come before the comment, or the end.
 fn comment_at(bytes: &[u8]) -> usize
     ensures { result ≡ comment_at true bytes.now }
 {

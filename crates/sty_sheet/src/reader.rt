@@ -12,7 +12,7 @@ use crate::style::Style;
 use crate::words::{kind_named, split_word};
 use std::alloc::Global;
 
-// Only a field that follows a marker line may stand.
+// A field that is read follows a marker line.
 fn misplaced(seen: bool, line: usize) -> Option<SheetFault>
     ensures { result ≡ misplaced seen line }
 {

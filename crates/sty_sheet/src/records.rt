@@ -11,14 +11,14 @@ use crate::style::Style;
 use indexmap::IndexMap;
 use std::alloc::Global;
 
-// The records by their markers, in the order in which the markers first stand.
+// The records by their markers, in the order in which the markers first come.
 #[derive(Drop)]
 pub(crate) struct Records<'s> {
     pub(crate) styles: IndexMap<&'s str, Listed<'s>>,
     ghost keyed: { map (λ e. e.0.now) styles.entries ≡ map (λ e. e.1.style.marker.now) styles.entries },
 }
 
-// Puts a milestone under its closing name, if none stands there.
+// Puts a milestone under its closing name, if none is there.
 fn add_closer<'s>(
     closers: &mut IndexMap<&'s str, Style<'s>>,
     style: Style<'s>,

@@ -103,7 +103,7 @@ fn reads_fields(rt: HostRuntime) -> Result<(), SheetFault> {
     Ok(())
 }
 
-// Words of OccursUnder that are few, none, and so many that they are kept in a set; those of the mark
+// Words of OccursUnder that are few, none, and enough to be kept in a set; those of the mark
 // that ends a milestone.
 #[test]
 fn looks_words_up(rt: HostRuntime) -> Result<(), Fail> {

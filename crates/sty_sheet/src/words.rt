@@ -15,21 +15,21 @@ pub(crate) fn is_blank(byte: u8) -> bool
     byte == b' ' || byte == b'\t' || byte == b'\r' || byte == b'\n'
 }
 
-// How many blanks stand at the front.
+// How many blanks are at the front.
 fn blanks_in_front(bytes: &[u8]) -> usize
     ensures { result ≡ prefix_len is_blank bytes.now }
 {
     bytes.iter().take_while(|b| is_blank(**b)).count()
 }
 
-// How many blanks stand at the end.
+// How many blanks are at the end.
 fn blanks_at_end(bytes: &[u8]) -> usize
     ensures { result ≡ suffix_len is_blank bytes.now }
 {
     bytes.iter().rev().take_while(|b| is_blank(**b)).count()
 }
 
-// How many bytes stand before the first blank, or the end.
+// How many bytes come before the first blank, or the end.
 fn word_len(bytes: &[u8]) -> usize
     ensures { result ≡ prefix_len not_blank bytes.now }
 {

@@ -167,7 +167,7 @@ after_steps (command ∷ later) s d e = by (outcome s command) (λ x y f. after_
 
 -- ---- the walk over the commands
 
--- so many commands are done in turn, which left this replica and wrote this
+-- this many commands are done in turn, which left this replica and wrote this
 pub record DoneSoFar (s : State) (commands : List Command) (n : ℕ) (now : State) (outputs : List (List ℕ)) : Type 0 where
   pub so_far : in_turn s (take n commands) ≡ Ok (record { after = now; outputs = outputs })
   pub count : length outputs ≡ n

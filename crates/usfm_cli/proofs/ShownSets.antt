@@ -69,7 +69,8 @@ or_last true h = refl
 or_last false h = h
 
 -- a test that passes less passes in no more lists
-none_of_less : {X : Type 0} (p q : X → Bool) → ((x : X) → p x ≡ true → q x ≡ true) → (xs : List X) → list_any q xs ≡ false → list_any p xs ≡ false
+none_of_less : {X : Type 0} (p q : X → Bool) → ((x : X) → p x ≡ true → q x ≡ true) → (xs : List X) → list_any q xs ≡ false
+    → list_any p xs ≡ false
 none_of_less p q f [] h = refl
 none_of_less {X} p q f (x ∷ xs) h = by (none_of_less p q f xs) (p x) refl (q x) (f x) h
   where
@@ -84,13 +85,16 @@ filter_none : {X : Type 0} (p : X → Bool) (xs : List X) → list_any p xs ≡ 
 filter_none p [] h = refl
 filter_none {X} p (x ∷ xs) h = by (filter_none p xs) (p x) h
   where
-    by : (list_any p xs ≡ false → filter p xs ≡ []) → (b : Bool) → (b || list_any p xs) ≡ false → cond b (x ∷ filter p xs) (filter p xs) ≡ []
+    by : (list_any p xs ≡ false → filter p xs ≡ []) → (b : Bool) → (b || list_any p xs) ≡ false
+        → cond b (x ∷ filter p xs) (filter p xs) ≡ []
     by rest true h = absurd (false≢true (sym h))
     by rest false h = rest h
 
 -- a test that passes more passes in more lists
-any_of_more : {X : Type 0} (p q : X → Bool) → ((x : X) → p x ≡ true → q x ≡ true) → (xs : List X) → list_any p xs ≡ true → list_any q xs ≡ true
-any_of_more p q f xs h = elim (list_any q xs) as (λ b. list_any q xs ≡ b → b ≡ true) [ true ↦ λ _. refl | false ↦ λ e. sym (none_of_less p q f xs e) ∙ h ] refl
+any_of_more : {X : Type 0} (p q : X → Bool) → ((x : X) → p x ≡ true → q x ≡ true) → (xs : List X) → list_any p xs ≡ true
+    → list_any q xs ≡ true
+any_of_more p q f xs h =
+    elim (list_any q xs) as (λ b. list_any q xs ≡ b → b ≡ true) [ true ↦ λ _. refl | false ↦ λ e. sym (none_of_less p q f xs e) ∙ h ] refl
 
 -- an item that passes
 some_passes : {X : Type 0} (p : X → Bool) (xs : List X) → list_any p xs ≡ true → (x : X) × (p x ≡ true)
@@ -102,7 +106,8 @@ some_passes {X} p (x ∷ xs) h = by (some_passes p xs) (p x) refl h
     by later false e h = later h
 
 -- a test that passes a key passes in a list with it
-key_passes : (p : KeyParts → Bool) (key : KeyParts) → p key ≡ true → (keys : List KeyParts) → list_any (λ k. is_eq (key_cmp key k)) keys ≡ true
+key_passes : (p : KeyParts → Bool) (key : KeyParts) → p key ≡ true → (keys : List KeyParts)
+    → list_any (λ k. is_eq (key_cmp key k)) keys ≡ true
     → list_any p keys ≡ true
 key_passes p key h [] e = absurd (false≢true e)
 key_passes p key h (k ∷ keys) e = by (key_passes p key h keys) (key_cmp key k) refl e
@@ -145,7 +150,8 @@ got_some : (ops : List Operation) (q : Id) → is_some (get ops q) ≡ list_any 
 got_some [] q = refl
 got_some (o ∷ ops) q = by (got_some ops q) (same_id q o.id)
   where
-    by : is_some (get ops q) ≡ list_any (λ o. same_id q o.id) ops → (b : Bool) → is_some (cond b (Some o) (get ops q)) ≡ (b || list_any (λ o. same_id q o.id) ops)
+    by : is_some (get ops q) ≡ list_any (λ o. same_id q o.id) ops → (b : Bool)
+        → is_some (cond b (Some o) (get ops q)) ≡ (b || list_any (λ o. same_id q o.id) ops)
     by rest true = refl
     by rest false = rest
 
@@ -158,14 +164,16 @@ module _ (whole : List Operation) (full : list_all is_full whole ≡ true) where
       → Within (put o ops) × ((q : Id) → is_some (get (put o ops) q) ≡ (is_some (get ops q) || same_id q o.id))
   one_put o ops h w g = by (get ops o.id) refl
     where
-      by : (r : Option Operation) → get ops o.id ≡ r → Within (put o ops) × ((q : Id) → is_some (get (put o ops) q) ≡ (is_some (get ops q) || same_id q o.id))
+      by : (r : Option Operation) → get ops o.id ≡ r
+          → Within (put o ops) × ((q : Id) → is_some (get (put o ops) q) ≡ (is_some (get ops q) || same_id q o.id))
       by (Some p) e =
           let same = put_held o p ops h e (all_at is_full whole o.id o full g) in
           (subst Within (sym same) w, λ q. ap (λ (xs : List Operation). is_some (get xs q)) same ∙ had q (same_id q o.id) refl)
         where
           had : (q : Id) (b : Bool) → same_id q o.id ≡ b → is_some (get ops q) ≡ (is_some (get ops q) || b)
           had q false f = sym (or_false (is_some (get ops q)))
-          had q true f = let there : is_some (get ops q) ≡ true = ap (λ (i : Id). is_some (get ops i)) (id_from_same q o.id f) ∙ ap is_some e in there ∙ sym (ap (λ b. b || true) there)
+          had q true f = let there : is_some (get ops q) ≡ true = ap (λ (i : Id). is_some (get ops i)) (id_from_same q o.id f)
+              ∙ ap is_some e in there ∙ sym (ap (λ b. b || true) there)
       by None e = (within, λ q. ap is_some (get-put o ops q h) ∙ some q (get ops q) (same_id q o.id))
         where
           some : (q : Id) (r : Option Operation) (b : Bool) → is_some (met r (cond b (Some o) None)) ≡ (is_some r || b)
@@ -208,16 +216,19 @@ module _ (held : List Operation) (book : List ℕ) (set : IsOpSet held) where
       (λ p e. (and_parts (is_shown_in_book held book p) (in_segment g p && names p id) e).1) held h
 
   -- an operation of the segment passes both tests where the segment shows it
-  passes_both : (o : Operation) (g : Segment) → g.book ≡ book → (is_shown_in_book held book o && is_shown (shown_set held book) g o) ≡ is_shown held g o
+  passes_both : (o : Operation) (g : Segment) → g.book ≡ book
+      → (is_shown_in_book held book o && is_shown (shown_set held book) g o) ≡ is_shown held g o
   passes_both o g of = by (in_segment g o) refl (is_replaced held g o.id) refl
     where
       by : (i : Bool) → in_segment g o ≡ i → (n : Bool) → is_replaced held g o.id ≡ n
           → (is_shown_in_book held book o && (i && not (is_replaced (shown_set held book) g o.id))) ≡ (i && not n)
       by false e n f = and_none (is_shown_in_book held book o)
-      by true e n f = elim n as (λ (n : Bool). is_replaced held g o.id ≡ n → (is_shown_in_book held book o && not (is_replaced (shown_set held book) g o.id)) ≡ not n) [
-        | true ↦ λ f. ap (λ b. b && not (is_replaced (shown_set held book) g o.id)) (in_book ∙ ap not f)
-        | false ↦ λ f. (λ i. (in_book ∙ ap not f) i && not (not_replaced g o.id f i))
-      ] f
+      by true e n f = elim n as
+          (λ (n : Bool). is_replaced held g o.id ≡ n
+          → (is_shown_in_book held book o && not (is_replaced (shown_set held book) g o.id)) ≡ not n) [
+            | true ↦ λ f. ap (λ b. b && not (is_replaced (shown_set held book) g o.id)) (in_book ∙ ap not f)
+            | false ↦ λ f. (λ i. (in_book ∙ ap not f) i && not (not_replaced g o.id f i))
+          ] f
         where
           is : o.segment ≡ g
           is = same_segment-is o.segment g e
@@ -229,19 +240,22 @@ module _ (held : List Operation) (book : List ℕ) (set : IsOpSet held) where
               ∙ ap (λ b. b && not (is_replaced held g o.id)) (same_bytes-refl book)
 
   shown_same : (g : Segment) → g.book ≡ book → shown (shown_set held book) g ≡ shown held g
-  shown_same g of = filter_both (is_shown (shown_set held book) g) (is_shown_in_book held book) (is_shown held g) (λ o. passes_both o g of) held
+  shown_same g of =
+      filter_both (is_shown (shown_set held book) g) (is_shown_in_book held book) (is_shown held g) (λ o. passes_both o g of) held
 
   -- ---- what is of a book, is where something is shown
 
   -- a test of a book's segments passes an operation exactly where it passes one that is shown
-  any_same : (p : Operation → Bool) → ((o q : Operation) → o.segment ≡ q.segment → p o ≡ p q) → ((o : Operation) → p o ≡ true → of_book book o ≡ true)
+  any_same : (p : Operation → Bool) → ((o q : Operation) → o.segment ≡ q.segment → p o ≡ p q)
+      → ((o : Operation) → p o ≡ true → of_book book o ≡ true)
       → list_any p (shown_set held book) ≡ list_any p held
   any_same p alike of = same_tests _ _ within back
     where
       within : list_any p (shown_set held book) ≡ true → list_any p held ≡ true
       within h =
           let found = any_held p (shown_set held book) (rises-filter (is_shown_in_book held book) held set.rising) h in
-          any_from p held found.one.id found.one (filter_within (is_shown_in_book held book) held set.rising found.one.id found.one found.held) found.passes
+          any_from p held found.one.id found.one
+          (filter_within (is_shown_in_book held book) held set.rising found.one.id found.one found.held) found.passes
 
       back : list_any p held ≡ true → list_any p (shown_set held book) ≡ true
       back h = by (list_any (is_shown held one.segment) held) refl
@@ -253,39 +267,48 @@ module _ (held : List Operation) (book : List ℕ) (set : IsOpSet held) where
           one = found.one
 
           some : shown held one.segment ≢ []
-          some = shows_one one.segment held set (any_from (in_segment one.segment) held one.id one found.held (same_segment-refl one.segment))
+          some =
+              shows_one one.segment held set (any_from (in_segment one.segment) held one.id one found.held (same_segment-refl one.segment))
 
           by : (b : Bool) → list_any (is_shown held one.segment) held ≡ b → list_any p (shown_set held book) ≡ true
           by false e = absurd (some (filter_none (is_shown held one.segment) held e))
           by true e =
               let there = any_held (is_shown held one.segment) held set.rising e in
-              let is : there.one.segment ≡ one.segment = same_segment-is there.one.segment one.segment (and_parts (in_segment one.segment there.one) (not (is_replaced held one.segment there.one.id)) there.passes).0 in
+              let is : there.one.segment
+              ≡ one.segment = same_segment-is there.one.segment one.segment
+              (and_parts (in_segment one.segment there.one) (not (is_replaced held one.segment there.one.id)) there.passes).0 in
               let passes : p there.one ≡ true = alike there.one one is ∙ found.passes in
-              let here : is_shown held there.one.segment there.one ≡ true = subst (λ (g : Segment). is_shown held g there.one ≡ true) (sym is) there.passes in
+              let here : is_shown held there.one.segment there.one
+              ≡ true = subst (λ (g : Segment). is_shown held g there.one ≡ true) (sym is) there.passes in
               any_from p (shown_set held book) there.one.id there.one
-              (filter_kept (is_shown_in_book held book) held there.one.id there.one there.held (and_from _ _ (of there.one passes) here)) passes
+              (filter_kept (is_shown_in_book held book) held there.one.id there.one there.held
+              (and_from _ _ (of there.one passes) here)) passes
 
   -- ---- what is picked, and where
 
-  verse_with_text : (chapter : ℕ) (o : Operation) → is_verse_with_text (shown_set held book) book chapter o ≡ is_verse_with_text held book chapter o
+  verse_with_text : (chapter : ℕ) (o : Operation)
+      → is_verse_with_text (shown_set held book) book chapter o ≡ is_verse_with_text held book chapter o
   verse_with_text chapter o = by (same_bytes o.segment.book book) refl
     where
       by : (b : Bool) → same_bytes o.segment.book book ≡ b
           → ((b && is_verse_of chapter o.segment.key) && not (is_empty (text_of (shown_set held book) o.segment)))
           ≡ ((b && is_verse_of chapter o.segment.key) && not (is_empty (text_of held o.segment)))
       by false e = refl
-      by true e = ap (λ (ops : List Operation). is_verse_of chapter o.segment.key && not (is_empty (text_in (last ops)))) (shown_same o.segment (same_bytes-is o.segment.book book e))
+      by true e = ap (λ (ops : List Operation). is_verse_of chapter o.segment.key && not (is_empty (text_in (last ops))))
+          (shown_same o.segment (same_bytes-is o.segment.book book e))
 
   verse_text_same : (chapter : ℕ) → has_verse_text (shown_set held book) book chapter ≡ has_verse_text held book chapter
   verse_text_same chapter =
       (λ i. list_any (λ o. verse_with_text chapter o i) (shown_set held book))
       ∙ any_same (is_verse_with_text held book chapter)
       (λ o q is. ap (λ (g : Segment). (same_bytes g.book book && is_verse_of chapter g.key) && not (is_empty (text_of held g))) is)
-      (λ o h. (and_parts (same_bytes o.segment.book book) (is_verse_of chapter o.segment.key) (and_parts (is_verse_in book chapter o) (not (is_empty (text_of held o.segment))) h).0).0)
+      (λ o h. (and_parts (same_bytes o.segment.book book) (is_verse_of chapter o.segment.key)
+      (and_parts (is_verse_in book chapter o) (not (is_empty (text_of held o.segment))) h).0).0)
 
   pick_same : (key : KeyParts) → pick (shown_set held book) (segment book key) ≡ pick held (segment book key)
   pick_same key =
-      (λ i. cond (is_head key.place && nat_le 1 key.chapter && is_empty (text_in (last (shown_same (segment book key) refl i))) && verse_text_same key.chapter i)
+      (λ i. cond (is_head key.place && nat_le 1 key.chapter && is_empty (text_in (last (shown_same (segment book key) refl i)))
+      && verse_text_same key.chapter i)
       (Line key.chapter) (greatest (last (shown_same (segment book key) refl i))))
 
   abbrev heads_with : KeyParts → List KeyParts
@@ -331,7 +354,8 @@ module _ (held : List Operation) (book : List ℕ) (set : IsOpSet held) where
     where
       one : (o : Operation) → (is_full o || is_past held o) ≡ true → is_shown_in_book held book o ≡ true → is_full o ≡ true
       one o l s =
-          let parts = and_parts (in_segment o.segment o) (not (is_replaced held o.segment o.id)) (and_parts (of_book book o) (is_shown held o.segment o) s).1 in
+          let parts = and_parts (in_segment o.segment o) (not (is_replaced held o.segment o.id))
+          (and_parts (of_book book o) (is_shown held o.segment o) s).1 in
           elim (or_cases (is_full o) (is_past held o) l) [ inl f ↦ f | inr f ↦ absurd (false≢true (sym (not-true _ parts.1) ∙ f)) ]
 
   shown_is_legal : is_legal held ≡ true → is_legal (shown_set held book) ≡ true
@@ -356,7 +380,8 @@ module _ (held : List Operation) (book : List ℕ) (set : IsOpSet held) where
         spelled = refl;
         short = short;
       })
-      ∙ and_from _ _ (has_book_same ∙ has) (ap (λ (text : List ℕ). same_bytes text (export held book)) export_same ∙ same_bytes-refl (export held book))
+      ∙ and_from _ _ (has_book_same ∙ has)
+      (ap (λ (text : List ℕ). same_bytes text (export held book)) export_same ∙ same_bytes-refl (export held book))
 
   -- ---- what is shown, by its keys
 
@@ -376,7 +401,8 @@ module _ (held : List Operation) (book : List ℕ) (set : IsOpSet held) where
           let found = some_passes (λ key. list_any p (shown_at key)) (keys_of held book) h in
           any_filter p (is_shown_in_book held book) held
           ∙ any_of_more (λ o. is_shown held (segment book found.0) o && p o) (λ o. is_shown_in_book held book o && p o)
-          (λ o e. let parts = and_parts (is_shown held (segment book found.0) o) (p o) e in and_from _ _ (in_book (segment book found.0) o refl parts.0) parts.1)
+          (λ o e. let parts = and_parts (is_shown held (segment book found.0) o) (p o) e in and_from _ _
+          (in_book (segment book found.0) o refl parts.0) parts.1)
           held (sym (any_filter p (is_shown held (segment book found.0)) held) ∙ found.1)
 
       out : list_any p (shown_set held book) ≡ true → list_any (λ key. list_any p (shown_at key)) (keys_of held book) ≡ true
@@ -420,13 +446,15 @@ module _ (held : List Operation) (book : List ℕ) (set : IsOpSet held) where
         where
           by : AllByRecursion (λ o. get (shown_set held book) o.id ≡ Some o) (filter (is_shown held (segment book key)) ops)
               → (b : Bool) → is_shown held (segment book key) o ≡ b
-              → AllByRecursion (λ o. get (shown_set held book) o.id ≡ Some o) (cond b (o ∷ filter (is_shown held (segment book key)) ops) (filter (is_shown held (segment book key)) ops))
+              → AllByRecursion (λ o. get (shown_set held book) o.id ≡ Some o)
+              (cond b (o ∷ filter (is_shown held (segment book key)) ops) (filter (is_shown held (segment book key)) ops))
           by rest true e = (filter_kept (is_shown_in_book held book) held o.id o h.0 (in_book (segment book key) o refl e), rest)
           by rest false e = rest
 
   each_by_keys : (keys : List KeyParts) → All (λ o. get (shown_set held book) o.id ≡ Some o) (flat_map shown_at keys)
   each_by_keys [] = All-nil _
-  each_by_keys (key ∷ keys) = All-append (λ o. get (shown_set held book) o.id ≡ Some o) (shown_at key) (flat_map shown_at keys) (All-from_recursion (λ o. get (shown_set held book) o.id ≡ Some o) (shown_at key) (each_shown key)) (each_by_keys keys)
+  each_by_keys (key ∷ keys) = All-append (λ o. get (shown_set held book) o.id ≡ Some o) (shown_at key) (flat_map shown_at keys)
+      (All-from_recursion (λ o. get (shown_set held book) o.id ≡ Some o) (shown_at key) (each_shown key)) (each_by_keys keys)
 
   -- in whatever order
   each_of : (ops : List Operation) → IsPermutation (flat_map shown_at (keys_of held book)) ops
@@ -447,9 +475,11 @@ module _ (held : List Operation) (book : List ℕ) (set : IsOpSet held) where
   pub shown_put : is_legal held ≡ true → (ops : List Operation) → IsPermutation (flat_map shown_at (keys_of held book)) ops
       → put_all [] ops ≡ shown_set held book
   shown_put legal ops same =
-      same_gets (put_all [] ops) (shown_set held book) (made.0) (shown_is_set.rising) (λ q. by q (get (put_all [] ops) q) refl (get (shown_set held book) q) refl)
+      same_gets (put_all [] ops) (shown_set held book) (made.0) (shown_is_set.rising)
+      (λ q. by q (get (put_all [] ops) q) refl (get (shown_set held book) q) refl)
     where
-      made : (rises (put_all [] ops) ≡ true) × ((q : Id) (o : Operation) → get (put_all [] ops) q ≡ Some o → get (shown_set held book) q ≡ Some o)
+      made : (rises (put_all [] ops) ≡ true)
+          × ((q : Id) (o : Operation) → get (put_all [] ops) q ≡ Some o → get (shown_set held book) q ≡ Some o)
       made = put_within (shown_set held book) (shown_is_full legal) ops [] refl (λ q o e. absurd (cc)) (each_of ops same)
 
       some : (q : Id) → is_some (get (put_all [] ops) q) ≡ is_some (get (shown_set held book) q)

@@ -43,7 +43,7 @@ book_of (Project file commands) book = output_of (executed (file_after file comm
 book_of (Stream input) book = book_of_stream book input
 
 -- Replicas that accepted the same operations but for texts left out, in whatever order, grouping and repetition, write
--- the same bytes of every book, or refuse it alike, if no id stands for two operations.
+-- the same bytes of every book, or refuse it alike, if no id has two operations.
 abbrev pub SameOperationsSameBytes : Type 0
 SameOperationsSameBytes =
     (one other : Replica) (held also : List Operation) → Accepted one held → Accepted other also →

@@ -34,7 +34,7 @@ SameOperationsSameBooks =
     union_in [] input ≡ Ok a → union_in [] other ≡ Ok b →
     (book : List ℕ) → book_of_stream book input ≡ book_of_stream book other
 
--- ---- bundles of one family, in which no id stands for two operations
+-- ---- bundles of one family, in which no id has two operations
 
 -- whether one of the sets holds the id
 abbrev pub one_holds : List (List Operation) → Id → Bool

@@ -21,7 +21,7 @@ pub record InTurn (A : Type 0) : Type 0 where
   pub after : A
   pub outputs : List (List ℕ)
 
--- what a command writes, before what the ones after it do; one of them that is refused stands one place further on
+-- what a command writes, before what the ones after it do; one of them that is refused is one place further on
 abbrev pub after_one : {A : Type 0} → List ℕ →
     Result (InTurn A) TurnFault → Result (InTurn A) TurnFault
 after_one output (Ok done) = Ok (record { after = done.after; outputs = output ∷ done.outputs })
@@ -62,7 +62,7 @@ abbrev pub RefusedFor : {T : Type 0} → (Fault → Bool) → Result T Fault →
 RefusedFor late wanted Memory = MayWantMemory late wanted
 RefusedFor late wanted fault = wanted ≡ Err fault
 
--- A command is refused in its turn: the commands before it, which are so many, are accepted, and on what they made it may be
+-- A command is refused in its turn: the commands before it, which are this many, are accepted, and on what they made it may be
 -- refused for this by itself.
 pub record RefusedIn (s : State) (commands : List Command) (at : ℕ) (fault : Fault) : Type 0 where
   pub before : List Command
@@ -83,7 +83,7 @@ abbrev pub one_more : List (List ℕ) → Result Done Fault → Result (InTurn S
 one_more before (Ok done) = Ok (record { after = done.after; outputs = before ++ done.output ∷ [] })
 one_more before (Err fault) = Err fault
 
--- What is answered of a command in its turn, where the replica and the outputs are then so: its output stands after the others;
+-- What is answered of a command in its turn, where the replica and the outputs are then so: its output comes after the others;
 -- or it is refused, and the outputs are those that there were.
 abbrev pub AnswersTurn : (Fault → Bool) → Result Done Fault → List (List ℕ) → State →
     List (List ℕ) → Result (Unit {0}) Fault → Type 0

@@ -99,7 +99,7 @@ pub fn exec(alloc: Global, project: &[u8], command: &Command<'_>) -> Result<Outc
     Ok(Outcome { project, output })
 }
 
-/// Does commands one after another on a project, as so many calls of `exec` do, and answers the
+/// Does commands one after another on a project, as this many calls of `exec` do, and answers the
 /// project's file after them. A command that is refused leaves the project as it is.
 ///
 /// So the file is that of the replica that the steps of the commands make, one after another.

@@ -23,7 +23,7 @@ pub enum Fault {
     /// 1: a growth was refused.
     #[error("out of memory")]
     Memory,
-    /// 10: bytes that are no text, which is UTF-8. Their longest front that is has so many bytes.
+    /// 10: bytes that are no text, which is UTF-8. Their longest front that is has this many bytes.
     #[error("not UTF-8 after {valid} bytes")]
     NotText { valid: usize },
     /// 20 and 21: a text that is no book's code, or no reference; 20 also a file whose book has no
@@ -69,7 +69,7 @@ pub enum Fault {
     /// 83: the segment does not show this id, the first such one of those that were given.
     #[error("the segment does not show {} {}", .0.number, .0.name.text())]
     NotShown(OpId),
-    /// 90: the writer failed after it had taken so many bytes.
+    /// 90: the writer failed after it had taken this many bytes.
     #[error("the writer failed after {gone} bytes")]
     WriteFailed { gone: u64 },
     /// 100: the needle is empty.

@@ -26,7 +26,7 @@ use usfm_ref::Book;
 /// - `Bundle` (60 to 69) where the bytes are no bundle; `Clash` (51) where a bundle has an operation
 ///   that does not agree with one of a bundle before under the same id, with the least such id.
 /// - `NoBook` (82) where no operation is of the book.
-/// - `WriteFailed` (90) where the sink answers an error or takes 0 bytes, with the bytes gone out:
+/// - `WriteFailed` (90) where the sink answers an error or takes 0 bytes, with the bytes that were written:
 ///   they are the front of the book of that length.
 /// - `Memory` (1) where a growth was refused. Nothing was written.
 pub fn fold_stream<R: ByteSource, W: ByteSink>(

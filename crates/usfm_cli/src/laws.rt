@@ -51,7 +51,7 @@ pub fn same_operations_read_the_same()
 {}
 
 /// Projects that hold the same but for texts left out, after whatever commands, write the same bytes of
-/// every book, and the same conflict report, if no id stands for two operations.
+/// every book, and the same conflict report, if no id has two operations.
 pub fn skeletons_read_the_same()
     ensures { projects.SkeletonsReadTheSame }
 {}

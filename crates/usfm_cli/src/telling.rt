@@ -12,7 +12,7 @@ use usfm_ref::RefFault;
 
 /// The line that reports a fault: `fault`, its number, its details, each after one space, and a line
 /// feed. The details are an operation's id as its number and its name, the place of an operation in
-/// its bundle or a line of a sheet, counted from 1, the bytes gone out, or the length of the longest
+/// its bundle or a line of a sheet, counted from 1, the bytes that were written, or the length of the longest
 /// front that is text.
 /// It takes no memory.
 pub fn fault_line(fault: &Fault) -> ShortLine

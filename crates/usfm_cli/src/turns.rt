@@ -56,7 +56,7 @@ pub enum TurnFault {
     /// The project's bytes are refused; or memory ended while the project was read or written.
     #[error("the project: {0}")]
     Project(Fault),
-    /// The command after so many is refused in its turn.
+    /// The command after this many is refused in its turn.
     #[error("command {0}, counted from 0: {1}")]
     Turn(usize, Fault),
 }

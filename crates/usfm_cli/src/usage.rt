@@ -7,7 +7,7 @@ use self::looking::{check, delta, find, fold, report, send, shown, summary, word
 use clap::{Arg, Command};
 use std::alloc::{AllocError, Global};
 
-/// The version of this workspace, which `usfm_team --version` prints. It stands here alone.
+/// The version of this workspace, which `usfm_team --version` prints. It is here alone.
 pub const VERSION: &str = "0.1.0";
 
 // What an argument is called, and what is to be given for it.
@@ -143,7 +143,7 @@ Example: usfm_team import ana.project matthew.usfm mark.usfm
 
 Faults:
   fault 1                  out of memory
-  fault 10 BYTES           FILE is not UTF-8 after so many bytes
+  fault 10 BYTES           FILE is not UTF-8 after this many bytes
   fault 20, fault 30       FILE does not begin with \\id and a book's code
   fault 51 NUMBER NAME     PROJECT and BUNDLE have two operations of this id
   fault 60 to 70, 110      PROJECT is no project, or BUNDLE no bundle
@@ -171,7 +171,7 @@ Example: printf '\\\\v 1 At\\n' | usfm_team edit ana.project 'MAT 1:1'
 
 Faults:
   fault 1                  out of memory
-  fault 10 BYTES           the text is not UTF-8 after so many bytes
+  fault 10 BYTES           the text is not UTF-8 after this many bytes
   fault 20, fault 21       REF is no segment
   fault 60 to 70, 110      PROJECT is no project
   fault 80                 the text begins with another mark, or has a later one

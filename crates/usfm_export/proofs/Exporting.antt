@@ -7,7 +7,7 @@ use Rattle.op_core.specs.Ops.{Operation}
 use Rattle.op_core.specs.Export.{exported_keys, export}
 use Rattle.op_core.specs.CutsBack.{picked_at}
 use Rattle.op_core.specs.Lists.{keys_of}
-use Rattle.usfm_export.specs.Heads.{lacks_head, with_head, with_heads, texts_at}
+use Rattle.usfm_export.specs.Loops.Heads.{lacks_head, with_head, with_heads, texts_at}
 use Rattle.usfm_export.specs.Writing.{TakesAll, TakesFront}
 use Rattle.usfm_export.specs.declared.writing.WriteFault.{WriteFault}
 use Rattle.usfm_export.proofs.Heads.{heads_are}
@@ -27,7 +27,7 @@ front_behind_head held book before key head_text text a b c gone middle (Err fau
     subst (λ (bytes : List ℕ). TakesFront a c bytes gone fault.gone) both
     (TakesFront-append a b c head_text text [] gone middle fault.gone all front)
 
--- the texts of the keys up to one are gone out, and those of these keys are left
+-- the texts of the keys up to one are written, and those of these keys are left
 pub record IsWritten (held : List Operation) (book : List ℕ) (before : Option KeyParts) (left : List KeyParts) (a b : Option (List ℕ))
     (gone : ℕ) : Type 0 where
   pub done : List KeyParts

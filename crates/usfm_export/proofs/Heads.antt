@@ -19,7 +19,8 @@ use Rattle.usfm_ref.proofs.Members.{same_tested, tested_rising}
 use Rattle.op_core.specs.Ops.{Operation}
 use Rattle.op_core.specs.Export.{of_book, has_book, keys_in, exported_keys}
 use Rattle.op_core.specs.Lists.{keys_of}
-use Rattle.usfm_export.specs.Heads.{lacks_head, with_heads}
+use Rattle.usfm_export.specs.Loops.Heads.{lacks_head, with_heads}
+use Rattle.op_core.proofs.Exported.{any-rising}
 
 -- ---- whether a book has keys
 
@@ -60,31 +61,6 @@ pub has_key : (held : List Operation) (book : List ℕ) (ks rest : List KeyParts
     → MatchOption first ((ks ≡ []) × (rest ≡ [])) (λ k. ks ≡ k ∷ rest) → is_some first ≡ has_book held book
 has_key held book ks rest None e step = sym (has_book_is held book ∙ ap is_some_list (sym e ∙ step.0))
 has_key held book ks rest (Some k) e step = sym (has_book_is held book ∙ ap is_some_list (sym e ∙ step))
-
--- ---- what holds of a rising list holds of the list
-
-any_with_item : (f : KeyParts → Bool) (k : KeyParts) (xs : List KeyParts) → list_any f (with_item key_cmp k xs) ≡ (f k || list_any f xs)
-any_with_item f k [] = refl
-any_with_item f k (x ∷ xs) = by (any_with_item f k xs) (key_cmp k x) refl
-  where
-    twice : (a b : Bool) → (a || b) ≡ (a || (a || b))
-    twice true b = refl
-    twice false b = refl
-
-    swap : (a b c : Bool) → (a || (b || c)) ≡ (b || (a || c))
-    swap true true c = refl
-    swap true false c = refl
-    swap false b c = refl
-
-    by : list_any f (with_item key_cmp k xs) ≡ (f k || list_any f xs) → (r : Ordering) → key_cmp k x ≡ r
-        → list_any f (by_order r (k ∷ x ∷ xs) (x ∷ xs) (x ∷ with_item key_cmp k xs)) ≡ (f k || (f x || list_any f xs))
-    by rest Less e = refl
-    by rest Equal e = twice (f x) (list_any f xs) ∙ ap (λ (i : KeyParts). f i || (f x || list_any f xs)) (sym (key_exact k x e))
-    by rest Greater e = ap (λ b. f x || b) rest ∙ swap (f x) (f k) (list_any f xs)
-
-any_rising : (f : KeyParts → Bool) (ks : List KeyParts) → list_any f (rising key_cmp ks) ≡ list_any f ks
-any_rising f [] = refl
-any_rising f (k ∷ ks) = any_with_item f k (rising key_cmp ks) ∙ ap (λ b. f k || b) (any_rising f ks)
 
 -- ---- which keys there are
 
@@ -229,6 +205,6 @@ heads_are held book =
     (rises-rising key_cmp key_total (flat_map (λ key. head_of key ∷ key ∷ []) (keys_in held book))) (λ q.
     let p : KeyParts → Bool = λ k. is_eq (key_cmp q k) in
     any_heads p (keys_of held book)
-    ∙ any_rising (either p) (keys_in held book)
+    ∙ any-rising (either p) (keys_in held book)
     ∙ sym (any_paired p (keys_in held book))
     ∙ sym (tested_rising key_cmp key_total key_exact q (flat_map (λ key. head_of key ∷ key ∷ []) (keys_in held book))))

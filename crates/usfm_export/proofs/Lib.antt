@@ -1,4 +1,3 @@
-pub mod Padding
 pub mod Pieces
 pub mod Heads
 mod LineLengths

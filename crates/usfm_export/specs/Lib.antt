@@ -1,5 +1,4 @@
-pub mod Padded
 pub mod Counts
 pub mod Writing
-pub mod Heads
 pub mod Books
+pub mod Loops

@@ -1,13 +1,12 @@
 // The export of a book out of a replica.
 ghost use Rattle.std.specs.Prelude.{◌≡◌, OnOk, IfOk, IfErr};
 ghost use Rattle.std.specs.Io.KnownBytes.{Appends};
-ghost use Rattle.usfm_ref.specs.Keys.{head_of};
 ghost use Rattle.op_core.specs.Export as exports;
 ghost use Rattle.op_core.specs.Sets.{IsOpSet};
 ghost use Rattle.op_core.specs.Shown.{picked, picked_text, chapter_line};
 ghost use Rattle.usfm_export.specs.Books.{IsBookOf, AnswersBook, AnswersText, sink_failures};
 ghost use Rattle.usfm_export.specs.Counts.{failures_after};
-ghost use Rattle.usfm_export.specs.Heads.{lacks_head, with_head, texts_at};
+ghost use Rattle.usfm_export.specs.Loops.Heads.{lacks_head, with_head, texts_at};
 ghost use Rattle.usfm_export.specs.Writing.{TakesAll, TakesFront};
 
 use crate::{ByteSink, ExportFault, ShortLine, StdSink, TextFault, WriteFault, write_more};
@@ -39,13 +38,14 @@ pub fn book_text(alloc: Global, replica: &Replica, book: Book) -> Result<Vec<u8>
 /// # Errors
 /// - `NoBook` (82) exactly where the book has no operation. Nothing was written.
 /// - `WriteFailed` (90) where the sink answers an error, of whatever kind, or takes 0 bytes, with the
-///   bytes gone out: they are the front of the book of that length. No write is tried again.
+///   bytes that were written: they are the front of the book of that length. No write is tried again.
 pub fn write_book<W: ByteSink>(
     replica: &Replica,
     book: Book,
     sink: &mut W,
 ) -> Result<(), ExportFault>
-    ensures answers { AnswersBook replica.now.held book (W.taken sink.old) (W.taken sink.new) result }
+    ensures answers { AnswersBook replica.now.held book (W.taken sink.old)
+        (W.taken sink.new) result }
     ensures is_book { OnOk result
         (IsBookOf replica.now.held book (exports.export replica.now.held book)) }
     ensures failed { W.failures sink.new ≡ sink_failures result (W.failures sink.old) }
@@ -107,11 +107,11 @@ fn write_key<W: ByteSink>(
     if !lacks_head(before, key) {
         return write_picked(sink, gone, replica.pick(book, key));
     }
-    let with_head = write_picked(sink, gone, replica.pick(book, head_of(key)))?;
+    let with_head = write_picked(sink, gone, replica.pick(book, key.head()))?;
     write_picked(sink, with_head, replica.pick(book, key))
 }
 
-// Writes a picked text of a book of which `gone` bytes are gone out, and answers how many are then.
+// Writes a picked text of a book of which `gone` bytes are written, and answers how many are then.
 fn write_picked<W: ByteSink>(sink: &mut W, gone: u64, choice: Picked<'_>) -> Result<u64, WriteFault>
     ensures all { IfOk result (λ total.
         TakesAll (W.taken sink.old) (W.taken sink.new) (picked_text (picked choice.entry))
@@ -149,14 +149,4 @@ fn lacks_head(before: Option<Key>, key: Key) -> bool
         Some(before) => before.chapter != key.chapter,
     };
     first && key.place != Place::Head
-}
-
-// The head of the chapter that a key stands in.
-fn head_of(key: Key) -> Key
-    ensures { result ≡ head_of key }
-{
-    Key {
-        chapter: key.chapter,
-        place: Place::Head,
-    }
 }

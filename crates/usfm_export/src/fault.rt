@@ -10,7 +10,7 @@ pub enum ExportFault {
     /// 82: the book has no operation.
     #[error("the book has no operation")]
     NoBook,
-    /// 90: the writer failed after it had taken so many bytes.
+    /// 90: the writer failed after it had taken this many bytes.
     #[error("the writer failed after {gone} bytes")]
     WriteFailed { gone: u64 },
 }

@@ -2,6 +2,7 @@
 ghost use Rattle.std.specs.Prelude.{◌≡◌, ◌+◌, ◌<◌, ◌≤◌, [], ◌∷◌, ◌++◌, length};
 ghost use Rattle.std.specs.Fmt.{decimal};
 
+use arrayvec::ArrayString;
 use std::marker::Model;
 
 /// The most bytes of a short line. The longest reports a fault: `fault 51 `, a number of 16 digits, a
@@ -9,29 +10,17 @@ use std::marker::Model;
 pub const MOST_LINE_BYTES: usize = 59;
 
 /// A line of at most 59 bytes, in a value of fixed size. Its calls take no memory.
-#[derive(Clone, Copy, Debug, PartialEq, Eq)]
+#[derive(Debug, Drop)]
 pub struct ShortLine {
-    bytes: [u8; MOST_LINE_BYTES],
-    len: usize,
+    text: ArrayString<MOST_LINE_BYTES>,
 }
 
 impl Model for ShortLine {
-    ghost use Rattle.std.specs.Prelude.{List, ℕ, length, take};
-    ghost use Rattle.op_core.specs.Padded.{padded};
-    ghost use Rattle.usfm_export.specs.Padded.{IsPadded, length-text, padded-text};
+    ghost use Rattle.std.specs.Prelude.{List, ℕ};
 
     ghost Value = { List ℕ };
 
-    ghost view = { λ line. take line.len line.bytes };
-
-    ghost invariant = { λ line. IsPadded 59 line.bytes line.len };
-
-    ghost inverse = { λ text. record { bytes = padded 59 text; len = length text } };
-
-    ghost inverse_ok = { λ line h i. record {
-      bytes = padded-text 59 line.bytes line.len h i;
-      len = length-text 59 line.bytes line.len h i;
-    } };
+    ghost view = { λ line. line.text.bytes };
 }
 
 impl ShortLine {
@@ -40,7 +29,7 @@ impl ShortLine {
         ensures value { result.now ≡ self.now }
         ensures short { length self.now ≤ MOST_LINE_BYTES }
     {
-        &self.bytes[..self.len]
+        self.text.as_str().as_bytes()
     }
 
     /// The line without a byte.
@@ -49,8 +38,7 @@ impl ShortLine {
         ensures len { length result ≡ 0 }
     {
         ShortLine {
-            bytes: [0; MOST_LINE_BYTES],
-            len: 0,
+            text: ArrayString::new(),
         }
     }
 
@@ -60,9 +48,7 @@ impl ShortLine {
         ensures appended { self.new ≡ self.old ++ text.now }
         ensures len { length self.new ≡ length self.old + length text.now }
     {
-        for byte in text.as_bytes() {
-            self.push(*byte);
-        }
+        self.text.push_str(text);
     }
 
     /// Appends a number in decimal, without leading zeros.
@@ -77,11 +63,12 @@ impl ShortLine {
         self.push(b'0' + (number % 10) as u8);
     }
 
+    // Appends a character of ASCII.
     fn push(&mut self, byte: u8)
-        requires { length self.old < MOST_LINE_BYTES }
+        requires room { length self.old < MOST_LINE_BYTES }
+        requires ascii { byte < 128 }
         ensures { self.new ≡ self.old ++ byte ∷ [] }
     {
-        self.bytes[self.len] = byte;
-        self.len += 1;
+        self.text.push(char::from(byte));
     }
 }

@@ -3,7 +3,7 @@ ghost use Rattle.std.specs.Prelude.{◌≡◌, ◌≤◌, IfOk};
 
 use std::io;
 
-/// The answer of a reader or a writer that was given room or bytes for so many, with an error in place
+/// The answer of a reader or a writer that was given room or bytes for this many, with an error in place
 /// of a count that is greater.
 ///
 /// std's contracts rule such a count out; the test is for a reader or a writer of the system that does

@@ -8,18 +8,18 @@ ghost use Rattle.usfm_export.specs.Writing.{TakesAll, TakesFront};
 use crate::ByteSink;
 use thiserror::Error;
 
-/// The writer failed after it had taken so many bytes.
+/// The writer failed after it had taken this many bytes.
 #[derive(Clone, Copy, Debug, PartialEq, Eq, Error)]
 #[error("the writer failed after {gone} bytes")]
 pub struct WriteFault {
-    /// The bytes gone out. The count stays at `u64::MAX`.
+    /// The bytes that were written. The count stays at `u64::MAX`.
     pub gone: u64,
 }
 
 /// Writes all of the piece. It takes no memory.
 ///
 /// # Errors
-/// The bytes gone out where the sink answers an error, of whatever kind, or takes 0 bytes. No write
+/// The bytes that were written where the sink answers an error, of whatever kind, or takes 0 bytes. No write
 /// is tried again.
 pub fn write_all<W: ByteSink>(sink: &mut W, piece: &[u8]) -> Result<(), WriteFault>
     ensures all { OnOk result (Appends (W.taken sink.old) (W.taken sink.new) piece.now) }
@@ -39,14 +39,14 @@ pub fn write_all<W: ByteSink>(sink: &mut W, piece: &[u8]) -> Result<(), WriteFau
     Ok(())
 }
 
-/// Writes all of one more piece of a text of which `gone` bytes are gone out, and answers how many
-/// are gone out with it. The count stays at `u64::MAX`. It takes no memory.
+/// Writes all of one more piece of a text of which `gone` bytes are written, and answers how many
+/// are written with it. The count stays at `u64::MAX`. It takes no memory.
 ///
 /// A loop over the pieces of a text, which starts with 0 and hands the answer on, so knows at each
 /// error how much of the whole text went out.
 ///
 /// # Errors
-/// The bytes of the text gone out where the sink answers an error, of whatever kind, or takes 0
+/// The bytes of the text that were written where the sink answers an error, of whatever kind, or takes 0
 /// bytes. No write is tried again.
 pub fn write_more<W: ByteSink>(sink: &mut W, gone: u64, piece: &[u8]) -> Result<u64, WriteFault>
     ensures all { IfOk result (λ total.
@@ -66,7 +66,7 @@ pub fn write_more<W: ByteSink>(sink: &mut W, gone: u64, piece: &[u8]) -> Result<
 /// Writes pieces one after another. It takes no memory.
 ///
 /// # Errors
-/// The bytes gone out of all pieces where the sink answers an error, of whatever kind, or takes 0
+/// The bytes that were written of all pieces where the sink answers an error, of whatever kind, or takes 0
 /// bytes. No write is tried again.
 pub fn write_pieces<W: ByteSink>(sink: &mut W, pieces: &[&[u8]]) -> Result<(), WriteFault>
     ensures all { OnOk result

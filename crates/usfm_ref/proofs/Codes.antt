@@ -1,5 +1,5 @@
 -- The code of a book is text.
-use Rattle.std.proofs.Common.{◌≡◌, ◌<◌, ℕ, zero, suc, ◌&&◌, true, List, [], ◌∷◌, get_or, IsUtf8, arith}
+use Rattle.std.proofs.Common.{◌≡◌, ◌<◌, ℕ, zero, suc, ◌&&◌, true, List, [], ◌∷◌, length, refl, get_or, IsUtf8, arith}
 use Rattle.std.proofs.lemmas.Bool.{and_parts}
 use Rattle.std.proofs.lemmas.Bool.Decides.{nat_tests}
 use Rattle.std.proofs.lemmas.Str.{IsUtf8-from_ascii}
@@ -7,6 +7,14 @@ use Rattle.usfm_ref.specs.Books.{is_code_char, is_book_code}
 
 code_low : (c : ℕ) → is_code_char c ≡ true → c < 128
 code_low c h = grind (arith, nat_tests)
+
+-- a code has three bytes
+pub code_length : (code : List ℕ) → is_book_code code ≡ true → length code ≡ 3
+code_length [] h = cc
+code_length (a ∷ []) h = cc
+code_length (a ∷ b ∷ []) h = cc
+code_length (a ∷ b ∷ c ∷ []) h = refl
+code_length (a ∷ b ∷ c ∷ d ∷ rest) h = cc
 
 -- a code is ASCII, and so it is text
 pub IsUtf8-from_code : (code : List ℕ) → is_book_code code ≡ true → IsUtf8 code

@@ -29,25 +29,32 @@ module _ {K : Type 0} (cmp : K → K → Ordering) (o : IsTotalOrder cmp) (exact
   find_found q [] = refl
   find_found q (x ∷ xs) = ap (cond (is_eq (cmp q x)) (Some x)) (find_found q xs)
 
-  pub same_items : (xs ys : List K) → rises_by cmp (λ (x : K). x) xs ≡ true → rises_by cmp (λ (x : K). x) ys ≡ true → ((q : K) → found cmp o (λ (x : K). x) q xs ≡ found cmp o (λ (x : K). x) q ys) → xs ≡ ys
+  pub same_items : (xs ys : List K) → rises_by cmp (λ (x : K). x) xs ≡ true → rises_by cmp (λ (x : K). x) ys ≡ true
+      → ((q : K) → found cmp o (λ (x : K). x) q xs ≡ found cmp o (λ (x : K). x) q ys) → xs ≡ ys
   same_items xs ys hx hy is =
       sym (unpaired xs)
-      ∙ ap (map (λ (e : K × K). e.1)) (same_entries cmp o exact (paired xs) (paired ys) (subst T (sym (sorted_rises xs ∙ hx)) tt) (subst T (sym (sorted_rises ys ∙ hy)) tt) (λ q. find_found q xs ∙ is q ∙ sym (find_found q ys)))
+      ∙ ap (map (λ (e : K × K). e.1))
+      (same_entries cmp o exact (paired xs) (paired ys) (subst T (sym (sorted_rises xs ∙ hx)) tt)
+      (subst T (sym (sorted_rises ys ∙ hy)) tt) (λ q. find_found q xs ∙ is q ∙ sym (find_found q ys)))
       ∙ unpaired ys
 
   found_tested : (q : K) (xs : List K) → found cmp o (λ (x : K). x) q xs ≡ cond (list_any (λ x. is_eq (cmp q x)) xs) (Some q) None
   found_tested q [] = refl
   found_tested q (x ∷ xs) = by (found_tested q xs) (is_eq (cmp q x)) refl
     where
-      by : found cmp o (λ (x : K). x) q xs ≡ cond (list_any (λ x. is_eq (cmp q x)) xs) (Some q) None → (b : Bool) → is_eq (cmp q x) ≡ b → cond b (Some x) (found cmp o (λ (x : K). x) q xs) ≡ cond (b || list_any (λ x. is_eq (cmp q x)) xs) (Some q) None
+      by : found cmp o (λ (x : K). x) q xs ≡ cond (list_any (λ x. is_eq (cmp q x)) xs) (Some q) None → (b : Bool) → is_eq (cmp q x) ≡ b
+          → cond b (Some x) (found cmp o (λ (x : K). x) q xs) ≡ cond (b || list_any (λ x. is_eq (cmp q x)) xs) (Some q) None
       by rest true e = ap Some (sym (exact q x ((Equal-is _).0 e)))
       by rest false e = rest
 
   -- rising lists with the same items are equal
-  pub same_tested : (xs ys : List K) → rises_by cmp (λ (x : K). x) xs ≡ true → rises_by cmp (λ (x : K). x) ys ≡ true → ((q : K) → list_any (λ x. is_eq (cmp q x)) xs ≡ list_any (λ x. is_eq (cmp q x)) ys) → xs ≡ ys
-  same_tested xs ys hx hy is = same_items xs ys hx hy (λ q. found_tested q xs ∙ ap (λ b. cond b (Some q) None) (is q) ∙ sym (found_tested q ys))
+  pub same_tested : (xs ys : List K) → rises_by cmp (λ (x : K). x) xs ≡ true → rises_by cmp (λ (x : K). x) ys ≡ true
+      → ((q : K) → list_any (λ x. is_eq (cmp q x)) xs ≡ list_any (λ x. is_eq (cmp q x)) ys) → xs ≡ ys
+  same_tested xs ys hx hy is =
+      same_items xs ys hx hy (λ q. found_tested q xs ∙ ap (λ b. cond b (Some q) None) (is q) ∙ sym (found_tested q ys))
 
-  tested_with : (q k : K) (xs : List K) → list_any (λ x. is_eq (cmp q x)) (with_item cmp k xs) ≡ (is_eq (cmp q k) || list_any (λ x. is_eq (cmp q x)) xs)
+  tested_with : (q k : K) (xs : List K)
+      → list_any (λ x. is_eq (cmp q x)) (with_item cmp k xs) ≡ (is_eq (cmp q k) || list_any (λ x. is_eq (cmp q x)) xs)
   tested_with q k [] = refl
   tested_with q k (x ∷ xs) = by (tested_with q k xs) (cmp k x) refl
     where
@@ -61,10 +68,14 @@ module _ {K : Type 0} (cmp : K → K → Ordering) (o : IsTotalOrder cmp) (exact
       swap false true c = refl
       swap false false c = refl
 
-      by : list_any (λ x. is_eq (cmp q x)) (with_item cmp k xs) ≡ (is_eq (cmp q k) || list_any (λ x. is_eq (cmp q x)) xs) → (r : Ordering) → cmp k x ≡ r → list_any (λ x. is_eq (cmp q x)) (by_order r (k ∷ x ∷ xs) (x ∷ xs) (x ∷ with_item cmp k xs)) ≡ (is_eq (cmp q k) || (is_eq (cmp q x) || list_any (λ x. is_eq (cmp q x)) xs))
+      by : list_any (λ x. is_eq (cmp q x)) (with_item cmp k xs) ≡ (is_eq (cmp q k) || list_any (λ x. is_eq (cmp q x)) xs) → (r : Ordering)
+          → cmp k x ≡ r → list_any (λ x. is_eq (cmp q x)) (by_order r (k ∷ x ∷ xs) (x ∷ xs) (x ∷ with_item cmp k xs))
+          ≡ (is_eq (cmp q k) || (is_eq (cmp q x) || list_any (λ x. is_eq (cmp q x)) xs))
       by rest Less e = refl
-      by rest Equal e = twice (is_eq (cmp q x)) (list_any (λ x. is_eq (cmp q x)) xs) ∙ ap (λ (i : K). is_eq (cmp q i) || (is_eq (cmp q x) || list_any (λ x. is_eq (cmp q x)) xs)) (sym (exact k x e))
-      by rest Greater e = ap (λ b. is_eq (cmp q x) || b) rest ∙ swap (is_eq (cmp q x)) (is_eq (cmp q k)) (list_any (λ x. is_eq (cmp q x)) xs)
+      by rest Equal e = twice (is_eq (cmp q x)) (list_any (λ x. is_eq (cmp q x)) xs)
+          ∙ ap (λ (i : K). is_eq (cmp q i) || (is_eq (cmp q x) || list_any (λ x. is_eq (cmp q x)) xs)) (sym (exact k x e))
+      by rest Greater e =
+          ap (λ b. is_eq (cmp q x) || b) rest ∙ swap (is_eq (cmp q x)) (is_eq (cmp q k)) (list_any (λ x. is_eq (cmp q x)) xs)
 
   -- a list's items, rising, are its items
   pub tested_rising : (q : K) (xs : List K) → list_any (λ x. is_eq (cmp q x)) (rising cmp xs) ≡ list_any (λ x. is_eq (cmp q x)) xs

@@ -48,9 +48,12 @@ module _ {X K : Type 0} (view : X → K) (cmp : K → K → Ordering) (o : IsTot
         twice true b = refl
         twice false b = refl
 
-        by : tested q (dedup_from eq k xs) ≡ (is_eq (cmp q (view k)) || tested q xs) → tested q (dedup_from eq x xs) ≡ (is_eq (cmp q (view x)) || tested q xs) → (b : Bool) → eq x k ≡ b
-            → tested q (cond b (dedup_from eq k xs) (k ∷ dedup_from eq x xs)) ≡ (is_eq (cmp q (view k)) || (is_eq (cmp q (view x)) || tested q xs))
-        by one other true e = one ∙ twice (is_eq (cmp q (view k))) (tested q xs) ∙ ap (λ (i : K). is_eq (cmp q (view k)) || (is_eq (cmp q i) || tested q xs)) (sym (seen_same x k e))
+        by : tested q (dedup_from eq k xs) ≡ (is_eq (cmp q (view k)) || tested q xs)
+            → tested q (dedup_from eq x xs) ≡ (is_eq (cmp q (view x)) || tested q xs) → (b : Bool) → eq x k ≡ b
+            → tested q (cond b (dedup_from eq k xs) (k ∷ dedup_from eq x xs))
+            ≡ (is_eq (cmp q (view k)) || (is_eq (cmp q (view x)) || tested q xs))
+        by one other true e = one ∙ twice (is_eq (cmp q (view k))) (tested q xs)
+            ∙ ap (λ (i : K). is_eq (cmp q (view k)) || (is_eq (cmp q i) || tested q xs)) (sym (seen_same x k e))
         by one other false e = ap (λ b. is_eq (cmp q (view k)) || b) other
 
     any_dedup : (q : K) (xs : List X) → tested q (dedup eq xs) ≡ tested q xs
@@ -58,7 +61,8 @@ module _ {X K : Type 0} (view : X → K) (cmp : K → K → Ordering) (o : IsTot
     any_dedup q (x ∷ xs) = any_dedup_from q x xs
 
     -- seen, items sorted and listed once are the rising ones
-    pub sorted_once : (items sorted once : List X) → IsPermutation items sorted → IsSorted seen_cmp sorted → IsFiltered (DiffersFromLast eq) [] sorted once → map view once ≡ rising cmp (map view items)
+    pub sorted_once : (items sorted once : List X) → IsPermutation items sorted → IsSorted seen_cmp sorted
+        → IsFiltered (DiffersFromLast eq) [] sorted once → map view once ≡ rising cmp (map view items)
     sorted_once items sorted once p s f =
         ap (map view) (dedup_is eq sorted once f)
         ∙ same_tested cmp o exact (map view (dedup eq sorted)) (rising cmp (map view items))

@@ -39,7 +39,8 @@ place_as (Verse n l) Head = refl
 place_as (Verse n l) (Verse m k) = ap (ordering_then (nat_cmp n m)) (letter_as l k)
 
 verse_total : IsTotalOrder verse_cmp
-verse_total = then_total (on_total (λ (a : ℕ × Option ℕ). a.0) nat_cmp_total) (on_total (λ (a : ℕ × Option ℕ). a.1) (options_total nat_cmp_total))
+verse_total =
+    then_total (on_total (λ (a : ℕ × Option ℕ). a.0) nat_cmp_total) (on_total (λ (a : ℕ × Option ℕ). a.1) (options_total nat_cmp_total))
 
 pub place_total : IsTotalOrder place_cmp
 place_total = subst IsTotalOrder (λ i p q. sym (place_as p q) i) (on_total verse (options_total verse_total))
@@ -58,7 +59,7 @@ segment_total = then_total (on_total (λ (a : Segment). a.book) book_total) (on_
 
 -- ---- what an order does not tell apart is equal
 
-then_parts : (a b : Ordering) → ordering_then a b ≡ Equal → (a ≡ Equal) × (b ≡ Equal)
+pub then_parts : (a b : Ordering) → ordering_then a b ≡ Equal → (a ≡ Equal) × (b ≡ Equal)
 then_parts Less b h = cc
 then_parts Equal b h = (refl, h)
 then_parts Greater b h = cc
@@ -73,7 +74,8 @@ pub place_exact : (p q : Place) → place_cmp p q ≡ Equal → p ≡ q
 place_exact Head Head h = refl
 place_exact Head (Verse n l) h = cc
 place_exact (Verse n l) Head h = cc
-place_exact (Verse n l) (Verse m k) h = let p = then_parts (nat_cmp n m) (letter_cmp l k) h in λ i. Verse (nat_cmp-IsAntisymmetric n m p.0 i) (letter_exact l k p.1 i)
+place_exact (Verse n l) (Verse m k) h =
+    let p = then_parts (nat_cmp n m) (letter_cmp l k) h in λ i. Verse (nat_cmp-IsAntisymmetric n m p.0 i) (letter_exact l k p.1 i)
 
 pub key_exact : (a b : KeyParts) → key_cmp a b ≡ Equal → a ≡ b
 key_exact a b h =
@@ -110,7 +112,8 @@ pub same_place-is : (a b : Place) → same_place a b ≡ true → a ≡ b
 same_place-is Head Head h = refl
 same_place-is Head (Verse n l) h = cc
 same_place-is (Verse n l) Head h = cc
-same_place-is (Verse n l) (Verse m k) h = let p = and_parts (eqb n m) (same_letter l k) h in λ i. Verse (eqb-true n m p.0 i) (same_letter-is l k p.1 i)
+same_place-is (Verse n l) (Verse m k) h =
+    let p = and_parts (eqb n m) (same_letter l k) h in λ i. Verse (eqb-true n m p.0 i) (same_letter-is l k p.1 i)
 
 pub same_place-refl : (a : Place) → same_place a a ≡ true
 same_place-refl Head = refl

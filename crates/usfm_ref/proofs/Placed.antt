@@ -4,7 +4,7 @@ use Rattle.std.specs.declared.cmp.Ordering.{Ordering}
 use Rattle.std.specs.declared.cmp.Ordering.TheVariants.{Less, Equal, Greater}
 use Rattle.std.specs.Ordering.{is_eq, is_lt}
 use Rattle.std.specs.List.{position_or_len, insert, remove, filter, AllByRecursion}
-use Rattle.std.specs.List.Sorted.{IsPartitionedBy}
+use Rattle.std.specs.List.Sorted.{IsPartitionedBy, IsPartitionPoint}
 use Rattle.std.specs.Cmp.{IsTotalOrder, tied_itself}
 use Rattle.std.specs.FinMap.Entries.{by_order}
 use Rattle.std.proofs.lemmas.Bool.{and_from, cond-true, cond-false, true≢false, false≢true}
@@ -28,9 +28,11 @@ not_true true h = sym (h refl)
 not_true false h = refl
 
 pub narrowed_all : {X : Type 0} (p : X → Bool) (xs : List X) → IsNarrowed p xs 0 (length xs)
-narrowed_all p xs = record { ordered = omega arith; within = omega arith; below = λ k d l. absurd (omega arith); above = λ k d l m. absurd (omega arith) }
+narrowed_all p xs =
+    record { ordered = omega arith; within = omega arith; below = λ k d l. absurd (omega arith); above = λ k d l m. absurd (omega arith) }
 
-pub narrowed_low : {X : Type 0} (p : X → Bool) (xs : List X) (low high middle : ℕ) (x : X) → IsPartitionedBy p xs → IsNarrowed p xs low high → middle < high → x ≡ get_or xs middle x → p x ≡ true → IsNarrowed p xs (middle + 1) high
+pub narrowed_low : {X : Type 0} (p : X → Bool) (xs : List X) (low high middle : ℕ) (x : X) → IsPartitionedBy p xs
+    → IsNarrowed p xs low high → middle < high → x ≡ get_or xs middle x → p x ≡ true → IsNarrowed p xs (middle + 1) high
 narrowed_low p xs low high middle x parted h l hx hp =
     let w = h.within in
     let o = h.ordered in
@@ -41,21 +43,25 @@ narrowed_low p xs low high middle x parted h l hx hp =
       above = h.above;
     }
 
-pub narrowed_high : {X : Type 0} (p : X → Bool) (xs : List X) (low high middle : ℕ) (x : X) → IsPartitionedBy p xs → IsNarrowed p xs low high → low ≤ middle → middle < high → x ≡ get_or xs middle x → p x ≡ false → IsNarrowed p xs low middle
+pub narrowed_high : {X : Type 0} (p : X → Bool) (xs : List X) (low high middle : ℕ) (x : X) → IsPartitionedBy p xs
+    → IsNarrowed p xs low high → low ≤ middle → middle < high → x ≡ get_or xs middle x → p x ≡ false → IsNarrowed p xs low middle
 narrowed_high p xs low high middle x parted h g l hx hp =
     let w = h.within in
     record {
       ordered = g;
       within = omega arith;
       below = h.below;
-      above = λ k d m n. not_true (p (get_or xs k d)) (λ e. sym (ap p (sym (hx ∙ get_or_default xs middle x d (omega arith))) ∙ hp) ∙ parted middle k d m n e);
+      above = λ k d m n. not_true (p (get_or xs k d))
+          (λ e. sym (ap p (sym (hx ∙ get_or_default xs middle x d (omega arith))) ∙ hp) ∙ parted middle k d m n e);
     }
 
-pub narrowed_end : {X : Type 0} (p : X → Bool) (xs : List X) (low high : ℕ) (d : X) → IsNarrowed p xs low high → high ≤ low → low ≡ position_or_len (λ x. not (p x)) xs
+pub narrowed_end : {X : Type 0} (p : X → Bool) (xs : List X) (low high : ℕ) (d : X) → IsNarrowed p xs low high → high ≤ low
+    → low ≡ position_or_len (λ x. not (p x)) xs
 narrowed_end p xs low high d h l =
     let w = h.within in
     let o = h.ordered in
-    sym (position_or_len_is (λ x. not (p x)) xs low d (omega arith) (λ k m. ap not (h.below k d m)) (λ m. ap not (h.above low d (omega arith) m)))
+    sym (position_or_len_is (λ x. not (p x)) xs low d (omega arith) (λ k m. ap not (h.below k d m))
+    (λ m. ap not (h.above low d (omega arith) m)))
 
 pub narrowed_none : {X : Type 0} (p : X → Bool) (low high : ℕ) → IsNarrowed p [] low high → low ≡ 0
 narrowed_none p low high h =
@@ -63,9 +69,18 @@ narrowed_none p low high h =
     let o = h.ordered in
     omega arith
 
-pub narrowed_place : {X : Type 0} (p : X → Bool) (xs : List X) (low high : ℕ) → IsNarrowed p xs low high → high ≤ low → low ≡ position_or_len (λ x. not (p x)) xs
+pub narrowed_place : {X : Type 0} (p : X → Bool) (xs : List X) (low high : ℕ) → IsNarrowed p xs low high → high ≤ low
+    → low ≡ position_or_len (λ x. not (p x)) xs
 narrowed_place p [] low high h l = narrowed_none p low high h
 narrowed_place p (x ∷ xs) low high h l = narrowed_end p (x ∷ xs) low high x h l
+
+-- where a list is parted by a test, there the test fails for the first time
+pub partition_place : {X : Type 0} (p : X → Bool) (xs : List X) (n : ℕ) → n ≤ length xs
+    → IsPartitionPoint (λ x. p x ≡ true) (λ x. p x ≡ false) xs n → n ≡ position_or_len (λ x. not (p x)) xs
+partition_place p [] n l h = omega (arith, l)
+partition_place p (x ∷ xs) n l h =
+    sym (position_or_len_is (λ x. not (p x)) (x ∷ xs) n x l (λ k m. ap not (h.0 k x (omega arith) m))
+    (λ m. ap not (h.1 n x (omega arith) m)))
 
 -- ---- lists that rise by a key
 
@@ -111,19 +126,22 @@ module _ {K X : Type 0} (R : K → K → Ordering) (o : IsTotalOrder R) (key : X
   rises_placed y [] h = refl
   rises_placed y (x ∷ xs) h =
       let p = sorted.parts R o key x xs h in
-      elim (R (key y) (key x)) as (λ r. R (key y) (key x) ≡ r → rises_by R key (by_order r (y ∷ x ∷ xs) (y ∷ xs) (x ∷ placed R key y xs)) ≡ true) [
+      elim (R (key y) (key x)) as
+      (λ r. R (key y) (key x) ≡ r → rises_by R key (by_order r (y ∷ x ∷ xs) (y ∷ xs) (x ∷ placed R key y xs)) ≡ true) [
         | Less ↦ λ e. and_from _ _ (and_from _ _ (ap is_lt e) (sorted.above_trans R o key (key y) (key x) xs e p.0)) h
         | Equal ↦ λ e. and_from _ _ (tied_above (key y) (key x) xs e p.0) p.1
-        | Greater ↦ λ e. and_from _ _ (above_placed (key x) y xs (ap is_lt (sorted.back R o key (key y) (key x) Greater e)) p.0) (rises_placed y xs p.1)
+        | Greater ↦ λ e. and_from _ _ (above_placed (key x) y xs (ap is_lt (sorted.back R o key (key y) (key x) Greater e)) p.0)
+            (rises_placed y xs p.1)
       ] refl
 
   pub all_placed : (P : X → Type 0) (y : X) (xs : List X) → P y → AllByRecursion P xs → AllByRecursion P (placed R key y xs)
   all_placed P y [] p h = (p, tt)
-  all_placed P y (x ∷ xs) p h = elim (R (key y) (key x)) as (λ r. AllByRecursion P (by_order r (y ∷ x ∷ xs) (y ∷ xs) (x ∷ placed R key y xs))) [
-    | Less ↦ (p, h)
-    | Equal ↦ (p, h.1)
-    | Greater ↦ (h.0, all_placed P y xs p h.1)
-  ]
+  all_placed P y (x ∷ xs) p h = elim (R (key y) (key x)) as
+      (λ r. AllByRecursion P (by_order r (y ∷ x ∷ xs) (y ∷ xs) (x ∷ placed R key y xs))) [
+        | Less ↦ (p, h)
+        | Equal ↦ (p, h.1)
+        | Greater ↦ (h.0, all_placed P y xs p h.1)
+      ]
 
   -- two keys that do not tie are not both tied to a third
   apart : (q a b : K) (r : Ordering) → R a b ≡ r → is_eq r ≡ false → is_eq (R q a) ≡ true → is_eq (R q b) ≡ false
@@ -134,45 +152,62 @@ module _ {K X : Type 0} (R : K → K → Ordering) (o : IsTotalOrder R) (key : X
   pub found_placed : (q : K) (y : X) (xs : List X) → found q (placed R key y xs) ≡ cond (is_eq (R q (key y))) (Some y) (found q xs)
   found_placed q y [] = refl
   found_placed q y (x ∷ xs) =
-      elim (R (key y) (key x)) as (λ r. R (key y) (key x) ≡ r → found q (by_order r (y ∷ x ∷ xs) (y ∷ xs) (x ∷ placed R key y xs)) ≡ cond (is_eq (R q (key y))) (Some y) (found q (x ∷ xs))) [
+      elim (R (key y) (key x)) as
+      (λ r. R (key y) (key x) ≡ r
+      → found q (by_order r (y ∷ x ∷ xs) (y ∷ xs) (x ∷ placed R key y xs)) ≡ cond (is_eq (R q (key y))) (Some y) (found q (x ∷ xs))) [
         | Less ↦ λ e. refl
-        | Equal ↦ λ e. tied (is_eq (R q (key y))) (is_eq (R q (key x))) (λ t. sym (ap is_eq (o.congr q (key y) (key x) (is_equal _ t) ∙ e))) (λ t. ap is_eq (o.congr q (key x) (key y) (is_equal _ t) ∙ sorted.back R o key (key y) (key x) Equal e))
-        | Greater ↦ λ e. ap (cond (is_eq (R q (key x))) (Some x)) (found_placed q y xs) ∙ later (is_eq (R q (key x))) (is_eq (R q (key y))) (λ t. apart q (key x) (key y) Less (sorted.back R o key (key y) (key x) Greater e) refl t)
+        | Equal ↦ λ e. tied (is_eq (R q (key y))) (is_eq (R q (key x)))
+            (λ t. sym (ap is_eq (o.congr q (key y) (key x) (is_equal _ t) ∙ e)))
+            (λ t. ap is_eq (o.congr q (key x) (key y) (is_equal _ t) ∙ sorted.back R o key (key y) (key x) Equal e))
+        | Greater ↦ λ e. ap (cond (is_eq (R q (key x))) (Some x)) (found_placed q y xs)
+            ∙ later (is_eq (R q (key x))) (is_eq (R q (key y)))
+            (λ t. apart q (key x) (key y) Less (sorted.back R o key (key y) (key x) Greater e) refl t)
       ] refl
     where
-      tied : (b c : Bool) → (b ≡ true → true ≡ c) → (c ≡ true → b ≡ true) → cond b (Some y) (found q xs) ≡ cond b (Some y) (cond c (Some x) (found q xs))
+      tied : (b c : Bool) → (b ≡ true → true ≡ c) → (c ≡ true → b ≡ true)
+          → cond b (Some y) (found q xs) ≡ cond b (Some y) (cond c (Some x) (found q xs))
       tied true c f g = refl
       tied false true f g = absurd (false≢true (g refl))
       tied false false f g = refl
 
-      later : (c b : Bool) → (c ≡ true → b ≡ false) → cond c (Some x) (cond b (Some y) (found q xs)) ≡ cond b (Some y) (cond c (Some x) (found q xs))
+      later : (c b : Bool) → (c ≡ true → b ≡ false)
+          → cond c (Some x) (cond b (Some y) (found q xs)) ≡ cond b (Some y) (cond c (Some x) (found q xs))
       later true b f = rw (f refl) refl
       later false b f = refl
 
   pub placed_insert : (y : X) (xs : List X) (n : ℕ) → n ≡ place (key y) xs → found (key y) xs ≡ None → insert xs n y ≡ placed R key y xs
   placed_insert y [] n e g = rw e refl
   placed_insert y (x ∷ xs) n e g =
-      elim (R (key y) (key x)) as (λ r. R (key y) (key x) ≡ r → insert (x ∷ xs) n y ≡ by_order r (y ∷ x ∷ xs) (y ∷ xs) (x ∷ placed R key y xs)) [
-        | Less ↦ λ c. ap (λ k. insert (x ∷ xs) k y) (e ∙ sorted.place_here R o key (key y) x xs (ap is_lt (sorted.back R o key (key y) (key x) Less c)))
+      elim (R (key y) (key x)) as
+      (λ r. R (key y) (key x) ≡ r → insert (x ∷ xs) n y ≡ by_order r (y ∷ x ∷ xs) (y ∷ xs) (x ∷ placed R key y xs)) [
+        | Less ↦ λ c. ap (λ k. insert (x ∷ xs) k y)
+            (e ∙ sorted.place_here R o key (key y) x xs (ap is_lt (sorted.back R o key (key y) (key x) Less c)))
         | Equal ↦ λ c. cc (sym (cond-true _ (Some x) (found (key y) xs) (ap is_eq c)) ∙ g)
         | Greater ↦ λ c.
-            ap (λ k. insert (x ∷ xs) k y) (e ∙ sorted.place_later R o key (key y) x xs (ap is_lt (sorted.back R o key (key y) (key x) Greater c)))
-            ∙ ap (λ zs. x ∷ zs) (placed_insert y xs (place (key y) xs) refl (sym (cond-false _ (Some x) (found (key y) xs) (ap is_eq c)) ∙ g))
+            ap (λ k. insert (x ∷ xs) k y)
+            (e ∙ sorted.place_later R o key (key y) x xs (ap is_lt (sorted.back R o key (key y) (key x) Greater c)))
+            ∙ ap (λ zs. x ∷ zs) (placed_insert y xs (place (key y) xs) refl
+            (sym (cond-false _ (Some x) (found (key y) xs) (ap is_eq c)) ∙ g))
       ] refl
 
-  pub placed_set : (y : X) (xs : List X) (n : ℕ) (x : X) → rises_by R key xs ≡ true → n ≡ place (key y) xs → n < length xs → x ≡ get_or xs n x → is_eq (R (key y) (key x)) ≡ true → set xs n y ≡ placed R key y xs
+  pub placed_set : (y : X) (xs : List X) (n : ℕ) (x : X) → rises_by R key xs ≡ true → n ≡ place (key y) xs → n < length xs
+      → x ≡ get_or xs n x → is_eq (R (key y) (key x)) ≡ true → set xs n y ≡ placed R key y xs
   placed_set y [] n x h e l hx t = absurd (omega arith)
   placed_set y (z ∷ zs) n x h e l hx t =
-      elim (R (key y) (key z)) as (λ r. R (key y) (key z) ≡ r → set (z ∷ zs) n y ≡ by_order r (y ∷ z ∷ zs) (y ∷ zs) (z ∷ placed R key y zs)) [
+      elim (R (key y) (key z)) as
+      (λ r. R (key y) (key z) ≡ r → set (z ∷ zs) n y ≡ by_order r (y ∷ z ∷ zs) (y ∷ zs) (z ∷ placed R key y zs)) [
         | Less ↦ λ c.
             let m : n ≡ 0 = e ∙ sorted.place_here R o key (key y) z zs (ap is_lt (sorted.back R o key (key y) (key z) Less c)) in
             let same : x ≡ z = hx ∙ ap (λ k. get_or (z ∷ zs) k x) m in
             absurd (true≢false (sym t ∙ ap (λ (w : X). is_eq (R (key y) (key w))) same ∙ ap is_eq c))
-        | Equal ↦ λ c. ap (λ k. set (z ∷ zs) k y) (e ∙ sorted.place_here R o key (key y) z zs (ap is_lt (sorted.back R o key (key y) (key z) Equal c)))
+        | Equal ↦ λ c. ap (λ k. set (z ∷ zs) k y)
+            (e ∙ sorted.place_here R o key (key y) z zs (ap is_lt (sorted.back R o key (key y) (key z) Equal c)))
         | Greater ↦ λ c.
-            let m : n ≡ suc (place (key y) zs) = e ∙ sorted.place_later R o key (key y) z zs (ap is_lt (sorted.back R o key (key y) (key z) Greater c)) in
+            let m : n ≡ suc (place (key y) zs) = e
+            ∙ sorted.place_later R o key (key y) z zs (ap is_lt (sorted.back R o key (key y) (key z) Greater c)) in
             ap (λ k. set (z ∷ zs) k y) m
-            ∙ ap (λ ws. z ∷ ws) (placed_set y zs (place (key y) zs) x (sorted.parts R o key z zs h).1 refl (omega (arith, m)) (hx ∙ ap (λ k. get_or (z ∷ zs) k x) m) t)
+            ∙ ap (λ ws. z ∷ ws) (placed_set y zs (place (key y) zs) x (sorted.parts R o key z zs h).1 refl (omega (arith, m))
+            (hx ∙ ap (λ k. get_or (z ∷ zs) k x) m) t)
       ] refl
 
   -- ---- an item taken out
@@ -190,26 +225,33 @@ module _ {K X : Type 0} (R : K → K → Ordering) (o : IsTotalOrder R) (key : X
   others_none q [] h = refl
   others_none q (x ∷ xs) h = by (others_none q xs) (is_eq (R q (key x))) refl h
     where
-      by : (found q xs ≡ None → xs ≡ others q xs) → (b : Bool) → is_eq (R q (key x)) ≡ b → cond b (Some x) (found q xs) ≡ None → x ∷ xs ≡ others q (x ∷ xs)
+      by : (found q xs ≡ None → xs ≡ others q xs) → (b : Bool) → is_eq (R q (key x)) ≡ b → cond b (Some x) (found q xs) ≡ None
+          → x ∷ xs ≡ others q (x ∷ xs)
       by rest true e h = cc h
       by rest false e h = sym (cond-true _ _ _ (ap not e) ∙ ap (λ zs. x ∷ zs) (sym (rest h)))
 
-  pub others_at : (q : K) (xs : List X) (n : ℕ) (x : X) → rises_by R key xs ≡ true → n ≡ place q xs → n < length xs → x ≡ get_or xs n x → is_eq (R q (key x)) ≡ true → remove xs n ≡ others q xs
+  pub others_at : (q : K) (xs : List X) (n : ℕ) (x : X) → rises_by R key xs ≡ true → n ≡ place q xs → n < length xs → x ≡ get_or xs n x
+      → is_eq (R q (key x)) ≡ true → remove xs n ≡ others q xs
   others_at q [] n x h e l hx t = absurd (omega arith)
-  others_at q (z ∷ zs) n x h e l hx t = by (λ m at. others_at q zs (place q zs) x (sorted.parts R o key z zs h).1 refl m at t) (R q (key z)) refl
+  others_at q (z ∷ zs) n x h e l hx t =
+      by (λ m at. others_at q zs (place q zs) x (sorted.parts R o key z zs h).1 refl m at t) (R q (key z)) refl
     where
-      by : (place q zs < length zs → x ≡ get_or zs (place q zs) x → remove zs (place q zs) ≡ others q zs) → (r : Ordering) → R q (key z) ≡ r → remove (z ∷ zs) n ≡ others q (z ∷ zs)
+      by : (place q zs < length zs → x ≡ get_or zs (place q zs) x → remove zs (place q zs) ≡ others q zs) → (r : Ordering)
+          → R q (key z) ≡ r → remove (z ∷ zs) n ≡ others q (z ∷ zs)
       by rest Less c =
           let m : n ≡ 0 = e ∙ sorted.place_here R o key q z zs (ap is_lt (sorted.back R o key q (key z) Less c)) in
           let same : x ≡ z = hx ∙ ap (λ k. get_or (z ∷ zs) k x) m in
           absurd (true≢false (sym t ∙ ap (λ (w : X). is_eq (R q (key w))) same ∙ ap is_eq c))
       by rest Equal c =
           let m : n ≡ 0 = e ∙ sorted.place_here R o key q z zs (ap is_lt (sorted.back R o key q (key z) Equal c)) in
-          ap (remove (z ∷ zs)) m ∙ sym (cond-false _ _ _ (ap (λ c. not (is_eq c)) c) ∙ above_others q zs (tied_above q (key z) zs c (sorted.parts R o key z zs h).0))
+          ap (remove (z ∷ zs)) m ∙ sym
+          (cond-false _ _ _ (ap (λ c. not (is_eq c)) c) ∙ above_others q zs (tied_above q (key z) zs c (sorted.parts R o key z zs h).0))
       by rest Greater c =
           let m : n ≡ suc (place q zs) = e ∙ sorted.place_later R o key q z zs (ap is_lt (sorted.back R o key q (key z) Greater c)) in
-          ap (remove (z ∷ zs)) m ∙ ap (λ ws. z ∷ ws) (rest (omega (arith, m)) (hx ∙ ap (λ k. get_or (z ∷ zs) k x) m)) ∙ sym (cond-true _ _ _ (ap (λ c. not (is_eq c)) c))
+          ap (remove (z ∷ zs)) m ∙ ap (λ ws. z ∷ ws) (rest (omega (arith, m)) (hx ∙ ap (λ k. get_or (z ∷ zs) k x) m))
+          ∙ sym (cond-true _ _ _ (ap (λ c. not (is_eq c)) c))
 
   -- an item that is equal to the one at its key's place changes nothing
-  pub placed_same : (y : X) (xs : List X) (n : ℕ) → rises_by R key xs ≡ true → n ≡ place (key y) xs → n < length xs → y ≡ get_or xs n y → xs ≡ placed R key y xs
+  pub placed_same : (y : X) (xs : List X) (n : ℕ) → rises_by R key xs ≡ true → n ≡ place (key y) xs → n < length xs → y ≡ get_or xs n y
+      → xs ≡ placed R key y xs
   placed_same y xs n h e l hy = set_same xs n y hy ∙ placed_set y xs n y h e l hy (ap is_eq (tied_itself o (key y)))

@@ -17,10 +17,12 @@ use Rattle.usfm_ref.proofs.Spellings.{number_of-le}
 
 -- ---- ranges
 
-pub number_small : (bytes : List ℕ) (number : ℕ) (letter : Option ℕ) (rest : List ℕ) → StartsWithNumber bytes number letter rest → number ≤ 999
+pub number_small : (bytes : List ℕ) (number : ℕ) (letter : Option ℕ) (rest : List ℕ) → StartsWithNumber bytes number letter rest
+    → number ≤ 999
 number_small bytes number letter rest h = let small = number_of-le h.digits h.are_digits in omega (arith, h.number_is, small)
 
-pub number_is_verse : (bytes : List ℕ) (verse : ℕ × Option ℕ) (rest : List ℕ) → StartsWithNumber bytes verse.0 verse.1 rest → is_verse verse ≡ true
+pub number_is_verse : (bytes : List ℕ) (verse : ℕ × Option ℕ) (rest : List ℕ) → StartsWithNumber bytes verse.0 verse.1 rest
+    → is_verse verse ≡ true
 number_is_verse bytes verse rest h = and_from _ _ (le-leb verse.0 999 (number_small bytes verse.0 verse.1 rest h)) h.is_letter
 
 pub chapter_small : (text : List ℕ) (r : Option ℕ) → r ≡ chapter_in text → IfSome r (λ n. n ≤ 999)
@@ -69,13 +71,15 @@ letter_ascii : (letter : Option ℕ) → is_letter letter ≡ true → IsAscii (
 letter_ascii None h = IsAscii-nil
 letter_ascii (Some c) h = IsAscii-cons c [] (letter_below c h) IsAscii-nil
 
-number_before : (bytes : List ℕ) (number : ℕ) (letter : Option ℕ) (rest : List ℕ) → StartsWithNumber bytes number letter rest → IsAsciiBefore bytes rest
+number_before : (bytes : List ℕ) (number : ℕ) (letter : Option ℕ) (rest : List ℕ) → StartsWithNumber bytes number letter rest
+    → IsAsciiBefore bytes rest
 number_before bytes number letter rest h = record {
   front = h.digits ++ option_to_list letter;
   text_is = h.bytes_are ∙ sym (append_assoc h.digits (option_to_list letter) rest);
   ascii =
       IsAscii-append h.digits (option_to_list letter)
-      (all_ascii is_ascii_digit digit_ascii h.digits (and_parts (nat_le 1 (length h.digits) && nat_le (length h.digits) 3) (list_all is_ascii_digit h.digits) h.are_digits).1)
+      (all_ascii is_ascii_digit digit_ascii h.digits
+      (and_parts (nat_le 1 (length h.digits) && nat_le (length h.digits) 3) (list_all is_ascii_digit h.digits) h.are_digits).1)
       (letter_ascii letter h.is_letter);
 }
 
@@ -96,13 +100,16 @@ blanks_before text bytes blanks e h = record {
 pub read_is_ascii : (text : List ℕ) (mark : VerseMark) (h : ReadsVerse text mark) → IsAsciiBefore text h.rest
 read_is_ascii text mark h =
     before_both text h.bytes h.rest (blanks_before text h.bytes h.blanks h.text_is h.are_blanks)
-    (before_both h.bytes h.behind h.rest (number_before h.bytes mark.number mark.letter h.behind h.number_is) (bridge_before h.behind mark.last h.rest h.last_is))
+    (before_both h.bytes h.behind h.rest (number_before h.bytes mark.number mark.letter h.behind h.number_is)
+    (bridge_before h.behind mark.last h.rest h.last_is))
 
 -- a text may be cut after what is read
 pub read_ends_between : (text : List ℕ) (mark : VerseMark) → IsUtf8 text → ReadsVerse text mark → IsCharBoundary text mark.length
 read_ends_between text mark utf8 h =
     let before = read_is_ascii text mark h in
-    let long : length before.front ≡ mark.length = omega (arith, h.length_is, ap length before.text_is, length-append before.front h.rest) in
+    let long : length before.front
+    ≡ mark.length = omega (arith, h.length_is, ap length before.text_is, length-append before.front h.rest) in
     let within : mark.length ≤ length text = omega (arith, h.length_is) in
-    let front : take mark.length text ≡ before.front = ap (take mark.length) before.text_is ∙ take_at before.front h.rest mark.length long in
+    let front : take mark.length text ≡ before.front = ap (take mark.length) before.text_is
+    ∙ take_at before.front h.rest mark.length long in
     IsCharBoundary-from_take text mark.length utf8 within (rw front (IsUtf8-from_ascii before.front before.ascii))

@@ -24,7 +24,8 @@ pub record IsRun (bytes : List ℕ) (number : ℕ) (rest : List ℕ) : Type 0 wh
   pub number_is : number ≡ number_of digits
   pub stops : stops is_ascii_digit rest ≡ true
 
-pub number_at-run : (digits rest : List ℕ) → are_digits digits ≡ true → stops is_ascii_digit rest ≡ true → number_at (digits ++ rest) ≡ Some (number_of digits, rest)
+pub number_at-run : (digits rest : List ℕ) → are_digits digits ≡ true → stops is_ascii_digit rest ≡ true
+    → number_at (digits ++ rest) ≡ Some (number_of digits, rest)
 unfolding number_at
 number_at-run digits rest h s =
     let parts = and_parts (nat_le 1 (length digits) && nat_le (length digits) 3) (list_all is_ascii_digit digits) h in
@@ -51,7 +52,8 @@ stops_at_end : (rest : List ℕ) → ends_number rest ≡ true → stops is_asci
 stops_at_end [] h = refl
 stops_at_end (b ∷ rest) h = grind (arith, nat_tests)
 
-stops_at_letter : (letter : Option ℕ) (rest : List ℕ) → is_letter letter ≡ true → ends_number rest ≡ true → stops is_ascii_digit (option_to_list letter ++ rest) ≡ true
+stops_at_letter : (letter : Option ℕ) (rest : List ℕ) → is_letter letter ≡ true → ends_number rest ≡ true
+    → stops is_ascii_digit (option_to_list letter ++ rest) ≡ true
 stops_at_letter None rest l h = stops_at_end rest h
 stops_at_letter (Some c) rest l h = grind (arith, nat_tests)
 
@@ -61,7 +63,8 @@ ended-of value rest h = rw h refl
 not_lower : (b : ℕ) → not (is_ascii_alphanumeric b) ≡ true → is_ascii_lowercase b ≡ false
 not_lower b h = grind (arith, nat_tests)
 
-lettered-of : (number : ℕ) (letter : Option ℕ) (rest : List ℕ) → is_letter letter ≡ true → ends_number rest ≡ true → lettered number (option_to_list letter ++ rest) ≡ Some ((number, letter), rest)
+lettered-of : (number : ℕ) (letter : Option ℕ) (rest : List ℕ) → is_letter letter ≡ true → ends_number rest ≡ true
+    → lettered number (option_to_list letter ++ rest) ≡ Some ((number, letter), rest)
 lettered-of number None [] l h = refl
 lettered-of number None (b ∷ rest) l h = rw (h, not_lower b h) refl
 lettered-of number (Some c) rest l h = rw (l, h) refl
@@ -73,13 +76,15 @@ pub record IsLettered (number : ℕ) (bytes : List ℕ) (verse : ℕ × Option �
   pub is_letter : is_letter verse.1 ≡ true
   pub ends : ends_number rest ≡ true
 
-ended-some : {T : Type 0} (value : T) (rest : List ℕ) (r : T × List ℕ) → ended value rest ≡ Some r → (ends_number rest ≡ true) × (value ≡ r.0) × (rest ≡ r.1)
+ended-some : {T : Type 0} (value : T) (rest : List ℕ) (r : T × List ℕ) → ended value rest ≡ Some r
+    → (ends_number rest ≡ true) × (value ≡ r.0) × (rest ≡ r.1)
 ended-some {T} value rest r h =
     let found = cond_some (ends_number rest) (value, rest) r h in
     (found.0, ap (λ (p : T × List ℕ). p.0) found.1, ap (λ (p : T × List ℕ). p.1) found.1)
 
 -- a verse that ends after its letter or none
-lettered_is : (number : ℕ) (letter : Option ℕ) (rest : List ℕ) (v : (ℕ × Option ℕ) × List ℕ) → is_letter letter ≡ true → ended (number, letter) rest ≡ Some v → IsLettered number (option_to_list letter ++ rest) v.0 v.1
+lettered_is : (number : ℕ) (letter : Option ℕ) (rest : List ℕ) (v : (ℕ × Option ℕ) × List ℕ) → is_letter letter ≡ true
+    → ended (number, letter) rest ≡ Some v → IsLettered number (option_to_list letter ++ rest) v.0 v.1
 lettered_is number letter rest v l h =
     let found = ended-some (number, letter) rest v h in
     record {
@@ -89,17 +94,20 @@ lettered_is number letter rest v l h =
       ends = rw (← found.2) found.0;
     }
 
-lettered-some : (number : ℕ) (bytes : List ℕ) (v : (ℕ × Option ℕ) × List ℕ) → lettered number bytes ≡ Some v → IsLettered number bytes v.0 v.1
+lettered-some : (number : ℕ) (bytes : List ℕ) (v : (ℕ × Option ℕ) × List ℕ) → lettered number bytes ≡ Some v
+    → IsLettered number bytes v.0 v.1
 lettered-some number [] v h = lettered_is number None [] v refl h
 lettered-some number (b ∷ rest) v h = by_letter (is_ascii_lowercase b) refl h
   where
-    by_letter : (l : Bool) → is_ascii_lowercase b ≡ l → cond l (ended (number, Some b) rest) (ended (number, None) (b ∷ rest)) ≡ Some v → IsLettered number (b ∷ rest) v.0 v.1
+    by_letter : (l : Bool) → is_ascii_lowercase b ≡ l → cond l (ended (number, Some b) rest) (ended (number, None) (b ∷ rest)) ≡ Some v
+        → IsLettered number (b ∷ rest) v.0 v.1
     by_letter true e h = lettered_is number (Some b) rest v e h
     by_letter false e h = lettered_is number None (b ∷ rest) v refl h
 
 -- ---- the numbers of chapters and verses
 
-pub verse_at-of : (bytes : List ℕ) (v : ℕ × Option ℕ) (rest : List ℕ) → StartsWithNumber bytes v.0 v.1 rest → verse_at bytes ≡ Some (v, rest)
+pub verse_at-of : (bytes : List ℕ) (v : ℕ × Option ℕ) (rest : List ℕ) → StartsWithNumber bytes v.0 v.1 rest
+    → verse_at bytes ≡ Some (v, rest)
 unfolding verse_at
 verse_at-of bytes v rest h =
     let run = number_at-run h.digits (option_to_list v.1 ++ rest) h.are_digits (stops_at_letter v.1 rest h.is_letter h.ends) in
@@ -147,7 +155,8 @@ chapter_at-some bytes r h = option_and_then_some (λ (n : ℕ × List ℕ). ende
 
 -- ---- bridges
 
-pub bridge_at-of : (bytes : List ℕ) (last : ℕ × Option ℕ) (rest : List ℕ) → StartsWithBridge bytes last rest → bridge_at bytes ≡ Some (last, rest)
+pub bridge_at-of : (bytes : List ℕ) (last : ℕ × Option ℕ) (rest : List ℕ) → StartsWithBridge bytes last rest
+    → bridge_at bytes ≡ Some (last, rest)
 unfolding bridge_at
 bridge_at-of bytes last rest h = rw h.bytes_are (verse_at-of h.behind last rest h.last_is)
 
@@ -171,17 +180,19 @@ digits_are_no_blanks (d ∷ ds) rest h =
     let all = (and_parts (nat_le 1 (length (d ∷ ds)) && nat_le (length (d ∷ ds)) 3) (list_all is_ascii_digit (d ∷ ds)) h).1 in
     rw (first_is_no_blank d (and_parts (is_ascii_digit d) (list_all is_ascii_digit ds) all).0) refl
 
-number_is_no_blank : (bytes : List ℕ) (n : ℕ) (letter : Option ℕ) (rest : List ℕ) → StartsWithNumber bytes n letter rest → stops is_blank bytes ≡ true
+number_is_no_blank : (bytes : List ℕ) (n : ℕ) (letter : Option ℕ) (rest : List ℕ) → StartsWithNumber bytes n letter rest
+    → stops is_blank bytes ≡ true
 number_is_no_blank bytes n letter rest h = rw h.bytes_are (digits_are_no_blanks h.digits (option_to_list letter ++ rest) h.are_digits)
 
-pub blanks_at-run : (blanks bytes : List ℕ) → are_blanks blanks ≡ true → stops is_blank bytes ≡ true → blanks_at (blanks ++ bytes) ≡ Some bytes
+pub blanks_at-run : (blanks bytes : List ℕ) → are_blanks blanks ≡ true → stops is_blank bytes ≡ true
+    → blanks_at (blanks ++ bytes) ≡ Some bytes
 unfolding blanks_at
 blanks_at-run blanks bytes h s =
     let parts = and_parts (nat_le 1 (length blanks)) (list_all is_blank blanks) h in
     let run : prefix_len is_blank (blanks ++ bytes) ≡ length blanks = prefix_len-run is_blank blanks bytes parts.1 s in
     rw (run, parts.0, drop_at blanks bytes (length blanks) refl) refl
 
--- what stands after blanks
+-- what comes after blanks
 pub record AreBlanks (text bytes : List ℕ) : Type 0 where
   pub blanks : List ℕ
   pub text_is : text ≡ blanks ++ bytes
@@ -204,7 +215,12 @@ blanks_at-some text bytes h =
 pub chapter_in-of : (text : List ℕ) (n : ℕ) → ReadsChapter text n → chapter_in text ≡ Some n
 unfolding chapter_in
 chapter_in-of text n h =
-    rw (h.text_is, blanks_at-run h.blanks h.bytes h.are_blanks (number_is_no_blank h.bytes n None h.rest h.number_is), chapter_at-of h.bytes n h.rest h.number_is) refl
+    rw (
+      h.text_is,
+      blanks_at-run h.blanks h.bytes h.are_blanks
+          (number_is_no_blank h.bytes n None h.rest h.number_is),
+      chapter_at-of h.bytes n h.rest h.number_is,
+    ) refl
 
 option_map_some : {A B P : Type 0} (f : A → B) (o : Option A) (y : B) → option_map f o ≡ Some y → ((x : A) → o ≡ Some x → f x ≡ y → P) → P
 option_map_some f None y h then_ = cc
@@ -212,7 +228,8 @@ option_map_some f (Some x) y h then_ = then_ x refl (same_Some (f x) y h)
 
 pub chapter_in-some : (text : List ℕ) (n : ℕ) → chapter_in text ≡ Some n → ReadsChapter text n
 unfolding chapter_in
-chapter_in-some text n h = option_map_some (λ (c : ℕ × List ℕ). c.0) (option_and_then chapter_at (blanks_at text)) n h (λ c e is. option_and_then_some chapter_at (blanks_at text) c e (parts c is))
+chapter_in-some text n h = option_map_some (λ (c : ℕ × List ℕ). c.0) (option_and_then chapter_at (blanks_at text)) n h
+    (λ c e is. option_and_then_some chapter_at (blanks_at text) c e (parts c is))
   where
     parts : (c : ℕ × List ℕ) → c.0 ≡ n → (bytes : List ℕ) → blanks_at text ≡ Some bytes → chapter_at bytes ≡ Some c → ReadsChapter text n
     parts c is bytes b e =
@@ -229,11 +246,13 @@ chapter_in-some text n h = option_map_some (λ (c : ℕ × List ℕ). c.0) (opti
 abbrev mark_of : ℕ × Option ℕ → Option (ℕ × Option ℕ) → ℕ → VerseMark
 mark_of verse last length = record { number = verse.0; letter = verse.1; last = last; length = length }
 
-no_bridge : (behind : List ℕ) → ((last : ℕ × Option ℕ) (after : List ℕ) → StartsWithBridge behind last after → ⊥) → (b : Option ((ℕ × Option ℕ) × List ℕ)) → bridge_at behind ≡ b → b ≡ None
+no_bridge : (behind : List ℕ) → ((last : ℕ × Option ℕ) (after : List ℕ) → StartsWithBridge behind last after → ⊥)
+    → (b : Option ((ℕ × Option ℕ) × List ℕ)) → bridge_at behind ≡ b → b ≡ None
 no_bridge behind none None e = refl
 no_bridge behind none (Some b) e = absurd (none b.0 b.1 (bridge_at-some behind b e))
 
-bridged-of : (text : List ℕ) (verse : ℕ × Option ℕ) (behind : List ℕ) (last : Option (ℕ × Option ℕ)) (rest : List ℕ) (n : ℕ) → BridgesTo behind last rest → n + length rest ≡ length text → bridged text verse behind (bridge_at behind) ≡ mark_of verse last n
+bridged-of : (text : List ℕ) (verse : ℕ × Option ℕ) (behind : List ℕ) (last : Option (ℕ × Option ℕ)) (rest : List ℕ) (n : ℕ)
+    → BridgesTo behind last rest → n + length rest ≡ length text → bridged text verse behind (bridge_at behind) ≡ mark_of verse last n
 bridged-of text verse behind None rest n h long =
     let whole : length text - length behind ≡ n = omega (arith, ap length h.0) in
     rw (no_bridge behind h.1 (bridge_at behind) refl, whole) refl
@@ -244,15 +263,32 @@ bridged-of text verse behind (Some last) rest n h long =
 pub verse_in-of : (text : List ℕ) (m : VerseMark) → ReadsVerse text m → verse_in text ≡ Some m
 unfolding verse_in
 verse_in-of text m h =
-    let front : blanks_at text ≡ Some h.bytes = rw h.text_is (blanks_at-run h.blanks h.bytes h.are_blanks (number_is_no_blank h.bytes m.number m.letter h.behind h.number_is)) in
-    rw (front, verse_at-of h.bytes (m.number, m.letter) h.behind h.number_is, bridged-of text (m.number, m.letter) h.behind m.last h.rest m.length h.last_is h.length_is) refl
+    let front : blanks_at text
+    ≡ Some h.bytes = rw h.text_is
+    (blanks_at-run h.blanks h.bytes h.are_blanks (number_is_no_blank h.bytes m.number m.letter h.behind h.number_is)) in
+    rw (
+      front,
+      verse_at-of h.bytes (m.number, m.letter) h.behind h.number_is,
+      bridged-of text
+          (m.number, m.letter) h.behind m.last h.rest m.length h.last_is h.length_is,
+    ) refl
 
 -- a mark whose blanks and number were read
-starts : (text bytes behind : List ℕ) (verse : ℕ × Option ℕ) → AreBlanks text bytes → StartsWithNumber bytes verse.0 verse.1 behind → length behind ≤ length text
+starts : (text bytes behind : List ℕ) (verse : ℕ × Option ℕ) → AreBlanks text bytes → StartsWithNumber bytes verse.0 verse.1 behind
+    → length behind ≤ length text
 starts text bytes behind verse front number =
-    omega (arith, ap length front.text_is, length-append front.blanks bytes, ap length number.bytes_are, length-append number.digits (option_to_list verse.1 ++ behind), length-append (option_to_list verse.1) behind)
+    omega (
+      arith,
+      ap length front.text_is,
+      length-append front.blanks bytes,
+      ap length number.bytes_are,
+      length-append number.digits
+          (option_to_list verse.1 ++ behind),
+      length-append (option_to_list verse.1) behind,
+    )
 
-bridged_is : (text bytes behind : List ℕ) (verse : ℕ × Option ℕ) → AreBlanks text bytes → StartsWithNumber bytes verse.0 verse.1 behind → (b : Option ((ℕ × Option ℕ) × List ℕ)) → bridge_at behind ≡ b → ReadsVerse text (bridged text verse behind b)
+bridged_is : (text bytes behind : List ℕ) (verse : ℕ × Option ℕ) → AreBlanks text bytes → StartsWithNumber bytes verse.0 verse.1 behind
+    → (b : Option ((ℕ × Option ℕ) × List ℕ)) → bridge_at behind ≡ b → ReadsVerse text (bridged text verse behind b)
 bridged_is text bytes behind verse front number None e =
     let within : length behind ≤ length text = starts text bytes behind verse front number in
     record {
@@ -279,15 +315,25 @@ bridged_is text bytes behind verse front number (Some b) e =
       are_blanks = front.are_blanks;
       number_is = number;
       last_is = bridge;
-      length_is = omega (arith, ap length bridge.bytes_are, ap length last.bytes_are, length-append last.digits (option_to_list b.0.1 ++ b.1), length-append (option_to_list b.0.1) b.1);
+      length_is = omega (
+        arith,
+        ap length bridge.bytes_are,
+        ap length last.bytes_are,
+        length-append last.digits
+            (option_to_list b.0.1 ++ b.1),
+        length-append (option_to_list b.0.1) b.1,
+      );
     }
 
 pub verse_in-some : (text : List ℕ) (m : VerseMark) → verse_in text ≡ Some m → ReadsVerse text m
 unfolding verse_in
-verse_in-some text m h = option_map_some (λ (v : (ℕ × Option ℕ) × List ℕ). bridged text v.0 v.1 (bridge_at v.1)) (option_and_then verse_at (blanks_at text)) m h (λ v e is. option_and_then_some verse_at (blanks_at text) v e (parts v is))
+verse_in-some text m h = option_map_some (λ (v : (ℕ × Option ℕ) × List ℕ). bridged text v.0 v.1 (bridge_at v.1))
+    (option_and_then verse_at (blanks_at text)) m h (λ v e is. option_and_then_some verse_at (blanks_at text) v e (parts v is))
   where
-    parts : (v : (ℕ × Option ℕ) × List ℕ) → bridged text v.0 v.1 (bridge_at v.1) ≡ m → (bytes : List ℕ) → blanks_at text ≡ Some bytes → verse_at bytes ≡ Some v → ReadsVerse text m
-    parts v is bytes b e = rw (← is) (bridged_is text bytes v.1 v.0 (blanks_at-some text bytes b) (verse_at-some bytes v e) (bridge_at v.1) refl)
+    parts : (v : (ℕ × Option ℕ) × List ℕ) → bridged text v.0 v.1 (bridge_at v.1) ≡ m → (bytes : List ℕ) → blanks_at text ≡ Some bytes
+        → verse_at bytes ≡ Some v → ReadsVerse text m
+    parts v is bytes b e =
+        rw (← is) (bridged_is text bytes v.1 v.0 (blanks_at-some text bytes b) (verse_at-some bytes v e) (bridge_at v.1) refl)
 
 -- ---- the laws
 
@@ -322,7 +368,8 @@ pub chapter_in-no_number : (text bytes : List ℕ) → blanks_at text ≡ Some b
 unfolding chapter_in chapter_at
 chapter_in-no_number text bytes b n = rw (b, n) refl
 
-pub chapter_in-number : (text bytes : List ℕ) (n : ℕ) (rest : List ℕ) → blanks_at text ≡ Some bytes → number_at bytes ≡ Some (n, rest) → chapter_in text ≡ then_some (ends_number rest) n
+pub chapter_in-number : (text bytes : List ℕ) (n : ℕ) (rest : List ℕ) → blanks_at text ≡ Some bytes → number_at bytes ≡ Some (n, rest)
+    → chapter_in text ≡ then_some (ends_number rest) n
 unfolding chapter_in chapter_at
 chapter_in-number text bytes n rest b e = rw (b, e) (by_end (ends_number rest))
   where
@@ -338,16 +385,27 @@ pub verse_in-no_verse : (text bytes : List ℕ) → blanks_at text ≡ Some byte
 unfolding verse_in
 verse_in-no_verse text bytes b v = rw (b, v) refl
 
-pub verse_in-verse : (text bytes : List ℕ) (verse : ℕ × Option ℕ) (behind : List ℕ) → blanks_at text ≡ Some bytes → verse_at bytes ≡ Some (verse, behind) → verse_in text ≡ Some (bridged text verse behind (bridge_at behind))
+pub verse_in-verse : (text bytes : List ℕ) (verse : ℕ × Option ℕ) (behind : List ℕ) → blanks_at text ≡ Some bytes
+    → verse_at bytes ≡ Some (verse, behind) → verse_in text ≡ Some (bridged text verse behind (bridge_at behind))
 unfolding verse_in
 verse_in-verse text bytes verse behind b v = rw (b, v) refl
 
 -- the bytes after a verse and its bridge are a part of the text
-pub within_text : (text bytes : List ℕ) (verse : ℕ × Option ℕ) (behind : List ℕ) → blanks_at text ≡ Some bytes → verse_at bytes ≡ Some (verse, behind) → length behind ≤ length text
-within_text text bytes verse behind b v = starts text bytes behind verse (blanks_at-some text bytes b) (verse_at-some bytes (verse, behind) v)
+pub within_text : (text bytes : List ℕ) (verse : ℕ × Option ℕ) (behind : List ℕ) → blanks_at text ≡ Some bytes
+    → verse_at bytes ≡ Some (verse, behind) → length behind ≤ length text
+within_text text bytes verse behind b v =
+    starts text bytes behind verse (blanks_at-some text bytes b) (verse_at-some bytes (verse, behind) v)
 
-pub within_bridge : (bytes : List ℕ) (last : ℕ × Option ℕ) (rest : List ℕ) → bridge_at bytes ≡ Some (last, rest) → length rest ≤ length bytes
+pub within_bridge : (bytes : List ℕ) (last : ℕ × Option ℕ) (rest : List ℕ) → bridge_at bytes ≡ Some (last, rest)
+    → length rest ≤ length bytes
 within_bridge bytes last rest b =
     let bridge = bridge_at-some bytes (last, rest) b in
     let number = bridge.last_is in
-    omega (arith, ap length bridge.bytes_are, ap length number.bytes_are, length-append number.digits (option_to_list last.1 ++ rest), length-append (option_to_list last.1) rest)
+    omega (
+      arith,
+      ap length bridge.bytes_are,
+      ap length number.bytes_are,
+      length-append number.digits
+          (option_to_list last.1 ++ rest),
+      length-append (option_to_list last.1) rest,
+    )

@@ -11,7 +11,8 @@ one_more : (n : ℕ) → 1 + n ≡ suc n
 one_more n = omega arith
 
 -- items that pass, before a list that stops, are the run
-pub prefix_len-run : {X : Type 0} (p : X → Bool) (xs ys : List X) → list_all p xs ≡ true → stops p ys ≡ true → prefix_len p (xs ++ ys) ≡ length xs
+pub prefix_len-run : {X : Type 0} (p : X → Bool) (xs ys : List X) → list_all p xs ≡ true → stops p ys ≡ true
+    → prefix_len p (xs ++ ys) ≡ length xs
 prefix_len-run p [] [] h s = refl
 prefix_len-run p [] (y ∷ ys) h s = grind arith
 prefix_len-run p (x ∷ xs) ys h s = grind (arith, prefix_len-run p xs ys)

@@ -62,7 +62,8 @@ module _ {K X : Type 0} (R : K → K → Ordering) (o : IsTotalOrder R) (key : X
   pub back : (a b : K) (r : Ordering) → R a b ≡ r → R b a ≡ ordering_reverse r
   back a b r e = o.antisymm b a ∙ ap ordering_reverse e
 
-  below_found : (x : X) (xs ys : List X) → Above (key x) ys → AllByRecursion (λ y. found (key y) xs ≡ Some y) ys → AllByRecursion (λ y. found (key y) (x ∷ xs) ≡ Some y) ys
+  below_found : (x : X) (xs ys : List X) → Above (key x) ys → AllByRecursion (λ y. found (key y) xs ≡ Some y) ys
+      → AllByRecursion (λ y. found (key y) (x ∷ xs) ≡ Some y) ys
   below_found x xs [] a h = tt
   below_found x xs (y ∷ ys) a h =
       let p = first_above (key x) y ys a in
@@ -75,7 +76,7 @@ module _ {K X : Type 0} (R : K → K → Ordering) (o : IsTotalOrder R) (key : X
       let p = parts x xs h in
       (cond-true _ _ _ (ap is_eq (tied_itself o (key x))), below_found x xs xs p.0 (each_found xs p.1))
 
-  -- what stands at the place of a key
+  -- what is at the place of a key
   abbrev pub place : K → List X → ℕ
   place q xs = position_or_len (λ x. not (is_lt (R (key x) q))) xs
 
@@ -85,11 +86,13 @@ module _ {K X : Type 0} (R : K → K → Ordering) (o : IsTotalOrder R) (key : X
   pub place_later : (q : K) (x : X) (xs : List X) → is_lt (R (key x) q) ≡ true → place q (x ∷ xs) ≡ suc (place q xs)
   place_later q x xs e = rw e (omega arith)
 
-  pub found_here : (q : K) (xs : List X) (n : ℕ) (x : X) → rises_by R key xs ≡ true → n ≡ place q xs → n < length xs → x ≡ get_or xs n x → is_eq (R q (key x)) ≡ true → found q xs ≡ Some x
+  pub found_here : (q : K) (xs : List X) (n : ℕ) (x : X) → rises_by R key xs ≡ true → n ≡ place q xs → n < length xs → x ≡ get_or xs n x
+      → is_eq (R q (key x)) ≡ true → found q xs ≡ Some x
   found_here q [] n x h e l hx t = absurd (omega arith)
   found_here q (y ∷ ys) n x h e l hx t = by (λ m at. found_here q ys (place q ys) x (parts y ys h).1 refl m at t) (R q (key y)) refl
     where
-      by : (place q ys < length ys → x ≡ get_or ys (place q ys) x → found q ys ≡ Some x) → (r : Ordering) → R q (key y) ≡ r → found q (y ∷ ys) ≡ Some x
+      by : (place q ys < length ys → x ≡ get_or ys (place q ys) x → found q ys ≡ Some x) → (r : Ordering) → R q (key y) ≡ r
+          → found q (y ∷ ys) ≡ Some x
       by rest Less e' =
           let z : n ≡ 0 = e ∙ place_here q y ys (ap is_lt (back q (key y) Less e')) in
           let same : x ≡ y = hx ∙ ap (λ k. get_or (y ∷ ys) k x) z in
@@ -104,7 +107,8 @@ module _ {K X : Type 0} (R : K → K → Ordering) (o : IsTotalOrder R) (key : X
           let m : place q ys < length ys = omega (arith, z) in
           cond-false _ _ _ (ap is_eq e') ∙ rest m at
 
-  pub found_not : (q : K) (xs : List X) (n : ℕ) (x : X) → rises_by R key xs ≡ true → n ≡ place q xs → x ≡ get_or xs n x → is_eq (R q (key x)) ≡ false → found q xs ≡ None
+  pub found_not : (q : K) (xs : List X) (n : ℕ) (x : X) → rises_by R key xs ≡ true → n ≡ place q xs → x ≡ get_or xs n x
+      → is_eq (R q (key x)) ≡ false → found q xs ≡ None
   found_not q [] n x h e hx t = refl
   found_not q (y ∷ ys) n x h e hx t = by (λ at. found_not q ys (place q ys) x (parts y ys h).1 refl at t) (R q (key y)) refl
     where
@@ -142,12 +146,14 @@ module _ {K X : Type 0} (R : K → K → Ordering) (o : IsTotalOrder R) (key : X
   rises_filter p (x ∷ xs) h =
       let q = parts x xs h in
       let rest = rises_filter p xs q.1 in
-      elim (p x) as (λ b. rises_by R key (cond b (x ∷ filter p xs) (filter p xs)) ≡ true) [ true ↦ and_from _ _ (above_filter p (key x) xs q.0) rest | false ↦ rest ]
+      elim (p x) as (λ b. rises_by R key (cond b (x ∷ filter p xs) (filter p xs))
+      ≡ true) [ true ↦ and_from _ _ (above_filter p (key x) xs q.0) rest | false ↦ rest ]
 
 -- ---- the items of a list, rising, each once
 
 module _ {K : Type 0} (cmp : K → K → Ordering) (o : IsTotalOrder cmp) where
-  above_with_item : (a k : K) (xs : List K) → is_lt (cmp a k) ≡ true → Above cmp o (λ (x : K). x) a xs → Above cmp o (λ (x : K). x) a (with_item cmp k xs)
+  above_with_item : (a k : K) (xs : List K) → is_lt (cmp a k) ≡ true → Above cmp o (λ (x : K). x) a xs
+      → Above cmp o (λ (x : K). x) a (with_item cmp k xs)
   above_with_item a k [] l h = and_from _ _ l refl
   above_with_item a k (x ∷ xs) l h =
       let p = first_above cmp o (λ (x : K). x) a x xs h in
@@ -164,7 +170,8 @@ module _ {K : Type 0} (cmp : K → K → Ordering) (o : IsTotalOrder cmp) where
       elim (cmp k x) as (λ r. cmp k x ≡ r → rises_by cmp (λ x. x) (by_order r (k ∷ x ∷ xs) (x ∷ xs) (x ∷ with_item cmp k xs)) ≡ true) [
         | Less ↦ λ e. and_from _ _ (and_from _ _ (ap is_lt e) (above_trans cmp o (λ (x : K). x) k x xs e p.0)) h
         | Equal ↦ λ e. h
-        | Greater ↦ λ e. and_from _ _ (above_with_item x k xs (ap is_lt (o.antisymm x k ∙ ap ordering_reverse e)) p.0) (rises-with_item k xs p.1)
+        | Greater ↦ λ e. and_from _ _ (above_with_item x k xs (ap is_lt (o.antisymm x k ∙ ap ordering_reverse e)) p.0)
+            (rises-with_item k xs p.1)
       ] refl
 
   pub rises-rising : (xs : List K) → rises_by cmp (λ x. x) (rising cmp xs) ≡ true

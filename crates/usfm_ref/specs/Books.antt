@@ -1,10 +1,12 @@
 -- Codes of books, and the order of books: USFM 3.0's identifiers of books in the order of the canon of 66,
 -- and every other code after them by its bytes (this project's own rule).
-use Rattle.std.specs.Prelude.{ℕ, ◌==◌, nat_le, Bool, false, ◌&&◌, ◌||◌, List, [], ◌∷◌, codes}
+use Rattle.std.specs.Prelude.{ℕ, ◌==◌, nat_le, Bool, false, ◌&&◌, ◌||◌, List, [], ◌∷◌, codes, Result, Ok, Err, if◌then◌else◌}
 use Rattle.std.specs.List.{position_or_len, list_all, list_any}
 use Rattle.std.specs.declared.cmp.Ordering.{Ordering}
 use Rattle.std.specs.Ordering.{nat_cmp, ordering_then, is_eq}
 use Rattle.std.specs.Cmp.Lexicographic.{slice_cmp, pointwise}
+use Rattle.usfm_ref.specs.declared.fault.RefFault.{RefFault}
+use Rattle.usfm_ref.specs.declared.fault.RefFault.TheVariants.{BadBook}
 
 -- one of A to Z or 0 to 9
 abbrev pub is_code_char : ℕ → Bool
@@ -17,6 +19,10 @@ is_book_code (a ∷ []) = false
 is_book_code (a ∷ b ∷ []) = false
 is_book_code (a ∷ b ∷ c ∷ []) = is_code_char a && is_code_char b && is_code_char c
 is_book_code (a ∷ b ∷ c ∷ d ∷ rest) = false
+
+-- the book that a text is the code of; any other text is refused
+abbrev pub book_of : List ℕ → Result (List ℕ) RefFault
+book_of text = if is_book_code text then Ok text else Err BadBook
 
 -- whether two texts have the same bytes
 abbrev pub same_bytes : List ℕ → List ℕ → Bool

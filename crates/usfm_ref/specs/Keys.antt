@@ -1,4 +1,4 @@
--- Keys: where in a book a text stands. Ranges and order are this project's own rule, over the chapters
+-- Keys: where in a book a text is. Ranges and order are this project's own rule, over the chapters
 -- and verses of USFM 3.0 (`\c`, `\v`, and verse parts as `3a`).
 use Rattle.std.specs.Prelude.{ℕ, nat_le, ◌==◌, Bool, true, false, not, ◌&&◌, Option, Some, None}
 use Rattle.std.specs.declared.cmp.Ordering.{Ordering}
@@ -34,7 +34,7 @@ chapter_head chapter = record { chapter = chapter; place = Head }
 abbrev pub book_head : KeyParts
 book_head = chapter_head 0
 
--- the head of the chapter that a key stands in
+-- the head of the chapter that a key is in
 abbrev pub head_of : KeyParts → KeyParts
 head_of key = chapter_head key.chapter
 

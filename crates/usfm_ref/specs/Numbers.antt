@@ -52,8 +52,8 @@ pub record StartsWithBridge (bytes : List ℕ) (last : ℕ × Option ℕ) (rest 
   pub bytes_are : bytes ≡ 45 ∷ behind
   pub last_is : StartsWithNumber behind last.0 last.1 rest
 
--- What stands after a verse's number: the bridge to its last verse and a rest, or no bridge and all of it is the
--- rest. A bridge is read wherever one stands.
+-- What comes after a verse's number: the bridge to its last verse and a rest, or no bridge and all of it is the
+-- rest. A bridge is read wherever there is one.
 abbrev pub BridgesTo : List ℕ → Option (ℕ × Option ℕ) → List ℕ → Type 0
 BridgesTo bytes None rest = (rest ≡ bytes) × ((last : ℕ × Option ℕ) (after : List ℕ) → StartsWithBridge bytes last after → ⊥)
 BridgesTo bytes (Some last) rest = StartsWithBridge bytes last rest
@@ -67,7 +67,7 @@ pub record ReadsChapter (text : List ℕ) (number : ℕ) : Type 0 where
   pub are_blanks : IsTrue (are_blanks blanks)
   pub number_is : StartsWithNumber bytes number None rest
 
--- The text after a verse's mark is blanks, the number of the verse, a bridge if one stands there, and a rest: what is read
+-- The text after a verse's mark is blanks, the number of the verse, a bridge if one is there, and a rest: what is read
 -- is all but the rest.
 pub record ReadsVerse (text : List ℕ) (mark : VerseMark) : Type 0 where
   pub blanks : List ℕ
@@ -91,9 +91,9 @@ abbrev pub is_last : Option (ℕ × Option ℕ) → Bool
 is_last None = true
 is_last (Some verse) = is_verse verse
 
--- ---- the same, as a reading from the left: what is read, if it stands at the front, and the bytes after it
+-- ---- the same, as a reading from the left: what is read, if it is at the front, and the bytes after it
 
--- what stands after one blank or more at the front
+-- what comes after one blank or more at the front
 unfoldable pub blanks_at : List ℕ → Option (List ℕ)
 blanks_at bytes = let n = prefix_len is_blank bytes in if nat_le 1 n then Some (drop n bytes) else None
 
@@ -125,7 +125,7 @@ unfoldable pub bridge_at : List ℕ → Option ((ℕ × Option ℕ) × List ℕ)
 bridge_at [] = None
 bridge_at (b ∷ rest) = if b == 45 then verse_at rest else None
 
--- the number of a chapter in the text directly after its mark, if one stands there
+-- the number of a chapter in the text directly after its mark, if one is there
 unfoldable pub chapter_in : List ℕ → Option ℕ
 chapter_in text = option_map (λ c. c.0) (option_and_then chapter_at (blanks_at text))
 
@@ -134,7 +134,7 @@ abbrev pub bridged : List ℕ → ℕ × Option ℕ → List ℕ → Option ((�
 bridged text verse behind None = record { number = verse.0; letter = verse.1; last = None; length = length text - length behind }
 bridged text verse behind (Some b) = record { number = verse.0; letter = verse.1; last = Some b.0; length = length text - length b.1 }
 
--- the verse in the text directly after its mark, if one stands there, with its bridge and how many bytes were read
+-- the verse in the text directly after its mark, if one is there, with its bridge and how many bytes were read
 unfoldable pub verse_in : List ℕ → Option VerseMark
 verse_in text = option_map (λ v. bridged text v.0 v.1 (bridge_at v.1)) (option_and_then verse_at (blanks_at text))
 

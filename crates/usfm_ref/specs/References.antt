@@ -34,7 +34,7 @@ pub record IsRefTo (text : List ℕ) (book : List ℕ) (key : KeyParts) : Type 0
   pub is_key : IsTrue (is_key key.chapter key.place)
   pub text_is : text ≡ ref_text book key
 
--- ---- the same, as a reading from the left: what is read, if it stands at the front, and the bytes after it
+-- ---- the same, as a reading from the left: what is read, if it is at the front, and the bytes after it
 
 -- a zero, and a digit after it
 abbrev pub is_zero_led : List ℕ → Bool
@@ -65,6 +65,15 @@ key_at chapter (Some place) = Some (record { chapter = chapter; place = place })
 -- the key that all of the bytes are
 unfoldable pub key_in : List ℕ → Option KeyParts
 key_in bytes = option_and_then (λ n. key_at n.0 (place_in n.1)) (plain_at bytes)
+
+-- a key, or the refusal that there is none
+abbrev pub key_or_bad : Option KeyParts → Result KeyParts RefFault
+key_or_bad None = Err BadRef
+key_or_bad (Some key) = Ok key
+
+-- the key that a text writes; any other text is refused
+abbrev pub key_of : List ℕ → Result KeyParts RefFault
+key_of text = key_or_bad (key_in text)
 
 -- the key that all of the bytes are but a space (32) in front
 unfoldable pub key_behind : List ℕ → Option KeyParts

@@ -1,11 +1,13 @@
-ghost use Rattle.std.specs.Prelude.{◌≡◌, ◌↔◌, not, IsTrue, IsOk, IfOk, IfErr, IsSome, IfSome};
+ghost use Rattle.std.specs.Prelude.{◌≡◌, ◌↔◌, not, Some, IsTrue, IsOk, IfOk, IfErr, IsSome, IfSome};
 ghost use Rattle.std.specs.List.{position_or_len};
 ghost use Rattle.std.specs.Ordering.{is_lt};
-ghost use Rattle.usfm_ref.specs.Books.{is_book_code, rank_of, is_code_char, code_cmp, has_canon};
+ghost use Rattle.usfm_ref.specs.Books.{is_book_code, book_of, rank_of, is_code_char, code_cmp, has_canon};
 ghost use Rattle.usfm_ref.specs.Rising.{rises_by};
 
 use crate::fault::RefFault;
+use std::fmt;
 use std::marker::Model;
+use std::str::FromStr;
 
 /// A book, by its code of three of A to Z and 0 to 9, as USFM 3.0 names books.
 ///
@@ -122,8 +124,8 @@ impl Book {
         }
     }
 
-    // The book of three bytes, where they are a code.
-    pub(crate) fn of_code(code: [u8; 3]) -> Option<Book>
+    /// The book of three bytes. None where they are no book's code.
+    pub fn of_code(code: [u8; 3]) -> Option<Book>
         ensures accepts { IsSome result ↔ IsTrue (is_book_code code) }
         ensures book { IfSome result (λ book. book ≡ code) }
     {
@@ -143,6 +145,28 @@ impl Book {
         ensures valid { IsTrue (is_book_code self) }
     {
         self.code
+    }
+}
+
+/// Reads a book's code, as `Book::read` does.
+impl FromStr for Book {
+    type Err = RefFault;
+
+    ghost from_str_gives = { λ text result. result ≡ book_of text };
+
+    fn from_str(text: &str) -> Result<Book, RefFault> {
+        Book::read(text)
+    }
+}
+
+/// Writes the book's code.
+impl fmt::Display for Book {
+    ghost output = { λ book. Some book };
+
+    fn fmt<W: fmt::Write>(&self, f: &mut fmt::Formatter<W>) -> fmt::Result {
+        let [a, b, c] = self.code();
+        let (a, b, c) = (char::from(a), char::from(b), char::from(c));
+        write!(f, "{a}{b}{c}")
     }
 }
 
@@ -181,22 +205,9 @@ fn place(known: &[([u8; 3], u8)], code: &[u8; 3]) -> usize
     requires rising { IsTrue (rises_by code_cmp (λ e. e.0) known.now) }
     ensures { result ≡ position_or_len (λ e. not (is_lt (code_cmp e.0 code.now))) known.now }
 {
-    let mut low = 0;
-    let mut high = known.len();
-    'halves: while low < high {
-        let middle = low + (high - low) / 2;
-        let (found, _) = known[middle];
-        if is_below(&found, code) {
-            low = middle + 1;
-        } else {
-            high = middle;
-        }
-    }
-    low
-}
-
-fn is_below(code: &[u8; 3], other: &[u8; 3]) -> bool
-    ensures { result ≡ is_lt (code_cmp code.now other.now) }
-{
-    code.cmp(other).is_lt()
+    known.partition_point(
+        |entry| -> bool
+            ensures { result ≡ is_lt (code_cmp entry.now.0 code.entry.now) }
+        { entry.0.cmp(code).is_lt() },
+    )
 }

@@ -1,6 +1,9 @@
-ghost use Rattle.std.specs.Prelude.{◌≡◌, ◌↔◌, IsTrue, IsSome, IfSome};
+ghost use Rattle.std.specs.Prelude.{◌≡◌, ◌≤◌, ◌↔◌, Some, IsTrue, IsSome, IfSome};
+ghost use Rattle.usfm_ref.specs.Keys as keys;
 ghost use Rattle.usfm_ref.specs.Keys.{is_key};
+ghost use Rattle.usfm_ref.specs.References.{key_text};
 
+use std::fmt;
 use std::marker::Model;
 
 /// Where in a chapter: at its head, which is all before its first verse, or at a verse.
@@ -15,7 +18,7 @@ pub enum Place {
     Verse { number: u16, letter: Option<u8> },
 }
 
-/// A chapter 0 to 999 and a place in it: where in a book a text stands.
+/// A chapter 0 to 999 and a place in it: where in a book a text is.
 ///
 /// Keys go by chapter, and then by place. A literal with a part out of its range is refused by the
 /// proof.
@@ -55,6 +58,65 @@ impl Key {
             Some(Key { chapter, place })
         } else {
             None
+        }
+    }
+
+    /// The head of a chapter 0 to 999; that of chapter 0 is the head of the book.
+    pub fn chapter_head(chapter: u16) -> Key
+        requires { chapter ≤ 999 }
+        ensures { result ≡ keys.chapter_head chapter }
+    {
+        Key {
+            chapter,
+            place: Place::Head,
+        }
+    }
+
+    /// The head of this key's chapter.
+    pub fn head(self) -> Key
+        ensures { result ≡ keys.head_of self }
+    {
+        Key {
+            chapter: self.chapter,
+            place: Place::Head,
+        }
+    }
+
+    /// Whether this is the head of the book.
+    pub fn is_book_head(self) -> bool
+        ensures { result ≡ keys.same_key self keys.book_head }
+    {
+        self.chapter == 0 && self.place == Place::Head
+    }
+
+    /// Whether this is a verse of the chapter.
+    pub fn is_verse_of(self, chapter: u16) -> bool
+        ensures { result ≡ keys.is_verse_of chapter self }
+    {
+        self.chapter == chapter && self.place != Place::Head
+    }
+}
+
+/// Writes the key: its chapter in decimal, and for a verse a colon, the verse in decimal and its
+/// letter, as `0`, `5`, `5:3` or `5:3a`.
+impl fmt::Display for Key {
+    ghost output = { λ key. Some (key_text key) };
+
+    fn fmt<W: fmt::Write>(&self, f: &mut fmt::Formatter<W>) -> fmt::Result {
+        let chapter = self.chapter;
+        match self.place {
+            Place::Head => write!(f, "{chapter}"),
+            Place::Verse {
+                number,
+                letter: None,
+            } => write!(f, "{chapter}:{number}"),
+            Place::Verse {
+                number,
+                letter: Some(letter),
+            } => {
+                let letter = char::from(letter);
+                write!(f, "{chapter}:{number}{letter}")
+            }
         }
     }
 }

@@ -12,7 +12,7 @@ mod reference;
 pub use book::Book;
 pub use fault::RefFault;
 pub use key::{Key, Place};
-pub use number::{VerseMark, chapter_after, verse_after};
+pub use number::{VerseMark, chapter_after, is_blank, verse_after};
 pub use reference::{read_ref, write_key, write_ref};
 
 #[cfg(test)]

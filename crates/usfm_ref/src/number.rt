@@ -25,7 +25,7 @@ pub struct VerseMark {
 /// Reads the number of a chapter in the text directly after the mark `\c`.
 ///
 /// It is one blank or more (space, tab, CR, LF) and one to three digits, before the end or a
-/// character that is no ASCII letter or digit. None where no number stands there.
+/// character that is no ASCII letter or digit. None where no number is there.
 pub fn chapter_after(text: &str) -> Option<u16>
     ensures reads { IfSome result (ReadsChapter text.now) }
     ensures only { (number : ℕ) → ReadsChapter text.now number → result ≡ Some number }
@@ -41,8 +41,8 @@ pub fn chapter_after(text: &str) -> Option<u16>
 ///
 /// It is one blank or more (space, tab, CR, LF), one to three digits and at most one letter a to
 /// z, before the end or a character that is no ASCII letter or digit. Where that character is a
-/// hyphen and after it stand digits and a letter in the same way, they are the last verse of a
-/// bridge; else the verse has no bridge. None where no number stands there.
+/// hyphen and after it come digits and a letter in the same way, they are the last verse of a
+/// bridge; else the verse has no bridge. None where no number is there.
 pub fn verse_after(text: &str) -> Option<VerseMark>
     ensures reads { IfSome result (ReadsVerse text.now) }
     ensures only { (mark : marks.VerseMark) → ReadsVerse text.now mark → result ≡ Some mark }
@@ -65,16 +65,18 @@ pub fn verse_after(text: &str) -> Option<VerseMark>
     })
 }
 
-fn is_blank(byte: u8) -> bool
+/// Whether a byte is a blank: a space, a tab, a CR or an LF.
+pub fn is_blank(byte: u8) -> bool
     ensures { result ≡ numbers.is_blank byte }
 {
     matches!(byte, b' ' | b'\t' | b'\r' | b'\n')
 }
 
-// What stands after one blank or more.
+// What comes after one blank or more.
 #[tactic(auto, unfolding(crate::specs::Numbers::blanks_at))]
 fn blanks_at(bytes: &[u8]) -> Option<&[u8]>
-    ensures { MatchOption result (numbers.blanks_at bytes.now ≡ None) (λ rest. numbers.blanks_at bytes.now ≡ Some rest.now) }
+    ensures { MatchOption result (numbers.blanks_at bytes.now ≡ None)
+        (λ rest. numbers.blanks_at bytes.now ≡ Some rest.now) }
 {
     match blanks_len(bytes) {
         0 => None,
@@ -92,7 +94,8 @@ fn blanks_len(bytes: &[u8]) -> usize
 // The number that digits write, if they are one to three.
 fn number_of(digits: &[u8]) -> Option<u16>
     requires { IsTrue (list_all is_ascii_digit digits.now) }
-    ensures { result ≡ (if nat_le 1 (length digits.now) && nat_le (length digits.now) 3 then Some (numbers.number_of digits.now) else None) }
+    ensures { result ≡ (if nat_le 1 (length digits.now) && nat_le (length digits.now) 3
+        then Some (numbers.number_of digits.now) else None) }
 {
     match *digits {
         [a] => Some(digit(a)),
@@ -110,10 +113,11 @@ fn digit(byte: u8) -> u16
     u16::from(byte - b'0')
 }
 
-// A run of one to three digits, and what stands after it.
+// A run of one to three digits, and what comes after it.
 #[tactic(auto, unfolding(crate::specs::Numbers::number_at))]
 pub(crate) fn number_at(bytes: &[u8]) -> Option<(u16, &[u8])>
-    ensures { MatchOption result (numbers.number_at bytes.now ≡ None) (λ n. numbers.number_at bytes.now ≡ Some (n.0, n.1.now)) }
+    ensures { MatchOption result (numbers.number_at bytes.now ≡ None)
+        (λ n. numbers.number_at bytes.now ≡ Some (n.0, n.1.now)) }
 {
     let (digits, rest) = bytes.split_at(digits_len(bytes));
     Some((number_of(digits)?, rest))
@@ -136,10 +140,11 @@ fn ends_number(bytes: &[u8]) -> bool
     }
 }
 
-// A verse's number with its letter, which ends, and what stands after it.
+// A verse's number with its letter, which ends, and what comes after it.
 #[tactic(auto, unfolding(crate::specs::Numbers::verse_at))]
 fn verse_at(bytes: &[u8]) -> Option<(Verse, &[u8])>
-    ensures { MatchOption result (numbers.verse_at bytes.now ≡ None) (λ v. numbers.verse_at bytes.now ≡ Some (v.0, v.1.now)) }
+    ensures { MatchOption result (numbers.verse_at bytes.now ≡ None)
+        (λ v. numbers.verse_at bytes.now ≡ Some (v.0, v.1.now)) }
 {
     let (number, rest) = number_at(bytes)?;
     let (letter, rest) = match rest {
@@ -149,10 +154,11 @@ fn verse_at(bytes: &[u8]) -> Option<(Verse, &[u8])>
     ends_number(rest).then_some(((number, letter), rest))
 }
 
-// A bridge's last verse, and what stands after it.
+// A bridge's last verse, and what comes after it.
 #[tactic(auto, unfolding(crate::specs::Numbers::bridge_at))]
 fn bridge_at(bytes: &[u8]) -> Option<(Verse, &[u8])>
-    ensures { MatchOption result (numbers.bridge_at bytes.now ≡ None) (λ v. numbers.bridge_at bytes.now ≡ Some (v.0, v.1.now)) }
+    ensures { MatchOption result (numbers.bridge_at bytes.now ≡ None)
+        (λ v. numbers.bridge_at bytes.now ≡ Some (v.0, v.1.now)) }
 {
     match bytes {
         [b'-', last @ ..] => verse_at(last),

@@ -1,4 +1,4 @@
-ghost use Rattle.std.specs.Prelude.{◌≡◌, ◌↔◌, ◌≤◌, ◌++◌, ℕ, List, take, IfOk, IfSome, OnOk, MatchOption, None, Some, Ok, Err, false};
+ghost use Rattle.std.specs.Prelude.{◌≡◌, ◌↔◌, ◌≤◌, ℕ, List, take, IfOk, IfSome, MatchOption, None, Some, Ok, Err, false};
 ghost use Rattle.std.specs.String.{string_bytes};
 ghost use Rattle.usfm_ref.specs.Books.{is_book_code};
 ghost use Rattle.usfm_ref.specs.Keys.{KeyParts};
@@ -10,7 +10,7 @@ use crate::fault::RefFault;
 use crate::key::{Key, Place};
 use crate::number::number_at;
 use std::alloc::{AllocError, Global};
-use std::fmt::Write;
+use std::str::FromStr;
 
 /// Reads a reference: a book's code, one space and a key, as `MAT 0`, `MAT 5`, `MAT 5:3` or
 /// `MAT 5:3a`. The numbers are 0 to 999 without leading zeros, the letter is one of a to z.
@@ -20,7 +20,8 @@ use std::fmt::Write;
 /// no reference.
 pub fn read_ref(text: &str) -> Result<(Book, Key), RefFault>
     ensures reads { IfOk result (λ r. IsRefTo text.now r.0 r.1) }
-    ensures only { (book : List ℕ) (key : KeyParts) → IsRefTo text.now book key → result ≡ Ok (book, key) }
+    ensures only { (book : List ℕ) (key : KeyParts) → IsRefTo text.now book key
+        → result ≡ Ok (book, key) }
     ensures bad_book { (result ≡ Err RefFault.BadBook) ↔ (is_book_code (take 3 text.now) ≡ false) }
     ensures value { result ≡ references.ref_in text.now }
 {
@@ -44,13 +45,7 @@ pub fn read_ref(text: &str) -> Result<(Book, Key), RefFault>
 pub fn write_ref(alloc: Global, book: Book, key: Key) -> Result<String, AllocError>
     ensures { IfOk result (λ text. string_bytes text ≡ ref_text book key) }
 {
-    let mut text = String::new(alloc);
-    for byte in book.code() {
-        text.push(char::from(byte))?;
-    }
-    text.push(' ')?;
-    push_key(&mut text, key)?;
-    Ok(text)
+    format!(in alloc; "{book} {key}")
 }
 
 /// Writes a key: its chapter in decimal, and for a verse a colon, the verse in decimal and its
@@ -61,28 +56,14 @@ pub fn write_ref(alloc: Global, book: Book, key: Key) -> Result<String, AllocErr
 pub fn write_key(alloc: Global, key: Key) -> Result<String, AllocError>
     ensures { IfOk result (λ text. string_bytes text ≡ key_text key) }
 {
-    let mut text = String::new(alloc);
-    push_key(&mut text, key)?;
-    Ok(text)
+    key.to_string(alloc)
 }
 
-fn push_key(text: &mut String, key: Key) -> Result<(), AllocError>
-    ensures { OnOk result (string_bytes text.new ≡ string_bytes text.old ++ key_text key) }
-{
-    write!(text, "{}", key.chapter)?;
-    if let Place::Verse { number, letter } = key.place {
-        write!(text, ":{number}")?;
-        if let Some(letter) = letter {
-            text.push(char::from(letter))?;
-        }
-    }
-    Ok(())
-}
-
-// A number of one to three digits without leading zeros, and what stands after it.
+// A number of one to three digits without leading zeros, and what comes after it.
 #[tactic(auto, unfolding(crate::specs::References::plain_at))]
 fn plain_at(bytes: &[u8]) -> Option<(u16, &[u8])>
-    ensures value { MatchOption result (references.plain_at bytes.now ≡ None) (λ n. references.plain_at bytes.now ≡ Some (n.0, n.1.now)) }
+    ensures value { MatchOption result (references.plain_at bytes.now ≡ None)
+        (λ n. references.plain_at bytes.now ≡ Some (n.0, n.1.now)) }
     ensures within { IfSome result (λ n. n.0 ≤ 999) }
 {
     match bytes {
@@ -116,6 +97,17 @@ fn key_in(bytes: &[u8]) -> Option<Key>
     let (chapter, behind) = plain_at(bytes)?;
     let place = place_in(behind)?;
     Some(Key { chapter, place })
+}
+
+/// Reads a key as `Display` writes it: `0`, `5`, `5:3` or `5:3a`. Any other text is `BadRef`.
+impl FromStr for Key {
+    type Err = RefFault;
+
+    ghost from_str_gives = { λ text result. result ≡ references.key_of text };
+
+    fn from_str(text: &str) -> Result<Key, RefFault> {
+        key_in(text.as_bytes()).ok_or(RefFault::BadRef)
+    }
 }
 
 // The key after one space.

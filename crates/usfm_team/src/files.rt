@@ -1,4 +1,4 @@
-// Files of the program, and the folders that they stand in.
+// Files of the program, and the folders that they are in.
 use std::fs::{File, OpenOptions};
 use std::io::ErrorKind;
 use std::os::unix::fs::OpenOptionsExt;
@@ -57,7 +57,7 @@ pub(crate) fn sync_file(file: &File) -> Result<(), Fault> {
     file.sync_all().map_err(|_| Fault::FileFailed)
 }
 
-// The folder that a file stands in.
+// The folder that a file is in.
 pub(crate) fn open_folder(rt: &HostRuntime, path: &str) -> Result<File, Fault> {
     let folder = match Path::new(path).parent() {
         Some(folder) if !folder.as_str().is_empty() => folder.as_str(),

@@ -27,7 +27,7 @@ const REFUSED: u8 = 1;
 
 const USAGE: u8 = 2;
 
-// What stands at a terminal for the person who is to type a text, or to give bundles.
+// What is at a terminal for the person who is to type a text, or to give bundles.
 const TYPE_A_TEXT: &str =
     "usfm_team: type the segment's text with its mark, and end it with control-D on a new line\n";
 

@@ -32,8 +32,8 @@ pub(crate) fn lock_project(rt: &HostRuntime, path: &str) -> Result<Project, Faul
     Err(Fault::FileFailed)
 }
 
-// Begins a project where nothing stands under its name: of two commands at once one makes the file. Where it then
-// fails, nothing stands there again.
+// Begins a project where nothing is under its name: of two commands at once one makes the file. Where it then
+// fails, nothing is there again.
 pub(crate) fn begin_project(rt: &HostRuntime, path: &str, bytes: &[u8]) -> Result<(), Fault> {
     let folder = open_folder(rt, path)?;
     let file = File::create_new(rt, path).map_err(|_| Fault::FileFailed)?;
@@ -82,7 +82,7 @@ fn open_project(rt: &HostRuntime, path: &str) -> Result<File, Fault> {
     }
 }
 
-// Where the file of a project stands: under its name, or where that link leads. Were the link replaced, the two would
+// Where the file of a project is: under its name, or where that link leads. Were the link replaced, the two would
 // be two projects of one name from then on.
 pub(crate) fn place_of(rt: &HostRuntime, path: &str) -> Result<PathBuf, Fault> {
     let found = fs::symlink_metadata(rt, path).map_err(|_| Fault::FileFailed)?;
@@ -93,7 +93,7 @@ pub(crate) fn place_of(rt: &HostRuntime, path: &str) -> Result<PathBuf, Fault> {
     }
 }
 
-// Whether it is this file that stands at a place. What is no file, as a pipe, is not read again.
+// Whether it is this file that is at a place. What is no file, as a pipe, is not read again.
 fn stands_at(rt: &HostRuntime, file: &File, place: &PathBuf) -> Result<bool, Fault> {
     let opened = look_at(file)?;
     if !opened.is_file() {

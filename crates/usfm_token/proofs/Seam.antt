@@ -27,7 +27,8 @@ run_join p apart xs b h =
     at_end [] h n e some = absurd (omega arith)
     at_end (y ∷ b) h n e some = get_or_at xs y b 0 n e ∙ h some
 
-head_join : (c : ℕ) → (92 == c) ≡ false → (0 == c) ≡ false → (xs b : List ℕ) → BeginsMark b → (get_or (xs ++ b) 0 0 == c) ≡ (get_or xs 0 0 == c)
+head_join : (c : ℕ) → (92 == c) ≡ false → (0 == c) ≡ false → (xs b : List ℕ) → BeginsMark b
+    → (get_or (xs ++ b) 0 0 == c) ≡ (get_or xs 0 0 == c)
 head_join c apart none (x ∷ xs) b h = refl
 head_join c apart none [] [] h = refl
 head_join c apart none [] (y ∷ b) h = ap (λ z. z == c) (h (omega arith)) ∙ apart ∙ sym none
@@ -46,11 +47,13 @@ mark_join bs b h =
     let n = prefix_len is_name_byte on in
     let low : prefix_len is_name_byte on ≤ length on = prefix_len-le-length is_name_byte on in
     let on_is = plus_join bs b h in
-    let run : prefix_len is_name_byte (behind_plus bs ++ b) ≡ prefix_len is_name_byte (behind_plus bs) = run_join is_name_byte refl on b h in
+    let run : prefix_len is_name_byte (behind_plus bs ++ b)
+    ≡ prefix_len is_name_byte (behind_plus bs) = run_join is_name_byte refl on b h in
     let name_is : take (prefix_len is_name_byte (behind_plus (bs ++ b))) (behind_plus (bs ++ b)) ≡ take n on =
     ap (λ l. take (prefix_len is_name_byte l) l) on_is ∙ ap (λ k. take k (on ++ b)) run ∙ take-append-le n on b low in
     let len : length (take n on) ≡ n = length-prefix_len is_name_byte on in
-    let rest_is : drop (length (take (prefix_len is_name_byte (behind_plus (bs ++ b))) (behind_plus (bs ++ b)))) (behind_plus (bs ++ b)) ≡ drop (length (take n on)) on ++ b =
+    let rest_is : drop (length (take (prefix_len is_name_byte (behind_plus (bs ++ b))) (behind_plus (bs ++ b)))) (behind_plus (bs ++ b))
+    ≡ drop (length (take n on)) on ++ b =
     (λ i. drop (length (name_is i)) (on_is i)) ∙ drop-append-le (length (take n on)) on b (omega arith) in
     λ i. record {
       nested = head_join 43 refl refl bs b h i;
@@ -60,7 +63,8 @@ mark_join bs b h =
 
 words_join : (xs b : List ℕ) → BeginsMark b → before_first is_backslash (xs ++ b) ≡ before_first is_backslash xs
 words_join xs b h =
-    ap (λ k. take k (xs ++ b)) (run_join (λ x. not (is_backslash x)) refl xs b h) ∙ take-append-le (position_or_len is_backslash xs) xs b (prefix_len-le-length (λ x. not (is_backslash x)) xs)
+    ap (λ k. take k (xs ++ b)) (run_join (λ x. not (is_backslash x)) refl xs b h)
+    ∙ take-append-le (position_or_len is_backslash xs) xs b (prefix_len-le-length (λ x. not (is_backslash x)) xs)
 
 first_join : (x : ℕ) (bs b : List ℕ) → BeginsMark b → first_lexeme x (bs ++ b) ≡ first_lexeme x bs
 first_join x bs b h = λ i. cond (x == 92) (mark (mark_join bs b h i)) (words (words_join (x ∷ bs) b h i))
@@ -72,7 +76,8 @@ join_in (suc n) (x ∷ bs) b le h =
     let f = first_lexeme x bs in
     let k = length (slice_of (first_lexeme x bs)) in
     let some : 0 < length (slice_of (first_lexeme x bs)) = first_positive x bs (x == 92) refl in
-    let fits : length (slice_of (first_lexeme x bs)) ≤ length (x ∷ bs) = omega (arith, ap length (first_front x bs (x == 92) refl), length-append (slice_of (first_lexeme x bs)) (drop k (x ∷ bs))) in
+    let fits : length (slice_of (first_lexeme x bs)) ≤ length (x ∷ bs) = omega
+    (arith, ap length (first_front x bs (x == 92) refl), length-append (slice_of (first_lexeme x bs)) (drop k (x ∷ bs))) in
     tokens_of-cons x (bs ++ b)
     ∙ ap (λ g. g ∷ tokens_of (drop (length (slice_of g)) (x ∷ (bs ++ b)))) (first_join x bs b h)
     ∙ ap (λ r. f ∷ tokens_of r) (drop-append-le k (x ∷ bs) b fits)
@@ -98,7 +103,8 @@ each_part (mark m ∷ ts) us h = (
   h.0,
   λ other after is same.
       h.1 other (after ++ joined us) is
-      (ap (λ r. mark_bytes m ++ r) (joined-append ts us) ∙ sym (append_assoc (mark_bytes m) (joined ts) (joined us)) ∙ ap (λ r. r ++ joined us) same ∙ append_assoc (mark_bytes other) after (joined us)),
+      (ap (λ r. mark_bytes m ++ r) (joined-append ts us) ∙ sym (append_assoc (mark_bytes m) (joined ts) (joined us))
+      ∙ ap (λ r. r ++ joined us) same ∙ append_assoc (mark_bytes other) after (joined us)),
   each_part ts us h.2,
 )
 each_part (words t ∷ ts) us h = (h.0, no_text_part ts us h.1, each_part ts us h.2)

@@ -11,7 +11,8 @@ tokens_lie s before t after h =
     let place = length (joined before) in
     let parts : s ≡ joined before ++ (slice_of t ++ joined after) =
     sym (joined-tokens_of s) ∙ ap joined h ∙ joined-append before (t ∷ after) in
-    let behind : drop place s ≡ slice_of t ++ joined after = ap (drop place) parts ∙ drop_at (joined before) (slice_of t ++ joined after) _ refl in
+    let behind : drop place s ≡ slice_of t ++ joined after = ap (drop place) parts
+    ∙ drop_at (joined before) (slice_of t ++ joined after) _ refl in
     ap (λ l. take (place + length (slice_of t) - place) l) behind ∙ take_at (slice_of t) (joined after) _ (omega arith)
 
 -- a mark alone is what its bytes are cut into

@@ -16,16 +16,23 @@ not_true true h = absurd (h refl)
 not_true false h = refl
 
 -- what `memchr` gives, or the length, is the place of the first backslash
-pub first_backslash : (bs : List ℕ) (r : Option ℕ) → IsFirstByte (is_byte 92) bs r → unwrap_or r (length bs) ≡ position_or_len is_backslash bs
-first_backslash bs None h = sym (position_or_len_is is_backslash bs (length bs) 0 (omega arith) (λ k lt. not_true _ (h k (omega arith) lt)) (λ lt. absurd (omega arith)))
-first_backslash bs (Some k) h = sym (position_or_len_is is_backslash bs k 0 (omega arith) (λ j lt. not_true _ (h.0.before j (omega arith) lt)) (λ lt. h.1))
+pub first_backslash : (bs : List ℕ) (r : Option ℕ) → IsFirstByte (is_byte 92) bs r
+    → unwrap_or r (length bs) ≡ position_or_len is_backslash bs
+first_backslash bs None h = sym
+    (position_or_len_is is_backslash bs (length bs) 0 (omega arith) (λ k lt. not_true _ (h k (omega arith) lt))
+    (λ lt. absurd (omega arith)))
+first_backslash bs (Some k) h =
+    sym (position_or_len_is is_backslash bs k 0 (omega arith) (λ j lt. not_true _ (h.0.before j (omega arith) lt)) (λ lt. h.1))
 
 -- a text may be cut before its first backslash
 pub boundary_before_backslash : (bs : List ℕ) → IsUtf8 bs → IsCharBoundary bs (position_or_len is_backslash bs)
 boundary_before_backslash bs utf8 =
     ⊎_elim
-    (λ within. IsCharBoundary-before_ascii bs _ within (let is : get_or bs (position_or_len is_backslash bs) 0 ≡ 92 = eqb-true _ _ (passes_at_first is_backslash bs 0 within) in omega arith))
-    (λ past. let low : position_or_len is_backslash bs ≤ length bs = prefix_len-le-length _ bs in let end : length bs ≡ position_or_len is_backslash bs = omega arith in subst (IsCharBoundary bs) end (IsCharBoundary-end bs))
+    (λ within. IsCharBoundary-before_ascii bs _ within
+    (let is : get_or bs (position_or_len is_backslash bs) 0
+    ≡ 92 = eqb-true _ _ (passes_at_first is_backslash bs 0 within) in omega arith))
+    (λ past. let low : position_or_len is_backslash bs ≤ length bs = prefix_len-le-length _ bs in let end : length bs
+    ≡ position_or_len is_backslash bs = omega arith in subst (IsCharBoundary bs) end (IsCharBoundary-end bs))
     (order (position_or_len is_backslash bs) (length bs))
 
 -- a text may be cut after a run of name bytes
@@ -49,7 +56,8 @@ pub text_positive : (b : ℕ) (bs : List ℕ) → (b == 92) ≡ false → 0 < le
 text_positive b bs h = rw (length-prefix_len (λ x. not (is_backslash x)) (b ∷ bs), h) (omega arith)
 
 -- no token is empty
-pub first_positive : (b : ℕ) (bs : List ℕ) (e : Bool) → (b == 92) ≡ e → 0 < length (slice_of (if e then mark (mark_behind bs) else words (before_first is_backslash (b ∷ bs))))
+pub first_positive : (b : ℕ) (bs : List ℕ) (e : Bool) → (b == 92) ≡ e
+    → 0 < length (slice_of (if e then mark (mark_behind bs) else words (before_first is_backslash (b ∷ bs))))
 first_positive b bs true h = omega arith
 first_positive b bs false h = text_positive b bs h
 
@@ -67,13 +75,15 @@ tokens_in-enough (suc n) zero (b ∷ bs) p q = absurd (omega arith)
 tokens_in-enough (suc n) (suc m) (b ∷ bs) p q =
     let k = length (slice_of (first_lexeme b bs)) in
     let some : 0 < length (slice_of (first_lexeme b bs)) = first_positive b bs (b == 92) refl in
-    ap (λ ts. first_lexeme b bs ∷ ts) (tokens_in-enough n m (drop k (b ∷ bs)) (omega (arith, length-drop k (b ∷ bs))) (omega (arith, length-drop k (b ∷ bs))))
+    ap (λ ts. first_lexeme b bs ∷ ts)
+    (tokens_in-enough n m (drop k (b ∷ bs)) (omega (arith, length-drop k (b ∷ bs))) (omega (arith, length-drop k (b ∷ bs))))
 
 pub tokens_of-nil : tokens_of [] ≡ []
 unfolding tokens_of
 tokens_of-nil = tokens_in-nil 0
 
-pub tokens_of-cons : (b : ℕ) (bs : List ℕ) → tokens_of (b ∷ bs) ≡ first_lexeme b bs ∷ tokens_of (drop (length (slice_of (first_lexeme b bs))) (b ∷ bs))
+pub tokens_of-cons : (b : ℕ) (bs : List ℕ)
+    → tokens_of (b ∷ bs) ≡ first_lexeme b bs ∷ tokens_of (drop (length (slice_of (first_lexeme b bs))) (b ∷ bs))
 unfolding tokens_of tokens_in
 tokens_of-cons b bs =
     let k = length (slice_of (first_lexeme b bs)) in
@@ -81,7 +91,8 @@ tokens_of-cons b bs =
     ap (λ ts. first_lexeme b bs ∷ ts) (tokens_in-enough _ _ (drop k (b ∷ bs)) (omega (arith, length-drop k (b ∷ bs))) (omega arith))
 
 -- the first token is t where t stands at the front and is what the first byte begins
-pub tokens_of-step : (s rest : List ℕ) (t : Lexeme) → slice_of t ++ rest ≡ s → 0 < length s → first_lexeme (get_or s 0 0) (drop 1 s) ≡ t → tokens_of s ≡ t ∷ tokens_of rest
+pub tokens_of-step : (s rest : List ℕ) (t : Lexeme) → slice_of t ++ rest ≡ s → 0 < length s → first_lexeme (get_or s 0 0) (drop 1 s) ≡ t
+    → tokens_of s ≡ t ∷ tokens_of rest
 tokens_of-step [] rest t join some first = absurd (omega arith)
 tokens_of-step (b ∷ bs) rest t join some first =
     tokens_of-cons b bs
@@ -118,11 +129,13 @@ pub record SplitsMark (text name_on name after_name after : List ℕ) (nested cl
   pub closing_is : closing ≡ (get_or after_name 0 0 == 42)
   pub star : after_name ≡ optional_byte closing 42 ++ after
 
-pub behind_plus_is : (n : Bool) (behind name_on : List ℕ) → n ≡ (get_or behind 0 0 == 43) → behind ≡ optional_byte n 43 ++ name_on → behind_plus behind ≡ name_on
+pub behind_plus_is : (n : Bool) (behind name_on : List ℕ) → n ≡ (get_or behind 0 0 == 43) → behind ≡ optional_byte n 43 ++ name_on
+    → behind_plus behind ≡ name_on
 behind_plus_is true behind name_on h e = rw (← h) (ap (drop 1) e)
 behind_plus_is false behind name_on h e = rw (← h) e
 
-module _ {text name_on name after_name after : List ℕ} {nested closing : Bool} (splits : SplitsMark text name_on name after_name after nested closing) where
+module _ {text name_on name after_name after : List ℕ} {nested closing : Bool}
+    (splits : SplitsMark text name_on name after_name after nested closing) where
   -- the text is the mark's spelling and what follows
   pub split_mark-join : text ≡ spelling nested name closing ++ after
   split_mark-join =
@@ -137,12 +150,15 @@ module _ {text name_on name after_name after : List ℕ} {nested closing : Bool}
 
   pub split_mark-slice : take (length text - length after) text ≡ spelling nested name closing
   split_mark-slice =
-      let len : length text - length after ≡ length (spelling nested name closing) = omega (arith, ap length split_mark-join ∙ length-append (spelling nested name closing) after) in
+      let len : length text - length after
+      ≡ length (spelling nested name closing) = omega
+      (arith, ap length split_mark-join ∙ length-append (spelling nested name closing) after) in
       ap (take (length text - length after)) split_mark-join ∙ take_at (spelling nested name closing) after _ (sym len)
 
   pub split_mark-boundary : IsUtf8 after → IsCharBoundary text (length text - length after)
   split_mark-boundary utf8 =
-      let len : length (spelling nested name closing) ≡ length text - length after = omega (arith, ap length split_mark-join ∙ length-append (spelling nested name closing) after) in
+      let len : length (spelling nested name closing)
+      ≡ length text - length after = omega (arith, ap length split_mark-join ∙ length-append (spelling nested name closing) after) in
       subst (IsCharBoundary text) len (IsCharBoundary-at_seam text (spelling nested name closing) after split_mark-join utf8)
 
   -- the name has name bytes alone
@@ -153,23 +169,32 @@ module _ {text name_on name after_name after : List ℕ} {nested closing : Bool}
   pub split_mark-parts : mark_behind (drop 1 text) ≡ record { nested = nested; name = name; closing = closing }
   split_mark-parts =
       let on : behind_plus (drop 1 text) ≡ name_on = behind_plus_is nested (drop 1 text) name_on splits.nested_is splits.plus in
-      let name_here : take (prefix_len is_name_byte (behind_plus (drop 1 text))) (behind_plus (drop 1 text)) ≡ name = ap (λ l. take (prefix_len is_name_byte l) l) on ∙ sym splits.name_is in
+      let name_here : take (prefix_len is_name_byte (behind_plus (drop 1 text))) (behind_plus (drop 1 text))
+      ≡ name = ap (λ l. take (prefix_len is_name_byte l) l) on ∙ sym splits.name_is in
       let name_len : length name ≡ prefix_len is_name_byte name_on = ap length splits.name_is ∙ length-prefix_len is_name_byte name_on in
-      let after_here : drop (length (take (prefix_len is_name_byte (behind_plus (drop 1 text))) (behind_plus (drop 1 text)))) (behind_plus (drop 1 text)) ≡ after_name =
+      let after_here : drop (length (take (prefix_len is_name_byte (behind_plus (drop 1 text))) (behind_plus (drop 1 text))))
+      (behind_plus (drop 1 text)) ≡ after_name =
       (λ i. drop (length (name_here i)) (on i)) ∙ ap (λ n. drop n name_on) name_len ∙ sym splits.after_name_is
       in
-      λ i. record { nested = sym splits.nested_is i; name = name_here i; closing = (ap (λ l. get_or l 0 0 == 42) after_here ∙ sym splits.closing_is) i }
+      λ i. record {
+        nested = sym splits.nested_is i;
+        name = name_here i;
+        closing = (ap (λ l. get_or l 0 0 == 42) after_here ∙ sym splits.closing_is) i;
+      }
 
-pub tokens_of-mark : (s rest : List ℕ) (m : MarkParts) → mark_bytes m ++ rest ≡ s → get_or s 0 0 ≡ 92 → m ≡ mark_behind (drop 1 s) → tokens_of s ≡ mark m ∷ tokens_of rest
+pub tokens_of-mark : (s rest : List ℕ) (m : MarkParts) → mark_bytes m ++ rest ≡ s → get_or s 0 0 ≡ 92 → m ≡ mark_behind (drop 1 s)
+    → tokens_of s ≡ mark m ∷ tokens_of rest
 tokens_of-mark s rest m join read is =
     tokens_of-step s rest (mark m) join (some_from_read s 92 (omega arith) read)
     (rw read (ap mark (sym is)))
 
-pub tokens_of-text : (s rest t : List ℕ) → t ++ rest ≡ s → 0 < length s → get_or s 0 0 ≢ 92 → t ≡ before_first is_backslash s → tokens_of s ≡ words t ∷ tokens_of rest
+pub tokens_of-text : (s rest t : List ℕ) → t ++ rest ≡ s → 0 < length s → get_or s 0 0 ≢ 92 → t ≡ before_first is_backslash s
+    → tokens_of s ≡ words t ∷ tokens_of rest
 tokens_of-text [] rest t join some read is = absurd (omega arith)
 tokens_of-text (b ∷ bs) rest t join some read is =
     tokens_of-step (b ∷ bs) rest (words t) join some
-    (let no : (b == 92) ≡ false = not_true (b == 92) (λ e. read (eqb-true _ _ e)) in ap (λ e. cond e (mark (mark_behind bs)) (words (before_first is_backslash (b ∷ bs)))) no ∙ ap words (sym is))
+    (let no : (b == 92) ≡ false = not_true (b == 92) (λ e. read (eqb-true _ _ e)) in ap
+    (λ e. cond e (mark (mark_behind bs)) (words (before_first is_backslash (b ∷ bs)))) no ∙ ap words (sym is))
 
 pub tokens_of_empty : (s : List ℕ) → length s ≡ 0 → tokens_of s ≡ []
 tokens_of_empty [] h = tokens_of-nil

@@ -14,7 +14,8 @@ pub first_not_empty : (t : Lexeme) (ts : List Lexeme) → AreLexemes (t ∷ ts) 
 first_not_empty (mark m) ts h = omega arith
 first_not_empty (words w) ts h = h.0.0
 
-each_tail : (t : Lexeme) (ts : List Lexeme) → AreLexemes (t ∷ ts) → AreLexemes ts
+-- the lexemes after the first are lexemes too
+pub each_tail : (t : Lexeme) (ts : List Lexeme) → AreLexemes (t ∷ ts) → AreLexemes ts
 each_tail (mark m) ts h = h.2
 each_tail (words w) ts h = h.2
 
@@ -31,7 +32,7 @@ length-tokens_of s = omega (arith, count_within (tokens_of s) (each-tokens_of s)
 pub no_tokens : (s : List ℕ) → tokens_of s ≡ [] → s ≡ []
 no_tokens s h = sym (joined-tokens_of s) ∙ ap joined h
 
--- the first token's slice stands at the front
+-- the first token's slice is at the front
 pub token_front : (rest after : List ℕ) (t : Lexeme) → tokens_of rest ≡ t ∷ tokens_of after → rest ≡ slice_of t ++ after
 token_front rest after t h = sym (joined-tokens_of rest) ∙ ap joined h ∙ ap (λ r. slice_of t ++ r) (joined-tokens_of after)
 

@@ -50,7 +50,7 @@ AreNameBytes name = EachIndex name (λ k. is_name_byte (slice_index name k) ≡ 
 abbrev pub IsMark : MarkParts → Type 0
 IsMark m = AreNameBytes m.name
 
--- no mark that stands where m stands, before rest, is longer
+-- no mark in the place of m, before rest, is longer
 abbrev pub IsLongest : MarkParts → List ℕ → Type 0
 IsLongest m rest = (other : MarkParts) (after : List ℕ) → IsMark other → mark_bytes m ++ rest ≡ mark_bytes other ++ after → length (mark_bytes other) ≤ length (mark_bytes m)
 
@@ -74,7 +74,7 @@ AreLexemes [] = Unit {0}
 AreLexemes (mark m ∷ ts) = IsMark m × IsLongest m (joined ts) × AreLexemes ts
 AreLexemes (words t ∷ ts) = IsText t × BeginsWithNoText ts × AreLexemes ts
 
--- ts is what s is cut into: its slices join to s, each mark is the longest at its place, and what stands between
+-- ts is what s is cut into: its slices join to s, each mark is the longest at its place, and what is between
 -- two marks is one text
 pub record AreTokensOf (ts : List Lexeme) (s : List ℕ) : Type 0 where
   pub join : joined ts ≡ s
@@ -82,11 +82,11 @@ pub record AreTokensOf (ts : List Lexeme) (s : List ℕ) : Type 0 where
 
 -- The same, as a reading from the left.
 
--- what stands after a '+' (43) at the front, and all where none stands there
+-- what comes after a '+' (43) at the front, and all where none is there
 abbrev pub behind_plus : List ℕ → List ℕ
 behind_plus bs = if slice_index bs 0 == 43 then drop 1 bs else bs
 
--- the mark whose backslash stands before bs
+-- the mark whose backslash comes before bs
 abbrev pub mark_behind : List ℕ → MarkParts
 mark_behind bs =
     let name_on = behind_plus bs in
@@ -127,7 +127,7 @@ abbrev pub TokensLie : Type 0
 TokensLie = (s : List ℕ) (before : List Lexeme) (t : Lexeme) (after : List Lexeme) → tokens_of s ≡ before ++ t ∷ after →
     let place = length (joined before) in slice_range s place (place + length (slice_of t)) ≡ slice_of t
 
--- empty, or a backslash stands at the front
+-- empty, or a backslash is at the front
 abbrev pub BeginsMark : List ℕ → Type 0
 BeginsMark s = 0 < length s → slice_index s 0 ≡ 92
 

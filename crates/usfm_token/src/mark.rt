@@ -27,7 +27,7 @@ impl<'a> Mark<'a> {
         self.slice
     }
 
-    /// What stands between the backslash, or the `+` after it, and the `*` or the mark's end.
+    /// What is between the backslash, or the `+` after it, and the `*` or the mark's end.
     pub fn name(&self) -> &'a str
         ensures { result.now ≡ (mark_parts self.now).name }
     {

@@ -17,14 +17,14 @@ pub(crate) fn name_len(bytes: &[u8]) -> usize
     bytes.iter().take_while(|b| is_name_byte(**b)).count()
 }
 
-// How many bytes stand before the first backslash, or the end.
+// How many bytes come before the first backslash, or the end.
 pub(crate) fn text_len(bytes: &[u8]) -> usize
     ensures { result ≡ position_or_len is_backslash bytes.now }
 {
     memchr::memchr(b'\\', bytes).unwrap_or(bytes.len())
 }
 
-// Whether an ASCII byte stands at the front, and the text without it.
+// Whether an ASCII byte is at the front, and the text without it.
 pub(crate) fn strip_byte(text: &str, byte: u8) -> (bool, &str)
     requires { (0 < byte) × (byte < 128) }
     ensures found { result.0 ≡ (slice_index text.now 0 == byte) }

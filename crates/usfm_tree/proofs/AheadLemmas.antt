@@ -1,7 +1,8 @@
--- What stands under the root from a place of the source on.
+-- What is under the root from a place of the source on.
 use Rattle.std.proofs.Common.{◌≡◌, ℕ, ◌-◌, List, [], ◌∷◌, length, map, reverse, refl, ap, ◌∙◌, arith}
 use Rattle.usfm_token.specs.Tokens.{tokens_of}
 use Rattle.usfm_token.specs.Tokens as tokens
+use Rattle.usfm_token.proofs.TokenLemmas.{tokens_of-nil}
 use Rattle.usfm_tree.specs.Ahead.{forest_left}
 use Rattle.usfm_tree.specs.Forest.{nothing}
 use Rattle.usfm_tree.specs.Reading.{Styles, kids, kids_of_list, placed, tree_of}
@@ -13,14 +14,10 @@ none_left : (styles : Styles) → (kids_of_list styles [] []).0 ≡ nothing
 unfolding kids
 none_left styles = refl
 
-no_tokens : tokens_of [] ≡ []
-unfolding tokens_of tokens.tokens_in
-no_tokens = refl
-
 -- at the end
 pub nothing_left : (styles : Styles) (source : List ℕ) → forest_left styles source [] ≡ nothing
 nothing_left styles source =
-    ap (λ ts. (kids_of_list styles [] (placed (length source - 0) ts)).0) no_tokens ∙ none_left styles
+    ap (λ ts. (kids_of_list styles [] (placed (length source - 0) ts)).0) tokens_of-nil ∙ none_left styles
 
 -- from the front on
 pub whole_left : (styles : Styles) (source : List ℕ) → forest_left styles source source ≡ tree_of styles source

@@ -15,7 +15,8 @@ use Rattle.usfm_tree.specs.Reading.{Styles, Placed, placed, Role, plain, alone, 
 abbrev slices : List Placed → List (List ℕ)
 slices l = map (λ t. slice_of t.token) l
 
-either_role : (b : Bool) (m : MarkParts) (x y : Role) → role_bytes x ≡ mark_bytes m → role_bytes y ≡ mark_bytes m → role_bytes (cond b x y) ≡ mark_bytes m
+either_role : (b : Bool) (m : MarkParts) (x y : Role) → role_bytes x ≡ mark_bytes m → role_bytes y ≡ mark_bytes m
+    → role_bytes (cond b x y) ≡ mark_bytes m
 either_role true m x y p q = p
 either_role false m x y p q = q
 
@@ -38,18 +39,22 @@ pub role_slice : (styles : Styles) (t : Lexeme) → role_bytes (role styles t) �
 role_slice styles (words b) = refl
 role_slice styles (mark m) = either_role m.closing m (closes m) (marked m (styles m.name)) refl (marked_bytes m (styles m.name))
 
-close_by_joins : (os : List Open) (t : Placed) (l : List Placed) (r : Role) → role_bytes r ≡ slice_of t.token → close_leaves (close_by os t l r).0 ++ slices (close_by os t l r).1 ≡ slices (t ∷ l)
+close_by_joins : (os : List Open) (t : Placed) (l : List Placed) (r : Role) → role_bytes r ≡ slice_of t.token
+    → close_leaves (close_by os t l r).0 ++ slices (close_by os t l r).1 ≡ slices (t ∷ l)
 close_by_joins os t l (plain b) h = refl
 close_by_joins os t l (alone m) h = refl
 close_by_joins os t l (spans m) h = refl
 close_by_joins os t l (opens k c m) h = refl
 close_by_joins os t l (closes m) h =
-    elim (closed_by m os == 1) as (λ b. close_leaves (cond {A = Closed} b (Some m, l) (None, t ∷ l)).0 ++ slices (cond {A = Closed} b (Some m, l) (None, t ∷ l)).1 ≡ slices (t ∷ l)) [
+    elim (closed_by m os == 1) as
+    (λ b. close_leaves (cond {A = Closed} b (Some m, l) (None, t ∷ l)).0 ++ slices (cond {A = Closed} b (Some m, l) (None, t ∷ l)).1
+    ≡ slices (t ∷ l)) [
       | true ↦ ap (λ x. x ∷ slices l) h
       | false ↦ refl
     ]
 
-take_close_joins : (styles : Styles) (os : List Open) (l : List Placed) → close_leaves (take_close styles os l).0 ++ slices (take_close styles os l).1 ≡ slices l
+take_close_joins : (styles : Styles) (os : List Open) (l : List Placed)
+    → close_leaves (take_close styles os l).0 ++ slices (take_close styles os l).1 ≡ slices l
 take_close_joins styles os [] = refl
 take_close_joins styles os (t ∷ l) = close_by_joins os t l (role styles t.token) (role_slice styles t.token)
 
@@ -67,11 +72,13 @@ bare_slice (mark m) h = bare_bytes m.nested m.closing m.name h
 abbrev TakenJoins : Taken → List Placed → Type 0
 TakenJoins t l = leaves_of t.kids ++ (close_leaves t.close ++ slices t.rest) ≡ slices l
 
-take_bare_joins : (whole : List Placed) (f : Forest) (l : List Placed) → leaves_of f ++ slices l ≡ slices whole → TakenJoins (take_bare whole f l) whole
+take_bare_joins : (whole : List Placed) (f : Forest) (l : List Placed) → leaves_of f ++ slices l ≡ slices whole
+    → TakenJoins (take_bare whole f l) whole
 take_bare_joins whole f [] h = refl
 take_bare_joins whole f (t ∷ l) h = by_test (is_bare_close t.token) refl
   where
-    by_test : (b : Bool) → is_bare_close t.token ≡ b → TakenJoins (cond b (record { kids = f; close = Some bare; rest = l }) (Taken_none whole)) whole
+    by_test : (b : Bool) → is_bare_close t.token ≡ b
+        → TakenJoins (cond b (record { kids = f; close = Some bare; rest = l }) (Taken_none whole)) whole
     by_test true e = ap (λ x. leaves_of f ++ x ∷ slices l) (sym (bare_slice t.token e)) ∙ h
     by_test false e = refl
 
@@ -94,14 +101,18 @@ either_read true x y l p q = p
 either_read false x y l p q = q
 
 -- a node, its kids, its close and what follows
-node_joins : (m : MarkParts) (inside : Forest) (close : Option MarkParts) (after : Read) (t : Placed) (left rest : List Placed) → mark_bytes m ≡ slice_of t.token → ReadJoins after rest → leaves_of inside ++ (close_leaves close ++ slices rest) ≡ slices left → mark_bytes m ∷ (leaves_of inside ++ (close_leaves close ++ leaves_of after.0)) ++ slices after.1 ≡ slices (t ∷ left)
+node_joins : (m : MarkParts) (inside : Forest) (close : Option MarkParts) (after : Read) (t : Placed) (left rest : List Placed)
+    → mark_bytes m ≡ slice_of t.token → ReadJoins after rest → leaves_of inside ++ (close_leaves close ++ slices rest) ≡ slices left
+    → mark_bytes m ∷ (leaves_of inside ++ (close_leaves close ++ leaves_of after.0)) ++ slices after.1 ≡ slices (t ∷ left)
 node_joins m inside close after t left rest is go joins =
     ap (λ x. mark_bytes m ∷ x) (append_assoc (leaves_of inside) (close_leaves close ++ leaves_of after.0) (slices after.1)
-    ∙ ap (λ x. leaves_of inside ++ x) (append_assoc (close_leaves close) (leaves_of after.0) (slices after.1) ∙ ap (λ x. close_leaves close ++ x) go)
+    ∙ ap (λ x. leaves_of inside ++ x)
+    (append_assoc (close_leaves close) (leaves_of after.0) (slices after.1) ∙ ap (λ x. close_leaves close ++ x) go)
     ∙ joins)
     ∙ ap (λ x. x ∷ slices left) is
 
-enter_joins : (styles : Styles) (go : List Open → List Placed → Read) (os : List Open) (t : Placed) (l : List Placed) (r : Role) → Joins go → role_bytes r ≡ slice_of t.token → ReadJoins (enter styles go os t l r) (t ∷ l)
+enter_joins : (styles : Styles) (go : List Open → List Placed → Read) (os : List Open) (t : Placed) (l : List Placed) (r : Role) → Joins go
+    → role_bytes r ≡ slice_of t.token → ReadJoins (enter styles go os t l r) (t ∷ l)
 enter_joins styles go os t l (plain b) h is = λ i. is i ∷ h os l i
 enter_joins styles go os t l (alone m) h is = λ i. is i ∷ h os l i
 enter_joins styles go os t l (closes m) h is = λ i. is i ∷ h os l i
@@ -115,7 +126,8 @@ enter_joins styles go os t l (opens k c m) h is =
     let inner = go inside l in
     let closed = take_close styles inside inner.1 in
     either_read (has_room os) (opened styles go (open_of k c m) os t m inner) (followed (leaf t.start m) (go os l)) (t ∷ l)
-    (node_joins m inner.0 closed.0 (go os closed.1) t l closed.1 is (h os closed.1) (ap (λ x. leaves_of inner.0 ++ x) (take_close_joins styles inside inner.1) ∙ h inside l))
+    (node_joins m inner.0 closed.0 (go os closed.1) t l closed.1 is (h os closed.1)
+    (ap (λ x. leaves_of inner.0 ++ x) (take_close_joins styles inside inner.1) ∙ h inside l))
     (λ i. is i ∷ h os l i)
 
 kids_joins : (styles : Styles) (n : ℕ) → Joins (kids styles n)
@@ -123,7 +135,8 @@ unfolding kids
 kids_joins styles zero os l = refl
 kids_joins styles (suc n) os [] = refl
 kids_joins styles (suc n) os (t ∷ l) =
-    either_read (nat_lt 0 (ended os (role styles t.token))) (nothing, t ∷ l) (enter styles (kids styles n) os t l (role styles t.token)) (t ∷ l) refl
+    either_read (nat_lt 0 (ended os (role styles t.token))) (nothing, t ∷ l) (enter styles (kids styles n) os t l (role styles t.token))
+    (t ∷ l) refl
     (enter_joins styles (kids styles n) os t l (role styles t.token) (kids_joins styles n) (role_slice styles t.token))
 
 -- Under the root nothing ends, so nothing is left.
@@ -152,25 +165,29 @@ either_done false x y p q = q
 abbrev Finishes : ℕ → (List Open → List Placed → Read) → Type 0
 Finishes n go = (l : List Placed) → length l < n → Done (go [] l)
 
-enter_done : (styles : Styles) (n : ℕ) (go : List Open → List Placed → Read) (t : Placed) (l : List Placed) (r : Role) → Shortens go → Finishes n go → length l < n → Done (enter styles go [] t l r)
+enter_done : (styles : Styles) (n : ℕ) (go : List Open → List Placed → Read) (t : Placed) (l : List Placed) (r : Role) → Shortens go
+    → Finishes n go → length l < n → Done (enter styles go [] t l r)
 enter_done styles n go t l (plain b) s h p = h l p
 enter_done styles n go t l (alone m) s h p = h l p
 enter_done styles n go t l (closes m) s h p = h l p
 enter_done styles n go t l (spans m) s h p =
     let taken = milestone_takes l in
-    either_done (has_room []) (spanned go [] t m taken) (followed (leaf t.start m) (go [] l)) (h taken.rest (omega (arith, milestone_shorter l))) (h l p)
+    either_done (has_room []) (spanned go [] t m taken) (followed (leaf t.start m) (go [] l))
+    (h taken.rest (omega (arith, milestone_shorter l))) (h l p)
 enter_done styles n go t l (opens k c m) s h p =
     let inside = open_of k c m ∷ [] in
     let inner = go inside l in
     let closed = take_close styles inside inner.1 in
-    either_done (has_room []) (opened styles go (open_of k c m) [] t m inner) (followed (leaf t.start m) (go [] l)) (h closed.1 (omega (arith, s inside l, take_close_shorter styles inside inner.1))) (h l p)
+    either_done (has_room []) (opened styles go (open_of k c m) [] t m inner) (followed (leaf t.start m) (go [] l))
+    (h closed.1 (omega (arith, s inside l, take_close_shorter styles inside inner.1))) (h l p)
 
 kids_done : (styles : Styles) (n : ℕ) → Finishes n (kids styles n)
 unfolding kids
 kids_done styles zero l p = absurd (omega arith)
 kids_done styles (suc n) [] p = refl
 kids_done styles (suc n) (t ∷ l) p =
-    ap (λ k. (cond {A = Read} (nat_lt 0 k) (nothing, t ∷ l) (enter styles (kids styles n) [] t l (role styles t.token))).1) (root_ends (role styles t.token))
+    ap (λ k. (cond {A = Read} (nat_lt 0 k) (nothing, t ∷ l) (enter styles (kids styles n) [] t l (role styles t.token))).1)
+    (root_ends (role styles t.token))
     ∙ enter_done styles n (kids styles n) t l (role styles t.token) (kids_shorter styles n) (kids_done styles n) (omega arith)
 
 slices_placed : (n : ℕ) (ts : List Lexeme) → slices (placed n ts) ≡ map slice_of ts

@@ -1,4 +1,4 @@
--- The parts of nodes that stand side by side.
+-- The parts of nodes that are side by side.
 use Rattle.std.proofs.Common.{◌≡◌, ◌<◌, ◌≤◌, get_or, ℕ, zero, suc, List, [], ◌∷◌, length, None, Some, sym, refl, ap, ◌∙◌, subst, arith}
 use Rattle.std.specs.Prelude.{option_and_then}
 use Rattle.usfm_tree.specs.Forest.{Forest, nothing, ◌then◌, entry_at, part_at, kids_of}
@@ -40,7 +40,8 @@ pub part_one : (path js : List ℕ) (i : ℕ) (f : Forest) → path ≡ i ∷ js
 part_one path [] i f h e = ap (λ p. part_at p f) h
 part_one path (j ∷ js) i f h e = absurd (omega arith)
 
-pub part_more : (path js : List ℕ) (i : ℕ) (f : Forest) → path ≡ i ∷ js → 0 < length js → part_at path f ≡ option_and_then (λ g. part_at js (kids_of g)) (entry_at i f)
+pub part_more : (path js : List ℕ) (i : ℕ) (f : Forest) → path ≡ i ∷ js → 0 < length js
+    → part_at path f ≡ option_and_then (λ g. part_at js (kids_of g)) (entry_at i f)
 part_more path [] i f h e = absurd (omega arith)
 part_more path (j ∷ js) i f h e = ap (λ p. part_at p f) h
 

@@ -26,24 +26,31 @@ close_is : (c : Option MarkParts) → flat_map (λ t. t) (close_leaves c ++ []) 
 close_is None = refl
 close_is (Some m) = append-nil (mark_bytes m)
 
-pub span_is : (k : StyleKind) (s : ℕ) (b : List ℕ) (m : MarkParts) (ks : Forest) (c : Option MarkParts) → bytes_of (node k s b m ks c nothing) ≡ span_bytes m ks c
-span_is k s b m ks c = ap (λ l. mark_bytes m ++ l) (flat_map-append (λ (t : List ℕ). t) (leaves_of ks) (close_leaves c ++ []) ∙ ap (λ l. bytes_of ks ++ l) (close_is c))
+pub span_is : (k : StyleKind) (s : ℕ) (b : List ℕ) (m : MarkParts) (ks : Forest) (c : Option MarkParts)
+    → bytes_of (node k s b m ks c nothing) ≡ span_bytes m ks c
+span_is k s b m ks c = ap (λ l. mark_bytes m ++ l)
+    (flat_map-append (λ (t : List ℕ). t) (leaves_of ks) (close_leaves c ++ []) ∙ ap (λ l. bytes_of ks ++ l) (close_is c))
 
 pub spans_push : (os : List (Open Begun)) (o : Open Begun) → reverse (map span_of (os ++ o ∷ [])) ≡ span_of o ∷ reverse (map span_of os)
 spans_push os o = ap reverse (map-append span_of os (o ∷ [])) ∙ reverse-append (map span_of os) (span_of o ∷ [])
 
-pub adjoins_pop : (items new_items : List (Open Begun)) (o : Open Begun) (sofar : Forest) (rest : List ℕ) → items ≡ new_items ++ o ∷ [] → Adjoins (reverse (map span_of items)) sofar rest → Adjoins (span_of o ∷ reverse (map span_of new_items)) sofar rest
+pub adjoins_pop : (items new_items : List (Open Begun)) (o : Open Begun) (sofar : Forest) (rest : List ℕ) → items ≡ new_items ++ o ∷ []
+    → Adjoins (reverse (map span_of items)) sofar rest → Adjoins (span_of o ∷ reverse (map span_of new_items)) sofar rest
 adjoins_pop items new_items o sofar rest popped h =
     let F : List Span → Type 0 = λ ss. Adjoins ss sofar rest in
     subst F (ap (λ l. reverse (map span_of l)) popped ∙ spans_push new_items o) h
 
 put_at : (ss : List Span) (sofar e : Forest) (rest : List ℕ) → Adjoins ss sofar (bytes_of e ++ rest) → Adjoins ss (sofar then e) rest
 put_at [] sofar e rest h = tt
-put_at (s ∷ ss) sofar e rest h =
-    (h.0 ∙ ap (λ x. mark_bytes s.mark ++ x) (sym (append_assoc (bytes_of sofar) (bytes_of e) rest) ∙ ap (λ x. x ++ rest) (sym (bytes_then sofar e))), h.1)
+put_at (s ∷ ss) sofar e rest h = (
+  h.0 ∙ ap (λ x. mark_bytes s.mark ++ x)
+      (sym (append_assoc (bytes_of sofar) (bytes_of e) rest) ∙ ap (λ x. x ++ rest) (sym (bytes_then sofar e))),
+  h.1,
+)
 
 -- an entry after what was read so far
-pub adjoins_put : (ss new_ss : List Span) (sofar new_sofar e : Forest) (b rest : List ℕ) → Adjoins ss sofar (b ++ rest) → bytes_of e ≡ b → new_sofar ≡ sofar then e → new_ss ≡ ss → Adjoins new_ss new_sofar rest
+pub adjoins_put : (ss new_ss : List Span) (sofar new_sofar e : Forest) (b rest : List ℕ) → Adjoins ss sofar (b ++ rest) → bytes_of e ≡ b
+    → new_sofar ≡ sofar then e → new_ss ≡ ss → Adjoins new_ss new_sofar rest
 adjoins_put ss new_ss sofar new_sofar e b rest h is made same =
     let F : List ℕ → Type 0 = λ x. Adjoins ss sofar (x ++ rest) in
     let G : Forest → Type 0 = λ x. Adjoins ss x rest in
@@ -54,22 +61,28 @@ pub adjoins_at : (ss : List Span) (sofar : Forest) (at rest : List ℕ) → Adjo
 adjoins_at ss sofar at rest h is = let F : List ℕ → Type 0 = λ x. Adjoins ss sofar x in subst F is h
 
 -- a mark that begins a node
-pub adjoins_begin : (ss new_ss : List Span) (sofar new_sofar : Forest) (m : MarkParts) (at rest : List ℕ) → Adjoins ss sofar at → at ≡ mark_bytes m ++ rest → new_sofar ≡ nothing → new_ss ≡ record { from = at; mark = m; before = sofar } ∷ ss → Adjoins new_ss new_sofar rest
+pub adjoins_begin : (ss new_ss : List Span) (sofar new_sofar : Forest) (m : MarkParts) (at rest : List ℕ) → Adjoins ss sofar at
+    → at ≡ mark_bytes m ++ rest → new_sofar ≡ nothing → new_ss ≡ record { from = at; mark = m; before = sofar } ∷ ss
+    → Adjoins new_ss new_sofar rest
 adjoins_begin ss new_ss sofar new_sofar m at rest h is made pushed =
     let G : Forest → Type 0 = λ x. Adjoins (record { from = at; mark = m; before = sofar } ∷ ss) x rest in
     let H : List Span → Type 0 = λ x. Adjoins x new_sofar rest in
     subst H (sym pushed) (subst G (sym made) (is, h))
 
 -- the bytes of the innermost node, and what follows it
-pub span_front : (from m_bytes inside close rest : List ℕ) → from ≡ m_bytes ++ (inside ++ (close ++ rest)) → from ≡ (m_bytes ++ (inside ++ close)) ++ rest
+pub span_front : (from m_bytes inside close rest : List ℕ) → from ≡ m_bytes ++ (inside ++ (close ++ rest))
+    → from ≡ (m_bytes ++ (inside ++ close)) ++ rest
 span_front from m_bytes inside close rest h =
     h ∙ ap (λ x. m_bytes ++ x) (sym (append_assoc inside close rest)) ∙ sym (append_assoc m_bytes (inside ++ close) rest)
 
 -- the innermost node ends
-pub adjoins_end : (s : Span) (ss : List Span) (sofar new_sofar e : Forest) (close : Option MarkParts) (rest : List ℕ) → Adjoins (s ∷ ss) sofar (close_bytes close ++ rest) → bytes_of e ≡ span_bytes s.mark sofar close → new_sofar ≡ s.before then e → Adjoins ss new_sofar rest
+pub adjoins_end : (s : Span) (ss : List Span) (sofar new_sofar e : Forest) (close : Option MarkParts) (rest : List ℕ)
+    → Adjoins (s ∷ ss) sofar (close_bytes close ++ rest) → bytes_of e ≡ span_bytes s.mark sofar close → new_sofar ≡ s.before then e
+    → Adjoins ss new_sofar rest
 adjoins_end s ss sofar new_sofar e close rest h is made =
     adjoins_put ss ss s.before new_sofar e (span_bytes s.mark sofar close) rest
-    (adjoins_at ss s.before s.from (span_bytes s.mark sofar close ++ rest) h.1 (span_front s.from (mark_bytes s.mark) (bytes_of sofar) (close_bytes close) rest h.0))
+    (adjoins_at ss s.before s.from (span_bytes s.mark sofar close ++ rest) h.1
+    (span_front s.from (mark_bytes s.mark) (bytes_of sofar) (close_bytes close) rest h.0))
     is made refl
 
 pub bytes_text : (s : ℕ) (t : List ℕ) → bytes_of (text s t nothing) ≡ t

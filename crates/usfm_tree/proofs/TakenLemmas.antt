@@ -12,8 +12,10 @@ use Rattle.usfm_tree.specs.Stack.{Frame, opens_of, resume}
 use Rattle.usfm_tree.proofs.ReadingLemmas.{resume-deep_span, resume-span}
 use Rattle.usfm_tree.specs.TakenViews.{left_of, optional_text, EntersTo}
 use Rattle.usfm_tree.proofs.ReaderLemmas.{left_front}
+use Rattle.usfm_token.proofs.Walk.{token_front}
 
-bare_parts : (n c : Bool) (w : List ℕ) → (c && (not n && bytes_eq w [])) ≡ true → ◌≡◌ {A = MarkParts} (record { nested = n; name = w; closing = c }) bare
+bare_parts : (n c : Bool) (w : List ℕ) → (c && (not n && bytes_eq w [])) ≡ true
+    → ◌≡◌ {A = MarkParts} (record { nested = n; name = w; closing = c }) bare
 bare_parts false true [] h = refl
 bare_parts false true (x ∷ w) h = absurd (cc)
 bare_parts true true w h = absurd (cc)
@@ -30,29 +32,34 @@ pub takes_none : (n : ℕ) (rest : List ℕ) → tokens_of rest ≡ [] → miles
 takes_none n rest h = ap (λ l. milestone_takes (placed (n - length rest) l)) h ∙ sym (ap (λ l. Taken_none (placed (n - length rest) l)) h)
 
 -- a mark in front
-pub takes_mark : (n : ℕ) (rest after : List ℕ) (m : MarkParts) → tokens_of rest ≡ mark m ∷ tokens_of after → length rest ≤ n → milestone_takes (left_of n rest) ≡ cond (is_bare_close (mark m)) (record { kids = nothing; close = Some bare; rest = left_of n after }) (Taken_none (left_of n rest))
+pub takes_mark : (n : ℕ) (rest after : List ℕ) (m : MarkParts) → tokens_of rest ≡ mark m ∷ tokens_of after → length rest ≤ n
+    → milestone_takes (left_of n rest)
+    ≡ cond (is_bare_close (mark m)) (record { kids = nothing; close = Some bare; rest = left_of n after }) (Taken_none (left_of n rest))
 takes_mark n rest after m h within =
     let f = (left_front n rest after (mark m) h within).0 in
-    ap milestone_takes f ∙ sym (ap (λ l. cond (is_bare_close (mark m)) (record { kids = nothing; close = Some bare; rest = left_of n after }) (Taken_none l)) f)
+    ap milestone_takes f ∙ sym
+    (ap (λ l. cond (is_bare_close (mark m)) (record { kids = nothing; close = Some bare; rest = left_of n after }) (Taken_none l)) f)
 
 -- a text in front, and nothing after it
-pub takes_text : (n : ℕ) (rest after : List ℕ) (t : List ℕ) → tokens_of rest ≡ words t ∷ tokens_of after → length rest ≤ n → milestone_takes (left_of n rest) ≡ take_bare (left_of n rest) (text (n - length rest) t nothing) (left_of n after)
+pub takes_text : (n : ℕ) (rest after : List ℕ) (t : List ℕ) → tokens_of rest ≡ words t ∷ tokens_of after → length rest ≤ n
+    → milestone_takes (left_of n rest) ≡ take_bare (left_of n rest) (text (n - length rest) t nothing) (left_of n after)
 takes_text n rest after t h within =
     let f = (left_front n rest after (words t) h within).0 in
     ap milestone_takes f ∙ sym (ap (λ l. take_bare l (text (n - length rest) t nothing) (left_of n after)) f)
 
-pub bare_none : (n : ℕ) (after : List ℕ) (whole : List Placed) (k : Forest) → tokens_of after ≡ [] → take_bare whole k (left_of n after) ≡ Taken_none whole
+pub bare_none : (n : ℕ) (after : List ℕ) (whole : List Placed) (k : Forest) → tokens_of after ≡ []
+    → take_bare whole k (left_of n after) ≡ Taken_none whole
 bare_none n after whole k h = ap (λ l. take_bare whole k (placed (n - length after) l)) h
 
-pub bare_front : (n : ℕ) (after behind : List ℕ) (t : Lexeme) (whole : List Placed) (k : Forest) → tokens_of after ≡ t ∷ tokens_of behind → length after ≤ n → take_bare whole k (left_of n after) ≡ cond (is_bare_close t) (record { kids = k; close = Some bare; rest = left_of n behind }) (Taken_none whole)
+pub bare_front : (n : ℕ) (after behind : List ℕ) (t : Lexeme) (whole : List Placed) (k : Forest) → tokens_of after ≡ t ∷ tokens_of behind
+    → length after ≤ n → take_bare whole k (left_of n after)
+    ≡ cond (is_bare_close t) (record { kids = k; close = Some bare; rest = left_of n behind }) (Taken_none whole)
 bare_front n after behind t whole k h within = ap (take_bare whole k) (left_front n after behind t h within).0
 
 -- a list that another begins with is no longer
-pub shorter : (rest after : List ℕ) (t : Lexeme) → tokens_of rest ≡ t ∷ tokens_of after → (length after ≤ length rest) × (length (tokens_of after) ≤ length (tokens_of rest))
+pub shorter : (rest after : List ℕ) (t : Lexeme) → tokens_of rest ≡ t ∷ tokens_of after
+    → (length after ≤ length rest) × (length (tokens_of after) ≤ length (tokens_of rest))
 shorter rest after t h = ((left_front (length rest) rest after t h (omega arith)).1, omega (arith, ap length h))
-
-pub front_bytes : (rest after : List ℕ) (t : Lexeme) → tokens_of rest ≡ t ∷ tokens_of after → rest ≡ slice_of t ++ after
-front_bytes rest after t h = sym (joined-tokens_of rest) ∙ ap joined h ∙ ap (λ r. slice_of t ++ r) (joined-tokens_of after)
 
 -- The outcomes.
 
@@ -70,53 +77,83 @@ Outcome rest t c after =
 pub outcome_none : (rest : List ℕ) → tokens_of rest ≡ [] → Outcome rest None None rest
 outcome_none rest h n within = (takes_none n rest h, refl, omega arith, omega arith)
 
-pub outcome_other : (rest after : List ℕ) (m : MarkParts) → tokens_of rest ≡ mark m ∷ tokens_of after → is_bare_close (mark m) ≡ false → Outcome rest None None rest
-outcome_other rest after m h other n within =
-    (takes_mark n rest after m h within ∙ ap (λ b. cond b (record { kids = nothing; close = Some bare; rest = left_of n after }) (Taken_none (left_of n rest))) other, refl, omega arith, omega arith)
-
-pub outcome_bare : (rest after : List ℕ) (m : MarkParts) → tokens_of rest ≡ mark m ∷ tokens_of after → is_bare_close (mark m) ≡ true → Outcome rest None (Some m) after
-outcome_bare rest after m h is n within =
-    let s = shorter rest after (mark m) h in (
-      takes_mark n rest after m h within ∙ ap (λ b. cond b (record { kids = nothing; close = Some bare; rest = left_of n after }) (Taken_none (left_of n rest))) is
-          ∙ ap (λ c. made None (Some c) n rest after) (sym (bare_is m is)),
-      front_bytes rest after (mark m) h,
-      s.0,
-      s.1,
-    )
-
-pub outcome_text_end : (rest after t : List ℕ) → tokens_of rest ≡ words t ∷ tokens_of after → tokens_of after ≡ [] → Outcome rest None None rest
-outcome_text_end rest after t h none n within =
-    (takes_text n rest after t h within ∙ bare_none n after (left_of n rest) (text (n - length rest) t nothing) none, refl, omega arith, omega arith)
-
-pub outcome_text_other : (rest after behind t : List ℕ) (x : Lexeme) → tokens_of rest ≡ words t ∷ tokens_of after → tokens_of after ≡ x ∷ tokens_of behind → is_bare_close x ≡ false → Outcome rest None None rest
-outcome_text_other rest after behind t x h h2 other n within = (
-  takes_text n rest after t h within ∙ bare_front n after behind x (left_of n rest) (text (n - length rest) t nothing) h2 (left_front n rest after (words t) h within).1
-      ∙ ap (λ b. cond b (record { kids = text (n - length rest) t nothing; close = Some bare; rest = left_of n behind }) (Taken_none (left_of n rest))) other,
+pub outcome_other : (rest after : List ℕ) (m : MarkParts) → tokens_of rest ≡ mark m ∷ tokens_of after → is_bare_close (mark m) ≡ false
+    → Outcome rest None None rest
+outcome_other rest after m h other n within = (
+  takes_mark n rest after m h within
+      ∙ ap (λ b. cond b (record { kids = nothing; close = Some bare; rest = left_of n after })
+      (Taken_none (left_of n rest))) other,
   refl,
   omega arith,
   omega arith,
 )
 
-pub outcome_text_bare : (rest after behind t : List ℕ) (m : MarkParts) → tokens_of rest ≡ words t ∷ tokens_of after → tokens_of after ≡ mark m ∷ tokens_of behind → is_bare_close (mark m) ≡ true → Outcome rest (Some t) (Some m) behind
+pub outcome_bare : (rest after : List ℕ) (m : MarkParts) → tokens_of rest ≡ mark m ∷ tokens_of after → is_bare_close (mark m) ≡ true
+    → Outcome rest None (Some m) after
+outcome_bare rest after m h is n within =
+    let s = shorter rest after (mark m) h in (
+      takes_mark n rest after m h within
+          ∙ ap (λ b. cond b (record { kids = nothing; close = Some bare; rest = left_of n after }) (Taken_none (left_of n rest))) is
+          ∙ ap (λ c. made None (Some c) n rest after) (sym (bare_is m is)),
+      token_front rest after (mark m) h,
+      s.0,
+      s.1,
+    )
+
+pub outcome_text_end : (rest after t : List ℕ) → tokens_of rest ≡ words t ∷ tokens_of after → tokens_of after ≡ []
+    → Outcome rest None None rest
+outcome_text_end rest after t h none n within = (
+  takes_text n rest after t h within
+      ∙ bare_none n after (left_of n rest) (text (n - length rest) t nothing) none,
+  refl,
+  omega arith,
+  omega arith,
+)
+
+pub outcome_text_other : (rest after behind t : List ℕ) (x : Lexeme) → tokens_of rest ≡ words t ∷ tokens_of after
+    → tokens_of after ≡ x ∷ tokens_of behind → is_bare_close x ≡ false → Outcome rest None None rest
+outcome_text_other rest after behind t x h h2 other n within = (
+  takes_text n rest after t h within
+      ∙ bare_front n after behind x (left_of n rest) (text (n - length rest) t nothing) h2 (left_front n rest after (words t) h within).1
+      ∙ ap (λ b. cond b (record { kids = text (n - length rest) t nothing; close = Some bare; rest = left_of n behind })
+      (Taken_none (left_of n rest))) other,
+  refl,
+  omega arith,
+  omega arith,
+)
+
+pub outcome_text_bare : (rest after behind t : List ℕ) (m : MarkParts) → tokens_of rest ≡ words t ∷ tokens_of after
+    → tokens_of after ≡ mark m ∷ tokens_of behind → is_bare_close (mark m) ≡ true → Outcome rest (Some t) (Some m) behind
 outcome_text_bare rest after behind t m h h2 is n within =
     let s = shorter rest after (words t) h in
     let s2 = shorter after behind (mark m) h2 in (
-      takes_text n rest after t h within ∙ bare_front n after behind (mark m) (left_of n rest) (text (n - length rest) t nothing) h2 (left_front n rest after (words t) h within).1
-          ∙ ap (λ b. cond b (record { kids = text (n - length rest) t nothing; close = Some bare; rest = left_of n behind }) (Taken_none (left_of n rest))) is
+      takes_text n rest after t h within
+          ∙ bare_front n after behind (mark m) (left_of n rest) (text (n - length rest) t nothing) h2
+          (left_front n rest after (words t) h within).1
+          ∙ ap (λ b. cond b (record { kids = text (n - length rest) t nothing; close = Some bare; rest = left_of n behind })
+          (Taken_none (left_of n rest))) is
           ∙ ap (λ c. made (Some t) (Some c) n rest behind) (sym (bare_is m is)),
-      front_bytes rest after (words t) h ∙ ap (λ x. t ++ x) (front_bytes after behind (mark m) h2) ∙ ap (λ x. x ++ (mark_bytes m ++ behind)) (sym (bytes_text 0 t)),
+      token_front rest after (words t) h ∙ ap (λ x. t ++ x) (token_front after behind (mark m) h2)
+          ∙ ap (λ x. x ++ (mark_bytes m ++ behind)) (sym (bytes_text 0 t)),
       omega (arith, s.0, s2.0),
       omega (arith, s.1, s2.1),
     )
 
 -- A milestone mark, and where the reading goes on.
 
-pub span_deep : (start end : ℕ) (m : MarkParts) (rest : List ℕ) (sofar new_sofar : Forest) (fs new_fs : List Frame) → 64 ≤ length (opens_of fs) → new_sofar ≡ sofar then leaf start m nothing → new_fs ≡ fs → EntersTo (spans m) start end rest rest sofar fs new_sofar new_fs
+pub span_deep : (start end : ℕ) (m : MarkParts) (rest : List ℕ) (sofar new_sofar : Forest) (fs new_fs : List Frame)
+    → 64 ≤ length (opens_of fs) → new_sofar ≡ sofar then leaf start m nothing → new_fs ≡ fs
+    → EntersTo (spans m) start end rest rest sofar fs new_sofar new_fs
 span_deep start end m rest sofar new_sofar fs new_fs full e f styles t is at =
     resume-deep_span styles sofar fs t (left_of end rest) m is (le-ltb _ _ full)
-    ∙ (λ i. resume styles (sofar then leaf (at i) m nothing) fs (left_of end rest)) ∙ (λ i. resume styles (sym e i) (sym f i) (left_of end rest))
+    ∙ (λ i. resume styles (sofar then leaf (at i) m nothing) fs (left_of end rest))
+    ∙ (λ i. resume styles (sym e i) (sym f i) (left_of end rest))
 
-pub span_node : (start end : ℕ) (m : MarkParts) (rest after : List ℕ) (kids : Forest) (close : Option MarkParts) (sofar new_sofar : Forest) (fs new_fs : List Frame) → length (opens_of fs) < 64 → milestone_takes (left_of end rest) ≡ record { kids = kids; close = close; rest = left_of end after } → new_sofar ≡ sofar then spanning kinds.Milestone start m kids close nothing → new_fs ≡ fs → EntersTo (spans m) start end rest after sofar fs new_sofar new_fs
+pub span_node : (start end : ℕ) (m : MarkParts) (rest after : List ℕ) (kids : Forest) (close : Option MarkParts) (sofar new_sofar : Forest)
+    (fs new_fs : List Frame) → length (opens_of fs) < 64
+    → milestone_takes (left_of end rest) ≡ record { kids = kids; close = close; rest = left_of end after }
+    → new_sofar ≡ sofar then spanning kinds.Milestone start m kids close nothing → new_fs ≡ fs
+    → EntersTo (spans m) start end rest after sofar fs new_sofar new_fs
 span_node start end m rest after kids close sofar new_sofar fs new_fs room takes e f styles t is at =
     resume-span styles sofar fs t (left_of end rest) m is (lt-ltb _ _ room)
     ∙ (λ i. resume styles (sofar then spanning kinds.Milestone (at i) m (takes i).kids (takes i).close nothing) fs (takes i).rest)
@@ -127,7 +164,9 @@ optional_bytes i j None = refl
 optional_bytes i j (Some t) = refl
 
 -- a milestone's bytes, and what is left
-pub milestone_front : (at rest : List ℕ) (m : MarkParts) (place : ℕ) (t : Option (List ℕ)) (c : Option MarkParts) (after : List ℕ) → at ≡ mark_bytes m ++ rest → rest ≡ bytes_of (optional_text 0 t) ++ (close_bytes c ++ after) → at ≡ span_bytes m (optional_text place t) c ++ after
+pub milestone_front : (at rest : List ℕ) (m : MarkParts) (place : ℕ) (t : Option (List ℕ)) (c : Option MarkParts) (after : List ℕ)
+    → at ≡ mark_bytes m ++ rest → rest ≡ bytes_of (optional_text 0 t) ++ (close_bytes c ++ after)
+    → at ≡ span_bytes m (optional_text place t) c ++ after
 milestone_front at rest m place t c after h taken =
     span_front at (mark_bytes m) (bytes_of (optional_text place t)) (close_bytes c) after
     (h ∙ ap (λ x. mark_bytes m ++ x) (taken ∙ ap (λ x. x ++ (close_bytes c ++ after)) (optional_bytes 0 place t)))

@@ -6,7 +6,7 @@ use Rattle.usfm_tree.specs.SheetViews.{styles_of}
 use Rattle.usfm_tree.specs.TakenViews.{left_of}
 use Rattle.usfm_tree.specs.declared.stream.TreeReader.{TreeReader}
 
--- what stands under the root from the rest of a source on, before which all nodes are ended
+-- what is under the root from the rest of a source on, before which all nodes are ended
 abbrev pub forest_left : Styles → List ℕ → List ℕ → Forest
 forest_left styles source rest = (kids_of_list styles [] (left_of (length source) rest)).0
 

@@ -24,7 +24,7 @@ events_before (node k s b m ks c f) later = begins k m ∷ events_before ks (end
 abbrev pub events_of : Forest → List Event
 events_of f = events_before f []
 
--- the ends of so many nodes without closing marks, before what a walk meets later
+-- the ends of this many nodes without closing marks, before what a walk meets later
 abbrev pub ends_before : ℕ → List Event → List Event
 ends_before zero later = later
 ends_before (suc n) later = ends None ∷ ends_before n later

@@ -1,4 +1,4 @@
--- Trees over a text, as what stands side by side: each entry, and what comes after it.
+-- Trees over a text, as what is side by side: each entry, and what comes after it.
 --
 -- That each mark and text of a USFM text is kept, within a node or as a leaf, is this project's own rule.
 use Rattle.sty_sheet.specs.declared.kind.StyleKind.{StyleKind}

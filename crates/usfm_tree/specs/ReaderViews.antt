@@ -19,7 +19,7 @@ open_view o = record { kind = o.kind; nested = o.nested; closer = option_map (λ
 abbrev pub opens_in : {K : Type 0} → List (Open K) → List reading.Open
 opens_in os = reverse (map open_view os)
 
--- an open node, by its bytes: the text from its mark on, and what stands before it in its parent
+-- an open node, by its bytes: the text from its mark on, and what comes before it in its parent
 pub record Span : Type 0 where
   pub from : List ℕ
   pub mark : MarkParts
@@ -38,7 +38,7 @@ Adjoins (s ∷ ss) sofar rest = (s.from ≡ mark_bytes s.mark ++ (bytes_of sofar
 abbrev pub EndsIn : List ℕ → List ℕ → Type 0
 EndsIn from rest = (x : List ℕ) × (from ≡ x ++ rest)
 
--- an open node of the reader, with where it begins and what stands before it in its parent
+-- an open node of the reader, with where it begins and what comes before it in its parent
 abbrev pub frame_of : Open Begun → Frame
 frame_of o = record {
   open_node = open_view o;

@@ -2,7 +2,7 @@
 --
 -- The USFM 3.0 documentation has paragraph markers without and character and note markers with closing markers, '+' for
 -- nested character markers, and milestones that end with `\*`. What an opening or a closing mark ends where marks are
--- missing, which marks are leaves, and that nodes stand at most 64 deep, is this project's own rule.
+-- missing, which marks are leaves, and that nodes are at most 64 deep, is this project's own rule.
 use Rattle.sty_sheet.specs.declared.kind.StyleKind.{StyleKind}
 use Rattle.sty_sheet.specs.declared.kind.StyleKind.TheVariants as kinds
 use Rattle.std.specs.Prelude.{ℕ, zero, suc, ◌+◌, ◌==◌, nat_lt, Bool, true, false, ◌&&◌, ◌||◌, List, [], ◌∷◌, length, Option, None, Some, if◌then◌else◌, not}
@@ -189,13 +189,13 @@ Taken_none l = record { kids = nothing; close = None; rest = l }
 abbrev pub bare : MarkParts
 bare = record { nested = false; name = []; closing = true }
 
--- a milestone takes these kids and the `\*` at the front of the tokens; where none stands there, it takes nothing
+-- a milestone takes these kids and the `\*` at the front of the tokens; where none is there, it takes nothing
 -- of the whole
 abbrev pub take_bare : List Placed → Forest → List Placed → Taken
 take_bare whole kids [] = Taken_none whole
 take_bare whole kids (t ∷ l) = if is_bare_close t.token then record { kids = kids; close = Some bare; rest = l } else Taken_none whole
 
--- what a milestone takes where a token stands directly after it
+-- what a milestone takes where a token comes directly after it
 abbrev pub milestone_at : ℕ → List Placed → Lexeme → List Placed → Taken
 milestone_at start whole (words t) l = take_bare whole (text start t nothing) l
 milestone_at start whole (mark m) l = take_bare whole nothing whole
@@ -205,7 +205,7 @@ abbrev pub milestone_takes : List Placed → Taken
 milestone_takes [] = Taken_none []
 milestone_takes (t ∷ l) = milestone_at t.start (t ∷ l) t.token l
 
--- kids of the root stand at depth 1, and no node stands deeper than this
+-- kids of the root are at depth 1, and no node is deeper than this
 abbrev pub most_open : ℕ
 most_open = 64
 
@@ -264,6 +264,6 @@ kids styles (suc n) os (t ∷ l) =
 abbrev pub kids_of_list : Styles → List Open → List Placed → Read
 kids_of_list styles os l = kids styles (suc (length l)) os l
 
--- the tree of a text by the styles of its marks: what stands under the root, nodes at most 64 deep
+-- the tree of a text by the styles of its marks: what is under the root, nodes at most 64 deep
 unfoldable pub tree_of : Styles → List ℕ → Forest
 tree_of styles s = (kids_of_list styles [] (placed 0 (tokens_of s))).0

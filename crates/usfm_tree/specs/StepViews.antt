@@ -53,7 +53,7 @@ abbrev pub closed_before : Option MarkParts → List Event → List Event → Li
 closed_before None used unused = unused
 closed_before (Some m) used unused = ends (Some m) ∷ used
 
--- a token in this role ends so many nodes without a closing mark, and one more with this mark, if any; after that one it is used up
+-- a token in this role ends this many nodes without a closing mark, and one more with this mark, if any; after that one it is used up
 abbrev pub Unwinds : Role → List reading.Open → ℕ → Option MarkParts → List reading.Open → Type 0
 Unwinds role os count close new_os =
     (styles : reading.Styles) (t : reading.Placed) (l : List reading.Placed) → reading.role styles t.token ≡ role_view role →

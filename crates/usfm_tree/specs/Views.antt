@@ -51,7 +51,7 @@ node_step (Leaf l) = leaf l.start (mark_parts l.mark) nothing
 abbrev pub view : Node → Forest
 view = fold-Node Forest Parts node_step parts_step
 
--- nodes that stand side by side
+-- nodes that are side by side
 abbrev pub forest_of : List Node → Forest
 forest_of ns = side_by_side (map view ns)
 

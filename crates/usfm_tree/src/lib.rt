@@ -8,7 +8,7 @@
 //!
 //! The USFM 3.0 documentation has paragraph markers without and character and note markers with
 //! closing markers, `+` for nested ones, and milestones. What an opening or a closing mark ends where
-//! marks are missing, and that nodes stand at most 64 deep, is this project's own rule.
+//! marks are missing, and that nodes are at most 64 deep, is this project's own rule.
 #![tactic(auto)]
 
 mod build;

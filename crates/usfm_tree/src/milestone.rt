@@ -25,7 +25,7 @@ fn takes_nothing<'a>(rest: &'a str) -> Taken<'a>
     }
 }
 
-// What is taken where a text stands in front.
+// What is taken where a text is in front.
 #[tactic(auto, using(crate::proofs::TakenLemmas::outcome_text_end, crate::proofs::TakenLemmas::outcome_text_other, crate::proofs::TakenLemmas::outcome_text_bare))]
 fn takes_behind<'a>(rest: &'a str, text: &'a str, after_text: &'a str) -> Taken<'a>
     requires { tokens_of rest.now ≡ words text.now ∷ tokens_of after_text.now }

@@ -31,7 +31,7 @@ pub struct Words<'a> {
     pub(crate) slice: &'a str,
 }
 
-/// A mark that stands alone, and where it begins.
+/// A mark that is alone, and where it begins.
 #[derive(Clone, Copy, Debug)]
 pub struct Leaf<'a> {
     pub(crate) start: usize,
@@ -50,7 +50,7 @@ pub struct Branch<'a> {
 }
 
 impl<'a> Node<'a> {
-    /// What stands directly inside it, in order. A text and a leaf have nothing inside, and a
+    /// What is directly inside it, in order. A text and a leaf have nothing inside, and a
     /// milestone at most the text that it takes.
     pub fn kids(&self) -> &[Node<'a>]
         ensures { forest_of result.now ≡ kids_of (view self.now) }

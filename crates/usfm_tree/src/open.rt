@@ -13,7 +13,7 @@ use crate::role::Role;
 use sty_sheet::StyleKind;
 use usfm_token::Mark;
 
-// How deep a node may stand: the kids of the root stand at depth 1.
+// How deep a node may be: the kids of the root are at depth 1.
 pub(crate) const DEEPEST: usize = 64;
 
 // A node that is open: what ends it, and what its reader keeps of it.
@@ -119,7 +119,7 @@ pub(crate) fn ended<K>(nodes: &[Open<'_, K>], role: Role<'_, '_>) -> usize
     }
 }
 
-// The closing mark that a token gives, where it ends so many nodes.
+// The closing mark that a token gives, where it ends this many nodes.
 pub(crate) fn closing<'a>(role: Role<'a, '_>, count: usize) -> Option<Mark<'a>>
     ensures { option_map mark_parts result ≡ closing_mark (role_view role.entry) count }
 {

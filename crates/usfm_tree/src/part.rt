@@ -18,7 +18,7 @@ use std::alloc::{AllocError, Global};
 use sty_sheet::Sheet;
 use usfm_token::TokenIter;
 
-// What a path leads to from nodes that stand side by side.
+// What a path leads to from nodes that are side by side.
 pub(crate) fn part_in<'t, 'a>(nodes: &'t [Node<'a>], path: &[usize]) -> Option<&'t Node<'a>>
     ensures { option_map (λ n. view n.now) result ≡ part_at path.now (forest_of nodes.now) }
 {
@@ -47,7 +47,7 @@ impl<'a> Tree<'a> {
         Ok(Tree { source, kids })
     }
 
-    /// What stands under the root, in order. It takes no memory.
+    /// What is under the root, in order. It takes no memory.
     pub fn kids(&self) -> &[Node<'a>]
         ensures kids { forest_of result.now ≡ forest_in self.now }
         ensures stand { PartsStand (source_of self.now) (forest_in self.now) }

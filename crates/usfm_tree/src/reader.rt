@@ -23,7 +23,7 @@ use std::mem;
 use sty_sheet::StyleKind;
 use usfm_token::Mark;
 
-// Where an open node begins, its mark, the text from its mark on, and what stands before it in its
+// Where an open node begins, its mark, the text from its mark on, and what comes before it in its
 // parent.
 #[derive(Drop)]
 pub(crate) struct Begun<'a> {
@@ -40,7 +40,7 @@ pub(crate) struct Reader<'a, 's> {
     pub(crate) kids: Vec<Node<'a>>,
 }
 
-// What stands in a text before what is left of it.
+// What is in a text before what is left of it.
 fn cut_off<'a>(from: &'a str, rest: &str) -> &'a str
     requires { EndsIn from.now rest.now }
     ensures { (x : List ℕ) → from.now ≡ x ++ rest.now → result.now ≡ x }

@@ -4,7 +4,7 @@ use usfm_token::Mark;
 /// What a walk meets at a mark or a text.
 #[derive(Clone, Copy, Debug)]
 pub struct Step<'a, 's> {
-    /// So many of the innermost open nodes end before it, none of them with a closing mark.
+    /// This many of the innermost open nodes end before it, none of them with a closing mark.
     pub ended: usize,
     /// What it meets then.
     pub entry: Entry<'a, 's>,

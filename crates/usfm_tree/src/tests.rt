@@ -42,7 +42,7 @@ const SHEET: &str = "# sheet of the worked rows
 \\StyleType Milestone
 ";
 
-// That there are so many leaves, and that they join to the text.
+// That there are this many leaves, and that they join to the text.
 fn check_leaves(rt: &impl Abort, tree: &Tree<'_>, text: &str, want: u64) {
     let mut behind = text.as_bytes();
     let mut count: u64 = 0;
@@ -57,7 +57,7 @@ fn check_leaves(rt: &impl Abort, tree: &Tree<'_>, text: &str, want: u64) {
     assert_eq!(rt; count, want);
 }
 
-// That a path leads to a node that begins there, with these bytes and so many kids.
+// That a path leads to a node that begins there, with these bytes and this many kids.
 fn check_part(
     rt: &impl Abort,
     tree: &Tree<'_>,
@@ -182,7 +182,7 @@ fn walks_over_a_tree(rt: HostRuntime) -> Result<(), SheetFault> {
     Ok(())
 }
 
-// A text that nests so many marks in a paragraph.
+// A text that nests this many marks in a paragraph.
 fn nested(alloc: Global, front: &str, count: usize) -> Result<String, AllocError> {
     let mut text = String::new(alloc);
     text.push_str(front)?;
@@ -192,7 +192,7 @@ fn nested(alloc: Global, front: &str, count: usize) -> Result<String, AllocError
     Ok(text)
 }
 
-// How many character nodes stand one in the other under the root's only kid, each the first inside.
+// How many character nodes are one in the other under the root's only kid, each the first inside.
 fn character_depth(tree: &Tree<'_>) -> u64 {
     let mut kids = tree.kids();
     let mut count: u64 = 0;

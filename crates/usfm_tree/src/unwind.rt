@@ -15,7 +15,7 @@ use crate::role::Role;
 use crate::step::Entry;
 use usfm_token::Mark;
 
-// Ends what a token ends: so many nodes without a closing mark, and then one with this mark, if
+// Ends what a token ends: this many nodes without a closing mark, and then one with this mark, if
 // there is one.
 pub(crate) fn unwind<'a, 's>(
     open_nodes: &mut Vec<Open<'s, ()>>,

@@ -12,7 +12,7 @@ use Rattle.usfm_ref.specs.Rising.{rises_by}
 use Rattle.usfm_ref.specs.declared.number.VerseMark.{VerseMark}
 use Rattle.usfm_token.specs.Tokens.{BeginsMark, Lexeme, mark, words, slice_of, joined, tokens_of, AreLexemes}
 use Rattle.usfm_token.proofs.TokenLaws.{joined-tokens_of}
-use Rattle.usfm_token.proofs.Walk.{each-tokens_of, first_not_empty}
+use Rattle.usfm_token.proofs.Walk.{each-tokens_of, each_tail, first_not_empty}
 use Rattle.verse_cut.specs.Keys.{key_below, verse_key, text_after}
 use Rattle.verse_cut.specs.Pieces.{Part, pieces_of}
 use Rattle.verse_cut.specs.Fits.{byte_order_mark, ends_code, Fits}
@@ -22,14 +22,17 @@ use Rattle.verse_cut.proofs.KeyOrder.{below_trans, below_chapter}
 use Rattle.verse_cut.proofs.MarkLaws.{cut_is_read}
 use Rattle.verse_cut.proofs.Quiet.{by_key}
 use Rattle.verse_cut.proofs.JoinLaws.{Rise, rise_behind, rise_all, fit_keys, begins_mark}
-use Rattle.verse_cut.proofs.PieceLaws.{each_tail, pieces_fit}
+use Rattle.verse_cut.proofs.PieceLaws.{pieces_fit}
 
 -- a verse has the chapter in force, and any other key is a head
 own_or_head : (c : ℕ) (q : KeyParts) (t : Lexeme) (ts : List Lexeme) → key_of c t ts ≡ Some q → (q.chapter ≡ c) ⊎ (q ≡ head_of q)
 own_or_head c q (words t) ts h = absurd (cc)
-own_or_head c q (mark m) ts h = by (m.nested || m.closing) (bytes_eq m.name (codes "c")) (bytes_eq m.name (codes "v")) (chapter_in (text_after ts)) (verse_in (text_after ts)) h
+own_or_head c q (mark m) ts h = by (m.nested || m.closing) (bytes_eq m.name (codes "c")) (bytes_eq m.name (codes "v"))
+    (chapter_in (text_after ts)) (verse_in (text_after ts)) h
   where
-    by : (e f g : Bool) (n : Option ℕ) (v : Option VerseMark) → cond e None (cond f (option_map chapter_head n) (cond g (option_map (verse_key c) v) None)) ≡ Some q → (q.chapter ≡ c) ⊎ (q ≡ head_of q)
+    by : (e f g : Bool) (n : Option ℕ) (v : Option VerseMark)
+        → cond e None (cond f (option_map chapter_head n) (cond g (option_map (verse_key c) v) None)) ≡ Some q
+        → (q.chapter ≡ c) ⊎ (q ≡ head_of q)
     by true f g n v h = absurd (cc)
     by false true g None v h = absurd (cc)
     by false true g (Some n) v h = let is : chapter_head n ≡ q = cc in inr (sym is ∙ ap head_of is)
@@ -59,7 +62,14 @@ has_head-cons : (k : KeyParts) (t : KeyText) (ts : List KeyText) → HasHead k t
 has_head-cons k t ts (h, (j, lt, is), key, some) = (h, (suc j, omega arith, is), key, some)
 
 gives : (g : KeyParts) (at : ℕ) (ts : List Lexeme) → AreLexemes ts → Gives g at ts (cut_from g at ts)
-gives g at [] each = record { texts = []; pieces = refl; join = refl; filled = λ k d lt. absurd (omega arith); rise = tt; ahead = λ k d lt. absurd (omega arith) }
+gives g at [] each = record {
+  texts = [];
+  pieces = refl;
+  join = refl;
+  filled = λ k d lt. absurd (omega arith);
+  rise = tt;
+  ahead = λ k d lt. absurd (omega arith);
+}
 gives g at (t ∷ ts) each =
     let tail = each_tail t ts each in
     by (key_of g.chapter t ts) refl (gives g (at + length (slice_of t)) ts tail) (λ q. gives q (at + length (slice_of t)) ts tail)
@@ -67,17 +77,21 @@ gives g at (t ∷ ts) each =
     stay : (l : Later) → Gives g (at + length (slice_of t)) ts l → Gives g at (t ∷ ts) (goes_on (slice_of t) l)
     stay l r = record {
       texts = r.texts;
-      pieces = r.pieces ∙ ap (λ n. pieces_from n r.texts) (let e : at + length (slice_of t) + length l.0 ≡ at + length (slice_of t ++ l.0) = omega (arith, length-append (slice_of t) l.0) in e);
+      pieces = r.pieces ∙ ap (λ n. pieces_from n r.texts)
+          (let e : at + length (slice_of t) + length l.0
+          ≡ at + length (slice_of t ++ l.0) = omega (arith, length-append (slice_of t) l.0) in e);
       join = ap (λ x. slice_of t ++ x) r.join ∙ sym (append_assoc (slice_of t) l.0 (texts_joined r.texts));
       filled = r.filled;
       rise = r.rise;
       ahead = r.ahead;
     }
 
-    begin : (q : KeyParts) → key_of g.chapter t ts ≡ Some q → key_below g q ≡ true → (l : Later) → Gives q (at + length (slice_of t)) ts l → Gives g at (t ∷ ts) (opens_at q at (slice_of t) l)
+    begin : (q : KeyParts) → key_of g.chapter t ts ≡ Some q → key_below g q ≡ true → (l : Later) → Gives q (at + length (slice_of t)) ts l
+        → Gives g at (t ∷ ts) (opens_at q at (slice_of t) l)
     begin q is above l r =
         let first : KeyText = record { key = q; text = slice_of t ++ l.0 } in
-        let far : at + length (slice_of t) + length l.0 ≡ at + 0 + length (slice_of t ++ l.0) = omega (arith, length-append (slice_of t) l.0) in
+        let far : at + length (slice_of t) + length l.0
+        ≡ at + 0 + length (slice_of t ++ l.0) = omega (arith, length-append (slice_of t) l.0) in
         let here : at ≡ at + 0 = omega arith in
         let full : is_empty (slice_of t ++ l.0) ≡ false = some_text (slice_of t) l.0 (first_not_empty t ts each) in
         record {
@@ -87,7 +101,9 @@ gives g at (t ∷ ts) each =
           filled = All-cons (λ t. is_empty t.text ≡ false) first r.texts full r.filled;
           rise = (above, r.rise);
           ahead = All-cons (λ u. is_head u.key.place ≡ false → g.chapter < u.key.chapter → HasHead u.key (first ∷ r.texts)) first r.texts
-              (λ verse more. ⊎_elim (λ own. absurd (omega arith)) (λ head. absurd (let no_verse : is_head q.place ≡ true = ap (λ k. is_head k.place) head in cc)) (own_or_head g.chapter q t ts is))
+              (λ verse more. ⊎_elim (λ own. absurd (omega arith))
+              (λ head. absurd (let no_verse : is_head q.place ≡ true = ap (λ k. is_head k.place) head in cc))
+              (own_or_head g.chapter q t ts is))
               (λ j d lt verse more.
               let low = below_chapter q (get_or r.texts j d).key (rise_all q r.texts r.rise j d lt) in
               ⊎_elim
@@ -101,11 +117,17 @@ gives g at (t ∷ ts) each =
               (order q.chapter (get_or r.texts j d).key.chapter));
         }
 
-    by : (o : Option KeyParts) → key_of g.chapter t ts ≡ o → Gives g (at + length (slice_of t)) ts (cut_from g (at + length (slice_of t)) ts) → ((q : KeyParts) → Gives q (at + length (slice_of t)) ts (cut_from q (at + length (slice_of t)) ts)) → Gives g at (t ∷ ts) (by_key g at (slice_of t) (at + length (slice_of t)) ts o)
+    by : (o : Option KeyParts) → key_of g.chapter t ts ≡ o
+        → Gives g (at + length (slice_of t)) ts (cut_from g (at + length (slice_of t)) ts)
+        → ((q : KeyParts) → Gives q (at + length (slice_of t)) ts (cut_from q (at + length (slice_of t)) ts))
+        → Gives g at (t ∷ ts) (by_key g at (slice_of t) (at + length (slice_of t)) ts o)
     by None is here on = stay (cut_from g (at + length (slice_of t)) ts) here
     by (Some q) is here on = by_test (key_below g q) refl
       where
-        by_test : (e : Bool) → key_below g q ≡ e → Gives g at (t ∷ ts) (cond e (opens_at q at (slice_of t) (cut_from q (at + length (slice_of t)) ts)) (goes_on (slice_of t) (cut_from g (at + length (slice_of t)) ts)))
+        by_test : (e : Bool) → key_below g q ≡ e
+            → Gives g at (t ∷ ts)
+            (cond e (opens_at q at (slice_of t) (cut_from q (at + length (slice_of t)) ts))
+            (goes_on (slice_of t) (cut_from g (at + length (slice_of t)) ts)))
         by_test true above = begin q is above (cut_from q (at + length (slice_of t)) ts) (on q)
         by_test false below = stay (cut_from g (at + length (slice_of t)) ts) here
 
@@ -136,13 +158,15 @@ parted s =
 
 -- ---- rising keys, of all later texts
 
-above_all : (g k : KeyParts) (ts : List KeyText) → key_below g k ≡ true → list_all (λ u. key_below k u.key) ts ≡ true → list_all (λ u. key_below g u.key) ts ≡ true
+above_all : (g k : KeyParts) (ts : List KeyText) → key_below g k ≡ true → list_all (λ u. key_below k u.key) ts ≡ true
+    → list_all (λ u. key_below g u.key) ts ≡ true
 above_all g k [] p h = refl
 above_all g k (t ∷ ts) p h =
     let a = and_parts (key_below k t.key) (list_all (λ u. key_below k u.key) ts) h in
     and_from (key_below g t.key) (list_all (λ u. key_below g u.key) ts) (below_trans g k t.key p a.0) (above_all g k ts p a.1)
 
-rise_of : (k : KeyParts) (ts : List KeyText) → Rise k ts → (list_all (λ u. key_below k u.key) ts ≡ true) × (rises_by key_cmp (λ u. u.key) ts ≡ true)
+rise_of : (k : KeyParts) (ts : List KeyText) → Rise k ts
+    → (list_all (λ u. key_below k u.key) ts ≡ true) × (rises_by key_cmp (λ u. u.key) ts ≡ true)
 rise_of k [] r = (refl, refl)
 rise_of k (t ∷ ts) r =
     let m = rise_of t.key ts r.1 in (
@@ -151,7 +175,8 @@ rise_of k (t ∷ ts) r =
     )
 
 pub texts_rise : (head : List ℕ) (ts : List KeyText) → Rise book_head ts → TextsRise (at_book_head head ∷ ts)
-texts_rise head ts r = let m = rise_of book_head ts r in and_from (list_all (λ u. key_below book_head u.key) ts) (rises_by key_cmp (λ u. u.key) ts) m.0 m.1
+texts_rise head ts r =
+    let m = rise_of book_head ts r in and_from (list_all (λ u. key_below book_head u.key) ts) (rises_by key_cmp (λ u. u.key) ts) m.0 m.1
 
 -- ---- the laws
 
@@ -199,7 +224,8 @@ joins_keep_their_book book head ts h fit rises =
         is_blank = h.begins.is_blank;
         text_is = ap (λ x. x ++ texts_joined ts) h.begins.text_is
             ∙ append_assoc (cond h.begins.marked byte_order_mark []) (92 ∷ 105 ∷ 100 ∷ h.begins.blank ∷ (book ++ h.rest)) (texts_joined ts)
-            ∙ ap (λ x. cond h.begins.marked byte_order_mark [] ++ (92 ∷ 105 ∷ 100 ∷ h.begins.blank ∷ x)) (append_assoc book h.rest (texts_joined ts));
+            ∙ ap (λ x. cond h.begins.marked byte_order_mark [] ++ (92 ∷ 105 ∷ 100 ∷ h.begins.blank ∷ x))
+            (append_assoc book h.rest (texts_joined ts));
       };
       ends = ends_join h.rest (texts_joined ts) h.ends begins;
     }

@@ -21,7 +21,8 @@ neighbours_from : (at : ℕ) (ts : List KeyText) → AreNeighbours at (pieces_fr
 neighbours_from at [] = tt
 neighbours_from at (t ∷ ts) = (refl, neighbours_from (at + length t.text) ts)
 
-above_from : (k : KeyParts) (at : ℕ) (ts : List KeyText) → list_all (λ p. key_below k p.key) (pieces_from at ts) ≡ list_all (λ t. key_below k t.key) ts
+above_from : (k : KeyParts) (at : ℕ) (ts : List KeyText)
+    → list_all (λ p. key_below k p.key) (pieces_from at ts) ≡ list_all (λ t. key_below k t.key) ts
 above_from k at [] = refl
 above_from k at (t ∷ ts) = ap (λ e. key_below k t.key && e) (above_from k (at + length t.text) ts)
 
@@ -32,9 +33,12 @@ rises_from at (t ∷ ts) = λ i. above_from t.key (at + length t.text) ts i && r
 lie_from : (s pre : List ℕ) (at : ℕ) (ts : List KeyText) → s ≡ pre ++ texts_joined ts → length pre ≡ at → LieIn s (pieces_from at ts)
 lie_from s pre at [] whole here = All-nil (λ p. slice_range s p.start (p.start + length p.text) ≡ p.text)
 lie_from s pre at (t ∷ ts) whole here =
-    All-cons (λ p. slice_range s p.start (p.start + length p.text) ≡ p.text) (record { key = t.key; start = at; text = t.text }) (pieces_from (at + length t.text) ts)
-    (ap (take (at + length t.text - at)) (ap (drop at) whole ∙ drop_at pre (t.text ++ texts_joined ts) at here) ∙ take_at t.text (texts_joined ts) _ (omega arith))
-    (lie_from s (pre ++ t.text) (at + length t.text) ts (whole ∙ sym (append_assoc pre t.text (texts_joined ts))) (omega (arith, length-append pre t.text)))
+    All-cons (λ p. slice_range s p.start (p.start + length p.text) ≡ p.text) (record { key = t.key; start = at; text = t.text })
+    (pieces_from (at + length t.text) ts)
+    (ap (take (at + length t.text - at)) (ap (drop at) whole ∙ drop_at pre (t.text ++ texts_joined ts) at here)
+    ∙ take_at t.text (texts_joined ts) _ (omega arith))
+    (lie_from s (pre ++ t.text) (at + length t.text) ts (whole ∙ sym (append_assoc pre t.text (texts_joined ts)))
+    (omega (arith, length-append pre t.text)))
 
 pub pieces_rise : PiecesRise
 pieces_rise s =
@@ -48,7 +52,8 @@ pieces_lie s =
 
 -- ---- the one cut
 
-opened_between : (s : List ℕ) (k : KeyParts) (at : ℕ) (ms : List Keyed) → map opened (pieces_between s k at ms) ≡ record { key = k; at = at } ∷ ms
+opened_between : (s : List ℕ) (k : KeyParts) (at : ℕ) (ms : List Keyed)
+    → map opened (pieces_between s k at ms) ≡ record { key = k; at = at } ∷ ms
 opened_between s k at [] = refl
 opened_between s k at (m ∷ ms) = ap (λ r. record { key = k; at = at } ∷ r) (opened_between s m.key m.at ms)
 
@@ -65,7 +70,8 @@ is_cut s =
       opened = opened_of s;
     }
 
-unique : (s pre : List ℕ) (k : KeyParts) (at : ℕ) (ms : List Keyed) (ps : List Part) → map opened ps ≡ record { key = k; at = at } ∷ ms → AreNeighbours at ps → s ≡ pre ++ pieces_joined ps → length pre ≡ at → ps ≡ pieces_between s k at ms
+unique : (s pre : List ℕ) (k : KeyParts) (at : ℕ) (ms : List Keyed) (ps : List Part) → map opened ps ≡ record { key = k; at = at } ∷ ms
+    → AreNeighbours at ps → s ≡ pre ++ pieces_joined ps → length pre ≡ at → ps ≡ pieces_between s k at ms
 unique s pre k at ms [] o n whole here = absurd (cc)
 unique s pre k at [] (p ∷ []) o n whole here =
     let key_is : p.key ≡ k = ap (λ (m : Keyed). m.key) (first_is o) in
@@ -81,7 +87,8 @@ unique s pre k at (m ∷ ms) (p ∷ q ∷ ps) o n whole here =
     let key_is : p.key ≡ k = ap (λ (m : Keyed). m.key) heads.0 in
     let next : m.at ≡ at + length p.text = sym (ap (λ (m : Keyed). m.at) heads.1) ∙ n.1.0 in
     let text_is : p.text ≡ take (m.at - at) (drop at s) =
-    sym (ap (take (m.at - at)) (ap (drop at) whole ∙ drop_at pre (p.text ++ pieces_joined (q ∷ ps)) at here) ∙ take_at p.text (pieces_joined (q ∷ ps)) (m.at - at) (omega (arith, next)))
+    sym (ap (take (m.at - at)) (ap (drop at) whole ∙ drop_at pre (p.text ++ pieces_joined (q ∷ ps)) at here)
+    ∙ take_at p.text (pieces_joined (q ∷ ps)) (m.at - at) (omega (arith, next)))
     in
     let more : q ∷ ps ≡ pieces_between s m.key m.at ms =
     unique s (pre ++ p.text) m.key m.at ms (q ∷ ps) heads.2 (subst (λ a. AreNeighbours a (q ∷ ps)) (sym next) n.1)
@@ -89,7 +96,8 @@ unique s pre k at (m ∷ ms) (p ∷ q ∷ ps) o n whole here =
     in
     λ i. record { key = key_is i; start = n.0 i; text = text_is i } ∷ more i
   where
-    parts : opened p ∷ opened q ∷ map opened ps ≡ record { key = k; at = at } ∷ m ∷ ms → (opened p ≡ record { key = k; at = at }) × (opened q ≡ m) × (opened q ∷ map opened ps ≡ m ∷ ms)
+    parts : opened p ∷ opened q ∷ map opened ps ≡ record { key = k; at = at } ∷ m ∷ ms
+        → (opened p ≡ record { key = k; at = at }) × (opened q ≡ m) × (opened q ∷ map opened ps ≡ m ∷ ms)
     parts o = (cc, cc, cc)
 
 pub one_cut : OneCut

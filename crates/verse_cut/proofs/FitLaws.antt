@@ -18,9 +18,11 @@ pub fits_is_read : FitsIsRead
 unfolding text_fits
 fits_is_read book k text = by (same_key k book_head)
   where
-    by : (e : Bool) → (cond e (is_headed book text && is_quiet book_head (tokens_of text)) (is_empty text || leads k (tokens_of text)) ≡ true) ↔ FitsBy book k text e
+    by : (e : Bool) → (cond e (is_headed book text && is_quiet book_head (tokens_of text)) (is_empty text || leads k (tokens_of text))
+        ≡ true) ↔ FitsBy book k text e
     by true = (
-      λ h. let p = and_parts (is_headed book text) (is_quiet book_head (tokens_of text)) h in (is_headed-is book text p.0, quiet_head text p.1),
+      λ h. let p =
+          and_parts (is_headed book text) (is_quiet book_head (tokens_of text)) h in (is_headed-is book text p.0, quiet_head text p.1),
       λ f. and_from (is_headed book text) (is_quiet book_head (tokens_of text)) (is_headed-of book text f.0) (head_quiet text f.1),
     )
     by false = fits_key k text
@@ -31,14 +33,16 @@ pub fits_by : (book : List ℕ) (k : KeyParts) (text : List ℕ) (r : Bool) → 
 fits_by book k text r is = (λ e. (fits_is_read book k text).0 (sym is ∙ e), λ f. is ∙ (fits_is_read book k text).1 f)
 
 -- at the head of the book
-pub fits_head : (book : List ℕ) (k : KeyParts) (text : List ℕ) → same_key k book_head ≡ true → (is_headed book text && is_quiet k (tokens_of text)) ≡ text_fits book k text
+pub fits_head : (book : List ℕ) (k : KeyParts) (text : List ℕ) → same_key k book_head ≡ true
+    → (is_headed book text && is_quiet k (tokens_of text)) ≡ text_fits book k text
 unfolding text_fits
 fits_head book k text h =
     ap (λ (q : KeyParts). is_headed book text && is_quiet q (tokens_of text)) (same_key-is k book_head h)
     ∙ sym (cond-true _ _ _ h)
 
 -- and at every other key
-pub fits_other : (book : List ℕ) (k : KeyParts) (text : List ℕ) → same_key k book_head ≡ false → (is_empty text || leads k (tokens_of text)) ≡ text_fits book k text
+pub fits_other : (book : List ℕ) (k : KeyParts) (text : List ℕ) → same_key k book_head ≡ false
+    → (is_empty text || leads k (tokens_of text)) ≡ text_fits book k text
 unfolding text_fits
 fits_other book k text h = sym (cond-false _ _ _ h)
 

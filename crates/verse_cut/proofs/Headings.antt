@@ -2,6 +2,7 @@
 use Rattle.std.proofs.Common.{◌≡◌, ℕ, Bool, true, false, ◌&&◌, ◌↔◌, cond, List, [], ◌∷◌, ◌++◌, length, take, drop, codes, Option, None, Some, Result, Ok, Err, IfOk, sym, refl, ap, ◌∙◌, subst, take-append-drop}
 use Rattle.std.proofs.lemmas.Bool.{and_parts, and_from, cond-true}
 use Rattle.std.proofs.lemmas.List.{take_at, drop_at}
+use Rattle.usfm_ref.proofs.Codes.{code_length}
 use Rattle.usfm_ref.specs.Books.{is_book_code, same_bytes}
 use Rattle.usfm_ref.specs.Numbers.{is_blank}
 use Rattle.usfm_ref.proofs.Orders.{same_bytes-is, same_bytes-refl}
@@ -10,7 +11,7 @@ use Rattle.verse_cut.specs.Reading.{behind_bom, begins_blank, id_at, behind_id, 
 use Rattle.verse_cut.specs.declared.fault.BookFault.{BookFault}
 use Rattle.verse_cut.specs.declared.fault.BookFault.TheVariants.{NoId}
 
--- `\id`, a blank, and what stands after
+-- `\id`, a blank, and what comes after
 record IsId (bytes behind : List ℕ) : Type 0 where
   blank : ℕ
   is_blank : is_blank blank ≡ true
@@ -19,12 +20,14 @@ record IsId (bytes behind : List ℕ) : Type 0 where
 id_at-some : (bytes behind : List ℕ) → id_at bytes ≡ Some behind → IsId bytes behind
 id_at-some bytes behind h = by (same_bytes (take 3 bytes) (codes "\\id") && begins_blank (drop 3 bytes)) refl h
   where
-    parts : (rest : List ℕ) → drop 3 bytes ≡ rest → same_bytes (take 3 bytes) (codes "\\id") ≡ true → begins_blank rest ≡ true → drop 4 bytes ≡ behind → IsId bytes behind
+    parts : (rest : List ℕ) → drop 3 bytes ≡ rest → same_bytes (take 3 bytes) (codes "\\id") ≡ true → begins_blank rest ≡ true
+        → drop 4 bytes ≡ behind → IsId bytes behind
     parts [] r e b d = absurd (cc)
     parts (x ∷ rest) r e b d = record {
       blank = x;
       is_blank = b;
-      bytes_are = sym (take-append-drop 3 bytes) ∙ (λ i. same_bytes-is (take 3 bytes) (codes "\\id") e i ++ (r ∙ ap (λ l. x ∷ l) (behind_is ∙ d)) i);
+      bytes_are = sym (take-append-drop 3 bytes)
+          ∙ (λ i. same_bytes-is (take 3 bytes) (codes "\\id") e i ++ (r ∙ ap (λ l. x ∷ l) (behind_is ∙ d)) i);
     }
       where
         behind_is : rest ≡ drop 4 bytes
@@ -36,7 +39,8 @@ id_at-some bytes behind h = by (same_bytes (take 3 bytes) (codes "\\id") && begi
             drop_more (a ∷ b ∷ []) = refl
             drop_more (a ∷ b ∷ c ∷ l) = refl
 
-    by : (e : Bool) → same_bytes (take 3 bytes) (codes "\\id") && begins_blank (drop 3 bytes) ≡ e → cond e (Some (drop 4 bytes)) None ≡ Some behind → IsId bytes behind
+    by : (e : Bool) → same_bytes (take 3 bytes) (codes "\\id") && begins_blank (drop 3 bytes) ≡ e
+        → cond e (Some (drop 4 bytes)) None ≡ Some behind → IsId bytes behind
     by true e h =
         let p = and_parts (same_bytes (take 3 bytes) (codes "\\id")) (begins_blank (drop 3 bytes)) e in
         parts (drop 3 bytes) refl p.0 p.1 cc
@@ -49,7 +53,8 @@ pub behind_id-some : (text behind : List ℕ) → behind_id text ≡ Some behind
 unfolding behind_id
 behind_id-some text behind h = by (same_bytes (take 3 text) byte_order_mark) refl h
   where
-    by : (e : Bool) → same_bytes (take 3 text) byte_order_mark ≡ e → id_at (cond e (drop 3 text) text) ≡ Some behind → BeginsWithId text behind
+    by : (e : Bool) → same_bytes (take 3 text) byte_order_mark ≡ e → id_at (cond e (drop 3 text) text) ≡ Some behind
+        → BeginsWithId text behind
     by true e h =
         let id = id_at-some (drop 3 text) behind h in
         record {
@@ -58,7 +63,8 @@ behind_id-some text behind h = by (same_bytes (take 3 text) byte_order_mark) ref
           is_blank = id.is_blank;
           text_is = sym (take-append-drop 3 text) ∙ (λ i. same_bytes-is (take 3 text) byte_order_mark e i ++ id.bytes_are i);
         }
-    by false e h = let id = id_at-some text behind h in record { marked = false; blank = id.blank; is_blank = id.is_blank; text_is = id.bytes_are }
+    by false e h =
+        let id = id_at-some text behind h in record { marked = false; blank = id.blank; is_blank = id.is_blank; text_is = id.bytes_are }
 
 pub behind_id-of : (text behind : List ℕ) → BeginsWithId text behind → behind_id text ≡ Some behind
 unfolding behind_id
@@ -70,10 +76,14 @@ behind_id-of text behind h = ap (λ t. id_at (behind_bom t)) h.text_is ∙ by h.
 
 -- ---- the code of a book
 
-code_leads-is : (code bytes : List ℕ) → code_leads code bytes ≡ true → (bytes ≡ code ++ drop (length code) bytes) × (ends_code (drop (length code) bytes) ≡ true)
+code_leads-is : (code bytes : List ℕ) → code_leads code bytes ≡ true
+    → (bytes ≡ code ++ drop (length code) bytes) × (ends_code (drop (length code) bytes) ≡ true)
 code_leads-is code bytes h =
-    let p = and_parts (same_bytes (take (length code) bytes) code) (ends_code (drop (length code) bytes)) h in
-    (sym (take-append-drop (length code) bytes) ∙ ap (λ l. l ++ drop (length code) bytes) (same_bytes-is (take (length code) bytes) code p.0), p.1)
+    let p = and_parts (same_bytes (take (length code) bytes) code) (ends_code (drop (length code) bytes)) h in (
+      sym (take-append-drop (length code) bytes)
+          ∙ ap (λ l. l ++ drop (length code) bytes) (same_bytes-is (take (length code) bytes) code p.0),
+      p.1,
+    )
 
 code_leads-of : (code rest : List ℕ) → ends_code rest ≡ true → code_leads code (code ++ rest) ≡ true
 code_leads-of code rest h =
@@ -88,22 +98,20 @@ is_headed-is book text h = by (behind_id text) refl h
     by None e h = absurd (cc)
     by (Some bytes) e h =
         let p = code_leads-is book bytes h in
-        record { rest = drop (length book) bytes; begins = behind_id-some text (book ++ drop (length book) bytes) (e ∙ ap Some p.0); ends = p.1 }
+        record {
+          rest = drop (length book) bytes;
+          begins = behind_id-some text (book ++ drop (length book) bytes) (e ∙ ap Some p.0);
+          ends = p.1;
+        }
 
 pub is_headed-of : (book text : List ℕ) → IsHeaded book text → is_headed book text ≡ true
 is_headed-of book text h = ap (code_behind book) (behind_id-of text (book ++ h.rest) h.begins) ∙ code_leads-of book h.rest h.ends
 
-code_length : (code : List ℕ) → is_book_code code ≡ true → length code ≡ 3
-code_length [] h = absurd (cc)
-code_length (a ∷ []) h = absurd (cc)
-code_length (a ∷ b ∷ []) h = absurd (cc)
-code_length (a ∷ b ∷ c ∷ []) h = refl
-code_length (a ∷ b ∷ c ∷ d ∷ rest) h = absurd (cc)
-
 leading_book-some : (text bytes book : List ℕ) → BeginsWithId text bytes → leading_book bytes ≡ Some book → IsHeaded book text
 leading_book-some text bytes book begins h = by (is_book_code (take 3 bytes) && ends_code (drop 3 bytes)) refl h
   where
-    by : (e : Bool) → is_book_code (take 3 bytes) && ends_code (drop 3 bytes) ≡ e → cond e (Some (take 3 bytes)) None ≡ Some book → IsHeaded book text
+    by : (e : Bool) → is_book_code (take 3 bytes) && ends_code (drop 3 bytes) ≡ e → cond e (Some (take 3 bytes)) None ≡ Some book
+        → IsHeaded book text
     by true e h =
         let p = and_parts (is_book_code (take 3 bytes)) (ends_code (drop 3 bytes)) e in
         let is : take 3 bytes ≡ book = cc in
@@ -132,18 +140,22 @@ book_reads text (Ok book) e = by (behind_id text) refl (sym e)
     by (Some bytes) b h = leading_book-some text bytes book (behind_id-some text bytes b) (book_or_bad-ok (leading_book bytes) book h)
 book_reads text (Err fault) e = tt
 
-pub book_only : (text : List ℕ) (r : Result (List ℕ) BookFault) → r ≡ book_in text → (book : List ℕ) → is_book_code book ≡ true → IsHeaded book text → r ≡ Ok book
+pub book_only : (text : List ℕ) (r : Result (List ℕ) BookFault) → r ≡ book_in text → (book : List ℕ) → is_book_code book ≡ true
+    → IsHeaded book text → r ≡ Ok book
 unfolding book_in
 book_only text r e book code h =
     let three = code_length book code in
     let front : take 3 (book ++ h.rest) ≡ book = take_at book h.rest 3 three in
-    let test = and_from (is_book_code (take 3 (book ++ h.rest))) (ends_code (drop 3 (book ++ h.rest))) (ap is_book_code front ∙ code) (ap ends_code (drop_at book h.rest 3 three) ∙ h.ends) in
+    let test = and_from (is_book_code (take 3 (book ++ h.rest))) (ends_code (drop 3 (book ++ h.rest))) (ap is_book_code front ∙ code)
+    (ap ends_code (drop_at book h.rest 3 three) ∙ h.ends) in
     e ∙ ap book_at (behind_id-of text (book ++ h.rest) h.begins) ∙ ap book_or_bad (cond-true _ _ _ test ∙ ap Some front)
 
-pub book_no_id : (text : List ℕ) (r : Result (List ℕ) BookFault) → r ≡ book_in text → (r ≡ Err NoId) ↔ ((behind : List ℕ) → BeginsWithId text behind → ⊥)
+pub book_no_id : (text : List ℕ) (r : Result (List ℕ) BookFault) → r ≡ book_in text
+    → (r ≡ Err NoId) ↔ ((behind : List ℕ) → BeginsWithId text behind → ⊥)
 unfolding book_in
 book_no_id text r e = (
-  λ h behind begins. let there : book_at (Some behind) ≡ Err NoId = ap book_at (sym (behind_id-of text behind begins)) ∙ sym e ∙ h in never_no_id (leading_book behind) there,
+  λ h behind begins. let there : book_at (Some behind) ≡ Err NoId = ap book_at (sym (behind_id-of text behind begins)) ∙ sym e ∙ h in
+      never_no_id (leading_book behind) there,
   λ none. e ∙ by (behind_id text) refl none,
 )
   where

@@ -27,7 +27,8 @@ abbrev pub Rise : KeyParts → List KeyText → Type 0
 Rise k [] = Unit {0}
 Rise k (t ∷ ts) = (key_below k t.key ≡ true) × Rise t.key ts
 
-pub rise_from : (k : KeyParts) (ts : List KeyText) → list_all (λ u. key_below k u.key) ts ≡ true → rises_by key_cmp (λ u. u.key) ts ≡ true → Rise k ts
+pub rise_from : (k : KeyParts) (ts : List KeyText) → list_all (λ u. key_below k u.key) ts ≡ true → rises_by key_cmp (λ u. u.key) ts ≡ true
+    → Rise k ts
 rise_from k [] above rises = tt
 rise_from k (t ∷ ts) above rises =
     let a = and_parts (key_below k t.key) (list_all (λ u. key_below k u.key) ts) above in
@@ -44,7 +45,8 @@ pub rise_weaken : (g k : KeyParts) (ts : List KeyText) → key_below g k ≡ tru
 rise_weaken g k [] p r = tt
 rise_weaken g k (t ∷ ts) p r = (below_trans g k t.key p r.0, r.1)
 
-pub rise_all : (k : KeyParts) (ts : List KeyText) → Rise k ts → (j : ℕ) (d : KeyText) → j < length ts → key_below k (get_or ts j d).key ≡ true
+pub rise_all : (k : KeyParts) (ts : List KeyText) → Rise k ts → (j : ℕ) (d : KeyText) → j < length ts
+    → key_below k (get_or ts j d).key ≡ true
 rise_all k [] r j d lt = absurd (omega arith)
 rise_all k (t ∷ ts) r zero d lt = r.0
 rise_all k (t ∷ ts) r (suc j) d lt = rise_all k ts (rise_weaken k t.key ts r.0 r.1) j d (omega arith)
@@ -55,43 +57,60 @@ abbrev pub FitKeys : List KeyText → Type 0
 FitKeys ts = All (λ t. FitsKey t.key t.text) ts
 
 pub fit_keys : (book : List ℕ) (ts : List KeyText) → Rise book_head ts → TextsFit book ts → FitKeys ts
-fit_keys book ts rise fit j d lt = subst (FitsBy book (get_or ts j d).key (get_or ts j d).text) (not_book_head (get_or ts j d).key (rise_all book_head ts rise j d lt)) (fit j d lt)
+fit_keys book ts rise fit j d lt = subst (FitsBy book (get_or ts j d).key (get_or ts j d).text)
+    (not_book_head (get_or ts j d).key (rise_all book_head ts rise j d lt)) (fit j d lt)
 
 pub begins_mark : (ts : List KeyText) → FitKeys ts → BeginsMark (texts_joined ts)
 begins_mark [] h = λ lt. absurd (omega arith)
-begins_mark (t ∷ ts) h = by (begins_mark ts (All-tail (λ t. FitsKey t.key t.text) t ts h)) t.text (All-head (λ t. FitsKey t.key t.text) t ts h)
+begins_mark (t ∷ ts) h =
+    by (begins_mark ts (All-tail (λ t. FitsKey t.key t.text) t ts h)) t.text (All-head (λ t. FitsKey t.key t.text) t ts h)
   where
     by : BeginsMark (texts_joined ts) → (s : List ℕ) → FitsKey t.key s → BeginsMark (s ++ texts_joined ts)
     by go [] f = go
-    by go (b ∷ bs) f = λ lt. ap (λ s. get_or s 0 0) (sym (joined-tokens_of (b ∷ bs))) ∙ leads_byte t.key (tokens_of (b ∷ bs)) (fits_leads t.key b bs f)
+    by go (b ∷ bs) f =
+        λ lt. ap (λ s. get_or s 0 0) (sym (joined-tokens_of (b ∷ bs))) ∙ leads_byte t.key (tokens_of (b ∷ bs)) (fits_leads t.key b bs f)
 
 -- ---- the join, text after text
 
 -- the first text that is not empty, and each one after such a text, is no verse of another chapter than the one in force
 abbrev HeadsFrom : KeyParts → List KeyText → Type 0
 HeadsFrom g [] = Unit {0}
-HeadsFrom g (t ∷ ts) = elim t.text [ [] ↦ HeadsFrom g ts | b ∷ bs ↦ (is_head t.key.place ≡ false → g.chapter ≡ t.key.chapter) × HeadsFrom t.key ts ]
+HeadsFrom g (t ∷ ts) =
+    elim t.text [ [] ↦ HeadsFrom g ts | b ∷ bs ↦ (is_head t.key.place ≡ false → g.chapter ≡ t.key.chapter) × HeadsFrom t.key ts ]
 
 -- tokens that lead with a key above all before open a piece, and go to it
-leads_open : (g k : KeyParts) (l us : List Lexeme) (at : ℕ) → leads k l ≡ true → BeginsWithNoText us → key_below g k ≡ true → (is_head k.place ≡ false → g.chapter ≡ k.chapter) → cut_from g at (l ++ us) ≡ opens_at k at (joined l) (cut_from k (at + length (joined l)) us)
+leads_open : (g k : KeyParts) (l us : List Lexeme) (at : ℕ) → leads k l ≡ true → BeginsWithNoText us → key_below g k ≡ true
+    → (is_head k.place ≡ false → g.chapter ≡ k.chapter)
+    → cut_from g at (l ++ us) ≡ opens_at k at (joined l) (cut_from k (at + length (joined l)) us)
 leads_open g k [] us at h b above same = absurd (cc)
 leads_open g k (t ∷ ts) us at h b above same =
     let p = leads_parts k t ts h in
     let on = at + length (slice_of t) in
     let all = ts ++ us in
     let key_is : key_of g.chapter t (ts ++ us) ≡ Some k = key_of-append g.chapter t ts us b ∙ key_in_force k g.chapter t ts p.0 same in
-    let place : at + length (slice_of t) + length (joined ts) ≡ at + length (slice_of t ++ joined ts) = omega (arith, length-append (slice_of t) (joined ts)) in
+    let place : at + length (slice_of t) + length (joined ts)
+    ≡ at + length (slice_of t ++ joined ts) = omega (arith, length-append (slice_of t) (joined ts)) in
     let far : ℕ → Later = λ a. cut_from k a us in
     ap (by_key g at (slice_of t) on all) key_is
     ∙ ap (λ e. cond e (opens_at k at (slice_of t) (cut_from k on all)) (goes_on (slice_of t) (cut_from g on all))) above
     ∙ ap (opens_at k at (slice_of t)) (quiet_goes_on k ts us on b p.1)
     ∙ ap (λ a. opens_at k at (slice_of t) (goes_on (joined ts) (far a))) place
-    ∙ (λ i. ([], record { key = k; start = at; text = sym (append_assoc (slice_of t) (joined ts) (far (at + length (slice_of t ++ joined ts))).0) i } ∷ (far (at + length (slice_of t ++ joined ts))).1))
+    ∙ (λ i. (
+      [],
+      record {
+        key = k;
+        start = at;
+        text = sym (append_assoc (slice_of t) (joined ts) (far (at + length (slice_of t ++ joined ts))).0) i;
+      } ∷ (far
+          (at + length (slice_of t ++ joined ts))).1,
+    ))
 
 abbrev CutsFrom : KeyParts → ℕ → List KeyText → Type 0
 CutsFrom g at ts = cut_from g at (tokens_of (texts_joined ts)) ≡ ([], pieces_from at (filled ts))
 
-one_text : (k g : KeyParts) (s : List ℕ) (at : ℕ) (ts : List KeyText) → ((g : KeyParts) (at : ℕ) → Rise g ts → HeadsFrom g ts → CutsFrom g at ts) → FitsKey k s → BeginsMark (texts_joined ts) → key_below g k ≡ true → Rise k ts → HeadsFrom g (record { key = k; text = s } ∷ ts) → CutsFrom g at (record { key = k; text = s } ∷ ts)
+one_text : (k g : KeyParts) (s : List ℕ) (at : ℕ) (ts : List KeyText)
+    → ((g : KeyParts) (at : ℕ) → Rise g ts → HeadsFrom g ts → CutsFrom g at ts) → FitsKey k s → BeginsMark (texts_joined ts)
+    → key_below g k ≡ true → Rise k ts → HeadsFrom g (record { key = k; text = s } ∷ ts) → CutsFrom g at (record { key = k; text = s } ∷ ts)
 one_text k g [] at ts go fits begins above rise heads = go g at (rise_weaken g k ts above rise) heads
 one_text k g (b ∷ bs) at ts go fits begins above rise heads =
     let s : List ℕ = b ∷ bs in
@@ -107,37 +126,44 @@ cuts_from : (ts : List KeyText) (g : KeyParts) (at : ℕ) → FitKeys ts → Ris
 cuts_from [] g at fits rise heads = ap (cut_from g at) tokens_of-nil
 cuts_from (t ∷ ts) g at fits rise heads =
     let more = All-tail (λ t. FitsKey t.key t.text) t ts fits in
-    one_text t.key g t.text at ts (λ g at r h. cuts_from ts g at more r h) (All-head (λ t. FitsKey t.key t.text) t ts fits) (begins_mark ts more) rise.0 rise.1 heads
+    one_text t.key g t.text at ts (λ g at r h. cuts_from ts g at more r h) (All-head (λ t. FitsKey t.key t.text) t ts fits)
+    (begins_mark ts more) rise.0 rise.1 heads
 
 -- ---- where each verse's head is there, the chapter in force at a verse is its own
 
 -- a head that is there is the first or one of the others
-has_head_cons : (k : KeyParts) (t : KeyText) (ts : List KeyText) → HasHead k (t ∷ ts) → ((t.key ≡ head_of k) × (is_empty t.text ≡ false)) ⊎ HasHead k ts
+has_head_cons : (k : KeyParts) (t : KeyText) (ts : List KeyText) → HasHead k (t ∷ ts)
+    → ((t.key ≡ head_of k) × (is_empty t.text ≡ false)) ⊎ HasHead k ts
 has_head_cons k t ts (h, c, key, some) = by c
   where
     by : Contains (t ∷ ts) h → ((t.key ≡ head_of k) × (is_empty t.text ≡ false)) ⊎ HasHead k ts
     by (zero, lt, is) = inl (ap (λ x. x.key) is ∙ key, ap (λ x. is_empty x.text) is ∙ some)
     by (suc j, lt, is) = inr (h, (j, omega arith, is), key, some)
 
--- each verse's head stands not above the greatest key so far, or is to come
+-- each verse's head is not above the greatest key so far, or is to come
 abbrev Ready : KeyParts → List KeyText → KeyText → Type 0
-Ready g ts t = is_empty t.text ≡ false → is_head t.key.place ≡ false → 0 < t.key.chapter → (key_below g (head_of t.key) ≡ false) ⊎ HasHead t.key ts
+Ready g ts t =
+    is_empty t.text ≡ false → is_head t.key.place ≡ false → 0 < t.key.chapter → (key_below g (head_of t.key) ≡ false) ⊎ HasHead t.key ts
 
 -- after an empty text
 ready_skip : (g : KeyParts) (t : KeyText) (ts : List KeyText) (u : KeyText) → is_empty t.text ≡ true → Ready g (t ∷ ts) u → Ready g ts u
 ready_skip g t ts u empty h some verse more =
-    ⊎_elim (λ low. inl low) (λ there. ⊎_elim (λ first. absurd (cc (first.1, empty))) (λ later. inr later) (has_head_cons u.key t ts there)) (h some verse more)
+    ⊎_elim (λ low. inl low) (λ there. ⊎_elim (λ first. absurd (cc (first.1, empty))) (λ later. inr later) (has_head_cons u.key t ts there))
+    (h some verse more)
 
 -- after a text that is not empty
 ready_on : (g : KeyParts) (t : KeyText) (ts : List KeyText) (u : KeyText) → key_below g t.key ≡ true → Ready g (t ∷ ts) u → Ready t.key ts u
 ready_on g t ts u above h some verse more =
     ⊎_elim
-    (λ low. inl (false_from_ne_true _ (λ e. let too : key_below g (head_of u.key) ≡ true = below_trans g t.key (head_of u.key) above e in absurd (cc (too, low)))))
-    (λ there. ⊎_elim (λ first. inl (ap (λ k. key_below k (head_of u.key)) first.0 ∙ below_self (head_of u.key))) (λ later. inr later) (has_head_cons u.key t ts there))
+    (λ low. inl (false_from_ne_true _
+    (λ e. let too : key_below g (head_of u.key) ≡ true = below_trans g t.key (head_of u.key) above e in absurd (cc (too, low)))))
+    (λ there. ⊎_elim (λ first. inl (ap (λ k. key_below k (head_of u.key)) first.0 ∙ below_self (head_of u.key))) (λ later. inr later)
+    (has_head_cons u.key t ts there))
     (h some verse more)
 
 -- the first text that is not empty finds its chapter in force
-in_force : (g : KeyParts) (t : KeyText) (ts : List KeyText) → key_below g t.key ≡ true → Rise t.key ts → is_empty t.text ≡ false → Ready g (t ∷ ts) t → is_head t.key.place ≡ false → g.chapter ≡ t.key.chapter
+in_force : (g : KeyParts) (t : KeyText) (ts : List KeyText) → key_below g t.key ≡ true → Rise t.key ts → is_empty t.text ≡ false
+    → Ready g (t ∷ ts) t → is_head t.key.place ≡ false → g.chapter ≡ t.key.chapter
 in_force g t ts above rise some ready verse =
     let low = below_chapter g t.key above in
     ⊎_elim
@@ -155,7 +181,8 @@ in_force g t ts above rise some ready verse =
   where
     to_come : HasHead t.key ts → ⊥
     to_come (h, (j, lt, is), key, full) =
-        let above_t : key_below t.key (head_of t.key) ≡ true = ap (key_below t.key) (sym (ap (λ x. x.key) is ∙ key)) ∙ rise_all t.key ts rise j h lt in
+        let above_t : key_below t.key (head_of t.key) ≡ true = ap (key_below t.key) (sym (ap (λ x. x.key) is ∙ key))
+        ∙ rise_all t.key ts rise j h lt in
         let none = not_below_own_head t.key in
         cc
 
@@ -187,7 +214,8 @@ fitting_texts_cut_back book head ts fits_head fits rises heads =
     let keys = fit_keys book ts rise fits in
     let begins = begins_mark ts keys in
     let quiet : is_quiet book_head (tokens_of head) ≡ true =
-    ⊎_elim (λ e. ap (λ s. is_quiet book_head (tokens_of s)) e ∙ ap (is_quiet book_head) tokens_of-nil) (λ f. head_quiet head f.1) fits_head in
+    ⊎_elim (λ e. ap (λ s. is_quiet book_head (tokens_of s)) e ∙ ap (is_quiet book_head) tokens_of-nil)
+    (λ f. head_quiet head f.1) fits_head in
     let ready = heads_from ts book_head rise (λ j d lt some verse more. inr (heads j d lt some verse more)) in
     sym (cut_is_read (head ++ texts_joined ts))
     ∙ ap (λ l. pieces_with book_head 0 [] (cut_from book_head 0 l)) (tokens_join head rest begins)

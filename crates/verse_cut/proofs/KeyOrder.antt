@@ -1,4 +1,4 @@
--- The order of keys: what stands before what, and what that says of chapters.
+-- The order of keys: what comes before what, and what that says of chapters.
 use Rattle.std.proofs.Common.{◌≡◌, ◌≤◌, ℕ, Bool, true, false, not, ◌||◌, ◌&&◌, ◌==◌, cond, nat_lt, refl, sym, ap, ◌∙◌, arith}
 use Rattle.std.specs.declared.cmp.Ordering.{Ordering}
 use Rattle.std.specs.declared.cmp.Ordering.TheVariants.{Less, Equal, Greater}
@@ -16,7 +16,7 @@ use Rattle.verse_cut.specs.Keys.{key_below}
 pub below_trans : (a b c : KeyParts) → key_below a b ≡ true → key_below b c ≡ true → key_below a c ≡ true
 below_trans a b c p q = ap is_lt (key_total.trans a b c (is_less _ p) (is_less _ q))
 
--- what is not below one key stands before all that the key stands before
+-- what is not below one key comes before all that the key comes before
 pub below_weak : (a b c : KeyParts) → key_below a b ≡ false → key_below a c ≡ true → key_below b c ≡ true
 below_weak a b c p q = by (key_cmp a b) refl
   where
@@ -34,29 +34,33 @@ tests true same r = refl
 tests false true r = refl
 tests false false r = refl
 
-pub key_below-is : (a b : KeyParts) → key_below a b ≡ nat_lt a.chapter b.chapter || (a.chapter == b.chapter && is_lt (place_cmp a.place b.place))
+pub key_below-is : (a b : KeyParts)
+    → key_below a b ≡ nat_lt a.chapter b.chapter || (a.chapter == b.chapter && is_lt (place_cmp a.place b.place))
 key_below-is a b = tests (nat_lt a.chapter b.chapter) (a.chapter == b.chapter) (place_cmp a.place b.place)
 
 pub below_chapter : (a b : KeyParts) → key_below a b ≡ true → a.chapter ≤ b.chapter
 below_chapter a b p =
-    let t : nat_lt a.chapter b.chapter || (a.chapter == b.chapter && is_lt (place_cmp a.place b.place)) ≡ true = sym (key_below-is a b) ∙ p in
+    let t : nat_lt a.chapter b.chapter || (a.chapter == b.chapter && is_lt (place_cmp a.place b.place)) ≡ true = sym (key_below-is a b)
+    ∙ p in
     grind (arith, nat_tests)
 
 pub not_below_chapter : (a b : KeyParts) → key_below a b ≡ false → b.chapter ≤ a.chapter
 not_below_chapter a b p =
-    let t : nat_lt a.chapter b.chapter || (a.chapter == b.chapter && is_lt (place_cmp a.place b.place)) ≡ false = sym (key_below-is a b) ∙ p in
+    let t : nat_lt a.chapter b.chapter || (a.chapter == b.chapter && is_lt (place_cmp a.place b.place)) ≡ false = sym (key_below-is a b)
+    ∙ p in
     grind (arith, nat_tests)
 
-nothing_before_head : (x : Place) → is_lt (place_cmp x Head) ≡ false
+pub nothing_before_head : (x : Place) → is_lt (place_cmp x Head) ≡ false
 nothing_before_head Head = refl
 nothing_before_head (Verse n l) = refl
 
--- no key stands before the head of its chapter
+-- no key comes before the head of its chapter
 pub not_below_own_head : (k : KeyParts) → key_below k (head_of k) ≡ false
 not_below_own_head k =
     let none : is_lt (place_cmp k.place Head) ≡ false = nothing_before_head k.place in
     let t = key_below-is k (head_of k) in
-    t ∙ ap (λ e. nat_lt k.chapter k.chapter || (k.chapter == k.chapter && e)) none ∙ later (nat_lt k.chapter k.chapter) (k.chapter == k.chapter) (irreflexive k.chapter)
+    t ∙ ap (λ e. nat_lt k.chapter k.chapter || (k.chapter == k.chapter && e)) none
+    ∙ later (nat_lt k.chapter k.chapter) (k.chapter == k.chapter) (irreflexive k.chapter)
   where
     irreflexive : (n : ℕ) → nat_lt n n ≡ false
     irreflexive n = grind (arith, nat_tests)
@@ -70,7 +74,7 @@ head_or_after : (x : Place) → is_lt (place_cmp Head x) ≡ not (same_place x H
 head_or_after Head = refl
 head_or_after (Verse n l) = refl
 
--- every key but the book head itself stands after it
+-- every key but the book head itself comes after it
 pub above_book_head : (k : KeyParts) → key_below book_head k ≡ not (same_key k book_head)
 above_book_head k =
     key_below-is book_head k ∙ ap (λ e. nat_lt 0 k.chapter || (0 == k.chapter && e)) (head_or_after k.place) ∙ by (same_place k.place Head)

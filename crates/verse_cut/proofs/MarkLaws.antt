@@ -30,13 +30,17 @@ greater_comm (Some x) None n = refl
 greater_comm (Some x) (Some y) n = omega arith
 
 -- with one mark more after the others
-pub in_force-snoc : (c : ℕ) (before : List Site) (s : Site) → chapter_in_force c (before ++ s ∷ []) ≡ greater_of (chapter_number s) (chapter_in_force c before)
+pub in_force-snoc : (c : ℕ) (before : List Site) (s : Site)
+    → chapter_in_force c (before ++ s ∷ []) ≡ greater_of (chapter_number s) (chapter_in_force c before)
 in_force-snoc c [] s = refl
 in_force-snoc c (b ∷ before) s =
-    ap (greater_of (chapter_number b)) (in_force-snoc c before s) ∙ greater_comm (chapter_number b) (chapter_number s) (chapter_in_force c before)
+    ap (greater_of (chapter_number b)) (in_force-snoc c before s)
+    ∙ greater_comm (chapter_number b) (chapter_number s) (chapter_in_force c before)
 
 -- the chapter in force after a mark, by its key
-pub number_step : (c : ℕ) (e f g : Bool) (n : Option ℕ) (v : Option VerseMark) → greater_of (cond e None (cond f n None)) c ≡ chapter_after c (cond e None (cond f (option_map chapter_head n) (cond g (option_map (verse_key c) v) None)))
+pub number_step : (c : ℕ) (e f g : Bool) (n : Option ℕ) (v : Option VerseMark)
+    → greater_of (cond e None (cond f n None)) c
+    ≡ chapter_after c (cond e None (cond f (option_map chapter_head n) (cond g (option_map (verse_key c) v) None)))
 number_step c true f g n v = refl
 number_step c false true g None v = refl
 number_step c false true g (Some n) v = refl
@@ -44,15 +48,18 @@ number_step c false false false n v = refl
 number_step c false false true n None = refl
 number_step c false false true n (Some v) = omega arith
 
-keyed_is : (c : ℕ) (before : List Site) (at : ℕ) (ts : List Lexeme) → keyed_behind c before (sites_from at ts) ≡ keyed_from (chapter_in_force c before) at ts
+keyed_is : (c : ℕ) (before : List Site) (at : ℕ) (ts : List Lexeme)
+    → keyed_behind c before (sites_from at ts) ≡ keyed_from (chapter_in_force c before) at ts
 keyed_is c before at [] = refl
 keyed_is c before at (words t ∷ ts) = keyed_is c before (at + length t) ts
 keyed_is c before at (mark m ∷ ts) =
     let s : Site = record { at = at; parts = m; after = text_after ts } in
     let n = chapter_in_force c before in
     let on = at + length (mark_bytes m) in
-    let step : greater_of (chapter_number s) (chapter_in_force c before) ≡ chapter_after (chapter_in_force c before) (mark_key (chapter_in_force c before) m (text_after ts)) =
-    number_step n (m.nested || m.closing) (bytes_eq m.name (codes "c")) (bytes_eq m.name (codes "v")) (chapter_in (text_after ts)) (verse_in (text_after ts)) in
+    let step : greater_of (chapter_number s) (chapter_in_force c before)
+    ≡ chapter_after (chapter_in_force c before) (mark_key (chapter_in_force c before) m (text_after ts)) =
+    number_step n (m.nested || m.closing) (bytes_eq m.name (codes "c")) (bytes_eq m.name (codes "v")) (chapter_in (text_after ts))
+    (verse_in (text_after ts)) in
     ap (with_key (mark_key n m (text_after ts)) at)
     (keyed_is c (before ++ s ∷ []) on ts ∙ ap (λ x. keyed_from x on ts) (in_force-snoc c before s ∙ step))
 
@@ -86,13 +93,16 @@ and_assoc true y z = refl
 and_assoc false y z = refl
 
 -- with one key more after the others
-pub above-snoc : (k : KeyParts) (before : List Keyed) (m : Keyed) → is_above_all k (before ++ m ∷ []) ≡ is_above_all k before && key_below m.key k
+pub above-snoc : (k : KeyParts) (before : List Keyed) (m : Keyed)
+    → is_above_all k (before ++ m ∷ []) ≡ is_above_all k before && key_below m.key k
 above-snoc k [] m = and_true (key_below m.key k)
 above-snoc k (b ∷ before) m = ap (λ x. key_below b.key k && x) (above-snoc k before m) ∙ and_assoc (key_below b.key k) _ _
 
-pub greatest-more : (g : KeyParts) (before : List Keyed) (m : Keyed) (k : KeyParts) → IsGreatest g before → key_below book_head k && is_above_all k (before ++ m ∷ []) ≡ key_below g k && key_below m.key k
+pub greatest-more : (g : KeyParts) (before : List Keyed) (m : Keyed) (k : KeyParts) → IsGreatest g before
+    → key_below book_head k && is_above_all k (before ++ m ∷ []) ≡ key_below g k && key_below m.key k
 greatest-more g before m k h =
-    ap (λ x. key_below book_head k && x) (above-snoc k before m) ∙ and_assoc (key_below book_head k) (is_above_all k before) (key_below m.key k) ∙ ap (λ x. x && key_below m.key k) (h k)
+    ap (λ x. key_below book_head k && x) (above-snoc k before m)
+    ∙ and_assoc (key_below book_head k) (is_above_all k before) (key_below m.key k) ∙ ap (λ x. x && key_below m.key k) (h k)
 
 -- where one test follows from the other, both are the other
 pub both_second : (x y : Bool) → (y ≡ true → x ≡ true) → x && y ≡ y
@@ -110,9 +120,14 @@ opening_is g before (m ∷ ms) h =
     ap (λ b. cond b (m ∷ opening_behind (before ++ m ∷ []) ms) (opening_behind (before ++ m ∷ []) ms)) (h m.key)
     ∙ by (λ g' h'. opening_is g' (before ++ m ∷ []) ms h') (key_below g m.key) refl
   where
-    by : ((g' : KeyParts) → IsGreatest g' (before ++ m ∷ []) → opening_behind (before ++ m ∷ []) ms ≡ rising g' ms) → (e : Bool) → key_below g m.key ≡ e → cond e (m ∷ opening_behind (before ++ m ∷ []) ms) (opening_behind (before ++ m ∷ []) ms) ≡ cond e (m ∷ rising m.key ms) (rising g ms)
-    by go true is = ap (λ r. m ∷ r) (go m.key (λ k. greatest-more g before m k h ∙ both_second (key_below g k) (key_below m.key k) (λ q. below_trans g m.key k is q)))
-    by go false is = go g (λ k. greatest-more g before m k h ∙ both_first (key_below g k) (key_below m.key k) (λ q. below_weak g m.key k is q))
+    by : ((g' : KeyParts) → IsGreatest g' (before ++ m ∷ []) → opening_behind (before ++ m ∷ []) ms ≡ rising g' ms) → (e : Bool)
+        → key_below g m.key ≡ e
+        → cond e (m ∷ opening_behind (before ++ m ∷ []) ms) (opening_behind (before ++ m ∷ []) ms)
+        ≡ cond e (m ∷ rising m.key ms) (rising g ms)
+    by go true is = ap (λ r. m ∷ r)
+        (go m.key (λ k. greatest-more g before m k h ∙ both_second (key_below g k) (key_below m.key k) (λ q. below_trans g m.key k is q)))
+    by go false is =
+        go g (λ k. greatest-more g before m k h ∙ both_first (key_below g k) (key_below m.key k) (λ q. below_weak g m.key k is q))
 
 pub opening-rising : (ms : List Keyed) → opening ms ≡ rising book_head ms
 opening-rising ms = opening_is book_head [] ms (λ k. and_true (key_below book_head k))
@@ -124,14 +139,20 @@ opening-from s = opening-rising (keyed_marks 0 s) ∙ ap (rising book_head) (key
 -- ---- pieces
 
 module _ (s : List ℕ) where
-  pieces_is : (g k : KeyParts) (start at : ℕ) (pre sofar : List ℕ) (ts : List Lexeme) → s ≡ pre ++ (sofar ++ joined ts) → length pre ≡ start → at ≡ start + length sofar → pieces_with k start sofar (cut_from g at ts) ≡ pieces_between s k start (rising g (keyed_from g.chapter at ts))
+  pieces_is : (g k : KeyParts) (start at : ℕ) (pre sofar : List ℕ) (ts : List Lexeme) → s ≡ pre ++ (sofar ++ joined ts)
+      → length pre ≡ start → at ≡ start + length sofar
+      → pieces_with k start sofar (cut_from g at ts) ≡ pieces_between s k start (rising g (keyed_from g.chapter at ts))
   pieces_is g k start at pre sofar [] whole before here =
       ap (λ x. record { key = k; start = start; text = x } ∷ []) (sym (ap (drop start) whole ∙ drop_at pre (sofar ++ []) start before))
   pieces_is g k start at pre sofar (t ∷ ts) whole before here =
       by (key_of g.chapter t ts)
-      (ap (λ x. record { key = k; start = start; text = x } ∷ (cut_from g (at + length (slice_of t)) ts).1) (sym (append_assoc sofar (slice_of t) (cut_from g (at + length (slice_of t)) ts).0))
-      ∙ pieces_is g k start (at + length (slice_of t)) pre (sofar ++ slice_of t) ts (whole ∙ ap (λ r. pre ++ r) (sym (append_assoc sofar (slice_of t) (joined ts)))) before (omega (arith, length-append sofar (slice_of t))))
-      (λ q. pieces_is q q at (at + length (slice_of t)) (pre ++ sofar) (slice_of t) ts (whole ∙ sym (append_assoc pre sofar (slice_of t ++ joined ts))) (omega (arith, length-append pre sofar)) refl)
+      (ap (λ x. record { key = k; start = start; text = x } ∷ (cut_from g (at + length (slice_of t)) ts).1)
+      (sym (append_assoc sofar (slice_of t) (cut_from g (at + length (slice_of t)) ts).0))
+      ∙ pieces_is g k start (at + length (slice_of t)) pre (sofar ++ slice_of t) ts
+      (whole ∙ ap (λ r. pre ++ r) (sym (append_assoc sofar (slice_of t) (joined ts)))) before
+      (omega (arith, length-append sofar (slice_of t))))
+      (λ q. pieces_is q q at (at + length (slice_of t)) (pre ++ sofar) (slice_of t) ts
+      (whole ∙ sym (append_assoc pre sofar (slice_of t ++ joined ts))) (omega (arith, length-append pre sofar)) refl)
     where
       first_text : sofar ++ [] ≡ take (at - start) (drop start s)
       first_text =
@@ -140,21 +161,31 @@ module _ (s : List ℕ) where
           ∙ take_at sofar (slice_of t ++ joined ts) (at - start) (omega arith))
 
       by : (o : Option KeyParts)
-          → pieces_with k start sofar (goes_on (slice_of t) (cut_from g (at + length (slice_of t)) ts)) ≡ pieces_between s k start (rising g (keyed_from g.chapter (at + length (slice_of t)) ts))
-          → ((q : KeyParts) → pieces_with q at (slice_of t) (cut_from q (at + length (slice_of t)) ts) ≡ pieces_between s q at (rising q (keyed_from q.chapter (at + length (slice_of t)) ts)))
+          → pieces_with k start sofar (goes_on (slice_of t) (cut_from g (at + length (slice_of t)) ts))
+          ≡ pieces_between s k start (rising g (keyed_from g.chapter (at + length (slice_of t)) ts))
+          → ((q : KeyParts) → pieces_with q at (slice_of t) (cut_from q (at + length (slice_of t)) ts)
+          ≡ pieces_between s q at (rising q (keyed_from q.chapter (at + length (slice_of t)) ts)))
           → pieces_with k start sofar (elim o [
             | None ↦ goes_on (slice_of t) (cut_from g (at + length (slice_of t)) ts)
-            | Some q ↦ cond (key_below g q) (opens_at q at (slice_of t) (cut_from q (at + length (slice_of t)) ts)) (goes_on (slice_of t) (cut_from g (at + length (slice_of t)) ts))
+            | Some q ↦ cond (key_below g q) (opens_at q at (slice_of t) (cut_from q (at + length (slice_of t)) ts))
+                (goes_on (slice_of t) (cut_from g (at + length (slice_of t)) ts))
           ]) ≡ pieces_between s k start (rising g (with_key o at (keyed_from (chapter_after g.chapter o) (at + length (slice_of t)) ts)))
       by None stay begin = stay
       by (Some q) stay begin = by_test (key_below g q) refl
         where
-          by_test : (e : Bool) → key_below g q ≡ e → pieces_with k start sofar (cond e (opens_at q at (slice_of t) (cut_from q (at + length (slice_of t)) ts)) (goes_on (slice_of t) (cut_from g (at + length (slice_of t)) ts)))
-              ≡ pieces_between s k start (cond e (record { key = q; at = at } ∷ rising q (keyed_from (max g.chapter q.chapter) (at + length (slice_of t)) ts)) (rising g (keyed_from (max g.chapter q.chapter) (at + length (slice_of t)) ts)))
+          by_test : (e : Bool) → key_below g q ≡ e
+              → pieces_with k start sofar
+              (cond e (opens_at q at (slice_of t) (cut_from q (at + length (slice_of t)) ts))
+              (goes_on (slice_of t) (cut_from g (at + length (slice_of t)) ts)))
+              ≡ pieces_between s k start
+              (cond e (record { key = q; at = at } ∷ rising q (keyed_from (max g.chapter q.chapter) (at + length (slice_of t)) ts))
+              (rising g (keyed_from (max g.chapter q.chapter) (at + length (slice_of t)) ts)))
           by_test true is =
               (λ i. record { key = k; start = start; text = first_text i } ∷ begin q i)
-              ∙ ap (λ c. pieces_between s k start (record { key = q; at = at } ∷ rising q (keyed_from c (at + length (slice_of t)) ts))) (sym (above_in_force g q is))
-          by_test false is = stay ∙ ap (λ c. pieces_between s k start (rising g (keyed_from c (at + length (slice_of t)) ts))) (sym (below_in_force g q is))
+              ∙ ap (λ c. pieces_between s k start (record { key = q; at = at } ∷ rising q (keyed_from c (at + length (slice_of t)) ts)))
+              (sym (above_in_force g q is))
+          by_test false is = stay ∙ ap (λ c. pieces_between s k start (rising g (keyed_from c (at + length (slice_of t)) ts)))
+              (sym (below_in_force g q is))
 
 pub cut_is_read : CutIsRead
 unfolding cut_of pieces_of

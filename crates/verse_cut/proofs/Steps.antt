@@ -7,7 +7,7 @@ use Rattle.usfm_token.proofs.Walk.{no_tokens, token_front}
 use Rattle.verse_cut.specs.Keys.{key_below}
 use Rattle.verse_cut.specs.Pieces.{pieces_of}
 use Rattle.verse_cut.specs.Reading.{key_of, Later, goes_on, opens_at, cut_from, pieces_with, cut_of, not_above, is_quiet}
-use Rattle.verse_cut.specs.Walks.{read_of, parts_at, GoesToEnd, OpensAt}
+use Rattle.verse_cut.specs.Loops.Walks.{read_of, parts_at, GoesToEnd, OpensAt}
 use Rattle.verse_cut.proofs.MarkLaws.{cut_is_read}
 use Rattle.verse_cut.proofs.Quiet.{by_key, stays}
 
@@ -20,7 +20,8 @@ read_more from sofar rest h =
 pub record Goes (key : KeyParts) (text here : List ℕ) : Type 0 where
   pub join : read_of text here ++ here ≡ text
   pub quiet : is_quiet key (tokens_of text) ≡ is_quiet key (tokens_of here)
-  pub cuts : (at : ℕ) → cut_from key at (tokens_of text) ≡ goes_on (read_of text here) (cut_from key (at + length (read_of text here)) (tokens_of here))
+  pub cuts : (at : ℕ) → cut_from key at (tokens_of text)
+      ≡ goes_on (read_of text here) (cut_from key (at + length (read_of text here)) (tokens_of here))
 
 pub goes_start : (key : KeyParts) (text : List ℕ) → Goes key text text
 goes_start key text =
@@ -28,10 +29,12 @@ goes_start key text =
     record {
       join = ap (λ r. r ++ text) nothing;
       quiet = refl;
-      cuts = λ at. ap (λ a. cut_from key a (tokens_of text)) (sym (add-zero at)) ∙ ap (λ r. goes_on r (cut_from key (at + length r) (tokens_of text))) (sym nothing);
+      cuts = λ at. ap (λ a. cut_from key a (tokens_of text)) (sym (add-zero at))
+          ∙ ap (λ r. goes_on r (cut_from key (at + length r) (tokens_of text))) (sym nothing);
     }
 
-module _ (key : KeyParts) (text here behind : List ℕ) (t : Lexeme) (on : Goes key text here) (front : tokens_of here ≡ t ∷ tokens_of behind) where
+module _ (key : KeyParts) (text here behind : List ℕ) (t : Lexeme) (on : Goes key text here)
+    (front : tokens_of here ≡ t ∷ tokens_of behind) where
   abbrev sofar : List ℕ
   sofar = read_of text here
 
@@ -47,11 +50,13 @@ module _ (key : KeyParts) (text here behind : List ℕ) (t : Lexeme) (on : Goes 
     join = ap (λ r. r ++ behind) sofar_more ∙ sym more;
     quiet = on.quiet ∙ ap (is_quiet key) front ∙ ap (λ e. e && is_quiet key (tokens_of behind)) low;
     cuts = λ at.
-        let place : at + length sofar + length (slice_of t) ≡ at + length (sofar ++ slice_of t) = omega (arith, length-append sofar (slice_of t)) in
+        let place : at + length sofar + length (slice_of t)
+        ≡ at + length (sofar ++ slice_of t) = omega (arith, length-append sofar (slice_of t)) in
         let far : ℕ → Later = λ a. cut_from key a (tokens_of behind) in
         on.cuts at
         ∙ ap (λ ts. goes_on sofar (cut_from key (at + length sofar) ts)) front
-        ∙ ap (goes_on sofar) (stays key (at + length sofar) (slice_of t) (at + length sofar + length (slice_of t)) (tokens_of behind) (key_of key.chapter t (tokens_of behind)) low)
+        ∙ ap (goes_on sofar) (stays key (at + length sofar) (slice_of t) (at + length sofar + length (slice_of t)) (tokens_of behind)
+        (key_of key.chapter t (tokens_of behind)) low)
         ∙ (λ i. (sym (append_assoc sofar (slice_of t) (far (place i)).0) i, (far (place i)).1))
         ∙ ap (λ r. goes_on r (far (at + length r))) (sym sofar_more);
   }
@@ -71,23 +76,27 @@ goes_end key text here on none =
 -- ---- a piece that opens
 
 -- a mark whose key is above all before opens a piece
-module _ (key found : KeyParts) (text here behind : List ℕ) (t : Lexeme) (on : Goes key text here) (front : tokens_of here ≡ t ∷ tokens_of behind) where
+module _ (key found : KeyParts) (text here behind : List ℕ) (t : Lexeme) (on : Goes key text here)
+    (front : tokens_of here ≡ t ∷ tokens_of behind) where
   here_is : here ≡ slice_of t ++ behind
   here_is = token_front here behind t front
 
   mine : read_of here behind ≡ slice_of t
   mine = read_more here (slice_of t) behind here_is
 
-  opened : (a : ℕ) → key_of key.chapter t (tokens_of behind) ≡ Some found → key_below key found ≡ true → cut_from key a (tokens_of here) ≡ ([], parts_at found a here behind)
+  opened : (a : ℕ) → key_of key.chapter t (tokens_of behind) ≡ Some found → key_below key found ≡ true
+      → cut_from key a (tokens_of here) ≡ ([], parts_at found a here behind)
   opened a is above =
       ap (cut_from key a) front
       ∙ ap (by_key key a (slice_of t) (a + length (slice_of t)) (tokens_of behind)) is
-      ∙ ap (λ e. cond e (opens_at found a (slice_of t) (cut_from found (a + length (slice_of t)) (tokens_of behind))) (goes_on (slice_of t) (cut_from key (a + length (slice_of t)) (tokens_of behind)))) above
+      ∙ ap (λ e. cond e (opens_at found a (slice_of t) (cut_from found (a + length (slice_of t)) (tokens_of behind)))
+      (goes_on (slice_of t) (cut_from key (a + length (slice_of t)) (tokens_of behind)))) above
       ∙ ap (λ r. ([], pieces_with found a r (cut_from found (a + length r) (tokens_of behind)))) (sym mine)
 
   pub goes_open : key_of key.chapter t (tokens_of behind) ≡ Some found → key_below key found ≡ true → OpensAt key text here behind found
   goes_open is above = record {
-    not_quiet = on.quiet ∙ ap (is_quiet key) front ∙ ap (λ o. not_above key o && is_quiet key (tokens_of behind)) is ∙ ap (λ e. not e && is_quiet key (tokens_of behind)) above;
+    not_quiet = on.quiet ∙ ap (is_quiet key) front ∙ ap (λ o. not_above key o && is_quiet key (tokens_of behind)) is
+        ∙ ap (λ e. not e && is_quiet key (tokens_of behind)) above;
     join = on.join;
     mark_join = ap (λ r. r ++ behind) mine ∙ sym here_is;
     cuts = λ at.
@@ -99,12 +108,14 @@ module _ (key found : KeyParts) (text here behind : List ℕ) (t : Lexeme) (on :
 -- ---- the pieces that are left
 
 -- what stands before here, in two parts
-pub read_both : (from rest here : List ℕ) → read_of from rest ++ rest ≡ from → read_of rest here ++ here ≡ rest → read_of from here ≡ read_of from rest ++ read_of rest here
+pub read_both : (from rest here : List ℕ) → read_of from rest ++ rest ≡ from → read_of rest here ++ here ≡ rest
+    → read_of from here ≡ read_of from rest ++ read_of rest here
 read_both from rest here p q =
     read_more from (read_of from rest ++ read_of rest here) here
     (sym p ∙ ap (λ r. read_of from rest ++ r) (sym q) ∙ sym (append_assoc (read_of from rest) (read_of rest here) here))
 
-pub read_join : (from rest here : List ℕ) → read_of from rest ++ rest ≡ from → read_of rest here ++ here ≡ rest → read_of from here ++ here ≡ from
+pub read_join : (from rest here : List ℕ) → read_of from rest ++ rest ≡ from → read_of rest here ++ here ≡ rest
+    → read_of from here ++ here ≡ from
 read_join from rest here p q =
     ap (λ r. r ++ here) (read_both from rest here p q)
     ∙ append_assoc (read_of from rest) (read_of rest here) here ∙ ap (λ r. read_of from rest ++ r) q ∙ p
@@ -115,10 +126,13 @@ parts_start text =
     ap (λ r. pieces_with book_head 0 r (cut_from book_head (0 + length r) (tokens_of text))) (read_more text [] text refl)
     ∙ cut_is_read text
 
-pub parts_open : (key found : KeyParts) (start : ℕ) (from rest here behind text : List ℕ) → read_of from rest ++ rest ≡ from → OpensAt key rest here behind found → text ≡ read_of from here → parts_at key start from rest ≡ record { key = key; start = start; text = text } ∷ parts_at found (start + length text) here behind
+pub parts_open : (key found : KeyParts) (start : ℕ) (from rest here behind text : List ℕ) → read_of from rest ++ rest ≡ from
+    → OpensAt key rest here behind found → text ≡ read_of from here
+    → parts_at key start from rest ≡ record { key = key; start = start; text = text } ∷ parts_at found (start + length text) here behind
 parts_open key found start from rest here behind text parts opens is =
     let sofar = read_of from rest in
     let whole : read_of from rest ++ read_of rest here ≡ text = sym (is ∙ read_both from rest here parts opens.join) in
-    let place : start + length (read_of from rest) + length (read_of rest here) ≡ start + length text = omega (arith, ap length whole, length-append (read_of from rest) (read_of rest here)) in
+    let place : start + length (read_of from rest) + length (read_of rest here)
+    ≡ start + length text = omega (arith, ap length whole, length-append (read_of from rest) (read_of rest here)) in
     ap (pieces_with key start sofar) (opens.cuts (start + length sofar))
     ∙ (λ i. record { key = key; start = start; text = whole i } ∷ parts_at found (place i) here behind)

@@ -12,7 +12,7 @@ use Rattle.verse_cut.specs.Pieces.{pieces_of}
 abbrev pub byte_order_mark : List ℕ
 byte_order_mark = 239 ∷ 187 ∷ 191 ∷ []
 
--- The text is at most one U+FEFF, `\id`, one blank, and then what stands after.
+-- The text is at most one U+FEFF, `\id`, one blank, and then what comes after.
 pub record BeginsWithId (text behind : List ℕ) : Type 0 where
   pub marked : Bool
   pub blank : ℕ
@@ -24,7 +24,7 @@ abbrev pub ends_code : List ℕ → Bool
 ends_code [] = true
 ends_code (b ∷ rest) = is_blank b || b == 92
 
--- The text begins with `\id` and the book's code, after which a blank, a backslash or the end stands.
+-- The text begins with `\id` and the book's code, after which a blank, a backslash or the end comes.
 pub record IsHeaded (book text : List ℕ) : Type 0 where
   pub rest : List ℕ
   pub begins : BeginsWithId text (book ++ rest)
@@ -34,7 +34,7 @@ pub record IsHeaded (book text : List ℕ) : Type 0 where
 abbrev pub FitsHead : List ℕ → List ℕ → Type 0
 FitsHead book text = IsHeaded book text × (opening (keyed_marks 0 text) ≡ [])
 
--- A mark with the key stands at the front, and no later mark has a greater key.
+-- A mark with the key is at the front, and no later mark has a greater key.
 abbrev pub LeadsWith : KeyParts → List Keyed → Type 0
 LeadsWith k [] = ⊥
 LeadsWith k (m ∷ ms) = (m.at ≡ 0) × (m.key ≡ k) × All (λ later. key_below k later.key ≡ false) ms

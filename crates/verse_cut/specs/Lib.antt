@@ -4,7 +4,6 @@ pub mod Pieces
 pub mod Places
 pub mod Fits
 pub mod Reading
-pub mod Walks
 pub mod Views
-pub mod Left
 pub mod Joins
+pub mod Loops

@@ -40,7 +40,7 @@ abbrev pub chapter_in_force : ℕ → List Site → ℕ
 chapter_in_force chapter [] = chapter
 chapter_in_force chapter (s ∷ ss) = greater_of (chapter_number s) (chapter_in_force chapter ss)
 
--- the key of a mark that stands after others, if it has one
+-- the key of a mark that comes after others, if it has one
 abbrev pub key_behind : ℕ → List Site → Site → Option KeyParts
 key_behind chapter before s = mark_key (chapter_in_force chapter before) s.parts s.after
 
@@ -49,12 +49,12 @@ abbrev pub with_key : Option KeyParts → ℕ → List Keyed → List Keyed
 with_key None at ms = ms
 with_key (Some k) at ms = record { key = k; at = at } ∷ ms
 
--- the marks that have a key, of those that stand after others
+-- the marks that have a key, of those that come after others
 abbrev pub keyed_behind : ℕ → List Site → List Site → List Keyed
 keyed_behind chapter before [] = []
 keyed_behind chapter before (s ∷ ss) = with_key (key_behind chapter before s) s.at (keyed_behind chapter (before ++ s ∷ []) ss)
 
--- the marks of a text that have a key, in order, where a verse before all chapter marks stands in the chapter
+-- the marks of a text that have a key, in order, where a verse before all chapter marks is in the chapter
 unfoldable pub keyed_marks : ℕ → List ℕ → List Keyed
 keyed_marks chapter s = keyed_behind chapter [] (sites_from 0 (tokens_of s))
 
@@ -67,7 +67,7 @@ is_above_all k (m ∷ before) = key_below m.key k && is_above_all k before
 abbrev pub opens : List Keyed → Keyed → Bool
 opens before m = key_below book_head m.key && is_above_all m.key before
 
--- of marks that stand after others, those that open a piece
+-- of marks that come after others, those that open a piece
 abbrev pub opening_behind : List Keyed → List Keyed → List Keyed
 opening_behind before [] = []
 opening_behind before (m ∷ ms) =

@@ -11,7 +11,7 @@ use Rattle.verse_cut.specs.Fits.{byte_order_mark, ends_code, Fits}
 use Rattle.verse_cut.specs.declared.fault.BookFault.{BookFault}
 use Rattle.verse_cut.specs.declared.fault.BookFault.TheVariants.{NoId, BadBook}
 
--- the key of a token before others, where a verse stands in the chapter
+-- the key of a token before others, where a verse is in the chapter
 abbrev pub key_of : ℕ → Lexeme → List Lexeme → Option KeyParts
 key_of chapter (words t) ts = None
 key_of chapter (mark m) ts = mark_key chapter m (text_after ts)
@@ -56,7 +56,7 @@ CutIsRead = (s : List ℕ) → cut_of s ≡ pieces_of s
 
 -- ---- headings
 
--- what stands after a U+FEFF, if one stands at the front, and else all
+-- what comes after a U+FEFF, if one is at the front, and else all
 abbrev pub behind_bom : List ℕ → List ℕ
 behind_bom text = if same_bytes (take 3 text) byte_order_mark then drop 3 text else text
 
@@ -65,19 +65,19 @@ abbrev pub begins_blank : List ℕ → Bool
 begins_blank [] = false
 begins_blank (b ∷ rest) = is_blank b
 
--- what stands after `\id` and one blank, if they stand at the front
+-- what comes after `\id` and one blank, if they are at the front
 abbrev pub id_at : List ℕ → Option (List ℕ)
 id_at bytes = if same_bytes (take 3 bytes) (codes "\\id") && begins_blank (drop 3 bytes) then Some (drop 4 bytes) else None
 
--- what stands after at most one U+FEFF, `\id` and one blank, if they stand at the front
+-- what comes after at most one U+FEFF, `\id` and one blank, if they are at the front
 unfoldable pub behind_id : List ℕ → Option (List ℕ)
 behind_id text = id_at (behind_bom text)
 
--- whether a code stands at the front and ends
+-- whether a code is at the front and ends
 abbrev pub code_leads : List ℕ → List ℕ → Bool
 code_leads code bytes = same_bytes (take (length code) bytes) code && ends_code (drop (length code) bytes)
 
--- whether there are bytes, and a code stands at their front and ends
+-- whether there are bytes, and a code is at their front and ends
 abbrev pub code_behind : List ℕ → Option (List ℕ) → Bool
 code_behind code None = false
 code_behind code (Some bytes) = code_leads code bytes
@@ -95,7 +95,7 @@ abbrev pub book_or_bad : Option (List ℕ) → Result (List ℕ) BookFault
 book_or_bad None = Err BadBook
 book_or_bad (Some book) = Ok book
 
--- the book whose code stands at the front of what follows an `\id`, or that there is no `\id`, or no such code
+-- the book whose code is at the front of what follows an `\id`, or that there is no `\id`, or no such code
 abbrev pub book_at : Option (List ℕ) → Result (List ℕ) BookFault
 book_at None = Err NoId
 book_at (Some bytes) = book_or_bad (leading_book bytes)

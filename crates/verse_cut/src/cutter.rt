@@ -1,11 +1,11 @@
 ghost use Rattle.std.specs.Prelude.{◌≡◌, ◌+◌, ◌^◌, ◌<◌, ◌++◌, length, IfOk};
 ghost use Rattle.verse_cut.specs.Pieces.{IsCutOf, KeysRise, LieIn, pieces_of};
 ghost use Rattle.verse_cut.specs.Views.{parts_of};
-ghost use Rattle.verse_cut.specs.Walks.{read_of};
+ghost use Rattle.verse_cut.specs.Loops.Walks.{read_of};
 
 use crate::walk::Walk;
 use std::alloc::{AllocError, Global};
-use usfm_ref::{Key, Place};
+use usfm_ref::Key;
 
 /// A piece of a book.
 #[derive(Clone, Copy, Debug)]
@@ -32,16 +32,13 @@ struct Pieces<'a> {
 }
 
 impl<'a> Pieces<'a> {
-    ghost use Rattle.verse_cut.specs.Left.{parts_left};
+    ghost use Rattle.verse_cut.specs.Loops.Left.{parts_left};
 
     fn new(text: &'a str) -> Self
         ensures { parts_left result ≡ pieces_of text.now }
     {
         Pieces {
-            key: Key {
-                chapter: 0,
-                place: Place::Head,
-            },
+            key: Key::chapter_head(0),
             start: 0,
             from: text,
             rest: text,
@@ -52,7 +49,7 @@ impl<'a> Pieces<'a> {
 
 impl<'a> Iterator for Pieces<'a> {
     ghost use Rattle.std.specs.Iterator.{YieldsFirstBy, item_count};
-    ghost use Rattle.verse_cut.specs.Left.{parts_left};
+    ghost use Rattle.verse_cut.specs.Loops.Left.{parts_left};
     ghost use Rattle.verse_cut.specs.Views.{part_of};
 
     type Item = Piece<'a>;
@@ -85,7 +82,7 @@ impl<'a> Iterator for Pieces<'a> {
     }
 }
 
-// What of a text stands before its rest.
+// What of a text comes before its rest.
 fn before<'a>(from: &'a str, rest: &'a str) -> &'a str
     requires { read_of from.now rest.now ++ rest.now ≡ from.now }
     ensures { result.now ≡ read_of from.now rest.now }

@@ -1,13 +1,12 @@
 ghost use Rattle.std.specs.Prelude.{◌≡◌};
 ghost use Rattle.std.specs.Bool.{Decides};
-ghost use Rattle.usfm_ref.specs.Keys.{book_head, same_key};
 ghost use Rattle.usfm_token.specs.Tokens.{tokens_of};
 ghost use Rattle.verse_cut.specs.Fits.{Fits};
 ghost use Rattle.verse_cut.specs.Reading.{is_quiet, leads, text_fits};
 
 use crate::heading::is_headed;
 use crate::walk::Walk;
-use usfm_ref::{Book, Key, Place};
+use usfm_ref::{Book, Key};
 
 /// Whether a text fits a key of a book. It takes no memory.
 ///
@@ -19,17 +18,11 @@ pub fn fits(book: Book, key: Key, text: &str) -> bool
     ensures fits { Decides result (Fits book key text.now) }
     ensures value { result ≡ text_fits book key text.now }
 {
-    if is_book_head(key) {
+    if key.is_book_head() {
         is_headed(book, text) && is_quiet(key, text)
     } else {
         text.is_empty() || leads(key, text)
     }
-}
-
-fn is_book_head(key: Key) -> bool
-    ensures { result ≡ same_key key book_head }
-{
-    key.chapter == 0 && key.place == Place::Head
 }
 
 // Whether a mark with the key stands at the front, and no later one has a greater key.

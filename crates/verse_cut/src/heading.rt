@@ -1,19 +1,18 @@
-ghost use Rattle.std.specs.Prelude.{◌≡◌, ◌↔◌, ℕ, List, IsTrue, IfOk, IfSome, IsSome, MatchOption, None, Some, Ok, Err};
+ghost use Rattle.std.specs.Prelude.{◌≡◌, ◌↔◌, ℕ, List, IsTrue, IfOk, MatchOption, None, Some, Ok, Err};
 ghost use Rattle.usfm_ref.specs.Books.{is_book_code};
-ghost use Rattle.usfm_ref.specs.Numbers.{is_blank};
 ghost use Rattle.verse_cut.specs.Fits.{BeginsWithId, IsHeaded, ends_code};
 ghost use Rattle.verse_cut.specs.Reading as reading;
 
 use crate::fault::BookFault;
-use usfm_ref::Book;
+use usfm_ref::{Book, is_blank};
 
 /// The book that a text begins with: at most one U+FEFF, `\id`, one blank (space, tab, CR, LF),
-/// the book's code, and then a blank, a backslash or the end. What stands after is not looked at.
+/// the book's code, and then a blank, a backslash or the end. What comes after is not looked at.
 /// It takes no memory.
 ///
 /// # Errors
 /// `NoId` where the text does not begin with at most one U+FEFF, `\id` and a blank, and else
-/// `BadBook` where no code, and what may follow it, stands after.
+/// `BadBook` where no code, and what may follow it, comes after.
 pub fn book_of(text: &str) -> Result<Book, BookFault>
     ensures reads { IfOk result (λ book. IsHeaded book text.now) }
     ensures only { (book : List ℕ) → IsTrue (is_book_code book)
@@ -44,7 +43,7 @@ pub(crate) fn is_headed(book: Book, text: &str) -> bool
     }
 }
 
-// What stands after `\id` and one blank at the front, or after U+FEFF at the front.
+// What comes after `\id` and one blank at the front, or after U+FEFF at the front.
 #[tactic(auto, unfolding(crate::specs::Reading::behind_id))]
 fn behind_id(text: &[u8]) -> Option<&[u8]>
     ensures { MatchOption result (reading.behind_id text.now ≡ None)
@@ -66,12 +65,6 @@ fn id_at(bytes: &[u8]) -> Option<&[u8]>
     }
 }
 
-fn is_blank(byte: u8) -> bool
-    ensures { result ≡ is_blank byte }
-{
-    matches!(byte, b' ' | b'\t' | b'\r' | b'\n')
-}
-
 // Whether a code may end before these bytes.
 fn ends_code(rest: &[u8]) -> bool
     ensures { result ≡ ends_code rest.now }
@@ -82,22 +75,12 @@ fn ends_code(rest: &[u8]) -> bool
     }
 }
 
-// The book whose code stands at the front and ends.
+// The book whose code is at the front and ends.
 fn leading_book(bytes: &[u8]) -> Option<Book>
     ensures { result ≡ reading.leading_book bytes.now }
 {
     match bytes.split_first_chunk::<3>() {
-        Some((code, rest)) if ends_code(rest) => book_of_code(code),
+        Some((code, rest)) if ends_code(rest) => Book::of_code(*code),
         _ => None,
-    }
-}
-
-fn book_of_code(code: &[u8; 3]) -> Option<Book>
-    ensures accepts { IsSome result ↔ IsTrue (is_book_code code.now) }
-    ensures book { IfSome result (λ book. book ≡ code.now) }
-{
-    match str::from_utf8(code) {
-        Ok(text) => Book::read(text).ok(),
-        Err(_) => None,
     }
 }

@@ -37,7 +37,7 @@ pub fn pieces_fit()
 {}
 
 /// Fitting texts by rising keys join and cut back, where each verse with a text that is not empty
-/// has its chapter's head with it, or stands in chapter 0.
+/// has its chapter's head with it, or is in chapter 0.
 pub fn fitting_texts_cut_back()
     ensures { FittingTextsCutBack }
 {}

@@ -5,12 +5,12 @@ ghost use Rattle.usfm_token.specs.Tokens.{Lexeme, tokens_of};
 ghost use Rattle.usfm_token.specs.View.{lexeme};
 ghost use Rattle.verse_cut.specs.Keys.{key_below, text_after};
 ghost use Rattle.verse_cut.specs.Reading.{key_of};
-ghost use Rattle.verse_cut.specs.Walks.{IsFirst, from_mark, may_have_key};
+ghost use Rattle.verse_cut.specs.Loops.Walks.{IsFirst, from_mark, may_have_key};
 
 use usfm_ref::{Key, Place, chapter_after, verse_after};
 use usfm_token::{Token, TokenIter};
 
-// A mark that opens a piece: the text from its front on, its key, and what stands after it.
+// A mark that opens a piece: the text from its front on, its key, and what comes after it.
 #[derive(Clone, Copy)]
 pub(crate) struct Opening<'a> {
     pub(crate) here: &'a str,
@@ -26,7 +26,7 @@ pub(crate) struct Walk<'a> {
 }
 
 impl<'a> Walk<'a> {
-    ghost use Rattle.verse_cut.specs.Walks.{GoesToEnd, OpensAt, TakesToken};
+    ghost use Rattle.verse_cut.specs.Loops.Walks.{GoesToEnd, OpensAt, TakesToken};
     ghost use Rattle.verse_cut.specs.Reading.{is_quiet, leads};
 
     pub(crate) fn new(text: &'a str) -> Self
@@ -48,7 +48,7 @@ impl<'a> Walk<'a> {
         Some(key_of(chapter, token, tokens.next()))
     }
 
-    // Whether the mark at the front has the key. The walk stands after it.
+    // Whether the mark at the front has the key. The walk comes after it.
     pub(crate) fn leads(&mut self, key: Key) -> bool
         ensures { leads key (tokens_of self.old.here.now)
             ≡ (result && is_quiet key (tokens_of self.new.here.now)) }
@@ -84,7 +84,7 @@ impl<'a> Walk<'a> {
     }
 }
 
-// Whether a mark stands at the front whose name begins with `c` or `v`.
+// Whether a mark is at the front whose name begins with `c` or `v`.
 fn may_have_key(text: &str) -> bool
     ensures { result ≡ may_have_key text.now }
 {
@@ -108,7 +108,7 @@ fn is_below(key: Key, other: Key) -> bool
     key < other
 }
 
-// The key of a token before the next one, where a verse stands in the chapter.
+// The key of a token before the next one, where a verse is in the chapter.
 fn key_of(chapter: u16, token: Token<'_>, next: Option<Token<'_>>) -> Option<Key>
     requires { chapter ≤ 999 }
     ensures { (ts : List Lexeme) → IsFirst next.entry ts
@@ -125,10 +125,7 @@ fn key_of(chapter: u16, token: Token<'_>, next: Option<Token<'_>>) -> Option<Key
         Some(Token::Mark(_)) | None => "",
     };
     match mark.name() {
-        "c" => Some(Key {
-            chapter: chapter_after(after)?,
-            place: Place::Head,
-        }),
+        "c" => chapter_after(after).map(Key::chapter_head),
         "v" => {
             let verse = verse_after(after)?;
             let place = Place::Verse {

@@ -14,7 +14,7 @@ WRONG_BOOKS = [b"mat", b"MA ", b"M\xc3\xa9", b"M-T", b"\x00\x00\x00", b"MA["]
 
 
 def fields_of(operation: Operation) -> Fields:
-    """The fields of an operation, as they stand in a bundle."""
+    """The fields of an operation, as they are in a bundle."""
     body = write_body(operation.text)
     key = write_key(operation.key)
     fields = id_fields(write_id(operation.id), "id")
@@ -62,7 +62,7 @@ def wrong_number(rng: Random, kind: str, number: int) -> int:
 
 
 def joined(operations: Sequence[Fields], count: int, magic: bytes) -> bytes:
-    """The bytes of a bundle of these operations, which says that it has so many."""
+    """The bytes of a bundle of these operations, which says that it has this many."""
     data = b"".join(data for fields in operations for _, data in fields)
     return magic + write_number(count, 8) + data
 

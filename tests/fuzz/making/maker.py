@@ -151,7 +151,7 @@ class Maker(Forging, Syncing):
         self.step("find", project, book, "sheet", needle, sheet=self.any_sheet())
 
     def part_of_book(self, project: str, book: str) -> str:
-        """Some characters of a book, as they stand there."""
+        """Some characters of a book, as they are there."""
         try:
             text = export(self.held(project), book).decode()
         except Fault:

@@ -98,7 +98,7 @@ def make_slash(rng: Random) -> str:
 
 
 def make_noise(rng: Random, length: int, numbers: bool) -> str:
-    """Anything that stands in a verse, with numbers of chapters and verses in it or without."""
+    """Anything that is in a verse, with numbers of chapters and verses in it or without."""
     makers = [make_words] * 8 + [make_character] * 5 + [make_paragraph] * 3 + [make_note] * 3
     makers += [make_milestone] * 2 + [make_mark] * 2 + [make_slash, make_nested_number]
     if numbers:
@@ -124,7 +124,7 @@ def make_opening(rng: Random, book: str) -> str:
 
 
 def make_book(rng: Random, book: str, verses: int) -> bytes:
-    """A book of about so many verses, in chapters."""
+    """A book of about this many verses, in chapters."""
     text = make_opening(rng, book)
     chapter, number = rng.choice([0, 1, 1, 1, 3]), 0
     if chapter:

@@ -6,7 +6,7 @@ from .sheets import Sheet
 from .tokens import Token, cut, key_of_place, keys_of_marks, openers, text_after, tokens_of, verse_at
 from .trees import Kind, Node, tree_of
 
-# Findings at one place stand in this order.
+# Findings at one place are in this order.
 CODES = (
     "unknown-marker",
     "stray-close",
@@ -58,12 +58,12 @@ def marks_of_tree(text: bytes, sheet: Sheet) -> list[tuple[str, Token]]:
 
 
 def is_in_note(node: Node) -> bool:
-    """Whether a note stands around a node."""
+    """Whether a note is around a node."""
     return any(around.kind is Kind.NOTE for around in node.around())
 
 
 def is_allowed(node: Node) -> bool:
-    """Whether the words of OccursUnder, if there are any, allow a character or a note where it stands."""
+    """Whether the words of OccursUnder, if there are any, allow a character or a note where it is."""
     words = node.record.under
     if not words:
         return True

@@ -13,7 +13,7 @@ LONGEST = 268_435_456
 
 @dataclass(frozen=True)
 class Zeros:
-    """The content of a file that has so many zero bytes, and is too long to be kept here."""
+    """The content of a file that has this many zero bytes, and is too long to be kept here."""
 
     length: int
 
@@ -203,7 +203,7 @@ def execute(replica: Replica, command: str, values: Sequence, given: bytes, ids:
 
 
 def begin(folder: Folder, project: str, name: str) -> bytes:
-    """Begins a project where nothing stands under its name."""
+    """Begins a project where nothing is under its name."""
     if project in folder:
         raise Fault(130)
     folder[project] = write_project(name, {})

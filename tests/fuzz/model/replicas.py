@@ -80,7 +80,7 @@ class Replica:
     def is_due(self, book: str, key: Key, pieces: dict[Key, bytes]) -> bool:
         """Whether an import of these pieces has to edit a segment.
 
-        A chapter's line that stands in the file has to be given to the head where the file has no verse of
+        A chapter's line that is in the file has to be given to the head where the file has no verse of
         the chapter, since it would be picked no more.
         """
         if pick(self.held, book, key) != pieces.get(key, b""):
@@ -175,7 +175,7 @@ class Replica:
         return told
 
     def find(self, book: str, data: bytes, needle: str) -> bytes:
-        """Where a needle stands in a book."""
+        """Where a needle is in a book."""
         sheet = read_sheet(data)
         told = b""
         for key, start in searches.find(export(self.held, book), sheet, needle.encode()):

@@ -1,4 +1,4 @@
-"""Where a needle stands in the text of Scripture that a book has, and its words."""
+"""Where a needle is in the text of Scripture that a book has, and its words."""
 import unicodedata
 from typing import Iterator, NamedTuple
 
@@ -15,7 +15,7 @@ COMBINING = ("Mn", "Mc", "Me")
 
 
 class Hit(NamedTuple):
-    """Where the needle stands."""
+    """Where the needle is."""
 
     key: Key
     start: int
@@ -82,14 +82,14 @@ def plain_leaves(text: bytes, sheet: Sheet) -> Iterator[tuple[int, bytes]]:
 
 
 def texts_after_verse_marks(text: bytes) -> set[int]:
-    r"""The starts of the texts that stand directly after a mark \v."""
+    r"""The starts of the texts that come directly after a mark \v."""
     tokens = tokens_of(text)
     pairs = zip(tokens, tokens[1:])
     return {after.start for mark, after in pairs if mark.slice == b"\\v" and not after.is_mark}
 
 
 def is_scripture(node: Node) -> bool:
-    """Whether a text stands in a paragraph of the text of verses, outside notes and milestones."""
+    """Whether a text is in a paragraph of the text of verses, outside notes and milestones."""
     around = list(node.around())
     if any(it.kind in (Kind.NOTE, Kind.MILESTONE) for it in around):
         return False

@@ -25,7 +25,7 @@ class Record:
 
 
 class Sheet:
-    """The records of a style sheet, in the order in which their markers first stand."""
+    """The records of a style sheet, in the order in which their markers first come."""
 
     def __init__(self, records: dict[bytes, Record]) -> None:
         self.records = records
@@ -80,7 +80,7 @@ def field_of(line: bytes) -> Optional[tuple[bytes, bytes]]:
 
 
 def without_comment(line: bytes) -> bytes:
-    """A line up to the first # that stands at its start or after a blank."""
+    """A line up to the first # that is at its start or after a blank."""
     for place, byte in enumerate(line):
         if byte == ord("#") and (place == 0 or line[place - 1] in BLANKS):
             return line[:place]

@@ -64,7 +64,7 @@ def verse_at(tokens: Sequence[Token], index: int) -> Optional[VerseMark]:
 def keys_of_marks(tokens: Sequence[Token], chapter: int = 0) -> list[Optional[Key]]:
     """For each token the key of the mark that it is, and none where it has none.
 
-    A verse stands in the greatest chapter before it, at least the one that is given.
+    A verse is in the greatest chapter before it, at least the one that is given.
     """
     keys: list[Optional[Key]] = []
     for index in range(len(tokens)):

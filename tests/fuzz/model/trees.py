@@ -108,7 +108,7 @@ class Reader:
             self.read_milestone(Node(Kind.MILESTONE, mark, record))
 
     def is_too_deep(self) -> bool:
-        """Whether a node begun here would stand too deep. What stands in the root has depth 1."""
+        """Whether a node begun here would be too deep. What is in the root has depth 1."""
         return len(self.open) > DEEPEST
 
     def add_too_deep(self, node: Node) -> None:
@@ -128,7 +128,7 @@ class Reader:
                 return
 
     def end_characters(self) -> None:
-        """Ends the characters down to the note, the paragraph or the root that they stand in."""
+        """Ends the characters down to the note, the paragraph or the root that they are in."""
         while self.open[-1].kind is Kind.CHARACTER:
             self.open.pop()
 

@@ -155,7 +155,7 @@ def sheets() -> Rows:
 
 
 def slices(node: Node) -> list[bytes]:
-    """The slices of what stands in a node."""
+    """The slices of what is in a node."""
     return [b"".join(it.leaves()) for it in node.kids]
 
 

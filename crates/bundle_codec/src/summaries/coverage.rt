@@ -9,7 +9,7 @@ use std::alloc::{AllocError, Global};
 use std::marker::Model;
 
 // Says which ids a summary covers. A search begins where the last one ended, since the ids of a set
-// mostly stand in runs of one name, and the numbers of a name rise.
+// mostly are in runs of one name, and the numbers of a name rise.
 #[derive(Drop)]
 pub(crate) struct Coverage<'a> {
     names: &'a [NameRanges],

@@ -5,9 +5,9 @@ ghost use Rattle.std.specs.List.{AllByRecursion};
 ghost use Rattle.std.specs.Option.{option_copied};
 ghost use Rattle.usfm_ref.specs.Books.{same_bytes};
 ghost use Rattle.op_core.specs.Sets.{IsOpSet};
-ghost use Rattle.bundle_codec.specs.Merging.{at_hand};
+ghost use Rattle.bundle_codec.specs.Loops.Merging.{at_hand};
 ghost use Rattle.bundle_codec.specs.Summaries.{IsKnown};
-ghost use Rattle.bundle_codec.specs.SummaryMaking as making;
+ghost use Rattle.bundle_codec.specs.Loops.SummaryMaking as making;
 
 use super::name_ranges::NameRanges;
 use super::range::NumberRange;

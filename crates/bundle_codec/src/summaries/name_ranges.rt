@@ -40,7 +40,7 @@ impl NameRanges {
         NameRanges { name, ranges }
     }
 
-    // How its name stands to another one's bytes.
+    // How its name compares to another one's bytes.
     fn order(&self, name: &[u8]) -> Ordering
         ensures { result ≡ name_cmp self.now.name name.now }
     {
@@ -69,7 +69,7 @@ impl NameRanges {
     }
 }
 
-// What stands under a name, and its place, if there is one. The name at `near` is looked at first, and
+// What is under a name, and its place, if there is one. The name at `near` is looked at first, and
 // the one after it; then they are searched by halves.
 pub(crate) fn find_name<'a>(
     names: &'a [NameRanges],

@@ -45,7 +45,7 @@ fn with_range(kept: Option<Vec<NumberRange>>, range: NumberRange) -> Option<Vec<
     Some(ranges)
 }
 
-// So many ranges, if memory was there for them, and the bytes after them.
+// This many ranges, if memory was there for them, and the bytes after them.
 fn ranges_of(
     alloc: Global,
     count: u64,
@@ -141,7 +141,7 @@ pub(crate) fn summary_of(
     names_of(alloc, count, rest)
 }
 
-// So many names with their ranges, if memory was there for them, and the bytes after them.
+// This many names with their ranges, if memory was there for them, and the bytes after them.
 fn names_of(
     alloc: Global,
     count: u64,

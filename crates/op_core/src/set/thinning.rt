@@ -63,7 +63,8 @@ impl OpSet {
 
 // The ids of the operations whose texts are left out.
 pub(super) fn ids(alloc: Global, ops: &[Op]) -> Result<Vec<OpId>, AllocError>
-    ensures { IfOk result (λ ids. (q : Id) → next_ids.is_among ids.items q ≡ thinned.is_thinned_in ops.now q) }
+    ensures { IfOk result
+        (λ ids. (q : Id) → next_ids.is_among ids.items q ≡ thinned.is_thinned_in ops.now q) }
 {
     let mut ids = Vec::new(alloc);
     for op in ops {

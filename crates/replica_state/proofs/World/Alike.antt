@@ -39,7 +39,7 @@ use Rattle.replica_state.specs.Imports.{piece_at, piece_of, has_verse, loses_lin
 use Rattle.replica_state.specs.Imports.{due_keys, edits_from, edits_numbered, import_into, import_ops}
 use Rattle.replica_state.specs.Steps.{Received, edited, imported, received}
 use Rattle.replica_state.specs.World.{edit_made, edits_made}
-use Rattle.replica_state.proofs.World.Held.{held_is_some}
+use Rattle.op_core.proofs.Awaited.{held-get}
 use Rattle.replica_state.proofs.World.Next.{AreNext}
 
 -- the replica of a name that holds a set
@@ -149,7 +149,7 @@ module _ (name : List ℕ) (s u : List Operation) (h : StandsFor s u) where
   mapped f (x ∷ xs) = ap suc (mapped f xs)
 
   not_held : (ops : List Operation) (q : Id) → is_none (get ops q) ≡ not (is_held ops q)
-  not_held ops q = by (get ops q) ∙ ap not (sym (held_is_some ops q))
+  not_held ops q = by (get ops q) ∙ ap not (sym (held-get ops q))
     where
       by : (r : Option Operation) → is_none r ≡ not (is_some r)
       by None = refl

@@ -34,7 +34,7 @@ makes s kept ops e legal w is =
     let here : of_ids kept (w.held s.name) ≡ ops = ap (λ (x : State). of_ids kept x.held) is ∙ e in
     ap (λ b. (with_bundle w (of_ids kept (w.held s.name)) b).bundles) (ap is_legal here ∙ legal) ∙ ap (λ xs. xs ∷ w.bundles) here
 
--- a replica stays where it stands through an event at another one
+-- a replica stays what it is through an event at another one
 pub others_stay : (w : World) (e : Event) (s : State) → same_bytes s.name (replica_of e) ≡ false → IsIn w s → IsIn (happens w e) s
 others_stay w e s h is = ap (of_name s.name) (apart w s.name e (not_there s.name e h)) ∙ is
   where

@@ -25,7 +25,8 @@ use Rattle.replica_state.specs.World.Exchanges.{HoldUnion, IsBefore, Request, Wh
 use Rattle.replica_state.specs.World.Exchanges.{told, wanted, IsAsked, Hears, heard, IsRelay}
 use Rattle.replica_state.specs.World.Agreement.{HoldsAll, EndsInRelays}
 use Rattle.replica_state.proofs.World.Flights.{apart, all_apart, all_both, all_parts, bundles_stay}
-use Rattle.replica_state.proofs.World.Held.{join_left, join_right, held_at, at_held, held_is_some, not_held, delta_holds}
+use Rattle.op_core.proofs.Awaited.{held-get}
+use Rattle.replica_state.proofs.World.Held.{join_left, join_right, held_at, at_held, not_held, delta_holds}
 use Rattle.replica_state.proofs.World.Held.{delta_joins, join_turned, join_back, same_delta, of_its_ids, all_ids}
 use Rattle.replica_state.proofs.World.Moments.{the_twin, whole, holds_of, InFull, of_bare, whole_of, stands, one_in_twin, found_whole}
 use Rattle.replica_state.proofs.World.Moves.{Sound, received_is}
@@ -35,7 +36,7 @@ use Rattle.replica_state.proofs.World.Twins.{BothAt, each_at, twins, sound_no_cl
 
 -- the summary of a set lacks what the set does not hold
 outside_is : (own other : List Operation) → outside (summary_of own) other ≡ delta other (is_held own)
-outside_is own other = same_delta other (covers (summary_of own)) (is_held own) (λ q. covers_its_ids own q ∙ sym (held_is_some own q))
+outside_is own other = same_delta other (covers (summary_of own)) (is_held own) (λ q. covers_its_ids own q ∙ sym (held-get own q))
 
 received_held : (events : List Event) (a : List ℕ) (k : ℕ) (ops : List Operation) → slice_get (after events).bundles k ≡ Some ops
     → (after (Receives a k ∷ events)).held a ≡ join ((after events).held a) ops
@@ -219,7 +220,7 @@ hears a h r q o g = ap (λ xs. get xs q) now ∙ held (get ((whole h.got).held h
     here x f Whole asked n = f
     here x f (Lacking asked) before n =
         delta_holds ((after h.sent).held a) (covers (summary_of ((after asked).held h.hearer))) q x f
-        (covers_its_ids ((after asked).held h.hearer) q ∙ sym (held_is_some ((after asked).held h.hearer) q)
+        (covers_its_ids ((after asked).held h.hearer) q ∙ sym (held-get ((after asked).held h.hearer) q)
         ∙ lacks (is_held ((after asked).held h.hearer) q) refl)
       where
         lacks : (b : Bool) → is_held ((after asked).held h.hearer) q ≡ b → is_held ((after asked).held h.hearer) q ≡ false

@@ -16,6 +16,7 @@ use Rattle.op_core.proofs.Filters.{rises-filter, filter_within, filter_passes, f
 use Rattle.op_core.proofs.Groupings.{get_bare}
 use Rattle.op_core.proofs.NoClash.{no_clash}
 use Rattle.op_core.proofs.Union.{same_gets, get-join, rises-join}
+use Rattle.op_core.proofs.Awaited.{held-get}
 
 -- ---- the union with a set that has every text
 
@@ -60,26 +61,18 @@ equal_no_clash xs ys h same = no_clash xs ys h (λ q x y gx gy. subst (Agree x) 
 
 -- ---- whether an id is held
 
-pub held_is_some : (ops : List Operation) (q : Id) → is_held ops q ≡ is_some (get ops q)
-held_is_some [] q = refl
-held_is_some (o ∷ ops) q = by (same_id q o.id) (held_is_some ops q)
-  where
-    by : (b : Bool) → is_held ops q ≡ is_some (get ops q) → (b || is_held ops q) ≡ is_some (cond b (Some o) (get ops q))
-    by true rest = refl
-    by false rest = rest
-
 pub held_at : (ops : List Operation) (q : Id) → is_held ops q ≡ true → (o : Operation) × (get ops q ≡ Some o)
 held_at ops q h = by (get ops q) refl
   where
     by : (r : Option Operation) → get ops q ≡ r → (o : Operation) × (get ops q ≡ Some o)
     by (Some o) e = (o, e)
-    by None e = absurd (false≢true (sym (held_is_some ops q ∙ ap is_some e) ∙ h))
+    by None e = absurd (false≢true (sym (held-get ops q ∙ ap is_some e) ∙ h))
 
 pub at_held : (ops : List Operation) (q : Id) (o : Operation) → get ops q ≡ Some o → is_held ops q ≡ true
-at_held ops q o g = held_is_some ops q ∙ ap is_some g
+at_held ops q o g = held-get ops q ∙ ap is_some g
 
 pub not_held : (ops : List Operation) (q : Id) → get ops q ≡ None → is_held ops q ≡ false
-not_held ops q g = held_is_some ops q ∙ ap is_some g
+not_held ops q g = held-get ops q ∙ ap is_some g
 
 -- an id that is among those of some operations is held by one of them
 pub among_is_held : (ops : List Operation) (q : Id) → is_among (ids_of ops) q ≡ is_held ops q

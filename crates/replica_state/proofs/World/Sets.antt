@@ -16,6 +16,7 @@ use Rattle.usfm_ref.specs.Segments.{Segment, segment}
 use Rattle.verse_cut.specs.declared.fault.BookFault.{BookFault}
 use Rattle.verse_cut.specs.Fits.{IsHeaded}
 use Rattle.verse_cut.specs.Pieces.{Part, pieces_of}
+use Rattle.verse_cut.proofs.FitLaws.{fits_is_read}
 use Rattle.verse_cut.specs.Reading.{book_in, text_fits}
 use Rattle.replica_state.proofs.World.PieceRanges.{IsKey, pieces_are_text, pieces_have_keys}
 use Rattle.op_core.specs.Names.{is_name}
@@ -134,7 +135,8 @@ by_fits s g named text seg u q o m fits = by (next_id s) m
     by : (r : Option Id) → get (edit_made (edit_by r g named text)) q ≡ Some o → Fits o
     by None m = cc m
     by (Some id) m = get_cases q (edit_with id g named text) [] o m
-        (λ _ e. subst Fits e (record { segment = seg; text = record { utf8 = u; fits = fits } })) (λ n. cc n)
+        (λ _ e. subst Fits e (record { segment = seg; text = record { utf8 = u; fits = (fits_is_read g.book g.key text).0 fits } }))
+        (λ n. cc n)
 
 unless_fits : (fault : Option EditFault) (r : Result Operation EditFault) (q : Id) (o : Operation)
     → get (edit_made (unless fault r)) q ≡ Some o → get (edit_made r) q ≡ Some o

@@ -47,13 +47,15 @@ module _ (held base : List Operation) (book : List ℕ) (pieces : List Part) whe
   edits_happen (key ∷ keys) w s is =
       let c : Command = EditOver (segment book key) (piece_at pieces key) (seen_ids held base (segment book key)) in
       let u : State = (step s c).after in
-      let named : u.name ≡ s.name = name_edited s (edit_over_op s (segment book key) (piece_at pieces key) (seen_ids held base (segment book key))) in
+      let named : u.name ≡ s.name = name_edited s
+      (edit_over_op s (segment book key) (piece_at pieces key) (seen_ids held base (segment book key))) in
       subst (λ (n : List ℕ). IsIn (all_happen (steps w s.name c) (edits_since n held base book pieces keys))
       (after u (edits_over held base book pieces keys))) named
       (edits_happen keys (steps w s.name c) u (stands w s c named is))
 
 module _ (s : State) (base : List Operation) (file : List ℕ) (state : IsState s) (set : IsOpSet base) where
-  import_happens : (count : ℕ) → (imported_since s base file).answer ≡ Ok count → IsImportingSince base file s (imported_since s base file).after
+  import_happens : (count : ℕ) → (imported_since s base file).answer ≡ Ok count
+      → IsImportingSince base file s (imported_since s base file).after
   import_happens count answered w k book is made named has =
       let pieces = pieces_of file in
       let t : State = with_ops s base in
@@ -62,10 +64,13 @@ module _ (s : State) (base : List Operation) (file : List ℕ) (state : IsState 
       let u : State = (step s c).after in
       let name : u.name ≡ s.name = name_received s base (clash s.held base) in
       let first : World = steps w s.name c in
-      let done : IsIn (all_happen first (edits_since s.name t.held base book pieces keys)) (after u (edits_over t.held base book pieces keys)) =
-      subst (λ (n : List ℕ). IsIn (all_happen first (edits_since n t.held base book pieces keys)) (after u (edits_over t.held base book pieces keys)))
+      let done : IsIn (all_happen first (edits_since s.name t.held base book pieces keys))
+      (after u (edits_over t.held base book pieces keys)) =
+      subst (λ (n : List ℕ). IsIn (all_happen first (edits_since n t.held base book pieces keys))
+      (after u (edits_over t.held base book pieces keys)))
       name (edits_happen t.held base book pieces keys first u (stands w s c name is)) in
-      subst (λ (r : Option (List Operation)). IsIn (all_happen (world.received w s.name r) (edits_since s.name t.held base book pieces keys))
+      subst (λ (r : Option (List Operation)). IsIn
+      (all_happen (world.received w s.name r) (edits_since s.name t.held base book pieces keys))
       (imported_since s base file).after) (sym made)
       (subst (λ (x : State). IsIn (all_happen first (edits_since s.name t.held base book pieces keys)) x)
       (is_receiving_and_edits s base file book count state set named has answered).1 done)

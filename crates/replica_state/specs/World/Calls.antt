@@ -31,11 +31,11 @@ use Rattle.replica_state.specs.World.Invisible.{reply}
 abbrev pub IsIn : World → State → Type 0
 IsIn w s = replica w s.name ≡ s
 
--- In each world in which the replica stands, an event makes of it what the call did.
+-- In each world that has the replica, an event makes of it what the call did.
 abbrev pub IsEvent : Event → State → State → Type 0
 IsEvent e s t = (w : World) → IsIn w s → IsIn (happens w e) t
 
--- A replica stays where it stands through each event at another one. So calls of several replicas, one after the other,
+-- A replica stays what it is through each event at another one. So calls of several replicas, one after the other,
 -- are a list of events in one world.
 abbrev pub OthersStay : Type 0
 OthersStay =
@@ -46,7 +46,7 @@ OthersStay =
 abbrev pub IsReply : Event → State → Reply → Type 0
 IsReply e s r = (w : World) → IsIn w s → reply w e ≡ Some r
 
--- In each world in which the replica stands and the bundle was made, the event of its receiving makes of the replica what
+-- In each world that has the replica and in which the bundle was made, the event of its receiving makes of the replica what
 -- the call did, and its reply is what the call answers.
 pub record IsReceiving (bundle : List Operation) (s t : State) (r : Reply) : Type 0 where
   pub after : (w : World) (k : ℕ) → IsIn w s → slice_get w.bundles k ≡ Some bundle →

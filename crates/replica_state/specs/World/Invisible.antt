@@ -37,8 +37,8 @@ pub record ActsFor (s u : State) : Type 0 where
   pub shows : ShowSame s.held u.held
 
 -- Of two replicas with one name, where the set of the first stands for that of the second, the same edit, edit over and
--- import has the same reply, and the sets stand so again. So it is with two bundles of which the first stands for the
--- second, if the second does not clash with what the second replica holds. The sets stand so where the first one thins.
+-- import has the same reply, and the first set stands for the second again. So it is with two bundles of which the first
+-- stands for the second, if the second does not clash with what the second replica holds. So it is where the first one thins.
 abbrev pub StandInsStepAlike : Type 0
 StandInsStepAlike = (s u : State) → s.name ≡ u.name → StandsFor s.held u.held → ActsFor s u
 

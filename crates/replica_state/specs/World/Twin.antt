@@ -30,7 +30,7 @@ is_twins w (ReceivesCut name k length) = false
 is_twins w (FindsNoMemory name) = false
 
 -- the same events without the thinnings and what changes nothing. So each bundle of the twin holds the operations of the
--- same ids in full, and stands at the same place among all.
+-- same ids in full, and is at the same place among all.
 abbrev pub twin : List Event → List Event
 twin [] = []
 twin (e ∷ past) = if is_twins (after past) e then e ∷ twin past else twin past

@@ -1,4 +1,4 @@
-//! Laws of calls: each call of a replica is an event of every world in which the replica stands. Each
+//! Laws of calls: each call of a replica is an event of every world that has the replica. Each
 //! function makes the call that it is named after, and its contract says which event that is.
 ghost use Rattle.std.specs.Prelude.{◌≡◌, ◌≢◌, ◌∷◌, Err, IfOk, OnErr, OnOk};
 ghost use Rattle.usfm_ref.specs.Segments.{segment};

@@ -147,7 +147,7 @@ pub fn worlds_hold_sets()
     ensures { schedules.WorldsHoldSets }
 {}
 
-/// A replica stays where it stands in a world through each event at another one.
+/// A replica stays what it is in a world through each event at another one.
 pub fn others_stay()
     ensures { calls.OthersStay }
 {}

@@ -74,7 +74,7 @@ Faults:
   fault 20                 BOOK is no book's code
   fault 60 to 70, 110      PROJECT is no project
   fault 82                 the project has no operation of the book
-  fault 90 BYTES           writing failed after so many bytes
+  fault 90 BYTES           writing failed after this many bytes
   fault 120, fault 121     a file was not read, or is over 268,435,456 bytes
   fault 130                a file of FOLDER was not written
   fault 131                a file of FOLDER was changed: `sync` takes it in";

@@ -14,7 +14,7 @@ pub(crate) fn shown<'a>(alloc: Global) -> Result<Command<'a>, AllocError> {
 }
 
 const SHOWN: &str = "\
-For each operation a line `op NUMBER NAME LENGTH`, the text of so many bytes,
+For each operation a line `op NUMBER NAME LENGTH`, the text of LENGTH bytes,
 and a line feed. The last one is the text that the book has.
 
 Example: usfm_team shown ana.project 'MAT 1:1'
@@ -23,7 +23,7 @@ Faults:
   fault 1                  out of memory
   fault 20, fault 21       REF is no segment
   fault 60 to 70, 110      PROJECT is no project
-  fault 90 BYTES           writing failed after so many bytes
+  fault 90 BYTES           writing failed after this many bytes
   fault 120, fault 121     the file was not read, or is over 268,435,456 bytes";
 
 pub(crate) fn send<'a>(alloc: Global) -> Result<Command<'a>, AllocError> {
@@ -42,7 +42,7 @@ Example: usfm_team send ana.project > ana.bundle
 Faults:
   fault 1                  out of memory
   fault 60 to 70, 110      PROJECT is no project
-  fault 90 BYTES           writing failed after so many bytes
+  fault 90 BYTES           writing failed after this many bytes
   fault 120, fault 121     the file was not read, or is over 268,435,456 bytes";
 
 pub(crate) fn summary<'a>(alloc: Global) -> Result<Command<'a>, AllocError> {
@@ -63,7 +63,7 @@ Example: usfm_team summary ben.project > ben.summary
 Faults:
   fault 1                  out of memory
   fault 60 to 70, 110      PROJECT is no project
-  fault 90 BYTES           writing failed after so many bytes
+  fault 90 BYTES           writing failed after this many bytes
   fault 120, fault 121     the file was not read, or is over 268,435,456 bytes";
 
 pub(crate) fn delta<'a>(alloc: Global) -> Result<Command<'a>, AllocError> {
@@ -91,7 +91,7 @@ Faults:
   fault 1                  out of memory
   fault 60 to 70, 110      PROJECT is no project
   fault 71                 SUMMARY is no summary
-  fault 90 BYTES           writing failed after so many bytes
+  fault 90 BYTES           writing failed after this many bytes
   fault 120, fault 121     a file was not read, or is over 268,435,456 bytes";
 
 pub(crate) fn check<'a>(alloc: Global) -> Result<Command<'a>, AllocError> {
@@ -114,14 +114,14 @@ Example: usfm_team check ana.project MAT samples/small.sty
 
 Faults:
   fault 1                  out of memory
-  fault 10 BYTES           SHEET is not UTF-8 after so many bytes
+  fault 10 BYTES           SHEET is not UTF-8 after this many bytes
   fault 20                 BOOK is no book's code
   fault 40 LINE            SHEET has a field before its first marker
   fault 41 LINE            SHEET has a marker without a name
   fault 42 LINE            SHEET has an unknown style type
   fault 60 to 70, 110      PROJECT is no project
   fault 82                 the project has no operation of the book
-  fault 90 BYTES           writing failed after so many bytes
+  fault 90 BYTES           writing failed after this many bytes
   fault 120, fault 121     a file was not read, or is over 268,435,456 bytes";
 
 pub(crate) fn find<'a>(alloc: Global) -> Result<Command<'a>, AllocError> {
@@ -176,7 +176,7 @@ pub(crate) fn report<'a>(alloc: Global) -> Result<Command<'a>, AllocError> {
 const REPORT: &str = "\
 For each segment that shows several texts a line `conflict REF COUNT`; then for
 each of its texts, the one that the book has first, a line
-`text NUMBER NAME LENGTH`, the text of so many bytes, and a line feed. Then a
+`text NUMBER NAME LENGTH`, the text of LENGTH bytes, and a line feed. Then a
 line `awaited NUMBER NAME` for each operation that another one replaces and
 that has not come yet.
 
@@ -185,7 +185,7 @@ Example: usfm_team report ana.project
 Faults:
   fault 1                  out of memory
   fault 60 to 70, 110      PROJECT is no project
-  fault 90 BYTES           writing failed after so many bytes
+  fault 90 BYTES           writing failed after this many bytes
   fault 120, fault 121     the file was not read, or is over 268,435,456 bytes";
 
 pub(crate) fn fold<'a>(alloc: Global) -> Result<Command<'a>, AllocError> {
@@ -212,6 +212,6 @@ Faults:
   fault 61               a bundle is cut
   fault 62 to 69 PLACE   the operation at this place is not well formed
   fault 82               no operation is of the book
-  fault 90 BYTES         writing failed after so many bytes
+  fault 90 BYTES         writing failed after this many bytes
   fault 120              reading failed
   fault 121              the input has more than 268,435,456 bytes";

@@ -151,7 +151,7 @@ fn finds_one_stray_close(rt: HostRuntime) -> Result<(), SheetFault> {
     Ok(())
 }
 
-// A text that nests so many marks in a paragraph.
+// A text that nests this many marks in a paragraph.
 fn nested(alloc: Global, front: &str, count: usize) -> Result<String, AllocError> {
     let mut text = String::new(alloc);
     text.push_str(front)?;

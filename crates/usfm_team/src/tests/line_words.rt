@@ -5,7 +5,7 @@ use std::test::Fail;
 use usfm_cli::{Line, LineFault, VERSION, fault_line, read_words};
 use usfm_ref::{Book, Key, write_ref};
 
-// What the words of a text ask for, which stand between its bars: the subcommand with each value after
+// What the words of a text ask for, which are between its bars: the subcommand with each value after
 // what it is, or the line of the fault, or `usage`, or the text that was asked for.
 fn asked(alloc: Global, text: &str) -> Result<String, Fail> {
     let mut words = Vec::new(alloc);

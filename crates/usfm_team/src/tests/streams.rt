@@ -54,7 +54,7 @@ impl ByteSource for SlowSource<'_> {
     }
 }
 
-/// Gives so many zeros, without a list of them.
+/// Gives this many zeros, without a list of them.
 #[derive(Drop)]
 pub struct Zeros {
     pub left: usize,

@@ -28,7 +28,7 @@ fn commands_one_after_another(rt: HostRuntime) -> Result<(), Fail> {
     Ok(())
 }
 
-// What each command writes stands in order, and the project is the one after all.
+// What each command writes is in order, and the project is the one after all.
 #[test]
 fn commands_in_turn(rt: HostRuntime) -> Result<(), Fail> {
     let alloc = rt.alloc();

@@ -32,7 +32,7 @@ pub(crate) enum Event<'a> {
     PackLacked(usize),
     // Receives a bundle.
     Take(usize),
-    // Receives so many of its first bytes.
+    // Receives this many of its first bytes.
     TakeCut(usize, usize),
     // Two bundles have the same bytes.
     Same(usize, usize),

@@ -1,6 +1,6 @@
 use Rattle.std.proofs.Common.{◌&&◌, subst, sym, ap, ◌∙◌}
 use Rattle.op_core.specs.Ops.{is_full}
-use Rattle.bundle_codec.specs.Merging.{Steps}
+use Rattle.bundle_codec.specs.Loops.Merging.{Steps}
 use Rattle.bundle_codec.proofs.Merges.{lent_some, begins, goes_on}
 use Rattle.bundle_codec.proofs.merging.push_union.Goals.{then-full, else-full}
 use Rattle.bundle_codec.proofs.merging.push_union.Goals as goal
@@ -15,7 +15,8 @@ union-preserved c =
     subst (Steps c.union.left c.union.right c.pass_least.new.left c.pass_least.new.right) c.in-Some.is c.in_ok-op.ensures.next in
     rw c.in_ok-extend_from_slice.ensures.items
     (goes_on c.args.left c.args.right c.args.bytes.now.items c.union.bytes.items c.spelled.result.now c.union.full c.if-full.full
-    c.union.count c.union.left c.union.right c.pass_least.new.left c.pass_least.new.right c.in-Some.op c.union.invariant step c.spelled.ensures
+    c.union.count c.union.left c.union.right c.pass_least.new.left c.pass_least.new.right c.in-Some.op c.union.invariant step
+    c.spelled.ensures
     (elim c.if-full.branch [
       | then-full w ↦
           w.full-is ∙ w.is_some-full.ensures ∙ lent_some w.text.result c.in-Some.op.text w.text.ensures

@@ -1,7 +1,7 @@
 use Rattle.std.proofs.Common.{None, Some, List, sym, ap, subst, ◌∙◌}
 use Rattle.op_core.specs.Ops.{Operation}
 use Rattle.bundle_codec.specs.Views.{operations_in}
-use Rattle.bundle_codec.specs.Thinning.{HoldsThinned, LeavesNamed, first_of}
+use Rattle.bundle_codec.specs.Loops.Thinning.{HoldsThinned, LeavesNamed, first_of}
 use Rattle.bundle_codec.proofs.Unnamed.{judged_empty, judged_left}
 use Rattle.bundle_codec.proofs.thinning.judge_thinned.Goals as goal
 

@@ -1,5 +1,5 @@
 use Rattle.std.proofs.Common.{sym, ap, ◌∙◌}
-use Rattle.bundle_codec.specs.Thinning.{is_beside}
+use Rattle.bundle_codec.specs.Loops.Thinning.{is_beside}
 use Rattle.bundle_codec.proofs.Unnamed.{goes}
 use Rattle.bundle_codec.proofs.thinning.leave_named_by.Goals as goal
 

@@ -6,7 +6,7 @@ use Rattle.sty_sheet.specs.Views.{records_of}
 use Rattle.verse_cut.specs.Pieces.{pieces_of}
 use Rattle.verse_cut.specs.Views.{parts_of}
 use Rattle.concordance.specs.Hits.{keyed, occurrences, hits_of}
-use Rattle.concordance.specs.KeyedViews.{hits_left}
+use Rattle.concordance.specs.Loops.KeyedViews.{hits_left}
 use Rattle.concordance.specs.Plain.{plain_leaves}
 use Rattle.concordance.specs.Reading.{EndsWithin, hold_all}
 use Rattle.concordance.specs.Views.{passages_view, hit_view}

@@ -1,7 +1,7 @@
 use Rattle.std.proofs.Common.{◌≡◌, ◌<◌, ◌∙◌, [], ◌∷◌, suc, zero, ℕ, ap, sym, List, map, take, length, slice_get, get_or, Some, add-one, arith, ◌||◌}
 use Rattle.std.proofs.lemmas.Bool.{false≢true}
 use Rattle.std.proofs.lemmas.List.{length-map}
-use Rattle.concordance.specs.FormViews.{form_bytes}
+use Rattle.concordance.specs.Loops.FormViews.{form_bytes}
 use Rattle.concordance.specs.Groups.{Group, told, told_with, has_bare, is_told, composed, form_at, AlsoTells}
 use Rattle.concordance.specs.declared.form.Form.{Form}
 use Rattle.concordance.proofs.GroupSteps.{group_keyed}
@@ -37,7 +37,8 @@ loop-index-preserved c =
           let at = sym w.in-Some.ensures.entry in
           let form =
           w.text.ensures
-          ∙ form_here c.args.forms.now runs i c.index-forms-index.result g c.requires.forms c.loop-index-test.true c.index-forms-index.is at in
+          ∙ form_here c.args.forms.now runs i c.index-forms-index.result g c.requires.forms c.loop-index-test.true c.index-forms-index.is
+          at in
           let also : AlsoTells (told old) (told_with (form_at g) g.1.items) (told w.note.new.groups.entries) =
           λ s. w.in_ok-note.ensures.told s
           ∙ (λ j. is_told s (told old) || is_told s (told_with (form j) (w.as_slice.ensures.value j))) in

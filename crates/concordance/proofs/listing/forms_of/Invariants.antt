@@ -1,5 +1,5 @@
 use Rattle.std.proofs.Common.{◌≡◌, map, take}
-use Rattle.concordance.specs.FormViews.{forms_view}
+use Rattle.concordance.specs.Loops.FormViews.{forms_view}
 use Rattle.concordance.specs.Groups.{form_at}
 use Rattle.concordance.proofs.listing.forms_of.Given as goal
 

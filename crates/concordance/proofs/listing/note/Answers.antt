@@ -33,5 +33,6 @@ returns-in_ok-insert-in-None-clause-keyed c =
     c.in_ok-insert-in-None.ensures.entries
     ∙ insert_entry-new text_eq c.args.groups.now c.args.form c.in_ok-keys-in-None.keys (none_of _ c.in-None.ensures.found) in
     ap has_bare is
-    ∙ new_keyed c.args.groups.now.entries c.args.form c.in_ok-keys-in-None.keys c.args.keys.now c.in_ok-keys-in-None.ensures.items c.requires.some
+    ∙ new_keyed c.args.groups.now.entries c.args.form c.in_ok-keys-in-None.keys c.args.keys.now c.in_ok-keys-in-None.ensures.items
+    c.requires.some
     c.requires.keyed

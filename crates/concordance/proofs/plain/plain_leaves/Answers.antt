@@ -10,7 +10,7 @@ use Rattle.usfm_tree.specs.WalkViews.{events_ahead, records_by}
 use Rattle.usfm_tree.specs.declared.step.Step.{Step}
 use Rattle.usfm_tree.proofs.LeavesLemmas.{tree_bytes}
 use Rattle.usfm_tree.proofs.PlaceLemmas.{tree_runs}
-use Rattle.concordance.specs.Gathered.{gathered, EventsFit}
+use Rattle.concordance.specs.Loops.Gathered.{gathered, EventsFit}
 use Rattle.concordance.specs.Plain.{plain_leaves}
 use Rattle.concordance.specs.Views.{passages_view, mark_behind, waiting_of, enclosures, leaves_with}
 use Rattle.concordance.proofs.Gathers.{whole, all_end, events_fit, fit_after_ends, entry_fits, fit_after, step_shorter}

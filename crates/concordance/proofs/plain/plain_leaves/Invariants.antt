@@ -3,7 +3,7 @@ use Rattle.sty_sheet.specs.Views.{records_of}
 use Rattle.usfm_tree.specs.Reading.{tree_of}
 use Rattle.usfm_tree.specs.SheetViews.{styles_of}
 use Rattle.usfm_tree.specs.WalkViews.{events_ahead, records_by}
-use Rattle.concordance.specs.Gathered.{EventsFit}
+use Rattle.concordance.specs.Loops.Gathered.{EventsFit}
 use Rattle.concordance.specs.Reading.{inside_of, leaves_from}
 use Rattle.concordance.specs.Views.{leaves_with}
 use Rattle.concordance.proofs.plain.plain_leaves.Given as goal

@@ -2,7 +2,7 @@ use Rattle.std.proofs.Common.{◌≡◌, ◌∙◌, ◌∷◌, [], ap, sym, char
 use Rattle.std.specs.Str.Iter.{chars_rest}
 use Rattle.std.proofs.lemmas.Str.{chars_past_char, chars-nil}
 use Rattle.std.proofs.lemmas.List.{nil_from_length}
-use Rattle.concordance.specs.RunReading.{behind}
+use Rattle.concordance.specs.Loops.RunReading.{behind}
 use Rattle.concordance.proofs.RunLemmas.{reads_more, like_test, unlike_test, behind_more, behind_none}
 use Rattle.concordance.proofs.runs.behind_front.Goals as goal
 

@@ -1,6 +1,6 @@
 use Rattle.std.proofs.Common.{◌≡◌, ◌++◌, List, ℕ, length, chars}
 use Rattle.std.specs.Str.Iter.{chars_rest}
-use Rattle.concordance.specs.RunReading.{behind, front_bytes}
+use Rattle.concordance.specs.Loops.RunReading.{behind, front_bytes}
 use Rattle.concordance.proofs.runs.behind_front.Given as goal
 
 abbrev pub invariant-loop-c : goal.invariant-loop-c

@@ -2,7 +2,7 @@ use Rattle.std.proofs.Common.{List, ℕ, true, false, ◌==◌, IsUtf8, take, �
 use Rattle.std.proofs.lemmas.List.{nil_from_length, map-append}
 use Rattle.usfm_token.proofs.Walk.{boundary_at_rest}
 use Rattle.concordance.specs.Passages.{Passage}
-use Rattle.concordance.specs.RunReading.{front_bytes}
+use Rattle.concordance.specs.Loops.RunReading.{front_bytes}
 use Rattle.concordance.specs.Words.{runs_behind}
 use Rattle.concordance.specs.Views.{passage_view, passages_view}
 use Rattle.concordance.proofs.RunLemmas.{no_more, run_some, chars_some, next_run}
@@ -22,7 +22,7 @@ split_at-requires c =
     boundary_at_rest c.behind_front-at.result.now _ c.behind_front-rest.result.now
     c.behind_front-rest.ensures.front c.behind_front-rest.utf8
 
--- a character stands where a text is not empty
+-- a character is where a text is not empty
 some : (bs : List ℕ) → false ≡ (length bs == 0) → IsUtf8 bs → 0 < length (chars bs)
 some bs e u = chars_some bs u (let n = false-eqb (length bs) 0 e in omega arith)
 

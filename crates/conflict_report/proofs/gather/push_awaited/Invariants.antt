@@ -1,6 +1,6 @@
 use Rattle.std.proofs.Common.{◌≡◌, ◌++◌, take}
 use Rattle.std.specs.List.{flat_map}
-use Rattle.conflict_report.specs.Parts.{bytes_of}
+use Rattle.conflict_report.specs.Loops.Parts.{bytes_of}
 use Rattle.conflict_report.specs.Reports.{awaited_line}
 use Rattle.conflict_report.proofs.gather.push_awaited.Given as goal
 

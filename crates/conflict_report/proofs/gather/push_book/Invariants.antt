@@ -1,7 +1,7 @@
 use Rattle.std.proofs.Common.{◌≡◌, ◌++◌}
 use Rattle.std.specs.List.{flat_map}
 use Rattle.usfm_ref.specs.Segments.{segment}
-use Rattle.conflict_report.specs.Parts.{bytes_of}
+use Rattle.conflict_report.specs.Loops.Parts.{bytes_of}
 use Rattle.conflict_report.specs.Reports.{conflict_at, conflicts_in}
 use Rattle.conflict_report.proofs.gather.push_book.Given as goal
 

@@ -1,7 +1,7 @@
 use Rattle.std.proofs.Common.{◌≡◌, ◌++◌}
 use Rattle.std.specs.List.{flat_map}
 use Rattle.op_core.specs.Lists.{books_of}
-use Rattle.conflict_report.specs.Parts.{bytes_of}
+use Rattle.conflict_report.specs.Loops.Parts.{bytes_of}
 use Rattle.conflict_report.specs.Reports.{conflicts_in}
 use Rattle.conflict_report.proofs.gather.push_conflicts.Given as goal
 

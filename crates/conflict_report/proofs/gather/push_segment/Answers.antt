@@ -1,6 +1,6 @@
 use Rattle.std.proofs.Common.{◌∙◌, string_bytes, ap, arith}
 use Rattle.usfm_ref.specs.Segments.{segment}
-use Rattle.conflict_report.specs.Parts.{bytes_of}
+use Rattle.conflict_report.specs.Loops.Parts.{bytes_of}
 use Rattle.conflict_report.specs.declared.part.Part.TheVariants.{Line}
 use Rattle.conflict_report.specs.Reports.{distinct_texts}
 use Rattle.conflict_report.proofs.Gathered.{bytes_push, conflict_told}

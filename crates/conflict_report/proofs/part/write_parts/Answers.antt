@@ -1,7 +1,7 @@
 use Rattle.std.proofs.Common.{sym, ap}
 use Rattle.std.proofs.lemmas.Result.{err_from_is_err_and}
 use Rattle.usfm_export.proofs.Pieces.{TakesFront-at_index}
-use Rattle.conflict_report.specs.Parts.{part_bytes}
+use Rattle.conflict_report.specs.Loops.Parts.{part_bytes}
 use Rattle.conflict_report.proofs.part.write_parts.Goals as goal
 
 pub returns-in_err-gone-clause-front : goal.returns-in_err-gone-clause-front

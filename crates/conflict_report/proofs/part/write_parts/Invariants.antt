@@ -1,6 +1,6 @@
 use Rattle.std.proofs.Common.{◌≡◌, take}
 use Rattle.usfm_export.specs.Writing.{TakesAll}
-use Rattle.conflict_report.specs.Parts.{bytes_of}
+use Rattle.conflict_report.specs.Loops.Parts.{bytes_of}
 use Rattle.conflict_report.proofs.part.write_parts.Given as goal
 
 -- the sink took the parts so far, and did not fail

@@ -38,7 +38,8 @@ returns-in_err-bundle-clause-nothing_held c =
 pub returns-in-Err-Memory-clause-nothing_held : goal.returns-in-Err-Memory-clause-nothing_held
 returns-in-Err-Memory-clause-nothing_held c = λ s loads none e.
     let held = whole_is_held c.args.bytes.now c.in-Some.front.0 c.in-Some.front.1.now (sym c.in-Some.ensures) s loads in
-    let same : ◌≡◌ {A = Result (List Operation) WholeFault} (Ok s.held) (Ok c.in_ok-bundle.bundle) = sym held ∙ c.in_ok-bundle.ensures.exact in
+    let same : ◌≡◌ {A = Result (List Operation) WholeFault} (Ok s.held) (Ok c.in_ok-bundle.bundle) = sym held
+    ∙ c.in_ok-bundle.ensures.exact in
     let is : s.held ≡ c.in_ok-bundle.bundle = cc same in
     c.in-Err-Memory.ensures.nothing_new (ap (lacked c.new-replica.result.held) (sym is ∙ none)) (ap Err c.in-Err-Memory.field-0-is)
 

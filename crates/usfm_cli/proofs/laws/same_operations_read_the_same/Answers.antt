@@ -3,4 +3,5 @@ use Rattle.usfm_cli.specs.Executing.{file_after}
 use Rattle.usfm_cli.proofs.laws.same_operations_read_the_same.Goals as goal
 
 pub returns : goal.returns
-returns c = λ file other commands others s t loads loaded hs ht same. same_operations (file_after file commands) (file_after other others) s t loads loaded hs ht same
+returns c = λ file other commands others s t loads loaded hs ht same. same_operations (file_after file commands)
+    (file_after other others) s t loads loaded hs ht same

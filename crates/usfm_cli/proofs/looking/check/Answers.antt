@@ -6,7 +6,9 @@ use Rattle.usfm_cli.proofs.Searched.{is_told_as_text, book_wanted, sheet_refused
 use Rattle.usfm_cli.proofs.looking.check.Goals as goal
 
 pub returns-in_err-text_in-2 : goal.returns-in_err-text_in-2
-returns-in_err-text_in-2 c = absurd (is_told_as_text c.deref.result.now c.in_ok-bytes.bytes.items c.deref.ensures.value c.in_ok-bytes.ensures.1.is_text c.in_err-text_in-2.ensures.refused.0)
+returns-in_err-text_in-2 c = absurd
+    (is_told_as_text c.deref.result.now c.in_ok-bytes.bytes.items c.deref.ensures.value c.in_ok-bytes.ensures.1.is_text
+    c.in_err-text_in-2.ensures.refused.0)
 
 pub returns-in_err-sheet : goal.returns-in_err-sheet
 returns-in_err-sheet c =

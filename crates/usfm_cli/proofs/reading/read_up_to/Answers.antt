@@ -13,8 +13,10 @@ returns-then-count-limit-clause-read g c =
     let piece_len = length-take-le c.in-Ok.count c.read.new.buffer c.in-Ok.ensures.fits in
     record {
       given = bytes ++ piece;
-      consumed = Consumes-trans (source.to_come c.args.source.now) (source.to_come c.loop-bytes.source) (source.to_come c.read.new.self) bytes piece c.loop-bytes.invariant.given c.in-Ok.ensures.bytes.0;
-      answered = omega (arith, len, piece_len, c.loop-bytes.bytes.ok.0, c.in-Ok.ensures.fits, length-take c.min-room.result c.loop-bytes.buffer);
+      consumed = Consumes-trans (source.to_come c.args.source.now) (source.to_come c.loop-bytes.source)
+          (source.to_come c.read.new.self) bytes piece c.loop-bytes.invariant.given c.in-Ok.ensures.bytes.0;
+      answered =
+          omega (arith, len, piece_len, c.loop-bytes.bytes.ok.0, c.in-Ok.ensures.fits, length-take c.min-room.result c.loop-bytes.buffer);
       reads = omega (arith, len, piece_len, c.in-Ok.ensures.counted, c.loop-bytes.invariant.reads);
     }
 
@@ -29,7 +31,8 @@ returns-in_err-extend_from_slice-in-Ok-clause-read g c =
     let fault = err_from_is_err_and c.from_residual.result c.from_residual.ensures.1 in
     record {
       given = bytes ++ piece;
-      consumed = Consumes-trans (source.to_come c.args.source.now) (source.to_come c.loop-bytes.source) (source.to_come c.read.new.self) bytes piece c.loop-bytes.invariant.given c.in-Ok.ensures.bytes.0;
+      consumed = Consumes-trans (source.to_come c.args.source.now) (source.to_come c.loop-bytes.source)
+          (source.to_come c.read.new.self) bytes piece c.loop-bytes.invariant.given c.in-Ok.ensures.bytes.0;
       answered = rw (fault.1, fault.2) (omega (arith, len, piece_len, c.loop-bytes.bytes.ok.0, c.if-count-limit.false));
       reads = omega (arith, len, piece_len, c.in-Ok.ensures.counted, c.loop-bytes.invariant.reads);
     }

@@ -13,7 +13,8 @@ use Rattle.usfm_cli.proofs.standing.shown_set.Goals as goal
 
 pub put_copy-requires : goal.put_copy-requires
 put_copy-requires c =
-    let keyed = flat_map (λ (key : KeyParts). shown c.args.replica.now.held (segment c.args.book key)) (keys_of c.args.replica.now.held c.args.book) in
+    let keyed = flat_map (λ (key : KeyParts). shown c.args.replica.now.held (segment c.args.book key))
+    (keys_of c.args.replica.now.held c.args.book) in
     let same = subst (λ ops. IsPermutation keyed (map (λ op. op.now) ops)) (sym c.deref-op-items.ensures.value) c.in_ok-shown_ops.ensures in
     let state = c.name.ensures.valid in
     record {
@@ -28,7 +29,8 @@ loop-op-preserved c =
 
 pub returns : goal.returns
 returns c =
-    let keyed = flat_map (λ (key : KeyParts). shown c.args.replica.now.held (segment c.args.book key)) (keys_of c.args.replica.now.held c.args.book) in
+    let keyed = flat_map (λ (key : KeyParts). shown c.args.replica.now.held (segment c.args.book key))
+    (keys_of c.args.replica.now.held c.args.book) in
     let same = subst (λ ops. IsPermutation keyed (map (λ op. op.now) ops)) (sym c.deref-op-items.ensures.value) c.in_ok-shown_ops.ensures in
     let state = c.name.ensures.valid in
     c.loop-op.invariant

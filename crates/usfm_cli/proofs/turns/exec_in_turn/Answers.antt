@@ -8,7 +8,8 @@ use Rattle.usfm_cli.proofs.turns.exec_in_turn.Goals as goal
 pub returns-in_err-outputs-clause-answer : goal.returns-in_err-outputs-clause-answer
 returns-in_err-outputs-clause-answer c =
     let fault = err_from_is_err_and c.from_residual-in_err-outputs.result c.from_residual-in_err-outputs.ensures.1 in
-    rw (fault.1, fault.2) (λ e. file_refused Global Global c.args.project.now c.in_ok-replica.replica c.obey_in_turn.new.replica c.args.commands.now
+    rw (fault.1, fault.2) (λ e. file_refused Global Global c.args.project.now c.in_ok-replica.replica c.obey_in_turn.new.replica
+    c.args.commands.now
     c.in_err-outputs.field-0.0 c.in_ok-replica.ensures.loaded c.in_err-outputs.ensures e)
 
 pub returns-clause-after : goal.returns-clause-after

@@ -4,19 +4,23 @@ use Rattle.usfm_ref.proofs.Ranges.{chapter_small}
 use Rattle.usfm_ref.proofs.number.chapter_after.Goals as goal
 
 pub returns-in_err-bytes-clause-value : goal.returns-in_err-bytes-clause-value
-returns-in_err-bytes-clause-value c = c.from_residual.ensures ∙ sym (chapter_in-no_blanks _ (rw (← c.as_bytes.ensures.value) c.in_err-bytes.ensures))
+returns-in_err-bytes-clause-value c =
+    c.from_residual.ensures ∙ sym (chapter_in-no_blanks _ (rw (← c.as_bytes.ensures.value) c.in_err-bytes.ensures))
 
 pub returns-in_err-bytes-clause-only : goal.returns-in_err-bytes-clause-only
 returns-in_err-bytes-clause-only c = λ number h. returns-in_err-bytes-clause-value c ∙ chapter_in-of _ number h
 
 pub returns-in_err-number-clause-value : goal.returns-in_err-number-clause-value
-returns-in_err-number-clause-value c = c.from_residual-in_err-number.ensures ∙ sym (chapter_in-no_number _ _ (rw (← c.as_bytes.ensures.value) c.in_ok-bytes.ensures) c.in_err-number.ensures)
+returns-in_err-number-clause-value c = c.from_residual-in_err-number.ensures
+    ∙ sym (chapter_in-no_number _ _ (rw (← c.as_bytes.ensures.value) c.in_ok-bytes.ensures) c.in_err-number.ensures)
 
 pub returns-in_err-number-clause-only : goal.returns-in_err-number-clause-only
 returns-in_err-number-clause-only c = λ number h. returns-in_err-number-clause-value c ∙ chapter_in-of _ number h
 
 pub returns-clause-value : goal.returns-clause-value
-returns-clause-value c = c.then_some.ensures ∙ (rw c.ends_number.ensures (sym (chapter_in-number _ _ _ _ (rw (← c.as_bytes.ensures.value) c.in_ok-bytes.ensures) c.in_ok-number.ensures)))
+returns-clause-value c = c.then_some.ensures
+    ∙ (rw c.ends_number.ensures
+    (sym (chapter_in-number _ _ _ _ (rw (← c.as_bytes.ensures.value) c.in_ok-bytes.ensures) c.in_ok-number.ensures)))
 
 pub returns-clause-reads : goal.returns-clause-reads
 returns-clause-reads c = chapter_reads _ _ (returns-clause-value c)

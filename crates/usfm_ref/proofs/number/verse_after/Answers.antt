@@ -6,21 +6,28 @@ use Rattle.usfm_ref.proofs.number.verse_after.Goals as goal
 use Rattle.usfm_ref.proofs.number.verse_after.Goals.{in-Some, in-None}
 
 pub returns-in_err-bytes-clause-value : goal.returns-in_err-bytes-clause-value
-returns-in_err-bytes-clause-value c = c.from_residual.ensures ∙ sym (verse_in-no_blanks _ (rw (← c.as_bytes.ensures.value) c.in_err-bytes.ensures))
+returns-in_err-bytes-clause-value c =
+    c.from_residual.ensures ∙ sym (verse_in-no_blanks _ (rw (← c.as_bytes.ensures.value) c.in_err-bytes.ensures))
 
 pub returns-in_err-bytes-clause-only : goal.returns-in_err-bytes-clause-only
 returns-in_err-bytes-clause-only c = λ mark h. returns-in_err-bytes-clause-value c ∙ verse_in-of _ mark h
 
 pub returns-in_err-number-clause-value : goal.returns-in_err-number-clause-value
-returns-in_err-number-clause-value c = c.from_residual-in_err-number.ensures ∙ sym (verse_in-no_verse _ _ (rw (← c.as_bytes.ensures.value) c.in_ok-bytes.ensures) c.in_err-number.ensures)
+returns-in_err-number-clause-value c = c.from_residual-in_err-number.ensures
+    ∙ sym (verse_in-no_verse _ _ (rw (← c.as_bytes.ensures.value) c.in_ok-bytes.ensures) c.in_err-number.ensures)
 
 pub returns-in_err-number-clause-only : goal.returns-in_err-number-clause-only
 returns-in_err-number-clause-only c = λ mark h. returns-in_err-number-clause-value c ∙ verse_in-of _ mark h
 
 pub overflow_sub-result : goal.overflow_sub-result
 overflow_sub-result c =
-    let within : length c.in_ok-number.behind.now ≤ length c.args.text.now = within_text _ _ _ _ (rw (← c.as_bytes.ensures.value) c.in_ok-bytes.ensures) c.in_ok-number.ensures in
-    elim c.match-bridge_at.branch [ in-Some w ↦ rw w.last-is (omega (arith, within_bridge _ _ _ w.in-Some.ensures)) | in-None w ↦ rw w.last-is within ]
+    let within : length c.in_ok-number.behind.now ≤ length c.args.text.now = within_text _ _ _ _
+    (rw (← c.as_bytes.ensures.value) c.in_ok-bytes.ensures) c.in_ok-number.ensures in
+    elim c.match-bridge_at.branch [
+      | in-Some w ↦ rw w.last-is
+          (omega (arith, within_bridge _ _ _ w.in-Some.ensures))
+      | in-None w ↦ rw w.last-is within
+    ]
 
 pub returns-clause-value : goal.returns-clause-value
 returns-clause-value c =

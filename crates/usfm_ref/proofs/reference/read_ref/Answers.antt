@@ -12,14 +12,16 @@ returns-in_default-clause-value c =
 pub returns-in_default-of_code-clause-value : goal.returns-in_default-of_code-clause-value
 returns-in_default-of_code-clause-value c =
     let code : c.in-Some.code.now ≡ take 3 c.args.text.now = c.in-Some.ensures.cases.0 ∙ ap (take 3) c.as_bytes.ensures.value in
-    let none : is_book_code c.in-Some.code.now ≡ false = false_from_ne_true _ (λ is. false≢true (c.in_default-of_code.ensures.accepts.1 is)) in
+    let none : is_book_code c.in-Some.code.now
+    ≡ false = false_from_ne_true _ (λ is. false≢true (c.in_default-of_code.ensures.accepts.1 is)) in
     sym (ref_in-no_code c.args.text.now (ap is_book_code (sym code) ∙ none))
 
 pub returns-in-Some-key_behind-clause-value : goal.returns-in-Some-key_behind-clause-value
 returns-in-Some-key_behind-clause-value c =
     let code : c.in-Some.code.now ≡ take 3 c.args.text.now = c.in-Some.ensures.cases.0 ∙ ap (take 3) c.as_bytes.ensures.value in
     let behind : c.in-Some.behind.now ≡ drop 3 c.args.text.now = c.in-Some.ensures.cases.1 ∙ ap (drop 3) c.as_bytes.ensures.value in
-    rw c.in-Some-of_code.ensures.book (sym (ref_in-code c.args.text.now _ _ _ code behind (c.in-Some-of_code.ensures.accepts.0 refl) c.in-Some-key_behind.ensures))
+    rw c.in-Some-of_code.ensures.book
+    (sym (ref_in-code c.args.text.now _ _ _ code behind (c.in-Some-of_code.ensures.accepts.0 refl) c.in-Some-key_behind.ensures))
 
 pub returns-in-Some-key_behind-clause-reads : goal.returns-in-Some-key_behind-clause-reads
 returns-in-Some-key_behind-clause-reads c = ref_reads _ _ (returns-in-Some-key_behind-clause-value c)

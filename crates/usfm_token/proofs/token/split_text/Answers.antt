@@ -7,4 +7,5 @@ use Rattle.usfm_token.proofs.token.split_text.Goals as goal
 
 pub split_at-requires : goal.split_at-requires
 split_at-requires c =
-    subst (IsCharBoundary c.args.text.now) (sym (c.text_len.ensures ∙ ap (position_or_len is_backslash) c.as_bytes.ensures.value)) (boundary_before_backslash c.args.text.now c.utf8.text)
+    subst (IsCharBoundary c.args.text.now) (sym (c.text_len.ensures ∙ ap (position_or_len is_backslash) c.as_bytes.ensures.value))
+    (boundary_before_backslash c.args.text.now c.utf8.text)

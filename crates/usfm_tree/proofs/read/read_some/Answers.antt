@@ -11,7 +11,7 @@ use Rattle.usfm_tree.specs.RoleViews.{role_view}
 use Rattle.usfm_tree.specs.Views.{forest_of}
 use Rattle.usfm_tree.specs.ReaderViews.{frames_of, sofar_of, frame_of, spans_of, span_of, Span, Adjoins}
 use Rattle.usfm_tree.proofs.SpanLemmas.{adjoins_at}
-use Rattle.usfm_tree.proofs.TakenLemmas.{front_bytes}
+use Rattle.usfm_token.proofs.Walk.{token_front}
 use Rattle.usfm_tree.proofs.LeavesLemmas.{role_slice}
 use Rattle.usfm_token.proofs.TokenLaws.{joined-tokens_of}
 use Rattle.usfm_tree.specs.TakenViews.{left_of}
@@ -35,13 +35,23 @@ loop-token-init c =
     }
 
 -- the token in front, and what is left after it
-here : (c : In_ok-unwind) → (left_of (length c.args.source.now) (rest_of c.loop-token.tokens) ≡ record { start = length c.args.source.now - length (rest_of c.loop-token.tokens); token = lexeme c.in-Some.token } ∷ left_of (length c.args.source.now) (rest_of c.next.new.self)) × (length (rest_of c.next.new.self) ≤ length c.args.source.now)
-here c = left_front (length c.args.source.now) (rest_of c.loop-token.tokens) (rest_of c.next.new.self) (lexeme c.in-Some.token) c.in-Some.ensures.steps c.loop-token.invariant.within
+here : (c : In_ok-unwind)
+    → (left_of (length c.args.source.now) (rest_of c.loop-token.tokens)
+    ≡ record { start = length c.args.source.now - length (rest_of c.loop-token.tokens); token = lexeme c.in-Some.token } ∷ left_of
+    (length c.args.source.now) (rest_of c.next.new.self)) × (length (rest_of c.next.new.self) ≤ length c.args.source.now)
+here c = left_front (length c.args.source.now) (rest_of c.loop-token.tokens) (rest_of c.next.new.self)
+    (lexeme c.in-Some.token) c.in-Some.ensures.steps c.loop-token.invariant.within
 
 -- what the reading was before the ends, it is after them
-unwound : (c : In_ok-unwind) → resume (styles_of c.args.sheet.now) (sofar_of c.unwind.new.self) (frames_of c.unwind.new.self) (cond c.in_ok-unwind.field-0 (left_of (length c.args.source.now) (rest_of c.next.new.self)) (record { start = length c.args.source.now - length (rest_of c.loop-token.tokens); token = lexeme c.in-Some.token } ∷ left_of (length c.args.source.now) (rest_of c.next.new.self))) ≡ forest_left (styles_of c.args.sheet.now) c.args.source.now c.args.from.now
+unwound : (c : In_ok-unwind)
+    → resume (styles_of c.args.sheet.now) (sofar_of c.unwind.new.self) (frames_of c.unwind.new.self)
+    (cond c.in_ok-unwind.field-0 (left_of (length c.args.source.now) (rest_of c.next.new.self))
+    (record { start = length c.args.source.now - length (rest_of c.loop-token.tokens); token = lexeme c.in-Some.token } ∷ left_of
+    (length c.args.source.now) (rest_of c.next.new.self))) ≡ forest_left (styles_of c.args.sheet.now) c.args.source.now c.args.from.now
 unwound c =
-    sym (c.in_ok-unwind.ensures.resumes (styles_of c.args.sheet.now) (record { start = length c.args.source.now - length (rest_of c.loop-token.tokens); token = lexeme c.in-Some.token }) (left_of (length c.args.source.now) (rest_of c.next.new.self)) (sym c.role_of-role.ensures.role))
+    sym (c.in_ok-unwind.ensures.resumes (styles_of c.args.sheet.now)
+    (record { start = length c.args.source.now - length (rest_of c.loop-token.tokens); token = lexeme c.in-Some.token })
+    (left_of (length c.args.source.now) (rest_of c.next.new.self)) (sym c.role_of-role.ensures.role))
     ∙ ap (resume (styles_of c.args.sheet.now) (sofar_of c.loop-token.reader) (frames_of c.loop-token.reader)) (sym (here c).0)
     ∙ c.loop-token.invariant.resumes
 
@@ -51,9 +61,13 @@ loop-token-preserved-then-branch c =
     record {
       adjoins =
           adjoins_at (spans_of c.unwind.new.self) (sofar_of c.unwind.new.self) c.rest.result.now (rest_of c.next.new.self)
-          (subst (λ b. Adjoins (spans_of c.unwind.new.self) (sofar_of c.unwind.new.self) (cond b c.rest.result.now c.rest-at.result.now)) c.if-branch.true c.in_ok-unwind.ensures.adjoins) c.rest.ensures;
+          (subst (λ b. Adjoins (spans_of c.unwind.new.self) (sofar_of c.unwind.new.self)
+          (cond b c.rest.result.now c.rest-at.result.now)) c.if-branch.true c.in_ok-unwind.ensures.adjoins) c.rest.ensures;
       within = (here d).1;
-      resumes = ap (λ b. resume (styles_of c.args.sheet.now) (sofar_of c.unwind.new.self) (frames_of c.unwind.new.self) (cond b (left_of (length c.args.source.now) (rest_of c.next.new.self)) (record { start = length c.args.source.now - length (rest_of c.loop-token.tokens); token = lexeme c.in-Some.token } ∷ left_of (length c.args.source.now) (rest_of c.next.new.self)))) (sym c.if-branch.true) ∙ unwound d;
+      resumes = ap (λ b. resume (styles_of c.args.sheet.now) (sofar_of c.unwind.new.self) (frames_of c.unwind.new.self)
+          (cond b (left_of (length c.args.source.now) (rest_of c.next.new.self))
+          (record { start = length c.args.source.now - length (rest_of c.loop-token.tokens); token = lexeme c.in-Some.token } ∷ left_of
+          (length c.args.source.now) (rest_of c.next.new.self)))) (sym c.if-branch.true) ∙ unwound d;
     }
 
 pub take-requires-clause-within : goal.take-requires-clause-within
@@ -68,21 +82,32 @@ loop-token-preserved c =
     let t : reading.Placed = record { start = n - length (rest_of c.loop-token.tokens); token = lexeme c.in-Some.token } in
     let behind = rest_of c.next.new.self in
     record {
-      adjoins = adjoins_at (spans_of c.take.new.self) (sofar_of c.take.new.self) c.in_ok-after.after.now (rest_of c.new-tokens-in-loop-token.result) c.in_ok-after.ensures.adjoins (sym c.new-tokens-in-loop-token.ensures);
-      within = omega (arith, ap length c.new-tokens-in-loop-token.ensures, c.in_ok-after.ensures.within, ap length c.rest-in-loop-token.ensures, (here d).1);
+      adjoins = adjoins_at (spans_of c.take.new.self) (sofar_of c.take.new.self) c.in_ok-after.after.now
+          (rest_of c.new-tokens-in-loop-token.result) c.in_ok-after.ensures.adjoins (sym c.new-tokens-in-loop-token.ensures);
+      within = omega (
+        arith,
+        ap length c.new-tokens-in-loop-token.ensures,
+        c.in_ok-after.ensures.within,
+        ap length
+            c.rest-in-loop-token.ensures,
+        (here d).1,
+      );
       resumes =
           ap (λ l. resume S (sofar_of c.take.new.self) (frames_of c.take.new.self) (left_of n l)) c.new-tokens-in-loop-token.ensures
           ∙ sym (c.in_ok-after.ensures.enters S t (sym c.role_of-role.ensures.role) (ap (λ l. n - length l) (sym c.rest-at.ensures)))
           ∙ ap (λ l. resume S (sofar_of c.unwind.new.self) (frames_of c.unwind.new.self) (t ∷ left_of n l)) c.rest-in-loop-token.ensures
-          ∙ ap (λ b. resume S (sofar_of c.unwind.new.self) (frames_of c.unwind.new.self) (cond b (left_of n behind) (t ∷ left_of n behind))) (sym c.if-branch.false)
+          ∙ ap (λ b. resume S (sofar_of c.unwind.new.self) (frames_of c.unwind.new.self)
+          (cond b (left_of n behind) (t ∷ left_of n behind))) (sym c.if-branch.false)
           ∙ unwound d;
     }
 
 -- the text from the token on
-token_is : (c : After-role_of-role) → rest_of c.loop-token.tokens ≡ reading.role_bytes (role_view c.role_of-role.result) ++ rest_of c.next.new.self
+token_is : (c : After-role_of-role)
+    → rest_of c.loop-token.tokens ≡ reading.role_bytes (role_view c.role_of-role.result) ++ rest_of c.next.new.self
 token_is c =
-    front_bytes (rest_of c.loop-token.tokens) (rest_of c.next.new.self) (lexeme c.in-Some.token) c.in-Some.ensures.steps
-    ∙ ap (λ b. b ++ rest_of c.next.new.self) (sym (role_slice (styles_of c.args.sheet.now) (lexeme c.in-Some.token)) ∙ ap reading.role_bytes (sym c.role_of-role.ensures.role))
+    token_front (rest_of c.loop-token.tokens) (rest_of c.next.new.self) (lexeme c.in-Some.token) c.in-Some.ensures.steps
+    ∙ ap (λ b. b ++ rest_of c.next.new.self)
+    (sym (role_slice (styles_of c.args.sheet.now) (lexeme c.in-Some.token)) ∙ ap reading.role_bytes (sym c.role_of-role.ensures.role))
 
 pub unwind-requires-clause-token : goal.unwind-requires-clause-token
 unwind-requires-clause-token c =
@@ -112,7 +137,8 @@ returns-then-not-is_empty-clause-nodes c =
     sym (ap (λ b. resume S sofar frames (cond b behind (t ∷ behind))) (sym c.if-branch.false) ∙ unwound d)
     ∙ ap (resume S sofar frames) (sym (here d).0)
     ∙ ap (λ l. resume S sofar frames (left_of n l)) (sym c.rest-at.ensures)
-    ∙ ap (λ fs. resume S sofar fs (left_of n c.rest-at.result.now)) (no_frames c.unwind.new.self.open_nodes.items (grind (arith, common_steps)))
+    ∙ ap (λ fs. resume S sofar fs (left_of n c.rest-at.result.now))
+    (no_frames c.unwind.new.self.open_nodes.items (grind (arith, common_steps)))
 
 pub returns-clause-nodes : goal.returns-clause-nodes
 returns-clause-nodes c =
@@ -121,5 +147,6 @@ returns-clause-nodes c =
     let rest = rest_of c.loop-token.tokens in
     let kids = forest_of c.in_ok-kids.kids.items in
     sym c.loop-token.invariant.resumes
-    ∙ ap (λ ts. resume S (sofar_of c.loop-token.reader) (frames_of c.loop-token.reader) (reading.placed (n - length rest) ts)) c.in-None.ensures.steps.0
+    ∙ ap (λ ts. resume S (sofar_of c.loop-token.reader) (frames_of c.loop-token.reader)
+    (reading.placed (n - length rest) ts)) c.in-None.ensures.steps.0
     ∙ sym (c.in_ok-kids.ensures S) ∙ sym (then-nothing kids) ∙ ap (λ f. kids then f) (sym (nothing_left S c.args.source.now))

@@ -12,7 +12,8 @@ abbrev pub invariant-loop-token : goal.invariant-loop-token
 invariant-loop-token l = record {
   adjoins : Adjoins (spans_of l.reader) (sofar_of l.reader) (rest_of l.tokens);
   within : length (rest_of l.tokens) ≤ length l.source;
-  resumes : resume (styles_of l.sheet) (sofar_of l.reader) (frames_of l.reader) (left_of (length l.source) (rest_of l.tokens)) ≡ forest_left (styles_of l.sheet) l.source l.from;
+  resumes : resume (styles_of l.sheet) (sofar_of l.reader) (frames_of l.reader) (left_of (length l.source) (rest_of l.tokens))
+      ≡ forest_left (styles_of l.sheet) l.source l.from;
 }
 
 abbrev pub decreases-loop-token : goal.decreases-loop-token

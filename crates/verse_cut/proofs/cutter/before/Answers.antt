@@ -1,6 +1,6 @@
 use Rattle.std.proofs.Common.{sym}
 use Rattle.usfm_token.proofs.Walk.{boundary_at_rest}
-use Rattle.verse_cut.specs.Walks.{read_of}
+use Rattle.verse_cut.specs.Loops.Walks.{read_of}
 use Rattle.verse_cut.proofs.cutter.before.Goals as goal
 
 pub split_at-requires : goal.split_at-requires

@@ -2,7 +2,7 @@ use Rattle.std.proofs.Common.{◌≡◌, sym, subst}
 use Rattle.std.proofs.lemmas.Iterator.Consumers.{YieldsList-from_first, map_from_collect}
 use Rattle.std.proofs.lemmas.Result.{IfOk-weaker}
 use Rattle.std.specs.Prelude.{IfOk}
-use Rattle.verse_cut.specs.Left.{parts_left}
+use Rattle.verse_cut.specs.Loops.Left.{parts_left}
 use Rattle.verse_cut.specs.Pieces.{pieces_of, KeysRise, LieIn}
 use Rattle.verse_cut.specs.Views.{part_of, parts_of}
 use Rattle.verse_cut.proofs.CutLaws.{one_cut, pieces_lie, pieces_rise}
@@ -15,7 +15,8 @@ pub returns-clause-cut : goal.returns-clause-cut
 returns-clause-cut c = IfOk-weaker c.collect.result _ _ (λ list is. (one_cut (parts_of list.items) c.args.text.now).1 is) (value c)
 
 pub returns-clause-lie : goal.returns-clause-lie
-returns-clause-lie c = IfOk-weaker c.collect.result _ _ (λ list is. subst (LieIn c.args.text.now) (sym is) (pieces_lie c.args.text.now)) (value c)
+returns-clause-lie c =
+    IfOk-weaker c.collect.result _ _ (λ list is. subst (LieIn c.args.text.now) (sym is) (pieces_lie c.args.text.now)) (value c)
 
 pub returns-clause-rise : goal.returns-clause-rise
 returns-clause-rise c = IfOk-weaker c.collect.result _ _ (λ list is. subst KeysRise (sym is) (pieces_rise c.args.text.now)) (value c)

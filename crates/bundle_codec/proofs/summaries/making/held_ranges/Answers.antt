@@ -1,6 +1,6 @@
 use Rattle.std.proofs.Common.{ap}
 use Rattle.std.specs.Option.{option_copied}
-use Rattle.bundle_codec.specs.Merging.{at_hand}
+use Rattle.bundle_codec.specs.Loops.Merging.{at_hand}
 use Rattle.bundle_codec.proofs.SoFar.{so_far_run, so_far_all, holds_ranges}
 use Rattle.bundle_codec.proofs.summaries.making.held_ranges.Goals as goal
 

@@ -1,5 +1,5 @@
 use Rattle.std.proofs.Common.{length}
-use Rattle.bundle_codec.specs.Merging.{at_hand}
+use Rattle.bundle_codec.specs.Loops.Merging.{at_hand}
 use Rattle.std.specs.Option.{option_copied}
 use Rattle.bundle_codec.proofs.SoFar.{SoFar}
 use Rattle.bundle_codec.proofs.summaries.making.held_ranges.Given as goal

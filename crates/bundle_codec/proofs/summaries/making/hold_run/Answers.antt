@@ -5,8 +5,8 @@ use Rattle.std.specs.BTreeMap.{BTreeMap, is_at}
 use Rattle.op_core.specs.Names.{name_cmp}
 use Rattle.op_core.specs.Ids.{Id}
 use Rattle.bundle_codec.specs.declared.summaries.range.NumberRange.{NumberRange}
-use Rattle.bundle_codec.specs.Merging.{at_hand}
-use Rattle.bundle_codec.specs.SummaryMaking.{AddsRun}
+use Rattle.bundle_codec.specs.Loops.Merging.{at_hand}
+use Rattle.bundle_codec.specs.Loops.SummaryMaking.{AddsRun}
 use Rattle.bundle_codec.proofs.Holding.{holds_named, run_as, if_ok}
 use Rattle.bundle_codec.proofs.summaries.making.hold_run.Goals as goal
 
@@ -20,9 +20,11 @@ returns-in-Some c = if_ok c.push_run.result _ _
 
 pub returns : goal.returns
 returns c =
-    run_as c.get_mut.follows.lender-at-none c.args.held.now c.insert.new.self c.args.first c.args.ops.now (at_hand (option_copied c.in_ok-next.next) c.push_run-2.new.ops)
+    run_as c.get_mut.follows.lender-at-none c.args.held.now c.insert.new.self c.args.first c.args.ops.now
+    (at_hand (option_copied c.in_ok-next.next) c.push_run-2.new.ops)
     (ap (λ (m : BTreeMap (List ℕ) (Vec NumberRange Global)). m.entries) c.get_mut.follows.holds-at-none)
-    (holds_named c.get_mut.follows.lender-at-none c.insert.new.self c.args.first c.args.ops.now (at_hand (option_copied c.in_ok-next.next) c.push_run-2.new.ops)
+    (holds_named c.get_mut.follows.lender-at-none c.insert.new.self c.args.first c.args.ops.now
+    (at_hand (option_copied c.in_ok-next.next) c.push_run-2.new.ops)
     None c.push_run-2.new.ranges
     c.first.inside.name (ap (λ (i : Id). i.name) c.first.view_is)
     (ap (λ (m : BTreeMap (List ℕ) (Vec NumberRange Global)). lookup (is_at (name_cmp c.first.inside.name)) m.entries)

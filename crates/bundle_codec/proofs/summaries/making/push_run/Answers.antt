@@ -1,7 +1,7 @@
 use Rattle.std.proofs.Common.{◌≡◌, [], sym, ap, ◌∙◌}
 use Rattle.usfm_ref.specs.Books.{same_bytes}
 use Rattle.op_core.specs.Ids.{Id}
-use Rattle.bundle_codec.specs.SummaryMaking.{with_last}
+use Rattle.bundle_codec.specs.Loops.SummaryMaking.{with_last}
 use Rattle.bundle_codec.proofs.Holding.{run_begins, run_more, run_ends}
 use Rattle.bundle_codec.proofs.summaries.making.push_run.Goals as goal
 

@@ -1,5 +1,5 @@
 use Rattle.std.proofs.Common.{length}
-use Rattle.bundle_codec.specs.SummaryMaking.{AddsRun}
+use Rattle.bundle_codec.specs.Loops.SummaryMaking.{AddsRun}
 use Rattle.bundle_codec.proofs.summaries.making.push_run.Given as goal
 
 abbrev pub invariant-run : goal.invariant-run

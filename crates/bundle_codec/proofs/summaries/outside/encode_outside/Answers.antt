@@ -28,7 +28,8 @@ loop-op-preserved c = (
   c.is_sent.ensures.same ∙ c.loop-op.invariant.0,
   goes_past (is_sent c.args.set.now (covers c.args.summary.now)) c.args.set.now c.loop-op.op-iterator c.next.new.self c.in-Some.op.now
       c.loop-op.bytes.items c.loop-op.full c.loop-op.count c.in-Some.ensures.steps c.loop-op.invariant.1
-      (asked c.args.set.now c.args.summary.now c.loop-op.coverage c.in_ok-whole.whole c.in-Some.op.now c.is_sent.result c.loop-op.invariant.0
+      (asked c.args.set.now c.args.summary.now c.loop-op.coverage c.in_ok-whole.whole c.in-Some.op.now c.is_sent.result
+      c.loop-op.invariant.0
       c.in_ok-whole.ensures c.is_sent.ensures.answer ∙ c.if-is_sent.false),
 )
 
@@ -49,7 +50,8 @@ returns-clause-again c = whole_reads c.set_front.new.bytes.items (record {
   set = outside_set c.args.summary.now c.args.set.now c.iter-op-items.ensures.set;
   legal = delta_legal c.args.set.now (covers c.args.summary.now) c.iter-op-items.ensures.set.rising c.iter-op-items.ensures.legal;
   spelled =
-      is_bundle (is_sent c.args.set.now (covers c.args.summary.now)) c.args.set.now c.loop-op.op-iterator c.loop-op.bytes.items c.loop-op.full
+      is_bundle (is_sent c.args.set.now
+      (covers c.args.summary.now)) c.args.set.now c.loop-op.op-iterator c.loop-op.bytes.items c.loop-op.full
       c.loop-op.count c.in-None.ensures.steps.0 c.loop-op.invariant.1 c.set_front.new.bytes.items c.set_front.ensures;
   short = omega (arith, c.set_front.new.bytes.ok.0, c.set_front.new.bytes.small);
 })

@@ -15,5 +15,6 @@ returns-in_default c =
     (elim c.in_default.branch [
       | in_default-via-in-Some+in_default w ↦
           right_none c.args.self.now.text c.args.other.now.text (sym (ap lent w.in_default.is-1) ∙ c.text-2.ensures)
-      | in_default-via-in_default w ↦ left_none c.args.self.now.text c.args.other.now.text (sym (ap lent w.in_default.is-0) ∙ c.text.ensures)
+      | in_default-via-in_default w ↦ left_none c.args.self.now.text c.args.other.now.text
+          (sym (ap lent w.in_default.is-0) ∙ c.text.ensures)
     ])

@@ -11,7 +11,11 @@ returns-clause-steps c =
     (pieces_left c.key_at-key.new.self) c.args.self.now.passages.now c.in_ok-start.field-0.now c.key_at-key.result
     c.in_ok-start.ensures.item.3.0 c.in_ok-start.ensures.item.1 c.args.self.now.held c.key_at-key.ensures.same c.key_at-key.ensures.value
     ∙ ap (λ (l : List Passage).
-    (let one : HitParts = record { key = c.key_at-key.result; start = c.in_ok-start.field-0.now.start; text = c.in_ok-start.field-0.now.text.now }
+    (let one : HitParts = record {
+      key = c.key_at-key.result;
+      start = c.in_ok-start.field-0.now.start;
+      text = c.in_ok-start.field-0.now.text.now;
+    }
     in one)
     ∷ map (keyed (pieces_left c.key_at-key.new.self)) (passages_view l))
     (sym (take_all (length c.args.self.now.passages.now - 1) (drop 1 c.args.self.now.passages.now)

@@ -1,5 +1,5 @@
 use Rattle.std.proofs.Common.{◌≡◌, ◌-◌, ◌∙◌, ◌++◌, false, None, ap, sym, drop, reverse, take, length, arith}
-use Rattle.concordance.specs.Gathered.{gathered}
+use Rattle.concordance.specs.Loops.Gathered.{gathered}
 use Rattle.concordance.specs.Views.{passages_view, mark_behind, waiting_of, enclosures}
 use Rattle.concordance.proofs.Gathers.{some_end, leaves_after, reverse_take}
 use Rattle.concordance.proofs.plain.Gathering.end.Goals as goal
@@ -11,7 +11,10 @@ returns-in_ok-settle c =
     let kept = c.in_ok-settle.ensures in
     let items = c.settle.new.self.around.items in
     let around =
-    ap reverse (c.truncate.ensures.items ∙ ap (λ k. take k items) (let s = c.saturating_sub.ensures in let l = c.len.ensures in let is : c.saturating_sub.result ≡ length items - c.args.count = omega arith in is))
+    ap reverse (c.truncate.ensures.items
+    ∙ ap (λ k. take k items)
+    (let s = c.saturating_sub.ensures in let l = c.len.ensures in let is : c.saturating_sub.result
+    ≡ length items - c.args.count = omega arith in is))
     ∙ reverse_take c.args.count items ∙ ap (drop c.args.count) kept.around in
     leaves_after (passages_view old.leaves.items) (passages_view c.settle.new.self.leaves.items) false (waiting_of old) _
     (gathered sheet (drop c.args.count (enclosures old)) (mark_behind old) None later) kept.leaves

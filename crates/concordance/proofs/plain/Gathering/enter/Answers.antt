@@ -3,7 +3,7 @@ use Rattle.std.proofs.lemmas.List.{reverse-append}
 use Rattle.std.specs.Option.{option_map}
 use Rattle.usfm_token.specs.View.{mark_parts}
 use Rattle.usfm_tree.specs.StepViews.{IsStyled, entry_before}
-use Rattle.concordance.specs.Gathered.{attributes_may_end, enclosed, gathered, innermost}
+use Rattle.concordance.specs.Loops.Gathered.{attributes_may_end, enclosed, gathered, innermost}
 use Rattle.concordance.specs.Views.{passages_view, mark_behind, waiting_of, enclosures, leaves_with}
 use Rattle.concordance.proofs.Gathers.{leaves_after, milestone_taken}
 use Rattle.concordance.proofs.plain.Gathering.enter.Goals as goal
@@ -27,7 +27,8 @@ returns-in_ok-push-in-Begin c =
     (waiting_of old) _ (gathered sheet (enclosed sheet (innermost es) kind m ∷ es) (Some m) None later) kept.leaves
     (λ i. gathered sheet (around i) (Some m) (kept.waiting i) later)
     ∙ ap (λ x. passages_view old.leaves.items
-    ++ Rattle.concordance.specs.Gathered.settled x (waiting_of old) (gathered sheet (enclosed sheet (innermost es) kind m ∷ es) (Some m) None later)) may_end
+    ++ Rattle.concordance.specs.Loops.Gathered.settled x (waiting_of old)
+    (gathered sheet (enclosed sheet (innermost es) kind m ∷ es) (Some m) None later)) may_end
     ∙ ap (λ e. leaves_with sheet old (entry_before e later)) (sym c.in-Begin.is))
 
 pub returns-in-Milestone : goal.returns-in-Milestone
@@ -39,13 +40,13 @@ returns-in-Milestone c =
     let m = mark_parts c.in-Milestone.mark in
     let t = option_map (λ x. x.1.now) c.in-Milestone.text in
     let close = option_map mark_parts c.in-Milestone.close in
-    let after = Rattle.concordance.specs.Gathered.behind_milestone m t close in
+    let after = Rattle.concordance.specs.Loops.Gathered.behind_milestone m t close in
     let may_end = c.attributes_may_end.ensures ∙ ap (attributes_may_end c.innermost-innermost.result) c.in-Milestone.is in
     leaves_after (passages_view old.leaves.items) (passages_view c.settle.new.self.leaves.items) c.attributes_may_end.result
     (waiting_of old) _ (gathered sheet es after None later) kept.leaves
     (λ i. gathered sheet (kept.around i) (c.behind_milestone-self.ensures i) (kept.waiting i) later)
     ∙ ap (λ x. passages_view old.leaves.items
-    ++ Rattle.concordance.specs.Gathered.settled x (waiting_of old) (gathered sheet es after None later)) may_end
+    ++ Rattle.concordance.specs.Loops.Gathered.settled x (waiting_of old) (gathered sheet es after None later)) may_end
     ∙ ap (λ l. passages_view old.leaves.items ++ l)
     (sym (milestone_taken sheet es (mark_behind old) (waiting_of old) m c.in-Milestone.text close later))
     ∙ ap (λ e. leaves_with sheet old (entry_before e later)) (sym c.in-Milestone.is))

@@ -10,7 +10,10 @@ pub thin_id-requires : goal.thin_id-requires
 thin_id-requires c =
     let ids = c.args.ids.now in
     let named = among_at ids c.loop-id.id-index c.id-item.result c.loop-id-test.true c.id-item.is in
-    record { past = past_on (is_among (take c.loop-id.id-index ids)) (is_among ids) c.args.self.now c.loop-id.self c.id-item.result c.loop-id.invariant c.requires.past named }
+    record {
+      past = past_on (is_among (take c.loop-id.id-index ids))
+          (is_among ids) c.args.self.now c.loop-id.self c.id-item.result c.loop-id.invariant c.requires.past named;
+    }
 
 pub loop-id-init : goal.loop-id-init
 loop-id-init c = sym (where_never c.args.self.now)
@@ -19,7 +22,8 @@ pub loop-id-preserved : goal.loop-id-preserved
 loop-id-preserved c =
     c.thin_id.ensures.thin
     ∙ where_more (take c.loop-id.id-index c.args.ids.now) c.id-item.result c.args.self.now c.loop-id.self c.loop-id.invariant
-    ∙ ap (λ (ids : List Id). thin_where (is_among ids) c.args.self.now) (sym (more_items c.args.ids.now c.loop-id.id-index c.id-item.result c.loop-id-test.true c.id-item.is))
+    ∙ ap (λ (ids : List Id). thin_where (is_among ids) c.args.self.now)
+    (sym (more_items c.args.ids.now c.loop-id.id-index c.id-item.result c.loop-id-test.true c.id-item.is))
 
 pub returns : goal.returns
 returns c =

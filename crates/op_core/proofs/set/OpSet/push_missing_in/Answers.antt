@@ -6,4 +6,8 @@ use Rattle.op_core.proofs.set.OpSet.push_missing_in.Goals as goal
 pub returns-in_err-push_unheld-clause-one : goal.returns-in_err-push_unheld-clause-one
 returns-in_err-push_unheld-clause-one c =
     let one = c.in_err-push_unheld.ensures.one in
-    on_err c.from_residual.result (one.0, missed_at c.args.registers.now c.loop-register.register-index c.register-item.result one.0 (not (is_held c.args.self.now one.0)) c.loop-register-test.true c.register-item.is (rw (← c.deref.ensures.value) one.1))
+    on_err c.from_residual.result (
+      one.0,
+      missed_at c.args.registers.now c.loop-register.register-index c.register-item.result one.0
+          (not (is_held c.args.self.now one.0)) c.loop-register-test.true c.register-item.is (rw (← c.deref.ensures.value) one.1),
+    )

@@ -3,7 +3,7 @@ use Rattle.std.specs.List.{AllByRecursion}
 use Rattle.usfm_ref.specs.Keys.{key_cmp}
 use Rattle.usfm_ref.specs.Rising.{rises_by}
 use Rattle.verse_cut.specs.Pieces.{Part}
-use Rattle.verse_cut.specs.Reading.{text_fits}
+use Rattle.verse_cut.specs.Fits.{Fits}
 use Rattle.verse_cut.specs.Views.{parts_of}
 use Rattle.verse_cut.specs.declared.cutter.Piece.{Piece}
 use Rattle.op_core.specs.Ops.{Operation}
@@ -29,10 +29,10 @@ edits_of-requires-clause-rising c = ap (rises_by key_cmp (λ (p : Piece). p.key)
 
 pub edits_of-requires-clause-fits : goal.edits_of-requires-clause-fits
 edits_of-requires-clause-fits c = λ key.
-    ap (λ (ps : List Piece). text_fits c.in_ok-book.book key (piece_at (parts_of ps) key)) c.deref-2.ensures.value
-    ∙ ap (λ (ps : List Part). text_fits c.in_ok-book.book key (piece_at ps key)) c.in_ok-pieces.ensures.value
-    ∙ piece_fits c.in_ok-book.book c.args.file.now key
-    (book_is_code c.args.file.now c.in_ok-book.book (sym c.in_ok-book.ensures.value)) c.in_ok-book.ensures.reads
+    subst (λ (ps : List Piece). Fits c.in_ok-book.book key (piece_at (parts_of ps) key)) (sym c.deref-2.ensures.value)
+    (subst (λ (ps : List Part). Fits c.in_ok-book.book key (piece_at ps key)) (sym c.in_ok-pieces.ensures.value)
+    (piece_fits c.in_ok-book.book c.args.file.now key
+    (book_is_code c.args.file.now c.in_ok-book.book (sym c.in_ok-book.ensures.value)) c.in_ok-book.ensures.reads))
 
 pub join_new-requires-clause-rising : goal.join_new-requires-clause-rising
 join_new-requires-clause-rising c =

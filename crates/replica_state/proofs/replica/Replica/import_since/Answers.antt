@@ -1,10 +1,10 @@
-use Rattle.std.proofs.Common.{◌≡◌, List, length, arith, sym, ap, ◌∙◌}
+use Rattle.std.proofs.Common.{◌≡◌, List, length, arith, sym, ap, ◌∙◌, subst}
 use Rattle.std.proofs.lemmas.Bool.{eqb-true}
 use Rattle.std.proofs.lemmas.List.{nil_from_length}
 use Rattle.usfm_ref.specs.Keys.{key_cmp}
 use Rattle.usfm_ref.specs.Rising.{rises_by}
 use Rattle.verse_cut.specs.Pieces.{Part}
-use Rattle.verse_cut.specs.Reading.{text_fits}
+use Rattle.verse_cut.specs.Fits.{Fits}
 use Rattle.verse_cut.specs.Views.{parts_of}
 use Rattle.verse_cut.specs.declared.cutter.Piece.{Piece}
 use Rattle.replica_state.specs.Imports.{piece_at}
@@ -23,10 +23,10 @@ change-requires-clause-rising c = ap (rises_by key_cmp (λ (p : Piece). p.key)) 
 
 pub change-requires-clause-fits : goal.change-requires-clause-fits
 change-requires-clause-fits c = λ key.
-    ap (λ (ps : List Piece). text_fits c.in_ok-book.book key (piece_at (parts_of ps) key)) c.deref.ensures.value
-    ∙ ap (λ (ps : List Part). text_fits c.in_ok-book.book key (piece_at ps key)) c.in_ok-pieces.ensures.value
-    ∙ piece_fits c.in_ok-book.book c.args.file.now key
-    (book_is_code c.args.file.now c.in_ok-book.book (sym c.in_ok-book.ensures.value)) c.in_ok-book.ensures.reads
+    subst (λ (ps : List Piece). Fits c.in_ok-book.book key (piece_at (parts_of ps) key)) (sym c.deref.ensures.value)
+    (subst (λ (ps : List Part). Fits c.in_ok-book.book key (piece_at ps key)) (sym c.in_ok-pieces.ensures.value)
+    (piece_fits c.in_ok-book.book c.args.file.now key
+    (book_is_code c.args.file.now c.in_ok-book.book (sym c.in_ok-book.ensures.value)) c.in_ok-book.ensures.reads))
 
 pub change-requires-2-clause-rising : goal.change-requires-2-clause-rising
 change-requires-2-clause-rising c = ap (rises_by key_cmp (λ (p : Piece). p.key)) c.deref-2.ensures.value
@@ -34,10 +34,10 @@ change-requires-2-clause-rising c = ap (rises_by key_cmp (λ (p : Piece). p.key)
 
 pub change-requires-2-clause-fits : goal.change-requires-2-clause-fits
 change-requires-2-clause-fits c = λ key.
-    ap (λ (ps : List Piece). text_fits c.in_ok-book.book key (piece_at (parts_of ps) key)) c.deref-2.ensures.value
-    ∙ ap (λ (ps : List Part). text_fits c.in_ok-book.book key (piece_at ps key)) c.in_ok-pieces.ensures.value
-    ∙ piece_fits c.in_ok-book.book c.args.file.now key
-    (book_is_code c.args.file.now c.in_ok-book.book (sym c.in_ok-book.ensures.value)) c.in_ok-book.ensures.reads
+    subst (λ (ps : List Piece). Fits c.in_ok-book.book key (piece_at (parts_of ps) key)) (sym c.deref-2.ensures.value)
+    (subst (λ (ps : List Part). Fits c.in_ok-book.book key (piece_at ps key)) (sym c.in_ok-pieces.ensures.value)
+    (piece_fits c.in_ok-book.book c.args.file.now key
+    (book_is_code c.args.file.now c.in_ok-book.book (sym c.in_ok-book.ensures.value)) c.in_ok-book.ensures.reads))
 
 pub returns-then-is_full-clause-step : goal.returns-then-is_full-clause-step
 returns-then-is_full-clause-step c =

@@ -20,8 +20,8 @@ push_number-requires t c =
     )
 
 -- the last digit
-pub push-requires : goal.push-requires
-push-requires t c =
+pub push-requires-clause-room : goal.push-requires-clause-room
+push-requires-clause-room t c =
     let n : ℕ = c.args.number in
     let last : List ℕ = (48 + n % 10) ∷ [] in
     let line : List ℕ = c.args.self.now in

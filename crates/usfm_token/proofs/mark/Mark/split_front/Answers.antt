@@ -7,7 +7,9 @@ use Rattle.usfm_token.proofs.mark.Mark.split_front.Goals as goal
 use Rattle.usfm_token.proofs.mark.Mark.split_front.Goals.{After-strip_byte-closing}
 
 -- what the steps said of one another
-splits : (c : After-strip_byte-closing) → SplitsMark c.args.text.now c.strip_byte-nested.result.1.now c.split_at.result.0.now c.split_at.result.1.now c.strip_byte-closing.result.1.now c.strip_byte-nested.result.0 c.strip_byte-closing.result.0
+splits : (c : After-strip_byte-closing)
+    → SplitsMark c.args.text.now c.strip_byte-nested.result.1.now c.split_at.result.0.now c.split_at.result.1.now
+    c.strip_byte-closing.result.1.now c.strip_byte-nested.result.0 c.strip_byte-closing.result.0
 splits c =
     let len = c.name_len.ensures ∙ ap (prefix_len is_name_byte) c.as_bytes.ensures.value in
     record {
@@ -28,10 +30,12 @@ range_from-requires c =
 pub split_at-requires : goal.split_at-requires
 split_at-requires c =
     let len = c.name_len.ensures ∙ ap (prefix_len is_name_byte) c.as_bytes.ensures.value in
-    subst (IsCharBoundary c.strip_byte-nested.result.1.now) (sym len) (boundary_after_name c.strip_byte-nested.result.1.now c.strip_byte-nested.ensures.utf8)
+    subst (IsCharBoundary c.strip_byte-nested.result.1.now) (sym len)
+    (boundary_after_name c.strip_byte-nested.result.1.now c.strip_byte-nested.ensures.utf8)
 
 pub split_at-requires-2 : goal.split_at-requires-2
-split_at-requires-2 c = split_mark-boundary (splits (goal.at.split_at-requires-2 c).After-strip_byte-closing) c.strip_byte-closing.ensures.utf8
+split_at-requires-2 c =
+    split_mark-boundary (splits (goal.at.split_at-requires-2 c).After-strip_byte-closing) c.strip_byte-closing.ensures.utf8
 
 pub invariant_of-mark : goal.invariant_of-mark
 invariant_of-mark c =

@@ -6,7 +6,8 @@ use Rattle.usfm_tree.proofs.reader.Reader.finish.Given as goal
 
 abbrev pub invariant-loop-self : goal.invariant-loop-self
 invariant-loop-self l = record {
-  resumes : (styles : reading.Styles) → resume styles (sofar_of l.self) (frames_of l.self) [] ≡ resume styles (sofar_of l.initial.self) (frames_of l.initial.self) [];
+  resumes : (styles : reading.Styles)
+      → resume styles (sofar_of l.self) (frames_of l.self) [] ≡ resume styles (sofar_of l.initial.self) (frames_of l.initial.self) [];
   adjoins : Adjoins (spans_of l.self) (sofar_of l.self) [];
 }
 

@@ -88,7 +88,8 @@ returns-in-Some-close-clause-next c =
     let os = opens_in c.unwind-ended.new.open_nodes.items in
     unwound (goal.at.returns-in-Some-close-clause-next c).After-unwind-ended
     (front (goal.at.returns-in-Some-close-clause-next c).In-Some).0
-    ∙ ap (λ m. ends_before c.unwind-ended.result.0 (closed_before (option_map mark_parts m) (events_left S os l) (events_left S os (t ∷ l))))
+    ∙ ap (λ m. ends_before c.unwind-ended.result.0
+    (closed_before (option_map mark_parts m) (events_left S os l) (events_left S os (t ∷ l))))
     c.in-Some-close.is
 
 pub enter-requires-clause-within : goal.enter-requires-clause-within
@@ -111,12 +112,14 @@ returns-clause-next c =
     let l = left_of n (rest_of c.next.new.self) in
     let os = opens_in c.unwind-ended.new.open_nodes.items in
     unwound (goal.at.returns-clause-next c).After-unwind-ended (front (goal.at.returns-clause-next c).In-Some).0
-    ∙ ap (λ m. ends_before c.unwind-ended.result.0 (closed_before (option_map mark_parts m) (events_left S os l) (events_left S os (t ∷ l))))
+    ∙ ap (λ m. ends_before c.unwind-ended.result.0
+    (closed_before (option_map mark_parts m) (events_left S os l) (events_left S os (t ∷ l))))
     c.in_default-close.is
     ∙ ap (ends_before c.unwind-ended.result.0)
     (ap (λ r. events_left S os (t ∷ left_of n r)) (sym c.rest-rest.ensures)
     ∙ c.enter.ensures.enters S t (sym c.role_of-role.ensures.role) (ap (λ r. n - length r) (sym c.rest.ensures))
-    ∙ ap (λ r. entry_before c.enter.result.0 (events_left S (opens_in c.enter.new.open_nodes.items) (left_of n r))) (sym c.new-self.ensures))
+    ∙ ap (λ r. entry_before c.enter.result.0 (events_left S (opens_in c.enter.new.open_nodes.items) (left_of n r)))
+    (sym c.new-self.ensures))
 
 pub returns-clause-style : goal.returns-clause-style
 returns-clause-style c = c.enter.ensures.style (records_by c.args.self.now) c.role_of-role.ensures.style

@@ -1,7 +1,7 @@
 -- What is left of a cut on its way.
 use Rattle.std.specs.Prelude.{List, [], if◌then◌else◌}
 use Rattle.verse_cut.specs.Pieces.{Part}
-use Rattle.verse_cut.specs.Walks.{parts_at}
+use Rattle.verse_cut.specs.Loops.Walks.{parts_at}
 use Rattle.verse_cut.specs.declared.cutter.Pieces.{Pieces}
 
 -- the pieces that are still to be given

@@ -7,7 +7,7 @@ abbrev pub is_like : Bool → ℕ → Bool
 is_like true c = is_word_char c
 is_like false c = not (is_word_char c)
 
--- what stands after the characters at the front that are so
+-- what comes after the characters at the front that are so
 abbrev pub behind : Bool → List ℕ → List ℕ
 behind is_word [] = []
 behind is_word (c ∷ cs) = if is_like is_word c then behind is_word cs else c ∷ cs

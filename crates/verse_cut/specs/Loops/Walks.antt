@@ -14,29 +14,29 @@ IsFirst None ts = ts ≡ []
 IsFirst (Some t) [] = ⊥
 IsFirst (Some t) (x ∷ ts) = lexeme t ≡ x
 
--- a backslash (92) stands at the front, before a `c` (99) or a `v` (118), with which the names of the marks that have a
+-- a backslash (92) is at the front, before a `c` (99) or a `v` (118), with which the names of the marks that have a
 -- key begin
 abbrev pub may_have_key : List ℕ → Bool
 may_have_key [] = false
 may_have_key (b ∷ []) = false
 may_have_key (b ∷ (first ∷ rest)) = b == 92 && (first == 99 || first == 118)
 
--- what stands from the first mark on
+-- what there is from the first mark on
 abbrev pub from_mark : List ℕ → List ℕ
 from_mark text = drop (position_or_len is_backslash text) text
 
--- A token stands at the front of `here`, with `behind` after it, and has the key, where a verse stands in the
+-- A token is at the front of `here`, with `behind` after it, and has the key, where a verse is in the
 -- chapter.
 pub record TakesToken (chapter : ℕ) (here behind : List ℕ) (key : Option KeyParts) : Type 0 where
   pub token : Lexeme
   pub front : tokens_of here ≡ token ∷ tokens_of behind
   pub key_is : key ≡ key_of chapter token (tokens_of behind)
 
--- what of a text stands before its rest
+-- what of a text comes before its rest
 abbrev pub read_of : List ℕ → List ℕ → List ℕ
 read_of from rest = take (length from - length rest) from
 
--- the piece that is open from a place on, where the walk stands at here, and the later ones
+-- the piece that is open from a place on, where the walk is at here, and the later ones
 abbrev pub parts_at : KeyParts → ℕ → List ℕ → List ℕ → List Part
 parts_at key start from here = pieces_with key start (read_of from here) (cut_from key (start + length (read_of from here)) (tokens_of here))
 
@@ -45,8 +45,8 @@ pub record GoesToEnd (key : KeyParts) (text : List ℕ) : Type 0 where
   pub is_quiet : is_quiet key (tokens_of text) ≡ true
   pub cuts : (at : ℕ) → cut_from key at (tokens_of text) ≡ (text, [])
 
--- The first mark in the text with a key above this one stands at the front of `here`, with `behind` after it. What
--- stands before `here` goes to the open piece, and the mark opens the next.
+-- The first mark in the text with a key above this one is at the front of `here`, with `behind` after it. What
+-- comes before `here` goes to the open piece, and the mark opens the next.
 pub record OpensAt (key : KeyParts) (text here behind : List ℕ) (found : KeyParts) : Type 0 where
   pub not_quiet : is_quiet key (tokens_of text) ≡ false
   pub join : read_of text here ++ here ≡ text

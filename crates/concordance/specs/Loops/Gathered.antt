@@ -62,7 +62,7 @@ abbrev pub behind_milestone : MarkParts → Option (List ℕ) → Option MarkPar
 behind_milestone m None close = node_end (Some m) close
 behind_milestone m (Some t) close = node_end None close
 
--- The leaves that a walk gives which has this still to meet, where nodes are open, a mark stands directly before, if any, and a text
+-- The leaves that a walk gives which has this still to meet, where nodes are open, a mark comes directly before, if any, and a text
 -- waits, if any.
 abbrev pub gathered : List Record → List Enclosure → Option MarkParts → Option Passage → List Event → List Passage
 gathered sheet es behind waiting [] = settled false waiting []

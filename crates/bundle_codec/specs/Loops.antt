@@ -1,0 +1,4 @@
+-- What contracts of private functions alone speak of: the states of loops, and views of what they keep.
+pub mod Thinning
+pub mod Merging
+pub mod SummaryMaking
