@@ -18,30 +18,24 @@ use crate::ids::is_below;
 use crate::op::Op;
 use crate::op_id::OpId;
 use crate::register::Register;
-use crate::steps::Steps;
+use crate::steps::{Steps, place_by};
 use usfm_ref::{Book, Key, Place};
 
 // How many operations at the front have an id below this one.
-fn place_op(ops: &[Op], id: OpId, mut steps: Steps, compared: &mut u64) -> usize
+fn place_op(ops: &[Op], id: OpId, steps: Steps, compared: &mut u64) -> usize
     requires rising { IsTrue (sets.rises ops.now) }
     ensures place { result ≡ position_or_len (λ o. not (id_below o.id id)) ops.now }
     ensures within { result ≤ length ops.now }
     ensures counted { Counts (length ops.now) compared.old compared.new }
 {
-    let mut low = 0;
-    let mut high = ops.len();
-    'halves: while low < high {
-        let middle = steps.look(low, high);
-        *compared = compared.saturating_add(1);
-        if is_below(ops[middle].id(), id) {
-            low = middle + 1;
-            steps.go_on(middle);
-        } else {
-            high = middle;
-            steps.go_back(middle);
-        }
-    }
-    low
+    place_by(
+        ops,
+        |o| -> bool
+            ensures { result ≡ id_below o.now.id id }
+        { is_below(o.id(), id) },
+        steps,
+        compared,
+    )
 }
 
 // The same, where the place is likely to be the end or near it.
@@ -135,26 +129,21 @@ pub(crate) fn place_chapter(
     compared: &mut u64,
 ) -> usize
     requires rising { IsTrue (rises_by segment_cmp place_of chapters.now) }
-    ensures place { result ≡ position_or_len (λ c. not (is_lt (segment_cmp (place_of c) (segment book head)))) chapters.now }
+    ensures place { result ≡ position_or_len
+        (λ c. not (is_lt (segment_cmp (place_of c) (segment book head)))) chapters.now }
     ensures within { result ≤ length chapters.now }
     ensures counted { Counts (length chapters.now) compared.old compared.new }
 {
-    let mut steps = Steps::beside(*near, chapters.len());
-    let mut low = 0;
-    let mut high = chapters.len();
-    'halves: while low < high {
-        let middle = steps.look(low, high);
-        *compared = compared.saturating_add(1);
-        if chapters[middle].order(book, head).is_lt() {
-            low = middle + 1;
-            steps.go_on(middle);
-        } else {
-            high = middle;
-            steps.go_back(middle);
-        }
-    }
-    *near = low;
-    low
+    let at = place_by(
+        chapters,
+        |chapter| -> bool
+            ensures { result ≡ is_lt (segment_cmp (place_of chapter.now) (segment book head)) }
+        { chapter.order(book, head).is_lt() },
+        Steps::beside(*near, chapters.len()),
+        compared,
+    );
+    *near = at;
+    at
 }
 
 // How many registers at the front are before this key. The search begins where the last one ended.
@@ -169,22 +158,16 @@ pub(crate) fn place_register(
     ensures within { result ≤ length registers.now }
     ensures counted { Counts (length registers.now) compared.old compared.new }
 {
-    let mut steps = Steps::beside(*near, registers.len());
-    let mut low = 0;
-    let mut high = registers.len();
-    'halves: while low < high {
-        let middle = steps.look(low, high);
-        *compared = compared.saturating_add(1);
-        if registers[middle].order(key).is_lt() {
-            low = middle + 1;
-            steps.go_on(middle);
-        } else {
-            high = middle;
-            steps.go_back(middle);
-        }
-    }
-    *near = low;
-    low
+    let at = place_by(
+        registers,
+        |register| -> bool
+            ensures { result ≡ is_lt (key_cmp register.now.key key) }
+        { register.order(key).is_lt() },
+        Steps::beside(*near, registers.len()),
+        compared,
+    );
+    *near = at;
+    at
 }
 
 // The registers of a segment's chapter.
