@@ -10,7 +10,7 @@ use Rattle.usfm_ref.specs.Keys.{KeyParts, key_cmp}
 use Rattle.usfm_ref.specs.Segments.{Segment}
 use Rattle.usfm_ref.specs.Rising.{rises_by, rising}
 use Rattle.op_core.specs.Names.{is_name, name_cmp}
-use Rattle.op_core.specs.Ids.{Id}
+use Rattle.op_core.specs.Ids.{Id, last_number}
 use Rattle.op_core.specs.Ops.{Operation}
 use Rattle.op_core.specs.Sets.{get}
 use Rattle.op_core.specs.Thinned.{delta}
@@ -27,7 +27,7 @@ pub record Known : Type 0 where
 
 -- both ends from 1 to 10^15, the first no greater than the last
 abbrev pub is_range : NumberRange → Bool
-is_range r = nat_le 1 r.first && (nat_le r.first r.last && nat_le r.last 1000000000000000)
+is_range r = nat_le 1 r.first && (nat_le r.first r.last && nat_le r.last last_number)
 
 -- no two ranges touch: each begins more than one above the ends of those before it
 abbrev pub are_apart : List NumberRange → Bool

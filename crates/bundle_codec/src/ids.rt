@@ -10,7 +10,7 @@ ghost use Rattle.bundle_codec.specs.Views.{id_view, each_id_at, ids_at, ids_view
 
 use crate::fault::BundleFault;
 use crate::fields::{block_in, block_of, u8_at, u8_in, u64_at, u64_in};
-use op_core::{OpId, ReplicaName};
+use op_core::{OpId, ReplicaName, is_number};
 use std::cmp::Ordering;
 use std::marker::Model;
 
@@ -102,7 +102,7 @@ pub(crate) fn id_of(bad: BundleFault, bytes: &[u8]) -> Result<(IdView<'_>, &[u8]
     ensures { Gives (λ x. (id_view x.0, x.1.now)) result (id_at bad bytes.now) }
 {
     let (number, rest) = u64_at(bytes)?;
-    if !matches!(number, 1..=1_000_000_000_000_000) {
+    if !is_number(number) {
         return Err(bad);
     }
     let (len, rest) = u8_at(rest)?;

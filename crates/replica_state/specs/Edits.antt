@@ -6,7 +6,7 @@ use Rattle.std.specs.List.{find}
 use Rattle.usfm_ref.specs.Keys.{book_head, same_key}
 use Rattle.usfm_ref.specs.Segments.{Segment}
 use Rattle.verse_cut.specs.Reading.{text_fits}
-use Rattle.op_core.specs.Ids.{Id}
+use Rattle.op_core.specs.Ids.{Id, last_number}
 use Rattle.op_core.specs.Ops.{Operation}
 use Rattle.op_core.specs.Export.{has_book}
 use Rattle.op_core.specs.Lists.{shown_ids}
@@ -18,7 +18,7 @@ use Rattle.replica_state.specs.declared.fault.EditFault.TheVariants.{NotShown, N
 
 -- whether numbers up to 10^15 are left for this many operations more
 abbrev pub has_numbers : List Operation → ℕ → Bool
-has_numbers held count = nat_le (greatest_number held + count) 1000000000000000
+has_numbers held count = nat_le (greatest_number held + count) last_number
 
 -- the operation of an id that gives a segment a text
 abbrev pub edit_with : Id → Segment → List Id → List ℕ → Operation

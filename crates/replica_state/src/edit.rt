@@ -16,13 +16,10 @@ ghost use Rattle.replica_state.specs.Steps.{step, Edit, EditOver, Edited, with_o
 
 use crate::fault::EditFault;
 use crate::replica::Replica;
-use op_core::{Op, OpId};
+use op_core::{LAST_NUMBER, Op, OpId};
 use std::alloc::{AllocError, Global};
 use usfm_ref::{Book, Key};
 use verse_cut::fits;
-
-// The greatest number of an operation.
-pub(crate) const LAST_NUMBER: u64 = 1_000_000_000_000_000;
 
 impl Replica {
     /// Gives a segment a text, by an operation of the replica that names all ids which the segment

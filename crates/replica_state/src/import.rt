@@ -15,11 +15,10 @@ ghost use Rattle.replica_state.specs.Imports as imports;
 ghost use Rattle.replica_state.specs.States.{IsState};
 ghost use Rattle.replica_state.specs.Steps.{step, Import, Imported};
 
-use crate::edit::LAST_NUMBER;
 use crate::fault::ImportFault;
 use crate::pieces::{has_verse, piece_at};
 use crate::replica::Replica;
-use op_core::{Op, OpId, Picked};
+use op_core::{LAST_NUMBER, Op, OpId, Picked};
 use std::alloc::{AllocError, Global};
 use usfm_ref::{Book, Key};
 use verse_cut::{Piece, book_of, cut};

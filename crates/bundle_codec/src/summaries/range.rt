@@ -3,6 +3,8 @@ ghost use Rattle.std.specs.List.{list_all};
 ghost use Rattle.bundle_codec.specs.Summaries.{is_range, are_apart, has_number};
 ghost use Rattle.bundle_codec.specs.SummaryReading.{begins_after};
 
+use op_core::LAST_NUMBER;
+
 // Numbers from the first to the last, both ends among them.
 #[derive(Clone, Copy, Debug)]
 pub(crate) struct NumberRange {
@@ -14,7 +16,7 @@ pub(crate) struct NumberRange {
 pub(crate) fn is_range(range: NumberRange) -> bool
     ensures { result ≡ is_range range }
 {
-    1 <= range.first && range.first <= range.last && range.last <= 1_000_000_000_000_000
+    1 <= range.first && range.first <= range.last && range.last <= LAST_NUMBER
 }
 
 // Whether a range that begins here does not touch the one before it.
