@@ -1,10 +1,9 @@
 // Imports of a book's file into a replica.
-ghost use Rattle.std.specs.Prelude.{◌≡◌, ◌≢◌, ◌<◌, Err, IfOk, IfErr, IsTrue, OnErr, OnOk, ◌++◌, length, map, string_bytes};
+ghost use Rattle.std.specs.Prelude.{◌≡◌, ◌≢◌, ◌<◌, Err, IfOk, IfErr, IsTrue, OnErr, OnOk, ◌++◌, length, map};
 ghost use Rattle.usfm_ref.specs.Books.{same_bytes};
 ghost use Rattle.usfm_ref.specs.Keys.{key_cmp, head_of};
 ghost use Rattle.usfm_ref.specs.Rising.{rises_by};
 ghost use Rattle.usfm_ref.specs.Segments.{segment};
-ghost use Rattle.verse_cut.specs.Joins as joins;
 ghost use Rattle.verse_cut.specs.Fits.{Fits};
 ghost use Rattle.verse_cut.specs.Reading.{book_in};
 ghost use Rattle.verse_cut.specs.Views.{parts_of};
@@ -18,8 +17,8 @@ ghost use Rattle.replica_state.specs.Steps.{step, Import, Imported};
 use crate::fault::ImportFault;
 use crate::pieces::{has_verse, piece_at};
 use crate::replica::Replica;
-use op_core::{LAST_NUMBER, Op, OpId, Picked};
-use std::alloc::{AllocError, Global};
+use op_core::{LAST_NUMBER, Op, OpId, Picked, chapter_line};
+use std::alloc::AllocError;
 use usfm_ref::{Book, Key};
 use verse_cut::{Piece, book_of, cut};
 
@@ -72,7 +71,7 @@ impl Replica {
         let mut due = Vec::new(self.alloc);
         let keys = self.walked_keys(book, pieces)?;
         for key in &keys {
-            if self.is_due(book, pieces, *key)? {
+            if self.is_due(book, pieces, *key) {
                 due.push(*key)?;
             }
         }
@@ -117,26 +116,19 @@ impl Replica {
     }
 
     // Whether an import edits the key.
-    pub(crate) fn is_due(
-        &self,
-        book: Book,
-        pieces: &[Piece<'_>],
-        key: Key,
-    ) -> Result<bool, AllocError>
+    pub(crate) fn is_due(&self, book: Book, pieces: &[Piece<'_>], key: Key) -> bool
         requires rising { IsTrue (rises_by key_cmp (λ p. p.key) pieces.now) }
-        ensures { IfOk result (λ due.
-            due ≡ imports.is_due self.now.held book (parts_of pieces.now) key) }
+        ensures { result ≡ imports.is_due self.now.held book (parts_of pieces.now) key }
     {
         let piece = piece_at(pieces, key);
         match self.set.pick(book, key) {
-            Picked::Nothing => Ok(!piece.is_empty()),
-            Picked::Held(op) => Ok(op.text_or_empty() != piece),
+            Picked::Nothing => !piece.is_empty(),
+            Picked::Held(op) => op.text_or_empty() != piece,
             Picked::ChapterLine(chapter) => {
-                let line = chapter_line(self.alloc, chapter)?;
-                if is_same(line.as_str(), piece) {
-                    return Ok(!has_verse(pieces, key));
+                if is_same(chapter_line(chapter).bytes(), piece) {
+                    return !has_verse(pieces, key);
                 }
-                Ok(true)
+                true
             }
         }
     }
@@ -207,16 +199,9 @@ fn push_piece_keys(keys: &mut Vec<Key>, pieces: &[Piece<'_>]) -> Result<(), Allo
     Ok(())
 }
 
-// Whether two texts have the same bytes.
-fn is_same(text: &str, other: &str) -> bool
-    ensures { result ≡ same_bytes text.now other.now }
+// Whether the bytes are those of a text.
+fn is_same(bytes: &[u8], text: &str) -> bool
+    ensures { result ≡ same_bytes bytes.now text.now }
 {
-    text.as_bytes() == other.as_bytes()
-}
-
-// The line of a chapter's head: `\c`, a space, the number and a line feed.
-fn chapter_line(alloc: Global, chapter: u16) -> Result<String, AllocError>
-    ensures { IfOk result (λ line. string_bytes line ≡ joins.chapter_line chapter) }
-{
-    format!(in alloc; "\\c {chapter}\n")
+    bytes == text.as_bytes()
 }

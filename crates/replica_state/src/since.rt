@@ -186,7 +186,7 @@ impl Replica {
         ensures { IfOk result (λ is.
             is ≡ since.is_changed self.now.held was.now.held book (parts_of pieces.now) key) }
     {
-        if !was.is_due(book, pieces, key)? {
+        if !was.is_due(book, pieces, key) {
             return Ok(false);
         }
         let seen = self.seen_ids(was, book, key)?;

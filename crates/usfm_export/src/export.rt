@@ -3,14 +3,14 @@ ghost use Rattle.std.specs.Prelude.{◌≡◌, OnOk, IfOk, IfErr};
 ghost use Rattle.std.specs.Io.KnownBytes.{Appends};
 ghost use Rattle.op_core.specs.Export as exports;
 ghost use Rattle.op_core.specs.Sets.{IsOpSet};
-ghost use Rattle.op_core.specs.Shown.{picked, picked_text, chapter_line};
+ghost use Rattle.op_core.specs.Shown.{picked, picked_text};
 ghost use Rattle.usfm_export.specs.Books.{IsBookOf, AnswersBook, AnswersText, sink_failures};
 ghost use Rattle.usfm_export.specs.Counts.{failures_after};
 ghost use Rattle.usfm_export.specs.Loops.Heads.{lacks_head, with_head, texts_at};
 ghost use Rattle.usfm_export.specs.Writing.{TakesAll, TakesFront};
 
-use crate::{ByteSink, ExportFault, ShortLine, StdSink, TextFault, WriteFault, write_more};
-use op_core::Picked;
+use crate::{ByteSink, ExportFault, StdSink, TextFault, WriteFault, write_more};
+use op_core::{Picked, chapter_line};
 use replica_state::Replica;
 use std::alloc::Global;
 use usfm_ref::{Book, Key, Place};
@@ -127,17 +127,6 @@ fn write_picked<W: ByteSink>(sink: &mut W, gone: u64, choice: Picked<'_>) -> Res
         Picked::ChapterLine(chapter) => write_more(sink, gone, chapter_line(chapter).bytes()),
         Picked::Nothing => Ok(gone),
     }
-}
-
-// The line of a chapter that has none: `\c`, a space, the number and a line feed.
-fn chapter_line(chapter: u16) -> ShortLine
-    ensures { result ≡ chapter_line chapter }
-{
-    let mut line = ShortLine::new();
-    line.push_text("\\c ");
-    line.push_number(u64::from(chapter));
-    line.push_text("\n");
-    line
 }
 
 // Whether a key is the first of its chapter, after the key before, and is not the chapter's head.

@@ -7,14 +7,13 @@
 
 mod export;
 mod fault;
-mod line;
 mod sink;
 mod told;
 mod writing;
 
 pub use export::{book_text, write_book};
 pub use fault::{ExportFault, TextFault};
-pub use line::{MOST_LINE_BYTES, ShortLine};
+pub use op_core::{MOST_LINE_BYTES, ShortLine};
 pub use sink::{ByteSink, StdSink};
 pub use told::within;
 pub use writing::{WriteFault, write_all, write_more, write_pieces};

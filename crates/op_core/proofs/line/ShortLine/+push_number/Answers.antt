@@ -1,8 +1,8 @@
 use Rattle.std.proofs.Common.{◌≡◌, ◌∙◌, [], ◌∷◌, ◌++◌, length, ℕ, ◌+◌, ◌/◌, ◌%◌, List, arith, ap, sym, append_assoc, length-append}
 use Rattle.std.specs.Fmt.{decimal}
 use Rattle.std.proofs.lemmas.Fmt.{decimal_step, decimal_digit}
-use Rattle.usfm_export.proofs.line.ShortLine.+push_number.Goals as goal
-use Rattle.usfm_export.proofs.line.ShortLine.+push_number.Goals.{then-number-ge10, else-number-ge10}
+use Rattle.op_core.proofs.line.ShortLine.+push_number.Goals as goal
+use Rattle.op_core.proofs.line.ShortLine.+push_number.Goals.{then-number-ge10, else-number-ge10}
 
 -- all digits but the last
 pub push_number-requires : goal.push_number-requires

@@ -1,6 +1,6 @@
 use Rattle.std.proofs.Common.{arith}
-use Rattle.usfm_export.proofs.LineLengths.{digits_of_chapter}
-use Rattle.usfm_export.proofs.export.chapter_line.Goals as goal
+use Rattle.op_core.proofs.LineLengths.{digits_of_chapter}
+use Rattle.op_core.proofs.line.chapter_line.Goals as goal
 
 pub push_number-requires : goal.push_number-requires
 push_number-requires c =

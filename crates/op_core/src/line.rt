@@ -1,12 +1,13 @@
 // A short line of text in a value of fixed size.
 ghost use Rattle.std.specs.Prelude.{◌≡◌, ◌+◌, ◌<◌, ◌≤◌, [], ◌∷◌, ◌++◌, length};
 ghost use Rattle.std.specs.Fmt.{decimal};
+ghost use Rattle.op_core.specs.Shown.{chapter_line};
 
 use arrayvec::ArrayString;
 use std::marker::Model;
 
-/// The most bytes of a short line. The longest reports a fault: `fault 51 `, a number of 16 digits, a
-/// space, a name of 32 bytes and a line feed.
+/// The most bytes of a short line: nine, an id's number of 16 digits, a space, its name of 32 bytes and a
+/// line feed.
 pub const MOST_LINE_BYTES: usize = 59;
 
 /// A line of at most 59 bytes, in a value of fixed size. Its calls take no memory.
@@ -71,4 +72,16 @@ impl ShortLine {
     {
         self.text.push(char::from(byte));
     }
+}
+
+/// The line of a chapter's head that has none: `\c`, a space, the number and a line feed. It takes no
+/// memory.
+pub fn chapter_line(chapter: u16) -> ShortLine
+    ensures { result ≡ chapter_line chapter }
+{
+    let mut line = ShortLine::new();
+    line.push_text("\\c ");
+    line.push_number(u64::from(chapter));
+    line.push_text("\n");
+    line
 }
