@@ -11,6 +11,7 @@ mod executing;
 mod fault;
 mod fold;
 mod folder;
+mod given;
 pub mod laws;
 mod looking;
 mod reading;

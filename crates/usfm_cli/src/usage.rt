@@ -1,11 +1,19 @@
-// The program's subcommands, their words and their help.
+// The program's subcommands: of each its words, its help, and the line that it is read as. `program` and
+// `line_of` name them all.
 mod folders;
 mod looking;
 
-use self::folders::{export, sync};
-use self::looking::{check, delta, find, fold, report, send, shown, summary, words};
-use clap::{Arg, Command};
+use self::folders::{export, export_line, sync, sync_line};
+use self::looking::{
+    check, check_line, delta, delta_line, find, find_line, fold, fold_line, report, report_line,
+    send, send_line, shown, shown_line, summary, summary_line, words, words_line,
+};
+use crate::given::{ids, text, text_if_given, texts, word};
+use crate::words::{Line, LineFault};
+use clap::{Arg, ArgMatches, Command};
+use op_core::ReplicaName;
 use std::alloc::{AllocError, Global};
+use usfm_ref::read_ref;
 
 /// The version of this workspace, which `usfm_team --version` prints. It is here alone.
 pub const VERSION: &str = "0.1.0";
@@ -58,6 +66,41 @@ pub(crate) fn program<'a>(alloc: Global) -> Result<Command<'a>, AllocError> {
     with(program, fold(alloc))
 }
 
+/// The line of a subcommand, by what it was given.
+pub(crate) fn line_of(
+    alloc: Global,
+    name: &str,
+    given: &ArgMatches<'_>,
+) -> Result<Line, LineFault> {
+    match name {
+        "init" => init_line(alloc, given),
+        "import" => import_line(alloc, given),
+        "edit" => edit_line(alloc, given),
+        "edit-over" => edit_over_line(alloc, given),
+        "shown" => shown_line(alloc, given),
+        "receive" => receive_line(alloc, given),
+        "sync" => sync_line(alloc, given),
+        "send" => send_line(alloc, given),
+        "export" => export_line(alloc, given),
+        "summary" => summary_line(alloc, given),
+        "delta" => delta_line(alloc, given),
+        "report" => report_line(alloc, given),
+        "check" => check_line(alloc, given),
+        "find" => find_line(alloc, given),
+        "words" => words_line(alloc, given),
+        "thin" => thin_line(alloc, given),
+        "fold" => fold_line(given),
+        _ => Err(LineFault::Usage(String::from_str(alloc, NO_SUBCOMMAND)?)),
+    }
+}
+
+/// What is said where no subcommand was given. `program` asks for one, and says so itself.
+pub(crate) const NO_SUBCOMMAND: &str = "\
+error: no subcommand was given
+
+For more information, try '--help'.
+";
+
 // The program with one more subcommand. What it has by then stays out of the proof of `program`, which
 // would repeat it at each of them.
 fn with<'a>(
@@ -109,6 +152,13 @@ Faults:
   fault 50     NAME is no replica's name
   fault 130    PROJECT is there already, or was not written";
 
+fn init_line(alloc: Global, given: &ArgMatches<'_>) -> Result<Line, LineFault> {
+    Ok(Line::Init {
+        project: text(alloc, given, "PROJECT")?,
+        name: ReplicaName::read(word(given, "NAME"))?,
+    })
+}
+
 fn import<'a>(alloc: Global) -> Result<Command<'a>, AllocError> {
     let files = Arg::new(alloc, "FILE").required(true).num_args(1..).help(
         "A book in USFM, in UTF-8, that begins with \\id and the book's code",
@@ -152,6 +202,14 @@ Faults:
   fault 120, fault 121     a file was not read, or is over 268,435,456 bytes
   fault 130                the project was not written";
 
+fn import_line(alloc: Global, given: &ArgMatches<'_>) -> Result<Line, LineFault> {
+    Ok(Line::Import {
+        project: text(alloc, given, "PROJECT")?,
+        files: texts(alloc, given, "FILE")?,
+        since: text_if_given(alloc, given, "BUNDLE")?,
+    })
+}
+
 fn edit<'a>(alloc: Global) -> Result<Command<'a>, AllocError> {
     command(
         alloc,
@@ -181,6 +239,12 @@ Faults:
   fault 120, fault 121     a file was not read, or is over 268,435,456 bytes
   fault 130                the project was not written";
 
+fn edit_line(alloc: Global, given: &ArgMatches<'_>) -> Result<Line, LineFault> {
+    let project = text(alloc, given, "PROJECT")?;
+    let (book, key) = read_ref(word(given, "REF"))?;
+    Ok(Line::Edit { project, book, key })
+}
+
 fn edit_over<'a>(alloc: Global) -> Result<Command<'a>, AllocError> {
     let ids = Arg::new(alloc, "ID").num_args(0..).help(
         "The operations to replace: 3:ana for `op 3 ana` of `shown`",
@@ -206,6 +270,18 @@ Faults: those of `edit`, and
   fault 52                 ID is no operation's id
   fault 83 NUMBER NAME     the segment does not show this operation";
 
+fn edit_over_line(alloc: Global, given: &ArgMatches<'_>) -> Result<Line, LineFault> {
+    let project = text(alloc, given, "PROJECT")?;
+    let (book, key) = read_ref(word(given, "REF"))?;
+    let ids = ids(alloc, given, "ID")?;
+    Ok(Line::EditOver {
+        project,
+        book,
+        key,
+        ids,
+    })
+}
+
 fn receive<'a>(alloc: Global) -> Result<Command<'a>, AllocError> {
     let bundles = Arg::new(alloc, "BUNDLE")
         .required(true)
@@ -229,6 +305,13 @@ Faults:
   fault 110                PROJECT is no project
   fault 120, fault 121     a file was not read, or is over 268,435,456 bytes
   fault 130                the project was not written";
+
+fn receive_line(alloc: Global, given: &ArgMatches<'_>) -> Result<Line, LineFault> {
+    Ok(Line::Receive {
+        project: text(alloc, given, "PROJECT")?,
+        bundles: texts(alloc, given, "BUNDLE")?,
+    })
+}
 
 fn thin<'a>(alloc: Global) -> Result<Command<'a>, AllocError> {
     command(
@@ -254,3 +337,9 @@ Faults:
   fault 90 BYTES           writing the output failed; the project is changed
   fault 120, fault 121     the file was not read, or is over 268,435,456 bytes
   fault 130                the project was not written";
+
+fn thin_line(alloc: Global, given: &ArgMatches<'_>) -> Result<Line, LineFault> {
+    Ok(Line::Thin {
+        project: text(alloc, given, "PROJECT")?,
+    })
+}

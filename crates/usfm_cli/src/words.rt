@@ -1,11 +1,11 @@
 // The words of the command line.
 use crate::Fault;
-use crate::usage::program;
+use crate::usage::{NO_SUBCOMMAND, line_of, program};
+use clap::Error;
 use clap::error::ErrorKind;
-use clap::{ArgMatches, Error};
 use op_core::{IdFault, OpId, ReplicaName};
 use std::alloc::{AllocError, AllocFailed, Global};
-use usfm_ref::{Book, Key, RefFault, read_ref};
+use usfm_ref::{Book, Key, RefFault};
 
 /// What the words ask for: a subcommand with its values. Files are named as they were given.
 #[derive(Debug, Drop)]
@@ -158,159 +158,13 @@ pub fn read_words(alloc: Global, words: &[String]) -> Result<Line, LineFault> {
     match program(alloc)?.try_get_matches_from(words) {
         Ok(matches) => match matches.subcommand() {
             Some((name, given)) => line_of(alloc, name, given),
-            None => Ok(Line::Fold(Book::read("")?)),
+            None => Err(LineFault::Usage(String::from_str(alloc, NO_SUBCOMMAND)?)),
         },
         Err(error) => Err(told(alloc, &error)?),
     }
 }
 
-// The line of a subcommand, by its values.
-fn line_of(alloc: Global, name: &str, given: &ArgMatches<'_>) -> Result<Line, LineFault> {
-    match name {
-        "init" => Ok(Line::Init {
-            project: text(alloc, given, "PROJECT")?,
-            name: ReplicaName::read(word(given, "NAME"))?,
-        }),
-        "import" => Ok(Line::Import {
-            project: text(alloc, given, "PROJECT")?,
-            files: texts(alloc, given, "FILE")?,
-            since: text_if_given(alloc, given, "BUNDLE")?,
-        }),
-        "receive" => Ok(Line::Receive {
-            project: text(alloc, given, "PROJECT")?,
-            bundles: texts(alloc, given, "BUNDLE")?,
-        }),
-        "send" => Ok(Line::Send {
-            project: text(alloc, given, "PROJECT")?,
-        }),
-        "export" => export_line(alloc, given),
-        "sync" => Ok(Line::Sync {
-            project: text(alloc, given, "PROJECT")?,
-            folder: text(alloc, given, "FOLDER")?,
-            bundles: texts(alloc, given, "BUNDLE")?,
-        }),
-        "summary" => Ok(Line::Summary {
-            project: text(alloc, given, "PROJECT")?,
-        }),
-        "delta" => Ok(Line::Delta {
-            project: text(alloc, given, "PROJECT")?,
-            summary: text(alloc, given, "SUMMARY")?,
-        }),
-        "check" => Ok(Line::Check {
-            project: text(alloc, given, "PROJECT")?,
-            book: Book::read(word(given, "BOOK"))?,
-            sheet: text(alloc, given, "SHEET")?,
-        }),
-        "find" => Ok(Line::Find {
-            project: text(alloc, given, "PROJECT")?,
-            book: Book::read(word(given, "BOOK"))?,
-            sheet: text(alloc, given, "SHEET")?,
-            needle: text(alloc, given, "NEEDLE")?,
-        }),
-        "words" => Ok(Line::Words {
-            project: text(alloc, given, "PROJECT")?,
-            book: Book::read(word(given, "BOOK"))?,
-            sheet: text(alloc, given, "SHEET")?,
-        }),
-        "thin" => Ok(Line::Thin {
-            project: text(alloc, given, "PROJECT")?,
-        }),
-        "report" => Ok(Line::Report {
-            project: text(alloc, given, "PROJECT")?,
-        }),
-        "fold" => Ok(Line::Fold(Book::read(word(given, "BOOK"))?)),
-        _ => segment_line(alloc, name, given),
-    }
-}
-
-// The line of an export: of one book, or of any number of them into a folder.
-fn export_line(alloc: Global, given: &ArgMatches<'_>) -> Result<Line, LineFault> {
-    let project = text(alloc, given, "PROJECT")?;
-    let words = given.get_strs("BOOK").unwrap_or(&[]);
-    if let Some(folder) = text_if_given(alloc, given, "FOLDER")? {
-        let mut books = Vec::new(alloc);
-        for word in words {
-            books.push(Book::read(*word)?)?;
-        }
-        return Ok(Line::ExportInto {
-            project,
-            folder,
-            books,
-        });
-    }
-    match words {
-        [book] => Ok(Line::Export {
-            project,
-            book: Book::read(*book)?,
-        }),
-        _ => Err(LineFault::Usage(String::from_str(alloc, ONE_BOOK)?)),
-    }
-}
-
-const ONE_BOOK: &str = "\
-error: without --into FOLDER one BOOK is exported
-
-Usage: usfm_team export <PROJECT> <BOOK>
-
-For more information, try '--help'.
-";
-
-// The line of a subcommand on a segment.
-fn segment_line(alloc: Global, name: &str, given: &ArgMatches<'_>) -> Result<Line, LineFault> {
-    let project = text(alloc, given, "PROJECT")?;
-    let (book, key) = read_ref(word(given, "REF"))?;
-    match name {
-        "edit" => Ok(Line::Edit { project, book, key }),
-        "edit-over" => Ok(Line::EditOver {
-            project,
-            book,
-            key,
-            ids: read_ids(alloc, given.get_strs("ID").unwrap_or(&[]))?,
-        }),
-        _ => Ok(Line::Shown { project, book, key }),
-    }
-}
-
-// The ids that some words spell.
-fn read_ids(alloc: Global, words: &[&str]) -> Result<Vec<OpId>, LineFault> {
-    let mut ids = Vec::new(alloc);
-    for word in words {
-        ids.push(OpId::read(*word)?)?;
-    }
-    Ok(ids)
-}
-
-// The word of an argument. Each that is required was given.
-fn word<'a>(given: &ArgMatches<'a>, argument: &str) -> &'a str {
-    given.get_str(argument).unwrap_or("")
-}
-
-// A copy of it.
-fn text(alloc: Global, given: &ArgMatches<'_>, argument: &str) -> Result<String, AllocError> {
-    String::from_str(alloc, word(given, argument))
-}
-
-// A copy of the word of an argument that may be left out.
-fn text_if_given(
-    alloc: Global,
-    given: &ArgMatches<'_>,
-    argument: &str,
-) -> Result<Option<String>, AllocError> {
-    match given.get_str(argument) {
-        Some(word) => Ok(Some(String::from_str(alloc, word)?)),
-        None => Ok(None),
-    }
-}
-
-// Copies of the words of an argument that takes several.
-fn texts(alloc: Global, given: &ArgMatches<'_>, argument: &str) -> Result<Vec<String>, AllocError> {
-    let mut copies = Vec::new(alloc);
-    for word in given.get_strs(argument).unwrap_or(&[]) {
-        copies.push(String::from_str(alloc, *word)?)?;
-    }
-    Ok(copies)
-}
-
+// What is to be said of words that are no line.
 fn told(alloc: Global, error: &Error) -> Result<LineFault, AllocError> {
     if error.kind() == ErrorKind::OutOfMemory {
         return Err(AllocError);

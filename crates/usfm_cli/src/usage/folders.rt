@@ -1,7 +1,11 @@
-// The subcommands on a folder of books' files, and the export of one book: their words and their help.
+// The subcommands on a folder of books' files, and the export of one book: of each its words, its help, and
+// the line that it is read as.
 use super::{PROJECT, command};
-use clap::{Arg, Command};
+use crate::given::{books, text, text_if_given, texts, words};
+use crate::words::{Line, LineFault};
+use clap::{Arg, ArgMatches, Command};
 use std::alloc::{AllocError, Global};
+use usfm_ref::Book;
 
 const FOLDER: (&str, &str) = ("FOLDER", "The folder with the files of the books");
 
@@ -41,6 +45,14 @@ book shows, `usfm_team import PROJECT FILE`, and sync.
 Faults: those of `import`, `receive` and `export`, and
   fault 131                FILE would lose what stands in it";
 
+pub(crate) fn sync_line(alloc: Global, given: &ArgMatches<'_>) -> Result<Line, LineFault> {
+    Ok(Line::Sync {
+        project: text(alloc, given, "PROJECT")?,
+        folder: text(alloc, given, "FOLDER")?,
+        bundles: texts(alloc, given, "BUNDLE")?,
+    })
+}
+
 pub(crate) fn export<'a>(alloc: Global) -> Result<Command<'a>, AllocError> {
     let books = Arg::new(alloc, "BOOK")
         .num_args(0..)
@@ -78,3 +90,30 @@ Faults:
   fault 120, fault 121     a file was not read, or is over 268,435,456 bytes
   fault 130                a file of FOLDER was not written
   fault 131                a file of FOLDER was changed: `sync` takes it in";
+
+pub(crate) fn export_line(alloc: Global, given: &ArgMatches<'_>) -> Result<Line, LineFault> {
+    let project = text(alloc, given, "PROJECT")?;
+    if let Some(folder) = text_if_given(alloc, given, "FOLDER")? {
+        let books = books(alloc, given, "BOOK")?;
+        return Ok(Line::ExportInto {
+            project,
+            folder,
+            books,
+        });
+    }
+    match words(given, "BOOK") {
+        [book] => Ok(Line::Export {
+            project,
+            book: Book::read(*book)?,
+        }),
+        _ => Err(LineFault::Usage(String::from_str(alloc, ONE_BOOK)?)),
+    }
+}
+
+const ONE_BOOK: &str = "\
+error: without --into FOLDER one BOOK is exported
+
+Usage: usfm_team export <PROJECT> <BOOK>
+
+For more information, try '--help'.
+";

@@ -1,7 +1,10 @@
-// The subcommands that change no project: their words and their help.
+// The subcommands that change no project: of each its words, its help, and the line that it is read as.
 use super::{BOOK, PROJECT, REF, SHEET, command};
-use clap::Command;
+use crate::given::{text, word};
+use crate::words::{Line, LineFault};
+use clap::{ArgMatches, Command};
 use std::alloc::{AllocError, Global};
+use usfm_ref::{Book, read_ref};
 
 pub(crate) fn shown<'a>(alloc: Global) -> Result<Command<'a>, AllocError> {
     command(
@@ -26,6 +29,12 @@ Faults:
   fault 90 BYTES           writing failed after this many bytes
   fault 120, fault 121     the file was not read, or is over 268,435,456 bytes";
 
+pub(crate) fn shown_line(alloc: Global, given: &ArgMatches<'_>) -> Result<Line, LineFault> {
+    let project = text(alloc, given, "PROJECT")?;
+    let (book, key) = read_ref(word(given, "REF"))?;
+    Ok(Line::Shown { project, book, key })
+}
+
 pub(crate) fn send<'a>(alloc: Global) -> Result<Command<'a>, AllocError> {
     command(
         alloc,
@@ -44,6 +53,12 @@ Faults:
   fault 60 to 70, 110      PROJECT is no project
   fault 90 BYTES           writing failed after this many bytes
   fault 120, fault 121     the file was not read, or is over 268,435,456 bytes";
+
+pub(crate) fn send_line(alloc: Global, given: &ArgMatches<'_>) -> Result<Line, LineFault> {
+    Ok(Line::Send {
+        project: text(alloc, given, "PROJECT")?,
+    })
+}
 
 pub(crate) fn summary<'a>(alloc: Global) -> Result<Command<'a>, AllocError> {
     command(
@@ -65,6 +80,12 @@ Faults:
   fault 60 to 70, 110      PROJECT is no project
   fault 90 BYTES           writing failed after this many bytes
   fault 120, fault 121     the file was not read, or is over 268,435,456 bytes";
+
+pub(crate) fn summary_line(alloc: Global, given: &ArgMatches<'_>) -> Result<Line, LineFault> {
+    Ok(Line::Summary {
+        project: text(alloc, given, "PROJECT")?,
+    })
+}
 
 pub(crate) fn delta<'a>(alloc: Global) -> Result<Command<'a>, AllocError> {
     let summary = (
@@ -93,6 +114,13 @@ Faults:
   fault 71                 SUMMARY is no summary
   fault 90 BYTES           writing failed after this many bytes
   fault 120, fault 121     a file was not read, or is over 268,435,456 bytes";
+
+pub(crate) fn delta_line(alloc: Global, given: &ArgMatches<'_>) -> Result<Line, LineFault> {
+    Ok(Line::Delta {
+        project: text(alloc, given, "PROJECT")?,
+        summary: text(alloc, given, "SUMMARY")?,
+    })
+}
 
 pub(crate) fn check<'a>(alloc: Global) -> Result<Command<'a>, AllocError> {
     command(
@@ -124,6 +152,14 @@ Faults:
   fault 90 BYTES           writing failed after this many bytes
   fault 120, fault 121     a file was not read, or is over 268,435,456 bytes";
 
+pub(crate) fn check_line(alloc: Global, given: &ArgMatches<'_>) -> Result<Line, LineFault> {
+    Ok(Line::Check {
+        project: text(alloc, given, "PROJECT")?,
+        book: Book::read(word(given, "BOOK"))?,
+        sheet: text(alloc, given, "SHEET")?,
+    })
+}
+
 pub(crate) fn find<'a>(alloc: Global) -> Result<Command<'a>, AllocError> {
     let needle = ("NEEDLE", "What is looked for, byte for byte");
     command(
@@ -145,6 +181,15 @@ Example: usfm_team find ana.project MAT samples/small.sty beginning
 Faults: those of `check`, and
   fault 100                NEEDLE is empty";
 
+pub(crate) fn find_line(alloc: Global, given: &ArgMatches<'_>) -> Result<Line, LineFault> {
+    Ok(Line::Find {
+        project: text(alloc, given, "PROJECT")?,
+        book: Book::read(word(given, "BOOK"))?,
+        sheet: text(alloc, given, "SHEET")?,
+        needle: text(alloc, given, "NEEDLE")?,
+    })
+}
+
 pub(crate) fn words<'a>(alloc: Global) -> Result<Command<'a>, AllocError> {
     command(
         alloc,
@@ -162,6 +207,14 @@ after it the segments where it stands, each after a space.
 Example: usfm_team words ana.project MAT samples/small.sty
 
 Faults: those of `check`";
+
+pub(crate) fn words_line(alloc: Global, given: &ArgMatches<'_>) -> Result<Line, LineFault> {
+    Ok(Line::Words {
+        project: text(alloc, given, "PROJECT")?,
+        book: Book::read(word(given, "BOOK"))?,
+        sheet: text(alloc, given, "SHEET")?,
+    })
+}
 
 pub(crate) fn report<'a>(alloc: Global) -> Result<Command<'a>, AllocError> {
     command(
@@ -187,6 +240,12 @@ Faults:
   fault 60 to 70, 110      PROJECT is no project
   fault 90 BYTES           writing failed after this many bytes
   fault 120, fault 121     the file was not read, or is over 268,435,456 bytes";
+
+pub(crate) fn report_line(alloc: Global, given: &ArgMatches<'_>) -> Result<Line, LineFault> {
+    Ok(Line::Report {
+        project: text(alloc, given, "PROJECT")?,
+    })
+}
 
 pub(crate) fn fold<'a>(alloc: Global) -> Result<Command<'a>, AllocError> {
     command(
@@ -215,3 +274,7 @@ Faults:
   fault 90 BYTES         writing failed after this many bytes
   fault 120              reading failed
   fault 121              the input has more than 268,435,456 bytes";
+
+pub(crate) fn fold_line(given: &ArgMatches<'_>) -> Result<Line, LineFault> {
+    Ok(Line::Fold(Book::read(word(given, "BOOK"))?))
+}
