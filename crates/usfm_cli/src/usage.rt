@@ -1,10 +1,10 @@
 // The program's subcommands: of each its words, its help, and the line that it is read as. `program` and
 // `line_of` name them all.
 mod folders;
-mod looking;
+mod reports;
 
 use self::folders::{export, export_line, sync, sync_line};
-use self::looking::{
+use self::reports::{
     check, check_line, delta, delta_line, find, find_line, fold, fold_line, report, report_line,
     send, send_line, shown, shown_line, summary, summary_line, words, words_line,
 };
