@@ -63,6 +63,7 @@ module _ (s u : List Operation) (e : skeleton s ≡ skeleton u) (shows : (seg : 
       flat_map (λ key. picked_text (picks_alike (segment book key) i))
       (rising key_cmp (flat_map (λ key. head_of key ∷ key ∷ []) (keys_alike book i)))
 
+  -- sets that are alike answer alike
   pub answers_alike : AnswersSame s u
   answers_alike =
       let bares = skeleton_answers s u e in
@@ -78,9 +79,11 @@ module _ (s u : List Operation) (e : skeleton s ≡ skeleton u) (shows : (seg : 
       }
 
 module _ (s u : List Operation) (h : StandsFor s u) where
+  -- sets that are alike pick the same
   pub picks_same : (seg : Segment) → pick s seg ≡ pick u seg
   picks_same = picks_alike s u h.skeletons (λ seg. shows_same s u seg h)
 
+  -- sets that are alike answer every question in the same way
   pub answers_same : AnswersSame s u
   answers_same = answers_alike s u h.skeletons (λ seg. shows_same s u seg h)
 

@@ -29,6 +29,7 @@ pub number_bare : (ops : List Operation) → greatest_number ops ≡ greatest_nu
 number_bare [] = refl
 number_bare (o ∷ ops) = ap (max o.id.number) (number_bare ops)
 
+-- a set rises where its skeleton does
 pub rises_bare : (ops : List Operation) → rises ops ≡ rises (skeleton ops)
 rises_bare [] = refl
 rises_bare (o ∷ ops) = λ i. all_bare (λ p. id_below o.id p.id) ops i && rises_bare ops i
@@ -43,16 +44,19 @@ told_bare P f [] = refl
 told_bare P f (o ∷ ops) = by (P (bare o)) (told_bare P f ops)
   where
     by : (b : Bool) → map (λ o. f (bare o)) (filter (λ o. P (bare o)) ops) ≡ map f (filter P (skeleton ops))
-        → map (λ o. f (bare o)) (cond b (o ∷ filter (λ o. P (bare o)) ops) (filter (λ o. P (bare o)) ops)) ≡ map f (cond b (bare o ∷ filter P (skeleton ops)) (filter P (skeleton ops)))
+        → map (λ o. f (bare o)) (cond b (o ∷ filter (λ o. P (bare o)) ops) (filter (λ o. P (bare o)) ops))
+        ≡ map f (cond b (bare o ∷ filter P (skeleton ops)) (filter P (skeleton ops)))
     by true rest = ap (λ xs. f (bare o) ∷ xs) rest
     by false rest = rest
 
 -- ---- two sets with equal skeletons
 
 module _ (s u : List Operation) (e : skeleton s ≡ skeleton u) where
+  -- of two sets with one skeleton, a test that no text decides holds in both or in neither
   pub any_same : (P : Operation → Bool) → list_any (λ o. P (bare o)) s ≡ list_any (λ o. P (bare o)) u
   any_same P = any_bare P s ∙ ap (list_any P) e ∙ sym (any_bare P u)
 
+  -- sets with one skeleton have the same ids
   pub ids_same : ids_of s ≡ ids_of u
   ids_same = ids_bare s ∙ ap ids_of e ∙ sym (ids_bare u)
 
@@ -65,12 +69,14 @@ module _ (s u : List Operation) (e : skeleton s ≡ skeleton u) where
   pub replaced_same : (seg : Segment) (id : Id) → is_replaced s seg id ≡ is_replaced u seg id
   replaced_same seg id = any_same (λ p. in_segment seg p && names p id)
 
+  -- sets with one skeleton replace the same operations
   pub past_same : (o : Operation) → is_past s o ≡ is_past u o
   past_same o = replaced_same o.segment o.id
 
   pub is_shown_same : (seg : Segment) (o : Operation) → is_shown s seg o ≡ is_shown u seg o
   is_shown_same seg o = ap (λ b. in_segment seg o && not b) (replaced_same seg o.id)
 
+  -- sets with one skeleton hold the same ids
   pub held_same : (id : Id) → is_held s id ≡ is_held u id
   held_same id = any_same (λ o. same_id id o.id)
 

@@ -10,7 +10,7 @@ use Rattle.std.proofs.lemmas.Bool.{and_from, cond-false}
 use Rattle.std.proofs.lemmas.List.{length-take-le}
 use Rattle.usfm_ref.specs.Rising.{rises_by}
 use Rattle.usfm_ref.proofs.Sorted as sorted
-use Rattle.op_core.specs.Index.{begins_above}
+use Rattle.op_core.specs.Loops.Index.{begins_above}
 
 is_greater : (r : Ordering) → is_gt r ≡ true → r ≡ Greater
 is_greater Less h = cc

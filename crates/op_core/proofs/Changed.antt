@@ -11,9 +11,9 @@ use Rattle.op_core.specs.Ops.{Operation, in_segment, names}
 use Rattle.op_core.specs.Sets.{rises, get, join, IsOpSet}
 use Rattle.op_core.specs.Shown.{is_replaced}
 use Rattle.op_core.specs.Lists.{shown_ids}
-use Rattle.op_core.specs.Index.{is_in, among, register_of, shown_in, missing_in, change_at, AreApart, IsIndex}
-use Rattle.op_core.specs.Turns.{AreTurnsOf}
-use Rattle.op_core.specs.Changes.{change_for, IsChangeAt, AreChanges, TakesIn, Taken, Settles}
+use Rattle.op_core.specs.Loops.Index.{is_in, among, register_of, shown_in, missing_in, change_at, AreApart, IsIndex}
+use Rattle.op_core.specs.Loops.Turns.{AreTurnsOf}
+use Rattle.op_core.specs.Loops.Changes.{change_for, IsChangeAt, AreChanges, TakesIn, Taken, Settles}
 use Rattle.op_core.specs.declared.register.Register.{Register}
 use Rattle.op_core.specs.declared.chapter.Chapter.{Chapter}
 use Rattle.op_core.specs.declared.index.change.Change.{Change}
@@ -27,7 +27,8 @@ use Rattle.op_core.proofs.Kept.{any_shown, any_join, shown_ids_rise}
 -- ---- tables
 
 -- what a segment shows: h, held; r, held and named there; n, new; m, new and named
-shown_table : (h r n m : Bool) → (n ≡ true → h ≡ false) → (((h && not r) && not (m && (h && not r))) || ((n && not m) && not (r && not h))) ≡ ((h || n) && not (r || m))
+shown_table : (h r n m : Bool) → (n ≡ true → h ≡ false) → (((h && not r) && not (m && (h && not r))) || ((n && not m) && not (r && not h)))
+    ≡ ((h || n) && not (r || m))
 shown_table true r true m e = absurd (true≢false (e refl))
 shown_table true true false m e = refl
 shown_table true false false true e = refl
@@ -38,7 +39,9 @@ shown_table false false true true e = refl
 shown_table false false true false e = refl
 shown_table false r false m e = refl
 
-missing_table : (h r n m : Bool) → (((r && not h) && not (n && (r && not h))) || ((((m && not n) && not (h && not r)) && not (r && not h)) && not h)) ≡ ((r || m) && not (h || n))
+missing_table : (h r n m : Bool) →
+    (((r && not h) && not (n && (r && not h))) || ((((m && not n) && not (h && not r)) && not (r && not h)) && not h))
+    ≡ ((r || m) && not (h || n))
 missing_table true true true true = refl
 missing_table true true true false = refl
 missing_table true true false true = refl
@@ -62,16 +65,19 @@ or_false false = refl
 -- ---- new operations, and those of one segment
 
 -- where none is of the segment, none of the segment passes
-none_in : (g : Segment) (f : Operation → Bool) (ops : List Operation) → list_any (in_segment g) ops ≡ false → list_any (λ o. in_segment g o && f o) ops ≡ false
+none_in : (g : Segment) (f : Operation → Bool) (ops : List Operation) → list_any (in_segment g) ops ≡ false
+    → list_any (λ o. in_segment g o && f o) ops ≡ false
 none_in g f [] h = refl
 none_in g f (o ∷ ops) h = by (none_in g f ops) (in_segment g o) refl h
   where
-    by : (list_any (in_segment g) ops ≡ false → list_any (λ o. in_segment g o && f o) ops ≡ false) → (b : Bool) → in_segment g o ≡ b → (b || list_any (in_segment g) ops) ≡ false → ((in_segment g o && f o) || list_any (λ o. in_segment g o && f o) ops) ≡ false
+    by : (list_any (in_segment g) ops ≡ false → list_any (λ o. in_segment g o && f o) ops ≡ false) → (b : Bool) → in_segment g o ≡ b
+        → (b || list_any (in_segment g) ops) ≡ false → ((in_segment g o && f o) || list_any (λ o. in_segment g o && f o) ops) ≡ false
     by rest true e h = absurd (true≢false h)
     by rest false e h = (λ i. (e i && f o) || rest h i)
 
 -- what is new at a segment is not held there
-new_unheld : (held new : List Operation) (g : Segment) (q : Id) → rises held ≡ true → rises new ≡ true → AreApart held new → is_in new g q ≡ true → is_in held g q ≡ false
+new_unheld : (held new : List Operation) (g : Segment) (q : Id) → rises held ≡ true → rises new ≡ true → AreApart held new
+    → is_in new g q ≡ true → is_in held g q ≡ false
 new_unheld held new g q hh hn apart e = by (get new q) refl
   where
     by : (r : Option Operation) → get new q ≡ r → is_in held g q ≡ false
@@ -79,14 +85,16 @@ new_unheld held new g q hh hn apart e = by (get new q) refl
     by (Some z) k = in-get held g q hh ∙ ap (is_of g) (apart_at held new q z apart k)
 
 -- the change that is found for a segment is one of them
-found_has : (P : Change → Type 0) (g : Segment) (cs : List Change) (c : Change) → AllByRecursion P cs → change_for g cs ≡ Some c → P c × (g ≡ change_at c)
+found_has : (P : Change → Type 0) (g : Segment) (cs : List Change) (c : Change) → AllByRecursion P cs → change_for g cs ≡ Some c
+    → P c × (g ≡ change_at c)
 found_has P g [] c h e = cc e
 found_has P g (x ∷ cs) c h e = by (found_has P g cs c h.1) (is_eq (segment_cmp g (change_at x))) refl e
   where
     same : (a b : Change) → Some a ≡ Some b → a ≡ b
     same a b k = cc k
 
-    by : (change_for g cs ≡ Some c → P c × (g ≡ change_at c)) → (b : Bool) → is_eq (segment_cmp g (change_at x)) ≡ b → cond b (Some x) (change_for g cs) ≡ Some c → P c × (g ≡ change_at c)
+    by : (change_for g cs ≡ Some c → P c × (g ≡ change_at c)) → (b : Bool) → is_eq (segment_cmp g (change_at x)) ≡ b
+        → cond b (Some x) (change_for g cs) ≡ Some c → P c × (g ≡ change_at c)
     by rest true t k =
         let s : x ≡ c = same x c k in
         (subst P s h.0, segment_exact g (change_at x) ((Equal-is _).0 t) ∙ ap change_at s)
@@ -99,7 +107,9 @@ record KeptAt (held new : List Operation) (g : Segment) (r : Option Register) : 
   pub missing_rises : ids_rise (missing_in r) ≡ true
   pub missing : (q : Id) → among (missing_in r) q ≡ ((is_replaced held g q || is_replaced new g q) && not (is_in held g q || is_in new g q))
 
-module _ (held new : List Operation) (turns : List Turn) (changes : List Change) (before after : List Chapter) (sh : IsOpSet held) (sn : IsOpSet new) (apart : AreApart held new) (index : IsIndex held before) (t : AreTurnsOf new turns) (are : AreChanges held new turns before changes) (s : Settles changes before after) where
+module _ (held new : List Operation) (turns : List Turn) (changes : List Change) (before after : List Chapter) (sh : IsOpSet held)
+    (sn : IsOpSet new) (apart : AreApart held new) (index : IsIndex held before) (t : AreTurnsOf new turns)
+    (are : AreChanges held new turns before changes) (s : Settles changes before after) where
   was_shown : (g : Segment) (q : Id) → among (shown_in (register_of g before)) q ≡ (is_in held g q && not (is_replaced held g q))
   was_shown g q = ap (list_any (same_id q)) (index.keeps.shown g) ∙ any_shown held g q
 
@@ -122,7 +132,9 @@ module _ (held new : List Operation) (turns : List Turn) (changes : List Change)
             ∙ (λ i. (is_replaced held g q || sym (no_named q) i) && not (is_in held g q || sym (no_new q) i));
       }
 
-  at_change : (c : Change) → IsChangeAt held new turns before c → Taken c (register_of (change_at c) before) (register_of (change_at c) after) → KeptAt held new (change_at c) (register_of (change_at c) after)
+  at_change : (c : Change) → IsChangeAt held new turns before c
+      → Taken c (register_of (change_at c) before) (register_of (change_at c) after)
+      → KeptAt held new (change_at c) (register_of (change_at c) after)
   at_change c k n =
       let new_is = λ (q : Id). t.same (λ p. same_segment p (change_at c)) (λ o. same_id q o.id) in
       let named_is = λ (q : Id). t.same (λ p. same_segment p (change_at c)) (λ o. names o q) in
@@ -131,19 +143,23 @@ module _ (held new : List Operation) (turns : List Turn) (changes : List Change)
       record {
         shown_rises = ap (λ (r : Option Register). ids_rise (shown_in r)) n.is ∙ n.takes.shown_rises;
         shown = λ q. ap (λ (r : Option Register). among (shown_in r) q) n.is ∙ n.takes.shown q
-            ∙ (λ i. (sb q i && not ((k.leaving q ∙ (λ j. named_is q j && was_shown (change_at c) q j)) i)) || (k.arrived q ∙ (λ j. (new_is q j && not (named_is q j)) && not (index.keeps.missing (change_at c) q j))) i)
-            ∙ shown_table (is_in held (change_at c) q) (is_replaced held (change_at c) q) (is_in new (change_at c) q) (is_replaced new (change_at c) q) (new_unheld held new (change_at c) q sh.rising sn.rising apart);
+            ∙ (λ i. (sb q i && not ((k.leaving q ∙ (λ j. named_is q j && was_shown (change_at c) q j)) i))
+            || (k.arrived q ∙ (λ j. (new_is q j && not (named_is q j)) && not (index.keeps.missing (change_at c) q j))) i)
+            ∙ shown_table (is_in held (change_at c) q) (is_replaced held (change_at c) q) (is_in new (change_at c) q)
+            (is_replaced new (change_at c) q) (new_unheld held new (change_at c) q sh.rising sn.rising apart);
         missing_rises = ap (λ (r : Option Register). ids_rise (missing_in r)) n.is ∙ n.takes.missing_rises;
         missing = λ q. ap (λ (r : Option Register). among (missing_in r) q) n.is ∙ n.takes.missing q
             ∙ (λ i. (mb q i && not ((k.found q ∙ (λ j. new_is q j && index.keeps.missing (change_at c) q j)) i))
             || (k.lacking q ∙ (λ j. (((named_is q j && not (new_is q j)) && not (was_shown (change_at c) q j)) && not (index.keeps.missing (change_at c) q j)) && not (is_in held (change_at c) q))) i)
-            ∙ missing_table (is_in held (change_at c) q) (is_replaced held (change_at c) q) (is_in new (change_at c) q) (is_replaced new (change_at c) q);
+            ∙ missing_table (is_in held (change_at c) q) (is_replaced held (change_at c) q) (is_in new (change_at c) q)
+            (is_replaced new (change_at c) q);
       }
 
   kept_at : (g : Segment) → KeptAt held new g (register_of g after)
   kept_at g = by (change_for g changes) refl (s.is_now g)
     where
-      by : (o : Option Change) → change_for g changes ≡ o → TakesIn o (register_of g before) (register_of g after) → KeptAt held new g (register_of g after)
+      by : (o : Option Change) → change_for g changes ≡ o → TakesIn o (register_of g before) (register_of g after)
+          → KeptAt held new g (register_of g after)
       by None e k = none g e k
       by (Some c) e k =
           let f = found_has (IsChangeAt held new turns before) g changes c are.are e in
@@ -160,7 +176,8 @@ module _ (held new : List Operation) (turns : List Turn) (changes : List Change)
   index_enrolled = record {
     orderly = s.orderly;
     keeps = record {
-      shown = λ g. same_members (shown_in (register_of g after)) (shown_ids (join held new) g) (kept_at g).shown_rises (shown_ids_rise (join held new) g (rises-join held new sh.rising)) (λ q.
+      shown = λ g. same_members (shown_in (register_of g after)) (shown_ids (join held new) g) (kept_at g).shown_rises
+          (shown_ids_rise (join held new) g (rises-join held new sh.rising)) (λ q.
           (kept_at g).shown q ∙ (λ i. sym (in_union g q) i && not (sym (named_in_union g q) i)) ∙ sym (any_shown (join held new) g q));
       rising = λ g. (kept_at g).missing_rises;
       missing = λ g q. (kept_at g).missing q ∙ (λ i. sym (named_in_union g q) i && not (sym (in_union g q) i));

@@ -18,13 +18,16 @@ use Rattle.op_core.proofs.Agreement.{agree-is, agree-from, agree_turned}
 abbrev Differs : List Operation → Operation → Bool
 Differs held o = differs (get held o.id) o
 
-pub get_cases : {R : Type 0} (q : Id) (o : Operation) (ops : List Operation) (z : Operation) → get (o ∷ ops) q ≡ Some z → (q ≡ o.id → o ≡ z → R) → (get ops q ≡ Some z → R) → R
+-- what is held under an id is the first operation, or is held by the others
+pub get_cases : {R : Type 0} (q : Id) (o : Operation) (ops : List Operation) (z : Operation) → get (o ∷ ops) q ≡ Some z
+    → (q ≡ o.id → o ≡ z → R) → (get ops q ≡ Some z → R) → R
 get_cases {R} q o ops z g yes' no' = by (same_id q o.id) refl g
   where
     by : (b : Bool) → same_id q o.id ≡ b → cond b (Some o) (get ops q) ≡ Some z → R
     by true e g = yes' (id_from_same q o.id e) (cc g)
     by false e g = no' g
 
+-- what is held under an id has that id
 pub get_id : (ops : List Operation) (q : Id) (z : Operation) → get ops q ≡ Some z → z.id ≡ q
 get_id [] q z g = cc g
 get_id (o ∷ ops) q z g = get_cases q o ops z g (λ e f. ap (λ (p : Operation). p.id) (sym f) ∙ sym e) (λ g. get_id ops q z g)
@@ -40,7 +43,8 @@ record FirstIs (P : Operation → Bool) (ops : List Operation) (o : Operation) :
   passes : P o ≡ true
   before : (q : Id) (z : Operation) → get ops q ≡ Some z → id_below q o.id ≡ true → P z ≡ false
 
-none_passes : (P : Operation → Bool) (ops : List Operation) → find P ops ≡ None → (q : Id) (z : Operation) → get ops q ≡ Some z → P z ≡ false
+none_passes : (P : Operation → Bool) (ops : List Operation) → find P ops ≡ None → (q : Id) (z : Operation) → get ops q ≡ Some z
+    → P z ≡ false
 none_passes P [] n q z g = cc g
 none_passes P (o ∷ ops) n q z g = by (λ n g. none_passes P ops n q z g) (P o) refl n
   where
@@ -59,12 +63,15 @@ first_is P (x ∷ ops) o h f = by (λ f. first_is P ops o (rises_parts x ops h).
     here e f = subst (FirstIs P (x ∷ ops)) f (record {
       held = cond-true (same_id x.id x.id) (Some x) (get ops x.id) (same_id-refl x.id);
       passes = e;
-      before = λ q z g l. cc (sym (cond-false (same_id q x.id) (Some x) (get ops q) (apart_below q x.id l) ∙ get_above q ops (above_trans q x.id ops l above)) ∙ g);
+      before = λ q z g l. cc
+          (sym (cond-false (same_id q x.id) (Some x) (get ops q) (apart_below q x.id l) ∙ get_above q ops (above_trans q x.id ops l above))
+          ∙ g);
     })
 
     after : P x ≡ false → FirstIs P ops o → FirstIs P (x ∷ ops) o
     after e r = record {
-      held = cond-false (same_id o.id x.id) (Some x) (get ops o.id) (apart_above o.id x.id (above_of_get x.id ops o.id o above r.held)) ∙ r.held;
+      held = cond-false (same_id o.id x.id) (Some x) (get ops o.id) (apart_above o.id x.id (above_of_get x.id ops o.id o above r.held))
+          ∙ r.held;
       passes = r.passes;
       before = λ q z g l. get_cases q x ops z g (λ _ f. ap P (sym f) ∙ e) (λ g. r.before q z g l);
     }
@@ -93,7 +100,8 @@ met xs ys o g d = by (get xs o.id) refl d
         back false s = refl
 
 -- the first of ys that differs from xs has the id of the first of xs that differs from ys
-same_first : (xs ys : List Operation) (o : Operation) → rises xs ≡ true → FirstIs (Differs xs) ys o → (r : Option Operation) → find (Differs ys) xs ≡ r → option_map (λ (p : Operation). p.id) r ≡ Some o.id
+same_first : (xs ys : List Operation) (o : Operation) → rises xs ≡ true → FirstIs (Differs xs) ys o → (r : Option Operation)
+    → find (Differs ys) xs ≡ r → option_map (λ (p : Operation). p.id) r ≡ Some o.id
 same_first xs ys o hx f None e =
     let m = met xs ys o f.held f.passes in
     absurd (true≢false (sym m.differs' ∙ none_passes (Differs ys) xs e o.id m.other m.held))
@@ -103,14 +111,18 @@ same_first xs ys o hx f (Some x) e = by (id_cmp o.id x.id) refl
     g = first_is (Differs ys) xs x hx e
 
     by : (c : Ordering) → id_cmp o.id x.id ≡ c → Some x.id ≡ Some o.id
-    by Less c = let m = met xs ys o f.held f.passes in absurd (true≢false (sym m.differs' ∙ g.before o.id m.other m.held (less_below o x c)))
+    by Less c =
+        let m = met xs ys o f.held f.passes in absurd (true≢false (sym m.differs' ∙ g.before o.id m.other m.held (less_below o x c)))
     by Equal c = ap Some (sym (id_exact o.id x.id c))
-    by Greater c = let m = met ys xs x g.held g.passes in absurd (true≢false (sym m.differs' ∙ f.before x.id m.other m.held (greater_below o x c)))
+    by Greater c =
+        let m = met ys xs x g.held g.passes in absurd (true≢false (sym m.differs' ∙ f.before x.id m.other m.held (greater_below o x c)))
 
+-- two sets clash at one id, whichever comes first
 pub clash_comm : (xs ys : List Operation) → rises xs ≡ true → rises ys ≡ true → clash xs ys ≡ clash ys xs
 clash_comm xs ys hx hy = by (find (Differs xs) ys) refl (find (Differs ys) xs) refl
   where
-    by : (r : Option Operation) → find (Differs xs) ys ≡ r → (s : Option Operation) → find (Differs ys) xs ≡ s → option_map (λ (p : Operation). p.id) r ≡ option_map (λ (p : Operation). p.id) s
+    by : (r : Option Operation) → find (Differs xs) ys ≡ r → (s : Option Operation) → find (Differs ys) xs ≡ s
+        → option_map (λ (p : Operation). p.id) r ≡ option_map (λ (p : Operation). p.id) s
     by (Some o) e s f = sym (same_first xs ys o hx (first_is (Differs xs) ys o hy e) s f)
     by None e None f = refl
     by None e (Some x) f = same_first ys xs x hy (first_is (Differs ys) xs x hx f) None e

@@ -11,17 +11,19 @@ use Rattle.usfm_ref.proofs.Orders.{segment_total}
 use Rattle.op_core.specs.Ids.{Id, id_below, same_id}
 use Rattle.op_core.specs.Ops.{Operation, in_segment}
 use Rattle.op_core.specs.Sets.{rises, get}
-use Rattle.op_core.specs.Index.{AreApart}
+use Rattle.op_core.specs.Loops.Index.{AreApart}
 use Rattle.op_core.proofs.Union.{rises_parts, apart_above}
 use Rattle.op_core.proofs.Clashes.{get_cases}
 use Rattle.op_core.proofs.Kept.{in_segment-is}
 
 -- ---- a list at one of its items
 
+-- a list, parted at one of its items
 pub at_item : {X : Type 0} (xs : List X) (i : ℕ) (x : X) → i < length xs → x ≡ get_or xs i x → xs ≡ take i xs ++ x ∷ drop (i + 1) xs
 at_item {X} xs i x l hx =
     sym (take-append-drop i xs) ∙ ap (λ (ys : List X). take i xs ++ ys) (drop-cons xs i x l ∙ (λ j. sym hx j ∷ drop (sym (add-one i) j) xs))
 
+-- one more item of a front
 pub more_items : {X : Type 0} (xs : List X) (i : ℕ) (x : X) → i < length xs → x ≡ get_or xs i x → take (i + 1) xs ≡ take i xs ++ x ∷ []
 more_items {X} xs i x l hx = ap (λ (n : ℕ). take n xs) (add-one i) ∙ take-suc xs i x l ∙ ap (λ (y : X). take i xs ++ y ∷ []) (sym hx)
 
@@ -30,7 +32,8 @@ each_at P [] i x l hx h = absurd (omega arith)
 each_at P (y ∷ xs) zero x l hx h = subst P (sym hx) h.0
 each_at P (y ∷ xs) (suc i) x l hx h = each_at P xs i x (omega arith) hx h.1
 
-pub all_more : {X : Type 0} (P : X → Type 0) (xs : List X) (i : ℕ) (x : X) → i < length xs → x ≡ get_or xs i x → AllByRecursion P (take i xs) → P x → AllByRecursion P (take (i + 1) xs)
+pub all_more : {X : Type 0} (P : X → Type 0) (xs : List X) (i : ℕ) (x : X) → i < length xs → x ≡ get_or xs i x
+    → AllByRecursion P (take i xs) → P x → AllByRecursion P (take (i + 1) xs)
 all_more {X} P xs i x l hx h p = subst (AllByRecursion P) (sym (more_items xs i x l hx)) (push (take i xs) h)
   where
     push : (ys : List X) → AllByRecursion P ys → AllByRecursion P (ys ++ x ∷ [])

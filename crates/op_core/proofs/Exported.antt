@@ -89,6 +89,7 @@ pub record IsOf (g : Segment) (o : Operation) : Type 0 where
   pub is_operation : IsOperation o
   pub segment : o.segment ≡ g
 
+-- the last operation that a segment shows is of that segment
 pub shown_last : (held : List Operation) (g : Segment) (o : Operation) → IsOpSet held → last (shown held g) ≡ Some o → IsOf g o
 shown_last held g o set h =
     let p = last_of (λ p. IsOperation p × (is_shown held g p ≡ true)) (shown held g) o
@@ -111,10 +112,12 @@ picked_text-greatest : (o : Option Operation) → picked_text (greatest o) ≡ t
 picked_text-greatest None = refl
 picked_text-greatest (Some o) = refl
 
+-- a head that wants the line of its chapter is picked as that line
 pub picked_line : (held : List Operation) (g : Segment) → wants_chapter_line held g ≡ true
     → picked_text (pick held g) ≡ chapter_line g.key.chapter
 picked_line held g h = ap picked_text (cond-true _ _ _ h)
 
+-- a segment that wants no line is picked as its own text
 pub picked_own : (held : List Operation) (g : Segment) → wants_chapter_line held g ≡ false → picked_text (pick held g) ≡ text_of held g
 picked_own held g h = ap picked_text (cond-false _ _ _ h) ∙ picked_text-greatest (last (shown held g))
 
@@ -128,6 +131,7 @@ place_is_head : (p : Place) → is_head p ≡ true → p ≡ Head
 place_is_head Head h = refl
 place_is_head (Verse n l) h = absurd (cc)
 
+-- what it means that a head wants the line of its chapter
 pub wants_line : (held : List Operation) (g : Segment) → wants_chapter_line held g ≡ true → WantsLine held g
 wants_line held g h =
     let a = and_parts (is_head g.key.place && nat_le 1 g.key.chapter && is_empty (text_of held g))
@@ -224,6 +228,7 @@ any-with_item p k (x ∷ ks) = by (any-with_item p k ks) (key_cmp k x) refl
     by later Equal e = sym (or_twice (p x) (list_any p ks)) ∙ ap (λ (y : KeyParts). p y || (p x || list_any p ks)) (sym (key_exact k x e))
     by later Greater e = ap (λ b. p x || b) later ∙ or_swap (p x) (p k) (list_any p ks)
 
+-- putting keys in order keeps whether one of them passes a test
 pub any-rising : (p : KeyParts → Bool) (ks : List KeyParts) → list_any p (rising key_cmp ks) ≡ list_any p ks
 any-rising p [] = refl
 any-rising p (k ∷ ks) = any-with_item p k (rising key_cmp ks) ∙ ap (λ b. p k || b) (any-rising p ks)
@@ -280,6 +285,7 @@ text_held held g h = by (last (shown held g)) refl h
     by None e h = absurd (cc)
     by (Some o) e h = last_held held g o e
 
+-- the texts of an export are what is picked at its keys
 pub picks_are_exported : PicksAreExported
 picks_are_exported held book key h = by (wants_chapter_line held (segment book key)) refl
   where

@@ -28,6 +28,7 @@ stands_met x y w h g = record {
   same = λ full. (stands_meet x w y w h g).same full ∙ ap (with_text w) (text_itself w.text);
 }
 
+-- an id is among those of a set where something is held under it
 pub among_held : (ops : List Operation) (q : Id) → is_among (ids_of ops) q ≡ is_some (get ops q)
 among_held [] q = refl
 among_held (o ∷ ops) q = by (same_id q o.id) (same_id q o.id) refl (among_held ops q)
@@ -49,6 +50,7 @@ module _ (family : Id → Operation) where
   pub family_agrees : (s t : List Operation) → IsOf family s → IsOf family t → AgreeAtAll s t
   family_agrees s t h g q x y gx gy = stands_agree x y (family q) (family q) (h.each q x gx) (g.each q y gy) (agree_itself (family q))
 
+  -- sets of one family do not clash, and their union is of the family
   pub family_joins : (s t : List Operation) → IsOf family s → IsOf family t → (clash s t ≡ None) × IsOf family (join s t)
   family_joins s t h g =
       let same = family_agrees s t h g in (
@@ -68,6 +70,7 @@ module _ (family : Id → Operation) where
           let is : meet x y ≡ o = cc f in
           subst (λ (z : Operation). StandsIn z (family q)) is (stands_met x y (family q) (h.each q x d) (g.each q y e))
 
+  -- a set of a family is still of it when it is thinned
   pub family_thins : (s : List Operation) → IsOf family s → IsOf family (thin s)
   family_thins s h = record {
     rising = rises_same (thin s) s (skeleton_thin s) ∙ h.rising;
@@ -142,6 +145,7 @@ module _ (family : Id → Operation) where
       by q None d (Some y) e f = absurd (false≢true (sym (ap is_some d) ∙ f ∙ ap is_some e))
       by q (Some x) d None e f = absurd (true≢false (sym (ap is_some d) ∙ f ∙ ap is_some e))
 
+  -- joinings of one family that bring the same ids make sets that are alike
   pub unions_alike : (one other : Joining) → AreOf family one → AreOf family other → ((id : Id) → one_holds one id ≡ one_holds other id)
       → Alike (union_by one) (union_by other)
   unions_alike one other h g same = alike (made one h) (made other g)

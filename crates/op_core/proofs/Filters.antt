@@ -16,6 +16,7 @@ above-filter id p (x ∷ ops) h =
     let rest = above-filter id p ops q.1 in
     elim (p x) as (λ b. AllAbove id (cond b (x ∷ filter p ops) (filter p ops))) [ true ↦ and_from _ _ q.0 rest | false ↦ rest ]
 
+-- some operations of a set rise
 pub rises-filter : (p : Operation → Bool) (ops : List Operation) → rises ops ≡ true → rises (filter p ops) ≡ true
 rises-filter p [] h = refl
 rises-filter p (x ∷ ops) h =

@@ -11,7 +11,7 @@ use Rattle.op_core.specs.Ids.{Id, id_cmp, same_id}
 use Rattle.op_core.specs.Equal.{id_from_same}
 use Rattle.op_core.specs.Ops.{Operation, is_full, with_text}
 use Rattle.op_core.specs.Sets.{rises, get, meet, met, put, join, differs, is_like, clash, AreHeld}
-use Rattle.op_core.specs.Index.{AreApart}
+use Rattle.op_core.specs.Loops.Index.{AreApart}
 use Rattle.op_core.specs.Thinned.{all_full}
 use Rattle.op_core.proofs.Rising.{id_total}
 use Rattle.op_core.proofs.Union.{rises_parts, get_above, rises-join, get-join, same_gets}
@@ -25,14 +25,17 @@ use Rattle.op_core.proofs.Gets.{all_at}
 abbrev pub fresh : List Operation → List Operation → List Operation
 fresh held new = filter (λ o. is_none (get held o.id)) new
 
+-- what is new of a set rises
 pub fresh_rises : (held new : List Operation) → rises new ≡ true → rises (fresh held new) ≡ true
 fresh_rises held new h = rises_filter id_cmp id_total (λ (o : Operation). o.id) (λ (o : Operation). is_none (get held o.id)) new h
 
+-- what is new has no id of what is held
 pub fresh_apart : (held new : List Operation) → AreApart held (fresh held new)
 fresh_apart held [] = tt
 fresh_apart held (o ∷ new) = by (get held o.id) refl (fresh_apart held new)
   where
-    by : (r : Option Operation) → get held o.id ≡ r → AreApart held (fresh held new) → AreApart held (cond (is_none r) (o ∷ fresh held new) (fresh held new))
+    by : (r : Option Operation) → get held o.id ≡ r → AreApart held (fresh held new)
+        → AreApart held (cond (is_none r) (o ∷ fresh held new) (fresh held new))
     by None e rest = (e, rest)
     by (Some x) e rest = rest
 
@@ -40,7 +43,8 @@ pub get_fresh : (held new : List Operation) (q : Id) → get held q ≡ None →
 get_fresh held [] q n = refl
 get_fresh held (o ∷ new) q n = by (get_fresh held new q n) (same_id q o.id) refl (get held o.id) refl
   where
-    by : get (fresh held new) q ≡ get new q → (b : Bool) → same_id q o.id ≡ b → (r : Option Operation) → get held o.id ≡ r → get (cond (is_none r) (o ∷ fresh held new) (fresh held new)) q ≡ cond b (Some o) (get new q)
+    by : get (fresh held new) q ≡ get new q → (b : Bool) → same_id q o.id ≡ b → (r : Option Operation) → get held o.id ≡ r
+        → get (cond (is_none r) (o ∷ fresh held new) (fresh held new)) q ≡ cond b (Some o) (get new q)
     by rest b e None f = λ i. cond (e i) (Some o) (rest i)
     by rest true e (Some x) f = cc (sym f ∙ ap (get held) (sym (id_from_same q o.id e)) ∙ n)
     by rest false e (Some x) f = rest
@@ -87,6 +91,7 @@ none_more p ops i o l e q h =
 abbrev pub some_new : List Operation → List Operation → Bool
 some_new held ops = list_any (λ o. is_none (get held o.id)) ops
 
+-- of operations that are all held none is new
 pub none_new : (held ops : List Operation) → AreHeld held ops → list_any (λ o. is_none (get held o.id)) ops ≡ false
 none_new held [] h = refl
 none_new held (o ∷ ops) h = by (get held o.id) h.0 (none_new held ops h.1)
@@ -106,6 +111,7 @@ nothing_fresh held (o ∷ ops) h = by (is_none (get held o.id)) h (nothing_fresh
     by true e rest = cc e
     by false e rest = rest e
 
+-- operations that are all held clash with nothing
 pub held_without_clash : (held ops : List Operation) → AreHeld held ops → clash held ops ≡ None
 held_without_clash held [] h = refl
 held_without_clash held (o ∷ ops) h = ap (option_map (λ (q : Operation). q.id)) (find_none held (o ∷ ops) h)
@@ -125,13 +131,15 @@ held_without_clash held (o ∷ ops) h = ap (option_map (λ (q : Operation). q.id
 length_put : (o : Operation) (ops : List Operation) → get ops o.id ≡ None → length (put o ops) ≡ suc (length ops)
 length_put o [] g = refl
 length_put o (p ∷ ops) g =
-    elim (id_cmp o.id p.id) as (λ r. id_cmp o.id p.id ≡ r → length (by_order r (o ∷ p ∷ ops) (meet p o ∷ ops) (p ∷ put o ops)) ≡ suc (suc (length ops))) [
+    elim (id_cmp o.id p.id)
+    as (λ r. id_cmp o.id p.id ≡ r → length (by_order r (o ∷ p ∷ ops) (meet p o ∷ ops) (p ∷ put o ops)) ≡ suc (suc (length ops))) [
       | Less ↦ λ e. refl
       | Equal ↦ λ e. absurd (tied_held o p ops e g)
       | Greater ↦ λ e. ap suc (length_put o ops (rest_none o p ops e g))
     ] refl
 
-pub length_join : (held new : List Operation) → rises held ≡ true → rises new ≡ true → AreApart held new → length (join held new) ≡ length held + length new
+pub length_join : (held new : List Operation) → rises held ≡ true → rises new ≡ true → AreApart held new
+    → length (join held new) ≡ length held + length new
 length_join held [] hh hn a = omega arith
 length_join held (o ∷ new) hh hn a =
     let p = rises_parts o new hn in

@@ -35,6 +35,7 @@ join_beyond x xs (y ∷ ys) h =
     ap (put y) (join_beyond x xs ys p.1)
     ∙ ap (λ (r : Ordering). by_order r (y ∷ x ∷ join xs ys) (meet x y ∷ join xs ys) (x ∷ put y (join xs ys))) above
 
+-- joining to nothing gives the set
 pub join_none : (ys : List Operation) → rises ys ≡ true → join [] ys ≡ ys
 join_none [] h = refl
 join_none (y ∷ ys) h =
@@ -43,17 +44,20 @@ join_none (y ∷ ys) h =
 
 -- what the pair at the two fronts says of the union
 module _ (x y : Operation) (xs ys : List Operation) (hx : rises (x ∷ xs) ≡ true) (hy : rises (y ∷ ys) ≡ true) where
+  -- the first operation of a union is that of the first set, where its id is lower
   pub join_less : id_cmp x.id y.id ≡ Less → join (x ∷ xs) (y ∷ ys) ≡ x ∷ join xs (y ∷ ys)
   join_less e =
       let below = less_below x y e in
       join_beyond x xs (y ∷ ys) (and_from _ _ below (above_trans x.id y.id ys below (rises_parts y ys hy).0))
 
+  -- it is that of the second set, where that one's id is lower
   pub join_greater : id_cmp x.id y.id ≡ Greater → join (x ∷ xs) (y ∷ ys) ≡ y ∷ join (x ∷ xs) ys
   join_greater e =
       let below = greater_below x y e in
       let above = and_from _ _ below (above_trans y.id x.id xs below (rises_parts x xs hx).0) in
       put_first y (join (x ∷ xs) ys) (above-join y.id (x ∷ xs) ys above (rises_parts y ys hy).0)
 
+  -- it is what the two meet in, where they have one id
   pub join_tied : id_cmp x.id y.id ≡ Equal → join (x ∷ xs) (y ∷ ys) ≡ meet x y ∷ join xs ys
   join_tied e =
       let same = equal_ids x y e in

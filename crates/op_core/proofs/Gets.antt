@@ -31,6 +31,7 @@ get_behind o ops q z h g =
 
 -- ---- tests of all, and of any
 
+-- what holds of all operations holds of the one of an id
 pub all_at : (P : Operation → Bool) (ops : List Operation) (q : Id) (o : Operation) → list_all P ops ≡ true → get ops q ≡ Some o
     → P o ≡ true
 all_at P [] q o h g = cc g
@@ -42,15 +43,18 @@ pub all_by : (P : Operation → Bool) (ops : List Operation) → AllByRecursion 
 all_by P [] h = refl
 all_by P (x ∷ ops) h = and_from (P x) (list_all P ops) h.0 (all_by P ops h.1)
 
+-- what holds of whatever is held under an id holds of all operations
 pub all_from : (P : Operation → Bool) (ops : List Operation) → rises ops ≡ true → ((o : Operation) → get ops o.id ≡ Some o → P o ≡ true)
     → list_all P ops ≡ true
 all_from P ops h each = all_by P ops (all_held (λ o. P o ≡ true) ops h each)
 
+-- an operation that passes a test, with the id under which it is held
 pub record AnyHeld (P : Operation → Bool) (ops : List Operation) : Type 0 where
   pub one : Operation
   pub held : get ops one.id ≡ Some one
   pub passes : P one ≡ true
 
+-- where one of a set passes a test, it is held under its id
 pub any_held : (P : Operation → Bool) (ops : List Operation) → rises ops ≡ true → list_any P ops ≡ true → AnyHeld P ops
 any_held P [] h a = absurd (false≢true a)
 any_held P (x ∷ ops) h a = by (λ b. any_held P ops (rises_parts x ops h).1 b) (P x) refl a
@@ -59,6 +63,7 @@ any_held P (x ∷ ops) h a = by (λ b. any_held P ops (rises_parts x ops h).1 b)
     by later true e a = record { one = x; held = get_first x ops; passes = e }
     by later false e a = let r = later a in record { one = r.one; held = get_behind x ops r.one.id r.one h r.held; passes = r.passes }
 
+-- what is held under an id and passes a test is one of the set that does
 pub any_from : (P : Operation → Bool) (ops : List Operation) (q : Id) (o : Operation) → get ops q ≡ Some o → P o ≡ true
     → list_any P ops ≡ true
 any_from P [] q o g h = cc g

@@ -97,6 +97,7 @@ stand_ins_join s u t v r w hs ht hr uv vw uw =
 
 -- ---- sets with equal skeletons
 
+-- under an id a skeleton holds what the set holds there, without its text
 pub get_bare : (ops : List Operation) (q : Id) → get (skeleton ops) q ≡ option_map bare (get ops q)
 get_bare [] q = refl
 get_bare (o ∷ ops) q = ap (cond (same_id q o.id) (Some (bare o))) (get_bare ops q) ∙ by (same_id q o.id) (get ops q)
@@ -143,6 +144,7 @@ pub agree_subsets : (p q : Operation → Bool) (a b : List Operation) → rises 
     → AgreeAtAll (filter p a) (filter q b)
 agree_subsets p q a b ha hb h id x y gx gy = h id x y (filter_within p a ha id x gx) (filter_within q b hb id y gy)
 
+-- legal sets with one skeleton that do not clash show the same
 pub skeleton_shows : (s t : List Operation) (seg : Segment) → rises s ≡ true → rises t ≡ true → is_legal s ≡ true → is_legal t ≡ true
     → clash s t ≡ None → skeleton s ≡ skeleton t → shown s seg ≡ shown t seg
 skeleton_shows s t seg hs ht ls lt n e =
@@ -189,6 +191,7 @@ covering_joins xs ys p hx hy fx fy covers =
 unknown : (knows : Id → Bool) (ops : List Operation) (q : Id) → KnowsNoMore knows ops → is_some (get ops q) ≡ false → knows q ≡ false
 unknown knows ops q k n = false_from_ne_true (knows q) (λ e. false≢true (sym n ∙ k q e))
 
+-- what another copy lacks gives it the union, but for texts left out
 pub delta_joins : (s t : List Operation) (knows : Id → Bool) → rises s ≡ true → rises t ≡ true → clash s t ≡ None → KnowsNoMore knows s
     → (clash s (delta t knows) ≡ None) × (skeleton (join s (delta t knows)) ≡ skeleton (join s t))
 delta_joins s t knows hs ht n k =
@@ -241,6 +244,7 @@ deltas_add s u t v knows h g n k =
         let at : get u o.id ≡ None = ap (get u) (get_id v q o held) ∙ none in
         ap (λ b. not b || lacks_thinned t knows o.segment) (unknown knows s o.id k (lacks o.id (get s o.id) refl at))
 
+-- legal sets with one skeleton that do not clash have one export of each book
 pub skeleton_exports : (s t : List Operation) (book : List ℕ) → rises s ≡ true → rises t ≡ true → is_legal s ≡ true → is_legal t ≡ true
     → clash s t ≡ None → skeleton s ≡ skeleton t → export s book ≡ export t book
 skeleton_exports s t book hs ht ls lt n e = exports_alike s t e (λ g. skeleton_shows s t g hs ht ls lt n e) book

@@ -11,7 +11,7 @@ use Rattle.std.proofs.lemmas.List.Kept.{IsStrictlySortedBy-dedup}
 use Rattle.usfm_ref.specs.Rising.{placed}
 use Rattle.usfm_ref.proofs.Sorted.{rises_filter}
 use Rattle.op_core.specs.Ids.{Id, id_cmp, same_id, ids_rise}
-use Rattle.op_core.specs.Index.{without, among}
+use Rattle.op_core.specs.Loops.Index.{without, among}
 use Rattle.op_core.proofs.Rising.{id_total, same_id-cmp}
 use Rattle.op_core.proofs.IdLists.{any_without, any_placed}
 use Rattle.op_core.proofs.Awaited.{any_dedup, strict_rises, any_filtered, any_append}
@@ -22,7 +22,8 @@ pub ids_rank : IsStrictWeakOrder (λ (x y : Id). is_lt (id_cmp x y))
 ids_rank = ranks_by id_total (λ (i : Id). i)
 
 pub sorted_rises : (sorted ys : List Id) → IsSorted id_cmp sorted → ys ≡ dedup same_id sorted → ids_rise ys ≡ true
-sorted_rises sorted ys s e = ap ids_rise e ∙ strict_rises (dedup same_id sorted) (IsStrictlySortedBy-dedup id_total (λ x y. same_id-cmp x y) sorted s)
+sorted_rises sorted ys s e =
+    ap ids_rise e ∙ strict_rises (dedup same_id sorted) (IsStrictlySortedBy-dedup id_total (λ x y. same_id-cmp x y) sorted s)
 
 pub sorted_members : (xs sorted ys : List Id) → IsPermutation xs sorted → ys ≡ dedup same_id sorted → (q : Id) → among ys q ≡ among xs q
 sorted_members xs sorted ys p e q = ap (list_any (same_id q)) e ∙ any_dedup q sorted ∙ sym (list_any-IsPermutation (same_id q) xs sorted p)
@@ -44,19 +45,24 @@ and_true true = refl
 and_true false = refl
 
 pub no_longer : (q n : Id) (xs ys : List Id) → ys ≡ without n xs → among ys q ≡ (among xs q && not (among (n ∷ []) q))
-no_longer q n xs ys e = ap (list_any (same_id q)) e ∙ any_without q n xs ∙ ap (λ b. list_any (same_id q) xs && not b) (sym (or_false (same_id q n)))
+no_longer q n xs ys e =
+    ap (list_any (same_id q)) e ∙ any_without q n xs ∙ ap (λ b. list_any (same_id q) xs && not b) (sym (or_false (same_id q n)))
 
 -- one more of those that pass, or that do not
-pub filter_one : (p : Id → Bool) (xs : List Id) (i : ℕ) (x : Id) (b : Bool) → i < length xs → x ≡ get_or xs i x → p x ≡ b → (ys : List Id) → ys ≡ filter p (take i xs) → ys ++ cond b (x ∷ []) [] ≡ filter p (take (i + 1) xs)
+pub filter_one : (p : Id → Bool) (xs : List Id) (i : ℕ) (x : Id) (b : Bool) → i < length xs → x ≡ get_or xs i x → p x ≡ b → (ys : List Id)
+    → ys ≡ filter p (take i xs) → ys ++ cond b (x ∷ []) [] ≡ filter p (take (i + 1) xs)
 filter_one p xs i x b l hx e ys h =
     sym (filter_more p xs i x l ∙ (λ j. sym h j ++ cond (p (sym hx j)) (sym hx j ∷ []) []) ∙ ap (λ t. ys ++ cond t (x ∷ []) []) e)
 
 -- ---- one put in after the other
 
-pub put_one : (q : Id) (a : Bool) (more xs ys : List Id) (i : ℕ) (n : Id) → i < length more → n ≡ get_or more i n → ys ≡ placed id_cmp (λ (k : Id). k) n xs → among xs q ≡ (a || among (take i more) q) → among ys q ≡ (a || among (take (i + 1) more) q)
+pub put_one : (q : Id) (a : Bool) (more xs ys : List Id) (i : ℕ) (n : Id) → i < length more → n ≡ get_or more i n
+    → ys ≡ placed id_cmp (λ (k : Id). k) n xs → among xs q ≡ (a || among (take i more) q) → among ys q ≡ (a || among (take (i + 1) more) q)
 put_one q a more xs ys i n l hn e h =
-    ap (list_any (same_id q)) e ∙ any_placed q n xs ∙ ap (λ b. same_id q n || b) h ∙ turn (same_id q n) a (list_any (same_id q) (take i more))
-    ∙ ap (λ b. a || b) (sym (list_any_more (same_id q) more i n l ∙ ap (λ (m : Id). list_any (same_id q) (take i more) || same_id q m) (sym hn)))
+    ap (list_any (same_id q)) e ∙ any_placed q n xs ∙ ap (λ b. same_id q n || b) h
+    ∙ turn (same_id q n) a (list_any (same_id q) (take i more))
+    ∙ ap (λ b. a || b) (sym (list_any_more (same_id q) more i n l
+    ∙ ap (λ (m : Id). list_any (same_id q) (take i more) || same_id q m) (sym hn)))
   where
     turn : (s a b : Bool) → (s || (a || b)) ≡ (a || (b || s))
     turn true true b = refl
@@ -81,12 +87,13 @@ if_ok (Err e) f h = tt
 
 -- ---- what changes at a segment, by its sets
 
-pub arrived_table : (a n m : Bool) → ((a && not (a && n)) && not (a && m)) ≡ ((a && not n) && not m)
+pub arrived_table : (a n m : Bool) → ((a && not n) && not (a && m)) ≡ ((a && not n) && not m)
 arrived_table true true m = refl
 arrived_table true false m = refl
 arrived_table false n m = refl
 
-pub lacking_table : (a n s m h : Bool) → ((((n && not (a && n)) && not (n && s)) && not m) && not h) ≡ ((((n && not a) && not s) && not m) && not h)
+pub lacking_table : (a n s m h : Bool) → ((((n && not a) && not (n && s)) && not m) && not h)
+    ≡ ((((n && not a) && not s) && not m) && not h)
 lacking_table true true s m h = refl
 lacking_table false true s m h = refl
 lacking_table a false s m h = refl

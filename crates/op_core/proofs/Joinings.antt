@@ -178,6 +178,7 @@ one_is_held (Joined l r) a o s h i =
         later (get (made l r a h).left o.id) held.one (λ p e. k p held.one e held.held) held.stands
         (at ∙ ap (met (get (made l r a h).left o.id)) held.held)
 
+-- joinings of the same operations make one union
 pub same_unions : (one other : Joining) (a b : List Operation) → AreSets one → AreSets other → SameOperations one other
     → union_by one ≡ Ok a → union_by other ≡ Ok b → a ≡ b
 same_unions one other a b s t same ha hb =
@@ -244,6 +245,7 @@ joined_if_agree (Joined l r) s one =
         (inr (held_from_one r y id c.other s.1 ey c.other_held)) same in
         absurd (true≢false (sym agrees ∙ c.differ))
 
+-- joinings of the same operations are refused alike
 pub refused_alike : RefusedAlike
 refused_alike one other s t same k = by (union_by one) refl (union_by other) refl
   where

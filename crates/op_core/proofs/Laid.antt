@@ -6,8 +6,8 @@ use Rattle.usfm_ref.specs.Keys.{KeyParts, key_cmp, head_of}
 use Rattle.usfm_ref.specs.Segments.{Segment, segment_cmp}
 use Rattle.usfm_ref.proofs.Orders.{key_total, segment_total}
 use Rattle.usfm_ref.proofs.Sorted.{place}
-use Rattle.op_core.specs.Index.{place_of, chapter_of, registers_in}
-use Rattle.op_core.specs.Index.{begins_above, IsOrderly, LaysKeys, Lays}
+use Rattle.op_core.specs.Loops.Index.{place_of, chapter_of, registers_in}
+use Rattle.op_core.specs.Loops.Index.{begins_above, IsOrderly, LaysKeys, Lays}
 use Rattle.op_core.specs.declared.register.Register.{Register}
 use Rattle.op_core.specs.declared.chapter.Chapter.{Chapter}
 use Rattle.op_core.proofs.Registers.{rise, insert_changes, lays_at}

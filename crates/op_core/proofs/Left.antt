@@ -14,7 +14,7 @@ use Rattle.op_core.specs.Sets.{rises, get, join, IsOpSet}
 use Rattle.op_core.specs.Shown.{is_shown}
 use Rattle.op_core.specs.Lists.{shown_ids}
 use Rattle.op_core.specs.NextIds.{is_among}
-use Rattle.op_core.specs.Index.{is_missing, IsIndex, AreApart}
+use Rattle.op_core.specs.Loops.Index.{is_missing, IsIndex, AreApart}
 use Rattle.op_core.specs.Thinned.{is_past, is_legal, bare_where, thin_where, is_thinned_in, ArePast, thinned_in, thin, skeleton, all_full}
 use Rattle.op_core.specs.declared.chapter.Chapter.{Chapter}
 use Rattle.op_core.proofs.Held.{same_turned}
@@ -23,6 +23,7 @@ use Rattle.op_core.proofs.TwoSteps.{skeleton_where, rises_where, get_where, past
 use Rattle.op_core.proofs.Clashes.{get_id}
 use Rattle.op_core.proofs.Legal.{skeleton_thin, join_legal, full_legal}
 
+-- sameness of ids, read from the other side
 pub same_id-sym : (a b : Id) → same_id a b ≡ same_id b a
 same_id-sym a b = both_ways (same_id a b) (same_id b a) (same_turned a b) (same_turned b a)
 
@@ -73,9 +74,11 @@ module _ (p : Id → Bool) where
           by false = refl
       one false = refl
 
+-- tests that answer alike leave out the same texts
 pub where_agree : (p r : Id → Bool) (ops : List Operation) → ((q : Id) → p q ≡ r q) → thin_where p ops ≡ thin_where r ops
 where_agree p r ops h = λ i. map (bare_where (λ q. h q i)) ops
 
+-- a test that never holds leaves out nothing
 pub where_never : (ops : List Operation) → thin_where (λ q. false) ops ≡ ops
 where_never [] = refl
 where_never (o ∷ ops) = ap (λ xs. o ∷ xs) (where_never ops)
@@ -123,7 +126,8 @@ among_at (y ∷ ids) (suc k) x l e = by (same_id x y) (among_at ids k x (omega a
 pub past_on : (p t : Id → Bool) (s now : List Operation) (x : Id) → now ≡ thin_where p s → ArePast t s → t x ≡ true
     → ArePast (same_id x) now
 past_on p t s now x e past a o g named =
-    by (get s x) refl (sym (get_where p s x) ∙ ap (λ (xs : List Operation). get xs x) (sym e) ∙ ap (get now) (id_from_same x o.id named) ∙ g)
+    by (get s x) refl (sym (get_where p s x) ∙ ap (λ (xs : List Operation). get xs x) (sym e) ∙ ap (get now) (id_from_same x o.id named)
+    ∙ g)
   where
     some : (y z : Operation) → Some y ≡ Some z → y ≡ z
     some y z e = cc
@@ -142,6 +146,7 @@ past_on p t s now x e past a o g named =
 
 -- ---- the ids of thinned operations, gathered
 
+-- whether something is lacking, asked of its text
 pub none_thinned : {X : Type 0} (f : X → List ℕ) (r : Option X) (t : Option (List ℕ)) (b : Bool) → option_map f r ≡ t → is_some r ≡ not b
     → not (is_some t) ≡ b
 none_thinned {X} f r t b e g = ap (λ (t : Option (List ℕ)). not (is_some t)) (sym e) ∙ one r b g
@@ -199,13 +204,15 @@ pub leaves_more : (ops : List Operation) (i : ℕ) (o : Operation) → i < lengt
     → thin_where (same_id o.id) now ≡ thin_where (is_thinned_in (take (i + 1) ops)) s
 leaves_more ops i o l e t s now h =
     ap (thin_where (same_id o.id)) h ∙ where_then (is_thinned_in (take i ops)) (same_id o.id) s
-    ∙ where_agree _ _ s (λ q. ap (λ b. is_thinned_in (take i ops) q || b) (same_id-sym o.id q ∙ both_pass (same_id q o.id) (is_thinned o) t) ∙ sym (thinned_more ops i o l e q))
+    ∙ where_agree _ _ s (λ q. ap (λ b. is_thinned_in (take i ops) q || b) (same_id-sym o.id q ∙ both_pass (same_id q o.id) (is_thinned o) t)
+    ∙ sym (thinned_more ops i o l e q))
 
 pub leaves_same : (ops : List Operation) (i : ℕ) (o : Operation) → i < length ops → o ≡ get_or ops i o → is_thinned o ≡ false
     → (s now : List Operation) → now ≡ thin_where (is_thinned_in (take i ops)) s → now ≡ thin_where (is_thinned_in (take (i + 1) ops)) s
 leaves_same ops i o l e full s now h =
     h
-    ∙ where_agree _ _ s (λ q. sym (one_fails (is_thinned_in (take i ops) q) (same_id q o.id) (is_thinned o) full) ∙ sym (thinned_more ops i o l e q))
+    ∙ where_agree _ _ s (λ q. sym (one_fails (is_thinned_in (take i ops) q) (same_id q o.id) (is_thinned o) full)
+    ∙ sym (thinned_more ops i o l e q))
 
 -- ---- all that are past
 
@@ -216,6 +223,7 @@ length_thinned s (o ∷ ops) = ap suc (length_thinned s ops)
 pub length_thin : (s : List Operation) → length (thin s) ≡ length s
 length_thin s = length_thinned s s
 
+-- a set is one still when it is thinned
 pub IsOpSet-thin : (s : List Operation) → IsOpSet s → IsOpSet (thin s)
 IsOpSet-thin s h = record { rising = rises_same (thin s) s (skeleton_thin s) ∙ h.rising; each = over s h.each }
   where
@@ -232,6 +240,7 @@ index_thin s = index_same s (thin s) (sym (skeleton_thin s))
 
 -- ---- new full operations
 
+-- new full operations make a legal set with what is held
 pub join_full_legal : (held new : List Operation) → rises held ≡ true → rises new ≡ true → is_legal held ≡ true → all_full new ≡ true
     → AreApart held new → is_legal (join held new) ≡ true
 join_full_legal held new hh hn l f a =

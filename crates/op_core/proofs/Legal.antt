@@ -62,6 +62,7 @@ pub still_left : (seg : Segment) (id : Id) (a b : List Operation) → is_replace
 still_left seg id a [] h = h
 still_left seg id a (o ∷ b) h = still_put seg id o (join a b) (still_left seg id a b h)
 
+-- the union of two legal sets that agree is legal
 pub join_legal : (a b : List Operation) → rises a ≡ true → rises b ≡ true → is_legal a ≡ true → is_legal b ≡ true → AgreeAtAll a b
     → is_legal (join a b) ≡ true
 join_legal a b ha hb la lb same =
@@ -116,6 +117,7 @@ full_legal s (o ∷ ops) h =
 
 -- ---- thinning
 
+-- thinning changes nothing of an operation but its text
 pub bare_thinned : (s : List Operation) (o : Operation) → bare (thinned_in s o) ≡ bare o
 bare_thinned s o = elim (is_past s o) as (λ b. bare (cond b (bare o) o) ≡ bare o) [ true ↦ refl | false ↦ refl ]
 
@@ -123,6 +125,7 @@ skeleton_map : (s ops : List Operation) → skeleton (map (thinned_in s) ops) �
 skeleton_map s [] = refl
 skeleton_map s (o ∷ ops) = λ i. bare_thinned s o i ∷ skeleton_map s ops i
 
+-- thinning keeps the skeleton
 pub skeleton_thin : (s : List Operation) → skeleton (thin s) ≡ skeleton s
 skeleton_thin s = skeleton_map s s
 
@@ -130,6 +133,7 @@ skeleton_thin s = skeleton_map s s
 past_thin : (s : List Operation) (o : Operation) → is_past (thin s) (thinned_in s o) ≡ is_past s o
 past_thin s o = past_same (thin s) s (skeleton_thin s) (thinned_in s o) ∙ ap (is_past s) (bare_thinned s o)
 
+-- a legal set is still legal when it is thinned
 pub thin_legal : (s : List Operation) → is_legal s ≡ true → is_legal (thin s) ≡ true
 thin_legal s h = each s h
   where
@@ -144,6 +148,7 @@ thin_legal s h = each s h
         let q = and_parts (is_full o || is_past s o) (list_all (λ o. is_full o || is_past s o) ops) h in
         and_from _ _ (ap (λ b. is_full (thinned_in s o) || b) (past_thin s o) ∙ one o (is_past s o) refl q.0) (each ops q.1)
 
+-- thinning twice is thinning once
 pub thin_again : (s : List Operation) → thin (thin s) ≡ thin s
 thin_again s = each s
   where
@@ -159,6 +164,7 @@ thin_again s = each s
 
 -- ---- what is shown is full
 
+-- what a legal set shows has its text
 pub shown_full : (s : List Operation) (seg : Segment) → is_legal s ≡ true → all_full (shown s seg) ≡ true
 shown_full s seg h = all_of_filter (λ o. is_full o || is_past s o) (is_shown s seg) is_full one s h
   where
@@ -188,6 +194,7 @@ pick_full s seg o h e = by (wants_chapter_line s seg) e
 
 -- ---- deltas
 
+-- what another copy lacks of a legal set is legal
 pub delta_legal : (s : List Operation) (knows : Id → Bool) → rises s ≡ true → is_legal s ≡ true → is_legal (delta s knows) ≡ true
 delta_legal s knows h l = legal_from (delta s knows) (rises-filter (is_sent s knows) s h) one
   where

@@ -14,7 +14,7 @@ use Rattle.usfm_ref.proofs.Sorted as sorted
 use Rattle.op_core.specs.Ids.{Id, id_cmp, id_below, same_id}
 use Rattle.op_core.specs.Ops.{Operation}
 use Rattle.op_core.specs.Sets.{rises, get, meet, put, join}
-use Rattle.op_core.specs.Index.{AreApart, IsBefore}
+use Rattle.op_core.specs.Loops.Index.{AreApart, IsBefore}
 use Rattle.op_core.proofs.Rising.{id_total, same_id-cmp, below_trans}
 use Rattle.op_core.proofs.Union.{AllAbove, rises_parts, above_trans, join_push, same_gets, rises-join, get-join}
 use Rattle.op_core.proofs.Enrolled.{AllBelow, split_rises, front_rises, get-append}

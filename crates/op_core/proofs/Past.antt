@@ -5,7 +5,7 @@ use Rattle.std.specs.List.{list_any}
 use Rattle.op_core.specs.Ids.{Id, same_id}
 use Rattle.op_core.specs.Ops.{Operation, bare}
 use Rattle.op_core.specs.Sets.{rises, get}
-use Rattle.op_core.specs.Index.{register_of, shown_in, IsIndex}
+use Rattle.op_core.specs.Loops.Index.{register_of, shown_in, IsIndex}
 use Rattle.op_core.specs.Thinned.{is_past, is_left_out, thinned_in}
 use Rattle.op_core.specs.declared.chapter.Chapter.{Chapter}
 use Rattle.op_core.proofs.Union.{held_itself}
@@ -86,7 +86,8 @@ count_push p [] o = by (p o)
 count_push p (x ∷ xs) o = by (p x) (count_push p xs o)
   where
     by : (b : Bool) → length (filter p (xs ++ o ∷ [])) ≡ length (filter p xs) + cond (p o) 1 0
-        → length (cond b (x ∷ filter p (xs ++ o ∷ [])) (filter p (xs ++ o ∷ []))) ≡ length (cond b (x ∷ filter p xs) (filter p xs)) + cond (p o) 1 0
+        → length (cond b (x ∷ filter p (xs ++ o ∷ [])) (filter p (xs ++ o ∷ [])))
+        ≡ length (cond b (x ∷ filter p xs) (filter p xs)) + cond (p o) 1 0
     by true h = omega (arith, h)
     by false h = h
 
@@ -104,6 +105,7 @@ counts_same s i o n l e p h =
     ∙ count_push (is_left_out s) (take i s) o ∙ ap (λ b. length (filter (is_left_out s) (take i s)) + cond b 1 0) p in
     omega (arith, a, h)
 
+-- no more operations pass a test than there are
 pub counts_within : (p : Operation → Bool) (xs : List Operation) → length (filter p xs) ≤ length xs
 counts_within p [] = omega arith
 counts_within p (x ∷ xs) = by (p x) (counts_within p xs)

@@ -9,14 +9,15 @@ use Rattle.std.proofs.lemmas.List.Folds.{find-append}
 use Rattle.usfm_ref.specs.Segments.{Segment, segment_cmp}
 use Rattle.usfm_ref.proofs.Orders.{segment_total, segment_exact}
 use Rattle.usfm_ref.proofs.Sorted.{parts, each_found}
-use Rattle.op_core.specs.Index.{register_of, change_at, IsOrderly, IsAt, Takes}
-use Rattle.op_core.specs.Changes.{change_for, TakesIn, Taken, Settles}
+use Rattle.op_core.specs.Loops.Index.{register_of, change_at, IsOrderly, IsAt, Takes}
+use Rattle.op_core.specs.Loops.Changes.{change_for, TakesIn, Taken, Settles}
 use Rattle.op_core.specs.declared.register.Register.{Register}
 use Rattle.op_core.specs.declared.chapter.Chapter.{Chapter}
 use Rattle.op_core.specs.declared.index.change.Change.{Change}
 use Rattle.op_core.proofs.Turned.{AreBelow, changes_rise, none_for}
 
-pub front : {X : Type 0} (P : X → Type 0) (xs : List X) (x : X) (all : List X) → all ≡ xs ++ x ∷ [] → AllByRecursion P all → AllByRecursion P xs × P x
+pub front : {X : Type 0} (P : X → Type 0) (xs : List X) (x : X) (all : List X) → all ≡ xs ++ x ∷ [] → AllByRecursion P all
+    → AllByRecursion P xs × P x
 front {X} P xs x all e h = parted xs (subst (AllByRecursion P) e h)
   where
     parted : (xs : List X) → AllByRecursion P (xs ++ x ∷ []) → AllByRecursion P xs × P x
@@ -32,7 +33,8 @@ pub pending_first : (c : Option Change) (r : Option Register) → Pending c c r 
 pending_first None r = refl
 pending_first (Some c) r = refl
 
-pub rise_front : (cs : List Change) (c : Change) (all : List Change) → all ≡ cs ++ c ∷ [] → changes_rise all ≡ true → (changes_rise cs ≡ true) × AreBelow cs (change_at c)
+pub rise_front : (cs : List Change) (c : Change) (all : List Change) → all ≡ cs ++ c ∷ [] → changes_rise all ≡ true
+    → (changes_rise cs ≡ true) × AreBelow cs (change_at c)
 rise_front cs c all e h = parted cs (sym (ap changes_rise e) ∙ h)
   where
     both : (p : Change → Bool) (xs : List Change) → list_all p (xs ++ c ∷ []) ≡ true → (list_all p xs ≡ true) × (p c ≡ true)
@@ -62,7 +64,9 @@ module _ (cs : List Change) (c : Change) (rest : List Change) (is : rest ≡ cs 
     gone = none_for (change_at c) cs (rise_front cs c rest is rising).1
 
     pub last_for : change_for (change_at c) rest ≡ Some c
-    last_for = for_rest (change_at c) ∙ ap (λ (r : Option Change). option_or r (cond (is_eq (segment_cmp (change_at c) (change_at c))) (Some c) None)) gone ∙ cond-true _ (Some c) None (ap is_eq (tied_itself segment_total (change_at c)))
+    last_for = for_rest (change_at c) ∙
+        ap (λ (r : Option Change). option_or r (cond (is_eq (segment_cmp (change_at c) (change_at c))) (Some c) None)) gone
+        ∙ cond-true _ (Some c) None (ap is_eq (tied_itself segment_total (change_at c)))
 
     -- the segment's register is still as it was
     pub as_it_was : (all : Option Change) (r0 r1 : Option Register) → Pending (change_for (change_at c) rest) all r0 r1 → r1 ≡ r0
@@ -72,7 +76,10 @@ module _ (cs : List Change) (c : Change) (rest : List Change) (is : rest ≡ cs 
         by None e p = cc e
         by (Some d) e p = p
 
-    pub pending_more : (all : List Change) (before now after : List Chapter) → change_for (change_at c) all ≡ Some c → IsAt (Takes c) (change_at c) now after → ((g : Segment) → Pending (change_for g rest) (change_for g all) (register_of g before) (register_of g now)) → (g : Segment) → Pending (change_for g cs) (change_for g all) (register_of g before) (register_of g after)
+    pub pending_more : (all : List Change) (before now after : List Chapter) → change_for (change_at c) all ≡ Some c
+        → IsAt (Takes c) (change_at c) now after →
+        ((g : Segment) → Pending (change_for g rest) (change_for g all) (register_of g before) (register_of g now)) → (g : Segment)
+        → Pending (change_for g cs) (change_for g all) (register_of g before) (register_of g after)
     pending_more all before now after found a h g = by (is_eq (segment_cmp g (change_at c))) refl
       where
         other : (o : Option Change) → option_or o None ≡ o
@@ -80,24 +87,36 @@ module _ (cs : List Change) (c : Change) (rest : List Change) (is : rest ≡ cs 
         other (Some d) = refl
 
         here : g ≡ change_at c → Pending (change_for g cs) (change_for g all) (register_of g before) (register_of g after)
-        here e = subst (λ (k : Segment). Pending (change_for k cs) (change_for k all) (register_of k before) (register_of k after)) (sym e) (
-            let same = as_it_was (change_for (change_at c) all) (register_of (change_at c) before) (register_of (change_at c) now) (h (change_at c)) in
-            let is_new : register_of (change_at c) after ≡ Some a.new = a.changes.is_now (change_at c) ∙ cond-true _ _ _ (ap is_eq (tied_itself segment_total (change_at c))) in
-            let taken : Taken c (register_of (change_at c) before) (register_of (change_at c) after) = record { old = a.old; new = a.new; was = sym same ∙ a.was; is = is_new; takes = a.holds } in
-            subst (λ (o : Option Change). Pending o (change_for (change_at c) all) (register_of (change_at c) before) (register_of (change_at c) after)) (sym gone)
-            (subst (λ (o : Option Change). TakesIn o (register_of (change_at c) before) (register_of (change_at c) after)) (sym found) taken))
+        here e =
+            subst (λ (k : Segment). Pending (change_for k cs) (change_for k all) (register_of k before) (register_of k after)) (sym e) (
+            let same = as_it_was (change_for (change_at c) all) (register_of (change_at c) before) (register_of (change_at c) now)
+            (h (change_at c)) in
+            let is_new : register_of (change_at c) after ≡ Some a.new =
+            a.changes.is_now (change_at c) ∙ cond-true _ _ _ (ap is_eq (tied_itself segment_total (change_at c))) in
+            let taken : Taken c (register_of (change_at c) before) (register_of (change_at c) after) =
+            record { old = a.old; new = a.new; was = sym same ∙ a.was; is = is_new; takes = a.holds } in
+            subst (λ (o : Option Change). Pending o (change_for (change_at c) all) (register_of (change_at c) before)
+            (register_of (change_at c) after)) (sym gone)
+            (subst (λ (o : Option Change). TakesIn o (register_of (change_at c) before) (register_of (change_at c) after))
+            (sym found) taken))
 
-        by : (b : Bool) → is_eq (segment_cmp g (change_at c)) ≡ b → Pending (change_for g cs) (change_for g all) (register_of g before) (register_of g after)
+        by : (b : Bool) → is_eq (segment_cmp g (change_at c)) ≡ b
+            → Pending (change_for g cs) (change_for g all) (register_of g before) (register_of g after)
         by true t = here (segment_exact g (change_at c) ((Equal-is _).0 t))
         by false t =
-            let stays : register_of g after ≡ register_of g now = a.changes.is_now g ∙ ap (λ b. cond b (Some a.new) (register_of g now)) t in
-            let left : change_for g rest ≡ change_for g cs = for_rest g ∙ ap (λ b. option_or (change_for g cs) (cond b (Some c) None)) t ∙ other (change_for g cs) in
+            let stays : register_of g after ≡ register_of g now =
+            a.changes.is_now g ∙ ap (λ b. cond b (Some a.new) (register_of g now)) t in
+            let left : change_for g rest ≡ change_for g cs =
+            for_rest g ∙ ap (λ b. option_or (change_for g cs) (cond b (Some c) None)) t ∙ other (change_for g cs) in
             subst (λ (r : Option Register). Pending (change_for g cs) (change_for g all) (register_of g before) r) (sym stays)
             (subst (λ (o : Option Change). Pending o (change_for g all) (register_of g before) (register_of g now)) left (h g))
 
 -- none is left
-pub settled : (rest all : List Change) (before after : List Chapter) → rest ≡ [] → IsOrderly after → ((g : Segment) → Pending (change_for g rest) (change_for g all) (register_of g before) (register_of g after)) → Settles all before after
+pub settled : (rest all : List Change) (before after : List Chapter) → rest ≡ [] → IsOrderly after
+    → ((g : Segment) → Pending (change_for g rest) (change_for g all) (register_of g before) (register_of g after))
+    → Settles all before after
 settled rest all before after e o h = record {
   orderly = o;
-  is_now = λ g. subst (λ (cs : List Change). Pending (change_for g cs) (change_for g all) (register_of g before) (register_of g after)) e (h g);
+  is_now =
+      λ g. subst (λ (cs : List Change). Pending (change_for g cs) (change_for g all) (register_of g before) (register_of g after)) e (h g);
 }

@@ -137,6 +137,7 @@ pairs_agree s u t v h g a q x y gx gy =
     let k = stood t v q y g gy in
     stands_agree x y m.for k.for m.stands k.stands (a q m.for k.for m.held k.held)
 
+-- unions stand for unions
 pub join_stands : (s u t v : List Operation) → StandsFor s u → StandsFor t v → clash u v ≡ None
     → (clash s t ≡ None) × StandsFor (join s t) (join u v)
 join_stands s u t v h g n =
@@ -154,6 +155,7 @@ full_stands_in : (u : List Operation) → ArePairs u u
 full_stands_in [] = tt
 full_stands_in (o ∷ u) = (record { bares = refl; same = λ full. refl }, full_stands_in u)
 
+-- a full set stands for itself
 pub full_stands : (u : List Operation) → rises u ≡ true → all_full u ≡ true → StandsFor u u
 full_stands u h f = pairs_stand u u h h (full_legal u u f) f (full_stands_in u)
 
@@ -172,6 +174,7 @@ pairs_thinned all (s ∷ ss) (u ∷ us) h = (one, pairs_thinned all ss us h.1)
 rises_pairs : (s u : List Operation) → skeleton s ≡ skeleton u → rises u ≡ true → rises s ≡ true
 rises_pairs s u e h = rises_same s u e ∙ h
 
+-- what stands for a set does so still when it is thinned
 pub thin_stands : (s u : List Operation) → StandsFor s u → StandsFor (thin s) u
 thin_stands s u h =
     let p = pairs_thinned s s u (pairs_from s u h) in
@@ -199,6 +202,7 @@ filter_stands s u kept h l =
     (all-filter is_full (λ o. kept (bare o)) u h.whole_full)
     (pairs_filter (λ o. kept (bare o)) (λ o. kept (bare o)) (λ x y g. ap kept g.bares) s u (pairs_from s u h))
 
+-- some ids of a set stand for the same ids of what it stands for, where they are legal
 pub subset_stands : (s u : List Operation) (kept : Id → Bool) → StandsFor s u → is_legal (of_ids kept s) ≡ true
     → StandsFor (of_ids kept s) (of_ids kept u)
 subset_stands s u kept h l = filter_stands s u (λ o. kept o.id) h l
@@ -214,6 +218,7 @@ pairs_equal [] (u ∷ us) h f = absurd h
 pairs_equal (s ∷ ss) [] h f = absurd h
 pairs_equal (s ∷ ss) (u ∷ us) h f = let q = and_parts (is_full s) (all_full ss) f in λ i. h.0.same q.0 i ∷ pairs_equal ss us h.1 q.1 i
 
+-- a set shows what the one shows that it stands for
 pub shows_same : (s u : List Operation) (seg : Segment) → StandsFor s u → shown s seg ≡ shown u seg
 shows_same s u seg h = pairs_equal (shown s seg) (shown u seg)
     (pairs_filter (is_shown s seg) (is_shown u seg) (λ x y g. is_shown_same s u h.skeletons seg x ∙ ap (is_shown u seg) g.bares) s u

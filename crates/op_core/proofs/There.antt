@@ -9,7 +9,7 @@ use Rattle.usfm_ref.specs.Segments.{Segment, segment_cmp}
 use Rattle.usfm_ref.proofs.Orders.{segment_total, segment_exact}
 use Rattle.op_core.specs.Ids.{Id, same_id, ids_rise}
 use Rattle.op_core.specs.Ops.{Operation}
-use Rattle.op_core.specs.Index.{register_of, shown_in, missing_in, is_there, IsOrderly, IsIndex, Changes, Same, IsAt, IsSameBut, Readies, HasRoomIn}
+use Rattle.op_core.specs.Loops.Index.{register_of, shown_in, missing_in, is_there, IsOrderly, IsIndex, Changes, Same, IsAt, IsSameBut, Readies, HasRoomIn}
 use Rattle.op_core.specs.Sets.{rises}
 use Rattle.op_core.specs.declared.register.Register.{Register}
 use Rattle.op_core.specs.declared.chapter.Chapter.{Chapter}
@@ -30,7 +30,8 @@ some_none (Some x) e = absurd (true≢false e)
 pub not_there : (g : Segment) (chapters : List Chapter) → is_there g chapters ≡ false → register_of g chapters ≡ None
 not_there g chapters e = some_none (register_of g chapters) e
 
-pub there_now : (g h : Segment) (r : Register) (before after : List Chapter) → Changes g r before after → is_there h before ≡ true → is_there h after ≡ true
+pub there_now : (g h : Segment) (r : Register) (before after : List Chapter) → Changes g r before after → is_there h before ≡ true
+    → is_there h after ≡ true
 there_now g h r before after c t = ap is_some (c.is_now h) ∙ by (is_eq (segment_cmp h g))
   where
     by : (b : Bool) → is_some (cond b (Some r) (register_of h before)) ≡ true
@@ -65,7 +66,8 @@ readies_like before after s = record {
 }
 
 -- a register that keeps no id was put in
-pub readies_put : (g : Segment) (r : Register) (before after : List Chapter) → Changes g r before after → register_of g before ≡ None → r.shown.items ≡ [] → r.missing.items ≡ [] → Readies before after
+pub readies_put : (g : Segment) (r : Register) (before after : List Chapter) → Changes g r before after → register_of g before ≡ None
+    → r.shown.items ≡ [] → r.missing.items ≡ [] → Readies before after
 readies_put g r before after c none sh mi = record {
   orderly = c.orderly;
   shown = λ h. ap shown_in (c.is_now h) ∙ by shown_in sh refl h (is_eq (segment_cmp h g)) refl;
@@ -76,11 +78,13 @@ readies_put g r before after c none sh mi = record {
     at : (h : Segment) → is_eq (segment_cmp h g) ≡ true → register_of h before ≡ None
     at h t = ap (λ (s : Segment). register_of s before) (segment_exact h g ((Equal-is _).0 t)) ∙ none
 
-    by : (f : Option Register → List Id) → f (Some r) ≡ [] → f None ≡ [] → (h : Segment) (b : Bool) → is_eq (segment_cmp h g) ≡ b → f (cond b (Some r) (register_of h before)) ≡ f (register_of h before)
+    by : (f : Option Register → List Id) → f (Some r) ≡ [] → f None ≡ [] → (h : Segment) (b : Bool) → is_eq (segment_cmp h g) ≡ b
+        → f (cond b (Some r) (register_of h before)) ≡ f (register_of h before)
     by f e n h true t = e ∙ sym n ∙ sym (ap f (at h t))
     by f e n h false t = refl
 
-    has : (h : Segment) (x : Change) (b : Bool) → is_eq (segment_cmp h g) ≡ b → HasRoomIn x (register_of h before) → HasRoomIn x (cond b (Some r) (register_of h before))
+    has : (h : Segment) (x : Change) (b : Bool) → is_eq (segment_cmp h g) ≡ b → HasRoomIn x (register_of h before)
+        → HasRoomIn x (cond b (Some r) (register_of h before))
     has h x true t k = absurd (subst (HasRoomIn x) (at h t) k)
     has h x false t k = k
 
@@ -96,11 +100,13 @@ readies_at g before after a = record {
     at : (h : Segment) → is_eq (segment_cmp h g) ≡ true → register_of h before ≡ Some a.old
     at h t = ap (λ (s : Segment). register_of s before) (segment_exact h g ((Equal-is _).0 t)) ∙ a.was
 
-    by : (f : Option Register → List Id) → f (Some a.new) ≡ f (Some a.old) → (h : Segment) (b : Bool) → is_eq (segment_cmp h g) ≡ b → f (cond b (Some a.new) (register_of h before)) ≡ f (register_of h before)
+    by : (f : Option Register → List Id) → f (Some a.new) ≡ f (Some a.old) → (h : Segment) (b : Bool) → is_eq (segment_cmp h g) ≡ b
+        → f (cond b (Some a.new) (register_of h before)) ≡ f (register_of h before)
     by f e h true t = e ∙ sym (ap f (at h t))
     by f e h false t = refl
 
-    has : (h : Segment) (x : Change) (b : Bool) → is_eq (segment_cmp h g) ≡ b → HasRoomIn x (register_of h before) → HasRoomIn x (cond b (Some a.new) (register_of h before))
+    has : (h : Segment) (x : Change) (b : Bool) → is_eq (segment_cmp h g) ≡ b → HasRoomIn x (register_of h before)
+        → HasRoomIn x (cond b (Some a.new) (register_of h before))
     has h x true t k = a.holds.room x (subst (HasRoomIn x) (at h t) k)
     has h x false t k = k
 
@@ -120,8 +126,10 @@ has_there c None h = absurd h
 has_there c (Some x) h = refl
 
 -- what an index that keeps the same shows and misses rises
-pub ready_shown : (ops : List Operation) (before after : List Chapter) → rises ops ≡ true → IsIndex ops before → Readies before after → (g : Segment) → ids_rise (shown_in (register_of g after)) ≡ true
+pub ready_shown : (ops : List Operation) (before after : List Chapter) → rises ops ≡ true → IsIndex ops before → Readies before after
+    → (g : Segment) → ids_rise (shown_in (register_of g after)) ≡ true
 ready_shown ops before after h index r g = ap ids_rise (r.shown g ∙ index.keeps.shown g) ∙ shown_ids_rise ops g h
 
-pub ready_missing : (ops : List Operation) (before after : List Chapter) → IsIndex ops before → Readies before after → (g : Segment) → ids_rise (missing_in (register_of g after)) ≡ true
+pub ready_missing : (ops : List Operation) (before after : List Chapter) → IsIndex ops before → Readies before after → (g : Segment)
+    → ids_rise (missing_in (register_of g after)) ≡ true
 ready_missing ops before after index r g = ap ids_rise (r.missing g) ∙ index.keeps.rising g

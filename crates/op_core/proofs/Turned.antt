@@ -17,9 +17,9 @@ use Rattle.usfm_ref.proofs.Orders.{segment_total, segment_exact, same_segment-cm
 use Rattle.usfm_ref.proofs.Sorted.{tied_back, parts}
 use Rattle.op_core.specs.Ids.{Id, same_id}
 use Rattle.op_core.specs.Ops.{Operation}
-use Rattle.op_core.specs.Index.{is_in, change_at, shown_in, missing_in, register_of, IsChangeOf, Readies}
-use Rattle.op_core.specs.Turns.{turn_at, is_at, never_fall, arrives, is_named, AreTurnsOf}
-use Rattle.op_core.specs.Changes.{change_for, IsChangeAt}
+use Rattle.op_core.specs.Loops.Index.{is_in, change_at, shown_in, missing_in, register_of, IsChangeOf, Readies}
+use Rattle.op_core.specs.Loops.Turns.{turn_at, is_at, never_fall, arrives, is_named, AreTurnsOf}
+use Rattle.op_core.specs.Loops.Changes.{change_for, IsChangeAt}
 use Rattle.op_core.specs.declared.chapter.Chapter.{Chapter}
 use Rattle.op_core.specs.declared.index.change.Change.{Change}
 use Rattle.op_core.specs.declared.index.turns.Turn.{Turn}
@@ -43,19 +43,22 @@ after_apart a g h = same_segment-cmp a g ∙ less_apart g a h
 -- ---- the run at the front
 
 -- all of a run are of its segment
-pub all_of_run : (g : Segment) (f : Turn → Bool) (ts : List Turn) → AllByRecursion (λ (t : Turn). turn_at t ≡ g) ts → list_any (λ t. same_segment (turn_at t) g && f t) ts ≡ list_any f ts
+pub all_of_run : (g : Segment) (f : Turn → Bool) (ts : List Turn) → AllByRecursion (λ (t : Turn). turn_at t ≡ g) ts
+    → list_any (λ t. same_segment (turn_at t) g && f t) ts ≡ list_any f ts
 all_of_run g f [] h = refl
 all_of_run g f (t ∷ ts) h = λ i. (same_itself (turn_at t) g h.0 i && f t) || all_of_run g f ts h.1 i
 
 -- none of what comes after it is
-pub none_after : (g : Segment) (f : Turn → Bool) (ts : List Turn) → list_all (λ t. is_lt (segment_cmp g (turn_at t))) ts ≡ true → list_any (λ t. same_segment (turn_at t) g && f t) ts ≡ false
+pub none_after : (g : Segment) (f : Turn → Bool) (ts : List Turn) → list_all (λ t. is_lt (segment_cmp g (turn_at t))) ts ≡ true
+    → list_any (λ t. same_segment (turn_at t) g && f t) ts ≡ false
 none_after g f [] h = refl
 none_after g f (t ∷ ts) h =
     let p = and_parts (is_lt (segment_cmp g (turn_at t))) (list_all (λ t. is_lt (segment_cmp g (turn_at t))) ts) h in
     λ i. (after_apart (turn_at t) g p.0 i && f t) || none_after g f ts p.1 i
 
 -- and none of a run is of another segment
-pub none_other : (g k : Segment) (f : Turn → Bool) (ts : List Turn) → same_segment k g ≡ false → AllByRecursion (λ (t : Turn). turn_at t ≡ k) ts → list_any (λ t. same_segment (turn_at t) g && f t) ts ≡ false
+pub none_other : (g k : Segment) (f : Turn → Bool) (ts : List Turn) → same_segment k g ≡ false
+    → AllByRecursion (λ (t : Turn). turn_at t ≡ k) ts → list_any (λ t. same_segment (turn_at t) g && f t) ts ≡ false
 none_other g k f [] e h = refl
 none_other g k f (t ∷ ts) e h = λ i. ((ap (λ (s : Segment). same_segment s g) h.0 ∙ e) i && f t) || none_other g k f ts e h.1 i
 
@@ -66,7 +69,8 @@ or_false false = refl
 pub fall_drop : (n : ℕ) (ts : List Turn) → never_fall ts ≡ true → never_fall (drop n ts) ≡ true
 fall_drop zero ts h = h
 fall_drop (suc n) [] h = refl
-fall_drop (suc n) (t ∷ ts) h = fall_drop n ts (and_parts (list_all (λ u. not (is_lt (segment_cmp (turn_at u) (turn_at t)))) ts) (never_fall ts) h).1
+fall_drop (suc n) (t ∷ ts) h =
+    fall_drop n ts (and_parts (list_all (λ u. not (is_lt (segment_cmp (turn_at u) (turn_at t)))) ts) (never_fall ts) h).1
 
 pub all_drop : {X : Type 0} (p : X → Bool) (n : ℕ) (xs : List X) → list_all p xs ≡ true → list_all p (drop n xs) ≡ true
 all_drop p zero xs h = h
@@ -80,12 +84,17 @@ greater Equal h e = cc e
 greater Greater h e = refl
 
 -- from a turn that does not tie on, all come after
-pub later_above : (first : Turn) (ts : List Turn) (n : ℕ) (t : Turn) → never_fall (first ∷ ts) ≡ true → n < length ts → t ≡ get_or ts n t → is_eq (segment_cmp (turn_at t) (turn_at first)) ≡ false → list_all (λ u. is_lt (segment_cmp (turn_at first) (turn_at u))) (drop n ts) ≡ true
+pub later_above : (first : Turn) (ts : List Turn) (n : ℕ) (t : Turn) → never_fall (first ∷ ts) ≡ true → n < length ts → t ≡ get_or ts n t
+    → is_eq (segment_cmp (turn_at t) (turn_at first)) ≡ false
+    → list_all (λ u. is_lt (segment_cmp (turn_at first) (turn_at u))) (drop n ts) ≡ true
 later_above first [] n t h l e f = absurd (omega arith)
 later_above first (x ∷ ts) zero t h l e f =
-    let q = and_parts (not (is_lt (segment_cmp (turn_at x) (turn_at first)))) (list_all (λ u. not (is_lt (segment_cmp (turn_at u) (turn_at first)))) ts) (and_parts _ (never_fall (x ∷ ts)) h).0 in
-    let less : segment_cmp (turn_at first) (turn_at x) ≡ Less = before (turn_at first) (turn_at x) (flip _ q.0) (ap (λ (u : Turn). is_eq (segment_cmp (turn_at u) (turn_at first))) (sym e) ∙ f) in
-    and_from _ _ (ap is_lt less) (over (turn_at first) (turn_at x) less ts (and_parts _ (never_fall ts) (and_parts _ (never_fall (x ∷ ts)) h).1).0)
+    let q = and_parts (not (is_lt (segment_cmp (turn_at x) (turn_at first))))
+    (list_all (λ u. not (is_lt (segment_cmp (turn_at u) (turn_at first)))) ts) (and_parts _ (never_fall (x ∷ ts)) h).0 in
+    let less : segment_cmp (turn_at first) (turn_at x) ≡ Less =
+    before (turn_at first) (turn_at x) (flip _ q.0) (ap (λ (u : Turn). is_eq (segment_cmp (turn_at u) (turn_at first))) (sym e) ∙ f) in
+    and_from _ _ (ap is_lt less)
+    (over (turn_at first) (turn_at x) less ts (and_parts _ (never_fall ts) (and_parts _ (never_fall (x ∷ ts)) h).1).0)
   where
     flip : (b : Bool) → not b ≡ true → b ≡ false
     flip true e = cc e
@@ -103,7 +112,8 @@ later_above first (x ∷ ts) zero t h l e f =
         by Equal k n = ap is_lt (ap (segment_cmp a) (segment_exact c b k) ∙ p)
         by Greater k n = ap is_lt (segment_total.trans a b c p (segment_total.antisymm b c ∙ ap ordering_reverse k))
 
-    over : (a b : Segment) → segment_cmp a b ≡ Less → (us : List Turn) → list_all (λ u. not (is_lt (segment_cmp (turn_at u) b))) us ≡ true → list_all (λ u. is_lt (segment_cmp a (turn_at u))) us ≡ true
+    over : (a b : Segment) → segment_cmp a b ≡ Less → (us : List Turn) → list_all (λ u. not (is_lt (segment_cmp (turn_at u) b))) us ≡ true
+        → list_all (λ u. is_lt (segment_cmp a (turn_at u))) us ≡ true
     over a b p [] k = refl
     over a b p (u ∷ us) k =
         let r = and_parts (not (is_lt (segment_cmp (turn_at u) b))) (list_all (λ u. not (is_lt (segment_cmp (turn_at u) b))) us) k in
@@ -115,17 +125,21 @@ later_above first (x ∷ ts) (suc n) t h l e f =
 
 -- ---- turns that are left, after the run at their front
 
-module _ (rest own later : List Turn) (g : Segment) (whole : rest ≡ own ++ later) (ours : AllByRecursion (λ (t : Turn). turn_at t ≡ g) own) (above : list_all (λ t. is_lt (segment_cmp g (turn_at t))) later ≡ true) where
+module _ (rest own later : List Turn) (g : Segment) (whole : rest ≡ own ++ later) (ours : AllByRecursion (λ (t : Turn). turn_at t ≡ g) own)
+    (above : list_all (λ t. is_lt (segment_cmp g (turn_at t))) later ≡ true) where
   -- at the run's segment
   pub at_run : (f : Turn → Bool) → list_any (λ t. same_segment (turn_at t) g && f t) rest ≡ list_any f own
   at_run f =
-      ap (list_any (λ (t : Turn). same_segment (turn_at t) g && f t)) whole ∙ list_any-append (λ (t : Turn). same_segment (turn_at t) g && f t) own later
+      ap (list_any (λ (t : Turn). same_segment (turn_at t) g && f t)) whole
+      ∙ list_any-append (λ (t : Turn). same_segment (turn_at t) g && f t) own later
       ∙ (λ i. all_of_run g f own ours i || none_after g f later above i) ∙ or_false (list_any f own)
 
   -- at any other
-  pub at_other : (k : Segment) (f : Turn → Bool) → same_segment g k ≡ false → list_any (λ t. same_segment (turn_at t) k && f t) rest ≡ list_any (λ t. same_segment (turn_at t) k && f t) later
+  pub at_other : (k : Segment) (f : Turn → Bool) → same_segment g k ≡ false
+      → list_any (λ t. same_segment (turn_at t) k && f t) rest ≡ list_any (λ t. same_segment (turn_at t) k && f t) later
   at_other k f e =
-      ap (list_any (λ (t : Turn). same_segment (turn_at t) k && f t)) whole ∙ list_any-append (λ (t : Turn). same_segment (turn_at t) k && f t) own later
+      ap (list_any (λ (t : Turn). same_segment (turn_at t) k && f t)) whole
+      ∙ list_any-append (λ (t : Turn). same_segment (turn_at t) k && f t) own later
       ∙ ap (λ b. b || list_any (λ (t : Turn). same_segment (turn_at t) k && f t) later) (none_other k g f own e ours)
 
 -- ---- changes of earlier segments
@@ -137,7 +151,8 @@ pub none_for : (g : Segment) (cs : List Change) → AreBelow cs g → change_for
 none_for g [] h = refl
 none_for g (c ∷ cs) h = cond-false _ _ _ (less_apart (change_at c) g h.0) ∙ none_for g cs h.1
 
-pub each_push : {X : Type 0} (P : X → Type 0) (xs : List X) (x : X) (ys : List X) → ys ≡ xs ++ x ∷ [] → AllByRecursion P xs → P x → AllByRecursion P ys
+pub each_push : {X : Type 0} (P : X → Type 0) (xs : List X) (x : X) (ys : List X) → ys ≡ xs ++ x ∷ [] → AllByRecursion P xs → P x
+    → AllByRecursion P ys
 each_push {X} P xs x ys e h p = subst (AllByRecursion P) (sym e) (push xs h)
   where
     push : (xs : List X) → AllByRecursion P xs → AllByRecursion P (xs ++ x ∷ [])
@@ -151,7 +166,8 @@ each_weaker P Q (x ∷ xs) f h = (f x h.0, each_weaker P Q xs f h.1)
 abbrev pub changes_rise : List Change → Bool
 changes_rise = rises_by segment_cmp change_at
 
-pub rise_push : (cs : List Change) (c : Change) (ds : List Change) → ds ≡ cs ++ c ∷ [] → changes_rise cs ≡ true → AreBelow cs (change_at c) → changes_rise ds ≡ true
+pub rise_push : (cs : List Change) (c : Change) (ds : List Change) → ds ≡ cs ++ c ∷ [] → changes_rise cs ≡ true → AreBelow cs (change_at c)
+    → changes_rise ds ≡ true
 rise_push cs c ds e h b = ap changes_rise e ∙ push cs h b
   where
     more : (p : Change → Bool) (xs : List Change) → list_all p xs ≡ true → p c ≡ true → list_all p (xs ++ c ∷ []) ≡ true
@@ -166,39 +182,50 @@ rise_push cs c ds e h b = ap changes_rise e ∙ push cs h b
 
 -- ---- what a change is, told in other words
 
-pub change_told : (held : List Operation) (g k : Segment) (a a' n n' : Id → Bool) (s s' m m' : List Id) (c : Change) → k ≡ g → ((q : Id) → a q ≡ a' q) → ((q : Id) → n q ≡ n' q) → s ≡ s' → m ≡ m' → IsChangeOf held g a n s m c → IsChangeOf held k a' n' s' m' c
+pub change_told : (held : List Operation) (g k : Segment) (a a' n n' : Id → Bool) (s s' m m' : List Id) (c : Change) → k ≡ g
+    → ((q : Id) → a q ≡ a' q) → ((q : Id) → n q ≡ n' q) → s ≡ s' → m ≡ m' → IsChangeOf held g a n s m c → IsChangeOf held k a' n' s' m' c
 change_told held g k a a' n n' s s' m m' c e fa fn fs fm h = record {
   place = h.place ∙ sym e;
   arrived = λ q. h.arrived q ∙ (λ i. (fa q i && not (fn q i)) && not (list_any (same_id q) (fm i)));
   leaving = λ q. h.leaving q ∙ (λ i. fn q i && list_any (same_id q) (fs i));
-  lacking = λ q. h.lacking q ∙ (λ i. (((fn q i && not (fa q i)) && not (list_any (same_id q) (fs i))) && not (list_any (same_id q) (fm i))) && not (is_in held (sym e i) q));
+  lacking = λ q. h.lacking q ∙
+      (λ i. (((fn q i && not (fa q i)) && not (list_any (same_id q) (fs i))) && not (list_any (same_id q) (fm i)))
+      && not (is_in held (sym e i) q));
   found = λ q. h.found q ∙ (λ i. fa q i && list_any (same_id q) (fm i));
 }
 
 -- where the index keeps the same
-pub are_ready : (held new : List Operation) (turns : List Turn) (before after : List Chapter) (cs : List Change) → Readies before after → AllByRecursion (IsChangeAt held new turns before) cs → AllByRecursion (IsChangeAt held new turns after) cs
+pub are_ready : (held new : List Operation) (turns : List Turn) (before after : List Chapter) (cs : List Change) → Readies before after
+    → AllByRecursion (IsChangeAt held new turns before) cs → AllByRecursion (IsChangeAt held new turns after) cs
 are_ready held new turns before after cs r h =
     each_weaker (IsChangeAt held new turns before) (IsChangeAt held new turns after) cs (λ c k.
-    change_told held (change_at c) (change_at c) (arrives new turns (change_at c)) (arrives new turns (change_at c)) (is_named new turns (change_at c)) (is_named new turns (change_at c))
-    (shown_in (register_of (change_at c) before)) (shown_in (register_of (change_at c) after)) (missing_in (register_of (change_at c) before)) (missing_in (register_of (change_at c) after)) c
+    change_told held (change_at c) (change_at c) (arrives new turns (change_at c)) (arrives new turns (change_at c))
+    (is_named new turns (change_at c)) (is_named new turns (change_at c))
+    (shown_in (register_of (change_at c) before)) (shown_in (register_of (change_at c) after))
+    (missing_in (register_of (change_at c) before)) (missing_in (register_of (change_at c) after)) c
     refl (λ q. refl) (λ q. refl) (sym (r.shown (change_at c))) (sym (r.missing (change_at c))) k) h
 
 -- ---- turns of operations, made and sorted
 
-module _ (new : List Operation) (ts us : List Turn) (at : ℕ) (o : Operation) (t : Turn) (l : at < length new) (ho : o ≡ get_or new at o) (home : turn_at t ≡ o.segment) (place : t.at ≡ at) (e : us ≡ ts ++ t ∷ []) where
+module _ (new : List Operation) (ts us : List Turn) (at : ℕ) (o : Operation) (t : Turn) (l : at < length new) (ho : o ≡ get_or new at o)
+    (home : turn_at t ≡ o.segment) (place : t.at ≡ at) (e : us ≡ ts ++ t ∷ []) where
   here_is : (f : Operation → Bool) → is_at f new t.at ≡ f o
   here_is f =
       ap (is_at f new) place ∙ ap (λ (xs : List Operation). list_any f (take 1 xs)) (drop-cons new at o l)
       ∙ ap (λ (x : Operation). f x || false) (sym ho) ∙ or_false (f o)
 
-  turn_more : (p : Turn → Bool) (f : Operation → Bool) → p t ≡ f o → list_any p ts ≡ list_any f (take at new) → list_any p us ≡ list_any f (take (at + 1) new)
+  turn_more : (p : Turn → Bool) (f : Operation → Bool) → p t ≡ f o → list_any p ts ≡ list_any f (take at new)
+      → list_any p us ≡ list_any f (take (at + 1) new)
   turn_more p f s h =
       ap (list_any p) e ∙ list_any-append p ts (t ∷ []) ∙ (λ i. h i || (or_false (p t) ∙ s ∙ ap f ho) i) ∙ sym (list_any_more f new at o l)
 
-  pub same_more : (p : Segment → Bool) (f : Operation → Bool) → list_any (λ t. p (turn_at t) && is_at f new t.at) ts ≡ list_any (λ o. p o.segment && f o) (take at new) → list_any (λ t. p (turn_at t) && is_at f new t.at) us ≡ list_any (λ o. p o.segment && f o) (take (at + 1) new)
+  pub same_more : (p : Segment → Bool) (f : Operation → Bool)
+      → list_any (λ t. p (turn_at t) && is_at f new t.at) ts ≡ list_any (λ o. p o.segment && f o) (take at new)
+      → list_any (λ t. p (turn_at t) && is_at f new t.at) us ≡ list_any (λ o. p o.segment && f o) (take (at + 1) new)
   same_more p f h = turn_more (λ t. p (turn_at t) && is_at f new t.at) (λ o. p o.segment && f o) (λ i. p (home i) && here_is f i) h
 
-  pub each_more : (p : Segment → Bool) → list_any (λ t. p (turn_at t)) ts ≡ list_any (λ o. p o.segment) (take at new) → list_any (λ t. p (turn_at t)) us ≡ list_any (λ o. p o.segment) (take (at + 1) new)
+  pub each_more : (p : Segment → Bool) → list_any (λ t. p (turn_at t)) ts ≡ list_any (λ o. p o.segment) (take at new)
+      → list_any (λ t. p (turn_at t)) us ≡ list_any (λ o. p o.segment) (take (at + 1) new)
   each_more p h = turn_more (λ t. p (turn_at t)) (λ o. p o.segment) (ap p home) h
 
 pub turns_rank : IsStrictWeakOrder (λ (t u : Turn). is_lt (segment_cmp (turn_at t) (turn_at u)))
@@ -207,16 +234,24 @@ turns_rank = ranks_by segment_total turn_at
 pub fall_sorted : (ts : List Turn) → IsSortedBy (λ (t u : Turn). is_lt (segment_cmp (turn_at t) (turn_at u))) ts → never_fall ts ≡ true
 fall_sorted ts h = far ts (λ i j d a b. sorted_far (λ (t u : Turn). is_lt (segment_cmp (turn_at t) (turn_at u))) turns_rank ts h i j d a b)
   where
-    all : (t : Turn) (us : List Turn) → ((j : ℕ) (d : Turn) → j < length us → is_lt (segment_cmp (turn_at (get_or us j d)) (turn_at t)) ≡ false) → list_all (λ u. not (is_lt (segment_cmp (turn_at u) (turn_at t)))) us ≡ true
+    all : (t : Turn) (us : List Turn) →
+        ((j : ℕ) (d : Turn) → j < length us → is_lt (segment_cmp (turn_at (get_or us j d)) (turn_at t)) ≡ false)
+        → list_all (λ u. not (is_lt (segment_cmp (turn_at u) (turn_at t)))) us ≡ true
     all t [] k = refl
     all t (u ∷ us) k = and_from _ _ (ap not (k 0 u (omega arith))) (all t us (λ j d l. k (suc j) d (omega arith)))
 
-    far : (us : List Turn) → ((i j : ℕ) (d : Turn) → i ≤ j → j < length us → is_lt (segment_cmp (turn_at (get_or us j d)) (turn_at (get_or us i d))) ≡ false) → never_fall us ≡ true
+    far : (us : List Turn) →
+        ((i j : ℕ) (d : Turn) → i ≤ j → j < length us → is_lt (segment_cmp (turn_at (get_or us j d)) (turn_at (get_or us i d))) ≡ false)
+        → never_fall us ≡ true
     far [] k = refl
-    far (u ∷ us) k = and_from _ _ (all u us (λ j d l. k 0 (suc j) d (omega arith) (omega arith))) (far us (λ i j d a b. k (suc i) (suc j) d (omega arith) (omega arith)))
+    far (u ∷ us) k = and_from _ _ (all u us (λ j d l. k 0 (suc j) d (omega arith) (omega arith)))
+        (far us (λ i j d a b. k (suc i) (suc j) d (omega arith) (omega arith)))
 
 -- the turns sorted are those of the same operations
-pub sorted_turns : (new : List Operation) (ts us : List Turn) → ((p : Segment → Bool) (f : Operation → Bool) → list_any (λ t. p (turn_at t) && is_at f new t.at) ts ≡ list_any (λ o. p o.segment && f o) new) → ((p : Segment → Bool) → list_any (λ t. p (turn_at t)) ts ≡ list_any (λ o. p o.segment) new) → IsPermutation ts us → IsSortedBy (λ (t u : Turn). is_lt (segment_cmp (turn_at t) (turn_at u))) us → AreTurnsOf new us
+pub sorted_turns : (new : List Operation) (ts us : List Turn)
+    → ((p : Segment → Bool) (f : Operation → Bool) → list_any (λ t. p (turn_at t) && is_at f new t.at) ts
+    ≡ list_any (λ o. p o.segment && f o) new) → ((p : Segment → Bool) → list_any (λ t. p (turn_at t)) ts ≡ list_any (λ o. p o.segment) new)
+    → IsPermutation ts us → IsSortedBy (λ (t u : Turn). is_lt (segment_cmp (turn_at t) (turn_at u))) us → AreTurnsOf new us
 sorted_turns new ts us same each m s = record {
   same = λ p f. sym (list_any-IsPermutation (λ t. p (turn_at t) && is_at f new t.at) ts us m) ∙ same p f;
   each = λ p. sym (list_any-IsPermutation (λ t. p (turn_at t)) ts us m) ∙ each p;
@@ -226,13 +261,17 @@ sorted_turns new ts us same each m s = record {
 -- ---- ids gathered from turns
 
 -- the operation of one turn more
-pub comes_more : (new : List Operation) (f : Operation → Bool) (own : List Turn) (i : ℕ) (t : Turn) (a b c : Bool) → i < length own → t ≡ get_or own i t → a ≡ list_any (λ t. is_at f new t.at) (take i own) → is_at f new t.at ≡ b → c ≡ (a || b) → c ≡ list_any (λ t. is_at f new t.at) (take (i + 1) own)
+pub comes_more : (new : List Operation) (f : Operation → Bool) (own : List Turn) (i : ℕ) (t : Turn) (a b c : Bool) → i < length own
+    → t ≡ get_or own i t → a ≡ list_any (λ t. is_at f new t.at) (take i own) → is_at f new t.at ≡ b → c ≡ (a || b)
+    → c ≡ list_any (λ t. is_at f new t.at) (take (i + 1) own)
 comes_more new f own i t a b c l ht h e k =
     k ∙ (λ j. h j || (sym e ∙ ap (λ (u : Turn). is_at f new u.at) ht) j) ∙ sym (list_any_more (λ t. is_at f new t.at) own i t l)
 
 -- where it is, and where there is none
-pub got : (f : Operation → Bool) (new : List Operation) (at : ℕ) (o : Operation) → at < length new → o ≡ get_or new at o → is_at f new at ≡ f o
-got f new at o l ho = ap (λ (xs : List Operation). list_any f (take 1 xs)) (drop-cons new at o l) ∙ ap (λ (x : Operation). f x || false) (sym ho) ∙ or_false (f o)
+pub got : (f : Operation → Bool) (new : List Operation) (at : ℕ) (o : Operation) → at < length new → o ≡ get_or new at o
+    → is_at f new at ≡ f o
+got f new at o l ho = ap (λ (xs : List Operation). list_any f (take 1 xs)) (drop-cons new at o l)
+    ∙ ap (λ (x : Operation). f x || false) (sym ho) ∙ or_false (f o)
 
 pub got_none : (f : Operation → Bool) (new : List Operation) (at : ℕ) → length new ≤ at → is_at f new at ≡ false
 got_none f new at l = ap (λ (xs : List Operation). list_any f (take 1 xs)) (drop_of_length-le new l)

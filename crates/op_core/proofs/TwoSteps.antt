@@ -45,11 +45,13 @@ module _ (p : Id → Bool) where
   head x ops q true false e rest = cc
   head x ops q false true e rest = cc
 
+  -- what is held under an id after texts were left out by a test
   pub get_where : (ops : List Operation) (q : Id) → get (thin_where p ops) q ≡ option_map (bare_where p) (get ops q)
   get_where [] q = refl
   get_where (x ∷ ops) q =
       head x ops q (same_id q x.id) (same_id q (bare_where p x).id) (ap (λ (o : Operation). same_id q o.id) (bare_left x)) (get_where ops q)
 
+  -- leaving out texts changes nothing of what is replaced
   pub past_where : (ops : List Operation) (o : Operation) → is_past (thin_where p ops) o ≡ is_past ops o
   past_where ops o = past_same (thin_where p ops) ops (skeleton_where ops) o
 
@@ -139,7 +141,8 @@ module _ (a b : List Operation) (ha : rises a ≡ true) (hb : rises b ≡ true) 
           (λ i. met (d i) (e i))
           ∙ ap (option_map (bare_where (is_thinned_in b))) (λ i. met (sym d i) (sym (new_none q e (get new q) refl) i))
       by q None d (Some y) e =
-          let in_new : get new q ≡ Some y = filter_kept (λ o. is_none (get a o.id)) b q y e (ap is_none (ap (get a) (get_id b q y e) ∙ d)) in
+          let in_new : get new q ≡ Some y =
+          filter_kept (λ o. is_none (get a o.id)) b q y e (ap is_none (ap (get a) (get_id b q y e) ∙ d)) in
           let mark : is_thinned_in b y.id ≡ is_thinned y = thinned_at y.id y (ap (get b) (get_id b q y e) ∙ e) in
           (λ i. met (d i) (e i)) ∙ ap Some (sym (again y (is_thinned_in b y.id) mark))
           ∙ ap (option_map (bare_where (is_thinned_in b))) (λ i. met (sym d i) (sym in_new i))
@@ -156,7 +159,8 @@ module _ (a b : List Operation) (ha : rises a ≡ true) (hb : rises b ≡ true) 
   pub between_legal : is_legal a ≡ true → is_legal b ≡ true → is_legal (join a new) ≡ true
   between_legal la lb =
       let hn : rises new ≡ true = rises-filter (λ o. is_none (get a o.id)) b hb in
-      legal_from (join a new) (rises-join a new ha) (λ o g n. still o ∙ by o (get a o.id) refl (get b o.id) refl (sym (get-join a new o.id ha hn) ∙ g) n)
+      legal_from (join a new) (rises-join a new ha)
+      (λ o g n. still o ∙ by o (get a o.id) refl (get b o.id) refl (sym (get-join a new o.id ha hn) ∙ g) n)
     where
       all_legal : is_legal (join a b) ≡ true
       all_legal = join_legal a b ha hb la lb same
@@ -174,7 +178,8 @@ module _ (a b : List Operation) (ha : rises a ≡ true) (hb : rises b ≡ true) 
           → met (get a o.id) (get new o.id) ≡ Some o → is_full o ≡ false → is_past (join a b) o ≡ true
       by o None d None e g n = cc (sym (λ i. met (d i) (new_none o.id e (get new o.id) refl i)) ∙ g)
       by o None d (Some y) e g n =
-          let in_new : get new o.id ≡ Some y = filter_kept (λ o. is_none (get a o.id)) b o.id y e (ap is_none (ap (get a) (get_id b o.id y e) ∙ d)) in
+          let in_new : get new o.id ≡ Some y =
+          filter_kept (λ o. is_none (get a o.id)) b o.id y e (ap is_none (ap (get a) (get_id b o.id y e) ∙ d)) in
           let at : get (join a b) o.id ≡ Some o = held o None (Some y) d e ∙ sym (λ i. met (d i) (in_new i)) ∙ g in
           legal_at (join a b) o.id o all_legal at n
       by o (Some x) d None e g n =
@@ -201,6 +206,7 @@ past_between a b ha hb la lb n o g t =
     sym (past_where (is_thinned_in b) between o) ∙ ap (λ xs. is_past xs o) (sym two)
     ∙ legal_at (join a b) o.id (bare o) (join_legal a b ha hb la lb same) at refl
 
+-- joining is taking in what is new, and leaving out what the other side left out
 pub two_steps : (a b : List Operation) → rises a ≡ true → rises b ≡ true → clash a b ≡ None → TwoSteps a b
 two_steps a b ha hb n =
     record { joins = joins_in_two a b ha hb (agree_from_no_clash a b n); legal = between_legal a b ha hb (agree_from_no_clash a b n) }
@@ -226,7 +232,8 @@ past_not_shown s o h g = by (is_past s o) refl
     by true e = e ∙ sym (ap not (among_held (shown s o.segment) o.id ∙ ap is_some (gone (get (shown s o.segment) o.id) refl e)))
     by false e =
         e
-        ∙ sym (ap not (among_held (shown s o.segment) o.id ∙ ap is_some (filter_kept (is_shown s o.segment) s o.id o g (tested ∙ ap not e))))
+        ∙ sym (ap not (among_held (shown s o.segment) o.id
+        ∙ ap is_some (filter_kept (is_shown s o.segment) s o.id o g (tested ∙ ap not e))))
 
 -- ---- texts left out in place
 

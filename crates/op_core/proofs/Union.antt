@@ -20,6 +20,7 @@ use Rattle.op_core.specs.Equal.{id_from_same, same_id-refl}
 abbrev pub AllAbove : Id → List Operation → Type 0
 AllAbove id ops = Above id_cmp id_total (λ (o : Operation). o.id) id ops
 
+-- an id below another is not that one
 pub apart_below : (a b : Id) → id_below a b ≡ true → same_id a b ≡ false
 apart_below a b h = same_id-cmp a b ∙ ap is_eq (is_less _ h)
 
@@ -36,6 +37,7 @@ get_above id (o ∷ ops) h =
     let q = and_parts (id_below id o.id) (list_all (λ p. id_below id p.id) ops) h in
     cond-false _ _ _ (apart_below id o.id q.0) ∙ get_above id ops q.1
 
+-- a set that rises, read: the first is below all others, and these rise
 pub rises_parts : (o : Operation) (ops : List Operation) → rises (o ∷ ops) ≡ true → AllAbove o.id ops × (rises ops ≡ true)
 rises_parts o ops h = and_parts (list_all (λ p. id_below o.id p.id) ops) (rises ops) h
 
@@ -72,6 +74,7 @@ met_itself : (x : Option Operation) → met x x ≡ x
 met_itself None = refl
 met_itself (Some x) = ap (λ t. Some (with_text x t)) (text_itself x.text)
 
+-- meeting nothing changes nothing
 pub met_none : (x : Option Operation) → met x None ≡ x
 met_none None = refl
 met_none (Some x) = refl
@@ -94,6 +97,7 @@ later : (p : Operation) (x z : Option Operation) (b d : Bool) → (b ≡ true �
 later p x z true d h = rw (h refl) refl
 later p x z false d h = refl
 
+-- what is held under an id after an operation was put in
 pub get-put : (o : Operation) (ops : List Operation) (q : Id) → rises ops ≡ true
     → get (put o ops) q ≡ met (get ops q) (cond (same_id q o.id) (Some o) None)
 get-put o [] q h = refl
@@ -121,6 +125,7 @@ above-put id o (x ∷ ops) p h =
       | Greater ↦ and_from _ _ q.0 (above-put id o ops p q.1)
     ]
 
+-- a set rises still when an operation is put in
 pub rises-put : (o : Operation) (ops : List Operation) → rises ops ≡ true → rises (put o ops) ≡ true
 rises-put o [] h = refl
 rises-put o (p ∷ ops) h =
@@ -171,6 +176,7 @@ same_gets xs ys hx hy is =
     (subst T (sym (sorted_rises xs ∙ hx)) tt) (subst T (sym (sorted_rises ys ∙ hy)) tt) (λ q. found_get q xs ∙ is q ∙ sym (found_get q ys)))
     ∙ unpaired ys
 
+-- a union rises
 pub rises-join : (xs ys : List Operation) → rises xs ≡ true → rises (join xs ys) ≡ true
 rises-join xs [] h = h
 rises-join xs (o ∷ ys) h = rises-put o (join xs ys) (rises-join xs ys h)
@@ -184,6 +190,7 @@ last_met : (x y z : Option Operation) (b : Bool) → (b ≡ true → y ≡ None)
 last_met x y z true h = rw (h refl) (ap (λ v. met v z) (met_none x))
 last_met x y z false h = met_none _
 
+-- what a union holds under an id is what both sets hold there, met
 pub get-join : (xs ys : List Operation) (q : Id) → rises xs ≡ true → rises ys ≡ true → get (join xs ys) q ≡ met (get xs q) (get ys q)
 get-join xs [] q hx hy = sym (met_none (get xs q))
 get-join xs (o ∷ ys) q hx hy =
@@ -192,6 +199,7 @@ get-join xs (o ∷ ys) q hx hy =
     ∙ ap (λ x. met x (cond (same_id q o.id) (Some o) None)) (get-join xs ys q hx parts.1)
     ∙ last_met (get xs q) (get ys q) (Some o) (same_id q o.id) (λ s. ap (get ys) (id_from_same q o.id s) ∙ get_above o.id ys parts.0)
 
+-- joining is associative
 pub join_assoc : (xs ys zs : List Operation) → rises xs ≡ true → rises ys ≡ true → rises zs ≡ true
     → join (join xs ys) zs ≡ join xs (join ys zs)
 join_assoc xs ys zs hx hy hz = same_gets _ _ (rises-join (join xs ys) zs (rises-join xs ys hx)) (rises-join xs (join ys zs) hx) (λ q.
@@ -201,6 +209,7 @@ join_assoc xs ys zs hx hy hz = same_gets _ _ (rises-join (join xs ys) zs (rises-
     ∙ ap (met (get xs q)) (sym (get-join ys zs q hy hz))
     ∙ sym (get-join xs (join ys zs) q hx (rises-join ys zs hy)))
 
+-- joining a set to itself changes nothing
 pub join_itself : (xs : List Operation) → rises xs ≡ true → join xs xs ≡ xs
 join_itself xs h = same_gets _ _ (rises-join xs xs h) h (λ q. get-join xs xs q h h ∙ met_itself (get xs q))
 
@@ -238,6 +247,7 @@ met_comm None (Some y) h = refl
 met_comm (Some x) None h = refl
 met_comm (Some x) (Some y) h = ap Some (meet_comm x y (h x y refl refl))
 
+-- joining is commutative, where two operations of one id agree
 pub join_comm : (xs ys : List Operation) → rises xs ≡ true → rises ys ≡ true → AgreeAtAll xs ys → join xs ys ≡ join ys xs
 join_comm xs ys hx hy h = same_gets _ _ (rises-join xs ys hx) (rises-join ys xs hy) (λ q.
     get-join xs ys q hx hy ∙ met_comm (get xs q) (get ys q) (h q) ∙ sym (get-join ys xs q hy hx))
@@ -289,6 +299,7 @@ pub join_push : (xs ys : List Operation) (o : Operation) → join xs (ys ++ o �
 join_push xs [] o = refl
 join_push xs (y ∷ ys) o = ap (put y) (join_push xs ys o)
 
+-- a union is a set
 pub IsOpSet-join : (xs ys : List Operation) → IsOpSet xs → IsOpSet ys → IsOpSet (join xs ys)
 IsOpSet-join xs ys h g = record { rising = rises-join xs ys h.rising; each = each-join IsOperation meet-IsOperation xs ys h.each g.each }
 
@@ -325,6 +336,7 @@ agree_at xs (o ∷ ys) none q x y gx gy = by (λ n g. agree_at xs ys n q x y gx 
     by rest true d n = cc n
     by rest false d n = held rest (same_id q o.id) refl d n gy
 
+-- sets that do not clash agree at every id
 pub agree_from_no_clash : (xs ys : List Operation) → clash xs ys ≡ None → AgreeAtAll xs ys
 agree_from_no_clash xs ys h = agree_at xs ys (unmapped (find_in (λ (o : Operation). differs (get xs o.id) o) ys) h)
   where
@@ -354,5 +366,6 @@ none_differs xs (o ∷ ys) h =
     ∙ ap not (agree-from o o (agree_itself o)) in
     cond-false (differs (get xs o.id) o) (Some o) _ same ∙ none_differs xs ys h.1
 
+-- a set does not clash with itself
 pub no_clash_itself : (xs : List Operation) → rises xs ≡ true → clash xs xs ≡ None
 no_clash_itself xs h = ap (option_map (λ (o : Operation). o.id)) (none_differs xs xs (held_itself xs h))

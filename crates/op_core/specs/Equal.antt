@@ -12,7 +12,11 @@ use Rattle.op_core.specs.Ops.{Operation, bare, with_text, same_bare, same_text, 
 pub id_from_same : (a b : Id) → same_id a b ≡ true → a ≡ b
 id_from_same a b h =
     let p = and_parts _ _ h in
-    λ i. record { number = eqb-true a.number b.number p.0 i; name = same_bytes-is a.name b.name p.1 i }
+    λ i. record {
+      number = eqb-true a.number b.number p.0 i;
+      name = same_bytes-is a.name b.name p.1
+          i;
+    }
 
 -- the test finds an id the same as itself
 pub same_id-refl : (a : Id) → same_id a a ≡ true
@@ -22,7 +26,8 @@ same_ids-is : (a b : List Id) → pointwise same_id a b ≡ true → a ≡ b
 same_ids-is [] [] h = refl
 same_ids-is [] (y ∷ b) h = cc
 same_ids-is (x ∷ a) [] h = cc
-same_ids-is (x ∷ a) (y ∷ b) h = let p = and_parts (same_id x y) (pointwise same_id a b) h in λ i. id_from_same x y p.0 i ∷ same_ids-is a b p.1 i
+same_ids-is (x ∷ a) (y ∷ b) h = let p = and_parts (same_id x y)
+    (pointwise same_id a b) h in λ i. id_from_same x y p.0 i ∷ same_ids-is a b p.1 i
 
 same_ids-refl : (a : List Id) → pointwise same_id a a ≡ true
 same_ids-refl [] = refl
@@ -54,11 +59,13 @@ same_bare-is o p h =
 
 -- the test finds an operation equal but for texts to itself
 pub same_bare-refl : (o : Operation) → same_bare o o ≡ true
-same_bare-refl o = and_from _ _ (and_from _ _ (same_id-refl o.id) (same_segment-refl o.segment)) (same_ids-refl o.replaced)
+same_bare-refl o = and_from _ _ (and_from _ _ (same_id-refl o.id) (same_segment-refl o.segment))
+    (same_ids-refl o.replaced)
 
 -- the test finds operations that are equal but for their texts
 pub same_bare-from : (o p : Operation) → bare o ≡ bare p → same_bare o p ≡ true
-same_bare-from o p h = subst (λ (q : Operation). same_bare (bare o) q ≡ true) h (same_bare-refl (bare o))
+same_bare-from o p h =
+    subst (λ (q : Operation). same_bare (bare o) q ≡ true) h (same_bare-refl (bare o))
 
 -- an operation is its other parts with its text
 pub same_parts : (o p : Operation) → bare o ≡ bare p → o.text ≡ p.text → o ≡ p
@@ -76,4 +83,5 @@ same_op-refl o = and_from _ _ (same_bare-refl o) (same_text-refl o.text)
 
 -- the test of equal operations is an equivalence
 pub same_op_equiv : IsEquivalence same_op
-same_op_equiv = decided same_op (λ o p. (same_op-is o p, λ e. subst (λ (q : Operation). same_op o q ≡ true) e (same_op-refl o)))
+same_op_equiv = decided same_op
+    (λ o p. (same_op-is o p, λ e. subst (λ (q : Operation). same_op o q ≡ true) e (same_op-refl o)))

@@ -10,11 +10,13 @@ use Rattle.op_core.specs.Export.{export}
 
 -- each grouping of three sets has the same union
 abbrev pub JoinIsAssociative : Type 0
-JoinIsAssociative = (a b c : List Operation) → IsOpSet a → IsOpSet b → IsOpSet c → join (join a b) c ≡ join a (join b c)
+JoinIsAssociative = (a b c : List Operation) → IsOpSet a → IsOpSet b → IsOpSet c
+    → join (join a b) c ≡ join a (join b c)
 
 -- sets without a clash have the same union either way
 abbrev pub JoinCommutes : Type 0
-JoinCommutes = (a b : List Operation) → IsOpSet a → IsOpSet b → clash a b ≡ None → join a b ≡ join b a
+JoinCommutes =
+    (a b : List Operation) → IsOpSet a → IsOpSet b → clash a b ≡ None → join a b ≡ join b a
 
 -- two sets clash at one id, whichever comes first
 abbrev pub ClashCommutes : Type 0
@@ -35,11 +37,13 @@ pub record ClashAt (a b : List Operation) (id : Id) : Type 0 where
 
 -- what is found as a clash is one, and the least
 abbrev pub ClashIsLeast : Type 0
-ClashIsLeast = (a b : List Operation) (id : Id) → IsOpSet a → IsOpSet b → clash a b ≡ Some id → ClashAt a b id
+ClashIsLeast =
+    (a b : List Operation) (id : Id) → IsOpSet a → IsOpSet b → clash a b ≡ Some id → ClashAt a b id
 
 -- sets without a clash agree at every id
 abbrev pub NoClashAgrees : Type 0
-NoClashAgrees = (a b : List Operation) → IsOpSet a → IsOpSet b → clash a b ≡ None → (id : Id) → AgreeAt a b id
+NoClashAgrees =
+    (a b : List Operation) → IsOpSet a → IsOpSet b → clash a b ≡ None → (id : Id) → AgreeAt a b id
 
 -- a set joined with itself is the set, and does not clash with itself
 abbrev pub JoinWithItself : Type 0
@@ -48,15 +52,18 @@ JoinWithItself = (a : List Operation) → IsOpSet a → (join a a ≡ a) × (cla
 -- the union is a set that holds at each id what one of the two holds there, or what the two meet in, and nothing else
 abbrev pub JoinHoldsBoth : Type 0
 JoinHoldsBoth =
-    (a b : List Operation) → IsOpSet a → IsOpSet b → IsOpSet (join a b) × ((id : Id) → get (join a b) id ≡ met (get a id) (get b id))
+    (a b : List Operation) → IsOpSet a → IsOpSet b
+    → IsOpSet (join a b) × ((id : Id) → get (join a b) id ≡ met (get a id) (get b id))
 
 -- sets that hold the same operation at each id are equal
 abbrev pub SameHeldSameSet : Type 0
-SameHeldSameSet = (a b : List Operation) → IsOpSet a → IsOpSet b → ((id : Id) → get a id ≡ get b id) → a ≡ b
+SameHeldSameSet =
+    (a b : List Operation) → IsOpSet a → IsOpSet b → ((id : Id) → get a id ≡ get b id) → a ≡ b
 
 -- a segment with an operation shows at least one
 abbrev pub SegmentShowsOne : Type 0
-SegmentShowsOne = (held : List Operation) (g : Segment) → IsOpSet held → list_any (in_segment g) held ≡ true → shown held g ≢ []
+SegmentShowsOne = (held : List Operation) (g : Segment) → IsOpSet held
+    → list_any (in_segment g) held ≡ true → shown held g ≢ []
 
 -- ---- sets joined in some order, grouping and repetition
 
@@ -81,12 +88,14 @@ pub record SameOperations (one other : Joining) : Type 0 where
   pub back : (o : Operation) → IsInOne other o → IsInOne one o
 
 -- the union of two sets, refused with their clash
-abbrev pub joined_or_clash : List Operation → List Operation → Option Id → Result (List Operation) Id
+abbrev pub joined_or_clash : List Operation → List Operation → Option Id
+    → Result (List Operation) Id
 joined_or_clash a b None = Ok (join a b)
 joined_or_clash a b (Some id) = Err id
 
 -- the first refusal of two results, or what is made of both
-abbrev pub with_both : Result (List Operation) Id → Result (List Operation) Id → (List Operation → List Operation → Result (List Operation) Id) → Result (List Operation) Id
+abbrev pub with_both : Result (List Operation) Id → Result (List Operation) Id
+    → (List Operation → List Operation → Result (List Operation) Id) → Result (List Operation) Id
 with_both (Ok a) (Ok b) f = f a b
 with_both (Ok a) (Err id) f = Err id
 with_both (Err id) b f = Err id
@@ -94,13 +103,15 @@ with_both (Err id) b f = Err id
 -- what a way of joining makes: the union, or the clash that refuses it
 abbrev pub union_by : Joining → Result (List Operation) Id
 union_by (Part set) = Ok set
-union_by (Joined left right) = with_both (union_by left) (union_by right) (λ a b. joined_or_clash a b (clash a b))
+union_by (Joined left right) =
+    with_both (union_by left) (union_by right) (λ a b. joined_or_clash a b (clash a b))
 
 -- Sets that have the same operations together, thinned ones as thinned, joined in whatever order, grouping and repetition,
 -- have one union, and so one export of every book.
 abbrev pub EqualUnionsExportAlike : Type 0
 EqualUnionsExportAlike =
-    (one other : Joining) (a b : List Operation) → AreSets one → AreSets other → SameOperations one other →
+    (one other : Joining) (a b : List Operation) → AreSets one → AreSets other
+    → SameOperations one other →
     union_by one ≡ Ok a → union_by other ≡ Ok b →
     (a ≡ b) × ((book : List ℕ) → export a book ≡ export b book)
 
@@ -108,14 +119,16 @@ EqualUnionsExportAlike =
 -- is thinned.
 abbrev pub ThinnedAgree : Joining → Type 0
 ThinnedAgree way =
-    (thinned o p : Operation) → IsInOne way thinned → IsInOne way o → IsInOne way p → is_full thinned ≡ false →
+    (thinned o p : Operation) → IsInOne way thinned → IsInOne way o → IsInOne way p
+    → is_full thinned ≡ false →
     o.id ≡ thinned.id → p.id ≡ thinned.id → agree o p ≡ true
 
 -- Sets that have the same operations together, and in which no id of a thinned operation has two operations, are joined either
 -- way, or refused either way. An id of full operations may stand for two: then they are refused.
 abbrev pub RefusedAlike : Type 0
 RefusedAlike =
-    (one other : Joining) → AreSets one → AreSets other → SameOperations one other → ThinnedAgree one →
+    (one other : Joining) → AreSets one → AreSets other → SameOperations one other
+    → ThinnedAgree one →
     is_ok (union_by one) ≡ is_ok (union_by other)
 
 -- ---- sets joined one after another

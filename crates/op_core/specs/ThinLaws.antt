@@ -18,7 +18,8 @@ use Rattle.op_core.specs.Laws.Joining.{Part, Joined}
 
 -- two operations agree if they are equal, or if at least one is thinned and they are equal but for their texts
 pub record AgreesAs (a b : Operation) : Type 0 where
-  pub says : agree a b ≡ true → (a ≡ b) ⊎ (((is_full a ≡ false) ⊎ (is_full b ≡ false)) × (bare a ≡ bare b))
+  pub says : agree a b ≡ true → (a ≡ b) ⊎
+      (((is_full a ≡ false) ⊎ (is_full b ≡ false)) × (bare a ≡ bare b))
   pub equal : a ≡ b → agree a b ≡ true
   pub thinned : (is_full a ≡ false) ⊎ (is_full b ≡ false) → bare a ≡ bare b → agree a b ≡ true
 
@@ -28,8 +29,10 @@ AgreeMeans = (a b : Operation) → AgreesAs a b
 
 -- there is no clash exactly where what the two hold at each id agrees
 pub record NoClashAs (a b : List Operation) : Type 0 where
-  pub says : clash a b ≡ None → (id : Id) (x y : Operation) → get a id ≡ Some x → get b id ≡ Some y → agree x y ≡ true
-  pub back : ((id : Id) (x y : Operation) → get a id ≡ Some x → get b id ≡ Some y → agree x y ≡ true) → clash a b ≡ None
+  pub says : clash a b ≡ None → (id : Id) (x y : Operation) → get a id ≡ Some x → get b id ≡ Some y
+      → agree x y ≡ true
+  pub back : ((id : Id) (x y : Operation) → get a id ≡ Some x → get b id ≡ Some y
+      → agree x y ≡ true) → clash a b ≡ None
 
 -- the law: where there is no clash, and only there, all that two sets hold agrees
 abbrev pub NoClashMeans : Type 0
@@ -38,14 +41,16 @@ NoClashMeans = (a b : List Operation) → rises b ≡ true → NoClashAs a b
 -- the union of legal sets that do not clash is legal
 abbrev pub JoinIsLegal : Type 0
 JoinIsLegal =
-    (a b : List Operation) → rises a ≡ true → rises b ≡ true → is_legal a ≡ true → is_legal b ≡ true → clash a b ≡ None → is_legal (join a b) ≡ true
+    (a b : List Operation) → rises a ≡ true → rises b ≡ true → is_legal a ≡ true → is_legal b ≡ true
+    → clash a b ≡ None → is_legal (join a b) ≡ true
 
 -- ---- thinning is invisible: the first set stands for the second
 
 -- what is joined stands for what is joined in full, and is not refused
 abbrev pub JoinStands : Type 0
 JoinStands =
-    (s u t v : List Operation) → StandsFor s u → StandsFor t v → clash u v ≡ None → (clash s t ≡ None) × StandsFor (join s t) (join u v)
+    (s u t v : List Operation) → StandsFor s u → StandsFor t v → clash u v ≡ None
+    → (clash s t ≡ None) × StandsFor (join s t) (join u v)
 
 -- a set that is thinned stands for what it stood for
 abbrev pub ThinStands : Type 0
@@ -62,24 +67,30 @@ FullStands = (u : List Operation) → rises u ≡ true → all_full u ≡ true �
 -- a subset by ids, if it is legal, stands for the same subset
 abbrev pub SubsetStands : Type 0
 SubsetStands =
-    (s u : List Operation) (kept : Id → Bool) → StandsFor s u → is_legal (of_ids kept s) ≡ true → StandsFor (of_ids kept s) (of_ids kept u)
+    (s u : List Operation) (kept : Id → Bool) → StandsFor s u → is_legal (of_ids kept s) ≡ true
+    → StandsFor (of_ids kept s) (of_ids kept u)
 
 -- a subset by anything but the texts, if it is legal, stands for the same subset
 abbrev pub FilterStands : Type 0
 FilterStands =
-    (s u : List Operation) (kept : Operation → Bool) → StandsFor s u → is_legal (filter (λ o. kept (bare o)) s) ≡ true → StandsFor (filter (λ o. kept (bare o)) s) (filter (λ o. kept (bare o)) u)
+    (s u : List Operation) (kept : Operation → Bool) → StandsFor s u
+    → is_legal (filter (λ o. kept (bare o)) s) ≡ true
+    → StandsFor (filter (λ o. kept (bare o)) s) (filter (λ o. kept (bare o)) u)
 
 -- a delta is legal
 abbrev pub DeltaIsLegal : Type 0
-DeltaIsLegal = (s : List Operation) (knows : Id → Bool) → rises s ≡ true → is_legal s ≡ true → is_legal (delta s knows) ≡ true
+DeltaIsLegal = (s : List Operation) (knows : Id → Bool) → rises s ≡ true → is_legal s ≡ true
+    → is_legal (delta s knows) ≡ true
 
 -- a delta stands for the same operations of the full set
 abbrev pub DeltaStands : Type 0
-DeltaStands = (s u : List Operation) (knows : Id → Bool) → StandsFor s u → StandsFor (delta s knows) (filter (is_sent s knows) u)
+DeltaStands = (s u : List Operation) (knows : Id → Bool) → StandsFor s u
+    → StandsFor (delta s knows) (filter (is_sent s knows) u)
 
 -- of a set without thinned operations, what is sent is what is lacked alone
 abbrev pub FullDelta : Type 0
-FullDelta = (s : List Operation) (knows : Id → Bool) → all_full s ≡ true → delta s knows ≡ filter (is_lacked knows) s
+FullDelta = (s : List Operation) (knows : Id → Bool) → all_full s ≡ true
+    → delta s knows ≡ filter (is_lacked knows) s
 
 -- both show the same operations, with their texts
 abbrev pub ShowsSame : Type 0
@@ -106,7 +117,8 @@ SaysSame = (s u : List Operation) → StandsFor s u → AnswersSame s u
 
 -- a new full operation is put into both
 abbrev pub PutStands : Type 0
-PutStands = (s u : List Operation) (o : Operation) → StandsFor s u → is_full o ≡ true → get u o.id ≡ None → StandsFor (put o s) (put o u)
+PutStands = (s u : List Operation) (o : Operation) → StandsFor s u → is_full o ≡ true
+    → get u o.id ≡ None → StandsFor (put o s) (put o u)
 
 -- ---- what is shown has its texts
 
@@ -116,7 +128,8 @@ ShownAreFull = (s : List Operation) (g : Segment) → is_legal s ≡ true → al
 
 -- an operation that a legal set picks for a segment is full
 abbrev pub PickIsFull : Type 0
-PickIsFull = (s : List Operation) (g : Segment) (o : Operation) → is_legal s ≡ true → pick s g ≡ Greatest o → is_full o ≡ true
+PickIsFull = (s : List Operation) (g : Segment) (o : Operation) → is_legal s ≡ true
+    → pick s g ≡ Greatest o → is_full o ≡ true
 
 -- ---- what does not hang on texts
 
@@ -148,37 +161,45 @@ pub record JoinsInAnyOrder (s t r : List Operation) : Type 0 where
 -- sets that stand for full ones, of which no two clash, join in any order, grouping and repetition
 abbrev pub StandInsJoin : Type 0
 StandInsJoin =
-    (s u t v r w : List Operation) → StandsFor s u → StandsFor t v → StandsFor r w → clash u v ≡ None → clash v w ≡ None → clash u w ≡ None → JoinsInAnyOrder s t r
+    (s u t v r w : List Operation) → StandsFor s u → StandsFor t v → StandsFor r w
+    → clash u v ≡ None → clash v w ≡ None → clash u w ≡ None → JoinsInAnyOrder s t r
 
 -- of three full sets one grouping is refused where the other is
 abbrev pub FullGroupingsAlike : Type 0
-FullGroupingsAlike = (a b c : List Operation) → rises a ≡ true → rises b ≡ true → rises c ≡ true → all_full a ≡ true → all_full b ≡ true →
+FullGroupingsAlike = (a b c : List Operation) → rises a ≡ true → rises b ≡ true → rises c ≡ true
+    → all_full a ≡ true → all_full b ≡ true →
     clash a b ≡ None → clash (join a b) c ≡ None → (clash b c ≡ None) × (clash a (join b c) ≡ None)
 
 -- Legal sets that are equal but for texts left out, and in which no id has two operations, show the same. So a full
 -- set, if there is one, need not be known.
 abbrev pub SkeletonShows : Type 0
 SkeletonShows =
-    (s t : List Operation) (g : Segment) → rises s ≡ true → rises t ≡ true → is_legal s ≡ true → is_legal t ≡ true → clash s t ≡ None → skeleton s ≡ skeleton t → shown s g ≡ shown t g
+    (s t : List Operation) (g : Segment) → rises s ≡ true → rises t ≡ true → is_legal s ≡ true
+    → is_legal t ≡ true → clash s t ≡ None → skeleton s ≡ skeleton t → shown s g ≡ shown t g
 
 -- legal sets that are equal but for texts left out, and do not clash, pick the same operation, or line, for each segment
 abbrev pub SkeletonPicks : Type 0
 SkeletonPicks =
-    (s t : List Operation) (g : Segment) → rises s ≡ true → rises t ≡ true → is_legal s ≡ true → is_legal t ≡ true → clash s t ≡ None → skeleton s ≡ skeleton t → pick s g ≡ pick t g
+    (s t : List Operation) (g : Segment) → rises s ≡ true → rises t ≡ true → is_legal s ≡ true
+    → is_legal t ≡ true → clash s t ≡ None → skeleton s ≡ skeleton t → pick s g ≡ pick t g
 
 -- legal sets that are equal but for texts left out, and do not clash, have the same export of each book
 abbrev pub SkeletonExports : Type 0
 SkeletonExports =
-    (s t : List Operation) (book : List ℕ) → rises s ≡ true → rises t ≡ true → is_legal s ≡ true → is_legal t ≡ true → clash s t ≡ None → skeleton s ≡ skeleton t → export s book ≡ export t book
+    (s t : List Operation) (book : List ℕ) → rises s ≡ true → rises t ≡ true → is_legal s ≡ true
+    → is_legal t ≡ true → clash s t ≡ None → skeleton s ≡ skeleton t
+    → export s book ≡ export t book
 
 -- sets that are equal but for texts left out, and stand for full sets that do not clash, stand for one set
 abbrev pub SameSkeletonOneWhole : Type 0
-SameSkeletonOneWhole = (s u t v : List Operation) → StandsFor s u → StandsFor t v → clash u v ≡ None → skeleton s ≡ skeleton t → u ≡ v
+SameSkeletonOneWhole = (s u t v : List Operation) → StandsFor s u → StandsFor t v → clash u v ≡ None
+    → skeleton s ≡ skeleton t → u ≡ v
 
 -- sets that are equal but for texts left out, and stand for full sets that do not clash, show the same
 abbrev pub SameSkeletonShowsSame : Type 0
 SameSkeletonShowsSame =
-    (s u t v : List Operation) (g : Segment) → StandsFor s u → StandsFor t v → clash u v ≡ None → skeleton s ≡ skeleton t → shown s g ≡ shown t g
+    (s u t v : List Operation) (g : Segment) → StandsFor s u → StandsFor t v → clash u v ≡ None
+    → skeleton s ≡ skeleton t → shown s g ≡ shown t g
 
 -- ---- deltas between sets that stand for full ones
 
@@ -188,24 +209,29 @@ KnowsNoMore knows held = (id : Id) → knows id ≡ true → is_some (get held i
 
 -- What is sent to a set that may know less than it holds is not refused there, and adds what the whole adds, but for texts.
 abbrev pub DeltaJoins : Type 0
-DeltaJoins = (s t : List Operation) (knows : Id → Bool) → rises s ≡ true → rises t ≡ true → clash s t ≡ None → KnowsNoMore knows s →
+DeltaJoins = (s t : List Operation) (knows : Id → Bool) → rises s ≡ true → rises t ≡ true
+    → clash s t ≡ None → KnowsNoMore knows s →
     (clash s (delta t knows) ≡ None) × (skeleton (join s (delta t knows)) ≡ skeleton (join s t))
 
 -- What is sent adds to the full sets what the whole adds, and to the others the same but for texts.
 abbrev pub DeltasAdd : Type 0
-DeltasAdd = (s u t v : List Operation) (knows : Id → Bool) → StandsFor s u → StandsFor t v → clash u v ≡ None → KnowsNoMore knows s →
-    (join u (filter (is_sent t knows) v) ≡ join u v) × (skeleton (join s (delta t knows)) ≡ skeleton (join s t))
+DeltasAdd = (s u t v : List Operation) (knows : Id → Bool) → StandsFor s u → StandsFor t v
+    → clash u v ≡ None → KnowsNoMore knows s →
+    (join u (filter (is_sent t knows) v) ≡ join u v)
+    × (skeleton (join s (delta t knows)) ≡ skeleton (join s t))
 
 -- ---- sets of one family
 
 -- two sets of one family do not clash, and their union is of the family
 abbrev pub FamilyJoins : Type 0
-FamilyJoins = (family : Id → Operation) (s t : List Operation) → IsOf family s → IsOf family t → (clash s t ≡ None) × IsOf family (join s t)
+FamilyJoins = (family : Id → Operation) (s t : List Operation) → IsOf family s → IsOf family t
+    → (clash s t ≡ None) × IsOf family (join s t)
 
 -- a set that stands for a full one is of each family that has its operations
 abbrev pub FamilyOfWhole : Type 0
 FamilyOfWhole =
-    (family : Id → Operation) (s u : List Operation) → StandsFor s u → ((id : Id) (o : Operation) → get u id ≡ Some o → family id ≡ o)
+    (family : Id → Operation) (s u : List Operation) → StandsFor s u
+    → ((id : Id) (o : Operation) → get u id ≡ Some o → family id ≡ o)
     → IsOf family s
 
 -- a set of a family is of it still when it is thinned
@@ -236,7 +262,8 @@ pub record Alike (one other : Result (List Operation) Id) : Type 0 where
 -- Sets of one family, which together hold the same ids, joined in whatever order, grouping and repetition: none is refused,
 -- and the unions are equal but for texts left out, and show and pick the same.
 abbrev pub UnionsAlike : Type 0
-UnionsAlike = (family : Id → Operation) (one other : Joining) → AreOf family one → AreOf family other →
+UnionsAlike =
+    (family : Id → Operation) (one other : Joining) → AreOf family one → AreOf family other →
     ((id : Id) → one_holds one id ≡ one_holds other id) → Alike (union_by one) (union_by other)
 
 -- ---- for the code: a set that changes in place
@@ -244,25 +271,31 @@ UnionsAlike = (family : Id → Operation) (one other : Joining) → AreOf family
 -- a full operation of a held id that agrees with what is held changes nothing
 abbrev pub PutHeld : Type 0
 PutHeld =
-    (held : List Operation) (p o : Operation) → rises held ≡ true → get held o.id ≡ Some p → agree p o ≡ true → is_full o ≡ true
+    (held : List Operation) (p o : Operation) → rises held ≡ true → get held o.id ≡ Some p
+    → agree p o ≡ true → is_full o ≡ true
     → put o held ≡ held
 
 -- where the thinned ones are among those that a set's own operations name, it is legal still, and it stands for what it did
 abbrev pub ThinWhereIsLegal : Type 0
 ThinWhereIsLegal =
-    (s : List Operation) (p : Id → Bool) → rises s ≡ true → is_legal s ≡ true → ArePast p s → is_legal (thin_where p s) ≡ true
+    (s : List Operation) (p : Id → Bool) → rises s ≡ true → is_legal s ≡ true → ArePast p s
+    → is_legal (thin_where p s) ≡ true
 
 -- What is held is joined in two steps: first what is new, then the texts of those are left out that the other has thinned. In
 -- between the set is legal too.
 pub record TwoSteps (a b : List Operation) : Type 0 where
-  pub joins : join a b ≡ thin_where (is_thinned_in b) (join a (filter (λ o. is_none (get a o.id)) b))
-  pub legal : is_legal a ≡ true → is_legal b ≡ true → is_legal (join a (filter (λ o. is_none (get a o.id)) b)) ≡ true
+  pub joins : join a b ≡ thin_where (is_thinned_in b)
+      (join a (filter (λ o. is_none (get a o.id)) b))
+  pub legal : is_legal a ≡ true → is_legal b ≡ true
+      → is_legal (join a (filter (λ o. is_none (get a o.id)) b)) ≡ true
 
 -- the law: sets that do not clash are joined in these two steps
 abbrev pub JoinInTwoSteps : Type 0
-JoinInTwoSteps = (a b : List Operation) → rises a ≡ true → rises b ≡ true → clash a b ≡ None → TwoSteps a b
+JoinInTwoSteps =
+    (a b : List Operation) → rises a ≡ true → rises b ≡ true → clash a b ≡ None → TwoSteps a b
 
 -- a held operation of its segment names an operation exactly where the segment does not show it
 abbrev pub PastIsNotShown : Type 0
 PastIsNotShown =
-    (s : List Operation) (o : Operation) → rises s ≡ true → get s o.id ≡ Some o → is_past s o ≡ not (is_among (shown_ids s o.segment) o.id)
+    (s : List Operation) (o : Operation) → rises s ≡ true → get s o.id ≡ Some o
+    → is_past s o ≡ not (is_among (shown_ids s o.segment) o.id)

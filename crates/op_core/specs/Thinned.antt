@@ -52,7 +52,8 @@ is_thinned_in held id = list_any (λ o. same_id id o.id && is_thinned o) held
 
 -- each held operation whose id passes is past
 abbrev pub ArePast : (Id → Bool) → List Operation → Type 0
-ArePast p held = (o : Operation) → get held o.id ≡ Some o → IsTrue (p o.id) → IsTrue (is_past held o)
+ArePast p held =
+    (o : Operation) → get held o.id ≡ Some o → IsTrue (p o.id) → IsTrue (is_past held o)
 
 -- ---- sets that are equal but for texts left out
 
@@ -68,7 +69,8 @@ pub record StandsFor (held whole : List Operation) : Type 0 where
   pub legal : IsTrue (is_legal held)
   pub whole_full : IsTrue (all_full whole)
   pub skeletons : skeleton held ≡ skeleton whole
-  pub within : (id : Id) (o : Operation) → get held id ≡ Some o → is_full o ≡ true → get whole id ≡ Some o
+  pub within : (id : Id) (o : Operation) → get held id ≡ Some o → is_full o ≡ true
+      → get whole id ≡ Some o
 
 -- an operation is the other one, or the same without its text
 pub record StandsIn (o whole : Operation) : Type 0 where
@@ -94,7 +96,8 @@ is_lacked knows o = not (knows o.id)
 
 -- whether a thinned operation of the segment is lacked
 abbrev pub lacks_thinned : List Operation → (Id → Bool) → Segment → Bool
-lacks_thinned held knows g = list_any (λ p. in_segment g p && (is_thinned p && is_lacked knows p)) held
+lacks_thinned held knows g =
+    list_any (λ p. in_segment g p && (is_thinned p && is_lacked knows p)) held
 
 -- whether the operation is lacked, or a thinned one of its segment is
 abbrev pub is_sent : List Operation → (Id → Bool) → Operation → Bool

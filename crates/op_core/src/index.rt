@@ -6,7 +6,7 @@ ghost use Rattle.op_core.specs.Ids.{ids_rise, same_id};
 ghost use Rattle.op_core.specs.Thinned as thinned;
 ghost use Rattle.op_core.specs.Sets as sets;
 ghost use Rattle.op_core.specs.Sets.{IsOpSet};
-ghost use Rattle.op_core.specs.Index.{register_of, shown_in, IsOrderly, IsIndex, AreApart, Changes, Same};
+ghost use Rattle.op_core.specs.Loops.Index.{register_of, shown_in, IsOrderly, IsIndex, AreApart, Changes, Same};
 
 pub(crate) mod change;
 mod lay;
@@ -61,7 +61,8 @@ pub(crate) fn put_in(
 ) -> Result<(), AllocError>
     requires orderly { IsOrderly chapters.old.items }
     requires absent { register_of (segment book register.key) chapters.old.items ≡ None }
-    ensures ok { OnOk result (Changes (segment book register.key) register chapters.old.items chapters.new.items) }
+    ensures ok { OnOk result
+        (Changes (segment book register.key) register chapters.old.items chapters.new.items) }
     ensures err { OnErr result (Same chapters.old.items chapters.new.items) }
 {
     let head = head_of(register.key);
@@ -114,7 +115,8 @@ pub(crate) fn leave_past(
 fn is_past(chapters: &[Chapter], op: &Op, near: &mut Near, compared: &mut u64) -> bool
     requires orderly { IsOrderly chapters.now }
     requires rising { IsTrue (ids_rise (shown_in (register_of op.now.segment chapters.now))) }
-    ensures { result ≡ not (list_any (same_id op.now.id) (shown_in (register_of op.now.segment chapters.now))) }
+    ensures { result
+        ≡ not (list_any (same_id op.now.id) (shown_in (register_of op.now.segment chapters.now))) }
 {
     let shown = shown_of(chapters, op.book(), op.key(), near, compared);
     !has_id(shown, op.id(), compared)

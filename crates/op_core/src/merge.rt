@@ -4,7 +4,7 @@ ghost use Rattle.std.specs.Prelude.{filter, take, drop, reverse, vec_len, vec_ca
 ghost use Rattle.std.specs.List.{AllByRecursion, list_any};
 ghost use Rattle.op_core.specs.Ops.{IsOperation};
 ghost use Rattle.op_core.specs.Sets as sets;
-ghost use Rattle.op_core.specs.Index.{AreApart, IsBefore};
+ghost use Rattle.op_core.specs.Loops.Index.{AreApart, IsBefore};
 
 use crate::op::Op;
 use crate::op_id::OpId;

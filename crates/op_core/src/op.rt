@@ -30,9 +30,21 @@ impl Model for Op {
 
     ghost Value = { Operation };
 
-    ghost view = { λ a. record { id = a.id; segment = segment a.book a.key; replaced = a.replaced.items; text = option_map (λ t. string_bytes t) a.text } };
+    ghost view = { λ a. record {
+      id = a.id;
+      segment = segment a.book a.key;
+      replaced = a.replaced.items;
+      text = option_map (λ t. string_bytes t) a.text;
+    } };
 
-    ghost invariant = { λ a. IsOperation (record { id = a.id; segment = segment a.book a.key; replaced = a.replaced.items; text = option_map (λ t. string_bytes t) a.text }) };
+    ghost invariant = { λ a. IsOperation
+        (record {
+          id = a.id;
+          segment = segment a.book a.key;
+          replaced = a.replaced.items;
+          text =
+              option_map (λ t. string_bytes t) a.text;
+        }) };
 }
 
 impl Op {
@@ -42,7 +54,12 @@ impl Op {
     pub fn new(id: OpId, book: Book, key: Key, replaced: Vec<OpId>, text: String) -> Op
         requires falls { IsTrue (ids.names_fall id replaced.items) }
         requires fits { Fits book key (string_bytes text) }
-        ensures { result ≡ record { id = id; segment = segment book key; replaced = replaced.items; text = Some (string_bytes text) } }
+        ensures { result ≡ record {
+          id = id;
+          segment = segment book key;
+          replaced = replaced.items;
+          text = Some (string_bytes text);
+        } }
     {
         // Each part is looked at, which shows that it is within its ranges.
         let _ = &id.number;
@@ -63,7 +80,12 @@ impl Op {
     /// a smaller number than the operation's.
     pub fn thinned(id: OpId, book: Book, key: Key, replaced: Vec<OpId>) -> Op
         requires falls { IsTrue (ids.names_fall id replaced.items) }
-        ensures { result ≡ record { id = id; segment = segment book key; replaced = replaced.items; text = None } }
+        ensures { result ≡ record {
+          id = id;
+          segment = segment book key;
+          replaced = replaced.items;
+          text = None;
+        } }
     {
         let _ = &id.number;
         let _ = book.code();

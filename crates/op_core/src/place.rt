@@ -10,8 +10,8 @@ ghost use Rattle.usfm_ref.specs.Rising.{rises_by};
 ghost use Rattle.op_core.specs.Ids.{id_below, same_id};
 ghost use Rattle.op_core.specs.Thinned as thinned;
 ghost use Rattle.op_core.specs.Sets as sets;
-ghost use Rattle.op_core.specs.Index.{place_of, register_at, register_of, registers_of, shown_in, is_in};
-ghost use Rattle.op_core.specs.Index.{IsOrderly, Counts};
+ghost use Rattle.op_core.specs.Loops.Index.{place_of, register_at, register_of, registers_of, shown_in, is_in};
+ghost use Rattle.op_core.specs.Loops.Index.{IsOrderly, Counts};
 
 use crate::chapter::Chapter;
 use crate::ids::is_below;

@@ -8,7 +8,7 @@ ghost use Rattle.op_core.specs.Sets as sets;
 ghost use Rattle.op_core.specs.Thinned as thinned;
 ghost use Rattle.op_core.specs.Shown as texts;
 ghost use Rattle.op_core.specs.Lists as lists;
-ghost use Rattle.op_core.specs.Index.{is_missed, is_missed_in};
+ghost use Rattle.op_core.specs.Loops.Index.{is_missed, is_missed_in};
 ghost use Rattle.op_core.specs.NextIds as next_ids;
 ghost use Rattle.std.specs.List.{AllByRecursion, list_any};
 ghost use Rattle.usfm_ref.specs.Keys.{is_verse_of};
@@ -48,7 +48,7 @@ impl Model for OpSet {
     ghost use Rattle.std.specs.Prelude.{List};
     ghost use Rattle.op_core.specs.Ops.{Operation};
     ghost use Rattle.op_core.specs.Sets.{IsOpSet};
-    ghost use Rattle.op_core.specs.Index.{IsIndex};
+    ghost use Rattle.op_core.specs.Loops.Index.{IsIndex};
     ghost use Rattle.op_core.specs.Thinned.{is_legal};
     ghost use Rattle.std.specs.Prelude.{IsTrue};
 
@@ -56,7 +56,8 @@ impl Model for OpSet {
 
     ghost view = { λ s. s.ops.items };
 
-    ghost invariant = { λ s. IsOpSet s.ops.items × IsIndex s.ops.items s.chapters.items × IsTrue (is_legal s.ops.items) };
+    ghost invariant = { λ s. IsOpSet s.ops.items × IsIndex s.ops.items s.chapters.items
+        × IsTrue (is_legal s.ops.items) };
 }
 
 impl OpSet {
@@ -313,7 +314,8 @@ impl OpSet {
     // Adds what the chapters' registers miss and no operation has. Where that fails, there is one.
     fn push_awaited(&self, chapters: &[Chapter], ids: &mut Vec<OpId>) -> Result<(), AllocError>
         ensures ids { OnOk result ((q : Id) → list_any (same_id q) ids.new.items
-            ≡ (list_any (same_id q) ids.old.items || (is_missed_in chapters.now q && not (lists.is_held self.now q)))) }
+            ≡ (list_any (same_id q) ids.old.items
+            || (is_missed_in chapters.now q && not (lists.is_held self.now q)))) }
         ensures one { OnErr result ((q : Id)
             × IsTrue (is_missed_in chapters.now q && not (lists.is_held self.now q))) }
     {
@@ -325,7 +327,8 @@ impl OpSet {
 
     fn push_missing_in(&self, registers: &[Register], ids: &mut Vec<OpId>) -> Result<(), AllocError>
         ensures ids { OnOk result ((q : Id) → list_any (same_id q) ids.new.items
-            ≡ (list_any (same_id q) ids.old.items || (is_missed registers.now q && not (lists.is_held self.now q)))) }
+            ≡ (list_any (same_id q) ids.old.items
+            || (is_missed registers.now q && not (lists.is_held self.now q)))) }
         ensures one { OnErr result ((q : Id)
             × IsTrue (is_missed registers.now q && not (lists.is_held self.now q))) }
     {

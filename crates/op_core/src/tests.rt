@@ -1,4 +1,7 @@
-use super::*;
+mod plain;
+mod rows;
+
+use crate::{IdFault, Op, OpId, OpSet, Picked, ReplicaName, SetFault, names_fall};
 use std::alloc::Global;
 use std::test::Fail;
 use usfm_ref::{Book, Key, Place};

@@ -4,9 +4,9 @@ ghost use Rattle.std.specs.Prelude.{◌≡◌, ◌&&◌, not, IsTrue, IfOk};
 ghost use Rattle.usfm_ref.specs.Segments.{segment};
 ghost use Rattle.op_core.specs.Ids.{Id, ids_rise};
 ghost use Rattle.op_core.specs.Sets as sets;
-ghost use Rattle.op_core.specs.Index.{IsChangeOf, IsRisingChange, among, is_in};
+ghost use Rattle.op_core.specs.Loops.Index.{IsChangeOf, IsRisingChange, among, is_in};
 
-use crate::ids::{common_ids, leave_ids};
+use crate::ids::{common_ids, leave_ids, part_ids};
 use crate::op::Op;
 use crate::op_id::OpId;
 use crate::place::is_in;
@@ -26,40 +26,70 @@ pub(crate) struct Change {
     pub(crate) found: Vec<OpId>,
 }
 
+/// Lists that changes are reckoned in, one segment after the other: the ids that arrive and those that
+/// are named, and what of each is not in the other.
+#[derive(Debug, Drop)]
+pub(crate) struct Aside {
+    pub(crate) arrived: Vec<OpId>,
+    pub(crate) named: Vec<OpId>,
+    pub(crate) fresh: Vec<OpId>,
+    pub(crate) absent: Vec<OpId>,
+}
+
+impl Aside {
+    // Lists that take no memory yet.
+    pub(crate) fn new(alloc: Global) -> Aside {
+        Aside {
+            arrived: Vec::new(alloc),
+            named: Vec::new(alloc),
+            fresh: Vec::new(alloc),
+            absent: Vec::new(alloc),
+        }
+    }
+}
+
 // What changes at a register's segment as these ids arrive, of whose operations those name others. What
 // arrives is shown if it is neither named nor was missed; what is named and is of no operation is missed.
+// The lists that a register may keep take no more than they need.
 pub(crate) fn change_of(
     alloc: Global,
     held: &[Op],
     book: Book,
     register: &Register,
-    mut arrived: Vec<OpId>,
-    mut named: Vec<OpId>,
+    aside: &mut Aside,
     compared: &mut u64,
 ) -> Result<Change, AllocError>
     requires held { IsTrue (sets.rises held.now) }
     requires shown { IsTrue (ids_rise register.now.shown.items) }
     requires missing { IsTrue (ids_rise register.now.missing.items) }
-    requires arrived { IsTrue (ids_rise arrived.items) }
-    requires named { IsTrue (ids_rise named.items) }
-    ensures change { IfOk result (λ c. IsChangeOf held.now (segment book register.now.key) (among arrived.items) (among named.items) register.now.shown.items register.now.missing.items c) }
+    requires arrived { IsTrue (ids_rise aside.old.arrived.items) }
+    requires named { IsTrue (ids_rise aside.old.named.items) }
+    ensures change { IfOk result (λ c. IsChangeOf held.now (segment book register.now.key)
+        (among aside.old.arrived.items) (among aside.old.named.items)
+        register.now.shown.items register.now.missing.items c) }
     ensures rising { IfOk result IsRisingChange }
 {
-    let leaving = common_ids(alloc, &named, &register.shown, compared)?;
-    let found = common_ids(alloc, &arrived, &register.missing, compared)?;
-    let both = common_ids(alloc, &arrived, &named, compared)?;
-    leave_ids(&mut arrived, &both, compared);
-    leave_ids(&mut arrived, &found, compared);
-    leave_ids(&mut named, &both, compared);
-    leave_ids(&mut named, &leaving, compared);
-    leave_ids(&mut named, &register.missing, compared);
-    leave_held(&mut named, held, book, register.key, compared);
+    let leaving = common_ids(alloc, &aside.named, &register.shown, compared)?;
+    let found = common_ids(alloc, &aside.arrived, &register.missing, compared)?;
+    part_ids(
+        &mut aside.fresh,
+        &mut aside.absent,
+        &aside.arrived,
+        &aside.named,
+        compared,
+    )?;
+    leave_ids(&mut aside.fresh, &found, compared);
+    leave_ids(&mut aside.absent, &leaving, compared);
+    leave_ids(&mut aside.absent, &register.missing, compared);
+    leave_held(&mut aside.absent, held, book, register.key, compared);
+    let arrived = Vec::from_slice(alloc, &aside.fresh)?;
+    let lacking = Vec::from_slice(alloc, &aside.absent)?;
     Ok(Change {
         book,
         key: register.key,
         arrived,
         leaving,
-        lacking: named,
+        lacking,
         found,
     })
 }
@@ -69,7 +99,8 @@ fn leave_held(ids: &mut Vec<OpId>, held: &[Op], book: Book, key: Key, compared: 
     requires held { IsTrue (sets.rises held.now) }
     requires rising { IsTrue (ids_rise ids.old.items) }
     ensures rising { IsTrue (ids_rise ids.new.items) }
-    ensures members { (q : Id) → among ids.new.items q ≡ (among ids.old.items q && not (is_in held.now (segment book key) q)) }
+    ensures members { (q : Id) → among ids.new.items q
+        ≡ (among ids.old.items q && not (is_in held.now (segment book key) q)) }
 {
     let mut kept = 0;
     for i in 0..ids.len() {

@@ -7,8 +7,8 @@ ghost use Rattle.usfm_ref.specs.Keys as keys;
 ghost use Rattle.usfm_ref.specs.Keys.{key_cmp, same_key};
 ghost use Rattle.usfm_ref.specs.Segments.{segment, segment_cmp};
 ghost use Rattle.usfm_ref.specs.Rising.{rises_by};
-ghost use Rattle.op_core.specs.Index.{place_of, is_there, IsOrderly, begins_above};
-ghost use Rattle.op_core.specs.Index.{Lays, LaysKeys, Readies};
+ghost use Rattle.op_core.specs.Loops.Index.{place_of, is_there, IsOrderly, begins_above};
+ghost use Rattle.op_core.specs.Loops.Index.{Lays, LaysKeys, Readies};
 
 use super::put_in;
 use super::turns::Turn;
@@ -70,15 +70,25 @@ fn spots_of(
 ) -> Result<Vec<Spot>, AllocError>
     requires { IsOrderly chapters.now }
 {
-    let mut spots: Vec<Spot> = Vec::new(alloc);
-    for turn in turns {
-        let (book, key) = (turn.book, turn.key);
-        if !is_laid(chapters, book, key, near, compared) {
+    let mut spots = Vec::new(alloc);
+    for at in 0..turns.len() {
+        let (book, key) = (turns[at].book, turns[at].key);
+        if !is_again(turns, at, compared) && !is_laid(chapters, book, key, near, compared) {
             spots.push(Spot { book, key })?;
         }
     }
-    spots.dedup();
     Ok(spots)
+}
+
+// Whether a turn is of the segment of the one before it.
+fn is_again(turns: &[Turn], at: usize, compared: &mut u64) -> bool
+    requires { at < length turns.now }
+{
+    if at == 0 {
+        return false;
+    }
+    *compared = compared.saturating_add(1);
+    turns[at].order(&turns[at - 1]).is_eq()
 }
 
 // Whether a segment has a register.

@@ -4,17 +4,16 @@ ghost use Rattle.std.specs.Prelude.{◌≡◌, IsTrue, IfOk};
 ghost use Rattle.usfm_ref.specs.Segments.{segment};
 ghost use Rattle.op_core.specs.Ids.{ids_rise};
 ghost use Rattle.op_core.specs.Sets as sets;
-ghost use Rattle.op_core.specs.Index.{IsOrderly, IsIndex, register_of, shown_in, missing_in, is_there, among};
-ghost use Rattle.op_core.specs.Index.{IsAt, IsSameBut, IsChangeOf, IsRisingChange, HasRoomIn, Readies};
-ghost use Rattle.op_core.specs.Turns.{never_fall, comes, is_called};
-ghost use Rattle.op_core.specs.Changes.{AreChanges, AllHaveRoom};
+ghost use Rattle.op_core.specs.Loops.Index.{IsOrderly, IsIndex, register_of, shown_in, missing_in, is_there, among};
+ghost use Rattle.op_core.specs.Loops.Index.{IsAt, IsSameBut, IsChangeOf, IsRisingChange, HasRoomIn, Readies};
+ghost use Rattle.op_core.specs.Loops.Turns.{turn_at, never_fall, comes, is_called};
+ghost use Rattle.op_core.specs.Loops.Changes.{AreChanges, AllHaveRoom};
 
-use super::change::Change;
+use super::change::{Aside, Change};
 use super::lay::lay;
-use super::turns::{Turn, arrived_in, named_in, run_len};
+use super::turns::{Turn, gather_arrived, gather_named, run_len};
 use crate::chapter::{Chapter, ready_at_key};
 use crate::op::Op;
-use crate::op_id::OpId;
 use crate::place::{Near, head_of, place_chapter};
 use std::alloc::{AllocError, Global};
 use usfm_ref::{Book, Key};
@@ -33,16 +32,18 @@ pub(crate) fn ready_all(
     requires index { IsIndex held.now chapters.old.items }
     requires sorted { IsTrue (never_fall turns.now) }
     ensures same { Readies chapters.old.items chapters.new.items }
-    ensures changes { IfOk result (λ changes. AreChanges held.now new.now turns.now chapters.new.items changes.items) }
+    ensures changes { IfOk result (λ changes.
+        AreChanges held.now new.now turns.now chapters.new.items changes.items) }
     ensures room { IfOk result (λ changes. AllHaveRoom chapters.new.items changes.items) }
 {
     let mut changes = Vec::new(alloc);
+    let mut aside = Aside::new(alloc);
     let mut rest = turns;
     'runs: while let Some((first, others)) = rest.split_first() {
         let len = 1 + run_len(first, others, compared);
         let (own, later) = rest.split_at(len);
         let change = ready_run(
-            chapters, alloc, held, new, first.book, first.key, own, near, compared,
+            chapters, alloc, held, new, *first, own, &mut aside, near, compared,
         )?;
         changes.push(change)?;
         rest = later;
@@ -56,25 +57,27 @@ fn ready_run(
     alloc: Global,
     held: &[Op],
     new: &[Op],
-    book: Book,
-    key: Key,
+    first: Turn,
     own: &[Turn],
+    aside: &mut Aside,
     near: &mut Near,
     compared: &mut u64,
 ) -> Result<Change, AllocError>
     requires held { IsTrue (sets.rises held.now) }
     requires index { IsIndex held.now chapters.old.items }
     ensures same { Readies chapters.old.items chapters.new.items }
-    ensures change { IfOk result (λ c. IsChangeOf held.now (segment book key) (comes new.now own.now) (is_called new.now own.now) (shown_in (register_of (segment book key) chapters.new.items)) (missing_in (register_of (segment book key) chapters.new.items)) c) }
+    ensures change { IfOk result (λ c. IsChangeOf held.now (turn_at first)
+        (comes new.now own.now) (is_called new.now own.now)
+        (shown_in (register_of (turn_at first) chapters.new.items))
+        (missing_in (register_of (turn_at first) chapters.new.items)) c) }
     ensures rising { IfOk result IsRisingChange }
-    ensures room { IfOk result (λ c. HasRoomIn c (register_of (segment book key) chapters.new.items)) }
+    ensures room { IfOk result (λ c. HasRoomIn c (register_of (turn_at first) chapters.new.items)) }
 {
+    let (book, key) = (first.book, first.key);
     lay(chapters, alloc, book, key, near, compared)?;
-    let arrived = arrived_in(alloc, new, own, compared)?;
-    let named = named_in(alloc, new, own, compared)?;
-    ready(
-        chapters, alloc, held, book, key, arrived, named, near, compared,
-    )
+    gather_arrived(&mut aside.arrived, new, own, compared)?;
+    gather_named(&mut aside.named, new, own, compared)?;
+    ready(chapters, alloc, held, book, key, aside, near, compared)
 }
 
 // What changes at a segment, which has a register, as these ids arrive there, and the room for that.
@@ -84,22 +87,27 @@ fn ready(
     held: &[Op],
     book: Book,
     key: Key,
-    arrived: Vec<OpId>,
-    named: Vec<OpId>,
+    aside: &mut Aside,
     near: &mut Near,
     compared: &mut u64,
 ) -> Result<Change, AllocError>
     requires held { IsTrue (sets.rises held.now) }
     requires orderly { IsOrderly chapters.old.items }
     requires there { IsTrue (is_there (segment book key) chapters.old.items) }
-    requires shown { IsTrue (ids_rise (shown_in (register_of (segment book key) chapters.old.items))) }
-    requires missing { IsTrue (ids_rise (missing_in (register_of (segment book key) chapters.old.items))) }
-    requires arrived { IsTrue (ids_rise arrived.items) }
-    requires named { IsTrue (ids_rise named.items) }
+    requires shown { IsTrue
+        (ids_rise (shown_in (register_of (segment book key) chapters.old.items))) }
+    requires missing { IsTrue
+        (ids_rise (missing_in (register_of (segment book key) chapters.old.items))) }
+    requires arrived { IsTrue (ids_rise aside.old.arrived.items) }
+    requires named { IsTrue (ids_rise aside.old.named.items) }
     ensures same { IsAt IsSameBut (segment book key) chapters.old.items chapters.new.items }
-    ensures change { IfOk result (λ c. IsChangeOf held.now (segment book key) (among arrived.items) (among named.items) (shown_in (register_of (segment book key) chapters.old.items)) (missing_in (register_of (segment book key) chapters.old.items)) c) }
+    ensures change { IfOk result (λ c. IsChangeOf held.now (segment book key)
+        (among aside.old.arrived.items) (among aside.old.named.items)
+        (shown_in (register_of (segment book key) chapters.old.items))
+        (missing_in (register_of (segment book key) chapters.old.items)) c) }
     ensures rising { IfOk result IsRisingChange }
-    ensures room { IfOk result (λ c. HasRoomIn c (register_of (segment book key) chapters.new.items)) }
+    ensures room { IfOk result
+        (λ c. HasRoomIn c (register_of (segment book key) chapters.new.items)) }
 {
     let at = place_chapter(chapters, book, head_of(key), &mut near.chapter, compared);
     ready_at_key(
@@ -108,8 +116,7 @@ fn ready(
         held,
         book,
         key,
-        arrived,
-        named,
+        aside,
         &mut near.register,
         compared,
     )

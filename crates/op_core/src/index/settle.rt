@@ -4,9 +4,9 @@ ghost use Rattle.std.specs.List.{AllByRecursion};
 ghost use Rattle.usfm_ref.specs.Segments.{Segment, segment_cmp};
 ghost use Rattle.usfm_ref.specs.Rising.{rises_by};
 ghost use Rattle.op_core.specs.Ids.{ids_rise};
-ghost use Rattle.op_core.specs.Index.{register_of, shown_in, missing_in, change_at, IsOrderly, IsAt, Takes};
-ghost use Rattle.op_core.specs.Index.{HasRoomIn, IsRisingChange};
-ghost use Rattle.op_core.specs.Changes.{AllHaveRoom, Settles};
+ghost use Rattle.op_core.specs.Loops.Index.{register_of, shown_in, missing_in, change_at, IsOrderly, IsAt, Takes};
+ghost use Rattle.op_core.specs.Loops.Index.{HasRoomIn, IsRisingChange};
+ghost use Rattle.op_core.specs.Loops.Changes.{AllHaveRoom, Settles};
 
 use super::change::Change;
 use crate::chapter::{Chapter, take_at_key};
@@ -20,8 +20,10 @@ pub(crate) fn settle_all(
     compared: &mut u64,
 )
     requires orderly { IsOrderly chapters.old.items }
-    requires shown { (g : Segment) → IsTrue (ids_rise (shown_in (register_of g chapters.old.items))) }
-    requires missing { (g : Segment) → IsTrue (ids_rise (missing_in (register_of g chapters.old.items))) }
+    requires shown { (g : Segment) →
+        IsTrue (ids_rise (shown_in (register_of g chapters.old.items))) }
+    requires missing { (g : Segment) →
+        IsTrue (ids_rise (missing_in (register_of g chapters.old.items))) }
     requires rising { IsTrue (rises_by segment_cmp change_at changes.items) }
     requires each { AllByRecursion IsRisingChange changes.items }
     requires room { AllHaveRoom chapters.old.items changes.items }
@@ -35,8 +37,10 @@ pub(crate) fn settle_all(
 // Makes one change.
 fn settle(chapters: &mut Vec<Chapter>, change: Change, near: &mut Near, compared: &mut u64)
     requires orderly { IsOrderly chapters.old.items }
-    requires shown { IsTrue (ids_rise (shown_in (register_of (change_at change) chapters.old.items))) }
-    requires missing { IsTrue (ids_rise (missing_in (register_of (change_at change) chapters.old.items))) }
+    requires shown { IsTrue
+        (ids_rise (shown_in (register_of (change_at change) chapters.old.items))) }
+    requires missing { IsTrue
+        (ids_rise (missing_in (register_of (change_at change) chapters.old.items))) }
     requires change { IsRisingChange change }
     requires room { HasRoomIn change (register_of (change_at change) chapters.old.items) }
     ensures { IsAt (Takes change) (change_at change) chapters.old.items chapters.new.items }

@@ -1,11 +1,11 @@
 // New operations sorted by their segments, so that those of one segment stand beside each other.
-ghost use Rattle.std.specs.Prelude.{◌≡◌, ◌≤◌, IsTrue, ◌∷◌, IfOk, take, drop, length};
+ghost use Rattle.std.specs.Prelude.{◌≡◌, ◌≤◌, IsTrue, ◌∷◌, IfOk, OnOk, take, drop, length};
 ghost use Rattle.std.specs.List.{AllByRecursion, list_all};
 ghost use Rattle.std.specs.Ordering.{is_lt};
 ghost use Rattle.usfm_ref.specs.Segments.{segment_cmp};
 ghost use Rattle.op_core.specs.Ids.{Id, ids_rise};
-ghost use Rattle.op_core.specs.Index.{among};
-ghost use Rattle.op_core.specs.Turns.{turn_at, never_fall, comes, is_called, AreTurnsOf};
+ghost use Rattle.op_core.specs.Loops.Index.{among};
+ghost use Rattle.op_core.specs.Loops.Turns.{turn_at, never_fall, comes, is_called, AreTurnsOf};
 
 use crate::ids::sort_ids;
 use crate::op::Op;
@@ -24,10 +24,13 @@ pub(crate) struct Turn {
 
 impl Turn {
     // How its segment stands to that of another one.
-    fn order(&self, other: &Turn) -> Ordering
+    pub(crate) fn order(&self, other: &Turn) -> Ordering
         ensures { result ≡ segment_cmp (turn_at self.now) (turn_at other.now) }
     {
-        self.book.cmp(&other.book).then(self.key.cmp(&other.key))
+        match self.book.cmp(&other.book) {
+            Ordering::Equal => self.key.cmp(&other.key),
+            unequal => unequal,
+        }
     }
 }
 
@@ -44,10 +47,10 @@ pub(crate) fn turns_of(
         let (book, key) = (new[at].book(), new[at].key());
         turns.push(Turn { book, key, at })?;
     }
-    turns.sort_unstable_by(|a, b| {
+    turns.sort_by(|a, b| {
         *compared = compared.saturating_add(1);
         a.order(b)
-    });
+    })?;
     Ok(turns)
 }
 
@@ -56,7 +59,8 @@ pub(crate) fn run_len(first: &Turn, turns: &[Turn], compared: &mut u64) -> usize
     requires { IsTrue (never_fall (first.now ∷ turns.now)) }
     ensures within { result ≤ length turns.now }
     ensures own { AllByRecursion (λ t. turn_at t ≡ turn_at first.now) (take result turns.now) }
-    ensures later { IsTrue (list_all (λ t. is_lt (segment_cmp (turn_at first.now) (turn_at t))) (drop result turns.now)) }
+    ensures later { IsTrue (list_all (λ t. is_lt (segment_cmp (turn_at first.now) (turn_at t)))
+        (drop result turns.now)) }
 {
     for at in 0..turns.len() {
         *compared = compared.saturating_add(1);
@@ -67,42 +71,42 @@ pub(crate) fn run_len(first: &Turn, turns: &[Turn], compared: &mut u64) -> usize
     turns.len()
 }
 
-// The ids of the operations whose turn it is.
-pub(crate) fn arrived_in(
-    alloc: Global,
+// Puts into a list the ids of the operations whose turn it is, in place of what it has.
+pub(crate) fn gather_arrived(
+    ids: &mut Vec<OpId>,
     new: &[Op],
     own: &[Turn],
     compared: &mut u64,
-) -> Result<Vec<OpId>, AllocError>
-    ensures rising { IfOk result (λ ids. IsTrue (ids_rise ids.items)) }
-    ensures members { IfOk result (λ ids. (q : Id) → among ids.items q ≡ comes new.now own.now q) }
+) -> Result<(), AllocError>
+    ensures rising { OnOk result (IsTrue (ids_rise ids.new.items)) }
+    ensures members { OnOk result ((q : Id) → among ids.new.items q ≡ comes new.now own.now q) }
 {
-    let mut ids = Vec::with_capacity(alloc, own.len())?;
+    ids.clear();
     for turn in own {
         if let Some(op) = new.get(turn.at) {
             ids.push(op.id())?;
         }
     }
-    sort_ids(&mut ids, compared);
-    Ok(ids)
+    sort_ids(ids, compared);
+    Ok(())
 }
 
-// The ids that they name.
-pub(crate) fn named_in(
-    alloc: Global,
+// The same with the ids that they name.
+pub(crate) fn gather_named(
+    ids: &mut Vec<OpId>,
     new: &[Op],
     own: &[Turn],
     compared: &mut u64,
-) -> Result<Vec<OpId>, AllocError>
-    ensures rising { IfOk result (λ ids. IsTrue (ids_rise ids.items)) }
-    ensures members { IfOk result (λ ids. (q : Id) → among ids.items q ≡ is_called new.now own.now q) }
+) -> Result<(), AllocError>
+    ensures rising { OnOk result (IsTrue (ids_rise ids.new.items)) }
+    ensures members { OnOk result ((q : Id) → among ids.new.items q ≡ is_called new.now own.now q) }
 {
-    let mut ids = Vec::new(alloc);
+    ids.clear();
     for turn in own {
         if let Some(op) = new.get(turn.at) {
             ids.extend_from_slice(op.replaced())?;
         }
     }
-    sort_ids(&mut ids, compared);
-    Ok(ids)
+    sort_ids(ids, compared);
+    Ok(())
 }

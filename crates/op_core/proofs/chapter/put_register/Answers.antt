@@ -16,7 +16,10 @@ returns-clause-ok c =
     let went : is_ok c.insert.result ≡ true = ap is_ok c.unwrap.ensures in
     let same = c.reserve_register.ensures.items in
     let at = c.place_register-at.ensures.place
-    ∙ ap (λ (rs : List Register). place key_cmp key_total (λ (r : Register). r.key) c.args.register.key rs) (c.deref.ensures.value ∙ same) in
-    let items : c.insert.new.self.items ≡ insert c.args.registers.now.items c.place_register-at.result c.args.register = c.insert.ensures.items
+    ∙ ap (λ (rs : List Register). place key_cmp key_total (λ (r : Register). r.key) c.args.register.key rs)
+    (c.deref.ensures.value ∙ same) in
+    let items : c.insert.new.self.items ≡ insert c.args.registers.now.items c.place_register-at.result c.args.register =
+    c.insert.ensures.items
     ∙ cond-true _ _ _ went ∙ ap (λ (rs : List Register). insert rs c.place_register-at.result c.args.register) same in
-    rw items (insert_changes c.args.register.key c.args.registers.now.items c.place_register-at.result c.requires.rising at c.args.register c.requires.absent refl)
+    rw items (insert_changes c.args.register.key c.args.registers.now.items c.place_register-at.result c.requires.rising at c.args.register
+    c.requires.absent refl)

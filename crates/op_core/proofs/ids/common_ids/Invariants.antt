@@ -1,5 +1,5 @@
 use Rattle.std.proofs.Common.{◌≡◌, filter, take}
-use Rattle.op_core.specs.Index.{among}
+use Rattle.op_core.specs.Loops.Index.{among}
 use Rattle.op_core.proofs.ids.common_ids.Given as goal
 
 abbrev pub invariant-loop-id : goal.invariant-loop-id

@@ -1,6 +1,6 @@
 use Rattle.std.proofs.Common.{◌≡◌, ◌≤◌, ◌+◌, ◌||◌, true, take, length, vec_len, vec_capacity}
 use Rattle.op_core.specs.Ids.{Id, ids_rise}
-use Rattle.op_core.specs.Index.{among}
+use Rattle.op_core.specs.Loops.Index.{among}
 use Rattle.op_core.proofs.ids.put_ids.Given as goal
 
 abbrev pub invariant-loop-id : goal.invariant-loop-id

@@ -8,13 +8,15 @@ loop-i-preserved c =
     let h = c.loop-i.invariant in
     elim c.if-not-has_id.branch [
       | then-not-has_id w ↦ rw (w.ids-is, w.kept-is) (record {
-        filters = FiltersInPlace-more_swap {x = c.index.result.now} h.filters (omega arith) (ap not (sym c.has_id.ensures ∙ w.if-not-has_id.true)) c.index.ensures w.swap.ensures.by_index;
+        filters = FiltersInPlace-more_swap {x = c.index.result.now} h.filters (omega arith)
+            (ap not (sym c.has_id.ensures ∙ w.if-not-has_id.true)) c.index.ensures w.swap.ensures.by_index;
         behind = omega (arith, h.behind);
         capacity = w.swap.ensures.capacity ∙ h.capacity;
         len = w.swap.ensures.len ∙ h.len;
       })
       | else-not-has_id w ↦ rw (w.ids-is, w.kept-is) (record {
-        filters = FiltersInPlace-more_no {x = c.index.result.now} h.filters (omega arith) (ap not (sym c.has_id.ensures ∙ w.if-not-has_id.false)) c.index.ensures;
+        filters = FiltersInPlace-more_no {x = c.index.result.now} h.filters (omega arith)
+            (ap not (sym c.has_id.ensures ∙ w.if-not-has_id.false)) c.index.ensures;
         behind = omega (arith, h.behind);
         capacity = h.capacity;
         len = h.len;

@@ -1,6 +1,6 @@
 use Rattle.std.proofs.Common.{◌≡◌, ◌≤◌, not, vec_capacity, vec_len}
 use Rattle.std.proofs.lemmas.List.Filters.{FiltersInPlace}
-use Rattle.op_core.specs.Index.{among}
+use Rattle.op_core.specs.Loops.Index.{among}
 use Rattle.op_core.proofs.ids.sift_ids.Given as goal
 
 abbrev pub invariant-loop-i : goal.invariant-loop-i

@@ -1,7 +1,7 @@
 use Rattle.std.proofs.Common.{ap, ◌∙◌, ◌≡◌}
 use Rattle.usfm_ref.specs.Segments.{Segment, segment}
 use Rattle.op_core.specs.Ids.{ids_rise}
-use Rattle.op_core.specs.Index.{register_of, shown_in}
+use Rattle.op_core.specs.Loops.Index.{register_of, shown_in}
 use Rattle.op_core.proofs.index.is_past.Goals as goal
 
 pub has_id-requires : goal.has_id-requires

@@ -4,7 +4,7 @@ use Rattle.std.specs.List.{list_any}
 use Rattle.std.proofs.lemmas.List.{get_or_default, length-take}
 use Rattle.op_core.specs.Ids.{same_id, ids_rise}
 use Rattle.op_core.specs.Ops.{Operation, is_full, bare}
-use Rattle.op_core.specs.Index.{register_of, shown_in}
+use Rattle.op_core.specs.Loops.Index.{register_of, shown_in}
 use Rattle.op_core.specs.Thinned.{is_past, is_left_out, thinned_in}
 use Rattle.op_core.proofs.Kept.{shown_ids_rise}
 use Rattle.op_core.proofs.Past.{walk_get, walk_length, walk_past, walk_stays, told_past, counts_more, counts_same, counts_within}
@@ -31,12 +31,15 @@ loop-i-preserved c =
     let h = c.loop-i.invariant.ops in
     let lt : i < length s = c.loop-i-test.true in
     let at : o ≡ get_or s i o = c.index-ops-i.is ∙ ap (λ (xs : List Operation). get_or xs i o) h ∙ walk_get (thinned_in s) s i o lt in
-    let past = told_past s c.args.chapters.now i o c.is_past.result c.requires.set.rising c.requires.index lt at (c.is_past.ensures ∙ ap (λ (p : Operation). not (list_any (same_id p.id) (shown_in (register_of p.segment c.args.chapters.now)))) (sym c.index-ops-i.is)) in
+    let past = told_past s c.args.chapters.now i o c.is_past.result c.requires.set.rising c.requires.index lt at
+    (c.is_past.ensures ∙ ap (λ (p : Operation). not (list_any (same_id p.id) (shown_in (register_of p.segment c.args.chapters.now))))
+    (sym c.index-ops-i.is)) in
     let long = walk_length s c.loop-i.ops i h in
     let lt' : i < length c.loop-i.ops = omega (arith, lt, long) in
     elim c.if-is_past.branch [
       | then-is_past+then-leave_text w ↦
-          let same : get_or c.loop-i.ops i w.index-ops-i-then-is_past.result ≡ o = get_or_default c.loop-i.ops i w.index-ops-i-then-is_past.result o lt'
+          let same : get_or c.loop-i.ops i w.index-ops-i-then-is_past.result ≡ o =
+          get_or_default c.loop-i.ops i w.index-ops-i-then-is_past.result o lt'
           ∙ sym c.index-ops-i.is in
           let p : is_past s o ≡ true = sym past ∙ w.if-is_past.true in
           let f : is_full o ≡ true = ap is_full (sym same) ∙ sym w.leave_text.ensures.was ∙ w.if-leave_text.true in
@@ -47,7 +50,8 @@ loop-i-preserved c =
           }
       | else-is_past w ↦ elim w.else-is_past.branch [
         | else-is_past-via-then-is_past+else-leave_text v ↦
-            let same : get_or c.loop-i.ops i v.index-ops-i-then-is_past.result ≡ o = get_or_default c.loop-i.ops i v.index-ops-i-then-is_past.result o lt'
+            let same : get_or c.loop-i.ops i v.index-ops-i-then-is_past.result ≡ o =
+            get_or_default c.loop-i.ops i v.index-ops-i-then-is_past.result o lt'
             ∙ sym c.index-ops-i.is in
             let p : is_past s o ≡ true = sym past ∙ v.if-is_past.true in
             let f : is_full o ≡ false = ap is_full (sym same) ∙ sym v.leave_text.ensures.was ∙ v.if-leave_text.false in

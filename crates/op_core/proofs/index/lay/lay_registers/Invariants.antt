@@ -1,5 +1,5 @@
 use Rattle.std.proofs.Common.{length}
-use Rattle.op_core.specs.Index.{Lays}
+use Rattle.op_core.specs.Loops.Index.{Lays}
 use Rattle.op_core.proofs.index.lay.lay_registers.Given as goal
 
 abbrev pub invariant-groups : goal.invariant-groups

@@ -3,7 +3,7 @@ use Rattle.std.proofs.lemmas.Bool.{cond-true}
 use Rattle.usfm_ref.specs.Segments.{Segment, segment, segment_cmp}
 use Rattle.usfm_ref.proofs.Orders.{segment_total}
 use Rattle.usfm_ref.proofs.Sorted.{place}
-use Rattle.op_core.specs.Index.{place_of, chapter_of, begins_above}
+use Rattle.op_core.specs.Loops.Index.{place_of, chapter_of, begins_above}
 use Rattle.op_core.specs.declared.chapter.Chapter.{Chapter}
 use Rattle.op_core.proofs.Between.{rises_front}
 use Rattle.op_core.proofs.Laid.{chapters_moved, chapter_more}

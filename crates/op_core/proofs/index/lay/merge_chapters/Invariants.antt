@@ -1,5 +1,5 @@
 use Rattle.std.proofs.Common.{◌≤◌, ◌+◌, ◌++◌, reverse, length, vec_len, vec_capacity}
-use Rattle.op_core.specs.Index.{Lays}
+use Rattle.op_core.specs.Loops.Index.{Lays}
 use Rattle.op_core.proofs.index.lay.merge_chapters.Given as goal
 
 abbrev pub invariant-laying : goal.invariant-laying

@@ -3,7 +3,7 @@ use Rattle.std.proofs.lemmas.Bool.{cond-true}
 use Rattle.usfm_ref.specs.Keys.{head_of, key_cmp}
 use Rattle.usfm_ref.proofs.Orders.{key_total, same_key-is}
 use Rattle.usfm_ref.proofs.Sorted.{place}
-use Rattle.op_core.specs.Index.{begins_above}
+use Rattle.op_core.specs.Loops.Index.{begins_above}
 use Rattle.op_core.specs.declared.register.Register.{Register}
 use Rattle.op_core.proofs.Between.{rises_front}
 use Rattle.op_core.proofs.Laid.{keys_moved, key_more}
@@ -29,7 +29,8 @@ laying-preserved-then-is_key_under c =
     let under : begins_above key_cmp (λ (r : Register). r.key) y.key (reverse c.move_behind.new.to.items) ≡ true =
     (λ i. begins_above key_cmp (λ (r : Register). r.key) (is i) (reverse (sym c.deref-then-is_of.ensures.value i)))
     ∙ sym c.is_key_under.ensures ∙ c.if-is_key_under.true in
-    let home : head_of y.key ≡ c.args.head = ap head_of is ∙ same_key-is (head_of key) c.args.head (sym c.is_of.ensures ∙ c.if-is_of.true) in
+    let home : head_of y.key ≡ c.args.head =
+    ap head_of is ∙ same_key-is (head_of key) c.args.head (sym c.is_of.ensures ∙ c.if-is_of.true) in
     let went : is_ok c.push.result ≡ true = ap is_ok c.unwrap.ensures in
     let pushed = c.push.ensures.len ∙ cond-true _ _ _ went in
     record {

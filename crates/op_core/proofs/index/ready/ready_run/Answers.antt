@@ -1,7 +1,7 @@
 use Rattle.std.proofs.Common.{refl, sym}
 use Rattle.usfm_ref.specs.Segments.{segment}
-use Rattle.op_core.specs.Index.{among, register_of, shown_in, missing_in}
-use Rattle.op_core.specs.Turns.{comes, is_called}
+use Rattle.op_core.specs.Loops.Index.{among, register_of, shown_in, missing_in}
+use Rattle.op_core.specs.Loops.Turns.{comes, is_called}
 use Rattle.op_core.proofs.IdSets.{if_ok}
 use Rattle.op_core.proofs.There.{readies_more, readies_at, ready_shown, ready_missing}
 use Rattle.op_core.proofs.Turned.{change_told}
@@ -11,18 +11,25 @@ pub ready-requires-clause-orderly : goal.ready-requires-clause-orderly
 ready-requires-clause-orderly c = c.lay.ensures.same.orderly
 
 pub ready-requires-clause-shown : goal.ready-requires-clause-shown
-ready-requires-clause-shown c = ready_shown c.args.held.now c.args.chapters.now.items c.lay.new.chapters.items c.requires.held c.requires.index c.lay.ensures.same (segment c.args.book c.args.key)
+ready-requires-clause-shown c = ready_shown c.args.held.now c.args.chapters.now.items c.lay.new.chapters.items c.requires.held
+    c.requires.index c.lay.ensures.same (segment c.args.first.book c.args.first.key)
 
 pub ready-requires-clause-missing : goal.ready-requires-clause-missing
-ready-requires-clause-missing c = ready_missing c.args.held.now c.args.chapters.now.items c.lay.new.chapters.items c.requires.index c.lay.ensures.same (segment c.args.book c.args.key)
+ready-requires-clause-missing c = ready_missing c.args.held.now c.args.chapters.now.items c.lay.new.chapters.items c.requires.index
+    c.lay.ensures.same (segment c.args.first.book c.args.first.key)
 
 pub returns-clause-same : goal.returns-clause-same
-returns-clause-same c = readies_more c.args.chapters.now.items c.lay.new.chapters.items c.ready.new.chapters.items c.lay.ensures.same (readies_at (segment c.args.book c.args.key) c.lay.new.chapters.items c.ready.new.chapters.items c.ready.ensures.same)
+returns-clause-same c = readies_more c.args.chapters.now.items c.lay.new.chapters.items c.ready.new.chapters.items c.lay.ensures.same
+    (readies_at (segment c.args.first.book c.args.first.key) c.lay.new.chapters.items c.ready.new.chapters.items c.ready.ensures.same)
 
 pub returns-clause-change : goal.returns-clause-change
 returns-clause-change c =
-    let g = segment c.args.book c.args.key in
+    let g = segment c.args.first.book c.args.first.key in
     let r = readies_at g c.lay.new.chapters.items c.ready.new.chapters.items c.ready.ensures.same in
-    if_ok c.ready.result (λ ch k. change_told c.args.held.now g g (among c.in_ok-arrived.arrived.items) (comes c.args.new.now c.args.own.now) (among c.in_ok-named.named.items) (is_called c.args.new.now c.args.own.now)
-    (shown_in (register_of g c.lay.new.chapters.items)) (shown_in (register_of g c.ready.new.chapters.items)) (missing_in (register_of g c.lay.new.chapters.items)) (missing_in (register_of g c.ready.new.chapters.items)) ch
-    refl c.in_ok-arrived.ensures.members c.in_ok-named.ensures.members (sym (r.shown g)) (sym (r.missing g)) k) c.ready.ensures.change
+    if_ok c.ready.result
+    (λ ch k. change_told c.args.held.now g g (among c.gather_arrived.new.ids.items) (comes c.args.new.now c.args.own.now)
+    (among c.gather_named.new.ids.items) (is_called c.args.new.now c.args.own.now)
+    (shown_in (register_of g c.lay.new.chapters.items)) (shown_in (register_of g c.ready.new.chapters.items))
+    (missing_in (register_of g c.lay.new.chapters.items)) (missing_in (register_of g c.ready.new.chapters.items)) ch
+    refl c.in_ok-gather_arrived.ensures.members c.in_ok-gather_named.ensures.members (sym (r.shown g)) (sym (r.missing g)) k)
+    c.ready.ensures.change

@@ -1,6 +1,6 @@
 use Rattle.std.proofs.Common.{◌≡◌, take}
 use Rattle.std.specs.List.{AllByRecursion}
-use Rattle.op_core.specs.Turns.{turn_at}
+use Rattle.op_core.specs.Loops.Turns.{turn_at}
 use Rattle.op_core.specs.declared.index.turns.Turn.{Turn}
 use Rattle.op_core.proofs.index.turns.run_len.Given as goal
 

@@ -4,7 +4,7 @@ use Rattle.op_core.specs.Ids.{Id}
 use Rattle.op_core.specs.Ops.{Operation}
 use Rattle.op_core.specs.Sets.{rises, get, join, clash}
 use Rattle.op_core.specs.NextIds.{is_among}
-use Rattle.op_core.specs.Index.{AreApart}
+use Rattle.op_core.specs.Loops.Index.{AreApart}
 use Rattle.op_core.specs.Thinned.{is_past, is_legal, thin_where, is_thinned_in}
 use Rattle.op_core.proofs.Fresh.{fresh, fresh_rises, fresh_apart, length_join, some_new, none_new, nothing_fresh}
 use Rattle.op_core.proofs.TwoSteps.{two_steps, past_between}
@@ -42,17 +42,20 @@ returns-then-not-has_new-clause-ok c =
 pub returns-in_err-thinned-clause-held : goal.returns-in_err-thinned-clause-held
 returns-in_err-thinned-clause-held c = λ held refused.
     let new = sym (c.has_new.ensures ∙ (λ i. some_new (c.deref-3.ensures.value i) (c.deref-4.ensures.value i))) ∙ c.if-not-has_new.false in
-    absurd (false≢true (sym (none_new c.args.self.now c.args.other held) ∙ sym (λ i. some_new (c.self.view_is i) (c.other.view_is i)) ∙ new))
+    absurd (false≢true (sym (none_new c.args.self.now c.args.other held) ∙ sym (λ i. some_new (c.self.view_is i) (c.other.view_is i))
+    ∙ new))
 
 pub returns-in_err-count-clause-held : goal.returns-in_err-count-clause-held
 returns-in_err-count-clause-held c = λ held refused.
     let new = sym (c.has_new.ensures ∙ (λ i. some_new (c.deref-3.ensures.value i) (c.deref-4.ensures.value i))) ∙ c.if-not-has_new.false in
-    absurd (false≢true (sym (none_new c.args.self.now c.args.other held) ∙ sym (λ i. some_new (c.self.view_is i) (c.other.view_is i)) ∙ new))
+    absurd (false≢true (sym (none_new c.args.self.now c.args.other held) ∙ sym (λ i. some_new (c.self.view_is i) (c.other.view_is i))
+    ∙ new))
 
 pub join_rising-requires-clause-rising : goal.join_rising-requires-clause-rising
 join_rising-requires-clause-rising c =
     let e = c.leave_held.ensures ∙ ap (λ (s : List Operation). fresh s c.other.inside.ops.items) c.deref-6.ensures.value in
-    subst (λ (xs : List Operation). rises xs ≡ true) (sym e) (fresh_rises c.self.inside.ops.items c.other.inside.ops.items c.other.invariant.0.rising)
+    subst (λ (xs : List Operation). rises xs ≡ true) (sym e)
+    (fresh_rises c.self.inside.ops.items c.other.inside.ops.items c.other.invariant.0.rising)
 
 pub join_rising-requires-clause-apart : goal.join_rising-requires-clause-apart
 join_rising-requires-clause-apart c =
@@ -65,7 +68,8 @@ join_rising-requires-clause-legal c =
     let t = c.other.inside.ops.items in
     let n : clash s t ≡ None = sym (c.in_default.ensures ∙ (λ i. clash (c.deref.ensures.value i) (c.deref-2.ensures.value i))) in
     let e = c.leave_held.ensures ∙ ap (λ (xs : List Operation). fresh xs t) c.deref-6.ensures.value in
-    subst (λ (xs : List Operation). is_legal (join s xs) ≡ true) (sym e) ((two_steps s t c.self.invariant.0.rising c.other.invariant.0.rising n).legal c.self.invariant.2 c.other.invariant.2)
+    subst (λ (xs : List Operation). is_legal (join s xs) ≡ true) (sym e)
+    ((two_steps s t c.self.invariant.0.rising c.other.invariant.0.rising n).legal c.self.invariant.2 c.other.invariant.2)
 
 pub leave_texts-requires : goal.leave_texts-requires
 leave_texts-requires c = record {
@@ -75,10 +79,12 @@ leave_texts-requires c = record {
       let n : clash s t ≡ None = sym (c.in_default.ensures ∙ (λ i. clash (c.deref.ensures.value i) (c.deref-2.ensures.value i))) in
       let e = c.leave_held.ensures ∙ ap (λ (xs : List Operation). fresh xs t) c.deref-6.ensures.value in
       let j : c.join_rising.new.self ≡ join s (fresh s t) = c.in_ok-count.ensures.ok ∙ ap (join s) e in
-      let ids : is_among c.deref-7.result.now o.id ≡ is_thinned_in t o.id = ap (λ (ids : List Id). is_among ids o.id) c.deref-7.ensures.value
+      let ids : is_among c.deref-7.result.now o.id ≡ is_thinned_in t o.id =
+      ap (λ (ids : List Id). is_among ids o.id) c.deref-7.ensures.value
       ∙ c.in_ok-thinned.ensures o.id ∙ ap (λ (xs : List Operation). is_thinned_in xs o.id) c.deref-5.ensures.value in
       ap (λ (xs : List Operation). is_past xs o) j
-      ∙ past_between s t c.self.invariant.0.rising c.other.invariant.0.rising c.self.invariant.2 c.other.invariant.2 n o (ap (λ (xs : List Operation). get xs o.id) (sym j) ∙ g) (sym ids ∙ a);
+      ∙ past_between s t c.self.invariant.0.rising c.other.invariant.0.rising c.self.invariant.2 c.other.invariant.2 n o
+      (ap (λ (xs : List Operation). get xs o.id) (sym j) ∙ g) (sym ids ∙ a);
 }
 
 pub returns-clause-ok : goal.returns-clause-ok
@@ -89,7 +95,9 @@ returns-clause-ok c =
     let e = c.leave_held.ensures ∙ ap (λ (xs : List Operation). fresh xs t) c.deref-6.ensures.value in
     let j : c.join_rising.new.self ≡ join s (fresh s t) = c.in_ok-count.ensures.ok ∙ ap (join s) e in
     c.leave_texts.ensures
-    ∙ where_agree (is_among c.deref-7.result.now) (is_thinned_in t) c.join_rising.new.self (λ q. ap (λ (ids : List Id). is_among ids q) c.deref-7.ensures.value ∙ c.in_ok-thinned.ensures q ∙ ap (λ (xs : List Operation). is_thinned_in xs q) c.deref-5.ensures.value)
+    ∙ where_agree (is_among c.deref-7.result.now) (is_thinned_in t) c.join_rising.new.self
+    (λ q. ap (λ (ids : List Id). is_among ids q) c.deref-7.ensures.value ∙ c.in_ok-thinned.ensures q
+    ∙ ap (λ (xs : List Operation). is_thinned_in xs q) c.deref-5.ensures.value)
     ∙ ap (thin_where (is_thinned_in t)) j
     ∙ sym (two_steps s t c.self.invariant.0.rising c.other.invariant.0.rising n).joins
     ∙ (λ i. join (c.self.view_is i) (c.other.view_is i))

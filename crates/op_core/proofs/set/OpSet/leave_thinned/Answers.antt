@@ -13,7 +13,8 @@ thin_id-requires c =
     let thinned : is_thinned o ≡ true = none_thinned (λ t. t.now) c.text.result o.text c.is_none.result c.text.ensures c.is_none.ensures
     ∙ c.if-is_none.true in
     let item = thinned_item all c.loop-op.op-index o c.loop-op-test.true c.op-item.is thinned in
-    let past = past_on (is_thinned_in (take c.loop-op.op-index all)) (is_thinned_in all) c.args.self.now c.loop-op.self o.id c.loop-op.invariant c.requires.past item in
+    let past = past_on (is_thinned_in (take c.loop-op.op-index all))
+    (is_thinned_in all) c.args.self.now c.loop-op.self o.id c.loop-op.invariant c.requires.past item in
     record { past = subst (λ (id : Id). ArePast (same_id id) c.loop-op.self) (sym c.id.ensures.id) past }
 
 pub loop-op-init : goal.loop-op-init
@@ -27,12 +28,15 @@ loop-op-preserved c =
     elim c.if-is_none.branch [
       | then-is_none w ↦
           w.self-is ∙ w.thin_id.ensures.thin ∙ ap (λ (id : Id). thin_where (same_id id) c.loop-op.self) w.id.ensures.id
-          ∙ leaves_more all c.loop-op.op-index o c.loop-op-test.true c.op-item.is (thinned ∙ w.if-is_none.true) c.args.self.now c.loop-op.self c.loop-op.invariant
+          ∙ leaves_more all c.loop-op.op-index o c.loop-op-test.true c.op-item.is
+          (thinned ∙ w.if-is_none.true) c.args.self.now c.loop-op.self c.loop-op.invariant
       | else-is_none w ↦ w.self-is
-          ∙ leaves_same all c.loop-op.op-index o c.loop-op-test.true c.op-item.is (thinned ∙ w.if-is_none.false) c.args.self.now c.loop-op.self c.loop-op.invariant
+          ∙ leaves_same all c.loop-op.op-index o c.loop-op-test.true c.op-item.is
+          (thinned ∙ w.if-is_none.false) c.args.self.now c.loop-op.self c.loop-op.invariant
     ]
 
 pub returns : goal.returns
 returns c =
     c.loop-op.invariant
-    ∙ ap (λ (xs : List Operation). thin_where (is_thinned_in xs) c.args.self.now) (take_all c.loop-op.op-index c.args.others.now c.loop-op-test.false)
+    ∙ ap (λ (xs : List Operation). thin_where (is_thinned_in xs) c.args.self.now)
+    (take_all c.loop-op.op-index c.args.others.now c.loop-op-test.false)

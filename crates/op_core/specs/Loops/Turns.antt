@@ -18,12 +18,16 @@ is_at p new at = list_any p (take 1 (drop at new))
 -- no turn is of a segment before that of an earlier one
 abbrev pub never_fall : List Turn → Bool
 never_fall [] = true
-never_fall (t ∷ turns) = list_all (λ u. not (is_lt (segment_cmp (turn_at u) (turn_at t)))) turns && never_fall turns
+never_fall (t ∷ turns) =
+    list_all (λ u. not (is_lt (segment_cmp (turn_at u) (turn_at t)))) turns && never_fall turns
 
 -- each operation has a turn, at its segment, and the segments never fall
 pub record AreTurnsOf (new : List Operation) (turns : List Turn) : Type 0 where
-  pub same : (p : Segment → Bool) (f : Operation → Bool) → list_any (λ t. p (turn_at t) && is_at f new t.at) turns ≡ list_any (λ o. p o.segment && f o) new
-  pub each : (p : Segment → Bool) → list_any (λ t. p (turn_at t)) turns ≡ list_any (λ o. p o.segment) new
+  pub same : (p : Segment → Bool) (f : Operation → Bool)
+      → list_any (λ t. p (turn_at t) && is_at f new t.at) turns
+      ≡ list_any (λ o. p o.segment && f o) new
+  pub each : (p : Segment → Bool) → list_any (λ t. p (turn_at t)) turns
+      ≡ list_any (λ o. p o.segment) new
   pub sorted : IsTrue (never_fall turns)
 
 -- whether an operation whose turn it is has the id
@@ -36,8 +40,10 @@ is_called new turns id = list_any (λ t. is_at (λ o. names o id) new t.at) turn
 
 -- whether the id arrives at the segment, or is named there
 abbrev pub arrives : List Operation → List Turn → Segment → Id → Bool
-arrives new turns g id = list_any (λ t. same_segment (turn_at t) g && is_at (λ o. same_id id o.id) new t.at) turns
+arrives new turns g id =
+    list_any (λ t. same_segment (turn_at t) g && is_at (λ o. same_id id o.id) new t.at) turns
 
 -- whether one of the operations at the segment names the id
 abbrev pub is_named : List Operation → List Turn → Segment → Id → Bool
-is_named new turns g id = list_any (λ t. same_segment (turn_at t) g && is_at (λ o. names o id) new t.at) turns
+is_named new turns g id =
+    list_any (λ t. same_segment (turn_at t) g && is_at (λ o. names o id) new t.at) turns

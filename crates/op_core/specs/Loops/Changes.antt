@@ -5,8 +5,8 @@ use Rattle.std.specs.Ordering.{is_eq}
 use Rattle.usfm_ref.specs.Segments.{Segment, segment_cmp, same_segment}
 use Rattle.usfm_ref.specs.Rising.{rises_by}
 use Rattle.op_core.specs.Ops.{Operation}
-use Rattle.op_core.specs.Index.{register_of, shown_in, missing_in, change_at, IsRisingChange, IsChangeOf, HasRoomIn, Takes, IsOrderly}
-use Rattle.op_core.specs.Turns.{turn_at, arrives, is_named}
+use Rattle.op_core.specs.Loops.Index.{register_of, shown_in, missing_in, change_at, IsRisingChange, IsChangeOf, HasRoomIn, Takes, IsOrderly}
+use Rattle.op_core.specs.Loops.Turns.{turn_at, arrives, is_named}
 use Rattle.op_core.specs.declared.register.Register.{Register}
 use Rattle.op_core.specs.declared.chapter.Chapter.{Chapter}
 use Rattle.op_core.specs.declared.index.change.Change.{Change}
@@ -19,19 +19,24 @@ change_for g changes = find (λ c. is_eq (segment_cmp g (change_at c))) changes
 -- a change is what the operations of the turns change at its segment
 abbrev pub IsChangeAt : List Operation → List Operation → List Turn → List Chapter → Change → Type 0
 IsChangeAt held new turns chapters c =
-    IsChangeOf held (change_at c) (arrives new turns (change_at c)) (is_named new turns (change_at c))
-    (shown_in (register_of (change_at c) chapters)) (missing_in (register_of (change_at c) chapters)) c
+    IsChangeOf held (change_at c) (arrives new turns (change_at c))
+    (is_named new turns (change_at c))
+    (shown_in (register_of (change_at c) chapters))
+    (missing_in (register_of (change_at c) chapters)) c
 
 -- changes that rise by their segments, one for each segment of the turns
-pub record AreChanges (held new : List Operation) (turns : List Turn) (chapters : List Chapter) (changes : List Change) : Type 0 where
+pub record AreChanges (held new : List Operation) (turns : List Turn) (chapters : List Chapter)
+    (changes : List Change) : Type 0 where
   pub rising : IsTrue (rises_by segment_cmp change_at changes)
   pub each : AllByRecursion IsRisingChange changes
   pub are : AllByRecursion (IsChangeAt held new turns chapters) changes
-  pub all : (g : Segment) → change_for g changes ≡ None → list_any (λ t. same_segment (turn_at t) g) turns ≡ false
+  pub all : (g : Segment) → change_for g changes ≡ None
+      → list_any (λ t. same_segment (turn_at t) g) turns ≡ false
 
 -- the register of each change has room for it
 abbrev pub AllHaveRoom : List Chapter → List Change → Type 0
-AllHaveRoom chapters changes = AllByRecursion (λ c. HasRoomIn c (register_of (change_at c) chapters)) changes
+AllHaveRoom chapters changes =
+    AllByRecursion (λ c. HasRoomIn c (register_of (change_at c) chapters)) changes
 
 -- the register that there is takes the change
 pub record Taken (c : Change) (before after : Option Register) : Type 0 where
@@ -49,4 +54,5 @@ TakesIn (Some c) before after = Taken c before after
 -- an index after some changes
 pub record Settles (changes : List Change) (before after : List Chapter) : Type 0 where
   pub orderly : IsOrderly after
-  pub is_now : (g : Segment) → TakesIn (change_for g changes) (register_of g before) (register_of g after)
+  pub is_now : (g : Segment) → TakesIn (change_for g changes) (register_of g before)
+      (register_of g after)
