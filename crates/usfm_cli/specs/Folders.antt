@@ -23,11 +23,13 @@ is_hidden (b ∷ rest) = same_bytes (b ∷ []) (codes ".")
 -- whether a name has an ending, in any case of the letters A to Z
 abbrev pub ends_in : List ℕ → List ℕ → Bool
 ends_in name ending =
-    same_bytes (map to_ascii_lowercase (drop (length name - length ending) name)) (map to_ascii_lowercase ending)
+    same_bytes (map to_ascii_lowercase (drop (length name - length ending) name))
+    (map to_ascii_lowercase ending)
 
 -- a file may be a book's that is not hidden and whose name ends in `.usfm` or `.sfm`
 abbrev pub may_be_book : List ℕ → Bool
-may_be_book name = not (is_hidden name) && (ends_in name (codes ".usfm") || ends_in name (codes ".sfm"))
+may_be_book name =
+    not (is_hidden name) && (ends_in name (codes ".usfm") || ends_in name (codes ".sfm"))
 
 -- a book that was read, or none
 abbrev pub book_if : Result (List ℕ) BookFault → Option (List ℕ)

@@ -1,6 +1,6 @@
 -- How the books of a project stand (this project's own rule): the text of each, the bundle that makes it, and how many segments
 -- are in conflict.
-use Rattle.std.specs.Prelude.{ℕ, ◌<◌, ◌^◌, nat_eq, Bool, true, false, not, ◌&&◌, IsTrue, List, [], ◌∷◌, length, map, filter}
+use Rattle.std.specs.Prelude.{◌≡◌, ℕ, ◌<◌, ◌^◌, nat_eq, nat_le, Bool, true, false, not, ◌&&◌, IsTrue, List, [], ◌∷◌, length, map, filter}
 use Rattle.std.specs.Prelude.{Option, None, Some, if◌then◌else◌}
 use Rattle.std.specs.List.{list_any, flat_map}
 use Rattle.usfm_ref.specs.Books.{same_bytes}
@@ -13,6 +13,7 @@ use Rattle.op_core.specs.Shown.{last, text_in, is_shown, shown}
 use Rattle.op_core.specs.Lists.{keys_of, books_of, awaited}
 use Rattle.op_core.specs.Export.{of_book, has_book, export}
 use Rattle.bundle_codec.specs.Spelling.{bundle}
+use Rattle.conflict_report.specs.Reports.{distinct_texts, report}
 use Rattle.usfm_cli.specs.Folders.{makes}
 
 -- whether an operation is of a book, and its segment shows it
@@ -73,6 +74,24 @@ conflicts_told s = if nat_eq s.conflicts 0 && not s.awaits then None else Some s
 -- makes the file.
 abbrev pub BasesMakeBooks : Type 0
 BasesMakeBooks =
-    (held : List Operation) (book : List ℕ) → IsOpSet held → IsTrue (is_legal held) → IsTrue (has_book held book) →
+    (held : List Operation) (book : List ℕ) → IsOpSet held → IsTrue (is_legal held)
+    → IsTrue (has_book held book) →
     length (bundle (shown_set held book)) < 2 ^ 64 →
     IsTrue (makes (bundle (shown_set held book)) book (export held book))
+
+-- the keys of a book whose segments the report lists texts of
+abbrev pub reported_in : List Operation → List ℕ → List KeyParts
+reported_in held book =
+    filter (λ key. nat_le 2 (length (distinct_texts held (segment book key)))) (keys_of held book)
+
+-- how many segments the report lists texts of; nothing where it is empty
+abbrev pub reported : List Operation → Option ℕ
+reported held =
+    if is_any (report held) then Some (length (flat_map (reported_in held) (books_of held)))
+    else None
+
+-- The number after `conflicts` is that of the segments that the report lists texts of, and the line stands exactly where the
+-- report has anything.
+abbrev pub ConflictsToldAreReported : Type 0
+ConflictsToldAreReported =
+    (held : List Operation) → IsOpSet held → conflicts_told (project_parts held) ≡ reported held

@@ -130,7 +130,8 @@ fn edit_over(
     ids: &[OpId],
 ) -> Result<Vec<u8>, Fault>
     ensures { commands.Answers commands.no_fault
-        (commands.edit_over_done replica.old (segment book key) text.now ids.now) replica.new result }
+        (commands.edit_over_done replica.old (segment book key) text.now ids.now) replica.new
+        result }
 {
     let made = replica.edit_over(book, key, text_in(text)?, ids)?;
     Ok(made_line(alloc, &made)?)

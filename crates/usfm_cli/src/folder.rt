@@ -1,5 +1,5 @@
 // The books' files of a folder, by their names and their bytes, and what they were written from.
-ghost use Rattle.std.specs.Prelude.{◌≡◌, option_map, IfOk, IsUtf8, take};
+ghost use Rattle.std.specs.Prelude.{◌≡◌, option_map, IfOk, IsOk, IsUtf8, None, take};
 ghost use Rattle.std.specs.Str.Lossy.{utf8_valid_len};
 ghost use Rattle.bundle_codec.specs.Joining.{whole_at};
 ghost use Rattle.usfm_cli.specs.Folders as folders;
@@ -107,9 +107,10 @@ pub fn written_from<'a>(
     newer: Option<&'a [u8]>,
     is_unplaced: bool,
 ) -> Result<Option<&'a [u8]>, Fault>
-    ensures { folders.AnswersFrom (λ bundle. bundle.now) (folders.written_from book file.now
+    ensures from { folders.AnswersFrom (λ bundle. bundle.now) (folders.written_from book file.now
         (option_map (λ b. b.now) base.entry) (option_map (λ b. b.now) newer.entry)
         is_unplaced) result }
+    ensures no_newer { newer.entry ≡ None → IsOk result }
 {
     let Some(newer) = newer else {
         return Ok(base);

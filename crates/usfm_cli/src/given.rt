@@ -12,7 +12,7 @@ pub(crate) fn ids(
     argument: &str,
 ) -> Result<Vec<OpId>, LineFault> {
     let mut ids = Vec::new(alloc);
-    for word in words(given, argument) {
+    for word in given.get_strs(argument).unwrap_or(&[]) {
         ids.push(OpId::read(*word)?)?;
     }
     Ok(ids)
@@ -25,15 +25,10 @@ pub(crate) fn books(
     argument: &str,
 ) -> Result<Vec<Book>, LineFault> {
     let mut books = Vec::new(alloc);
-    for word in words(given, argument) {
+    for word in given.get_strs(argument).unwrap_or(&[]) {
         books.push(Book::read(*word)?)?;
     }
     Ok(books)
-}
-
-// The words of an argument that takes several.
-pub(crate) fn words<'a>(given: &'a ArgMatches<'a>, argument: &str) -> &'a [&'a str] {
-    given.get_strs(argument).unwrap_or(&[])
 }
 
 // The word of an argument. Each that is required was given.
@@ -69,7 +64,7 @@ pub(crate) fn texts(
     argument: &str,
 ) -> Result<Vec<String>, AllocError> {
     let mut copies = Vec::new(alloc);
-    for word in words(given, argument) {
+    for word in given.get_strs(argument).unwrap_or(&[]) {
         copies.push(String::from_str(alloc, *word)?)?;
     }
     Ok(copies)

@@ -32,7 +32,7 @@ pub use reading::{MOST_BYTES, ReadFault, read_to_end};
 pub use source::{ByteSource, StdSource};
 pub use standing::{Standing, StandingBook, project_standing};
 pub use telling::fault_line;
-pub use turns::{Outcomes, TurnFault, exec_in_turn};
+pub use turns::{Outcomes, TurnFault, exec_in_turn, stand_in_turn};
 pub use usage::VERSION;
 pub use usfm_export::{
     ByteSink, MOST_LINE_BYTES, ShortLine as FaultLine, StdSink, WriteFault, write_all, write_more,

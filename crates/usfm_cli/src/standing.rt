@@ -118,14 +118,13 @@ pub fn project_standing(alloc: Global, project: &[u8]) -> Result<Standing, Fault
 }
 
 // How the books of a replica stand.
-fn standing_of(alloc: Global, replica: &Replica) -> Result<Standing, AllocError>
+pub(crate) fn standing_of(alloc: Global, replica: &Replica) -> Result<Standing, AllocError>
     ensures { IfOk result (λ made. made ≡ standing.project_parts replica.now.held) }
 {
     let mut books = Vec::new(alloc);
     let mut keys = Vec::new(alloc);
     for book in replica.books() {
-        books.push(standing_book(alloc, replica, book)?)?;
-        push_conflicts(alloc, replica, book, &mut keys)?;
+        books.push(standing_book(alloc, replica, book, &mut keys)?)?;
     }
     let awaited = replica.awaited(alloc)?;
     Ok(Standing {
@@ -135,37 +134,64 @@ fn standing_of(alloc: Global, replica: &Replica) -> Result<Standing, AllocError>
     })
 }
 
-// How a book stands that has an operation.
-fn standing_book(alloc: Global, replica: &Replica, book: Book) -> Result<StandingBook, AllocError>
-    ensures { IfOk result (λ made. made ≡ standing.book_parts replica.now.held book) }
+// How a book stands that has an operation. The keys whose segments are in conflict come after the others.
+fn standing_book(
+    alloc: Global,
+    replica: &Replica,
+    book: Book,
+    keys: &mut Vec<Key>,
+) -> Result<StandingBook, AllocError>
+    ensures book { IfOk result (λ made. made ≡ standing.book_parts replica.now.held book) }
+    ensures keys { OnOk result (keys.new.items
+        ≡ keys.old.items ++ standing.conflicts_in replica.now.held book) }
 {
     let text = book_text(alloc, replica, book).map_err(|_| AllocError)?;
-    let base = encode(alloc, &shown_set(alloc, replica, book)?)?;
+    let base = encode(alloc, &shown_set(alloc, replica, book, keys)?)?;
     Ok(StandingBook { book, text, base })
 }
 
-// The set of the operations that a book shows.
-fn shown_set(alloc: Global, replica: &Replica, book: Book) -> Result<OpSet, AllocError>
-    ensures { IfOk result (λ set. set ≡ standing.shown_set replica.now.held book) }
+// The set of the operations that a book shows. The keys whose segments are in conflict come after the others.
+fn shown_set(
+    alloc: Global,
+    replica: &Replica,
+    book: Book,
+    keys: &mut Vec<Key>,
+) -> Result<OpSet, AllocError>
+    ensures shown { IfOk result (λ set. set ≡ standing.shown_set replica.now.held book) }
+    ensures keys { OnOk result (keys.new.items
+        ≡ keys.old.items ++ standing.conflicts_in replica.now.held book) }
 {
     // The name shows that what the replica holds is a legal set, so that what is shown has its text.
     let _ = replica.name();
     let mut set = OpSet::new(alloc);
-    for op in &shown_ops(alloc, replica, book)? {
+    for op in &shown_ops(alloc, replica, book, keys)? {
         put_copy(alloc, op, &mut set)?;
     }
     Ok(set)
 }
 
-// The operations that a book shows, by their ids, so that each that is put into a set goes to its end.
-fn shown_ops(alloc: Global, replica: &Replica, book: Book) -> Result<Vec<&Op>, AllocError>
-    ensures { IfOk result (λ ops. IsPermutation
-        (flat_map (λ key. shown replica.now.held (segment book key)) (keys_of replica.now.held book))
+// The operations that a book shows, by their ids, so that each that is put into a set goes to its end. The keys whose segments
+// are in conflict come after the others: what a segment shows is looked up once.
+fn shown_ops<'a>(
+    alloc: Global,
+    replica: &'a Replica,
+    book: Book,
+    keys: &mut Vec<Key>,
+) -> Result<Vec<&'a Op>, AllocError>
+    ensures ops { IfOk result (λ ops. IsPermutation
+        (flat_map (λ key. shown replica.now.held (segment book key))
+        (keys_of replica.now.held book))
         (map (λ op. op.now) ops.items)) }
+    ensures keys { OnOk result (keys.new.items
+        ≡ keys.old.items ++ standing.conflicts_in replica.now.held book) }
 {
     let mut ops = Vec::new(alloc);
     for key in replica.keys(book) {
-        ops.extend_from_slice(&replica.shown(alloc, book, key)?)?;
+        let shown = replica.shown(alloc, book, key)?;
+        ops.extend_from_slice(&shown)?;
+        if differ(&shown) {
+            keys.push(key)?;
+        }
     }
     ops.sort_unstable_by(|a, b| a.id().cmp(&b.id()));
     Ok(ops)
@@ -196,29 +222,12 @@ fn copy_of(alloc: Global, op: &Op) -> Result<Op, AllocError>
     }
 }
 
-// Appends the keys of a book whose segments are in conflict.
-fn push_conflicts(
-    alloc: Global,
-    replica: &Replica,
-    book: Book,
-    keys: &mut Vec<Key>,
-) -> Result<(), AllocError>
-    ensures { OnOk result (keys.new.items
-        ≡ keys.old.items ++ standing.conflicts_in replica.now.held book) }
-{
-    for key in replica.keys(book) {
-        if differ(&replica.shown(alloc, book, key)?) {
-            keys.push(key)?;
-        }
-    }
-    Ok(())
-}
-
 // Whether operations have different texts.
 fn differ(ops: &[&Op]) -> bool
     ensures { result ≡ standing.differ (map (λ op. op.now) ops.now) }
 {
-    has_other(ops, last_text(ops))
+    // Most segments show one, which is not compared with itself.
+    ops.len() > 1 && has_other(ops, last_text(ops))
 }
 
 // The text of the last of some operations, empty where there is none.

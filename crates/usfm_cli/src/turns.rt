@@ -5,6 +5,7 @@ ghost use Rattle.project_file.specs.Projects.{project_at};
 ghost use Rattle.usfm_cli.specs.Commands as commands;
 ghost use Rattle.usfm_cli.specs.Executing.{state_after};
 ghost use Rattle.usfm_cli.specs.Faults.{of_loading};
+ghost use Rattle.usfm_cli.specs.Standing.{project_parts};
 ghost use Rattle.usfm_cli.specs.Turns as turns;
 ghost use Rattle.usfm_cli.specs.declared.fault.Fault.TheVariants.{Memory};
 ghost use Rattle.usfm_cli.specs.declared.turns.TurnFault.TheVariants as refusals;
@@ -12,6 +13,7 @@ ghost use Rattle.usfm_cli.specs.declared.turns.TurnFault.TheVariants as refusals
 use crate::command::Command;
 use crate::doing::obey;
 use crate::fault::Fault;
+use crate::standing::{Standing, standing_of};
 use project_file::{LoadFault, load, save};
 use replica_state::Replica;
 use std::alloc::{AllocError, AllocFailed, Global};
@@ -130,6 +132,37 @@ pub fn exec_in_turn(
     let outputs = obey_in_turn(alloc, &mut replica, commands)?;
     let project = save(alloc, &replica)?;
     Ok(Outcomes { project, outputs })
+}
+
+/// Does commands in turn on a project as `exec_in_turn` does, and says besides how the books stand
+/// after the last. The project is read once.
+///
+/// # Errors
+/// Those of `exec_in_turn`; `Memory` (1) of the `Project` also where a growth was refused while it
+/// was seen how the books stand.
+pub fn stand_in_turn(
+    alloc: Global,
+    project: &[u8],
+    commands: &[Command<'_>],
+) -> Result<(Outcomes, Standing), TurnFault>
+    ensures answer { turns.is_out_of_memory result ≡ false →
+        turns.executed_in_turn project.now commands.now ≡ turns.first_of result }
+    // Which command is refused, and where memory may have ended.
+    ensures turn { (s : State) → project_at project.now ≡ Ok s
+        → turns.AnswersFile s commands.now (turns.first_of result) }
+    // A file that is no project is refused for that, whatever memory there is; but for its bundle, where
+    // an operation of it is thinned.
+    ensures no_project { IfErr (project_at project.now) (λ fault.
+        turns.RefusesProject project.now (of_loading fault) result) }
+    // The books stand as the operations have it that are held after the commands' steps.
+    ensures stands { IfOk result (λ made. (s : State) → project_at project.now ≡ Ok s
+        → made.1 ≡ project_parts (state_after s commands.now).held) }
+{
+    let mut replica = load(alloc, project)?;
+    let outputs = obey_in_turn(alloc, &mut replica, commands)?;
+    let project = save(alloc, &replica)?;
+    let stands = standing_of(alloc, &replica)?;
+    Ok((Outcomes { project, outputs }, stands))
 }
 
 // Does what commands say, in turn, and answers what they write, or the first that is refused.

@@ -8,7 +8,7 @@ use crate::write_output;
 use std::io::Write;
 use usfm_cli::{
     Command, Fault, Outcomes, Standing, StandingBook, TurnFault, exec_in_turn, makes,
-    project_standing, written_from,
+    project_standing, stand_in_turn, written_from,
 };
 use usfm_ref::Book;
 
@@ -28,8 +28,7 @@ pub(crate) fn sync(
     let given = read_files(rt, &bundles).map_err(|fault| refusal_in(rt, fault, &bundles))?;
     refuse_twins(rt, &files)?;
     find_bases(rt, &mut files)?;
-    let outcomes = take_in(rt, &before, &files, &bundles, &given)?;
-    let stands = project_standing(rt.alloc(), outcomes.project())?;
+    let (outcomes, stands) = take_in(rt, &before, &files, &bundles, &given)?;
     let books = all_books(rt, &stands)?;
     let mut staged = stage(rt, folder, &files, &books)?;
     if outcomes.project() != before.as_slice() {
@@ -107,22 +106,22 @@ fn take_of(file: &BookFile) -> Command<'_> {
     }
 }
 
-// Does what takes in the files, and then receives the bundles.
+// Does what takes in the files, and then receives the bundles, and says how the books stand then.
 fn take_in<'a>(
     rt: &HostRuntime,
     before: &[u8],
     files: &'a [BookFile],
     bundles: &[String],
     given: &'a [Vec<u8>],
-) -> Result<Outcomes, Refusal> {
+) -> Result<(Outcomes, Standing), Refusal> {
     let commands: Vec<Command<'a>> = files
         .iter()
         .map(|file| take_of(file))
         .chain(given.iter().map(|bundle| Command::Receive(bundle)))
         .collect(rt.alloc())
         .map_err(Fault::from)?;
-    match exec_in_turn(rt.alloc(), before, &commands) {
-        Ok(outcomes) => Ok(outcomes),
+    match stand_in_turn(rt.alloc(), before, &commands) {
+        Ok(made) => Ok(made),
         Err(TurnFault::Project(fault)) => Err(Refusal::from(fault)),
         Err(TurnFault::Turn(at, fault)) => {
             let name = match files.get(at) {
@@ -149,10 +148,10 @@ fn keep_left(
     if !staged.iter().any(|one| one.is_left) {
         return Ok(());
     }
-    let Ok(outcomes) = take_in(rt, before, files, &[], &[]) else {
-        return Ok(());
+    let (_outcomes, stands) = match take_in(rt, before, files, &[], &[]) {
+        Ok(made) => made,
+        Err(refusal) => return memory_alone(refusal),
     };
-    let stands = project_standing(rt.alloc(), outcomes.project())?;
     for one in staged.iter().filter(|one| one.is_left) {
         let stood = stands.books().iter().find(|book| book.book() == one.book);
         if let (Some(file), Some(stood)) = (file_of(files, one.book), stood) {
@@ -163,6 +162,14 @@ fn keep_left(
         }
     }
     Ok(())
+}
+
+// A refusal for which there is nothing to keep is passed over; out of memory is not.
+fn memory_alone(refusal: Refusal) -> Result<(), Refusal> {
+    match refusal.fault {
+        Fault::Memory => Err(refusal),
+        _ => Ok(()),
+    }
 }
 
 fn all_books<'a>(rt: &HostRuntime, stands: &'a Standing) -> Result<Vec<&'a StandingBook>, Refusal> {
@@ -196,50 +203,60 @@ fn chosen_books<'a>(
     Ok(books)
 }
 
+// A file that another text is to replace, and the bundle that it was written from, which makes it.
+#[derive(Drop)]
+struct Replaced<'a> {
+    file: &'a BookFile,
+    from: &'a [u8],
+}
+
 // The files of books that are other than they are to be. One that was changed since it was written is refused.
 fn replaced_files<'a>(
     rt: &HostRuntime,
     files: &'a [BookFile],
     books: &[&StandingBook],
-) -> Result<Vec<&'a BookFile>, Refusal> {
+) -> Result<Vec<Replaced<'a>>, Refusal> {
     let mut found = Vec::new(rt.alloc());
     for book in books {
         if let Some(file) = file_of(files, book.book()) {
             if file.bytes.as_slice() == book.text() {
                 continue;
             }
-            if !file.is_unchanged {
-                return Err(Refusal::at(rt, Fault::FileChanged, &file.path));
+            match file.from() {
+                Some(from) if file.is_unchanged => {
+                    found.push(Replaced { file, from }).map_err(Fault::from)?;
+                }
+                _ => return Err(Refusal::at(rt, Fault::FileChanged, &file.path)),
             }
-            found.push(file).map_err(Fault::from)?;
         }
     }
     Ok(found)
 }
 
-// Refuses a file that was written from operations which the project does not have, as one that was set back.
-fn refuse_lost(rt: &HostRuntime, project: &[u8], files: &[&BookFile]) -> Result<(), Refusal> {
-    if files.is_empty() {
+// Refuses a file that was written from operations which the project does not have, as one that was set back: the bundle
+// that it was written from brings the project something new.
+fn refuse_lost(rt: &HostRuntime, project: &[u8], replaced: &[Replaced<'_>]) -> Result<(), Refusal> {
+    if replaced.is_empty() {
         return Ok(());
     }
-    let commands: Vec<Command<'_>> = files
+    let commands: Vec<Command<'_>> = replaced
         .iter()
-        .map(|file| take_of(file))
+        .map(|one| Command::Receive(one.from))
         .collect(rt.alloc())
         .map_err(Fault::from)?;
     let outcomes = match exec_in_turn(rt.alloc(), project, &commands) {
         Ok(outcomes) => outcomes,
         Err(TurnFault::Project(fault)) => return Err(Refusal::from(fault)),
         Err(TurnFault::Turn(at, fault)) => {
-            return Err(match files.get(at) {
-                Some(file) => Refusal::at(rt, fault, &file.path),
+            return Err(match replaced.get(at) {
+                Some(one) => Refusal::at(rt, fault, &one.file.path),
                 None => Refusal::from(fault),
             });
         }
     };
-    for (file, output) in files.iter().zip(outcomes.outputs()) {
+    for (one, output) in replaced.iter().zip(outcomes.outputs()) {
         if output.as_slice() != b"new 0\n".as_slice() {
-            return Err(Refusal::at(rt, Fault::FileChanged, &file.path));
+            return Err(Refusal::at(rt, Fault::FileChanged, &one.file.path));
         }
     }
     Ok(())

@@ -6,3 +6,9 @@ ghost use Rattle.usfm_cli.specs.Standing as laws;
 pub fn bases_make_books()
     ensures { laws.BasesMakeBooks }
 {}
+
+/// The number after `conflicts` is that of the segments that the report lists texts of, and the line
+/// stands exactly where the report has anything.
+pub fn conflicts_told_are_reported()
+    ensures { laws.ConflictsToldAreReported }
+{}

@@ -1,7 +1,7 @@
 // The subcommands on a folder of books' files, and the export of one book: of each its words, its help, and
 // the line that it is read as.
 use super::{PROJECT, command};
-use crate::given::{books, text, text_if_given, texts, words};
+use crate::given::{books, text, text_if_given, texts};
 use crate::words::{Line, LineFault};
 use clap::{Arg, ArgMatches, Command};
 use std::alloc::{AllocError, Global};
@@ -36,6 +36,11 @@ line `in FILE` on standard error says where. Writes
   conflicts N      if there is something to see in `report`
 
 Example: usfm_team sync ana.project texts ben.bundle
+
+If a verse shows several texts, its file has one of them, and a change of the
+file replaces that one alone. To settle it, see them with `usfm_team report`,
+give the text that is to stand with `usfm_team edit`, and sync: it replaces
+them all, and the file is written.
 
 After fault 131 look at FILE: two files may be of one book (move one away). Or
 it is not known what FILE was written from. Then move it away and sync, and make
@@ -101,7 +106,8 @@ pub(crate) fn export_line(alloc: Global, given: &ArgMatches<'_>) -> Result<Line,
             books,
         });
     }
-    match words(given, "BOOK") {
+    let books = given.get_strs("BOOK").unwrap_or(&[]);
+    match books {
         [book] => Ok(Line::Export {
             project,
             book: Book::read(*book)?,

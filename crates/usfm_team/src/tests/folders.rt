@@ -3,8 +3,8 @@ use super::vectors::{AFTER, B1, CLASHING, FIRST, NOTHING, Y};
 use std::alloc::Global;
 use std::test::Fail;
 use usfm_cli::{
-    Command, Fault, book_begun, create, exec, exec_in_turn, makes, may_be_book, project_standing,
-    written_from,
+    Command, Fault, TurnFault, book_begun, create, exec, exec_in_turn, makes, may_be_book,
+    project_standing, stand_in_turn, written_from,
 };
 use usfm_ref::Book;
 
@@ -84,6 +84,25 @@ fn books_stand(rt: HostRuntime) -> Result<(), Fail> {
     }
     assert!(rt; project_standing(alloc, b"x").err() == Some(Fault::BadProject));
     assert!(rt; !makes(alloc, b"", matthew, FIRST)? && !makes(alloc, NOTHING, matthew, b"")?);
+    Ok(())
+}
+
+#[test]
+fn books_stand_after_commands(rt: HostRuntime) -> Result<(), Fail> {
+    let alloc = rt.alloc();
+    let project = project_of(alloc, &[B1])?;
+    let (made, stands) = stand_in_turn(alloc, &project, &[Command::Receive(Y)])?;
+    let [book] = stands.books() else {
+        return Err(Fail::from(Fault::NoBook));
+    };
+    assert!(rt; made.project() == project_of(alloc, &[B1, Y])?.as_slice());
+    assert!(rt; book.text() == AFTER && makes(alloc, book.base(), book.book(), AFTER)?);
+    assert!(rt; stands.conflicts().is_none());
+    let commands = [Command::Receive(Y), Command::ImportNew(OTHER)];
+    let refused = stand_in_turn(alloc, &project, &commands);
+    assert!(rt; refused.err() == Some(TurnFault::Turn(1, Fault::FileChanged)));
+    let refused = stand_in_turn(alloc, b"x", &[]);
+    assert!(rt; refused.err() == Some(TurnFault::Project(Fault::BadProject)));
     Ok(())
 }
 

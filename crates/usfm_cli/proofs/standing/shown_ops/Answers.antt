@@ -8,12 +8,12 @@ use Rattle.op_core.specs.Ops.{Operation}
 use Rattle.op_core.specs.Shown.{shown}
 use Rattle.usfm_cli.proofs.standing.shown_ops.Goals as goal
 
-pub returns : goal.returns
-returns c =
+pub returns-clause-ops : goal.returns-clause-ops
+returns-clause-ops c =
     let at = λ (key : KeyParts). shown c.args.replica.now.held (segment c.args.book key) in
     let before = map (λ op. op.now) c.loop-key.ops.items in
     subst (λ (xs : List Operation). IsPermutation xs (map (λ op. op.now) c.sort_unstable_by.new.self.items))
     (sym (append-nil before)
     ∙ ap (λ (keys : List KeyParts). before ++ flat_map at keys) (sym c.in-None.ensures.steps.0)
-    ∙ c.loop-key.invariant)
+    ∙ c.loop-key.invariant.0)
     (IsPermutation-map (λ op. op.now) c.loop-key.ops.items c.sort_unstable_by.new.self.items c.sort_unstable_by.ensures.permutation)
