@@ -7,7 +7,7 @@ use Rattle.op_core.specs.Ids.{Id}
 use Rattle.op_core.specs.Ops.{Operation, is_thinned, in_segment}
 use Rattle.op_core.specs.Sets.{IsOpSet, get, join, clash, differs}
 use Rattle.op_core.specs.Thinned.{is_legal, all_full, skeleton, is_lacked, is_sent}
-use Rattle.op_core.specs.Index.{AreApart}
+use Rattle.op_core.specs.Loops.Index.{AreApart}
 use Rattle.op_core.proofs.Fresh.{fresh, fresh_apart, join_fresh}
 use Rattle.op_core.proofs.Legal.{delta_legal, full_delta}
 use Rattle.op_core.proofs.Groupings.{delta_joins}
@@ -37,6 +37,7 @@ apart_none held (o ∷ new) h = ap
     (λ (r : Option Operation). cond (differs r o) (Some o) (find (λ (p : Operation). differs (get held p.id) p) new)) h.0
     ∙ apart_none held new h.1
 
+-- what lies outside a copy's summary gives that copy the union, where all operations are full
 pub outside_union : (own other : List Operation) (s : List Known) → IsOpSet own → IsOpSet other → IsTrue (all_full own)
     → IsSummaryOf other s
     → (join other (outside s own) ≡ join other own) × (clash other (outside s own) ≡ None)
@@ -54,6 +55,7 @@ pub outside_skeleton : (own other : List Operation) (s : List Known) → IsOpSet
 outside_skeleton own other s a b none h =
     let p = delta_joins other own (covers s) b.rising a.rising none (λ q e. sym (h.exactly q) ∙ e) in (p.1, p.0)
 
+-- of a legal set, what lies outside a summary is legal
 pub outside_legal : (own : List Operation) (s : List Known) → IsOpSet own → IsTrue (is_legal own) → IsTrue (is_legal (outside s own))
 outside_legal own s a legal = delta_legal own (covers s) a.rising legal
 
@@ -83,6 +85,7 @@ known_each : (held : List Operation) (knows : Id → Bool) (ops : List Operation
 known_each held knows [] e h = tt
 known_each held knows (o ∷ ops) e h = (e o.id ∙ ap is_some h.0, known_each held knows ops e h.1)
 
+-- nothing of a set lies outside its own summary
 pub own_outside : (held : List Operation) (s : List Known) → IsOpSet held → IsSummaryOf held s → outside s held ≡ []
 own_outside held s a h =
     let all = known_each held (covers s) held h.exactly (held_itself held a.rising) in

@@ -60,6 +60,7 @@ counted_each (o ∷ ops) h =
     ap length (flat_map-cons operation o ops) ∙ length-append (operation o) (flat_map operation ops) in
     (IsCounted-from_length o (omega arith), counted_each ops (omega arith))
 
+-- the counts of a bundle of less than 2^64 bytes fit in 64 bits
 pub AreCounted-from_length : (ops : List Operation) → length (bundle ops) < 2 ^ 64 → AreCounted ops
 unfolding bundle
 AreCounted-from_length ops h =

@@ -20,6 +20,7 @@ all_filter P p [] h = tt
 all_filter P p (x ∷ xs) h = let rest = all_filter P p xs h.1 in
     elim (p x) as (λ b. AllByRecursion P (cond b (x ∷ filter p xs) (filter p xs))) [ true ↦ (h.0, rest) | false ↦ rest ]
 
+-- what lies outside a summary is a set
 pub outside_set : (s : List Known) (held : List Operation) → IsOpSet held → IsOpSet (outside s held)
 outside_set s held set = record {
   rising = rises_filter id_cmp id_total (λ (o : Operation). o.id) (is_sent held (covers s)) held set.rising;

@@ -8,6 +8,7 @@ use Rattle.bundle_codec.specs.declared.fault.BundleFault.{BundleFault}
 use Rattle.bundle_codec.specs.declared.fault.BundleFault.TheVariants.{Truncated}
 use Rattle.bundle_codec.specs.Reading.{◌>>=◌, AreBytes, check, many_at}
 
+-- bytes are left where some are taken off their front
 pub AreBytes-drop : (n : ℕ) (bytes : List ℕ) → AreBytes bytes → AreBytes (drop n bytes)
 AreBytes-drop n bytes h i = rw get_or-drop (h (n + i))
 

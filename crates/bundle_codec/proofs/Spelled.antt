@@ -265,6 +265,7 @@ right_judged ops h = by (all_full ops) refl
 abbrev pub of_set : List Operation → Bool × List Operation
 of_set ops = (all_full ops, ops)
 
+-- a bundle is read exactly where a legal set is spelled
 pub bundle_reads : Reads bundle_at bundle (λ ops. IsSpelled ops × IsTrue (is_legal ops))
 unfolding bundle_at bundle
 bundle_reads =

@@ -107,6 +107,7 @@ pub read_ends : (r : Result (List Known × List ℕ) BundleFault) (rest : List �
 read_ends (Ok x) rest e none = ap (λ (w : List ℕ). is_some (nothing_behind x.0 w)) (ok_is x.1 rest e ∙ none)
 read_ends (Err g) rest e none = absurd cc
 
+-- a summary that was read to the end is a whole one
 pub read_gives : (r : Result (List Known × List ℕ) BundleFault) (s : List Known) (rest : List ℕ) → rest ≡ [] → r ≡ Ok (s, rest)
     → read_whole r ≡ Some s
 read_gives r s rest none e = ap read_whole e ∙ ap (nothing_behind s) none

@@ -242,6 +242,7 @@ module _ (held : List Operation) (set : IsOpSet held) where
   rises_told (x ∷ xs) h = let p = and_parts (list_all (λ y. is_lt (name_cmp x y)) xs) (rises_by name_cmp (λ y. y) xs) h in
       and_from _ _ (below_told x xs p.0) (rises_told xs p.1)
 
+  -- the summary of a set that is computed is its summary
   pub summary_of_is : IsSummaryOf held (summary_of held)
   summary_of_is = record {
     form = record {

@@ -180,7 +180,8 @@ abbrev pub judge_text : ℕ → Option (List ℕ) → Result (Unit {0}) BundleFa
 judge_text k text = check (may_be_utf8 text) (NotUtf8 k)
 
 -- the k-th operation of a bundle of a format, after one of the id `before`; its text is judged last, by its rule and then by its segment
-unfoldable pub operation_at : Bool → ℕ → Option Id → List ℕ → Result (Operation × List ℕ) BundleFault
+unfoldable pub operation_at : Bool → ℕ → Option Id → List ℕ
+    → Result (Operation × List ℕ) BundleFault
 operation_at full k before bytes = do
   id ← id_at (BadId k) bytes
   _ ← check (comes_after before id.0) (NotRising k)
@@ -255,7 +256,8 @@ judge_named (Some k) = Err (Unsupported k)
 -- of format 2, at least one operation is thinned, and each that is thinned is named by one of its segment
 abbrev pub judge_thinned : Bool → List Operation → Result (Unit {0}) BundleFault
 judge_thinned true ops = Ok tt
-judge_thinned false ops = if all_full ops then Err (Unsupported 0) else judge_named (unnamed_place ops)
+judge_thinned false ops =
+    if all_full ops then Err (Unsupported 0) else judge_named (unnamed_place ops)
 
 -- the set of the bundle at the front of the bytes, and the bytes after it; or the first fault by place
 unfoldable pub bundle_at : List ℕ → Result (List Operation × List ℕ) BundleFault

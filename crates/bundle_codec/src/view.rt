@@ -153,7 +153,7 @@ impl<'a> OpView<'a> {
     pub fn to_op(&self, alloc: Global) -> Result<Op, AllocError>
         ensures { IfOk result (λ op. op ≡ self.now) }
     {
-        let replaced = self.replaced().collect(alloc)?;
+        let replaced = self.replaced_ids(alloc)?;
         let (id, book, key) = (self.id(), self.book(), self.key());
         match self.text() {
             None => Ok(Op::thinned(id, book, key, replaced)),
@@ -162,6 +162,17 @@ impl<'a> OpView<'a> {
                 Ok(Op::new(id, book, key, replaced, text))
             }
         }
+    }
+
+    // The ids that it names, in a list that takes no more than they need.
+    fn replaced_ids(&self, alloc: Global) -> Result<Vec<OpId>, AllocError>
+        ensures { IfOk result (λ ids. ids.items ≡ self.now.replaced) }
+    {
+        let mut ids = Vec::with_capacity(alloc, self.fields.replaced.count as usize)?;
+        for id in self.replaced() {
+            ids.push(id)?;
+        }
+        Ok(ids)
     }
 }
 

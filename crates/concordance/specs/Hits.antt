@@ -11,7 +11,8 @@ use Rattle.concordance.specs.Plain.{plain_leaves}
 
 -- where a needle occurs in a passage, from the left, no place overlapping one before it
 abbrev pub occurrences : List ℕ → Passage → List Passage
-occurrences needle p = map (λ at. record { start = p.start + at; text = needle }) (matches p.text needle 0)
+occurrences needle p =
+    map (λ at. record { start = p.start + at; text = needle }) (matches p.text needle 0)
 
 -- a hit: the key of the piece that holds its start, its start in the text, and its bytes
 pub record HitParts : Type 0 where
@@ -26,7 +27,8 @@ keyed ps p = record { key = key_at ps p.start; start = p.start; text = p.text }
 -- the hits of a needle in a text, by the records of a style sheet: where it occurs within one plain leaf, from the
 -- left, none overlapping one before it, each with the key of the piece that holds its start
 unfoldable pub hits_of : List Record → List ℕ → List ℕ → List HitParts
-hits_of sheet s needle = map (keyed (pieces_of s)) (flat_map (occurrences needle) (plain_leaves sheet s))
+hits_of sheet s needle =
+    map (keyed (pieces_of s)) (flat_map (occurrences needle) (plain_leaves sheet s))
 
 -- a hit without its key
 abbrev pub passage_of : HitParts → Passage

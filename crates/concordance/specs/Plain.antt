@@ -54,7 +54,8 @@ is_nothing (node k s b m ks c f) = false
 abbrev pub sites_in : List Around → Option MarkParts → Forest → List Site
 sites_in around behind nothing = []
 sites_in around behind (text s t f) =
-    record { start = s; bytes = t; around = around; behind = behind; is_last = is_nothing f } ∷ sites_in around None f
+    record { start = s; bytes = t; around = around; behind = behind; is_last = is_nothing f }
+    ∷ sites_in around None f
 sites_in around behind (leaf s m f) = sites_in around (Some m) f
 sites_in around behind (node k s b m ks c f) =
     sites_in (record { kind = k; mark = m; is_closed = is_some c } ∷ around) (Some m) ks
@@ -96,7 +97,8 @@ verse_length (Some v) = v.length
 -- `\v*` is none
 abbrev pub number_length : Option MarkParts → List ℕ → ℕ
 number_length None bytes = 0
-number_length (Some m) bytes = if bytes_eq (mark_bytes m) (codes "\\v") then verse_length (verse_in bytes) else 0
+number_length (Some m) bytes =
+    if bytes_eq (mark_bytes m) (codes "\\v") then verse_length (verse_in bytes) else 0
 
 -- the innermost node is a character node that ends with its closing mark
 abbrev pub in_closed_character : List Around → Bool
@@ -119,7 +121,11 @@ without_attributes may_end bytes = if may_end then before_first is_bar bytes els
 abbrev pub trimmed : Site → Passage
 trimmed t =
     let n = number_length t.behind t.bytes in
-    record { start = t.start + n; text = without_attributes (may_end_with_attributes t) (drop n t.bytes) }
+    record {
+      start = t.start + n;
+      text = without_attributes (may_end_with_attributes t)
+          (drop n t.bytes);
+    }
 
 -- the plain leaves of a tree by the records of a style sheet, in order
 abbrev pub plain_in : List Record → Forest → List Passage

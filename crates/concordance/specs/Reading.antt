@@ -44,16 +44,20 @@ abbrev pub counts : Surroundings → Bool
 counts i = i.in_verse_text && not i.in_aside
 
 -- a text that counts, before the leaves after it
-abbrev pub with_text : Surroundings → Option MarkParts → Bool → ℕ → List ℕ → List Passage → List Passage
-with_text i behind is_last start bytes later = if counts i then left_of i behind is_last start bytes ∷ later else later
+abbrev pub with_text : Surroundings → Option MarkParts → Bool → ℕ → List ℕ → List Passage
+    → List Passage
+with_text i behind is_last start bytes later =
+    if counts i then left_of i behind is_last start bytes ∷ later else later
 
 -- the plain leaves of entries
 abbrev pub leaves_from : List Record → Surroundings → Option MarkParts → Forest → List Passage
 leaves_from sheet i behind nothing = []
-leaves_from sheet i behind (text s t f) = with_text i behind (is_nothing f) s t (leaves_from sheet i None f)
+leaves_from sheet i behind (text s t f) =
+    with_text i behind (is_nothing f) s t (leaves_from sheet i None f)
 leaves_from sheet i behind (leaf s m f) = leaves_from sheet i (Some m) f
 leaves_from sheet i behind (node k s b m ks c f) =
-    leaves_from sheet (within sheet i (record { kind = k; mark = m; is_closed = is_some c })) (Some m) ks
+    leaves_from sheet (within sheet i (record { kind = k; mark = m; is_closed = is_some c }))
+    (Some m) ks
     ++ leaves_from sheet i (node_end (mark_at_end (Some m) ks) c) f
 
 -- each text ends at a place that fits
@@ -82,11 +86,13 @@ are_neighbours at (p ∷ ps) = (p.start == at) && are_neighbours (at + length p.
 -- places that rise from one on, and lie before another
 abbrev pub rise_between : ℕ → ℕ → List Passage → Bool
 rise_between low end [] = true
-rise_between low end (p ∷ ps) = nat_le low p.start && (nat_lt p.start end && rise_between p.start end ps)
+rise_between low end (p ∷ ps) =
+    nat_le low p.start && (nat_lt p.start end && rise_between p.start end ps)
 
 -- pieces reach from the first of some passages to after the last
 abbrev pub hold_all : List Part → List Passage → Bool
-hold_all ps passages = are_neighbours (begin_of ps) ps && rise_between (begin_of ps) (end_of ps) passages
+hold_all ps passages =
+    are_neighbours (begin_of ps) ps && rise_between (begin_of ps) (end_of ps) passages
 
 -- a passage ends at a place that fits
 abbrev pub EndsWithin : Passage → Type 0

@@ -39,7 +39,8 @@ enclosures g = reverse g.around.items
 -- the leaves so far, and those that a walk still gives which has this to meet
 abbrev pub leaves_with : List Record → Gathering → List Event → List passages.Passage
 leaves_with sheet g events =
-    passages_view g.leaves.items ++ gathered sheet (enclosures g) (mark_behind g) (waiting_of g) events
+    passages_view g.leaves.items ++ gathered sheet (enclosures g) (mark_behind g)
+    (waiting_of g) events
 
 -- the pieces from the one on that holds the place last asked for
 abbrev pub pieces_left : Places → List Part

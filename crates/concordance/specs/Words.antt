@@ -38,7 +38,8 @@ abbrev pub runs_behind : Bool → ℕ → List ℕ → List Passage
 runs_behind within at [] = []
 runs_behind within at (c ∷ cs) =
     let later = runs_behind (is_word_char c) (at + length (encode_utf8 c)) cs in
-    if is_word_char c && not within then record { start = at; text = encode_utf8_all (take_while is_word_char (c ∷ cs)) } ∷ later
+    if is_word_char c && not within then
+    record { start = at; text = encode_utf8_all (take_while is_word_char (c ∷ cs)) } ∷ later
     else later
 
 -- the longest runs of word characters in a passage, in order
@@ -86,4 +87,5 @@ words_in ss = map (word_with ss) (rising form_cmp (map (λ s. s.form) ss))
 -- the words of a text, by the records of a style sheet: the forms of the longest runs of word characters in its
 -- plain leaves, rising, each with the keys at which it occurs
 unfoldable pub words_of : List Record → List ℕ → List WordParts
-words_of sheet s = words_in (map (spelling_at (pieces_of s)) (flat_map runs_in (plain_leaves sheet s)))
+words_of sheet s =
+    words_in (map (spelling_at (pieces_of s)) (flat_map runs_in (plain_leaves sheet s)))

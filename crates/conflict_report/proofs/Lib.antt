@@ -1,4 +1,4 @@
-mod Latest
+pub mod Latest
 mod Seen
 mod Gathered
 mod Emptiness

@@ -23,6 +23,7 @@ same_reports held other e shows =
     λ i. flat_map (λ book. flat_map (λ key. told (segment book key) (shows (segment book key) i)) (same.keys book i)) (same.books i)
     ++ flat_map awaited_line (same.awaited i)
 
+-- sets with one skeleton have one report
 pub skeleton_reports : SkeletonReports
 skeleton_reports held other rising other_rising legal other_legal none e =
     same_reports held other e (λ g. skeleton_shows held other g rising other_rising legal other_legal none e)

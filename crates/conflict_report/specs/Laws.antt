@@ -17,7 +17,8 @@ use Rattle.conflict_report.specs.Reports.{report}
 
 -- no two operations that the segment shows have different texts
 abbrev pub ShowsOneText : List Operation → Segment → Type 0
-ShowsOneText held g = (o p : Operation) → Contains (shown held g) o → Contains (shown held g) p → own_text o ≡ own_text p
+ShowsOneText held g = (o p : Operation) → Contains (shown held g) o → Contains (shown held g) p
+    → own_text o ≡ own_text p
 
 -- The report of a set is empty exactly where no segment shows two different texts, and no id is awaited.
 abbrev pub EmptyReports : Type 0
@@ -31,13 +32,16 @@ abbrev pub SameBundlesSameReports : Type 0
 SameBundlesSameReports =
     (name other : List ℕ) (bundles others : List (List Operation)) →
     AllByRecursion IsOpSet bundles → AllByRecursion IsOpSet others → SameTogether bundles others →
-    NoneRefused (begun name) (map Receive bundles) → NoneRefused (begun other) (map Receive others) →
-    report (after (begun name) (map Receive bundles)).held ≡ report (after (begun other) (map Receive others)).held
+    NoneRefused (begun name) (map Receive bundles) → NoneRefused (begun other) (map Receive others)
+    →
+    report (after (begun name) (map Receive bundles)).held
+    ≡ report (after (begun other) (map Receive others)).held
 
 -- Two sets that are equal but for texts left out, and in which no id has two operations, give the same report.
 abbrev pub SkeletonReports : Type 0
 SkeletonReports =
-    (held other : List Operation) → IsTrue (rises held) → IsTrue (rises other) → IsTrue (is_legal held) → IsTrue (is_legal other) →
+    (held other : List Operation) → IsTrue (rises held) → IsTrue (rises other)
+    → IsTrue (is_legal held) → IsTrue (is_legal other) →
     clash held other ≡ None → skeleton held ≡ skeleton other → report held ≡ report other
 
 -- Two replicas that received bundles of one family, with the same ids together, in whatever order, grouping and repetition, and

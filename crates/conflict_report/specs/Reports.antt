@@ -25,11 +25,13 @@ distinct_texts held g = reverse (filter (λ o. not (is_repeated (shown held g) o
 
 -- `conflict`, the segment's reference, and how many texts there are
 abbrev pub conflict_line : Segment → ℕ → List ℕ
-conflict_line g count = codes "conflict " ++ (ref_text g.book g.key ++ 32 ∷ (decimal count ++ 10 ∷ []))
+conflict_line g count =
+    codes "conflict " ++ (ref_text g.book g.key ++ 32 ∷ (decimal count ++ 10 ∷ []))
 
 -- `text`, the number and the name of the text's id, and how many bytes it has
 abbrev pub text_line : Operation → List ℕ
-text_line o = codes "text " ++ (decimal o.id.number ++ 32 ∷ (o.id.name ++ 32 ∷ (decimal (length (own_text o)) ++ 10 ∷ [])))
+text_line o = codes "text " ++
+    (decimal o.id.number ++ 32 ∷ (o.id.name ++ 32 ∷ (decimal (length (own_text o)) ++ 10 ∷ [])))
 
 -- a text's line, the text, and a line feed
 abbrev pub text_lines : Operation → List ℕ
@@ -42,7 +44,8 @@ awaited_line id = codes "awaited " ++ (decimal id.number ++ 32 ∷ (id.name ++ 1
 -- what is reported of a segment that shows these distinct texts: nothing unless they are two or more
 abbrev pub conflict_lines : Segment → List Operation → List ℕ
 conflict_lines g texts =
-    if nat_le 2 (length texts) then conflict_line g (length texts) ++ flat_map text_lines texts else []
+    if nat_le 2 (length texts) then conflict_line g (length texts) ++ flat_map text_lines texts
+    else []
 
 -- ---- the report
 

@@ -77,6 +77,7 @@ IsFileOf-from_parts bytes name rest held f set legal e = record {
   spelled = f.spelled ∙ ap (λ (w : List ℕ). magic ++ (length name ∷ (name ++ w))) e;
 }
 
+-- bytes that are read as a project are the file of its replica
 pub project_is : (bytes : List ℕ) (s : State) → AreBytes bytes → project_at bytes ≡ Ok s → IsFileOf bytes s
 project_is bytes s fits e = by_front (front_at bytes) refl e
   where

@@ -22,12 +22,14 @@ project s = magic ++ (length s.name ∷ (s.name ++ bundle s.held))
 
 -- the bytes after the magic, where it is at the front
 abbrev pub after_magic : List ℕ → Option (List ℕ)
-after_magic bytes = if starts_with nat_eq bytes magic then Some (drop (length magic) bytes) else None
+after_magic bytes =
+    if starts_with nat_eq bytes magic then Some (drop (length magic) bytes) else None
 
 -- a name after its length, where they are at the front, and the bytes after it
 abbrev pub name_at : List ℕ → Option (List ℕ × List ℕ)
 name_at [] = None
-name_at (n ∷ bytes) = if nat_le n (length bytes) && is_name (take n bytes) then Some (take n bytes, drop n bytes) else None
+name_at (n ∷ bytes) = if nat_le n (length bytes) && is_name (take n bytes)
+    then Some (take n bytes, drop n bytes) else None
 
 -- the name after the magic, and the bytes after it
 unfoldable pub front_at : List ℕ → Option (List ℕ × List ℕ)

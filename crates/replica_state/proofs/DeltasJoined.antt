@@ -36,6 +36,7 @@ delta_new own other s h =
     sent : (o : Operation) → is_none (get own o.id) ≡ true → is_sent other (covers s) o ≡ true
     sent o n = ap (λ b. b || lacks_thinned other (covers s) o.segment) (unknown (get own o.id) (covers s o.id) n (h.exactly o.id))
 
+-- a copy that takes in what it lacks holds the union
 pub delta_joined : (own other : State) (s : List Known) → IsState own → IsState other → IsTrue (all_full other.held) →
     IsSummaryOf own.held s →
     step own (Receive (outside s other.held))

@@ -33,7 +33,8 @@ clashes held all new walk rest o p k next g d =
 -- where nothing clashes, all of a bundle comes before a clash
 pub all_before : (held bundle : List Operation) → clash held bundle ≡ None → before_clash held bundle ≡ bundle
 all_before held [] e = refl
-all_before held (o ∷ rest) e = by (differs (get held o.id) o) refl (λ later. ap (λ (ops : List Operation). o ∷ ops) (all_before held rest later))
+all_before held (o ∷ rest) e =
+    by (differs (get held o.id) o) refl (λ later. ap (λ (ops : List Operation). o ∷ ops) (all_before held rest later))
   where
     found : Option Operation
     found = find (λ (q : Operation). differs (get held q.id) q) rest

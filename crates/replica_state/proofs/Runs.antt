@@ -31,6 +31,7 @@ run_joined way s (set ∷ rest) w t =
     let next : join s.held set ≡ (step s (Receive set)).after.held = sym (ap (λ (c : Option Id). (received s set c).after.held) none) in
     run_joined (Joined way (Part set)) (step s (Receive set)).after rest (more ∙ ap Ok next) t.1
 
+-- replicas that received the same operations hold the same
 pub same_held : (name other : List ℕ) (sets others : List (List Operation)) → AllByRecursion IsOpSet sets
     → AllByRecursion IsOpSet others
     → SameTogether sets others → NoneRefused (begun name) (map Receive sets) → NoneRefused (begun other) (map Receive others)

@@ -10,6 +10,7 @@ use Rattle.op_core.proofs.Enrolled.{at_item, more_items}
 use Rattle.op_core.proofs.Walk.{last_push}
 
 module _ {X : Type 0} (f : X → Operation) (xs : List X) (i : ℕ) (x : X) (l : i < length xs) (is : x ≡ get_or xs i x) where
+  -- where one item passes a test, one of them does
   pub one_passes : (p : Operation → Bool) → p (f x) ≡ true → list_any p (map f xs) ≡ true
   one_passes p h =
       ap (λ (ys : List X). list_any p (map f ys)) (at_item xs i x l is)
@@ -17,6 +18,7 @@ module _ {X : Type 0} (f : X → Operation) (xs : List X) (i : ℕ) (x : X) (l :
       ∙ list_any-append p (map f (take i xs)) (f x ∷ map f (drop (i + 1) xs))
       ∙ or_right _ _ (or_left _ _ h)
 
+  -- the text of the last of some items is that of the item
   pub last_text : text_in (last (map f (take (i + 1) xs))) ≡ own_text (f x)
   last_text =
       ap (λ (ys : List X). text_in (last (map f ys))) (more_items xs i x l is)

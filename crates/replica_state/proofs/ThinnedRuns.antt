@@ -85,6 +85,7 @@ module _ (family : Id → Operation) where
   none_held : IsOf family []
   none_held = record { rising = refl; legal = refl; each = λ q o g. cc g }
 
+  -- runs of one family that bring the same ids are alike
   pub run_alike : (name other : List ℕ) (commands others : List Command) → AllByRecursion (TakesFrom family) commands
       → AllByRecursion (TakesFrom family) others → ((q : Id) → is_brought commands q ≡ is_brought others q)
       → RunAlike (begun name) (begun other) commands others

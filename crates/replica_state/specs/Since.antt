@@ -66,7 +66,8 @@ changed_keys held base book pieces =
 
 -- The edits of some keys of a book to the file's pieces, numbered one after the other. Each names the ids that its segment shows
 -- of those whose text stood in the file.
-abbrev pub changes_from : ℕ → State → List Operation → List ℕ → List Part → List KeyParts → List Operation
+abbrev pub changes_from : ℕ → State → List Operation → List ℕ → List Part → List KeyParts
+    → List Operation
 changes_from number s base book pieces [] = []
 changes_from number s base book pieces (key ∷ keys) =
     edit_with (record { number = number; name = s.name }) (segment book key)

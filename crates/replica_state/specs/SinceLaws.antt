@@ -32,7 +32,8 @@ pub record StoodInFile (base : List Operation) (g : Segment) (id : Id) : Type 0 
 -- It replaces nothing unseen: each id that an edit names stood in the file.
 abbrev pub ReplacesNothingUnseen : Type 0
 ReplacesNothingUnseen =
-    (s : State) (base : List Operation) (book : List ℕ) (pieces : List Part) (edit : Operation) (id : Id) →
+    (s : State) (base : List Operation) (book : List ℕ) (pieces : List Part) (edit : Operation)
+    (id : Id) →
     Contains (changes_of s base book pieces) edit → Contains edit.replaced id →
     StoodInFile base edit.segment id
 
@@ -40,7 +41,8 @@ ReplacesNothingUnseen =
 -- stand in the file is shown after the edits.
 abbrev pub UnseenStays : Type 0
 UnseenStays =
-    (s : State) (base : List Operation) (book : List ℕ) (pieces : List Part) (g : Segment) (o : Operation) →
+    (s : State) (base : List Operation) (book : List ℕ) (pieces : List Part) (g : Segment)
+    (o : Operation) →
     IsState s → Contains (shown s.held g) o → (StoodInFile base g o.id → ⊥) →
     Contains (shown (with_ops s (changes_of s base book pieces)).held g) o
 
@@ -53,7 +55,8 @@ UnchangedFilesAddNothing =
     ≡ record { after = with_ops s b.held; answer = Ok 0 }
 
 -- the edits over given ids of some keys: each gives its segment the file's piece, over what is held and stood in the file
-abbrev pub edits_over : List Operation → List Operation → List ℕ → List Part → List KeyParts → List Command
+abbrev pub edits_over : List Operation → List Operation → List ℕ → List Part → List KeyParts
+    → List Command
 edits_over held base book pieces keys =
     map (λ key. EditOver (segment book key) (piece_at pieces key)
     (seen_ids held base (segment book key))) keys

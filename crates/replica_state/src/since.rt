@@ -139,7 +139,8 @@ impl Replica {
         requires rising { IsTrue (rises_by key_cmp (λ p. p.key) pieces.now) }
         requires fits { (key : _) →
             Fits book key (imports.piece_at (parts_of pieces.now) key) }
-        ensures step { let keys = since.changed_keys self.old.held was.now.held book (parts_of pieces.now) in
+        ensures step { let keys = since.changed_keys self.old.held was.now.held book
+            (parts_of pieces.now) in
             result ≢ Err SinceFault.Memory →
             since.changed self.old self.old was.now.held book (parts_of pieces.now) keys
             ≡ record { after = self.new; answer = result } }
@@ -161,7 +162,8 @@ impl Replica {
         pieces: &[Piece<'_>],
     ) -> Result<Vec<Key>, AllocError>
         requires rising { IsTrue (rises_by key_cmp (λ p. p.key) pieces.now) }
-        ensures { let keys = since.changed_keys self.now.held was.now.held book (parts_of pieces.now) in
+        ensures { let keys = since.changed_keys self.now.held was.now.held book
+            (parts_of pieces.now) in
             IfOk result (λ changed. changed.items ≡ keys) }
     {
         let mut changed = Vec::new(self.alloc);
@@ -243,7 +245,8 @@ impl Replica {
         requires fits { (key : _) →
             Fits book key (imports.piece_at (parts_of pieces.now) key) }
         ensures ops { let first = next_number self.now.held in
-            let made = since.changes_from first self.now was.now.held book (parts_of pieces.now) keys.now in
+            let made = since.changes_from first self.now was.now.held book
+            (parts_of pieces.now) keys.now in
             IfOk result (λ ops. ops.items ≡ made) }
         ensures state { IsState self.now }
     {

@@ -53,7 +53,8 @@ fn begins_node(mark: Mark<'_>, style: Option<&Style<'_>>) -> bool
 // Whether there is a name, and it is a word of OccursUnder of a mark's style.
 fn has_name(sheet: &Sheet<'_>, name: &str, around: Option<&str>) -> bool
     ensures { let words = under_words (records_of sheet.now) name.now in
-        result ≡ option_map_or (λ n. has_word n words) (option_map (λ n. n.now) around.entry) false }
+        result ≡ option_map_or (λ n. has_word n words)
+        (option_map (λ n. n.now) around.entry) false }
 {
     match around {
         None => false,

@@ -13,6 +13,7 @@ same_test true q there back = sym (there refl)
 same_test false true there back = back refl
 same_test false false there back = refl
 
+-- equality of bytes, read from the other side
 pub bytes_eq-sym : (a b : List ℕ) → bytes_eq a b ≡ bytes_eq b a
 bytes_eq-sym a b =
     same_test _ _ (λ h. (bytes_eq-Decides b a).1 (sym ((bytes_eq-Decides a b).0 h)))

@@ -18,9 +18,11 @@ abbrev pub held : {S : Type 0} → IndexMap (Bor (List ℕ)) Style S → List �
 held closers name = lookup (λ k. bytes_eq name k.now) closers.entries
 
 -- the map takes a style in, where the style is a milestone and no other is under its closing name
-abbrev pub AddsTo : {S : Type 0} → IndexMap (Bor (List ℕ)) Style S → Style → IndexMap (Bor (List ℕ)) Style S → Type 0
+abbrev pub AddsTo : {S : Type 0} → IndexMap (Bor (List ℕ)) Style S → Style
+    → IndexMap (Bor (List ℕ)) Style S → Type 0
 AddsTo old s new =
-    (name : List ℕ) → held new name ≡ option_or (held old name) (if closes name s then Some s else None)
+    (name : List ℕ) → held new name ≡ option_or (held old name)
+    (if closes name s then Some s else None)
 
 -- the map has at each name the first of the styles that are milestones which it closes
 abbrev pub HasFirstOf : {S : Type 0} → IndexMap (Bor (List ℕ)) Style S → List Style → Type 0

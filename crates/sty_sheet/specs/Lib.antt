@@ -8,6 +8,5 @@ pub mod StyleViews
 pub mod Listing
 pub mod Views
 pub mod Closers
-pub mod UnderSets
-pub mod FieldViews
 pub mod Steps
+pub mod Loops

@@ -1,7 +1,7 @@
 //! The fields of a sheet's lines.
 
 ghost use Rattle.std.specs.Prelude.{◌≡◌};
-ghost use Rattle.sty_sheet.specs.FieldViews.{field_view};
+ghost use Rattle.sty_sheet.specs.Loops.FieldViews.{field_view};
 ghost use Rattle.sty_sheet.specs.Fields.{field_named, field_behind, field_of};
 
 use crate::line::body;

@@ -4,7 +4,7 @@ ghost use Rattle.std.specs.Prelude.{◌≡◌, Err, IfOk, OnErr};
 ghost use Rattle.std.specs.Option.{ForSome};
 ghost use Rattle.sty_sheet.specs.Records.{has_word};
 ghost use Rattle.sty_sheet.specs.StyleViews.{record_of};
-ghost use Rattle.sty_sheet.specs.UnderSets.{AreWords};
+ghost use Rattle.sty_sheet.specs.Loops.UnderSets.{AreWords};
 
 use crate::fault::SheetFault;
 use crate::style::Style;

@@ -1,7 +1,7 @@
 //! Reading a sheet field by field.
 
 ghost use Rattle.std.specs.Prelude.{◌≡◌};
-ghost use Rattle.sty_sheet.specs.FieldViews.{field_view};
+ghost use Rattle.sty_sheet.specs.Loops.FieldViews.{field_view};
 ghost use Rattle.sty_sheet.specs.Sheets.{misplaced, kind_fault, field_fault};
 
 use crate::fault::SheetFault;

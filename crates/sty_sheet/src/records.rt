@@ -15,7 +15,8 @@ use std::alloc::Global;
 #[derive(Drop)]
 pub(crate) struct Records<'s> {
     pub(crate) styles: IndexMap<&'s str, Listed<'s>>,
-    ghost keyed: { map (λ e. e.0.now) styles.entries ≡ map (λ e. e.1.style.marker.now) styles.entries },
+    ghost keyed: { map (λ e. e.0.now) styles.entries
+        ≡ map (λ e. e.1.style.marker.now) styles.entries },
 }
 
 // Puts a milestone under its closing name, if none is there.

@@ -18,7 +18,8 @@ pub struct Sheet<'s> {
     pub(crate) styles: IndexMap<&'s str, Listed<'s>>,
     // The milestones by their closing names, of each name the first.
     pub(crate) closers: IndexMap<&'s str, Style<'s>>,
-    ghost keyed: { map (λ e. e.0.now) styles.entries ≡ map (λ e. e.1.style.marker.now) styles.entries },
+    ghost keyed: { map (λ e. e.0.now) styles.entries
+        ≡ map (λ e. e.1.style.marker.now) styles.entries },
     ghost closed: { HasFirstOf closers (styles_in styles) },
 }
 

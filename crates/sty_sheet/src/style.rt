@@ -1,6 +1,6 @@
 ghost use Rattle.std.specs.Prelude.{◌≡◌, [], length, not, slice_get, ◌==◌};
 ghost use Rattle.std.specs.Option.{option_map};
-ghost use Rattle.sty_sheet.specs.FieldViews.{field_view};
+ghost use Rattle.sty_sheet.specs.Loops.FieldViews.{field_view};
 ghost use Rattle.sty_sheet.specs.Closers.{milestone_closer};
 ghost use Rattle.sty_sheet.specs.Records.{has_word};
 ghost use Rattle.sty_sheet.specs.Sheets.{record_with};

@@ -23,13 +23,17 @@ pub record IsBookOf (held : List Operation) (book text : List ℕ) : Type 0 wher
   pub set : IsOpSet held
   pub text_is : text ≡ export held book
   pub is_text : IsUtf8 text
-  pub cuts_back : pieces_of text ≡ pieces_from 0 (at_book_head (picked_at held book book_head) ∷ filled (later_texts held book))
+  pub cuts_back : pieces_of text ≡ pieces_from 0
+      (at_book_head (picked_at held book book_head) ∷ filled (later_texts held book))
 
 -- What an answer says of a book that is to be written, and of what the sink took: all of it, the front of it whose
 -- length is answered, or nothing exactly where the book has no operation.
-abbrev pub AnswersBook : List Operation → List ℕ → Option (List ℕ) → Option (List ℕ) → Result (Unit {0}) ExportFault → Type 0
-AnswersBook held book before after (Ok done) = (has_book held book ≡ true) × Appends before after (export held book)
-AnswersBook held book before after (Err writing.NoBook) = (has_book held book ≡ false) × (after ≡ before)
+abbrev pub AnswersBook : List Operation → List ℕ → Option (List ℕ) → Option (List ℕ)
+    → Result (Unit {0}) ExportFault → Type 0
+AnswersBook held book before after (Ok done) =
+    (has_book held book ≡ true) × Appends before after (export held book)
+AnswersBook held book before after (Err writing.NoBook) =
+    (has_book held book ≡ false) × (after ≡ before)
 AnswersBook held book before after (Err (writing.WriteFailed gone)) =
     (has_book held book ≡ true) × TakesFront before after (export held book) 0 gone
 
@@ -41,7 +45,8 @@ sink_failures (Err (writing.WriteFailed gone)) failures = one_more failures
 
 -- What an answer says of a book whose text is asked for: its bytes, or that it has no operation; or out of memory,
 -- where it has one.
-abbrev pub AnswersText : {A : Type 0} → List Operation → List ℕ → Result (Vec ℕ A) TextFault → Type 0
+abbrev pub AnswersText : {A : Type 0} → List Operation → List ℕ → Result (Vec ℕ A) TextFault
+    → Type 0
 AnswersText held book (Ok text) = (has_book held book ≡ true) × IsBookOf held book text.items
 AnswersText held book (Err texts.NoBook) = has_book held book ≡ false
 AnswersText held book (Err texts.Memory) = has_book held book ≡ true

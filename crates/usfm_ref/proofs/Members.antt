@@ -29,6 +29,7 @@ module _ {K : Type 0} (cmp : K → K → Ordering) (o : IsTotalOrder cmp) (exact
   find_found q [] = refl
   find_found q (x ∷ xs) = ap (cond (is_eq (cmp q x)) (Some x)) (find_found q xs)
 
+  -- rising lists in which the same is found are one list
   pub same_items : (xs ys : List K) → rises_by cmp (λ (x : K). x) xs ≡ true → rises_by cmp (λ (x : K). x) ys ≡ true
       → ((q : K) → found cmp o (λ (x : K). x) q xs ≡ found cmp o (λ (x : K). x) q ys) → xs ≡ ys
   same_items xs ys hx hy is =

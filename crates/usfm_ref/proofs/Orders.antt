@@ -45,20 +45,24 @@ verse_total =
 pub place_total : IsTotalOrder place_cmp
 place_total = subst IsTotalOrder (λ i p q. sym (place_as p q) i) (on_total verse (options_total verse_total))
 
+-- keys are in a total order
 pub key_total : IsTotalOrder key_cmp
 key_total = then_total (on_total (λ (a : KeyParts). a.chapter) nat_cmp_total) (on_total (λ (a : KeyParts). a.place) place_total)
 
 pub code_total : IsTotalOrder code_cmp
 code_total = nat_list_cmp_total
 
+-- books are in a total order
 pub book_total : IsTotalOrder book_cmp
 book_total = then_total (on_total rank_of nat_cmp_total) code_total
 
+-- segments are in a total order
 pub segment_total : IsTotalOrder segment_cmp
 segment_total = then_total (on_total (λ (a : Segment). a.book) book_total) (on_total (λ (a : Segment). a.key) key_total)
 
 -- ---- what an order does not tell apart is equal
 
+-- where two orders one after the other give equal, each does
 pub then_parts : (a b : Ordering) → ordering_then a b ≡ Equal → (a ≡ Equal) × (b ≡ Equal)
 then_parts Less b h = cc
 then_parts Equal b h = (refl, h)
@@ -77,14 +81,17 @@ place_exact (Verse n l) Head h = cc
 place_exact (Verse n l) (Verse m k) h =
     let p = then_parts (nat_cmp n m) (letter_cmp l k) h in λ i. Verse (nat_cmp-IsAntisymmetric n m p.0 i) (letter_exact l k p.1 i)
 
+-- keys that compare as equal are one key
 pub key_exact : (a b : KeyParts) → key_cmp a b ≡ Equal → a ≡ b
 key_exact a b h =
     let p = then_parts (nat_cmp a.chapter b.chapter) (place_cmp a.place b.place) h in
     λ i. record { chapter = nat_cmp-IsAntisymmetric a.chapter b.chapter p.0 i; place = place_exact a.place b.place p.1 i }
 
+-- books that compare as equal are one book
 pub book_exact : (a b : List ℕ) → book_cmp a b ≡ Equal → a ≡ b
 book_exact a b h = slice_cmp-IsAntisymmetric nat_cmp-IsAntisymmetric a b (then_parts (nat_cmp (rank_of a) (rank_of b)) _ h).1
 
+-- segments that compare as equal are one segment
 pub segment_exact : (a b : Segment) → segment_cmp a b ≡ Equal → a ≡ b
 segment_exact a b h =
     let p = then_parts (book_cmp a.book b.book) (key_cmp a.key b.key) h in
@@ -92,9 +99,11 @@ segment_exact a b h =
 
 -- ---- tests of equality
 
+-- the test of equal bytes, read
 pub same_bytes-is : (a b : List ℕ) → same_bytes a b ≡ true → a ≡ b
 same_bytes-is a b h = (bytes_decides a b).0 h
 
+-- bytes are equal to themselves
 pub same_bytes-refl : (a : List ℕ) → same_bytes a a ≡ true
 same_bytes-refl a = (bytes_decides a a).1 refl
 
@@ -119,19 +128,23 @@ pub same_place-refl : (a : Place) → same_place a a ≡ true
 same_place-refl Head = refl
 same_place-refl (Verse n l) = and_from _ _ (eq-eqb n n refl) (same_letter-refl l)
 
+-- the test of equal keys, read
 pub same_key-is : (a b : KeyParts) → same_key a b ≡ true → a ≡ b
 same_key-is a b h =
     let p = and_parts (eqb a.chapter b.chapter) (same_place a.place b.place) h in
     λ i. record { chapter = eqb-true a.chapter b.chapter p.0 i; place = same_place-is a.place b.place p.1 i }
 
+-- a key is equal to itself
 pub same_key-refl : (a : KeyParts) → same_key a a ≡ true
 same_key-refl a = and_from _ _ (eq-eqb a.chapter a.chapter refl) (same_place-refl a.place)
 
+-- the test of equal segments, read
 pub same_segment-is : (a b : Segment) → same_segment a b ≡ true → a ≡ b
 same_segment-is a b h =
     let p = and_parts (same_bytes a.book b.book) (same_key a.key b.key) h in
     λ i. record { book = same_bytes-is a.book b.book p.0 i; key = same_key-is a.key b.key p.1 i }
 
+-- a segment is equal to itself
 pub same_segment-refl : (a : Segment) → same_segment a a ≡ true
 same_segment-refl a = and_from _ _ (same_bytes-refl a.book) (same_key-refl a.key)
 

@@ -27,10 +27,12 @@ not_true : (b : Bool) → (b ≡ true → false ≡ true) → b ≡ false
 not_true true h = sym (h refl)
 not_true false h = refl
 
+-- before the first look nothing is ruled out
 pub narrowed_all : {X : Type 0} (p : X → Bool) (xs : List X) → IsNarrowed p xs 0 (length xs)
 narrowed_all p xs =
     record { ordered = omega arith; within = omega arith; below = λ k d l. absurd (omega arith); above = λ k d l m. absurd (omega arith) }
 
+-- an item that passes rules out what comes before it
 pub narrowed_low : {X : Type 0} (p : X → Bool) (xs : List X) (low high middle : ℕ) (x : X) → IsPartitionedBy p xs
     → IsNarrowed p xs low high → middle < high → x ≡ get_or xs middle x → p x ≡ true → IsNarrowed p xs (middle + 1) high
 narrowed_low p xs low high middle x parted h l hx hp =
@@ -43,6 +45,7 @@ narrowed_low p xs low high middle x parted h l hx hp =
       above = h.above;
     }
 
+-- an item that fails rules out what comes after it
 pub narrowed_high : {X : Type 0} (p : X → Bool) (xs : List X) (low high middle : ℕ) (x : X) → IsPartitionedBy p xs
     → IsNarrowed p xs low high → low ≤ middle → middle < high → x ≡ get_or xs middle x → p x ≡ false → IsNarrowed p xs low middle
 narrowed_high p xs low high middle x parted h g l hx hp =
@@ -55,6 +58,7 @@ narrowed_high p xs low high middle x parted h g l hx hp =
           (λ e. sym (ap p (sym (hx ∙ get_or_default xs middle x d (omega arith))) ∙ hp) ∙ parted middle k d m n e);
     }
 
+-- where nothing is left, there the test fails for the first time, in a list with an item
 pub narrowed_end : {X : Type 0} (p : X → Bool) (xs : List X) (low high : ℕ) (d : X) → IsNarrowed p xs low high → high ≤ low
     → low ≡ position_or_len (λ x. not (p x)) xs
 narrowed_end p xs low high d h l =
@@ -69,6 +73,7 @@ narrowed_none p low high h =
     let o = h.ordered in
     omega arith
 
+-- the same in any list
 pub narrowed_place : {X : Type 0} (p : X → Bool) (xs : List X) (low high : ℕ) → IsNarrowed p xs low high → high ≤ low
     → low ≡ position_or_len (λ x. not (p x)) xs
 narrowed_place p [] low high h l = narrowed_none p low high h
@@ -89,6 +94,7 @@ is_equal Less h = cc
 is_equal Equal h = refl
 is_equal Greater h = cc
 
+-- putting an item in its own place changes nothing
 pub set_same : {X : Type 0} (xs : List X) (n : ℕ) (y : X) → y ≡ get_or xs n y → xs ≡ set xs n y
 set_same [] n y h = refl
 set_same (x ∷ xs) zero y h = ap (λ z. z ∷ xs) (sym h)
@@ -122,6 +128,7 @@ module _ {K X : Type 0} (R : K → K → Ordering) (o : IsTotalOrder R) (key : X
       let q = sorted.first_above R o key b x xs h in
       and_from _ _ (ap is_lt (o.congr a b (key x) e) ∙ q.0) (tied_above a b xs e q.1)
 
+  -- a list rises still with an item put in its place
   pub rises_placed : (y : X) (xs : List X) → rises_by R key xs ≡ true → rises_by R key (placed R key y xs) ≡ true
   rises_placed y [] h = refl
   rises_placed y (x ∷ xs) h =
@@ -134,6 +141,7 @@ module _ {K X : Type 0} (R : K → K → Ordering) (o : IsTotalOrder R) (key : X
             (rises_placed y xs p.1)
       ] refl
 
+  -- what holds of the item and of all others holds of all
   pub all_placed : (P : X → Type 0) (y : X) (xs : List X) → P y → AllByRecursion P xs → AllByRecursion P (placed R key y xs)
   all_placed P y [] p h = (p, tt)
   all_placed P y (x ∷ xs) p h = elim (R (key y) (key x)) as
@@ -149,6 +157,7 @@ module _ {K X : Type 0} (R : K → K → Ordering) (o : IsTotalOrder R) (key : X
       let qa : R q a ≡ Equal = is_equal _ t in
       ap is_eq (o.congr q a b qa ∙ e) ∙ f
 
+  -- what is found after an item was put in its place
   pub found_placed : (q : K) (y : X) (xs : List X) → found q (placed R key y xs) ≡ cond (is_eq (R q (key y))) (Some y) (found q xs)
   found_placed q y [] = refl
   found_placed q y (x ∷ xs) =
@@ -175,6 +184,7 @@ module _ {K X : Type 0} (R : K → K → Ordering) (o : IsTotalOrder R) (key : X
       later true b f = rw (f refl) refl
       later false b f = refl
 
+  -- where nothing has its key, it is put in between
   pub placed_insert : (y : X) (xs : List X) (n : ℕ) → n ≡ place (key y) xs → found (key y) xs ≡ None → insert xs n y ≡ placed R key y xs
   placed_insert y [] n e g = rw e refl
   placed_insert y (x ∷ xs) n e g =
@@ -190,6 +200,7 @@ module _ {K X : Type 0} (R : K → K → Ordering) (o : IsTotalOrder R) (key : X
             (sym (cond-false _ (Some x) (found (key y) xs) (ap is_eq c)) ∙ g))
       ] refl
 
+  -- where an item has its key, it takes the place of that one
   pub placed_set : (y : X) (xs : List X) (n : ℕ) (x : X) → rises_by R key xs ≡ true → n ≡ place (key y) xs → n < length xs
       → x ≡ get_or xs n x → is_eq (R (key y) (key x)) ≡ true → set xs n y ≡ placed R key y xs
   placed_set y [] n x h e l hx t = absurd (omega arith)
@@ -221,6 +232,7 @@ module _ {K X : Type 0} (R : K → K → Ordering) (o : IsTotalOrder R) (key : X
       let p = sorted.first_above R o key q x xs h in
       cond-true _ _ _ (ap (λ c. not (is_eq c)) (is_less _ p.0)) ∙ ap (λ zs. x ∷ zs) (above_others q xs p.1)
 
+  -- where nothing has a key, all have others
   pub others_none : (q : K) (xs : List X) → found q xs ≡ None → xs ≡ others q xs
   others_none q [] h = refl
   others_none q (x ∷ xs) h = by (others_none q xs) (is_eq (R q (key x))) refl h
@@ -230,6 +242,7 @@ module _ {K X : Type 0} (R : K → K → Ordering) (o : IsTotalOrder R) (key : X
       by rest true e h = cc h
       by rest false e h = sym (cond-true _ _ _ (ap not e) ∙ ap (λ zs. x ∷ zs) (sym (rest h)))
 
+  -- taking out the item of a key leaves those of other keys
   pub others_at : (q : K) (xs : List X) (n : ℕ) (x : X) → rises_by R key xs ≡ true → n ≡ place q xs → n < length xs → x ≡ get_or xs n x
       → is_eq (R q (key x)) ≡ true → remove xs n ≡ others q xs
   others_at q [] n x h e l hx t = absurd (omega arith)

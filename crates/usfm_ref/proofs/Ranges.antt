@@ -25,10 +25,12 @@ pub number_is_verse : (bytes : List ℕ) (verse : ℕ × Option ℕ) (rest : Lis
     → is_verse verse ≡ true
 number_is_verse bytes verse rest h = and_from _ _ (le-leb verse.0 999 (number_small bytes verse.0 verse.1 rest h)) h.is_letter
 
+-- a chapter's number that is read is at most 999
 pub chapter_small : (text : List ℕ) (r : Option ℕ) → r ≡ chapter_in text → IfSome r (λ n. n ≤ 999)
 chapter_small text None e = tt
 chapter_small text (Some n) e = let read = chapter_in-some text n (sym e) in number_small read.bytes n None read.rest read.number_is
 
+-- a verse that is read is within its ranges
 pub mark_is_verse : (text : List ℕ) (mark : VerseMark) → ReadsVerse text mark → is_verse (mark.number, mark.letter) ≡ true
 mark_is_verse text mark h = number_is_verse h.bytes (mark.number, mark.letter) h.behind h.number_is
 

@@ -215,12 +215,8 @@ blanks_at-some text bytes h =
 pub chapter_in-of : (text : List ℕ) (n : ℕ) → ReadsChapter text n → chapter_in text ≡ Some n
 unfolding chapter_in
 chapter_in-of text n h =
-    rw (
-      h.text_is,
-      blanks_at-run h.blanks h.bytes h.are_blanks
-          (number_is_no_blank h.bytes n None h.rest h.number_is),
-      chapter_at-of h.bytes n h.rest h.number_is,
-    ) refl
+    let clear = number_is_no_blank h.bytes n None h.rest h.number_is in
+    rw (h.text_is, blanks_at-run h.blanks h.bytes h.are_blanks clear, chapter_at-of h.bytes n h.rest h.number_is) refl
 
 option_map_some : {A B P : Type 0} (f : A → B) (o : Option A) (y : B) → option_map f o ≡ Some y → ((x : A) → o ≡ Some x → f x ≡ y → P) → P
 option_map_some f None y h then_ = cc
@@ -263,29 +259,21 @@ bridged-of text verse behind (Some last) rest n h long =
 pub verse_in-of : (text : List ℕ) (m : VerseMark) → ReadsVerse text m → verse_in text ≡ Some m
 unfolding verse_in
 verse_in-of text m h =
-    let front : blanks_at text
-    ≡ Some h.bytes = rw h.text_is
-    (blanks_at-run h.blanks h.bytes h.are_blanks (number_is_no_blank h.bytes m.number m.letter h.behind h.number_is)) in
+    let clear = number_is_no_blank h.bytes m.number m.letter h.behind h.number_is in
+    let front : blanks_at text ≡ Some h.bytes = rw h.text_is (blanks_at-run h.blanks h.bytes h.are_blanks clear) in
     rw (
       front,
       verse_at-of h.bytes (m.number, m.letter) h.behind h.number_is,
-      bridged-of text
-          (m.number, m.letter) h.behind m.last h.rest m.length h.last_is h.length_is,
+      bridged-of text (m.number, m.letter) h.behind m.last h.rest m.length h.last_is h.length_is,
     ) refl
 
 -- a mark whose blanks and number were read
 starts : (text bytes behind : List ℕ) (verse : ℕ × Option ℕ) → AreBlanks text bytes → StartsWithNumber bytes verse.0 verse.1 behind
     → length behind ≤ length text
 starts text bytes behind verse front number =
-    omega (
-      arith,
-      ap length front.text_is,
-      length-append front.blanks bytes,
-      ap length number.bytes_are,
-      length-append number.digits
-          (option_to_list verse.1 ++ behind),
-      length-append (option_to_list verse.1) behind,
-    )
+    let parts = length-append number.digits (option_to_list verse.1 ++ behind) in
+    let letter = length-append (option_to_list verse.1) behind in
+    omega (arith, ap length front.text_is, length-append front.blanks bytes, ap length number.bytes_are, parts, letter)
 
 bridged_is : (text bytes behind : List ℕ) (verse : ℕ × Option ℕ) → AreBlanks text bytes → StartsWithNumber bytes verse.0 verse.1 behind
     → (b : Option ((ℕ × Option ℕ) × List ℕ)) → bridge_at behind ≡ b → ReadsVerse text (bridged text verse behind b)
@@ -319,12 +307,12 @@ bridged_is text bytes behind verse front number (Some b) e =
         arith,
         ap length bridge.bytes_are,
         ap length last.bytes_are,
-        length-append last.digits
-            (option_to_list b.0.1 ++ b.1),
+        length-append last.digits (option_to_list b.0.1 ++ b.1),
         length-append (option_to_list b.0.1) b.1,
       );
     }
 
+-- a verse that is computed is read
 pub verse_in-some : (text : List ℕ) (m : VerseMark) → verse_in text ≡ Some m → ReadsVerse text m
 unfolding verse_in
 verse_in-some text m h = option_map_some (λ (v : (ℕ × Option ℕ) × List ℕ). bridged text v.0 v.1 (bridge_at v.1))
@@ -405,7 +393,6 @@ within_bridge bytes last rest b =
       arith,
       ap length bridge.bytes_are,
       ap length number.bytes_are,
-      length-append number.digits
-          (option_to_list last.1 ++ rest),
+      length-append number.digits (option_to_list last.1 ++ rest),
       length-append (option_to_list last.1) rest,
     )

@@ -11,6 +11,7 @@ use Rattle.std.proofs.lemmas.Bool.{and_parts, and_from, cond-true, cond-false, t
 use Rattle.std.specs.FinMap.Entries.{by_order}
 use Rattle.usfm_ref.specs.Rising.{rises_by, with_item, rising}
 
+-- the test of less, read
 pub is_less : (o : Ordering) → is_lt o ≡ true → o ≡ Less
 is_less Less h = refl
 is_less Equal h = cc
@@ -21,15 +22,19 @@ pub tied_back : {K : Type 0} (R : K → K → Ordering) (o : IsTotalOrder R) (a 
 tied_back R o a b r e = (eq_by_cmp_equiv o).symm b a ∙ e
 
 module _ {K X : Type 0} (R : K → K → Ordering) (o : IsTotalOrder R) (key : X → K) where
+  -- all items have keys above this one
   abbrev pub Above : K → List X → Type 0
   Above k xs = list_all (λ y. is_lt (R k (key y))) xs ≡ true
 
+  -- a list that rises, read: all others are above the first, and these rise
   pub parts : (x : X) (xs : List X) → rises_by R key (x ∷ xs) ≡ true → Above (key x) xs × (rises_by R key xs ≡ true)
   parts x xs h = and_parts (list_all (λ y. is_lt (R (key x) (key y))) xs) (rises_by R key xs) h
 
+  -- items above a key, read: the first, and the others
   pub first_above : (k : K) (x : X) (xs : List X) → Above k (x ∷ xs) → (is_lt (R k (key x)) ≡ true) × Above k xs
   first_above k x xs h = and_parts (is_lt (R k (key x))) (list_all (λ y. is_lt (R k (key y))) xs) h
 
+  -- what is above a key is above all lower ones
   pub above_trans : (a b : K) (xs : List X) → R a b ≡ Less → Above b xs → Above a xs
   above_trans a b [] p h = refl
   above_trans a b (x ∷ xs) p h =
@@ -41,6 +46,7 @@ module _ {K X : Type 0} (R : K → K → Ordering) (o : IsTotalOrder R) (key : X
   above_at k (x ∷ xs) zero d h l = is_less _ (first_above k x xs h).0
   above_at k (x ∷ xs) (suc j) d h l = above_at k xs j d (first_above k x xs h).1 (omega arith)
 
+  -- in a list that rises, those below a key come first
   pub parted : (q : K) (xs : List X) → rises_by R key xs ≡ true → IsPartitionedBy (λ x. is_lt (R (key x) q)) xs
   parted q [] h i j d l m e = absurd (omega arith)
   parted q (x ∷ xs) h zero zero d l m e = e
@@ -59,6 +65,7 @@ module _ {K X : Type 0} (R : K → K → Ordering) (o : IsTotalOrder R) (key : X
       let p = first_above q x xs h in
       cond-false _ _ _ (ap is_eq (is_less _ p.0)) ∙ above_none q xs p.1
 
+  -- an order, read from the other side
   pub back : (a b : K) (r : Ordering) → R a b ≡ r → R b a ≡ ordering_reverse r
   back a b r e = o.antisymm b a ∙ ap ordering_reverse e
 
@@ -86,6 +93,7 @@ module _ {K X : Type 0} (R : K → K → Ordering) (o : IsTotalOrder R) (key : X
   pub place_later : (q : K) (x : X) (xs : List X) → is_lt (R (key x) q) ≡ true → place q (x ∷ xs) ≡ suc (place q xs)
   place_later q x xs e = rw e (omega arith)
 
+  -- an item of the key at the key's place is what is found
   pub found_here : (q : K) (xs : List X) (n : ℕ) (x : X) → rises_by R key xs ≡ true → n ≡ place q xs → n < length xs → x ≡ get_or xs n x
       → is_eq (R q (key x)) ≡ true → found q xs ≡ Some x
   found_here q [] n x h e l hx t = absurd (omega arith)
@@ -107,6 +115,7 @@ module _ {K X : Type 0} (R : K → K → Ordering) (o : IsTotalOrder R) (key : X
           let m : place q ys < length ys = omega (arith, z) in
           cond-false _ _ _ (ap is_eq e') ∙ rest m at
 
+  -- nothing is found where the item at the key's place has another key
   pub found_not : (q : K) (xs : List X) (n : ℕ) (x : X) → rises_by R key xs ≡ true → n ≡ place q xs → x ≡ get_or xs n x
       → is_eq (R q (key x)) ≡ false → found q xs ≡ None
   found_not q [] n x h e hx t = refl
@@ -123,6 +132,7 @@ module _ {K X : Type 0} (R : K → K → Ordering) (o : IsTotalOrder R) (key : X
           let at : x ≡ get_or ys (place q ys) x = hx ∙ ap (λ k. get_or (y ∷ ys) k x) z in
           cond-false _ _ _ (ap is_eq e') ∙ rest at
 
+  -- nothing is found where the key's place is the end
   pub found_end : (q : K) (xs : List X) (n : ℕ) → rises_by R key xs ≡ true → n ≡ place q xs → length xs ≤ n → found q xs ≡ None
   found_end q [] n h e l = refl
   found_end q (y ∷ ys) n h e l = by (λ m. found_end q ys (place q ys) (parts y ys h).1 refl m) (R q (key y)) refl
@@ -141,6 +151,7 @@ module _ {K X : Type 0} (R : K → K → Ordering) (o : IsTotalOrder R) (key : X
       let rest = above_filter p k xs q.1 in
       elim (p x) as (λ b. Above k (cond b (x ∷ filter p xs) (filter p xs))) [ true ↦ and_from _ _ q.0 rest | false ↦ rest ]
 
+  -- some items of a list that rises rise
   pub rises_filter : (p : X → Bool) (xs : List X) → rises_by R key xs ≡ true → rises_by R key (filter p xs) ≡ true
   rises_filter p [] h = refl
   rises_filter p (x ∷ xs) h =
@@ -174,6 +185,7 @@ module _ {K : Type 0} (cmp : K → K → Ordering) (o : IsTotalOrder cmp) where
             (rises-with_item k xs p.1)
       ] refl
 
+  -- items that are put in order rise
   pub rises-rising : (xs : List K) → rises_by cmp (λ x. x) (rising cmp xs) ≡ true
   rises-rising [] = refl
   rises-rising (x ∷ xs) = rises-with_item x (rising cmp xs) (rises-rising xs)

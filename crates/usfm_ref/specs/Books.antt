@@ -31,12 +31,18 @@ same_bytes = pointwise ◌==◌
 -- the codes of the 66 books of the canon, Genesis to Revelation, in their order
 abbrev pub canon : List (List ℕ)
 canon =
-    codes "GEN" ∷ codes "EXO" ∷ codes "LEV" ∷ codes "NUM" ∷ codes "DEU" ∷ codes "JOS" ∷ codes "JDG" ∷ codes "RUT" ∷ codes "1SA" ∷ codes "2SA"
-    ∷ codes "1KI" ∷ codes "2KI" ∷ codes "1CH" ∷ codes "2CH" ∷ codes "EZR" ∷ codes "NEH" ∷ codes "EST" ∷ codes "JOB" ∷ codes "PSA" ∷ codes "PRO"
-    ∷ codes "ECC" ∷ codes "SNG" ∷ codes "ISA" ∷ codes "JER" ∷ codes "LAM" ∷ codes "EZK" ∷ codes "DAN" ∷ codes "HOS" ∷ codes "JOL" ∷ codes "AMO"
-    ∷ codes "OBA" ∷ codes "JON" ∷ codes "MIC" ∷ codes "NAM" ∷ codes "HAB" ∷ codes "ZEP" ∷ codes "HAG" ∷ codes "ZEC" ∷ codes "MAL" ∷ codes "MAT"
-    ∷ codes "MRK" ∷ codes "LUK" ∷ codes "JHN" ∷ codes "ACT" ∷ codes "ROM" ∷ codes "1CO" ∷ codes "2CO" ∷ codes "GAL" ∷ codes "EPH" ∷ codes "PHP"
-    ∷ codes "COL" ∷ codes "1TH" ∷ codes "2TH" ∷ codes "1TI" ∷ codes "2TI" ∷ codes "TIT" ∷ codes "PHM" ∷ codes "HEB" ∷ codes "JAS" ∷ codes "1PE"
+    codes "GEN" ∷ codes "EXO" ∷ codes "LEV" ∷ codes "NUM" ∷ codes "DEU" ∷ codes "JOS" ∷ codes "JDG"
+    ∷ codes "RUT" ∷ codes "1SA" ∷ codes "2SA"
+    ∷ codes "1KI" ∷ codes "2KI" ∷ codes "1CH" ∷ codes "2CH" ∷ codes "EZR" ∷ codes "NEH"
+    ∷ codes "EST" ∷ codes "JOB" ∷ codes "PSA" ∷ codes "PRO"
+    ∷ codes "ECC" ∷ codes "SNG" ∷ codes "ISA" ∷ codes "JER" ∷ codes "LAM" ∷ codes "EZK"
+    ∷ codes "DAN" ∷ codes "HOS" ∷ codes "JOL" ∷ codes "AMO"
+    ∷ codes "OBA" ∷ codes "JON" ∷ codes "MIC" ∷ codes "NAM" ∷ codes "HAB" ∷ codes "ZEP"
+    ∷ codes "HAG" ∷ codes "ZEC" ∷ codes "MAL" ∷ codes "MAT"
+    ∷ codes "MRK" ∷ codes "LUK" ∷ codes "JHN" ∷ codes "ACT" ∷ codes "ROM" ∷ codes "1CO"
+    ∷ codes "2CO" ∷ codes "GAL" ∷ codes "EPH" ∷ codes "PHP"
+    ∷ codes "COL" ∷ codes "1TH" ∷ codes "2TH" ∷ codes "1TI" ∷ codes "2TI" ∷ codes "TIT"
+    ∷ codes "PHM" ∷ codes "HEB" ∷ codes "JAS" ∷ codes "1PE"
     ∷ codes "2PE" ∷ codes "1JN" ∷ codes "2JN" ∷ codes "3JN" ∷ codes "JUD" ∷ codes "REV" ∷ []
 
 -- the place of a code in the canon, and 66 for all others
@@ -49,7 +55,8 @@ code_cmp = slice_cmp nat_cmp
 
 -- a list of codes with their places has the canon: each place is right, and each code of the canon is there
 abbrev pub has_canon : List (List ℕ × ℕ) → Bool
-has_canon known = list_all (λ e. rank_of e.0 == e.1) known && list_all (λ one. list_any (λ e. is_eq (code_cmp one e.0)) known) canon
+has_canon known = list_all (λ e. rank_of e.0 == e.1) known
+    && list_all (λ one. list_any (λ e. is_eq (code_cmp one e.0)) known) canon
 
 -- the order of books: by their places in the canon, and then by the bytes of their codes
 abbrev pub book_cmp : List ℕ → List ℕ → Ordering

@@ -20,7 +20,8 @@ are_blanks bytes = nat_le 1 (length bytes) && list_all is_blank bytes
 
 -- one to three ASCII digits
 abbrev pub are_digits : List ℕ → Bool
-are_digits bytes = nat_le 1 (length bytes) && nat_le (length bytes) 3 && list_all is_ascii_digit bytes
+are_digits bytes =
+    nat_le 1 (length bytes) && nat_le (length bytes) 3 && list_all is_ascii_digit bytes
 
 -- the number that digits write after those of another
 abbrev pub number_behind : ℕ → List ℕ → ℕ
@@ -38,7 +39,8 @@ ends_number (b ∷ rest) = not (is_ascii_alphanumeric b)
 
 -- Bytes are digits that write a number, a letter or none, and a rest before which a number ends. So the digits are the
 -- longest run, and no second letter follows.
-pub record StartsWithNumber (bytes : List ℕ) (number : ℕ) (letter : Option ℕ) (rest : List ℕ) : Type 0 where
+pub record StartsWithNumber (bytes : List ℕ) (number : ℕ) (letter : Option ℕ)
+    (rest : List ℕ) : Type 0 where
   pub digits : List ℕ
   pub bytes_are : bytes ≡ digits ++ (option_to_list letter ++ rest)
   pub are_digits : IsTrue (are_digits digits)
@@ -55,7 +57,8 @@ pub record StartsWithBridge (bytes : List ℕ) (last : ℕ × Option ℕ) (rest 
 -- What comes after a verse's number: the bridge to its last verse and a rest, or no bridge and all of it is the
 -- rest. A bridge is read wherever there is one.
 abbrev pub BridgesTo : List ℕ → Option (ℕ × Option ℕ) → List ℕ → Type 0
-BridgesTo bytes None rest = (rest ≡ bytes) × ((last : ℕ × Option ℕ) (after : List ℕ) → StartsWithBridge bytes last after → ⊥)
+BridgesTo bytes None rest = (rest ≡ bytes)
+    × ((last : ℕ × Option ℕ) (after : List ℕ) → StartsWithBridge bytes last after → ⊥)
 BridgesTo bytes (Some last) rest = StartsWithBridge bytes last rest
 
 -- The text after a chapter's mark is blanks, and then the number of the chapter without a letter.
@@ -95,7 +98,8 @@ is_last (Some verse) = is_verse verse
 
 -- what comes after one blank or more at the front
 unfoldable pub blanks_at : List ℕ → Option (List ℕ)
-blanks_at bytes = let n = prefix_len is_blank bytes in if nat_le 1 n then Some (drop n bytes) else None
+blanks_at bytes =
+    let n = prefix_len is_blank bytes in if nat_le 1 n then Some (drop n bytes) else None
 
 -- a run of one to three digits
 unfoldable pub number_at : List ℕ → Option (ℕ × List ℕ)
@@ -110,7 +114,8 @@ ended value rest = if ends_number rest then Some (value, rest) else None
 -- a letter or none after a number, which ends
 abbrev pub lettered : ℕ → List ℕ → Option ((ℕ × Option ℕ) × List ℕ)
 lettered number [] = Some ((number, None), [])
-lettered number (b ∷ rest) = if is_ascii_lowercase b then ended (number, Some b) rest else ended (number, None) (b ∷ rest)
+lettered number (b ∷ rest) =
+    if is_ascii_lowercase b then ended (number, Some b) rest else ended (number, None) (b ∷ rest)
 
 -- a chapter's number
 unfoldable pub chapter_at : List ℕ → Option (ℕ × List ℕ)
@@ -131,12 +136,21 @@ chapter_in text = option_map (λ c. c.0) (option_and_then chapter_at (blanks_at 
 
 -- a verse's mark with a bridge, if there is one
 abbrev pub bridged : List ℕ → ℕ × Option ℕ → List ℕ → Option ((ℕ × Option ℕ) × List ℕ) → VerseMark
-bridged text verse behind None = record { number = verse.0; letter = verse.1; last = None; length = length text - length behind }
-bridged text verse behind (Some b) = record { number = verse.0; letter = verse.1; last = Some b.0; length = length text - length b.1 }
+bridged text verse behind None =
+    record { number = verse.0; letter = verse.1; last = None; length = length text - length behind }
+bridged text verse behind (Some b) =
+    record {
+      number = verse.0;
+      letter = verse.1;
+      last = Some b.0;
+      length = length text - length
+          b.1;
+    }
 
 -- the verse in the text directly after its mark, if one is there, with its bridge and how many bytes were read
 unfoldable pub verse_in : List ℕ → Option VerseMark
-verse_in text = option_map (λ v. bridged text v.0 v.1 (bridge_at v.1)) (option_and_then verse_at (blanks_at text))
+verse_in text = option_map (λ v. bridged text v.0 v.1 (bridge_at v.1))
+    (option_and_then verse_at (blanks_at text))
 
 -- ---- the laws
 
@@ -150,8 +164,10 @@ OneVerse = (text : List ℕ) (a b : VerseMark) → ReadsVerse text a → ReadsVe
 
 -- the reading from the left gives a chapter's number exactly where the grammar has it
 abbrev pub ChaptersAreRead : Type 0
-ChaptersAreRead = (text : List ℕ) (number : ℕ) → (chapter_in text ≡ Some number) ↔ ReadsChapter text number
+ChaptersAreRead =
+    (text : List ℕ) (number : ℕ) → (chapter_in text ≡ Some number) ↔ ReadsChapter text number
 
 -- the reading from the left gives a verse with its bridge and its length exactly where the grammar has it
 abbrev pub VersesAreRead : Type 0
-VersesAreRead = (text : List ℕ) (mark : VerseMark) → (verse_in text ≡ Some mark) ↔ ReadsVerse text mark
+VersesAreRead =
+    (text : List ℕ) (mark : VerseMark) → (verse_in text ≡ Some mark) ↔ ReadsVerse text mark

@@ -55,7 +55,8 @@ verse_to_end number (b ∷ c ∷ rest) = None
 -- a place after its chapter, up to the end
 unfoldable pub place_in : List ℕ → Option Place
 place_in [] = Some Head
-place_in (b ∷ rest) = if b == 58 then option_and_then (λ n. verse_to_end n.0 n.1) (plain_at rest) else None
+place_in (b ∷ rest) =
+    if b == 58 then option_and_then (λ n. verse_to_end n.0 n.1) (plain_at rest) else None
 
 -- a key of a chapter, if there is its place
 abbrev pub key_at : ℕ → Option Place → Option KeyParts
@@ -88,14 +89,17 @@ ref_to book (Some key) = Ok (book, key)
 -- the reference that all of the text is; else that its first three bytes are no book's code, or else that what
 -- follows is not a space and a key
 unfoldable pub ref_in : List ℕ → Result (List ℕ × KeyParts) RefFault
-ref_in text = if is_book_code (take 3 text) then ref_to (take 3 text) (key_behind (drop 3 text)) else Err BadBook
+ref_in text = if is_book_code (take 3 text)
+    then ref_to (take 3 text) (key_behind (drop 3 text)) else Err BadBook
 
 -- ---- the laws
 
 -- a reference that was written is read again
 abbrev pub ReadsWhatIsWritten : Type 0
-ReadsWhatIsWritten = (book : List ℕ) (key : KeyParts) → IsTrue (is_book_code book) → IsTrue (is_key key.chapter key.place) → ref_in (ref_text book key) ≡ Ok (book, key)
+ReadsWhatIsWritten = (book : List ℕ) (key : KeyParts) → IsTrue (is_book_code book)
+    → IsTrue (is_key key.chapter key.place) → ref_in (ref_text book key) ≡ Ok (book, key)
 
 -- a reference that was read is written with the same bytes, and its book and key are right
 abbrev pub WritesWhatIsRead : Type 0
-WritesWhatIsRead = (text : List ℕ) (book : List ℕ) (key : KeyParts) → ref_in text ≡ Ok (book, key) → IsRefTo text book key
+WritesWhatIsRead = (text : List ℕ) (book : List ℕ) (key : KeyParts) → ref_in text ≡ Ok (book, key)
+    → IsRefTo text book key

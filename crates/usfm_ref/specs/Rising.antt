@@ -23,4 +23,5 @@ rising cmp (x ∷ xs) = with_item cmp x (rising cmp xs)
 -- a rising list with one item more in the place of its key; where one of its key is there, that one is replaced
 abbrev pub placed : {K X : Type 0} → (K → K → Ordering) → (X → K) → X → List X → List X
 placed cmp key y [] = y ∷ []
-placed cmp key y (x ∷ xs) = by_order (cmp (key y) (key x)) (y ∷ x ∷ xs) (y ∷ xs) (x ∷ placed cmp key y xs)
+placed cmp key y (x ∷ xs) =
+    by_order (cmp (key y) (key x)) (y ∷ x ∷ xs) (y ∷ xs) (x ∷ placed cmp key y xs)

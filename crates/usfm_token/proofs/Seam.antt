@@ -88,6 +88,7 @@ join_in (suc n) (x ∷ bs) b le h =
 pub tokens_join : TokensJoin
 tokens_join a b h = join_in (length a) a b (omega arith) h
 
+-- tokens one after the other join to their texts one after the other
 pub joined-append : (ts us : List Lexeme) → joined (ts ++ us) ≡ joined ts ++ joined us
 joined-append [] us = refl
 joined-append (t ∷ ts) us = ap (λ r. slice_of t ++ r) (joined-append ts us) ∙ sym (append_assoc (slice_of t) (joined ts) (joined us))
@@ -97,6 +98,7 @@ no_text_part [] us h = tt
 no_text_part (mark m ∷ ts) us h = tt
 no_text_part (words t ∷ ts) us h = absurd h
 
+-- the first of some tokens are tokens
 pub each_part : (ts us : List Lexeme) → AreLexemes (ts ++ us) → AreLexemes ts
 each_part [] us h = tt
 each_part (mark m ∷ ts) us h = (
@@ -113,6 +115,7 @@ each_part (words t ∷ ts) us h = (h.0, no_text_part ts us h.1, each_part ts us 
 pub tokens_part : TokensPart
 tokens_part s ts us h = sym (one_reading ts (each_part ts us (((one_cut (ts ++ us) s).1 (sym h)).each)))
 
+-- and so are the others
 pub each_rest : (ts us : List Lexeme) → AreLexemes (ts ++ us) → AreLexemes us
 each_rest [] us h = h
 each_rest (mark m ∷ ts) us h = each_rest ts us h.2

@@ -201,6 +201,7 @@ text_read t ts none begins =
     at_end (mark m ∷ ts) b lt = ap is_backslash (get_or_at t 92 _ 0 (length t) refl)
     at_end (words u ∷ ts) b lt = absurd b
 
+-- tokens are those of the text that they join to
 pub one_reading : (ts : List Lexeme) → AreLexemes ts → ts ≡ tokens_of (joined ts)
 one_reading [] each = sym tokens_of-nil
 one_reading (mark m ∷ ts) each =

@@ -11,6 +11,7 @@ use Rattle.std.proofs.lemmas.List.{drop_at, take_at, get_or-take}
 use Rattle.std.proofs.lemmas.List.Folds.{length-prefix_len}
 use Rattle.usfm_token.specs.Tokens.{MarkParts, Lexeme, mark, words, is_name_byte, is_backslash, optional_byte, spelling, behind_plus, slice_of, mark_bytes, mark_behind, first_lexeme, tokens_in, tokens_of, AreNameBytes}
 
+-- what cannot be true is false
 pub not_true : (b : Bool) → (b ≡ true → ⊥) → b ≡ false
 not_true true h = absurd (h refl)
 not_true false h = refl
@@ -78,10 +79,12 @@ tokens_in-enough (suc n) (suc m) (b ∷ bs) p q =
     ap (λ ts. first_lexeme b bs ∷ ts)
     (tokens_in-enough n m (drop k (b ∷ bs)) (omega (arith, length-drop k (b ∷ bs))) (omega (arith, length-drop k (b ∷ bs))))
 
+-- no bytes have no tokens
 pub tokens_of-nil : tokens_of [] ≡ []
 unfolding tokens_of
 tokens_of-nil = tokens_in-nil 0
 
+-- the tokens of bytes are the first, and those of the bytes after it
 pub tokens_of-cons : (b : ℕ) (bs : List ℕ)
     → tokens_of (b ∷ bs) ≡ first_lexeme b bs ∷ tokens_of (drop (length (slice_of (first_lexeme b bs))) (b ∷ bs))
 unfolding tokens_of tokens_in
@@ -188,6 +191,7 @@ tokens_of-mark s rest m join read is =
     tokens_of-step s rest (mark m) join (some_from_read s 92 (omega arith) read)
     (rw read (ap mark (sym is)))
 
+-- bytes that do not begin with a backslash begin with a text, up to the next backslash
 pub tokens_of-text : (s rest t : List ℕ) → t ++ rest ≡ s → 0 < length s → get_or s 0 0 ≢ 92 → t ≡ before_first is_backslash s
     → tokens_of s ≡ words t ∷ tokens_of rest
 tokens_of-text [] rest t join some read is = absurd (omega arith)
@@ -196,6 +200,7 @@ tokens_of-text (b ∷ bs) rest t join some read is =
     (let no : (b == 92) ≡ false = not_true (b == 92) (λ e. read (eqb-true _ _ e)) in ap
     (λ e. cond e (mark (mark_behind bs)) (words (before_first is_backslash (b ∷ bs)))) no ∙ ap words (sym is))
 
+-- an empty text has no tokens
 pub tokens_of_empty : (s : List ℕ) → length s ≡ 0 → tokens_of s ≡ []
 tokens_of_empty [] h = tokens_of-nil
 tokens_of_empty (b ∷ bs) h = absurd (omega arith)

@@ -52,7 +52,9 @@ IsMark m = AreNameBytes m.name
 
 -- no mark in the place of m, before rest, is longer
 abbrev pub IsLongest : MarkParts → List ℕ → Type 0
-IsLongest m rest = (other : MarkParts) (after : List ℕ) → IsMark other → mark_bytes m ++ rest ≡ mark_bytes other ++ after → length (mark_bytes other) ≤ length (mark_bytes m)
+IsLongest m rest = (other : MarkParts) (after : List ℕ) → IsMark other
+    → mark_bytes m ++ rest ≡ mark_bytes other ++ after
+    → length (mark_bytes other) ≤ length (mark_bytes m)
 
 -- whether a byte is a backslash (92)
 abbrev pub is_backslash : ℕ → Bool
@@ -99,7 +101,8 @@ mark_behind bs =
 
 -- the mark or text that begins with the byte b and then bs
 abbrev pub first_lexeme : ℕ → List ℕ → Lexeme
-first_lexeme b bs = if b == 92 then mark (mark_behind bs) else words (before_first is_backslash (b ∷ bs))
+first_lexeme b bs =
+    if b == 92 then mark (mark_behind bs) else words (before_first is_backslash (b ∷ bs))
 
 -- at most n marks and texts from the left
 unfoldable pub tokens_in : ℕ → List ℕ → List Lexeme
@@ -120,12 +123,15 @@ OneCut = (ts : List Lexeme) (s : List ℕ) → AreTokensOf ts s ↔ (ts ≡ toke
 
 -- marks with the same bytes have the same parts
 abbrev pub OneSpelling : Type 0
-OneSpelling = (m other : MarkParts) → IsMark m → IsMark other → mark_bytes m ≡ mark_bytes other → m ≡ other
+OneSpelling =
+    (m other : MarkParts) → IsMark m → IsMark other → mark_bytes m ≡ mark_bytes other → m ≡ other
 
 -- each token of s is its bytes from the place on where the tokens before it end
 abbrev pub TokensLie : Type 0
-TokensLie = (s : List ℕ) (before : List Lexeme) (t : Lexeme) (after : List Lexeme) → tokens_of s ≡ before ++ t ∷ after →
-    let place = length (joined before) in slice_range s place (place + length (slice_of t)) ≡ slice_of t
+TokensLie = (s : List ℕ) (before : List Lexeme) (t : Lexeme) (after : List Lexeme)
+    → tokens_of s ≡ before ++ t ∷ after →
+    let place =
+    length (joined before) in slice_range s place (place + length (slice_of t)) ≡ slice_of t
 
 -- empty, or a backslash is at the front
 abbrev pub BeginsMark : List ℕ → Type 0
@@ -137,8 +143,10 @@ TokensJoin = (a b : List ℕ) → BeginsMark b → tokens_of (a ++ b) ≡ tokens
 
 -- the first tokens of a text are those of their own bytes
 abbrev pub TokensPart : Type 0
-TokensPart = (s : List ℕ) (ts us : List Lexeme) → tokens_of s ≡ ts ++ us → tokens_of (joined ts) ≡ ts
+TokensPart =
+    (s : List ℕ) (ts us : List Lexeme) → tokens_of s ≡ ts ++ us → tokens_of (joined ts) ≡ ts
 
 -- the last tokens of a text are those of their own bytes
 abbrev pub TokensRest : Type 0
-TokensRest = (s : List ℕ) (ts us : List Lexeme) → tokens_of s ≡ ts ++ us → tokens_of (joined us) ≡ us
+TokensRest =
+    (s : List ℕ) (ts us : List Lexeme) → tokens_of s ≡ ts ++ us → tokens_of (joined us) ≡ us

@@ -6,7 +6,7 @@ use Rattle.usfm_token.proofs.TokenLemmas.{tokens_of-nil}
 use Rattle.usfm_tree.specs.Ahead.{forest_left}
 use Rattle.usfm_tree.specs.Forest.{nothing}
 use Rattle.usfm_tree.specs.Reading.{Styles, kids, kids_of_list, placed, tree_of}
-use Rattle.usfm_tree.specs.ReaderViews.{frame_of}
+use Rattle.usfm_tree.specs.Loops.ReaderViews.{frame_of}
 use Rattle.usfm_tree.specs.declared.open.Open.{Open}
 use Rattle.usfm_tree.specs.declared.reader.Begun.{Begun}
 

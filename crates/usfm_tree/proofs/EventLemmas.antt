@@ -5,7 +5,7 @@ use Rattle.std.proofs.Common.{◌≡◌, ℕ, zero, suc, ◌<◌, true, false, c
 use Rattle.std.specs.Prelude.{nat_lt, is_some}
 use Rattle.usfm_token.specs.Tokens.{MarkParts}
 use Rattle.usfm_tree.specs.Forest.{Forest, nothing, text, leaf, node, spanning, ◌then◌}
-use Rattle.usfm_tree.specs.Stack.{closing_mark}
+use Rattle.usfm_tree.specs.Loops.Stack.{closing_mark}
 use Rattle.usfm_tree.specs.Reading.{Styles, Placed, Role, plain, alone, spans, opens, closes, Open, ended, role, Closed, close_by, take_close, milestone_takes, Read, followed, spanned, opened, open_of, has_room, kids_of_list}
 use Rattle.usfm_tree.specs.Events.{Event, words, single, begins, ends, events_before, ends_before, events_left}
 use Rattle.usfm_tree.proofs.ReadingLemmas.{kids-nil, kids-stop, close_by_is, enters}

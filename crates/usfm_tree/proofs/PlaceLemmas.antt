@@ -20,6 +20,7 @@ Placing n (t ∷ l) = (t.start ≡ n) × Placing (n + length (slice_of t.token))
 placing_at : (n k : ℕ) (l : List Placed) → n ≡ k → Placing n l → Placing k l
 placing_at n k l e h = let F : ℕ → Type 0 = λ x. Placing x l in subst F e h
 
+-- nodes that run on from a place do so from one that is equal
 pub runs_at : (n k : ℕ) (f : Forest) → n ≡ k → Runs n f → Runs k f
 runs_at n k f e h = let F : ℕ → Type 0 = λ x. Runs x f in subst F e h
 

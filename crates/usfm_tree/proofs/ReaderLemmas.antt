@@ -4,10 +4,10 @@ use Rattle.std.proofs.lemmas.List.{reverse-append, map-append, length-reverse, l
 use Rattle.usfm_token.specs.Tokens.{MarkParts}
 use Rattle.usfm_token.specs.View.{mark_parts}
 use Rattle.usfm_tree.specs.Forest.{Forest, nothing, spanning, ◌then◌}
-use Rattle.usfm_tree.specs.Stack.{Frame, Ends, Resumes, opens_of}
+use Rattle.usfm_tree.specs.Loops.Stack.{Frame, Ends, Resumes, opens_of}
 use Rattle.usfm_tree.specs.Views.{view, forest_of, branch_parts, node_step, parts_step, Parts}
-use Rattle.usfm_tree.specs.ReaderViews.{frame_of, open_view, opens_in}
-use Rattle.usfm_tree.specs.TakenViews.{left_of}
+use Rattle.usfm_tree.specs.Loops.ReaderViews.{frame_of, open_view, opens_in}
+use Rattle.usfm_tree.specs.Loops.TakenViews.{left_of}
 use Rattle.usfm_token.specs.Tokens.{Lexeme, slice_of, joined, tokens_of}
 use Rattle.usfm_token.proofs.TokenLaws.{joined-tokens_of}
 use Rattle.usfm_tree.specs.Reading as reading

@@ -6,7 +6,7 @@ use Rattle.std.specs.Option.{option_map}
 use Rattle.std.specs.Prelude.{nat_lt, ◌==◌, is_some}
 use Rattle.usfm_token.specs.Tokens.{MarkParts, Lexeme, mark, words, tokens_of}
 use Rattle.usfm_tree.specs.Forest.{Forest, nothing, text, leaf, node, spanning, ◌then◌}
-use Rattle.usfm_tree.specs.Stack.{Frame, opens_of, ended_node, resume, Ends, Resumes, Enters, closing_mark}
+use Rattle.usfm_tree.specs.Loops.Stack.{Frame, opens_of, ended_node, resume, Ends, Resumes, Enters, closing_mark}
 use Rattle.usfm_tree.specs.Reading.{Styles, Placed, Role, plain, alone, spans, opens, closes, Open, ended, role, Closed, close_by, closed_by, take_close, Taken, take_bare, milestone_at, milestone_takes, Taken_none, bare, is_bare_close, Read, followed, spanned, opened, open_of, has_room, enter, kids, kids_of_list, placed, tree_of}
 
 -- P holds of a choice where it holds of both
@@ -130,6 +130,7 @@ kids-enter styles os t l h =
 
 -- A stack of open nodes.
 
+-- nodes after nodes after nodes, grouped in either way
 pub then-assoc : (f g h : Forest) → (f then g) then h ≡ f then (g then h)
 then-assoc nothing g h = refl
 then-assoc (text s t f) g h = ap (text s t) (then-assoc f g h)

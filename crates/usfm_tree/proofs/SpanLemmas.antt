@@ -8,8 +8,9 @@ use Rattle.sty_sheet.specs.declared.kind.StyleKind.{StyleKind}
 use Rattle.usfm_tree.specs.declared.open.Open.{Open}
 use Rattle.usfm_tree.specs.declared.reader.Begun.{Begun}
 use Rattle.usfm_tree.specs.Forest.{Forest, nothing, text, leaf, node, ◌then◌, leaves_of, close_leaves, bytes_of, close_bytes, span_bytes}
-use Rattle.usfm_tree.specs.ReaderViews.{Span, span_of, Adjoins}
+use Rattle.usfm_tree.specs.Loops.ReaderViews.{Span, span_of, Adjoins}
 
+-- the leaves of nodes one after the other
 pub leaves_then : (f g : Forest) → leaves_of (f then g) ≡ leaves_of f ++ leaves_of g
 leaves_then nothing g = refl
 leaves_then (text s t f) g = ap (λ l. t ∷ l) (leaves_then f g)
@@ -19,6 +20,7 @@ leaves_then (node k s b m ks c f) g =
     ∙ ap (λ l. mark_bytes m ∷ (leaves_of ks ++ l)) (sym (append_assoc (close_leaves c) (leaves_of f) (leaves_of g)))
     ∙ ap (λ l. mark_bytes m ∷ l) (sym (append_assoc (leaves_of ks) (close_leaves c ++ leaves_of f) (leaves_of g)))
 
+-- the bytes of nodes one after the other
 pub bytes_then : (f g : Forest) → bytes_of (f then g) ≡ bytes_of f ++ bytes_of g
 bytes_then f g = ap (flat_map (λ t. t)) (leaves_then f g) ∙ flat_map-append (λ (t : List ℕ). t) (leaves_of f) (leaves_of g)
 
@@ -26,6 +28,7 @@ close_is : (c : Option MarkParts) → flat_map (λ t. t) (close_leaves c ++ []) 
 close_is None = refl
 close_is (Some m) = append-nil (mark_bytes m)
 
+-- the bytes of one node
 pub span_is : (k : StyleKind) (s : ℕ) (b : List ℕ) (m : MarkParts) (ks : Forest) (c : Option MarkParts)
     → bytes_of (node k s b m ks c nothing) ≡ span_bytes m ks c
 span_is k s b m ks c = ap (λ l. mark_bytes m ++ l)

@@ -8,10 +8,10 @@ use Rattle.usfm_token.specs.Tokens.{MarkParts}
 use Rattle.usfm_tree.specs.Events.{Event, words, single, begins, ends, events_before, ends_before, events_left}
 use Rattle.usfm_tree.specs.Reading.{Placed, plain, alone, spans, opens, closes, Open, ended, open_of, milestone_takes}
 use Rattle.usfm_tree.specs.Reading as reading
-use Rattle.usfm_tree.specs.RoleViews.{role_view}
-use Rattle.usfm_tree.specs.Stack.{closing_mark}
+use Rattle.usfm_tree.specs.Loops.RoleViews.{role_view}
+use Rattle.usfm_tree.specs.Loops.Stack.{closing_mark}
 use Rattle.usfm_tree.specs.StepViews.{Unwinds, placed_text}
-use Rattle.usfm_tree.specs.TakenViews.{left_of, optional_text}
+use Rattle.usfm_tree.specs.Loops.TakenViews.{left_of, optional_text}
 use Rattle.sty_sheet.specs.declared.kind.StyleKind.TheVariants as kinds
 use Rattle.usfm_tree.specs.declared.role.Role.{Role}
 use Rattle.usfm_tree.proofs.EventLemmas.{ends_suc, left_text, left_alone, left_stray, left_deep, left_begin, left_deep_span, left_span, left_end}

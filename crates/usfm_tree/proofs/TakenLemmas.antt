@@ -8,9 +8,9 @@ use Rattle.usfm_tree.proofs.SpanLemmas.{bytes_text, span_front}
 use Rattle.usfm_tree.specs.Forest.{Forest, nothing, text, leaf, spanning, bytes_of, close_bytes, span_bytes, ◌then◌}
 use Rattle.usfm_tree.specs.Reading.{Placed, placed, Taken, Taken_none, take_bare, milestone_takes, bare, is_bare_close, spans}
 use Rattle.sty_sheet.specs.declared.kind.StyleKind.TheVariants as kinds
-use Rattle.usfm_tree.specs.Stack.{Frame, opens_of, resume}
+use Rattle.usfm_tree.specs.Loops.Stack.{Frame, opens_of, resume}
 use Rattle.usfm_tree.proofs.ReadingLemmas.{resume-deep_span, resume-span}
-use Rattle.usfm_tree.specs.TakenViews.{left_of, optional_text, EntersTo}
+use Rattle.usfm_tree.specs.Loops.TakenViews.{left_of, optional_text, EntersTo}
 use Rattle.usfm_tree.proofs.ReaderLemmas.{left_front}
 use Rattle.usfm_token.proofs.Walk.{token_front}
 

@@ -3,7 +3,7 @@ use Rattle.std.specs.Prelude.{ℕ, List, [], length}
 use Rattle.usfm_tree.specs.Forest.{Forest}
 use Rattle.usfm_tree.specs.Reading.{Styles, kids_of_list}
 use Rattle.usfm_tree.specs.SheetViews.{styles_of}
-use Rattle.usfm_tree.specs.TakenViews.{left_of}
+use Rattle.usfm_tree.specs.Loops.TakenViews.{left_of}
 use Rattle.usfm_tree.specs.declared.stream.TreeReader.{TreeReader}
 
 -- what is under the root from the rest of a source on, before which all nodes are ended

@@ -18,7 +18,8 @@ abbrev pub events_before : Forest → List Event → List Event
 events_before nothing later = later
 events_before (text s t f) later = words s t ∷ events_before f later
 events_before (leaf s m f) later = single m ∷ events_before f later
-events_before (node k s b m ks c f) later = begins k m ∷ events_before ks (ends c ∷ events_before f later)
+events_before (node k s b m ks c f) later =
+    begins k m ∷ events_before ks (ends c ∷ events_before f later)
 
 -- what a walk meets in a forest
 abbrev pub events_of : Forest → List Event

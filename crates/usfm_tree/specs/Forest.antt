@@ -12,7 +12,8 @@ pub data Forest : Type 0 where
   nothing : Forest
   text : (start : ℕ) (slice : List ℕ) (after : Forest) → Forest
   leaf : (start : ℕ) (mark : MarkParts) (after : Forest) → Forest
-  node : (kind : StyleKind) (start : ℕ) (slice : List ℕ) (mark : MarkParts) (kids : Forest) (close : Option MarkParts) (after : Forest) → Forest
+  node : (kind : StyleKind) (start : ℕ) (slice : List ℕ) (mark : MarkParts) (kids : Forest)
+      (close : Option MarkParts) (after : Forest) → Forest
 
 infixl 30 ◌then◌
 -- one forest before another
@@ -49,7 +50,8 @@ span_bytes m inside close = mark_bytes m ++ (bytes_of inside ++ close_bytes clos
 
 -- a node whose slice is the join of its leaves, and what comes after it
 abbrev pub spanning : StyleKind → ℕ → MarkParts → Forest → Option MarkParts → Forest → Forest
-spanning kind start m inside close after = node kind start (span_bytes m inside close) m inside close after
+spanning kind start m inside close after =
+    node kind start (span_bytes m inside close) m inside close after
 
 -- what the first entry has inside
 abbrev pub kids_of : Forest → Forest

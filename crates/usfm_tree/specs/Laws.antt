@@ -11,7 +11,8 @@ LeavesJoin = (styles : Styles) (s : List ℕ) → bytes_of (tree_of styles s) �
 
 -- the leaves of a tree are the tokens of its text
 abbrev pub LeavesAreTokens : Type 0
-LeavesAreTokens = (styles : Styles) (s : List ℕ) → leaves_of (tree_of styles s) ≡ map slice_of (tokens_of s)
+LeavesAreTokens =
+    (styles : Styles) (s : List ℕ) → leaves_of (tree_of styles s) ≡ map slice_of (tokens_of s)
 
 -- each entry begins where the one before ends, and a node's slice is the join of its leaves
 abbrev pub TreesRun : Type 0

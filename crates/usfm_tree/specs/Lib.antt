@@ -5,13 +5,10 @@ pub mod Forest
 pub mod Laws
 pub mod LeavesViews
 pub mod Places
-pub mod ReaderViews
 pub mod Reading
-pub mod RoleViews
 pub mod SheetViews
-pub mod Stack
 pub mod StepViews
-pub mod TakenViews
 pub mod TreeViews
 pub mod Views
 pub mod WalkViews
+pub mod Loops

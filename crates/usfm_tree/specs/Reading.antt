@@ -193,7 +193,8 @@ bare = record { nested = false; name = []; closing = true }
 -- of the whole
 abbrev pub take_bare : List Placed → Forest → List Placed → Taken
 take_bare whole kids [] = Taken_none whole
-take_bare whole kids (t ∷ l) = if is_bare_close t.token then record { kids = kids; close = Some bare; rest = l } else Taken_none whole
+take_bare whole kids (t ∷ l) = if is_bare_close t.token
+    then record { kids = kids; close = Some bare; rest = l } else Taken_none whole
 
 -- what a milestone takes where a token comes directly after it
 abbrev pub milestone_at : ℕ → List Placed → Lexeme → List Placed → Taken
@@ -220,17 +221,23 @@ followed entry after = (entry after.0, after.1)
 -- In what follows go reads the kids of the innermost open node.
 
 -- a milestone with what it takes
-abbrev pub spanned : (List Open → List Placed → Read) → List Open → Placed → MarkParts → Taken → Read
-spanned go os t m taken = followed (spanning kinds.Milestone t.start m taken.kids taken.close) (go os taken.rest)
+abbrev pub spanned : (List Open → List Placed → Read) → List Open → Placed → MarkParts → Taken
+    → Read
+spanned go os t m taken =
+    followed (spanning kinds.Milestone t.start m taken.kids taken.close) (go os taken.rest)
 
 -- a node with its kids and its closing mark, if the token after them closes it
-abbrev pub closing : (List Open → List Placed → Read) → List Open → Placed → StyleKind → MarkParts → Forest → Closed → Read
-closing go os t kind m inside closed = followed (spanning kind t.start m inside closed.0) (go os closed.1)
+abbrev pub closing : (List Open → List Placed → Read) → List Open → Placed → StyleKind → MarkParts
+    → Forest → Closed → Read
+closing go os t kind m inside closed =
+    followed (spanning kind t.start m inside closed.0) (go os closed.1)
 
 -- a node with the kids that were read inside it and the closing mark that the tokens after them give it, before
 -- what follows
-abbrev pub opened : Styles → (List Open → List Placed → Read) → Open → List Open → Placed → MarkParts → Read → Read
-opened styles go o os t m inner = closing go os t o.kind m inner.0 (take_close styles (o ∷ os) inner.1)
+abbrev pub opened : Styles → (List Open → List Placed → Read) → Open → List Open → Placed
+    → MarkParts → Read → Read
+opened styles go o os t m inner =
+    closing go os t o.kind m inner.0 (take_close styles (o ∷ os) inner.1)
 
 -- the open node of a kind that a mark begins, which a mark of the name closes
 abbrev pub open_of : StyleKind → Option (List ℕ) → MarkParts → Open
@@ -241,14 +248,17 @@ abbrev pub has_room : List Open → Bool
 has_room os = nat_lt (length os) most_open
 
 -- a token that ends no open node, and what follows
-abbrev pub enter : Styles → (List Open → List Placed → Read) → List Open → Placed → List Placed → Role → Read
+abbrev pub enter : Styles → (List Open → List Placed → Read) → List Open → Placed → List Placed
+    → Role → Read
 enter styles go os t l (plain b) = followed (text t.start b) (go os l)
 enter styles go os t l (alone m) = followed (leaf t.start m) (go os l)
 enter styles go os t l (closes m) = followed (leaf t.start m) (go os l)
 enter styles go os t l (spans m) =
-    if has_room os then spanned go os t m (milestone_takes l) else followed (leaf t.start m) (go os l)
+    if has_room os then spanned go os t m (milestone_takes l)
+    else followed (leaf t.start m) (go os l)
 enter styles go os t l (opens kind closer m) =
-    if has_room os then opened styles go (open_of kind closer m) os t m (go (open_of kind closer m ∷ os) l)
+    if has_room os then opened styles go (open_of kind closer m) os t m
+    (go (open_of kind closer m ∷ os) l)
     else followed (leaf t.start m) (go os l)
 
 -- the kids of the innermost of the open nodes, up to a token that ends it, and the rest; the bound falls with the list

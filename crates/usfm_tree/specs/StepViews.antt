@@ -10,8 +10,8 @@ use Rattle.usfm_token.specs.View.{mark_parts}
 use Rattle.usfm_tree.specs.Events.{Event, words, single, begins, ends, events_before, ends_before, events_left}
 use Rattle.usfm_tree.specs.Forest.{Forest, nothing, text}
 use Rattle.usfm_tree.specs.Reading as reading
-use Rattle.usfm_tree.specs.RoleViews.{role_view}
-use Rattle.usfm_tree.specs.TakenViews.{left_of}
+use Rattle.usfm_tree.specs.Loops.RoleViews.{role_view}
+use Rattle.usfm_tree.specs.Loops.TakenViews.{left_of}
 use Rattle.usfm_tree.specs.declared.role.Role.{Role}
 use Rattle.usfm_tree.specs.declared.step.Entry.{Entry}
 use Rattle.usfm_tree.specs.declared.step.Entry.TheVariants as entries
@@ -29,7 +29,8 @@ entry_before (entries.Leaf m) later = single (mark_parts m) ∷ later
 entry_before (entries.Begin kind m style) later = begins kind (mark_parts m) ∷ later
 entry_before (entries.Close m) later = ends (Some (mark_parts m)) ∷ later
 entry_before (entries.Milestone m t close) later =
-    begins kinds.Milestone (mark_parts m) ∷ events_before (placed_text t) (ends (option_map mark_parts close) ∷ later)
+    begins kinds.Milestone (mark_parts m)
+    ∷ events_before (placed_text t) (ends (option_map mark_parts close) ∷ later)
 
 -- what a step is: the ends of nodes, and an entry
 abbrev pub step_before : Step → List Event → List Event
@@ -44,7 +45,8 @@ IsNext whole (Some step) later = whole ≡ step_before step later
 abbrev pub IsStyled : List Record → Entry → Type 0
 IsStyled rs (entries.Text start t) = Unit {0}
 IsStyled rs (entries.Leaf m) = Unit {0}
-IsStyled rs (entries.Begin kind m style) = mark_style rs (mark_parts m).name ≡ Some (record_of style.now)
+IsStyled rs (entries.Begin kind m style) =
+    mark_style rs (mark_parts m).name ≡ Some (record_of style.now)
 IsStyled rs (entries.Close m) = Unit {0}
 IsStyled rs (entries.Milestone m t close) = Unit {0}
 
@@ -56,12 +58,17 @@ closed_before (Some m) used unused = ends (Some m) ∷ used
 -- a token in this role ends this many nodes without a closing mark, and one more with this mark, if any; after that one it is used up
 abbrev pub Unwinds : Role → List reading.Open → ℕ → Option MarkParts → List reading.Open → Type 0
 Unwinds role os count close new_os =
-    (styles : reading.Styles) (t : reading.Placed) (l : List reading.Placed) → reading.role styles t.token ≡ role_view role →
+    (styles : reading.Styles) (t : reading.Placed) (l : List reading.Placed)
+    → reading.role styles t.token ≡ role_view role →
     events_left styles os (t ∷ l)
-    ≡ ends_before count (closed_before close (events_left styles new_os l) (events_left styles new_os (t ∷ l)))
+    ≡ ends_before count (closed_before close (events_left styles new_os l)
+    (events_left styles new_os (t ∷ l)))
 
 -- a token in this role at start, with rest after it, is an entry, after which this is left: the source has end bytes
-abbrev pub EntersAs : Role → ℕ → ℕ → List ℕ → List ℕ → Entry → List reading.Open → List reading.Open → Type 0
+abbrev pub EntersAs : Role → ℕ → ℕ → List ℕ → List ℕ → Entry → List reading.Open → List reading.Open
+    → Type 0
 EntersAs role start end rest after entry os new_os =
-    (styles : reading.Styles) (t : reading.Placed) → reading.role styles t.token ≡ role_view role → t.start ≡ start →
-    events_left styles os (t ∷ left_of end rest) ≡ entry_before entry (events_left styles new_os (left_of end after))
+    (styles : reading.Styles) (t : reading.Placed) → reading.role styles t.token ≡ role_view role
+    → t.start ≡ start →
+    events_left styles os (t ∷ left_of end rest)
+    ≡ entry_before entry (events_left styles new_os (left_of end after))

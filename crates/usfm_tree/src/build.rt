@@ -4,7 +4,7 @@ ghost use Rattle.std.specs.Prelude.{◌≡◌, IfOk};
 ghost use Rattle.std.specs.Option.{option_map};
 ghost use Rattle.usfm_token.specs.View.{mark_parts};
 ghost use Rattle.usfm_tree.specs.Forest.{nothing, text, leaf, node};
-ghost use Rattle.usfm_tree.specs.TakenViews.{optional_text};
+ghost use Rattle.usfm_tree.specs.Loops.TakenViews.{optional_text};
 ghost use Rattle.usfm_tree.specs.Views.{view, forest_of, branch_of};
 
 use crate::node::{Branch, Leaf, Node, Words};

@@ -4,7 +4,7 @@ ghost use Rattle.std.specs.Prelude.{◌≡◌, ◌∷◌};
 ghost use Rattle.usfm_token.specs.Tokens.{tokens_of, mark, words};
 ghost use Rattle.usfm_token.specs.View.{mark_parts};
 ghost use Rattle.usfm_tree.specs.Reading.{is_bare_close};
-ghost use Rattle.usfm_tree.specs.TakenViews.{TakesOf};
+ghost use Rattle.usfm_tree.specs.Loops.TakenViews.{TakesOf};
 
 use crate::taken::Taken;
 use usfm_token::{Mark, Token, TokenIter};

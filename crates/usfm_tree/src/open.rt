@@ -4,10 +4,10 @@ ghost use Rattle.std.specs.Prelude.{◌≡◌, ◌≤◌, length};
 ghost use Rattle.std.specs.List.{prefix_len};
 ghost use Rattle.std.specs.Option.{option_map};
 ghost use Rattle.usfm_token.specs.View.{mark_parts};
-ghost use Rattle.usfm_tree.specs.Stack.{closing_mark};
+ghost use Rattle.usfm_tree.specs.Loops.Stack.{closing_mark};
 ghost use Rattle.usfm_tree.specs.Reading as reading;
-ghost use Rattle.usfm_tree.specs.RoleViews.{role_view};
-ghost use Rattle.usfm_tree.specs.ReaderViews.{opens_in, open_view};
+ghost use Rattle.usfm_tree.specs.Loops.RoleViews.{role_view};
+ghost use Rattle.usfm_tree.specs.Loops.ReaderViews.{opens_in, open_view};
 
 use crate::role::Role;
 use sty_sheet::StyleKind;

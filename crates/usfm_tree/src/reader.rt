@@ -7,10 +7,10 @@ ghost use Rattle.usfm_token.specs.Tokens.{tokens_of, mark_bytes};
 ghost use Rattle.usfm_token.specs.View.{mark_parts};
 ghost use Rattle.usfm_tree.specs.Forest.{nothing, leaf, close_bytes, ◌then◌};
 ghost use Rattle.usfm_tree.specs.Reading as reading;
-ghost use Rattle.usfm_tree.specs.ReaderViews.{frames_of, sofar_of, spans_of, Adjoins, EndsIn};
-ghost use Rattle.usfm_tree.specs.RoleViews.{role_view};
-ghost use Rattle.usfm_tree.specs.Stack.{Ends, Resumes, Enters, resume, opens_of, closing_mark};
-ghost use Rattle.usfm_tree.specs.TakenViews.{EntersTo};
+ghost use Rattle.usfm_tree.specs.Loops.ReaderViews.{frames_of, sofar_of, spans_of, Adjoins, EndsIn};
+ghost use Rattle.usfm_tree.specs.Loops.RoleViews.{role_view};
+ghost use Rattle.usfm_tree.specs.Loops.Stack.{Ends, Resumes, Enters, resume, opens_of, closing_mark};
+ghost use Rattle.usfm_tree.specs.Loops.TakenViews.{EntersTo};
 ghost use Rattle.usfm_tree.specs.Views.{view, forest_of};
 
 use crate::build::{leaf_node, milestone_node, node_of, text_kids, text_node};

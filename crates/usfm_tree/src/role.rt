@@ -5,7 +5,7 @@ ghost use Rattle.sty_sheet.specs.Records.{Record, mark_style};
 ghost use Rattle.sty_sheet.specs.Views.{record_of, records_of};
 ghost use Rattle.usfm_token.specs.View.{lexeme, mark_parts};
 ghost use Rattle.usfm_tree.specs.Reading as reading;
-ghost use Rattle.usfm_tree.specs.RoleViews.{role_view, HasOwnStyle};
+ghost use Rattle.usfm_tree.specs.Loops.RoleViews.{role_view, HasOwnStyle};
 ghost use Rattle.usfm_tree.specs.SheetViews.{styles_of};
 
 use sty_sheet::{Sheet, Style, StyleKind};

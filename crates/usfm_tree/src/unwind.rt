@@ -5,8 +5,8 @@ ghost use Rattle.std.specs.Option.{option_map};
 ghost use Rattle.sty_sheet.specs.Records.{Record};
 ghost use Rattle.usfm_token.specs.View.{mark_parts};
 ghost use Rattle.usfm_tree.specs.Reading as reading;
-ghost use Rattle.usfm_tree.specs.ReaderViews.{opens_in};
-ghost use Rattle.usfm_tree.specs.RoleViews.{role_view, HasOwnStyle};
+ghost use Rattle.usfm_tree.specs.Loops.ReaderViews.{opens_in};
+ghost use Rattle.usfm_tree.specs.Loops.RoleViews.{role_view, HasOwnStyle};
 ghost use Rattle.usfm_tree.specs.StepViews.{IsStyled, Unwinds, EntersAs};
 
 use crate::milestone::takes;

@@ -190,6 +190,7 @@ fit_texts book at (t ∷ ts) h =
     (All-head (λ p. Fits book p.key p.text) piece more h)
     (fit_texts book (at + length t.text) ts (All-tail (λ p. Fits book p.key p.text) piece more h))
 
+-- what is cut and joined again is the book
 pub books_are_joins : BooksAreJoins
 books_are_joins book s is_code headed =
     let r = parted s in

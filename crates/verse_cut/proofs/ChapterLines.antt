@@ -62,6 +62,7 @@ line_leads n h =
 not_nought : (n : ℕ) → 1 ≤ n → same_key (chapter_head n) book_head ≡ false
 not_nought n h = and_left (n == 0) true (ne_eqb n 0 (λ e. omega arith))
 
+-- the line of a chapter fits its head
 pub chapter_lines_fit : ChapterLinesFit
 chapter_lines_fit book n some small =
     subst (FitsBy book (chapter_head n) (chapter_line n)) (sym (not_nought n some))

@@ -14,6 +14,7 @@ fits_key : (k : KeyParts) (text : List ℕ) → (is_empty text || leads k (token
 fits_key k [] = (λ h. inl refl, λ f. refl)
 fits_key k (b ∷ bs) = (λ h. inr (lead_with k (b ∷ bs) h), λ f. fits_leads k b bs f)
 
+-- a text fits exactly where the reading says so
 pub fits_is_read : FitsIsRead
 unfolding text_fits
 fits_is_read book k text = by (same_key k book_head)

@@ -131,6 +131,7 @@ never_no_id : (o : Option (List ℕ)) → book_or_bad o ≡ Err NoId → ⊥
 never_no_id None h = absurd (cc)
 never_no_id (Some b) h = absurd (cc)
 
+-- a book that is read is headed so
 pub book_reads : (text : List ℕ) (r : Result (List ℕ) BookFault) → r ≡ book_in text → IfOk r (λ book. IsHeaded book text)
 unfolding book_in
 book_reads text (Ok book) e = by (behind_id text) refl (sym e)
@@ -140,6 +141,7 @@ book_reads text (Ok book) e = by (behind_id text) refl (sym e)
     by (Some bytes) b h = leading_book-some text bytes book (behind_id-some text bytes b) (book_or_bad-ok (leading_book bytes) book h)
 book_reads text (Err fault) e = tt
 
+-- a text that is headed so is read as that book
 pub book_only : (text : List ℕ) (r : Result (List ℕ) BookFault) → r ≡ book_in text → (book : List ℕ) → is_book_code book ≡ true
     → IsHeaded book text → r ≡ Ok book
 unfolding book_in

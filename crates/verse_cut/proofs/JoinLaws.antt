@@ -53,13 +53,16 @@ rise_all k (t ∷ ts) r (suc j) d lt = rise_all k ts (rise_weaken k t.key ts r.0
 
 -- ---- texts of keys after the book head
 
+-- each text fits its key, whatever its book
 abbrev pub FitKeys : List KeyText → Type 0
 FitKeys ts = All (λ t. FitsKey t.key t.text) ts
 
+-- texts that rise and fit their book fit their keys
 pub fit_keys : (book : List ℕ) (ts : List KeyText) → Rise book_head ts → TextsFit book ts → FitKeys ts
 fit_keys book ts rise fit j d lt = subst (FitsBy book (get_or ts j d).key (get_or ts j d).text)
     (not_book_head (get_or ts j d).key (rise_all book_head ts rise j d lt)) (fit j d lt)
 
+-- texts that fit their keys begin with a mark, joined too
 pub begins_mark : (ts : List KeyText) → FitKeys ts → BeginsMark (texts_joined ts)
 begins_mark [] h = λ lt. absurd (omega arith)
 begins_mark (t ∷ ts) h =

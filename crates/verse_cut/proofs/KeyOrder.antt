@@ -13,6 +13,7 @@ use Rattle.usfm_ref.proofs.Orders.{key_total, key_exact}
 use Rattle.usfm_ref.proofs.Sorted.{is_less}
 use Rattle.verse_cut.specs.Keys.{key_below}
 
+-- what is below a key is below all greater ones
 pub below_trans : (a b c : KeyParts) → key_below a b ≡ true → key_below b c ≡ true → key_below a c ≡ true
 below_trans a b c p q = ap is_lt (key_total.trans a b c (is_less _ p) (is_less _ q))
 
@@ -25,6 +26,7 @@ below_weak a b c p q = by (key_cmp a b) refl
     by Equal e = ap (λ (k : KeyParts). key_below k c) (sym (key_exact a b e)) ∙ q
     by Greater e = below_trans b a c (ap is_lt (key_total.antisymm b a ∙ ap ordering_reverse e)) q
 
+-- no key is below itself
 pub below_self : (a : KeyParts) → key_below a a ≡ false
 below_self a = ap is_lt (tied_itself key_total a)
 
@@ -34,6 +36,7 @@ tests true same r = refl
 tests false true r = refl
 tests false false r = refl
 
+-- one key is below another by its chapter, or in one chapter by its place
 pub key_below-is : (a b : KeyParts)
     → key_below a b ≡ nat_lt a.chapter b.chapter || (a.chapter == b.chapter && is_lt (place_cmp a.place b.place))
 key_below-is a b = tests (nat_lt a.chapter b.chapter) (a.chapter == b.chapter) (place_cmp a.place b.place)
@@ -50,6 +53,7 @@ not_below_chapter a b p =
     ∙ p in
     grind (arith, nat_tests)
 
+-- no place comes before a chapter's head
 pub nothing_before_head : (x : Place) → is_lt (place_cmp x Head) ≡ false
 nothing_before_head Head = refl
 nothing_before_head (Verse n l) = refl

@@ -15,6 +15,7 @@ use Rattle.verse_cut.proofs.KeyOrder.{below_trans, below_weak, below_chapter, no
 
 -- ---- keys, by the chapter of the marks before
 
+-- the greatest chapter after a mark
 abbrev pub chapter_after : ℕ → Option KeyParts → ℕ
 chapter_after c None = c
 chapter_after c (Some k) = max c k.chapter
@@ -71,6 +72,7 @@ keyed_marks-from c s = keyed_is c [] 0 (tokens_of s)
 pub above_in_force : (g q : KeyParts) → key_below g q ≡ true → max g.chapter q.chapter ≡ q.chapter
 above_in_force g q h = let low = below_chapter g q h in omega arith
 
+-- a key that is not above the greatest is in no greater chapter
 pub below_in_force : (g q : KeyParts) → key_below g q ≡ false → max g.chapter q.chapter ≡ g.chapter
 below_in_force g q h = let low = not_below_chapter g q h in omega arith
 
@@ -98,6 +100,7 @@ pub above-snoc : (k : KeyParts) (before : List Keyed) (m : Keyed)
 above-snoc k [] m = and_true (key_below m.key k)
 above-snoc k (b ∷ before) m = ap (λ x. key_below b.key k && x) (above-snoc k before m) ∙ and_assoc (key_below b.key k) _ _
 
+-- a key is above all marks with one more exactly where it is above the greatest and above that one
 pub greatest-more : (g : KeyParts) (before : List Keyed) (m : Keyed) (k : KeyParts) → IsGreatest g before
     → key_below book_head k && is_above_all k (before ++ m ∷ []) ≡ key_below g k && key_below m.key k
 greatest-more g before m k h =
@@ -110,6 +113,7 @@ both_second true y h = refl
 both_second false true h = h refl
 both_second false false h = refl
 
+-- of two tests of which the second follows, the first decides
 pub both_first : (x y : Bool) → (x ≡ true → y ≡ true) → x && y ≡ x
 both_first true y h = h refl
 both_first false y h = refl
@@ -187,6 +191,7 @@ module _ (s : List ℕ) where
           by_test false is = stay ∙ ap (λ c. pieces_between s k start (rising g (keyed_from c (at + length (slice_of t)) ts)))
               (sym (below_in_force g q is))
 
+-- the cut by all marks before is the one that is read from the left
 pub cut_is_read : CutIsRead
 unfolding cut_of pieces_of
 cut_is_read s =

@@ -248,6 +248,7 @@ heading_part g code front (mark m ∷ us) s each (q, is) plain split h =
 fits_at : (code : List ℕ) (p : Part) → FitsLater book_head p → Fits code p.key p.text
 fits_at code p f = subst (FitsBy code p.key p.text) (sym (not_book_head p.key f.1)) f.0
 
+-- the pieces of a book fit their keys
 pub pieces_fit : PiecesFit
 unfolding cut_of
 pieces_fit code s is_code headed =

@@ -56,4 +56,5 @@ Fits book k text = FitsBy book k text (same_key k book_head)
 
 -- Each piece of a text that begins with `\id` and a book's code fits the book and the piece's key.
 abbrev pub PiecesFit : Type 0
-PiecesFit = (book text : List ℕ) → IsTrue (is_book_code book) → IsHeaded book text → All (λ p. Fits book p.key p.text) (pieces_of text)
+PiecesFit = (book text : List ℕ) → IsTrue (is_book_code book) → IsHeaded book text
+    → All (λ p. Fits book p.key p.text) (pieces_of text)

@@ -36,7 +36,9 @@ HasHead key ts = (h : KeyText) × Contains ts h × (h.key ≡ head_of key) × (i
 
 -- For each verse with a text that is not empty the head of its chapter is there with one too; chapter 0 needs none.
 abbrev pub HeadsAreThere : List KeyText → Type 0
-HeadsAreThere ts = All (λ t. is_empty t.text ≡ false → is_head t.key.place ≡ false → 0 < t.key.chapter → HasHead t.key ts) ts
+HeadsAreThere ts = All
+    (λ t. is_empty t.text ≡ false → is_head t.key.place ≡ false → 0 < t.key.chapter
+    → HasHead t.key ts) ts
 
 -- the text of the head of the book
 abbrev pub at_book_head : List ℕ → KeyText
@@ -45,7 +47,8 @@ at_book_head text = record { key = book_head; text = text }
 -- the texts as pieces, one after the other from a place on
 abbrev pub pieces_from : ℕ → List KeyText → List Part
 pieces_from at [] = []
-pieces_from at (t ∷ ts) = record { key = t.key; start = at; text = t.text } ∷ pieces_from (at + length t.text) ts
+pieces_from at (t ∷ ts) =
+    record { key = t.key; start = at; text = t.text } ∷ pieces_from (at + length t.text) ts
 
 -- A text for the head of a book, which fits or is empty, and texts that fit, by rising key, where no verse lacks its
 -- chapter's head, cut back from their join: the first piece is the head's text, and the others are the texts that are not
@@ -74,12 +77,15 @@ pub record IsJoinOf (book text : List ℕ) : Type 0 where
 -- Each text that begins with `\id` and a book's code is the join of its pieces, which are such texts as cut back
 -- from their join.
 abbrev pub BooksAreJoins : Type 0
-BooksAreJoins = (book text : List ℕ) → IsTrue (is_book_code book) → IsHeaded book text → IsJoinOf book text
+BooksAreJoins =
+    (book text : List ℕ) → IsTrue (is_book_code book) → IsHeaded book text → IsJoinOf book text
 
 -- A head and texts that fit, by rising key, join to a text that begins with `\id` and the book's code where the
 -- head does.
 abbrev pub JoinsKeepTheirBook : Type 0
-JoinsKeepTheirBook = (book head : List ℕ) (ts : List KeyText) → IsHeaded book head → TextsFit book ts → TextsRise (at_book_head head ∷ ts) → IsHeaded book (head ++ texts_joined ts)
+JoinsKeepTheirBook = (book head : List ℕ) (ts : List KeyText) → IsHeaded book head
+    → TextsFit book ts → TextsRise (at_book_head head ∷ ts)
+    → IsHeaded book (head ++ texts_joined ts)
 
 -- the line of a chapter's head: `\c`, a space, the number and a line feed
 abbrev pub chapter_line : ℕ → List ℕ
@@ -87,4 +93,5 @@ chapter_line chapter = codes "\\c " ++ decimal chapter ++ 10 ∷ []
 
 -- The line of the head of a chapter from 1 to 999 fits that head.
 abbrev pub ChapterLinesFit : Type 0
-ChapterLinesFit = (book : List ℕ) (chapter : ℕ) → 1 ≤ chapter → chapter ≤ 999 → Fits book (chapter_head chapter) (chapter_line chapter)
+ChapterLinesFit = (book : List ℕ) (chapter : ℕ) → 1 ≤ chapter → chapter ≤ 999
+    → Fits book (chapter_head chapter) (chapter_line chapter)

@@ -21,13 +21,15 @@ pub record Keyed : Type 0 where
 -- the marks among tokens, the first of which starts at a place
 abbrev pub sites_from : ℕ → List Lexeme → List Site
 sites_from at [] = []
-sites_from at (mark m ∷ ts) = record { at = at; parts = m; after = text_after ts } ∷ sites_from (at + length (mark_bytes m)) ts
+sites_from at (mark m ∷ ts) = record { at = at; parts = m; after = text_after ts }
+    ∷ sites_from (at + length (mark_bytes m)) ts
 sites_from at (words t ∷ ts) = sites_from (at + length t) ts
 
 -- the number of a mark `\c`, if the mark is one and has a number
 abbrev pub chapter_number : Site → Option ℕ
 chapter_number s =
-    if s.parts.nested || s.parts.closing then None else (if bytes_eq s.parts.name (codes "c") then chapter_in s.after else None)
+    if s.parts.nested || s.parts.closing
+    then None else (if bytes_eq s.parts.name (codes "c") then chapter_in s.after else None)
 
 -- the greater of two numbers, the first of which may be absent
 abbrev pub greater_of : Option ℕ → ℕ → ℕ
@@ -52,7 +54,8 @@ with_key (Some k) at ms = record { key = k; at = at } ∷ ms
 -- the marks that have a key, of those that come after others
 abbrev pub keyed_behind : ℕ → List Site → List Site → List Keyed
 keyed_behind chapter before [] = []
-keyed_behind chapter before (s ∷ ss) = with_key (key_behind chapter before s) s.at (keyed_behind chapter (before ++ s ∷ []) ss)
+keyed_behind chapter before (s ∷ ss) =
+    with_key (key_behind chapter before s) s.at (keyed_behind chapter (before ++ s ∷ []) ss)
 
 -- the marks of a text that have a key, in order, where a verse before all chapter marks is in the chapter
 unfoldable pub keyed_marks : ℕ → List ℕ → List Keyed
@@ -71,7 +74,8 @@ opens before m = key_below book_head m.key && is_above_all m.key before
 abbrev pub opening_behind : List Keyed → List Keyed → List Keyed
 opening_behind before [] = []
 opening_behind before (m ∷ ms) =
-    if opens before m then m ∷ opening_behind (before ++ m ∷ []) ms else opening_behind (before ++ m ∷ []) ms
+    if opens before m then m ∷ opening_behind (before ++ m ∷ []) ms
+    else opening_behind (before ++ m ∷ []) ms
 
 -- the marks that open a piece
 abbrev pub opening : List Keyed → List Keyed

@@ -14,7 +14,8 @@ pub record Part : Type 0 where
 -- a piece from a place to the first of the marks, and one from each mark to the next, or to the end
 abbrev pub pieces_between : List ℕ → KeyParts → ℕ → List Keyed → List Part
 pieces_between s k at [] = record { key = k; start = at; text = drop at s } ∷ []
-pieces_between s k at (m ∷ ms) = record { key = k; start = at; text = take (m.at - at) (drop at s) } ∷ pieces_between s m.key m.at ms
+pieces_between s k at (m ∷ ms) = record { key = k; start = at; text = take (m.at - at) (drop at s) }
+    ∷ pieces_between s m.key m.at ms
 
 -- the pieces of a text, between the marks that open one; the first begins at 0, perhaps empty, and has the key of
 -- the book head

@@ -38,13 +38,15 @@ cut_from greatest at (t ∷ ts) =
     elim (key_of greatest.chapter t ts) [
       | None ↦ goes_on (slice_of t) (cut_from greatest (at + length (slice_of t)) ts)
       | Some k ↦
-          if key_below greatest k then opens_at k at (slice_of t) (cut_from k (at + length (slice_of t)) ts)
+          if key_below greatest k then opens_at k at (slice_of t)
+          (cut_from k (at + length (slice_of t)) ts)
           else goes_on (slice_of t) (cut_from greatest (at + length (slice_of t)) ts)
     ]
 
 -- the open piece, with what goes to it, and the later ones
 abbrev pub pieces_with : KeyParts → ℕ → List ℕ → Later → List Part
-pieces_with k start sofar later = record { key = k; start = start; text = sofar ++ later.0 } ∷ later.1
+pieces_with k start sofar later =
+    record { key = k; start = start; text = sofar ++ later.0 } ∷ later.1
 
 -- the pieces of a text, as they are read from the left
 unfoldable pub cut_of : List ℕ → List Part
@@ -67,7 +69,8 @@ begins_blank (b ∷ rest) = is_blank b
 
 -- what comes after `\id` and one blank, if they are at the front
 abbrev pub id_at : List ℕ → Option (List ℕ)
-id_at bytes = if same_bytes (take 3 bytes) (codes "\\id") && begins_blank (drop 3 bytes) then Some (drop 4 bytes) else None
+id_at bytes = if same_bytes (take 3 bytes) (codes "\\id") && begins_blank (drop 3 bytes)
+    then Some (drop 4 bytes) else None
 
 -- what comes after at most one U+FEFF, `\id` and one blank, if they are at the front
 unfoldable pub behind_id : List ℕ → Option (List ℕ)
@@ -75,7 +78,8 @@ behind_id text = id_at (behind_bom text)
 
 -- whether a code is at the front and ends
 abbrev pub code_leads : List ℕ → List ℕ → Bool
-code_leads code bytes = same_bytes (take (length code) bytes) code && ends_code (drop (length code) bytes)
+code_leads code bytes =
+    same_bytes (take (length code) bytes) code && ends_code (drop (length code) bytes)
 
 -- whether there are bytes, and a code is at their front and ends
 abbrev pub code_behind : List ℕ → Option (List ℕ) → Bool
@@ -88,7 +92,8 @@ is_headed book text = code_behind book (behind_id text)
 
 -- the code at the front, if it is a book's and ends
 abbrev pub leading_book : List ℕ → Option (List ℕ)
-leading_book bytes = if is_book_code (take 3 bytes) && ends_code (drop 3 bytes) then Some (take 3 bytes) else None
+leading_book bytes =
+    if is_book_code (take 3 bytes) && ends_code (drop 3 bytes) then Some (take 3 bytes) else None
 
 -- a book's code, or the refusal that there is none
 abbrev pub book_or_bad : Option (List ℕ) → Result (List ℕ) BookFault
@@ -140,4 +145,5 @@ text_fits book k text =
 
 -- the test that reads from the left holds exactly of the texts that fit a book and a key
 abbrev pub FitsIsRead : Type 0
-FitsIsRead = (book : List ℕ) (k : KeyParts) (text : List ℕ) → IsTrue (text_fits book k text) ↔ Fits book k text
+FitsIsRead = (book : List ℕ) (k : KeyParts) (text : List ℕ)
+    → IsTrue (text_fits book k text) ↔ Fits book k text

@@ -31,7 +31,8 @@ Meets xs ys xs' ys' None = (xs ≡ []) ⊎ (ys ≡ [])
 Meets xs ys xs' ys' (Some both) = Meet xs ys xs' ys' both
 
 -- A step of a joining takes the first operation of the union, and leaves what is still to be joined.
-pub record Leaves (xs ys : List Operation) (first : Operation) (xs' ys' : List Operation) : Type 0 where
+pub record Leaves (xs ys : List Operation) (first : Operation)
+    (xs' ys' : List Operation) : Type 0 where
   pub union : join xs ys ≡ first ∷ join xs' ys'
   pub same_clash : clash xs' ys' ≡ clash xs ys
   pub left : IsTrue (rises xs')

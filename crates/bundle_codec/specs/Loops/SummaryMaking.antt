@@ -40,7 +40,8 @@ abbrev pub numbers : {id : Id} {ops rest : List Operation} → Run id ops rest �
 numbers {id = id} r = id.number ∷ map (λ o. o.id.number) r.run
 
 -- ranges with the numbers of a run more
-abbrev pub AddsRun : Id → List Operation → List Operation → List NumberRange → List NumberRange → Type 0
+abbrev pub AddsRun : Id → List Operation → List Operation → List NumberRange → List NumberRange
+    → Type 0
 AddsRun id ops rest old new = (r : Run id ops rest) × (new ≡ with_each old (numbers r))
 
 -- a map with the numbers of a run more

@@ -50,7 +50,8 @@ LeavesNamed ops m n = (id : Id) → value_at id_cmp n id ≡ left_of ops id (val
 -- the place of the first operation whose id the map has; k is the place of the first of them
 abbrev pub first_of : Places → ℕ → List Operation → Option ℕ
 first_of m k [] = None
-first_of m k (o ∷ rest) = if is_some (value_at id_cmp m o.id) then Some k else first_of m (k + 1) rest
+first_of m k (o ∷ rest) =
+    if is_some (value_at id_cmp m o.id) then Some k else first_of m (k + 1) rest
 
 -- a refusal is the one that there is, or out of memory where an operation is thinned
 abbrev pub RefusesThinned : List Operation → BundleFault → Type 0

@@ -37,12 +37,14 @@ enclosed sheet e kind m = record {
 abbrev pub counted : Enclosure → Option MarkParts → ℕ → List ℕ → Option Passage
 counted e behind start bytes =
     let n = number_length behind bytes in
-    if not e.in_aside && e.in_verse_text then Some (record { start = start + n; text = drop n bytes }) else None
+    if not e.in_aside && e.in_verse_text
+    then Some (record { start = start + n; text = drop n bytes }) else None
 
 -- a text that waited is a leaf, before others
 abbrev pub settled : Bool → Option Passage → List Passage → List Passage
 settled may_end None later = later
-settled may_end (Some p) later = record { start = p.start; text = without_attributes may_end p.text } ∷ later
+settled may_end (Some p) later =
+    record { start = p.start; text = without_attributes may_end p.text } ∷ later
 
 -- a character node ends with its closing mark
 abbrev pub closes_character : Enclosure → Option MarkParts → Bool
@@ -64,15 +66,19 @@ behind_milestone m (Some t) close = node_end None close
 
 -- The leaves that a walk gives which has this still to meet, where nodes are open, a mark comes directly before, if any, and a text
 -- waits, if any.
-abbrev pub gathered : List Record → List Enclosure → Option MarkParts → Option Passage → List Event → List Passage
+abbrev pub gathered : List Record → List Enclosure → Option MarkParts → Option Passage → List Event
+    → List Passage
 gathered sheet es behind waiting [] = settled false waiting []
 gathered sheet es behind waiting (words s t ∷ events) =
     settled false waiting (gathered sheet es None (counted (innermost es) behind s t) events)
-gathered sheet es behind waiting (single m ∷ events) = settled false waiting (gathered sheet es (Some m) None events)
+gathered sheet es behind waiting (single m ∷ events) =
+    settled false waiting (gathered sheet es (Some m) None events)
 gathered sheet es behind waiting (begins k m ∷ events) =
-    settled false waiting (gathered sheet (enclosed sheet (innermost es) k m ∷ es) (Some m) None events)
+    settled false waiting
+    (gathered sheet (enclosed sheet (innermost es) k m ∷ es) (Some m) None events)
 gathered sheet es behind waiting (ends c ∷ events) =
-    settled (closes_character (innermost es) c) waiting (gathered sheet (outer es) (node_end behind c) None events)
+    settled (closes_character (innermost es) c) waiting
+    (gathered sheet (outer es) (node_end behind c) None events)
 
 -- each text ends at a place that fits
 abbrev pub EventsFit : List Event → Type 0

@@ -58,6 +58,7 @@ same_then s u t h k = record {
   export = λ book. h.export book ∙ k.export book;
 }
 
+-- a set shows what the one shows that it stands for
 pub stands_shows : (s u : List Operation) → StandsFor s u → ShowSame s u
 stands_shows s u h = record {
   skeletons = h.skeletons;
@@ -67,9 +68,11 @@ stands_shows s u h = record {
   summaries = summary_same [] s u h;
 }
 
+-- what a replica shows does not say whether anything was thinned
 pub thinning_shows_nothing : (events : List Event) (name : List ℕ) → ShowSame ((after events).held name) ((whole events).held name)
 thinning_shows_nothing events name = stands_shows _ _ (stands events name)
 
+-- replicas with one skeleton show the same
 pub show_same : (events : List Event) (a b : List ℕ) → skeleton ((after events).held a) ≡ skeleton ((after events).held b)
     → ShowSame ((after events).held a) ((after events).held b)
 show_same events a b e =
@@ -122,6 +125,7 @@ awaited_none : (held : List Operation) → rises held ≡ true
 awaited_none held rise has = ap (rising id_cmp) (none_pass (λ id. not (is_held held id)) (flat_map (λ o. o.replaced) held)
     (λ id a. let n = any_held (λ o. names o id) held rise (among_named held id a) in ap not (has n.one id n.held n.passes)))
 
+-- after relays round all, all who are there agree
 pub all_agree_in_the_end : (is_there : List ℕ → Bool) (later past : List Event) → EndsInRelays is_there later past
     → (a b : List ℕ) → is_there a ≡ true → is_there b ≡ true
     → AgreeInTheEnd ((after (later ++ past)).held a) ((after (later ++ past)).held b)

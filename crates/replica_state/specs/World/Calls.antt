@@ -55,7 +55,8 @@ pub record IsReceiving (bundle : List Operation) (s t : State) (r : Reply) : Typ
       reply w (Receives s.name k) ≡ Some r
 
 -- the edits over given ids that an import since a base is, of some keys
-abbrev pub edits_since : List ℕ → List Operation → List Operation → List ℕ → List Part → List KeyParts → List Event
+abbrev pub edits_since : List ℕ → List Operation → List Operation → List ℕ → List Part
+    → List KeyParts → List Event
 edits_since name held base book pieces keys =
     map (λ key. EditsOver name (segment book key) (piece_at pieces key)
     (seen_ids held base (segment book key))) keys

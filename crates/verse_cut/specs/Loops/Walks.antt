@@ -38,7 +38,8 @@ read_of from rest = take (length from - length rest) from
 
 -- the piece that is open from a place on, where the walk is at here, and the later ones
 abbrev pub parts_at : KeyParts → ℕ → List ℕ → List ℕ → List Part
-parts_at key start from here = pieces_with key start (read_of from here) (cut_from key (start + length (read_of from here)) (tokens_of here))
+parts_at key start from here = pieces_with key start (read_of from here)
+    (cut_from key (start + length (read_of from here)) (tokens_of here))
 
 -- No mark in the text has a key above this one, so all of it goes to the open piece.
 pub record GoesToEnd (key : KeyParts) (text : List ℕ) : Type 0 where
@@ -51,4 +52,5 @@ pub record OpensAt (key : KeyParts) (text here behind : List ℕ) (found : KeyPa
   pub not_quiet : is_quiet key (tokens_of text) ≡ false
   pub join : read_of text here ++ here ≡ text
   pub mark_join : read_of here behind ++ behind ≡ here
-  pub cuts : (at : ℕ) → cut_from key at (tokens_of text) ≡ (read_of text here, parts_at found (at + length (read_of text here)) here behind)
+  pub cuts : (at : ℕ) → cut_from key at (tokens_of text)
+      ≡ (read_of text here, parts_at found (at + length (read_of text here)) here behind)

@@ -8,4 +8,5 @@ use Rattle.sty_sheet.proofs.listed.words_of.Given as goal
 
 abbrev pub invariant-loop-word : goal.invariant-loop-word
 invariant-loop-word l =
-    (word : List ℕ) → (list_any (λ k. bytes_eq word k.now) l.words.keys || has_word word (words_left l.word-iterator)) ≡ has_word word (record_of l.fn.style).under
+    (word : List ℕ) → (list_any (λ k. bytes_eq word k.now) l.words.keys || has_word word (words_left l.word-iterator))
+    ≡ has_word word (record_of l.fn.style).under

@@ -8,4 +8,5 @@ use Rattle.sty_sheet.proofs.records.closers_of.Given as goal
 
 abbrev pub invariant-loop-listed : goal.invariant-loop-listed
 invariant-loop-listed l =
-    (name : List ℕ) → option_or (held l.closers name) (find (closes name) (map (λ v. v.style) l.listed-iterator)) ≡ find (closes name) (styles_in l.styles)
+    (name : List ℕ) → option_or (held l.closers name) (find (closes name) (map (λ v. v.style) l.listed-iterator))
+    ≡ find (closes name) (styles_in l.styles)

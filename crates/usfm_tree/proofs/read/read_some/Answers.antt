@@ -5,16 +5,16 @@ use Rattle.usfm_token.specs.View.{lexeme, rest_of}
 use Rattle.usfm_tree.specs.Forest.{◌then◌}
 use Rattle.usfm_tree.specs.Reading as reading
 use Rattle.usfm_tree.specs.Ahead.{forest_left}
-use Rattle.usfm_tree.specs.Stack.{resume}
+use Rattle.usfm_tree.specs.Loops.Stack.{resume}
 use Rattle.usfm_tree.specs.SheetViews.{styles_of}
-use Rattle.usfm_tree.specs.RoleViews.{role_view}
+use Rattle.usfm_tree.specs.Loops.RoleViews.{role_view}
 use Rattle.usfm_tree.specs.Views.{forest_of}
-use Rattle.usfm_tree.specs.ReaderViews.{frames_of, sofar_of, frame_of, spans_of, span_of, Span, Adjoins}
+use Rattle.usfm_tree.specs.Loops.ReaderViews.{frames_of, sofar_of, frame_of, spans_of, span_of, Span, Adjoins}
 use Rattle.usfm_tree.proofs.SpanLemmas.{adjoins_at}
 use Rattle.usfm_token.proofs.Walk.{token_front}
 use Rattle.usfm_tree.proofs.LeavesLemmas.{role_slice}
 use Rattle.usfm_token.proofs.TokenLaws.{joined-tokens_of}
-use Rattle.usfm_tree.specs.TakenViews.{left_of}
+use Rattle.usfm_tree.specs.Loops.TakenViews.{left_of}
 use Rattle.usfm_tree.proofs.AheadLemmas.{no_frames, nothing_left}
 use Rattle.usfm_tree.proofs.ReaderLemmas.{left_front}
 use Rattle.usfm_tree.proofs.ReadingLemmas.{then-nothing}

@@ -2,10 +2,10 @@ use Rattle.std.proofs.Common.{◌≡◌, ◌≤◌, length}
 use Rattle.usfm_token.specs.View.{rest_of}
 use Rattle.usfm_token.specs.Tokens.{tokens_of}
 use Rattle.usfm_tree.specs.Ahead.{forest_left}
-use Rattle.usfm_tree.specs.Stack.{resume}
+use Rattle.usfm_tree.specs.Loops.Stack.{resume}
 use Rattle.usfm_tree.specs.SheetViews.{styles_of}
-use Rattle.usfm_tree.specs.ReaderViews.{frames_of, sofar_of, spans_of, Adjoins}
-use Rattle.usfm_tree.specs.TakenViews.{left_of}
+use Rattle.usfm_tree.specs.Loops.ReaderViews.{frames_of, sofar_of, spans_of, Adjoins}
+use Rattle.usfm_tree.specs.Loops.TakenViews.{left_of}
 use Rattle.usfm_tree.proofs.read.read_some.Given as goal
 
 abbrev pub invariant-loop-token : goal.invariant-loop-token

@@ -6,10 +6,10 @@ use Rattle.usfm_token.specs.View.{mark_parts}
 use Rattle.usfm_tree.specs.Forest.{Forest}
 use Rattle.usfm_tree.specs.Events.{words, single, begins, ends, events_before}
 use Rattle.usfm_tree.specs.Reading as reading
-use Rattle.usfm_tree.specs.ReaderViews.{opens_in}
-use Rattle.usfm_tree.specs.RoleViews.{role_view}
+use Rattle.usfm_tree.specs.Loops.ReaderViews.{opens_in}
+use Rattle.usfm_tree.specs.Loops.RoleViews.{role_view}
 use Rattle.usfm_tree.specs.StepViews.{placed_text}
-use Rattle.usfm_tree.specs.TakenViews.{optional_text, text_of, close_mark}
+use Rattle.usfm_tree.specs.Loops.TakenViews.{optional_text, text_of, close_mark}
 use Rattle.usfm_tree.proofs.ReaderLemmas.{opens_in_push, length_opens_in}
 use Rattle.usfm_tree.proofs.StepLemmas.{Becomes, becomes_text, becomes_alone, becomes_stray, becomes_deep, becomes_node, becomes_deep_span, becomes_milestone, placed_is}
 use Rattle.usfm_tree.proofs.unwind.enter.Goals as goal

@@ -4,9 +4,9 @@ use Rattle.std.proofs.lemmas.Bool.{false≢true}
 use Rattle.std.specs.Prelude.{option_to_list, IsSome}
 use Rattle.usfm_token.specs.View.{mark_parts}
 use Rattle.usfm_tree.specs.Reading as reading
-use Rattle.usfm_tree.specs.ReaderViews.{open_view, opens_in}
-use Rattle.usfm_tree.specs.RoleViews.{role_view}
-use Rattle.usfm_tree.specs.Stack.{closing_mark}
+use Rattle.usfm_tree.specs.Loops.ReaderViews.{open_view, opens_in}
+use Rattle.usfm_tree.specs.Loops.RoleViews.{role_view}
+use Rattle.usfm_tree.specs.Loops.Stack.{closing_mark}
 use Rattle.usfm_tree.specs.StepViews.{Unwinds}
 use Rattle.usfm_tree.specs.declared.open.Open.{Open}
 use Rattle.usfm_tree.proofs.ReaderLemmas.{opens_in_last}

@@ -1,7 +1,7 @@
 use Rattle.std.proofs.Common.{◌≡◌, ◌≤◌, ◌+◌, length, None, vec_capacity}
 use Rattle.usfm_tree.specs.Reading as reading
-use Rattle.usfm_tree.specs.ReaderViews.{opens_in}
-use Rattle.usfm_tree.specs.RoleViews.{role_view}
+use Rattle.usfm_tree.specs.Loops.ReaderViews.{opens_in}
+use Rattle.usfm_tree.specs.Loops.RoleViews.{role_view}
 use Rattle.usfm_tree.specs.StepViews.{Unwinds}
 use Rattle.usfm_tree.proofs.unwind.unwind.Given as goal
 

@@ -12,6 +12,6 @@ pub returns-then-is_same : goal.returns-then-is_same
 returns-then-is_same c =
     let line = c.in-ChapterLine.ensures ∙ ap (λ (s : State). pick s.held (segment c.args.book c.args.key)) c.self.view_is in
     line_stays c.args.self.now.held c.args.book (parts_of c.args.pieces.now) c.args.key c.in-ChapterLine.chapter line c.has_verse.result
-    (sym (c.is_same.ensures ∙ (λ i. same_bytes ((c.as_str.ensures.value ∙ c.in_ok-line-in-ChapterLine.ensures) i)
+    (sym (c.is_same.ensures ∙ (λ i. same_bytes ((c.bytes.ensures.value ∙ c.chapter_line.ensures) i)
     (c.piece_at-piece.ensures i))) ∙ c.if-is_same.true)
     (c.has_verse.ensures ∙ sym (part_verses c.args.key.chapter c.args.pieces.now))

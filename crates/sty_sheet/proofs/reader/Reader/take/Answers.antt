@@ -1,5 +1,5 @@
 use Rattle.std.proofs.Common.{◌≡◌, Some, ◌∙◌, ap, sym}
-use Rattle.sty_sheet.specs.FieldViews.{field_view}
+use Rattle.sty_sheet.specs.Loops.FieldViews.{field_view}
 use Rattle.sty_sheet.specs.Sheets.{field_fault}
 use Rattle.std.specs.Prelude.{is_some}
 use Rattle.sty_sheet.specs.Steps.{reading_of}

@@ -4,7 +4,7 @@ use Rattle.std.specs.Str.Iter.{lines_rest}
 use Rattle.std.specs.Str.Lines.{lines}
 use Rattle.std.proofs.lemmas.Iterator.Splits.{YieldsList-from_lines}
 use Rattle.std.proofs.lemmas.Result.{err_from_is_err_and}
-use Rattle.sty_sheet.specs.FieldViews.{field_view}
+use Rattle.sty_sheet.specs.Loops.FieldViews.{field_view}
 use Rattle.sty_sheet.specs.Fields.{field_of}
 use Rattle.sty_sheet.specs.Lines.{behind_feff}
 use Rattle.sty_sheet.specs.Memory.{begun_before_fault}

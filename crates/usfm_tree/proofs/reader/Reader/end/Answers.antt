@@ -3,7 +3,7 @@ use Rattle.usfm_tree.specs.Views.{alone, view, forest_of}
 use Rattle.usfm_token.specs.View.{mark_parts}
 use Rattle.usfm_token.specs.Tokens.{mark_bytes}
 use Rattle.usfm_tree.specs.Forest.{node, nothing, spanning, span_bytes, close_bytes, bytes_of}
-use Rattle.usfm_tree.specs.ReaderViews.{span_of, Adjoins}
+use Rattle.usfm_tree.specs.Loops.ReaderViews.{span_of, Adjoins}
 use Rattle.usfm_tree.proofs.SpanLemmas.{adjoins_pop, adjoins_end, span_front, span_is}
 use Rattle.std.specs.Option.{option_map}
 use Rattle.usfm_tree.proofs.ReaderLemmas.{ends_by_pop, branch_parts_made, forest_of_push}

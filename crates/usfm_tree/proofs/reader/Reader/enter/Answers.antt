@@ -2,9 +2,9 @@ use Rattle.std.proofs.Common.{◌≡◌, ◌∙◌, ◌∷◌, ap, sym, subst, l
 use Rattle.sty_sheet.specs.Views.{record_of}
 use Rattle.usfm_token.specs.View.{mark_parts}
 use Rattle.usfm_tree.specs.Reading as reading
-use Rattle.usfm_tree.specs.RoleViews.{role_view}
-use Rattle.usfm_tree.specs.Stack.{Frame, opens_of, Enters}
-use Rattle.usfm_tree.specs.ReaderViews.{frames_of, sofar_of}
+use Rattle.usfm_tree.specs.Loops.RoleViews.{role_view}
+use Rattle.usfm_tree.specs.Loops.Stack.{Frame, opens_of, Enters}
+use Rattle.usfm_tree.specs.Loops.ReaderViews.{frames_of, sofar_of}
 use Rattle.usfm_tree.proofs.ReaderLemmas.{opens_of_frames, length_opens_in}
 use Rattle.usfm_tree.proofs.ReadingLemmas.{enters_alone, enters_stray, enters_deep, enters_node}
 use Rattle.usfm_tree.proofs.reader.Reader.enter.Goals as goal

@@ -2,7 +2,7 @@ use Rattle.std.proofs.Common.{◌∙◌, ap}
 use Rattle.usfm_token.specs.Tokens.{mark_bytes}
 use Rattle.usfm_token.specs.View.{mark_parts}
 use Rattle.usfm_tree.specs.Forest.{leaf, nothing, ◌then◌}
-use Rattle.usfm_tree.specs.ReaderViews.{spans_of, sofar_of}
+use Rattle.usfm_tree.specs.Loops.ReaderViews.{spans_of, sofar_of}
 use Rattle.usfm_tree.proofs.SpanLemmas.{adjoins_put, bytes_leaf}
 use Rattle.usfm_tree.proofs.reader.Reader.enter_leaf.Goals as goal
 

@@ -2,10 +2,10 @@ use Rattle.std.proofs.Common.{◌≡◌, ℕ, ◌-◌, ◌++◌, ◌∙◌, ap, 
 use Rattle.usfm_token.specs.View.{mark_parts}
 use Rattle.usfm_tree.specs.Forest.{nothing, node, span_bytes, ◌then◌}
 use Rattle.sty_sheet.specs.declared.kind.StyleKind.TheVariants as kinds
-use Rattle.usfm_tree.specs.Stack.{opens_of}
-use Rattle.usfm_tree.specs.ReaderViews.{frames_of, spans_of, sofar_of}
+use Rattle.usfm_tree.specs.Loops.Stack.{opens_of}
+use Rattle.usfm_tree.specs.Loops.ReaderViews.{frames_of, spans_of, sofar_of}
 use Rattle.usfm_tree.proofs.SpanLemmas.{adjoins_put, adjoins_at, span_is}
-use Rattle.usfm_tree.specs.TakenViews.{optional_text, text_of, close_mark}
+use Rattle.usfm_tree.specs.Loops.TakenViews.{optional_text, text_of, close_mark}
 use Rattle.usfm_tree.proofs.ReaderLemmas.{opens_of_frames, length_opens_in}
 use Rattle.usfm_tree.proofs.TakenLemmas.{span_deep, span_node, milestone_front}
 use Rattle.usfm_tree.proofs.reader.Reader.enter_milestone.Goals as goal

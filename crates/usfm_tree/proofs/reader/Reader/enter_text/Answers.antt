@@ -1,6 +1,6 @@
 use Rattle.std.proofs.Common.{◌∙◌, ap}
 use Rattle.usfm_tree.specs.Forest.{text, nothing, ◌then◌}
-use Rattle.usfm_tree.specs.ReaderViews.{frames_of, spans_of, sofar_of}
+use Rattle.usfm_tree.specs.Loops.ReaderViews.{frames_of, spans_of, sofar_of}
 use Rattle.usfm_tree.proofs.SpanLemmas.{adjoins_put, bytes_text}
 use Rattle.usfm_tree.proofs.ReadingLemmas.{enters_text}
 use Rattle.usfm_tree.proofs.reader.Reader.enter_text.Goals as goal

@@ -1,7 +1,7 @@
 use Rattle.std.proofs.Common.{◌≡◌, ◌∙◌, ap, sym, List, [], length, map, reverse, arith, eqb-true}
 use Rattle.std.proofs.lemmas.List.{nil_from_length}
-use Rattle.usfm_tree.specs.Stack.{Frame, resume}
-use Rattle.usfm_tree.specs.ReaderViews.{frames_of, sofar_of, frame_of}
+use Rattle.usfm_tree.specs.Loops.Stack.{Frame, resume}
+use Rattle.usfm_tree.specs.Loops.ReaderViews.{frames_of, sofar_of, frame_of}
 use Rattle.usfm_tree.proofs.ReadingLemmas.{finish_end, finish_done}
 use Rattle.usfm_tree.proofs.reader.Reader.finish.Goals as goal
 

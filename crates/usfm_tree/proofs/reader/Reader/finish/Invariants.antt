@@ -1,7 +1,7 @@
 use Rattle.std.proofs.Common.{◌≡◌, [], length}
 use Rattle.usfm_tree.specs.Reading as reading
-use Rattle.usfm_tree.specs.Stack.{resume}
-use Rattle.usfm_tree.specs.ReaderViews.{frames_of, sofar_of, spans_of, Adjoins}
+use Rattle.usfm_tree.specs.Loops.Stack.{resume}
+use Rattle.usfm_tree.specs.Loops.ReaderViews.{frames_of, sofar_of, spans_of, Adjoins}
 use Rattle.usfm_tree.proofs.reader.Reader.finish.Given as goal
 
 abbrev pub invariant-loop-self : goal.invariant-loop-self

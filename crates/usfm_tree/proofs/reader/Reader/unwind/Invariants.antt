@@ -1,8 +1,8 @@
 use Rattle.std.proofs.Common.{◌≡◌, length, false}
 use Rattle.usfm_tree.specs.Reading as reading
-use Rattle.usfm_tree.specs.Stack.{Resumes, opens_of}
-use Rattle.usfm_tree.specs.RoleViews.{role_view}
-use Rattle.usfm_tree.specs.ReaderViews.{frames_of, sofar_of, spans_of, Adjoins}
+use Rattle.usfm_tree.specs.Loops.Stack.{Resumes, opens_of}
+use Rattle.usfm_tree.specs.Loops.RoleViews.{role_view}
+use Rattle.usfm_tree.specs.Loops.ReaderViews.{frames_of, sofar_of, spans_of, Adjoins}
 use Rattle.usfm_tree.proofs.reader.Reader.unwind.Given as goal
 
 abbrev pub invariant-loop-count : goal.invariant-loop-count

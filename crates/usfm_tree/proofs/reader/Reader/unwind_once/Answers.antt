@@ -1,9 +1,9 @@
 use Rattle.std.proofs.Common.{sym, ◌∙◌, subst, Bool}
 use Rattle.std.specs.Option.{option_map}
 use Rattle.usfm_token.specs.View.{mark_parts}
-use Rattle.usfm_tree.specs.Stack.{Resumes}
-use Rattle.usfm_tree.specs.RoleViews.{role_view}
-use Rattle.usfm_tree.specs.ReaderViews.{frames_of, sofar_of}
+use Rattle.usfm_tree.specs.Loops.Stack.{Resumes}
+use Rattle.usfm_tree.specs.Loops.RoleViews.{role_view}
+use Rattle.usfm_tree.specs.Loops.ReaderViews.{frames_of, sofar_of}
 use Rattle.usfm_tree.proofs.ReadingLemmas.{resumes_by_end, is_some-option_map}
 use Rattle.usfm_tree.proofs.reader.Reader.unwind_once.Goals as goal
 

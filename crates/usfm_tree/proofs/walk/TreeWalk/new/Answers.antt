@@ -1,8 +1,8 @@
 use Rattle.std.proofs.Common.{◌∙◌, ap, length}
 use Rattle.usfm_tree.specs.Events.{events_of, events_left}
-use Rattle.usfm_tree.specs.ReaderViews.{opens_in}
+use Rattle.usfm_tree.specs.Loops.ReaderViews.{opens_in}
 use Rattle.usfm_tree.specs.SheetViews.{styles_of}
-use Rattle.usfm_tree.specs.TakenViews.{left_of}
+use Rattle.usfm_tree.specs.Loops.TakenViews.{left_of}
 use Rattle.usfm_tree.proofs.AheadLemmas.{whole_left}
 use Rattle.usfm_tree.proofs.walk.TreeWalk.new.Goals as goal
 

@@ -5,10 +5,10 @@ use Rattle.usfm_token.specs.View.{lexeme, mark_parts, rest_of}
 use Rattle.usfm_token.proofs.TokenLaws.{joined-tokens_of}
 use Rattle.usfm_tree.specs.Events.{ends_before, events_left}
 use Rattle.usfm_tree.specs.Reading as reading
-use Rattle.usfm_tree.specs.ReaderViews.{opens_in}
+use Rattle.usfm_tree.specs.Loops.ReaderViews.{opens_in}
 use Rattle.usfm_tree.specs.SheetViews.{styles_of}
 use Rattle.usfm_tree.specs.StepViews.{closed_before, entry_before}
-use Rattle.usfm_tree.specs.TakenViews.{left_of}
+use Rattle.usfm_tree.specs.Loops.TakenViews.{left_of}
 use Rattle.usfm_tree.specs.WalkViews.{events_ahead, records_by}
 use Rattle.usfm_tree.proofs.EventLemmas.{left_nil}
 use Rattle.usfm_tree.proofs.ReaderLemmas.{left_front}

@@ -4,7 +4,7 @@ use Rattle.usfm_token.specs.Tokens.{MarkParts, mark_bytes}
 use Rattle.std.specs.Option.{option_map}
 use Rattle.usfm_token.specs.View.{mark_parts}
 use Rattle.usfm_tree.specs.Forest.{Forest, bytes_of}
-use Rattle.usfm_tree.specs.Stack.{Frame}
+use Rattle.usfm_tree.specs.Loops.Stack.{Frame}
 use Rattle.usfm_tree.specs.Reading as reading
 use Rattle.usfm_tree.specs.Views.{forest_of}
 use Rattle.usfm_tree.specs.declared.open.Open.{Open}
@@ -27,12 +27,18 @@ pub record Span : Type 0 where
 
 -- an open node of the reader, by its bytes
 abbrev pub span_of : Open Begun → Span
-span_of o = record { from = o.kept.from.now; mark = mark_parts o.kept.mark; before = forest_of o.kept.before.items }
+span_of o = record {
+  from = o.kept.from.now;
+  mark = mark_parts o.kept.mark;
+  before = forest_of
+      o.kept.before.items;
+}
 
 -- the mark of each open node, what was read after it, and the rest are the text from that mark on
 abbrev pub Adjoins : List Span → Forest → List ℕ → Type 0
 Adjoins [] sofar rest = Unit {0}
-Adjoins (s ∷ ss) sofar rest = (s.from ≡ mark_bytes s.mark ++ (bytes_of sofar ++ rest)) × Adjoins ss s.before s.from
+Adjoins (s ∷ ss) sofar rest =
+    (s.from ≡ mark_bytes s.mark ++ (bytes_of sofar ++ rest)) × Adjoins ss s.before s.from
 
 -- a text ends in another
 abbrev pub EndsIn : List ℕ → List ℕ → Type 0

@@ -8,4 +8,5 @@ use Rattle.sty_sheet.specs.Records.{has_word}
 
 -- the set has these words and no other
 abbrev pub AreWords : {S : Type 0} → IndexSet (Bor (List ℕ)) S → List (List ℕ) → Type 0
-AreWords set words = (word : List ℕ) → list_any (λ k. bytes_eq word k.now) set.keys ≡ has_word word words
+AreWords set words =
+    (word : List ℕ) → list_any (λ k. bytes_eq word k.now) set.keys ≡ has_word word words
