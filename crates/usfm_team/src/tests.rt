@@ -17,13 +17,13 @@ mod turns;
 mod vectors;
 mod worlds;
 
-use self::streams::{Counted, Refusal, ShortSink, SlowSource, Zeros};
+use self::streams::{Counted, Refusal, ShortSink, SlowSource};
 use std::alloc::Global;
 use std::io::ErrorKind;
 use std::test::Fail;
 use usfm_cli::{
-    ByteSource, FaultLine, MOST_BYTES, MOST_LINE_BYTES, ReadFault, StdSink, StdSource, WriteFault,
-    read_to_end, write_all, write_more, write_pieces,
+    ByteSource, FaultLine, MOST_LINE_BYTES, ReadFault, StdSink, StdSource, WriteFault, read_to_end,
+    write_all, write_more, write_pieces,
 };
 use usfm_export::within;
 
@@ -55,22 +55,6 @@ fn each_read_fails(rt: HostRuntime) -> Result<(), Fail> {
             assert_eq!(rt; source.failures, 1);
         }
     }
-    Ok(())
-}
-
-#[test]
-fn the_most_bytes(rt: HostRuntime) -> Result<(), Fail> {
-    let mut most = Zeros {
-        left: MOST_BYTES,
-        reads: 0,
-    };
-    assert_eq!(rt; read_to_end(rt.alloc(), &mut most)?.len(), 268_435_456);
-    let mut longer = Zeros {
-        left: MOST_BYTES + 1,
-        reads: 0,
-    };
-    let answer = read_to_end(rt.alloc(), &mut longer);
-    assert!(rt; answer.err() == Some(ReadFault::TooLong));
     Ok(())
 }
 

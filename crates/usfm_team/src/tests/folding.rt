@@ -1,6 +1,6 @@
 // Streams of bundles folded into a book, bundles and projects that are none, and the lines of faults.
 use super::player::{Step, told_of};
-use super::streams::{Refusal, ShortSink, SlowSource, Zeros};
+use super::streams::{Refusal, ShortSink, SlowSource};
 use super::vectors::{
     AFTER, AT_VERSE_1, B1, CLASHING, FIRST, FIRST_OP, FITS_ANOTHER, ID_2, NAMED_ELSEWHERE,
     NAMES_ITSELF, NONE, NOTHING, ONE, TWO, UNNAMED, V2, Y, Z,
@@ -9,7 +9,7 @@ use bundle_codec::join_bundles;
 use std::alloc::Global;
 use std::io::ErrorKind;
 use std::test::Fail;
-use usfm_cli::{Fault, MOST_BYTES, ReadFault, fault_line, fold_stream};
+use usfm_cli::{Fault, ReadFault, fault_line, fold_stream};
 use usfm_ref::Book;
 
 // Pieces of bytes one after another.
@@ -262,20 +262,7 @@ fn failing_streams(rt: HostRuntime) -> Result<(), Fail> {
 }
 
 #[test]
-fn the_longest_stream(rt: HostRuntime) -> Result<(), Fail> {
-    let alloc = rt.alloc();
-    let mat = Book::read("MAT")?;
-    for (left, wanted) in [
-        (MOST_BYTES, b"fault 60\n".as_slice()),
-        (MOST_BYTES + 1, b"fault 121\n"),
-    ] {
-        let mut source = Zeros { left, reads: 0 };
-        let mut sink = ShortSink::new(alloc, 1, 1, Refusal::TakesNothing);
-        let fault = fold_stream(alloc, &mut source, &mut sink, mat)
-            .err()
-            .ok_or("it folded")?;
-        assert_eq!(rt; fault_line(&fault).bytes(), wanted);
-    }
+fn faults_of_streams(rt: HostRuntime) -> Result<(), Fail> {
     assert_eq!(rt;
         fault_line(&Fault::from(ReadFault::ReadFailed)).bytes(),
         b"fault 120\n".as_slice()

@@ -54,29 +54,6 @@ impl ByteSource for SlowSource<'_> {
     }
 }
 
-/// Gives this many zeros, without a list of them.
-#[derive(Drop)]
-pub struct Zeros {
-    pub left: usize,
-    pub reads: u64,
-}
-
-impl ByteSource for Zeros {
-    ghost to_come = { λ _. None };
-
-    ghost reads = { λ source. source.reads };
-
-    ghost failures = { λ _. 0 };
-
-    fn read(&mut self, buffer: &mut [u8]) -> io::Result<usize> {
-        self.reads = self.reads.saturating_add(1);
-        let count = buffer.len().min(self.left);
-        buffer[..count].fill(0);
-        self.left -= count;
-        Ok(count)
-    }
-}
-
 /// How a sink without room refuses a piece.
 #[derive(Clone, Copy, Debug)]
 pub enum Refusal {
