@@ -1,8 +1,10 @@
 use Rattle.std.proofs.Common.{arith, length, map}
+use Rattle.std.proofs.lemmas.Bool.Decides.{nat_tests}
 use Rattle.std.proofs.lemmas.List.{length-map}
 use Rattle.usfm_cli.proofs.Conflicts.{few_agree}
 use Rattle.usfm_cli.proofs.standing.differ.Goals as goal
 
 pub returns-else-ops-gt1 : goal.returns-else-ops-gt1
 returns-else-ops-gt1 c =
-    few_agree (map (λ op. op.now) c.args.ops.now) (omega (arith, length-map c.args.ops.now (λ op. op.now), c.if-ops-gt1.false))
+    let few = few_agree (map (λ op. op.now) c.args.ops.now) (omega (arith, length-map c.args.ops.now (λ op. op.now), c.if-ops-gt1.false)) in
+    rw few (grind (arith, nat_tests, c.if-ops-gt1.false))
