@@ -1,5 +1,9 @@
 # Sourced by run.sh of a bench over psalters, after head.sh: makes a sheet, `$work/sheet`, and psalters of a size and of
-# ten times the size, `$work/psalter.SIZE`.
+# ten times the size, `$work/psalter.SIZE`, and builds the two programs. What run.sh was given is the size and how many
+# turns; a run has some rounds.
+bytes=${1:-250000}
+turns=${2:-8}
+rounds=20
 
 # A sheet of the markers of the psalters.
 make_sheet() {
@@ -30,4 +34,15 @@ make_psalters() {
     for size in "$1" "$((10 * $1))"; do
         awk -v size="$size" -f "$top/bench/psalter.awk" >"$work/psalter.$size"
     done
+}
+
+# Makes the sheet and the psalters and builds both programs: the name of the proved one's crate, and the words after the
+# sheet and the psalter that it is run with once.
+build_both() {
+    local name=$1 crates='usfm_ref usfm_token sty_sheet verse_cut usfm_tree concordance'
+    shift
+    echo "building"
+    make_psalters "$bytes"
+    build_plain --edition 2021
+    build_proved "$name" "$crates" 'usfm_ref sty_sheet concordance anyhow' "$work/sheet" "$work/psalter.$bytes" "$@"
 }

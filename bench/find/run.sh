@@ -13,15 +13,7 @@ set -euo pipefail
 here=$(cd "$(dirname "$0")" && pwd)
 . "$here/../head.sh"
 . "$here/../psalters.sh"
-bytes=${1:-250000}
-turns=${2:-8}
-rounds=20
-
-echo "building"
-make_psalters "$bytes"
-build_plain --edition 2021
-crates='usfm_ref usfm_token sty_sheet verse_cut usfm_tree concordance'
-build_proved find_bench "$crates" 'usfm_ref sty_sheet concordance anyhow' "$work/sheet" "$work/psalter.$bytes" LORD 1
+build_both find_bench LORD 1
 
 # What most lines have, what some verses have, what few have, what attributes alone have, and what nothing has.
 status=0
