@@ -36,6 +36,14 @@ def check_codes():
     check(codes and named == codes, f"WALKTHROUGH.md has not the codes {codes}, in this order")
 
 
+def check_outputs():
+    """FORMATS says of each subcommand what it writes."""
+    names = re.findall(r"^        \"([a-z-]+)\" => \w+_line\(", text_of("crates/usfm_cli/src/usage.rt"), re.M)
+    table = text_of("docs/FORMATS.md").split("## What commands write")[1].split("\n## ")[0]
+    said = {name for row in ROW.findall(table) for name in re.findall(r"`([^`]*)`", row.split(" | ")[0])}
+    check(len(names) > 15 and set(names) <= said, f"FORMATS.md does not say what {sorted(set(names) - said)} write")
+
+
 def check_paths():
     """Each path of the repository that a page names is there, but for what is built, and a command line begins with a program."""
     for page in pages():
