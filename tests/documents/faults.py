@@ -16,6 +16,8 @@ INSIDE = {
 }
 # The details of a variant, by its fields.
 DETAILS = {"": [], "(OpId)": ["number", "name"], "(u64)": ["place"], "valid": ["length"], "line": ["line"], "gone": ["bytes"]}
+# The commands of the program whose names are not those of the code's, or their first words.
+COMMANDS = {"ImportNew": "sync"}
 # The words that README, for readers who write no code, has for some of them.
 README_DETAILS = {"length": "bytes"}
 VARIANT = re.compile(r"((?:^    ///.*\n)+)    #\[error\(\"((?:[^\"\\]|\\.)+)\".*\)\]\n    (\w+)(.*),$", re.M)
@@ -154,7 +156,7 @@ def check_commands(code, pages):
     wanted["fold"] = numbers_said(errors_of("crates/usfm_cli/src/fold.rt", "fold_stream")) | {20}
     for variant, faults in of_commands.items():
         words = re.sub(r"(?<!^)([A-Z])", r"-\1", variant).lower()
-        command = words if words in pages else words.split("-")[0]
+        command = COMMANDS.get(variant) or (words if words in pages else words.split("-")[0])
         check(command in pages, f"the program has no command for {variant}")
         wanted.setdefault(command, set()).update(faults, {1, 90, 110, 120, 121}, range(60, 71))
     for command, faults in wanted.items():

@@ -56,6 +56,8 @@ impl Outcome {
 /// - `Import`: `NotText` (10), `NoId` (30), `Reference` (20), `NumbersUsedUp` (81).
 /// - `ImportSince`: `NotText` (10), `Bundle` (60 to 69), `Trailing` (70), `NoId` (30), `Reference` (20),
 ///   `Clash` (51), `NumbersUsedUp` (81).
+/// - `ImportNew`: `NotText` (10), `NoId` (30), `Reference` (20), `FileChanged` (131) where the project
+///   has the book and the file is not its export, `NumbersUsedUp` (81).
 /// - `Edit`: `NotText` (10), `BadSegment` (80), `NoBook` (82), `NumbersUsedUp` (81).
 /// - `EditOver`: the same, with `NotShown` (83) before `NumbersUsedUp`.
 /// - `Receive`: `Bundle` (60 to 69), `Trailing` (70), `Clash` (51).
@@ -69,9 +71,9 @@ impl Outcome {
 ///
 /// `Memory` (1) where a growth was refused; of bytes that are no project only where an operation of
 /// their bundle is thinned, since the other refusals take no memory. Nor do those of the command once
-/// the project was read, but for `NumbersUsedUp` of an import, `Clash`, 69 and 70 of a bundle with a
-/// thinned operation, and what is found after records of a sheet were kept. The project is the bytes
-/// that were given, so that a refused command leaves it as it is.
+/// the project was read, but for `NumbersUsedUp` and `FileChanged` of an import, `Clash`, 69 and 70 of
+/// a bundle with a thinned operation, and what is found after records of a sheet were kept. The project
+/// is the bytes that were given, so that a refused command leaves it as it is.
 pub fn exec(alloc: Global, project: &[u8], command: &Command<'_>) -> Result<Outcome, Fault>
     ensures answer { result ≢ Err Fault.Memory → executed project.now command.now ≡ result }
     // A file that is no project is refused for that, whatever memory there is; but for its bundle, where

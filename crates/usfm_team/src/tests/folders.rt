@@ -1,12 +1,12 @@
 // Files of a folder: which of them are books', what they were written from, and how a project's books stand.
-use super::vectors::{AFTER, B1, CLASHING, FIRST, NOTHING, Y};
+use super::vectors::{AFTER, B1, CLASHING, FIRST, LAST_NUMBER, NOTHING, Y};
 use std::alloc::Global;
 use std::test::Fail;
 use usfm_cli::{
     Command, Fault, TurnFault, book_begun, create, exec, exec_in_turn, makes, may_be_book,
     project_standing, stand_in_turn, written_from,
 };
-use usfm_ref::Book;
+use usfm_ref::{Book, RefFault};
 
 const OTHER: &[u8] = b"\\id MAT\n\\c 1\n\\v 1 Or\n";
 
@@ -152,12 +152,23 @@ fn imports_of_new_books(rt: HostRuntime) -> Result<(), Fail> {
     assert!(rt; first.as_slice() == b"added 0\n".as_slice());
     assert!(rt; second.as_slice() == b"added 2\n".as_slice());
     for (file, fault) in [
-        (OTHER, Fault::FileChanged),
+        (b"\\c 1 \xff".as_slice(), Fault::NotText { valid: 5 }),
         (b"\\c 1", Fault::NoId),
-        (b"\\id MAT \xff", Fault::NotText { valid: 8 }),
+        (b"\\id mat", Fault::Reference(RefFault::BadBook)),
+        (OTHER, Fault::FileChanged),
     ] {
         assert!(rt; exec(alloc, &project, &Command::ImportNew(file)).err() == Some(fault));
     }
     assert!(rt; exec(alloc, &project, &Command::Receive(CLASHING)).is_err());
+    // Where no number is left, a file that is its book's export adds nothing.
+    let last = project_of(alloc, &[LAST_NUMBER])?;
+    for (file, fault) in [
+        (OTHER, Fault::FileChanged),
+        (b"\\id MRK\n", Fault::NumbersUsedUp),
+    ] {
+        assert!(rt; exec(alloc, &last, &Command::ImportNew(file)).err() == Some(fault));
+    }
+    let made = exec(alloc, &last, &Command::ImportNew(b"\\id MAT\n"))?;
+    assert!(rt; made.output() == b"added 0\n".as_slice());
     Ok(())
 }
