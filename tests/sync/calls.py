@@ -1,9 +1,14 @@
-"""A sync whose calls to the system fail, or at which it is killed: the next sync makes what one makes that is not disturbed."""
+"""Commands on a folder whose calls to the system fail, or at which they are killed, or to which memory is refused: given again, a
+command makes what one makes that is not disturbed."""
+import concurrent.futures
 import errno
+import os
 import shutil
+import tempfile
 from pathlib import Path
+from typing import Iterator
 
-from between import Between
+from between import Between, Run
 from stage import Answer, Tally, run, wanted
 
 # The calls that matter to what stands on the disk, and those that read.
@@ -14,28 +19,57 @@ FILES = {
     "luke.sfm": ("\\id LUK\n\\c 1\n\\v 1 Forasmuch\n", "\\id LUK\n\\c 1\n\\v 1 ana too\n"),
 }
 SYNC = ["sync", "p", "texts", "bundle"]
+EXPORT = ["export", "p", "--into", "texts"]
 
 
 def check_calls(tally: Tally, between: Between, work: Path) -> None:
-    scene = begun(between.program, work / "scene")
+    check_command(tally, between, work, SYNC, begun(between.program, work / "synced"))
+    check_command(tally, between, work, EXPORT, ahead(between.program, work / "exported"))
+
+
+def check_command(tally: Tally, between: Between, work: Path, words: list[str], scene: Path) -> None:
+    """Disturbs a command that is given in copies of a folder, in each way."""
     given = work / "nothing"
     given.write_bytes(b"")
-    whole = between.run(fresh(scene), SYNC, given)
-    tally.check(whole.answer.status == 0 and whole.answer.error == b"", f"a sync: {whole.answer}")
-    end = found(scene.parent / "tried")
-    tried = 0
+
+    def tried(refused: str) -> tuple[Run, Answer, dict[str, bytes]]:
+        """What came of the command, of the same again, and what is in the folder then."""
+        with tempfile.TemporaryDirectory(dir=work) as place:
+            folder = Path(place) / "tried"
+            shutil.copytree(scene, folder)
+            first = between.run(folder, words, given, refused)
+            again = run(between.program, folder, words) if refused else first.answer
+            return first, again, found(folder)
+
+    whole, _, end = tried("")
+    tally.check(whole.answer.status == 0 and whole.answer.error == b"", f"{words[0]}: {whole.answer}")
+    ways = list(refusals(whole))
+    with concurrent.futures.ThreadPoolExecutor(os.cpu_count()) as lanes:
+        for way, (first, again, left) in zip(ways, lanes.map(tried, ways)):
+            what = f"{words[0]}, {way}: {first.answer}"
+            tally.check(is_right(way, first.answer, whole.answer), what)
+            tally.check(again.status == 0 and left == end, f"{what}, then {again}, and {sorted(left)}")
+    tally.check(len(ways) > 200, f"{words[0]}: {len(ways)} ways were tried")
+
+
+def refusals(whole: Run) -> Iterator[str]:
+    """Each call that is killed, or fails; and each growth that is refused, alone and with all after it."""
     for kind in KINDS:
         for number in range(1, sum(call.kind == kind for call in whole.calls) + 1):
-            for how in ("kill", str(errno.EIO)):
-                folder = fresh(scene)
-                answer = between.run(folder, SYNC, given, f"{kind}:{number}:{how}").answer
-                what = f"{kind} {number} {'killed' if how == 'kill' else 'failed'}"
-                is_told = answer.status == 0 or answer.error.startswith(b"fault ") and answer.output == b""
-                tally.check(how == "kill" or is_told, f"{what}: {answer}")
-                again = run(between.program, folder, SYNC)
-                tally.check(again.status == 0 and found(folder) == end, f"{what}: {answer}, then {again}, and {sorted(found(folder))}")
-                tried += 1
-    tally.check(tried > 100, f"{tried} calls were tried")
+            yield f"{kind}:{number}:kill"
+            yield f"{kind}:{number}:{errno.EIO}"
+    for number in range(1, whole.asked + 1):
+        yield f"memory:{number}:{errno.ENOMEM}"
+        yield f"memory:{number}+:{errno.ENOMEM}"
+
+
+def is_right(way: str, answer: Answer, whole: Answer) -> bool:
+    """Whether a command that was disturbed so may answer this. Refused memory is reported as such, or made do without."""
+    if way.endswith("kill"):
+        return True
+    if way.startswith("memory"):
+        return answer == whole or answer.status == 1 and answer.output == b"" and answer.error.startswith(b"fault 1\n")
+    return answer.status == 0 or answer.error.startswith(b"fault ") and answer.output == b""
 
 
 def begun(program: Path, home: Path) -> Path:
@@ -57,11 +91,13 @@ def begun(program: Path, home: Path) -> Path:
     return home
 
 
-def fresh(scene: Path) -> Path:
-    folder = scene.parent / "tried"
-    shutil.rmtree(folder, ignore_errors=True)
-    shutil.copytree(scene, folder)
-    return folder
+def ahead(program: Path, home: Path) -> Path:
+    """The same, with the other's work in the project, and files that were not changed."""
+    begun(program, home)
+    wanted(run(program, home, ["receive", "p", "bundle"]))
+    for name, (before, _) in FILES.items():
+        home.joinpath("texts", name).write_text(before)
+    return home
 
 
 def found(folder: Path) -> dict[str, bytes]:
