@@ -194,6 +194,22 @@ mv t/m.sfm .
 run sync p t
 wants 0 'wrote t/MAT.usfm\n' ''
 has t/MAT.usfm "$to"
+# The bundle that it was written from is cut, or something else: help says to remove it.
+for damage in '' "$to" "$unnamed" "$b1"'\0'; do
+    printf "$damage" >$own/MAT.bundle
+    run sync p t
+    case $damage in
+        '') wants 1 '' 'fault 61\nin t/MAT.usfm\n' ;;
+        "$to") wants 1 '' 'fault 60\nin t/MAT.usfm\n' ;;
+        "$unnamed") wants 1 '' 'fault 69 1\nin t/MAT.usfm\n' ;;
+        *) wants 1 '' 'fault 70\nin t/MAT.usfm\n' ;;
+    esac
+    rm $own/MAT.bundle
+    run sync p t
+    wants 0 '' ''
+    has t/MAT.usfm "$to"
+    keeps $own MAT.bundle
+done
 # Another file stands where a book is to go.
 rm -r $own
 printf 'notes' >t/MAT.usfm

@@ -47,6 +47,9 @@ it is not known what FILE was written from. Then move it away and sync, and make
 its changes in the file that is written; or, to have FILE replace all that the
 book shows, `usfm_team import PROJECT FILE`, and sync.
 
+After fault 60 to 70 in a book's FILE, the bundle that FILE was written from is
+damaged: remove FOLDER/.usfm_team/CODE.bundle, and sync.
+
 Faults: those of `import`, `receive` and `export`, and
   fault 131                FILE would lose what stands in it";
 
