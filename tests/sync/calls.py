@@ -12,12 +12,14 @@ from between import Between, Run
 from stage import Answer, Tally, run, wanted
 
 # The calls that matter to what stands on the disk, and those that read.
-KINDS = ("open", "read", "write", "sync", "look", "remove", "rename", "lock", "mode")
+KINDS = ("open", "read", "write", "sync", "look", "follow", "remove", "rename", "lock", "mode")
 FILES = {
     "41MATana.SFM": ("\\id MAT\n\\c 1\n\\v 1 In\n\\v 2 And\n", "\\id MAT\n\\c 1\n\\v 1 ana\n\\v 2 And\n"),
     "MRK.usfm": ("\\id MRK\n\\c 1\n\\v 1 The\n", "\\id MRK\n\\c 1\n\\v 1 The\n"),
     "luke.sfm": ("\\id LUK\n\\c 1\n\\v 1 Forasmuch\n", "\\id LUK\n\\c 1\n\\v 1 ana too\n"),
 }
+# A file in the folder that is a link, and where it leads.
+LINK = ("MRK.usfm", "far/mark")
 SYNC = ["sync", "p", "texts", "bundle"]
 EXPORT = ["export", "p", "--into", "texts"]
 
@@ -36,7 +38,7 @@ def check_command(tally: Tally, between: Between, work: Path, words: list[str], 
         """What came of the command, of the same again, and what is in the folder then."""
         with tempfile.TemporaryDirectory(dir=work) as place:
             folder = Path(place) / "tried"
-            shutil.copytree(scene, folder)
+            shutil.copytree(scene, folder, symlinks=True)
             first = between.run(folder, words, given, refused)
             again = run(between.program, folder, words) if refused else first.answer
             return first, again, found(folder)
@@ -73,9 +75,12 @@ def is_right(way: str, answer: Answer, whole: Answer) -> bool:
 
 
 def begun(program: Path, home: Path) -> Path:
-    """A project and a folder that was written, files of which two were changed since, and another's work on two books."""
+    """A project and a folder that was written, files of which two were changed since, and another's work on two books, one of
+    which is in a file that is a link."""
     texts = home / "texts"
     texts.mkdir(parents=True)
+    home.joinpath(LINK[1]).parent.mkdir()
+    texts.joinpath(LINK[0]).symlink_to(Path("..") / LINK[1])
     for name, (before, _) in FILES.items():
         texts.joinpath(name).write_text(before)
     wanted(run(program, home, ["init", "p", "ana"]))
