@@ -2,9 +2,9 @@
 use crate::files::{read_file, read_open};
 use crate::project::place_of;
 use crate::turns::Refusal;
-use std::fs;
 use std::fs::File;
 use std::io::{ErrorKind, Write};
+use std::{fs, io};
 use usfm_cli::{Fault, book_begun, may_be_book};
 use usfm_ref::Book;
 
@@ -95,10 +95,9 @@ pub(crate) fn read_books(rt: &HostRuntime, folder: &str) -> Result<Vec<BookFile>
 
 // The paths of the files that may be books', in the order of their names.
 fn paths_in(rt: &HostRuntime, folder: &str) -> Result<Vec<String>, Refusal> {
-    let failed = || Fault::ReadFailed;
     let entries = match fs::read_dir(rt, folder) {
         Ok(entries) => entries,
-        Err(_) => return Err(Refusal::at(rt, failed(), folder)),
+        Err(error) => return Err(unread_folder(rt, &error, folder)),
     };
     let mut paths = Vec::new(rt.alloc());
     for entry in entries {
@@ -112,14 +111,19 @@ fn paths_in(rt: &HostRuntime, folder: &str) -> Result<Vec<String>, Refusal> {
             Err(error) if error.kind() == ErrorKind::InvalidFilename => {
                 say(rt, "passed over a file whose name is not UTF-8\n");
             }
-            Err(error) if error.kind() == ErrorKind::OutOfMemory => {
-                return Err(Refusal::from(Fault::Memory));
-            }
-            Err(_) => return Err(Refusal::at(rt, failed(), folder)),
+            Err(error) => return Err(unread_folder(rt, &error, folder)),
         }
     }
     paths.sort().map_err(Fault::from)?;
     Ok(paths)
+}
+
+// The refusal of a folder whose names were not read. To read them takes memory.
+fn unread_folder(rt: &HostRuntime, error: &io::Error, folder: &str) -> Refusal {
+    match error.kind() {
+        ErrorKind::OutOfMemory => Refusal::from(Fault::Memory),
+        _ => Refusal::at(rt, Fault::ReadFailed, folder),
+    }
 }
 
 // The file at a path, if it is a book's. What is no file, as a folder, is none.

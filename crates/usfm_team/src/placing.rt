@@ -292,7 +292,7 @@ fn put(rt: &HostRuntime, folder: &str, files: &[BookFile], book: &Staged) -> Res
         return Ok(true);
     };
     let is_same = match file_of(files, book.book) {
-        Some(file) => read_file(rt, end).is_ok_and(|bytes| bytes == file.bytes),
+        Some(file) => is_still(rt, end, &file.bytes)?,
         None => is_free(rt, end)?,
     };
     if is_same {
@@ -302,6 +302,15 @@ fn put(rt: &HostRuntime, folder: &str, files: &[BookFile], book: &Staged) -> Res
     remove_if_there(rt, new)?;
     remove_if_there(rt, &own_path(rt, folder, book.book, "bundle.new")?)?;
     Ok(false)
+}
+
+// Whether a file still has these bytes. One that cannot be read any more was changed.
+fn is_still(rt: &HostRuntime, path: &str, bytes: &[u8]) -> Result<bool, Fault> {
+    match read_file(rt, path) {
+        Ok(found) => Ok(found.as_slice() == bytes),
+        Err(Fault::Memory) => Err(Fault::Memory),
+        Err(_) => Ok(false),
+    }
 }
 
 // Puts the new bundle of a file that is in its place in the place of the old one.
