@@ -1,5 +1,5 @@
 -- Commands in turn, on their way.
-use Rattle.std.proofs.Common.{◌≡◌, ℕ, suc, Bool, false, ◌+◌, ◌<◌, List, [], ◌∷◌, ◌++◌, length, take}
+use Rattle.std.proofs.Common.{◌≡◌, ◌≢◌, ℕ, suc, Bool, false, ◌+◌, ◌<◌, List, [], ◌∷◌, ◌++◌, length, take}
 use Rattle.std.proofs.Common.{drop, Result, Ok, Err, refl, sym, ap, subst, ◌∙◌, ◌≤◌, get_or, arith, drop-cons, length-append}
 use Rattle.std.proofs.lemmas.List.{take-append-drop, take_more, take_all, length-take-le}
 use Rattle.replica_state.specs.States.{State}
@@ -146,6 +146,12 @@ pub file_refused : (A B : Type 0) (bytes : List ℕ) (s after : State) (commands
 file_refused A B bytes s after commands (Turn at fault) loads h e =
     ap (λ r. loaded_in_turn r commands) loads ∙ ap written_in_turn (refused_is s commands at fault e h)
 file_refused A B bytes s after commands (Project fault) loads h e = absurd h
+
+-- commands in turn are refused in the turn of one
+pub in_its_turn : (A B : Type 0) (s after : State) (commands : List Command) (fault : TurnFault)
+    → AnswersInTurn {A = A} {B = B} s commands after (Err fault) → fault ≢ Project Memory
+in_its_turn A B s after commands (Turn at fault) h e = cc e
+in_its_turn A B s after commands (Project fault) h e = h
 
 -- the replica after commands in turn is the one after their steps
 pub after_steps : (commands : List Command) (s : State) (d : InTurn State) → in_turn s commands ≡ Ok d

@@ -8,7 +8,7 @@ use Rattle.op_core.specs.Sets.{clash, join}
 use Rattle.bundle_codec.specs.declared.fault.BundleFault.{BundleFault}
 use Rattle.bundle_codec.specs.Spelling.{bundle, magic_of}
 use Rattle.bundle_codec.specs.declared.fault.BundleFault.TheVariants as spelling
-use Rattle.bundle_codec.specs.Reading.{bundle_at, RefusesBundle}
+use Rattle.bundle_codec.specs.Reading.{bundle_at, fields_at, magic_at, RefusesBundle, TakesMemory}
 use Rattle.replica_state.specs.declared.fault.ReceiveFault.{ReceiveFault}
 use Rattle.replica_state.specs.declared.fault.ReceiveFault.TheVariants as receiving
 use Rattle.replica_state.specs.Receives.{RefusesReceive}
@@ -69,6 +69,22 @@ module _ (held : List Operation) (rest : List ℕ) (wanted : Result (List Operat
 pub bundle_is_some : (ops : List Operation) → 0 < length (bundle ops)
 unfolding bundle magic_of
 bundle_is_some ops = omega arith
+
+-- what is read as a bundle, or judged with memory, is not empty
+some_read : (bytes : List ℕ) (set : List Operation) (rest : List ℕ) → bundle_at bytes ≡ Ok (set, rest) → 0 < length bytes
+unfolding bundle_at fields_at magic_at
+some_read [] set rest e = cc e
+some_read (b ∷ bytes) set rest e = omega arith
+
+some_judged : (bytes : List ℕ) → TakesMemory bytes → 0 < length bytes
+unfolding fields_at magic_at
+some_judged [] t = cc t.read
+some_judged (b ∷ bytes) t = omega arith
+
+pub receives_some : (held : List Operation) (bytes : List ℕ) → ReceivesOne held bytes → 0 < length bytes
+receives_some h b (Here held bytes set rest e) = some_read bytes set rest e
+receives_some h b (Judged held bytes t) = some_judged bytes t
+receives_some h b (After held bytes set rest e c one) = some_read bytes set rest e
 
 -- what is left after a bundle is shorter
 pub left_is_shorter : (bytes : List ℕ) (n : ℕ) (set : List Operation) → take n bytes ≡ bundle set → n ≡ length (bundle set) →

@@ -1,5 +1,5 @@
 -- What a call that folds a stream into a book answers, and what it leaves of its source and its sink.
-use Rattle.std.specs.Prelude.{◌≡◌, ℕ, ◌+◌, ◌≤◌, List, length, Option, Result, Ok, Err}
+use Rattle.std.specs.Prelude.{◌≡◌, ℕ, ◌+◌, ◌<◌, ◌≤◌, List, length, Option, Result, Ok, Err}
 use Rattle.std.specs.Io.KnownBytes.{Consumes, Appends, IsAtEnd}
 use Rattle.usfm_export.specs.Counts.{one_more}
 use Rattle.usfm_cli.specs.Reading.{most_bytes}
@@ -21,8 +21,8 @@ AnswersText wanted before after (Err Memory) = after ≡ before
 AnswersText wanted before after (Err fault) = (wanted ≡ Err fault) × (after ≡ before)
 
 -- What an answer says of the bytes that the source gave: where a read failed, where they are too long and where
--- memory ran out, that nothing was written; else that they are all of them, and what the book of that stream
--- says.
+-- memory ran out, which is taken for bytes alone, that nothing was written; else that they are all of them, and what
+-- the book of that stream says.
 abbrev pub AnswersStream : List ℕ → List ℕ → Option (List ℕ) → Option (List ℕ) → Option (List ℕ) →
     Result (Unit {0}) Fault → Type 0
 AnswersStream book given left before after (Err ReadFailed) =
@@ -30,7 +30,7 @@ AnswersStream book given left before after (Err ReadFailed) =
 AnswersStream book given left before after (Err TooLong) =
     (length given ≡ most_bytes + 1) × (after ≡ before)
 AnswersStream book given left before after (Err Memory) =
-    (length given ≤ most_bytes) × (after ≡ before)
+    (0 < length given) × (length given ≤ most_bytes) × (after ≡ before)
 AnswersStream book given left before after answer =
     (length given ≤ most_bytes) × IsAtEnd left
     × AnswersText (book_of_stream book given) before after answer

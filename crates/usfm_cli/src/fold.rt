@@ -28,7 +28,7 @@ use usfm_ref::Book;
 /// - `NoBook` (82) where no operation is of the book.
 /// - `WriteFailed` (90) where the sink answers an error or takes 0 bytes, with the bytes that were written:
 ///   they are the front of the book of that length.
-/// - `Memory` (1) where a growth was refused. Nothing was written.
+/// - `Memory` (1) where a growth was refused. Nothing was written. A source that gives no byte takes none.
 pub fn fold_stream<R: ByteSource, W: ByteSink>(
     alloc: Global,
     source: &mut R,

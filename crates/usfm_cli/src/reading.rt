@@ -40,7 +40,7 @@ impl From<AllocError> for ReadFault {
 /// # Errors
 /// - `ReadFailed` at the first error of the source, of whatever kind. No read is tried again.
 /// - `TooLong` at the first byte after `MOST_BYTES`.
-/// - `Memory` where a growth was refused.
+/// - `Memory` where a growth was refused. A source that gives no byte takes none.
 pub fn read_to_end<R: ByteSource>(alloc: Global, source: &mut R) -> Result<Vec<u8>, ReadFault>
     ensures read { ReadsUpTo most_bytes (R.to_come source.old) (R.to_come source.new)
         (R.reads source.old) (R.reads source.new) result }

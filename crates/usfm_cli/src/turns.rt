@@ -1,5 +1,5 @@
 // Commands in turn on one replica.
-ghost use Rattle.std.specs.Prelude.{◌≡◌, false, Ok, IfOk, IfErr};
+ghost use Rattle.std.specs.Prelude.{◌≡◌, false, [], Ok, Err, IsOk, IfOk, IfErr};
 ghost use Rattle.replica_state.specs.States.{State};
 ghost use Rattle.project_file.specs.Projects.{project_at};
 ghost use Rattle.usfm_cli.specs.Commands as commands;
@@ -108,8 +108,8 @@ impl From<LoadFault> for TurnFault {
 ///   `exec` answers it of the project after those.
 ///
 /// `Memory` (1) where a growth was refused: of a `Turn`, where `exec` may answer it of that command
-/// by itself; of the `Project`, where it is read or written. The project is the bytes that were
-/// given, so that a refusal leaves it as it is.
+/// by itself; of the `Project`, where it is read or written, and of one that holds nothing only where
+/// it is written. The project is the bytes that were given, so that a refusal leaves it as it is.
 pub fn exec_in_turn(
     alloc: Global,
     project: &[u8],
@@ -120,6 +120,10 @@ pub fn exec_in_turn(
     // Which command is refused, and where memory may have ended.
     ensures turn { (s : State) → project_at project.now ≡ Ok s
         → turns.AnswersFile s commands.now result }
+    // Reading a project that holds nothing takes no memory: then it ends in no turn only after all
+    // commands were accepted, where the project is written.
+    ensures memory { result ≡ Err (refusals.Project Memory) → (s : State) → project_at project.now ≡ Ok s
+        → s.held ≡ [] → IsOk (turns.in_turn s commands.now) }
     // A file that is no project is refused for that, whatever memory there is; but for its bundle, where
     // an operation of it is thinned.
     ensures no_project { IfErr (project_at project.now) (λ fault.
@@ -150,6 +154,10 @@ pub fn stand_in_turn(
     // Which command is refused, and where memory may have ended.
     ensures turn { (s : State) → project_at project.now ≡ Ok s
         → turns.AnswersFile s commands.now (turns.first_of result) }
+    // Reading a project that holds nothing takes no memory: then it ends in no turn only after all
+    // commands were accepted, where the project is written and seen.
+    ensures memory { result ≡ Err (refusals.Project Memory) → (s : State) → project_at project.now ≡ Ok s
+        → s.held ≡ [] → IsOk (turns.in_turn s commands.now) }
     // A file that is no project is refused for that, whatever memory there is; but for its bundle, where
     // an operation of it is thinned.
     ensures no_project { IfErr (project_at project.now) (λ fault.
@@ -158,10 +166,10 @@ pub fn stand_in_turn(
     ensures stands { IfOk result (λ made. (s : State) → project_at project.now ≡ Ok s
         → made.1 ≡ project_parts (state_after s commands.now).held) }
 {
-    let mut replica = load(alloc, project)?;
-    let outputs = obey_in_turn(alloc, &mut replica, commands)?;
-    let project = save(alloc, &replica)?;
-    let stands = standing_of(alloc, &replica)?;
+    let mut loaded = load(alloc, project)?;
+    let outputs = obey_in_turn(alloc, &mut loaded, commands)?;
+    let project = save(alloc, &loaded)?;
+    let stands = standing_of(alloc, &loaded)?;
     Ok((Outcomes { project, outputs }, stands))
 }
 

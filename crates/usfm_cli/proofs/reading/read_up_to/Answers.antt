@@ -1,8 +1,12 @@
-use Rattle.std.proofs.Common.{◌++◌, take, arith, length-append, ℕ, List}
+use Rattle.std.proofs.Common.{◌≡◌, ◌<◌, ◌++◌, zero, suc, take, arith, length-append, refl, ℕ, List}
 use Rattle.std.proofs.lemmas.List.{length-take-le, length-take}
 use Rattle.std.proofs.lemmas.Result.{err_from_is_err_and}
 use Rattle.std.proofs.KnownBytes.{Consumes-trans}
 use Rattle.usfm_cli.proofs.reading.read_up_to.Goals as goal
+
+some_count : (count : ℕ) → (count ≡ 0 → ⊥) → 0 < count
+some_count zero none = absurd (none refl)
+some_count (suc count) none = omega arith
 
 pub returns-then-count-limit-clause-read : goal.returns-then-count-limit-clause-read
 returns-then-count-limit-clause-read g c =
@@ -33,6 +37,7 @@ returns-in_err-extend_from_slice-in-Ok-clause-read g c =
       given = bytes ++ piece;
       consumed = Consumes-trans (source.to_come c.args.source.now) (source.to_come c.loop-bytes.source)
           (source.to_come c.read.new.self) bytes piece c.loop-bytes.invariant.given c.in-Ok.ensures.bytes.0;
-      answered = rw (fault.1, fault.2) (omega (arith, len, piece_len, c.loop-bytes.bytes.ok.0, c.if-count-limit.false));
+      answered = rw (fault.1, fault.2) (omega (arith, len, piece_len, some_count c.in-Ok.count c.in-Ok.count-test.1),
+          omega (arith, len, piece_len, c.loop-bytes.bytes.ok.0, c.if-count-limit.false));
       reads = omega (arith, len, piece_len, c.in-Ok.ensures.counted, c.loop-bytes.invariant.reads);
     }

@@ -1,8 +1,11 @@
-use Rattle.std.proofs.Common.{◌≡◌, Global, Ok, sym, ap, ◌∙◌}
+use Rattle.std.proofs.Common.{◌≡◌, Global, Ok, Err, sym, ap, ◌∙◌}
 use Rattle.std.proofs.lemmas.Result.{err_from_is_err_and}
+use Rattle.std.specs.Result.{is_ok}
 use Rattle.replica_state.specs.States.{State}
 use Rattle.usfm_cli.specs.Executing.{state_after}
-use Rattle.usfm_cli.proofs.InTurn.{file_refused, after_steps}
+use Rattle.usfm_cli.specs.Turns.{in_turn}
+use Rattle.usfm_cli.proofs.InTurn.{file_refused, after_steps, in_its_turn}
+use Rattle.usfm_cli.proofs.Loading.{loads_or_wants}
 use Rattle.usfm_cli.proofs.turns.exec_in_turn.Goals as goal
 
 pub returns-in_err-outputs-clause-answer : goal.returns-in_err-outputs-clause-answer
@@ -18,3 +21,20 @@ returns-clause-after c = λ s loads.
     c.in_ok-project.ensures.again
     ∙ ap Ok (sym (after_steps c.args.commands.now c.in_ok-replica.replica _ c.in_ok-outputs.ensures)
     ∙ ap (λ (t : State). state_after t c.args.commands.now) same)
+
+pub returns-in_err-replica-clause-memory : goal.returns-in_err-replica-clause-memory
+returns-in_err-replica-clause-memory c = λ e s loads none.
+    absurd (loads_or_wants c.args.project.now s c.in_err-replica.field-0.0 loads c.in_err-replica.ensures.refused
+    (λ m. c.in_err-replica.ensures.nothing_held s loads none (ap Err m)))
+
+pub returns-in_err-outputs-clause-memory : goal.returns-in_err-outputs-clause-memory
+returns-in_err-outputs-clause-memory c =
+    let from = err_from_is_err_and c.from_residual-in_err-outputs.result c.from_residual-in_err-outputs.ensures.1 in
+    rw (from.1, from.2) (λ e s loads none.
+    absurd (in_its_turn Global Global c.in_ok-replica.replica c.obey_in_turn.new.replica c.args.commands.now
+    c.in_err-outputs.field-0.0 c.in_err-outputs.ensures (cc e)))
+
+pub returns-in_err-project-clause-memory : goal.returns-in_err-project-clause-memory
+returns-in_err-project-clause-memory c = λ e s loads none.
+    let same : c.in_ok-replica.replica ≡ s = cc (sym c.in_ok-replica.ensures.loaded ∙ loads) in
+    ap (λ (t : State). is_ok (in_turn t c.args.commands.now)) (sym same) ∙ ap is_ok c.in_ok-outputs.ensures
