@@ -122,8 +122,9 @@ pub fn exec_in_turn(
         → turns.AnswersFile s commands.now result }
     // Reading a project that holds nothing takes no memory: then it ends in no turn only after all
     // commands were accepted, where the project is written.
-    ensures memory { result ≡ Err (refusals.Project Memory) → (s : State) → project_at project.now ≡ Ok s
-        → s.held ≡ [] → IsOk (turns.in_turn s commands.now) }
+    ensures memory { result ≡ Err (refusals.Project Memory) → (s : State)
+        → project_at project.now ≡ Ok s → s.held ≡ []
+        → IsOk (turns.in_turn s commands.now) }
     // A file that is no project is refused for that, whatever memory there is; but for its bundle, where
     // an operation of it is thinned.
     ensures no_project { IfErr (project_at project.now) (λ fault.
@@ -156,8 +157,9 @@ pub fn stand_in_turn(
         → turns.AnswersFile s commands.now (turns.first_of result) }
     // Reading a project that holds nothing takes no memory: then it ends in no turn only after all
     // commands were accepted, where the project is written and seen.
-    ensures memory { result ≡ Err (refusals.Project Memory) → (s : State) → project_at project.now ≡ Ok s
-        → s.held ≡ [] → IsOk (turns.in_turn s commands.now) }
+    ensures memory { result ≡ Err (refusals.Project Memory) → (s : State)
+        → project_at project.now ≡ Ok s → s.held ≡ []
+        → IsOk (turns.in_turn s commands.now) }
     // A file that is no project is refused for that, whatever memory there is; but for its bundle, where
     // an operation of it is thinned.
     ensures no_project { IfErr (project_at project.now) (λ fault.

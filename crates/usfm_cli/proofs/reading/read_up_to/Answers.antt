@@ -37,7 +37,9 @@ returns-in_err-extend_from_slice-in-Ok-clause-read g c =
       given = bytes ++ piece;
       consumed = Consumes-trans (source.to_come c.args.source.now) (source.to_come c.loop-bytes.source)
           (source.to_come c.read.new.self) bytes piece c.loop-bytes.invariant.given c.in-Ok.ensures.bytes.0;
-      answered = rw (fault.1, fault.2) (omega (arith, len, piece_len, some_count c.in-Ok.count c.in-Ok.count-test.1),
-          omega (arith, len, piece_len, c.loop-bytes.bytes.ok.0, c.if-count-limit.false));
+      answered = rw (fault.1, fault.2) (
+        omega (arith, len, piece_len, some_count c.in-Ok.count c.in-Ok.count-test.1),
+        omega (arith, len, piece_len, c.loop-bytes.bytes.ok.0, c.if-count-limit.false),
+      );
       reads = omega (arith, len, piece_len, c.in-Ok.ensures.counted, c.loop-bytes.invariant.reads);
     }
