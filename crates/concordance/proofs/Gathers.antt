@@ -1,7 +1,6 @@
 -- The leaves that a walk gathers are those of the reading of the tree.
 use Rattle.sty_sheet.specs.declared.kind.StyleKind.TheVariants as kinds
-use Rattle.std.proofs.Common.{◌≡◌, ℕ, zero, suc, ◌+◌, ◌-◌, ◌<◌, ◌≤◌, Bool, true, false, cond, List, [], ◌∷◌, ◌++◌, drop, take, length}
-use Rattle.std.proofs.Common.{reverse, Option, None, Some, refl, sym, ap, ◌∙◌, append_assoc, arith, ⊎_elim, length-drop}
+use Rattle.std.proofs.Common.{◌≡◌, ℕ, zero, suc, ◌+◌, ◌-◌, ◌<◌, ◌≤◌, Bool, true, false, cond, List, [], ◌∷◌, ◌++◌, drop, take, length, reverse, Option, None, Some, refl, sym, ap, ◌∙◌, append_assoc, arith, ⊎_elim, length-drop}
 use Rattle.std.proofs.lemmas.List.{drop_at, take-append-drop, reverse-append, length-reverse, nil_from_length}
 use Rattle.std.proofs.str.Laws.{order}
 use Rattle.std.specs.Borrow.{Bor}
@@ -17,7 +16,7 @@ use Rattle.usfm_tree.specs.declared.step.Entry.TheVariants as entries
 use Rattle.concordance.specs.Loops.Gathered.{root, enclosed, counted, settled, closes_character, behind_milestone, gathered, EventsFit, EntryFits}
 use Rattle.concordance.specs.Passages.{Passage}
 use Rattle.concordance.specs.Plain.{is_nothing, node_end, mark_at_end, number_length}
-use Rattle.concordance.specs.Reading.{Surroundings, inside_of, left_of, with_text, leaves_from, TextsFit}
+use Rattle.concordance.specs.Loops.Reading.{Surroundings, inside_of, left_of, with_text, leaves_from, TextsFit}
 use Rattle.concordance.specs.declared.plain.Enclosure.{Enclosure}
 
 -- ---- the walk is the reading

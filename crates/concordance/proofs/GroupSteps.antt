@@ -21,7 +21,7 @@ use Rattle.indexmap.specs.Layout.{set_value_at}
 use Rattle.usfm_ref.specs.Keys.{KeyParts}
 use Rattle.usfm_ref.specs.Rising.{rises_by}
 use Rattle.concordance.specs.Loops.SpellingOrder.{spelling_cmp}
-use Rattle.concordance.specs.Groups.{Group, told_with, told_by, told, is_bare, has_bare, is_told, AlsoTells}
+use Rattle.concordance.specs.Loops.Groups.{Group, told_with, told_by, told, is_bare, has_bare, is_told, AlsoTells}
 use Rattle.concordance.specs.Words.{Spelling, form_cmp}
 use Rattle.concordance.proofs.OrderLemmas.{form_total}
 

@@ -9,8 +9,8 @@ use Rattle.verse_cut.specs.Pieces.{Part, AreNeighbours, pieces_of, IsCutOf}
 use Rattle.concordance.specs.Hits.{keyed, occurrences, passage_of, hits_of}
 use Rattle.concordance.specs.Passages.{Passage, StandApart}
 use Rattle.concordance.specs.Plain.{plain_leaves}
-use Rattle.concordance.specs.Reading.{begin_of, end_of, are_neighbours, rise_between, hold_all, EndsWithin}
-use Rattle.concordance.specs.Views.{passage_view, passages_view}
+use Rattle.concordance.specs.Loops.Reading.{begin_of, end_of, are_neighbours, rise_between, hold_all, EndsWithin}
+use Rattle.concordance.specs.Loops.LeafViews.{passage_view, passages_view}
 use Rattle.concordance.specs.declared.passage.Passage as passages
 use Rattle.concordance.proofs.Standing.{Apart, apart_within, leaves_apart, stand_apart}
 use Rattle.concordance.proofs.Occurring.{occurrences_apart}

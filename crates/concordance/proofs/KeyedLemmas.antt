@@ -8,8 +8,8 @@ use Rattle.verse_cut.specs.Pieces.{Part}
 use Rattle.verse_cut.specs.Places.{key_at}
 use Rattle.concordance.specs.Hits.{HitParts, keyed}
 use Rattle.concordance.specs.Passages.{Passage}
-use Rattle.concordance.specs.Reading.{begin_of, end_of, are_neighbours, rise_between, hold_all}
-use Rattle.concordance.specs.Views.{passages_view}
+use Rattle.concordance.specs.Loops.Reading.{begin_of, end_of, are_neighbours, rise_between, hold_all}
+use Rattle.concordance.specs.Loops.LeafViews.{passages_view}
 use Rattle.concordance.specs.declared.passage.Passage as passages
 
 le_from : (a b : ℕ) → nat_le a b ≡ true → a ≤ b

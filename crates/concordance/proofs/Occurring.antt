@@ -8,7 +8,7 @@ use Rattle.memchr.specs.Find.{OccursAt, occurs_at, match_len, matches_from}
 use Rattle.memchr.proofs.lemmas.MatchLemmas.{OccursAt-part, OccursAt-split, OccursAt-true}
 use Rattle.concordance.specs.Passages.{Passage}
 use Rattle.concordance.specs.Hits.{occurrences}
-use Rattle.concordance.specs.Views.{passage_view, passages_view}
+use Rattle.concordance.specs.Loops.LeafViews.{passage_view, passages_view}
 use Rattle.concordance.specs.declared.passage.Passage as passages
 use Rattle.concordance.proofs.Standing.{Stands, Apart, apart_from, stands_within}
 

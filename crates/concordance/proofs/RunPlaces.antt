@@ -9,9 +9,9 @@ use Rattle.verse_cut.specs.Pieces.{Part}
 use Rattle.concordance.specs.Hits.{keyed}
 use Rattle.concordance.specs.Passages.{Passage}
 use Rattle.concordance.specs.Plain.{plain_leaves}
-use Rattle.concordance.specs.Reading.{IsText}
+use Rattle.concordance.specs.Loops.Reading.{IsText}
 use Rattle.concordance.specs.Loops.RunReading.{is_like, behind, front_bytes}
-use Rattle.concordance.specs.Groups.{composed}
+use Rattle.concordance.specs.Loops.Groups.{composed}
 use Rattle.concordance.specs.Loops.KeyedViews.{spelled}
 use Rattle.concordance.specs.Words.{is_word_char, runs_behind, runs_in, spelling_at}
 use Rattle.concordance.proofs.Holding.{Filled, filled_each}

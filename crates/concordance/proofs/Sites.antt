@@ -10,7 +10,7 @@ use Rattle.usfm_tree.specs.Places.{Runs}
 use Rattle.usfm_tree.proofs.SpanLemmas.{span_is, bytes_then}
 use Rattle.concordance.specs.Passages.{Passage}
 use Rattle.concordance.specs.Plain.{Site, is_nothing, node_end, mark_at_end, sites_in, is_plain, trimmed}
-use Rattle.concordance.specs.Reading.{inside_of, left_of, counts, leaves_from, TextsFit}
+use Rattle.concordance.specs.Loops.Reading.{inside_of, left_of, counts, leaves_from, TextsFit}
 
 abbrev plain_of : List Record → List Site → List Passage
 plain_of sheet ts = map trimmed (filter (is_plain sheet) ts)

@@ -18,7 +18,7 @@ use Rattle.usfm_tree.proofs.PlaceLemmas.{tree_runs, past, runs_at}
 use Rattle.usfm_tree.proofs.LeavesLemmas.{tree_bytes}
 use Rattle.concordance.specs.Passages.{Passage, StandsIn, StandApart}
 use Rattle.concordance.specs.Plain.{is_nothing, node_end, mark_at_end, is_bar, number_length, verse_length, without_attributes, plain_leaves}
-use Rattle.concordance.specs.Reading.{Surroundings, inside_of, within, left_of, counts, with_text, leaves_from}
+use Rattle.concordance.specs.Loops.Reading.{Surroundings, inside_of, within, left_of, counts, with_text, leaves_from}
 use Rattle.concordance.proofs.Sites.{sites_read, node_bytes}
 
 -- what comes before the passage in the text, and what after it

@@ -1,6 +1,5 @@
 -- Words gathered from spellings, whatever their order and however often one comes.
-use Rattle.std.proofs.Common.{◌≡◌, ℕ, zero, suc, ◌<◌, Bool, true, false, cond, ◌&&◌, ◌||◌, List, [], ◌∷◌, ◌++◌, length, map, filter, take, slice_get}
-use Rattle.std.proofs.Common.{Some, append-nil, append_assoc, refl, sym, ap, ◌∙◌, arith}
+use Rattle.std.proofs.Common.{◌≡◌, ℕ, zero, suc, ◌<◌, Bool, true, false, cond, ◌&&◌, ◌||◌, List, [], ◌∷◌, ◌++◌, length, map, filter, take, slice_get, Some, append-nil, append_assoc, refl, sym, ap, ◌∙◌, arith, false-eqb}
 use Rattle.std.specs.declared.cmp.Ordering.{Ordering}
 use Rattle.std.specs.declared.cmp.Ordering.TheVariants.{Less, Equal, Greater}
 use Rattle.std.specs.Ordering.{is_eq, is_lt}
@@ -15,14 +14,13 @@ use Rattle.std.proofs.lemmas.List.{length-map, map-append}
 use Rattle.std.proofs.lemmas.List.Elements.{filter-append}
 use Rattle.std.proofs.lemmas.List.Folds.{list_all-append, list_any-append}
 use Rattle.std.proofs.lemmas.List.Sorted.{list_any-IsPermutation}
-use Rattle.std.proofs.Common.{false-eqb}
 use Rattle.usfm_ref.specs.Keys.{KeyParts, key_cmp}
 use Rattle.usfm_ref.specs.Rising.{rises_by, with_item, rising}
 use Rattle.usfm_ref.proofs.Members.{same_tested, tested_rising}
 use Rattle.usfm_ref.proofs.Orders.{key_total, key_exact}
 use Rattle.usfm_ref.proofs.Sorted.{rises-rising, is_less}
 use Rattle.concordance.specs.Loops.SpellingOrder.{spelling_cmp}
-use Rattle.concordance.specs.Groups.{Group, told_with, told_by, told, is_bare, has_bare, is_told, AlsoTells, TellsSame, composed, form_at}
+use Rattle.concordance.specs.Loops.Groups.{Group, told_with, told_by, told, is_bare, has_bare, is_told, AlsoTells, TellsSame, composed, form_at}
 use Rattle.concordance.specs.Words.{Spelling, WordParts, form_cmp, form_of, keys_with, word_with, words_in}
 use Rattle.concordance.proofs.OrderLemmas.{form_total, form_exact, spelling_total, spelling_exact}
 

@@ -1,9 +1,7 @@
 pub mod Passages
 pub mod Plain
 pub mod Hits
-pub mod Reading
 pub mod Views
 pub mod Words
-pub mod Groups
 pub mod Laws
 pub mod Loops

@@ -4,3 +4,6 @@ pub mod KeyedViews
 pub mod RunReading
 pub mod FormViews
 pub mod SpellingOrder
+pub mod Groups
+pub mod Reading
+pub mod LeafViews

@@ -8,8 +8,9 @@ ghost use Rattle.std.specs.Str.{IsCharBoundary, IsUtf8};
 ghost use Rattle.sty_sheet.specs.Views.{records_of};
 ghost use Rattle.concordance.specs.Hits as spec;
 ghost use Rattle.concordance.specs.Passages.{StandApart};
-ghost use Rattle.concordance.specs.Reading.{EndsWithin};
-ghost use Rattle.concordance.specs.Views.{passage_view, passages_view, hits_view};
+ghost use Rattle.concordance.specs.Loops.Reading.{EndsWithin};
+ghost use Rattle.concordance.specs.Loops.LeafViews.{passage_view, passages_view};
+ghost use Rattle.concordance.specs.Views.{hits_view};
 ghost use Rattle.concordance.specs.declared.fault.FindFault.TheVariants.{EmptyNeedle, Memory};
 
 use crate::fault::FindFault;

@@ -3,8 +3,8 @@
 ghost use Rattle.std.specs.Prelude.{◌≡◌, map, IsTrue};
 ghost use Rattle.verse_cut.specs.Views.{parts_of};
 ghost use Rattle.concordance.specs.Hits.{keyed};
-ghost use Rattle.concordance.specs.Reading.{hold_all};
-ghost use Rattle.concordance.specs.Views.{passages_view, pieces_left};
+ghost use Rattle.concordance.specs.Loops.Reading.{hold_all};
+ghost use Rattle.concordance.specs.Loops.LeafViews.{passages_view, pieces_left};
 
 use crate::hit::Hit;
 use crate::passage::Passage;

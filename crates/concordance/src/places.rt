@@ -2,8 +2,8 @@
 
 ghost use Rattle.std.specs.Prelude.{◌≡◌, ℕ, ◌<◌, ◌≤◌, IsTrue};
 ghost use Rattle.verse_cut.specs.Places.{key_at};
-ghost use Rattle.concordance.specs.Reading.{are_neighbours, begin_of, end_of};
-ghost use Rattle.concordance.specs.Views.{pieces_left};
+ghost use Rattle.concordance.specs.Loops.Reading.{are_neighbours, begin_of, end_of};
+ghost use Rattle.concordance.specs.Loops.LeafViews.{pieces_left};
 ghost use Rattle.verse_cut.specs.Views.{parts_of};
 
 use usfm_ref::Key;

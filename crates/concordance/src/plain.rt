@@ -15,8 +15,8 @@ ghost use Rattle.usfm_tree.specs.StepViews.{IsStyled, entry_before, step_before}
 ghost use Rattle.concordance.specs.Loops.Gathered as gathered;
 ghost use Rattle.concordance.specs.Loops.Gathered.{EntryFits, innermost, settled};
 ghost use Rattle.concordance.specs.Plain as plain;
-ghost use Rattle.concordance.specs.Views.{passage_view, passages_view, mark_behind, waiting_of};
-ghost use Rattle.concordance.specs.Views.{enclosures, leaves_with};
+ghost use Rattle.concordance.specs.Loops.LeafViews.{passage_view, passages_view, mark_behind, waiting_of};
+ghost use Rattle.concordance.specs.Loops.LeafViews.{enclosures, leaves_with};
 
 use crate::passage::Passage;
 use memchr::memchr;

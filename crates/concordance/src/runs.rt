@@ -2,9 +2,9 @@
 
 ghost use Rattle.std.specs.Prelude.{◌≡◌, ◌<◌, ◌+◌, ◌^◌, ◌++◌, length, chars, IsUtf8, OnOk, IfOk};
 ghost use Rattle.std.specs.List.{flat_map, All};
-ghost use Rattle.concordance.specs.Reading.{EndsWithin, IsText};
+ghost use Rattle.concordance.specs.Loops.Reading.{EndsWithin, IsText};
 ghost use Rattle.concordance.specs.Loops.RunReading.{behind, front_bytes};
-ghost use Rattle.concordance.specs.Views.{passage_view, passages_view};
+ghost use Rattle.concordance.specs.Loops.LeafViews.{passage_view, passages_view};
 ghost use Rattle.concordance.specs.Words as words;
 
 use crate::passage::Passage;

@@ -19,8 +19,8 @@ use Rattle.verse_cut.specs.Places.{key_at}
 use Rattle.segment_check.specs.TreeConditions.{unknown_marker, stray_close, unclosed_char, unclosed_note, too_deep, not_under}
 use Rattle.segment_check.specs.Findings.{all_codes, stands_at, holds_of, found_at, spots_of, findings}
 use Rattle.segment_check.specs.Laws.{FindingsAreRead}
-use Rattle.segment_check.specs.Reading.{State, key_then, told_first, told_rest, untold, held_at, behind, holds_in, findings_with, found_from, found_in, start_state}
-use Rattle.segment_check.specs.TreeViews.{told_of, told_in}
+use Rattle.segment_check.specs.Reading.{State, key_then, told_first, told_rest, untold, held_at, behind, holds_in, findings_with, found_from, found_in, start_state, told_of}
+use Rattle.segment_check.specs.Loops.TreeViews.{told_in}
 use Rattle.segment_check.specs.declared.code.Code.{Code}
 use Rattle.segment_check.specs.declared.code.Code.TheVariants as code
 use Rattle.segment_check.specs.declared.finding.Finding.{Finding}

@@ -17,8 +17,7 @@ use Rattle.usfm_tree.proofs.LeavesLemmas.{tree_leaves}
 use Rattle.usfm_tree.proofs.PlaceLemmas.{tree_runs}
 use Rattle.segment_check.specs.Spots.{Spot, spots}
 use Rattle.segment_check.specs.Findings.{stands_at, spots_of}
-use Rattle.segment_check.specs.Reading.{told_first, told_rest, untold}
-use Rattle.segment_check.specs.TreeViews.{told_of}
+use Rattle.segment_check.specs.Reading.{told_first, told_rest, untold, told_of}
 use Rattle.segment_check.specs.declared.told.Told.{Told}
 
 -- marks of a tree are there, each once and in order, at leaves from a place on

@@ -20,7 +20,8 @@ use Rattle.usfm_tree.proofs.ReadingLemmas.{then-assoc}
 use Rattle.usfm_tree.proofs.SpanLemmas.{leaves_then}
 use Rattle.segment_check.specs.Spots.{Spot, spots}
 use Rattle.segment_check.specs.TreeConditions.{holds_characters, allow, begins_node, is_restricted_kind, forbids, under_words}
-use Rattle.segment_check.specs.TreeViews.{Tells, told_of, told_in, Surroundings, surroundings_of, entering, allowing, told_by, kind_here}
+use Rattle.segment_check.specs.Reading.{told_of}
+use Rattle.segment_check.specs.Loops.TreeViews.{Tells, told_in, Surroundings, surroundings_of, entering, allowing, told_by, kind_here}
 use Rattle.segment_check.specs.declared.told.Told.{Told}
 
 -- ---- what nodes around decide

@@ -7,7 +7,7 @@ use Rattle.usfm_token.specs.declared.token.Token.{Token}
 use Rattle.usfm_token.proofs.Walk.{token_front}
 use Rattle.verse_cut.specs.Keys.{text_after}
 use Rattle.verse_cut.specs.Loops.Walks.{IsFirst}
-use Rattle.segment_check.specs.WalkViews.{before}
+use Rattle.segment_check.specs.Loops.WalkViews.{before}
 use Rattle.segment_check.specs.Reading.{State, behind, held_at, findings_with, found_from, found_in, start_state}
 use Rattle.segment_check.specs.declared.finding.Finding.{Finding}
 use Rattle.segment_check.specs.declared.told.Told.{Told}

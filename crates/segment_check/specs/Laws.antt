@@ -7,8 +7,7 @@ use Rattle.segment_check.specs.TreeConditions.{may_begin}
 use Rattle.sty_sheet.specs.Records.{Record}
 use Rattle.segment_check.specs.Spots.{Spot}
 use Rattle.segment_check.specs.Findings.{findings, spots_of}
-use Rattle.segment_check.specs.Reading.{found_in}
-use Rattle.segment_check.specs.TreeViews.{told_of}
+use Rattle.segment_check.specs.Reading.{found_in, told_of}
 use Rattle.segment_check.specs.declared.code.Code.{Code}
 use Rattle.segment_check.specs.declared.code.Code.TheVariants as code
 

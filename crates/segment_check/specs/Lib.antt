@@ -3,9 +3,8 @@ pub mod Scenes
 pub mod TreeConditions
 pub mod NumberConditions
 pub mod Findings
-pub mod TreeViews
 pub mod Reading
 pub mod Numbers
-pub mod WalkViews
 pub mod Laws
 pub mod Codes
+pub mod Loops

@@ -3,9 +3,12 @@ use Rattle.std.specs.Prelude.{ℕ, ◌+◌, ◌==◌, nat_lt, nat_le, Bool, true
 use Rattle.std.specs.Option.{is_some, option_map_or}
 use Rattle.usfm_ref.specs.Keys.{KeyParts, book_head}
 use Rattle.usfm_ref.specs.declared.number.VerseMark.{VerseMark}
+use Rattle.sty_sheet.specs.Records.{Record}
 use Rattle.usfm_token.specs.Tokens.{MarkParts, Lexeme, mark, words, mark_bytes, tokens_of}
 use Rattle.verse_cut.specs.Keys.{key_below, text_after}
 use Rattle.segment_check.specs.Scenes.{verse_behind}
+use Rattle.segment_check.specs.Spots.{Spot}
+use Rattle.segment_check.specs.TreeConditions.{unknown_marker, stray_close, unclosed_char, unclosed_note, too_deep, not_under}
 use Rattle.segment_check.specs.NumberConditions.{lacks_number, has_bad_bridge, reaches}
 use Rattle.segment_check.specs.Numbers.{chapter_behind, key_by}
 use Rattle.segment_check.specs.Findings.{all_codes}
@@ -14,6 +17,18 @@ use Rattle.segment_check.specs.declared.code.Code.TheVariants as code
 use Rattle.segment_check.specs.declared.finding.Finding.{Finding}
 use Rattle.segment_check.specs.declared.marks.Held.{Held}
 use Rattle.segment_check.specs.declared.told.Told.{Told}
+
+-- which of the conditions of the tree hold of a mark
+abbrev pub told_of : List Record → Spot → Told
+told_of sheet spot = record {
+  start = spot.start;
+  unknown_marker = unknown_marker sheet spot;
+  stray_close = stray_close spot;
+  unclosed_char = unclosed_char spot;
+  unclosed_note = unclosed_note spot;
+  too_deep = too_deep sheet spot;
+  not_under = not_under sheet spot;
+}
 
 -- the last verse of a bridge, with its letter
 abbrev pub Last : Type 0

@@ -18,8 +18,8 @@ pub(crate) struct Inside<'a> {
 
 impl<'a> Inside<'a> {
     ghost use Rattle.std.specs.Prelude.{[]};
-    ghost use Rattle.segment_check.specs.TreeViews.{allowed_names, allowing, entering};
-    ghost use Rattle.segment_check.specs.TreeViews.{inside_view, surroundings_of};
+    ghost use Rattle.segment_check.specs.Loops.TreeViews.{allowed_names, allowing, entering};
+    ghost use Rattle.segment_check.specs.Loops.TreeViews.{inside_view, surroundings_of};
 
     // Under the root, where 64 nodes may be one in the other.
     pub(crate) fn root() -> Self

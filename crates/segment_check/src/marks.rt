@@ -55,7 +55,7 @@ fn untold(start: usize) -> Told
 
 impl Walk<'_> {
     ghost use Rattle.segment_check.specs.Reading.{behind, found_with, held_at, told_first, told_rest};
-    ghost use Rattle.segment_check.specs.WalkViews.{state_of};
+    ghost use Rattle.segment_check.specs.Loops.WalkViews.{state_of};
 
     // Takes what the tree says of the mark that begins here.
     fn take_told(&mut self, start: usize) -> Told

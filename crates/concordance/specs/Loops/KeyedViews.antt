@@ -1,7 +1,7 @@
 -- What an iterator over passages with their keys has left.
 use Rattle.std.specs.Prelude.{List, map}
 use Rattle.concordance.specs.Hits.{HitParts, keyed}
-use Rattle.concordance.specs.Views.{passages_view, pieces_left}
+use Rattle.concordance.specs.Loops.LeafViews.{passages_view, pieces_left}
 use Rattle.concordance.specs.Words.{Spelling}
 use Rattle.concordance.specs.declared.keyed.Keyed.{Keyed}
 

@@ -8,8 +8,9 @@ use Rattle.verse_cut.specs.Views.{parts_of}
 use Rattle.concordance.specs.Hits.{keyed, occurrences, hits_of}
 use Rattle.concordance.specs.Loops.KeyedViews.{hits_left}
 use Rattle.concordance.specs.Plain.{plain_leaves}
-use Rattle.concordance.specs.Reading.{EndsWithin, hold_all}
-use Rattle.concordance.specs.Views.{passages_view, hit_view}
+use Rattle.concordance.specs.Loops.Reading.{EndsWithin, hold_all}
+use Rattle.concordance.specs.Loops.LeafViews.{passages_view}
+use Rattle.concordance.specs.Views.{hit_view}
 use Rattle.concordance.proofs.Holding.{all_fit, pieces_hold, found_apart, found_filled}
 use Rattle.concordance.proofs.Absent.{no_hits}
 use Rattle.concordance.proofs.Standing.{leaves_apart}

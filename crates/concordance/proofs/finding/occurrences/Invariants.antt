@@ -1,7 +1,7 @@
 use Rattle.std.proofs.Common.{◌≡◌, take}
 use Rattle.std.specs.List.{flat_map}
 use Rattle.concordance.specs.Hits.{occurrences}
-use Rattle.concordance.specs.Views.{passages_view}
+use Rattle.concordance.specs.Loops.LeafViews.{passages_view}
 use Rattle.concordance.proofs.finding.occurrences.Given as goal
 
 abbrev pub invariant-loop-passage : goal.invariant-loop-passage

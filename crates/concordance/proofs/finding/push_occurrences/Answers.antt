@@ -3,7 +3,7 @@ use Rattle.std.specs.Str.{IsCharBoundary}
 use Rattle.memchr.specs.Find.{OccursAt, matches}
 use Rattle.memchr.proofs.lemmas.CallerLemmas.{All-matches}
 use Rattle.concordance.specs.Passages.{Passage}
-use Rattle.concordance.specs.Views.{passages_view}
+use Rattle.concordance.specs.Loops.LeafViews.{passages_view}
 use Rattle.concordance.proofs.Occurring.{boundary_before, boundary_behind, one_more, head_occurs, tail_occurs}
 use Rattle.concordance.proofs.finding.push_occurrences.Goals as goal
 

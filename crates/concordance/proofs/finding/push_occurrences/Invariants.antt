@@ -1,7 +1,7 @@
 use Rattle.std.proofs.Common.{◌≡◌, ◌++◌, All, map, ◌+◌}
 use Rattle.memchr.specs.Find.{OccursAt}
 use Rattle.concordance.specs.Hits.{occurrences}
-use Rattle.concordance.specs.Views.{passage_view, passages_view}
+use Rattle.concordance.specs.Loops.LeafViews.{passage_view, passages_view}
 use Rattle.concordance.proofs.finding.push_occurrences.Given as goal
 
 abbrev pub invariant-loop-at : goal.invariant-loop-at

@@ -2,7 +2,7 @@ use Rattle.std.proofs.Common.{◌≡◌, ◌<◌, ◌∙◌, [], ◌∷◌, suc,
 use Rattle.std.proofs.lemmas.Bool.{false≢true}
 use Rattle.std.proofs.lemmas.List.{length-map}
 use Rattle.concordance.specs.Loops.FormViews.{form_bytes}
-use Rattle.concordance.specs.Groups.{Group, told, told_with, has_bare, is_told, composed, form_at, AlsoTells}
+use Rattle.concordance.specs.Loops.Groups.{Group, told, told_with, has_bare, is_told, composed, form_at, AlsoTells}
 use Rattle.concordance.specs.declared.form.Form.{Form}
 use Rattle.concordance.proofs.GroupSteps.{group_keyed}
 use Rattle.concordance.proofs.WordLists.{composed_at, same_more}

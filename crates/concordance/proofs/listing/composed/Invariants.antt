@@ -1,5 +1,5 @@
 use Rattle.std.proofs.Common.{◌≡◌, false, map, take}
-use Rattle.concordance.specs.Groups.{told, has_bare, composed, TellsSame}
+use Rattle.concordance.specs.Loops.Groups.{told, has_bare, composed, TellsSame}
 use Rattle.concordance.proofs.listing.composed.Given as goal
 
 abbrev pub invariant-loop-index : goal.invariant-loop-index

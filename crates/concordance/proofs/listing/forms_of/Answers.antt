@@ -2,7 +2,7 @@ use Rattle.std.proofs.Common.{◌<◌, ◌∙◌, ◌++◌, ◌∷◌, [], ap, s
 use Rattle.std.proofs.lemmas.Bool.{false≢true}
 use Rattle.std.proofs.lemmas.List.{map-append}
 use Rattle.concordance.specs.Loops.FormViews.{form_bytes, forms_view}
-use Rattle.concordance.specs.Groups.{form_at}
+use Rattle.concordance.specs.Loops.Groups.{form_at}
 use Rattle.concordance.proofs.GroupSteps.{map_at}
 use Rattle.concordance.proofs.listing.forms_of.Goals.{in-Some+in_ok-of+in_ok-push, in_default}
 use Rattle.concordance.proofs.listing.forms_of.Goals as goal

@@ -1,6 +1,6 @@
 use Rattle.std.proofs.Common.{◌≡◌, map, take}
 use Rattle.concordance.specs.Loops.FormViews.{forms_view}
-use Rattle.concordance.specs.Groups.{form_at}
+use Rattle.concordance.specs.Loops.Groups.{form_at}
 use Rattle.concordance.proofs.listing.forms_of.Given as goal
 
 abbrev pub invariant-loop-index : goal.invariant-loop-index

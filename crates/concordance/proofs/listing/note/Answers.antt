@@ -1,7 +1,7 @@
 use Rattle.std.proofs.Common.{◌≡◌, ◌∙◌, ◌++◌, ◌∷◌, [], ap, sym, subst, refl, false, Option, None, Some, is_some, List}
 use Rattle.std.proofs.lemmas.Bool.{false≢true}
 use Rattle.indexmap.proofs.CallerLemmas.{insert_entry-new}
-use Rattle.concordance.specs.Groups.{Group, told, told_with, has_bare, AlsoTells}
+use Rattle.concordance.specs.Loops.Groups.{Group, told, told_with, has_bare, AlsoTells}
 use Rattle.concordance.proofs.GroupSteps.{put_told, new_told, put_keyed, new_keyed, text_eq}
 use Rattle.concordance.proofs.listing.note.Goals as goal
 

@@ -1,6 +1,6 @@
 use Rattle.std.proofs.Common.{◌≡◌, false, map}
 use Rattle.std.specs.Prelude.{◌||◌}
-use Rattle.concordance.specs.Groups.{told, has_bare, is_told}
+use Rattle.concordance.specs.Loops.Groups.{told, has_bare, is_told}
 use Rattle.concordance.specs.Loops.KeyedViews.{hits_left, spelled}
 use Rattle.concordance.specs.Words.{Spelling}
 use Rattle.concordance.proofs.listing.noted.Given as goal

@@ -4,11 +4,11 @@ use Rattle.std.specs.Prelude.{IfOk}
 use Rattle.sty_sheet.specs.Views.{records_of}
 use Rattle.verse_cut.specs.Pieces.{pieces_of}
 use Rattle.verse_cut.specs.Views.{parts_of}
-use Rattle.concordance.specs.Groups.{told, composed}
+use Rattle.concordance.specs.Loops.Groups.{told, composed}
 use Rattle.concordance.specs.Loops.KeyedViews.{hits_left, spelled}
 use Rattle.concordance.specs.Plain.{plain_leaves}
-use Rattle.concordance.specs.Reading.{EndsWithin, IsText, hold_all}
-use Rattle.concordance.specs.Views.{passages_view}
+use Rattle.concordance.specs.Loops.Reading.{EndsWithin, IsText, hold_all}
+use Rattle.concordance.specs.Loops.LeafViews.{passages_view}
 use Rattle.concordance.specs.Words.{WordParts, runs_in, spelling_at, words_in, words_of}
 use Rattle.concordance.proofs.Holding.{all_fit, pieces_hold}
 use Rattle.concordance.proofs.RunPlaces.{all_runs_apart, all_runs_filled, runs_spelled}

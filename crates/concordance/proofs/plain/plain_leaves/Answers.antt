@@ -12,7 +12,7 @@ use Rattle.usfm_tree.proofs.LeavesLemmas.{tree_bytes}
 use Rattle.usfm_tree.proofs.PlaceLemmas.{tree_runs}
 use Rattle.concordance.specs.Loops.Gathered.{gathered, EventsFit}
 use Rattle.concordance.specs.Plain.{plain_leaves}
-use Rattle.concordance.specs.Views.{passages_view, mark_behind, waiting_of, enclosures, leaves_with}
+use Rattle.concordance.specs.Loops.LeafViews.{passages_view, mark_behind, waiting_of, enclosures, leaves_with}
 use Rattle.concordance.proofs.Gathers.{whole, all_end, events_fit, fit_after_ends, entry_fits, fit_after, step_shorter}
 use Rattle.concordance.proofs.Sites.{sites_read, texts_fit}
 use Rattle.concordance.proofs.plain.plain_leaves.Goals.{In-Some}

@@ -4,8 +4,8 @@ use Rattle.usfm_tree.specs.Reading.{tree_of}
 use Rattle.usfm_tree.specs.SheetViews.{styles_of}
 use Rattle.usfm_tree.specs.WalkViews.{events_ahead, records_by}
 use Rattle.concordance.specs.Loops.Gathered.{EventsFit}
-use Rattle.concordance.specs.Reading.{inside_of, leaves_from}
-use Rattle.concordance.specs.Views.{leaves_with}
+use Rattle.concordance.specs.Loops.Reading.{inside_of, leaves_from}
+use Rattle.concordance.specs.Loops.LeafViews.{leaves_with}
 use Rattle.concordance.proofs.plain.plain_leaves.Given as goal
 
 abbrev pub invariant-loop-walk : goal.invariant-loop-walk

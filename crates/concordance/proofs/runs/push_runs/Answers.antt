@@ -4,7 +4,7 @@ use Rattle.usfm_token.proofs.Walk.{boundary_at_rest}
 use Rattle.concordance.specs.Passages.{Passage}
 use Rattle.concordance.specs.Loops.RunReading.{front_bytes}
 use Rattle.concordance.specs.Words.{runs_behind}
-use Rattle.concordance.specs.Views.{passage_view, passages_view}
+use Rattle.concordance.specs.Loops.LeafViews.{passage_view, passages_view}
 use Rattle.concordance.proofs.RunLemmas.{no_more, run_some, chars_some, next_run}
 use Rattle.concordance.proofs.runs.push_runs.Goals as goal
 

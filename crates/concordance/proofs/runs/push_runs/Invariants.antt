@@ -1,7 +1,7 @@
 use Rattle.std.proofs.Common.{◌≡◌, ◌++◌, ◌+◌, ◌-◌, ◌≤◌, false, length, chars, IsUtf8}
 use denote.Text.{Utf8}
 use denote.Shadow.{shadow}
-use Rattle.concordance.specs.Views.{passage_view, passages_view}
+use Rattle.concordance.specs.Loops.LeafViews.{passage_view, passages_view}
 use Rattle.concordance.specs.Words.{runs_behind, runs_in}
 use Rattle.concordance.proofs.runs.push_runs.Given as goal
 

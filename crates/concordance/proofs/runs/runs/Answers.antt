@@ -4,8 +4,8 @@ use Rattle.std.proofs.lemmas.Grind.{flat_map-append}
 use Rattle.std.proofs.lemmas.List.{map-append, take_more, take_all}
 use Rattle.std.proofs.lemmas.List.Elements.{All-append, All-cons, All-nil}
 use Rattle.concordance.specs.Passages as spec
-use Rattle.concordance.specs.Reading.{IsText}
-use Rattle.concordance.specs.Views.{passage_view, passages_view}
+use Rattle.concordance.specs.Loops.Reading.{IsText}
+use Rattle.concordance.specs.Loops.LeafViews.{passage_view, passages_view}
 use Rattle.concordance.specs.Words.{runs_in}
 use Rattle.concordance.specs.declared.passage.Passage.{Passage}
 use Rattle.concordance.proofs.Holding.{fits_at}

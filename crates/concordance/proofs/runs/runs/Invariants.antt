@@ -1,7 +1,7 @@
 use Rattle.std.proofs.Common.{◌≡◌, All, take}
 use Rattle.std.specs.List.{flat_map}
-use Rattle.concordance.specs.Reading.{IsText}
-use Rattle.concordance.specs.Views.{passages_view}
+use Rattle.concordance.specs.Loops.Reading.{IsText}
+use Rattle.concordance.specs.Loops.LeafViews.{passages_view}
 use Rattle.concordance.specs.Words.{runs_in}
 use Rattle.concordance.proofs.runs.runs.Given as goal
 

@@ -1,7 +1,7 @@
 use Rattle.std.proofs.Common.{◌≡◌, ◌∙◌, ◌∷◌, ◌-◌, ap, sym, length}
 use Rattle.usfm_token.specs.Tokens.{mark, words, tokens_of}
 use Rattle.usfm_token.specs.View.{lexeme, mark_parts, rest_of}
-use Rattle.segment_check.specs.WalkViews.{before, state_of}
+use Rattle.segment_check.specs.Loops.WalkViews.{before, state_of}
 use Rattle.segment_check.proofs.WalkLemmas.{next_place, still_within, ahead_is, first_is, mark_step, text_step, end_step, found_in-from}
 use Rattle.segment_check.proofs.marks.find_marks.Goals as goal
 use Rattle.segment_check.proofs.marks.find_marks.Goals.{After-next-next-in-Some}

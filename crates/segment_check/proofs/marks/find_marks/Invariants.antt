@@ -2,7 +2,7 @@ use Rattle.std.proofs.Common.{◌≡◌, ◌++◌, ◌-◌, ◌≤◌, length}
 use Rattle.usfm_token.specs.Tokens.{tokens_of}
 use Rattle.usfm_token.specs.View.{rest_of}
 use Rattle.segment_check.specs.Reading.{found_from, start_state}
-use Rattle.segment_check.specs.WalkViews.{before, state_of}
+use Rattle.segment_check.specs.Loops.WalkViews.{before, state_of}
 use Rattle.segment_check.proofs.marks.find_marks.Given as goal
 
 abbrev pub invariant-loop-next : goal.invariant-loop-next

@@ -5,7 +5,7 @@ use Rattle.usfm_token.specs.View.{mark_parts}
 use Rattle.usfm_tree.specs.Around.{Around}
 use Rattle.usfm_tree.specs.Forest.{kids_of, close_of}
 use Rattle.usfm_tree.specs.Views.{view, forest_of}
-use Rattle.segment_check.specs.TreeViews.{inside_view, surroundings_of}
+use Rattle.segment_check.specs.Loops.TreeViews.{inside_view, surroundings_of}
 use Rattle.segment_check.specs.declared.told.Told.{Told}
 use Rattle.segment_check.proofs.TreeLemmas.{told_left, size_left, advance, closed_is, inner_told, told_first, told_more, told_within}
 use Rattle.segment_check.proofs.tree.+tell_nodes.Goals as goal

@@ -2,7 +2,7 @@ use Rattle.std.proofs.Common.{◌≡◌, ◌++◌, ◌≤◌, List, drop}
 use Rattle.sty_sheet.specs.Views.{records_of}
 use Rattle.usfm_tree.specs.Around.{Around}
 use Rattle.usfm_tree.specs.Views.{forest_of}
-use Rattle.segment_check.specs.TreeViews.{inside_view, surroundings_of, told_in}
+use Rattle.segment_check.specs.Loops.TreeViews.{inside_view, surroundings_of, told_in}
 use Rattle.segment_check.proofs.TreeLemmas.{size_of}
 use Rattle.segment_check.proofs.tree.+tell_nodes.Given as goal
 

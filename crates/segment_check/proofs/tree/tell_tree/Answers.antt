@@ -6,7 +6,7 @@ use Rattle.usfm_tree.specs.Reading.{tree_of}
 use Rattle.usfm_tree.specs.SheetViews.{styles_of}
 use Rattle.usfm_tree.specs.Views.{forest_of}
 use Rattle.usfm_tree.specs.declared.node.Node.{Node}
-use Rattle.segment_check.specs.TreeViews.{Tells, inside_view, told_under}
+use Rattle.segment_check.specs.Loops.TreeViews.{Tells, inside_view, told_under}
 use Rattle.segment_check.proofs.TreeLemmas.{less_left, tells_on}
 use Rattle.segment_check.proofs.tree.tell_tree.Goals as goal
 

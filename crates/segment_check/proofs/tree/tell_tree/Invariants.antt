@@ -3,7 +3,7 @@ use Rattle.sty_sheet.specs.Views.{records_of}
 use Rattle.usfm_tree.specs.Ahead.{forest_ahead}
 use Rattle.usfm_tree.specs.Reading.{tree_of}
 use Rattle.usfm_tree.specs.SheetViews.{styles_of}
-use Rattle.segment_check.specs.TreeViews.{told_in, told_under}
+use Rattle.segment_check.specs.Loops.TreeViews.{told_in, told_under}
 use Rattle.segment_check.proofs.TreeLemmas.{size_of}
 use Rattle.segment_check.proofs.tree.tell_tree.Given as goal
 

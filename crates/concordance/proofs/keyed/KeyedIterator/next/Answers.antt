@@ -1,6 +1,6 @@
 use Rattle.std.proofs.Common.{length, ◌∙◌, ap, map, drop, ◌∷◌, ◌-◌, List, sym, take_all, length-drop, arith}
 use Rattle.concordance.specs.Hits.{HitParts, keyed}
-use Rattle.concordance.specs.Views.{passages_view, pieces_left}
+use Rattle.concordance.specs.Loops.LeafViews.{passages_view, pieces_left}
 use Rattle.concordance.proofs.KeyedLemmas.{keyed_step}
 use Rattle.concordance.specs.declared.passage.Passage.{Passage}
 use Rattle.concordance.proofs.keyed.KeyedIterator.next.Goals as goal

@@ -1,7 +1,7 @@
 use Rattle.std.proofs.Common.{◌≡◌, ℕ, ◌≤◌, IsTrue, length}
 use Rattle.verse_cut.specs.Places.{key_at}
-use Rattle.concordance.specs.Reading.{are_neighbours, begin_of, end_of}
-use Rattle.concordance.specs.Views.{pieces_left}
+use Rattle.concordance.specs.Loops.Reading.{are_neighbours, begin_of, end_of}
+use Rattle.concordance.specs.Loops.LeafViews.{pieces_left}
 use Rattle.concordance.proofs.places.Places.key_at.Given as goal
 
 abbrev pub invariant-loop-self : goal.invariant-loop-self

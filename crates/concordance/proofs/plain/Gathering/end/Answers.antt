@@ -1,6 +1,6 @@
 use Rattle.std.proofs.Common.{◌≡◌, ◌-◌, ◌∙◌, ◌++◌, false, None, ap, sym, drop, reverse, take, length, arith}
 use Rattle.concordance.specs.Loops.Gathered.{gathered}
-use Rattle.concordance.specs.Views.{passages_view, mark_behind, waiting_of, enclosures}
+use Rattle.concordance.specs.Loops.LeafViews.{passages_view, mark_behind, waiting_of, enclosures}
 use Rattle.concordance.proofs.Gathers.{some_end, leaves_after, reverse_take}
 use Rattle.concordance.proofs.plain.Gathering.end.Goals as goal
 

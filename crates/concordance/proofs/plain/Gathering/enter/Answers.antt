@@ -4,7 +4,7 @@ use Rattle.std.specs.Option.{option_map}
 use Rattle.usfm_token.specs.View.{mark_parts}
 use Rattle.usfm_tree.specs.StepViews.{IsStyled, entry_before}
 use Rattle.concordance.specs.Loops.Gathered.{attributes_may_end, enclosed, gathered, innermost}
-use Rattle.concordance.specs.Views.{passages_view, mark_behind, waiting_of, enclosures, leaves_with}
+use Rattle.concordance.specs.Loops.LeafViews.{passages_view, mark_behind, waiting_of, enclosures, leaves_with}
 use Rattle.concordance.proofs.Gathers.{leaves_after, milestone_taken}
 use Rattle.concordance.proofs.plain.Gathering.enter.Goals as goal
 

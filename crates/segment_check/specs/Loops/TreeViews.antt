@@ -9,23 +9,12 @@ use Rattle.usfm_token.specs.Tokens.{MarkParts}
 use Rattle.usfm_tree.specs.Around.{Around}
 use Rattle.usfm_tree.specs.Forest.{Forest, nothing, text, leaf, node}
 use Rattle.usfm_tree.specs.Reading.{is_character_kind, is_note_kind}
-use Rattle.segment_check.specs.Spots.{Spot, spots}
+use Rattle.segment_check.specs.Spots.{spots}
 use Rattle.segment_check.specs.TreeConditions.{is_note, is_paragraph, holds_characters, unknown_marker, stray_close, unclosed_char, unclosed_note, may_begin, too_deep, under_words, forbids, is_restricted_kind, not_under}
+use Rattle.segment_check.specs.Reading.{told_of}
 use Rattle.segment_check.specs.declared.inside.Allowed.{Allowed}
 use Rattle.segment_check.specs.declared.inside.Inside.{Inside}
 use Rattle.segment_check.specs.declared.told.Told.{Told}
-
--- which of the conditions of the tree hold of a mark
-abbrev pub told_of : List Record → Spot → Told
-told_of sheet spot = record {
-  start = spot.start;
-  unknown_marker = unknown_marker sheet spot;
-  stray_close = stray_close spot;
-  unclosed_char = unclosed_char spot;
-  unclosed_note = unclosed_note spot;
-  too_deep = too_deep sheet spot;
-  not_under = not_under sheet spot;
-}
 
 -- what holds of each mark of entries within these nodes
 abbrev pub told_in : List Record → List Around → Forest → List Told
