@@ -18,6 +18,7 @@ pub found_somewhere : (s needle : List ℕ) (r : Option ℕ) → FindsNeedle s n
 found_somewhere s needle None h e none = absurd (true≢false (sym e))
 found_somewhere s needle (Some k) h e none = let l = ap length (sym none ∙ matches-first s needle 0 k h.0 h.1) in absurd (omega arith)
 
+-- where a search finds nothing, the needle occurs nowhere
 pub found_nowhere : (s needle : List ℕ) (r : Option ℕ) → FindsNeedle s needle 0 r → is_some r ≡ false
     → Nowhere (OccursAt s needle) 0 (length s + 1)
 found_nowhere s needle None h e = h

@@ -1,7 +1,10 @@
 -- The leaves that a walk gathers are those of the reading of the tree.
 use Rattle.sty_sheet.specs.declared.kind.StyleKind.TheVariants as kinds
-use Rattle.std.proofs.Common.{◌≡◌, ℕ, zero, suc, ◌+◌, ◌-◌, ◌<◌, ◌≤◌, Bool, true, false, cond, List, [], ◌∷◌, ◌++◌, drop, take, length, reverse, Option, None, Some, refl, sym, ap, ◌∙◌, append_assoc, arith, ⊎_elim, length-drop}
-use Rattle.std.proofs.lemmas.List.{drop_at, take-append-drop, reverse-append, length-reverse, nil_from_length}
+use Rattle.std.proofs.Common.{◌≡◌, ℕ, zero, suc, ◌+◌, ◌-◌, ◌<◌, ◌≤◌, Bool, true, false, cond, List}
+use Rattle.std.proofs.Common.{[], ◌∷◌, ◌++◌, drop, take, length, reverse, Option, None, Some, refl}
+use Rattle.std.proofs.Common.{sym, ap, ◌∙◌, append_assoc, arith, ⊎_elim, length-drop}
+use Rattle.std.proofs.lemmas.List.{drop_at, take-append-drop, reverse-append, length-reverse}
+use Rattle.std.proofs.lemmas.List.{nil_from_length}
 use Rattle.std.proofs.str.Laws.{order}
 use Rattle.std.specs.Borrow.{Bor}
 use Rattle.std.specs.Option.{option_map}
@@ -13,10 +16,12 @@ use Rattle.usfm_tree.specs.Forest.{Forest, nothing, text, leaf, node}
 use Rattle.usfm_tree.specs.StepViews.{entry_before, placed_text}
 use Rattle.usfm_tree.specs.declared.step.Entry.{Entry}
 use Rattle.usfm_tree.specs.declared.step.Entry.TheVariants as entries
-use Rattle.concordance.specs.Loops.Gathered.{root, enclosed, counted, settled, closes_character, behind_milestone, gathered, EventsFit, EntryFits}
+use Rattle.concordance.specs.Loops.Gathered.{root, enclosed, counted, settled, closes_character}
+use Rattle.concordance.specs.Loops.Gathered.{milestone_end, gathered, EventsFit, EntryFits}
 use Rattle.concordance.specs.Passages.{Passage}
 use Rattle.concordance.specs.Plain.{is_nothing, node_end, mark_at_end, number_length}
-use Rattle.concordance.specs.Loops.Reading.{Surroundings, inside_of, left_of, with_text, leaves_from, TextsFit}
+use Rattle.concordance.specs.Loops.Reading.{Surroundings, inside_of, left_of, with_text}
+use Rattle.concordance.specs.Loops.Reading.{leaves_from, TextsFit}
 use Rattle.concordance.specs.declared.plain.Enclosure.{Enclosure}
 
 -- ---- the walk is the reading
@@ -119,7 +124,7 @@ module _ (sheet : List Record) where
   pub milestone_taken : (es : List Enclosure) (b : Option MarkParts) (w : Option Passage) (m : MarkParts)
       → (t : Option (ℕ × Bor (List ℕ))) (c : Option MarkParts) (later : List Event)
       → gathered sheet es b w (begins kinds.Milestone m ∷ events_before (placed_text t) (ends c ∷ later))
-      ≡ settled false w (gathered sheet es (behind_milestone m (option_map (λ x. x.1.now) t) c) None later)
+      ≡ settled false w (gathered sheet es (milestone_end m (option_map (λ x. x.1.now) t) c) None later)
   milestone_taken es b w m None c later = refl
   milestone_taken es b w m (Some t) c later = refl
 
@@ -170,13 +175,16 @@ fit_before (text s t f) later h k = (h.0, fit_before f later h.1 k)
 fit_before (leaf s m f) later h k = fit_before f later h k
 fit_before (node k s x m ks c f) later h g = fit_before ks (ends c ∷ events_before f later) h.0 (fit_before f later h.1 g)
 
+-- what a walk over a tree meets fits where its texts do
 pub events_fit : (f : Forest) → TextsFit f → EventsFit (events_of f)
 events_fit f h = fit_before f [] h tt
 
+-- what is met after the ends of nodes fits
 pub fit_after_ends : (n : ℕ) (later : List Event) → EventsFit (ends_before n later) → EventsFit later
 fit_after_ends zero later h = h
 fit_after_ends (suc n) later h = fit_after_ends n later h
 
+-- what is met next fits
 pub entry_fits : (e : Entry) (later : List Event) → EventsFit (entry_before e later) → EntryFits e
 entry_fits (entries.Text start t) later h = h.0
 entry_fits (entries.Leaf m) later h = tt
@@ -184,6 +192,7 @@ entry_fits (entries.Begin kind m style) later h = tt
 entry_fits (entries.Close m) later h = tt
 entry_fits (entries.Milestone m t close) later h = tt
 
+-- what is met after it fits
 pub fit_after : (e : Entry) (later : List Event) → EventsFit (entry_before e later) → EventsFit later
 fit_after (entries.Text start t) later h = h.1
 fit_after (entries.Leaf m) later h = h
@@ -206,5 +215,6 @@ ends_longer : (n : ℕ) (later : List Event) → length later ≤ length (ends_b
 ends_longer zero later = omega arith
 ends_longer (suc n) later = let l = ends_longer n later in omega arith
 
+-- after a step less is left to be met
 pub step_shorter : (n : ℕ) (e : Entry) (later : List Event) → length later < length (ends_before n (entry_before e later))
 step_shorter n e later = let s = entry_shorter e later in let l = ends_longer n (entry_before e later) in omega arith

@@ -1,5 +1,6 @@
 -- Pieces that hold the starts of passages, and passages that end at places that fit.
-use Rattle.std.proofs.Common.{◌≡◌, ℕ, zero, suc, ◌+◌, ◌^◌, ◌<◌, ◌≤◌, true, List, [], ◌∷◌, ◌++◌, All, length, get_or, map, refl, sym, ap, subst, ◌∙◌, arith}
+use Rattle.std.proofs.Common.{◌≡◌, ℕ, zero, suc, ◌+◌, ◌^◌, ◌<◌, ◌≤◌, true, List, [], ◌∷◌, ◌++◌, All}
+use Rattle.std.proofs.Common.{length, get_or, map, refl, sym, ap, subst, ◌∙◌, arith}
 use Rattle.std.specs.List.{flat_map}
 use Rattle.std.proofs.lemmas.Bool.{and_from}
 use Rattle.std.proofs.lemmas.Bool.Decides.{nat_tests}
@@ -9,18 +10,21 @@ use Rattle.verse_cut.specs.Pieces.{Part, AreNeighbours, pieces_of, IsCutOf}
 use Rattle.concordance.specs.Hits.{keyed, occurrences, passage_of, hits_of}
 use Rattle.concordance.specs.Passages.{Passage, StandApart}
 use Rattle.concordance.specs.Plain.{plain_leaves}
-use Rattle.concordance.specs.Loops.Reading.{begin_of, end_of, are_neighbours, rise_between, hold_all, EndsWithin}
+use Rattle.concordance.specs.Loops.Reading.{begin_of, end_of, are_neighbours, rise_between}
+use Rattle.concordance.specs.Loops.Reading.{hold_all, EndsWithin}
 use Rattle.concordance.specs.Loops.LeafViews.{passage_view, passages_view}
 use Rattle.concordance.specs.declared.passage.Passage as passages
 use Rattle.concordance.proofs.Standing.{Apart, apart_within, leaves_apart, stand_apart}
 use Rattle.concordance.proofs.Occurring.{occurrences_apart}
 
+-- a passage that is one of some ends below 2^64 where all do
 pub fits_at : (ps : List passages.Passage) (k : ℕ) (d : passages.Passage) → All EndsWithin (passages_view ps) → k < length ps
     → (get_or ps k d).start + length (get_or ps k d).text.now < 2 ^ 64
 fits_at [] k d h l = absurd (omega arith)
 fits_at (p ∷ ps) zero d h l = All-head EndsWithin (passage_view p) (passages_view ps) h
 fits_at (p ∷ ps) (suc k) d h l = fits_at ps k d (All-tail EndsWithin (passage_view p) (passages_view ps) h) (omega arith)
 
+-- passages that lie apart in a text end below 2^64 where it does
 pub all_fit : (s : List ℕ) (low high : ℕ) (ps : List Passage) → Apart s low high ps → high < 2 ^ 64 → All EndsWithin ps
 all_fit s low high [] a h = All-nil EndsWithin
 all_fit s low high (p ∷ ps) a h = All-cons EndsWithin p ps (let e = a.2 in omega arith) (all_fit s (p.start + length p.text) high ps a.3 h)
@@ -30,10 +34,12 @@ abbrev pub Filled : List Passage → Type 0
 Filled [] = Unit {0}
 Filled (p ∷ ps) = (0 < length p.text) × Filled ps
 
+-- passages that are not empty, and more of them
 pub filled_append : (ps qs : List Passage) → Filled ps → Filled qs → Filled (ps ++ qs)
 filled_append [] qs a b = b
 filled_append (p ∷ ps) qs a b = (a.0, filled_append ps qs a.1 b)
 
+-- parts of passages are not empty where those of each are not
 pub filled_each : (parts : Passage → List Passage) (ps : List Passage) → ((p : Passage) → Filled (parts p)) → Filled (flat_map parts ps)
 filled_each parts [] h = tt
 filled_each parts (p ∷ ps) h = filled_append (parts p) (flat_map parts ps) (h p) (filled_each parts ps h)
@@ -76,12 +82,14 @@ pieces_hold s pieces ps cut a f =
 
 -- ---- hits
 
+-- occurrences in the plain leaves of a text lie apart
 pub found_apart : (sheet : List Record) (s needle : List ℕ) → 0 < length needle
     → Apart s 0 (length s) (flat_map (occurrences needle) (plain_leaves sheet s))
 found_apart sheet s needle some =
     apart_within s (occurrences needle) 0 (length s) (plain_leaves sheet s) (λ p h. occurrences_apart s needle some p h)
     (leaves_apart sheet s)
 
+-- no occurrence is empty
 pub found_filled : (sheet : List Record) (s needle : List ℕ) → 0 < length needle
     → Filled (flat_map (occurrences needle) (plain_leaves sheet s))
 found_filled sheet s needle some = filled_each (occurrences needle) (plain_leaves sheet s) (occurrences_filled needle some)
@@ -90,6 +98,7 @@ passages_keyed : (pieces : List Part) (ps : List Passage) → map passage_of (ma
 passages_keyed pieces [] = refl
 passages_keyed pieces (p ∷ ps) = ap (λ l. p ∷ l) (passages_keyed pieces ps)
 
+-- no two hits overlap
 pub hits_apart : (sheet : List Record) (s needle : List ℕ) → 0 < length needle → StandApart s 0 (map passage_of (hits_of sheet s needle))
 unfolding hits_of
 hits_apart sheet s needle some =

@@ -1,5 +1,6 @@
 -- Passages by rising starts, each with the key of the piece that holds its start.
-use Rattle.std.proofs.Common.{◌≡◌, ℕ, ◌<◌, ◌≤◌, true, ◌&&◌, IsTrue, List, [], ◌∷◌, length, drop, get_or, map, refl, sym, ap, ◌∙◌, arith}
+use Rattle.std.proofs.Common.{◌≡◌, ℕ, ◌<◌, ◌≤◌, true, ◌&&◌, IsTrue, List, [], ◌∷◌, length, drop}
+use Rattle.std.proofs.Common.{get_or, map, refl, sym, ap, ◌∙◌, arith}
 use Rattle.std.specs.Prelude.{nat_le, nat_lt}
 use Rattle.std.proofs.lemmas.Bool.{and_parts}
 use Rattle.std.proofs.lemmas.Bool.Decides.{nat_tests}
@@ -8,7 +9,8 @@ use Rattle.verse_cut.specs.Pieces.{Part}
 use Rattle.verse_cut.specs.Places.{key_at}
 use Rattle.concordance.specs.Hits.{HitParts, keyed}
 use Rattle.concordance.specs.Passages.{Passage}
-use Rattle.concordance.specs.Loops.Reading.{begin_of, end_of, are_neighbours, rise_between, hold_all}
+use Rattle.concordance.specs.Loops.Reading.{begin_of, end_of, are_neighbours, rise_between}
+use Rattle.concordance.specs.Loops.Reading.{hold_all}
 use Rattle.concordance.specs.Loops.LeafViews.{passages_view}
 use Rattle.concordance.specs.declared.passage.Passage as passages
 
@@ -25,6 +27,7 @@ keyed_from ps ps' low end (q ∷ qs) h same =
     λ i. (let one : HitParts = record { key = sym (same q.start le) i; start = q.start; text = q.text } in one)
     ∷ keyed_from ps ps' q.start end qs b.1 (λ n l. same n (omega arith)) i
 
+-- the first passage gets the key of its piece, and the others theirs, from the pieces that are left
 pub keyed_step : (ps ps' : List Part) (items : List passages.Passage) (p : passages.Passage) (key : KeyParts) → 0 < length items
     → p ≡ get_or items 0 p → IsTrue (hold_all ps (passages_view items)) → ((n : ℕ) → p.start ≤ n → key_at ps' n ≡ key_at ps n)
     → key ≡ key_at ps p.start

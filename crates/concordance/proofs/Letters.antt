@@ -12,6 +12,7 @@ use Rattle.ucd_derived.proofs.BinaryLemmas.{is_alphabetic_stepped}
 use Rattle.ucd_derived.proofs.Computing.{ucd_derived}
 use Rattle.concordance.specs.Words.{is_combining, is_word_char}
 
+-- of ASCII the word characters are the letters
 pub ascii_word_char : (c : ℕ) → c < 128 → is_ascii_alphabetic c ≡ is_word_char c
 unfolding ucd_category ucd_derived
 ascii_word_char c below =

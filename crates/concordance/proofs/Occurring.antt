@@ -1,9 +1,13 @@
 -- Where a needle occurs in a passage: a text may be cut there, and the places do not overlap.
-use Rattle.std.proofs.Common.{◌≡◌, ℕ, zero, suc, ◌+◌, ◌-◌, ◌<◌, ◌≤◌, Bool, true, false, cond, List, [], ◌∷◌, ◌++◌, length, take, drop, map, refl, sym, ap, subst, ◌∙◌, arith, slice_index, IsUtf8, length-drop, slice_range, append_assoc, All}
+use Rattle.std.proofs.Common.{◌≡◌, ℕ, zero, suc, ◌+◌, ◌-◌, ◌<◌, ◌≤◌, Bool, true, false, cond, List}
+use Rattle.std.proofs.Common.{[], ◌∷◌, ◌++◌, length, take, drop, map, refl, sym, ap, subst, ◌∙◌}
+use Rattle.std.proofs.Common.{arith, slice_index, IsUtf8, length-drop, slice_range, append_assoc}
+use Rattle.std.proofs.Common.{All}
 use Rattle.std.specs.Str.{IsCharBoundary}
 use Rattle.std.proofs.lemmas.List.Elements.{All-head, All-tail}
 use Rattle.std.proofs.lemmas.List.{map-append, take-append-drop, length-take-le}
-use Rattle.std.proofs.lemmas.Str.{IsCharBoundary-start, IsCharBoundary-from_rest, IsCharBoundary-from_take, IsUtf8-drop}
+use Rattle.std.proofs.lemmas.Str.{IsCharBoundary-start, IsCharBoundary-from_rest}
+use Rattle.std.proofs.lemmas.Str.{IsCharBoundary-from_take, IsUtf8-drop}
 use Rattle.memchr.specs.Find.{OccursAt, occurs_at, match_len, matches_from}
 use Rattle.memchr.proofs.lemmas.MatchLemmas.{OccursAt-part, OccursAt-split, OccursAt-true}
 use Rattle.concordance.specs.Passages.{Passage}
@@ -27,8 +31,8 @@ module _ (hay needle : List ℕ) (k : ℕ) (utf8 : IsUtf8 hay) (needle_utf8 : Is
             let d = c high' in omega arith),
       )
 
-  pub boundary_behind : IsCharBoundary hay (k + length needle)
-  boundary_behind =
+  pub boundary_after : IsCharBoundary hay (k + length needle)
+  boundary_after =
       let low = h.fits in
       let l = length-drop k hay in
       IsCharBoundary-from_rest hay k (length needle) (omega arith)
@@ -55,10 +59,10 @@ module _ (s needle : List ℕ) (some : 0 < length needle) (p : Passage) (stands 
   apart_from_match zero i (suc n) =
       by (apart_from_match (match_len needle - 1) (i + 1) n) (apart_from_match 0 (i + 1) n) (occurs_at p.text needle i) refl
     where
-      behind : (m : ℕ) → m ≡ length needle
+      after : (m : ℕ) → m ≡ length needle
           → Apart s (p.start + (i + 1 + (m - 1))) (p.start + length p.text) (map place (matches_from p.text needle (m - 1) (i + 1) n))
           → Apart s (p.start + i + length needle) (p.start + length p.text) (map place (matches_from p.text needle (m - 1) (i + 1) n))
-      behind m e a =
+      after m e a =
           subst (λ (k : ℕ). Apart s k (p.start + length p.text) (map place (matches_from p.text needle (m - 1) (i + 1) n))) (omega arith) a
 
       by : Apart s (p.start + (i + 1 + (match_len needle - 1))) (p.start + length p.text)
@@ -70,7 +74,7 @@ module _ (s needle : List ℕ) (some : 0 < length needle) (p : Passage) (stands 
       by hit miss true e =
           let h = OccursAt-true p.text needle i e in
           let low = h.fits in
-          (omega arith, stands_at i h, omega arith, behind (match_len needle) (omega arith) hit)
+          (omega arith, stands_at i h, omega arith, after (match_len needle) (omega arith) hit)
       by hit miss false e = apart_from s (p.start + (i + 0)) (p.start + (i + 1 + 0)) (p.start + length p.text) _ (omega arith) miss
   apart_from_match (suc skip) i (suc n) =
       subst (λ (k : ℕ). Apart s k (p.start + length p.text) (map place (matches_from p.text needle skip (i + 1) n))) (omega arith)
@@ -87,6 +91,7 @@ occurrence_is : (hay needle : List ℕ) (k : ℕ) → OccursAt hay needle k → 
 occurrence_is hay needle k h =
     (let e : k + length needle - k ≡ length needle = omega arith in ap (λ n. take n (drop k hay)) e) ∙ OccursAt-part hay needle k h
 
+-- one more occurrence was put after those that were found
 pub one_more : (start at : ℕ) (hay needle : List ℕ) (items new : List passages.Passage) (x : passages.Passage) (its rest : List ℕ)
     (target : List Passage) → new ≡ items ++ x ∷ [] → its ≡ at ∷ rest → OccursAt hay needle at → x.start ≡ start + at → x.text.now
     ≡ slice_range hay at (at + length needle)
@@ -102,8 +107,10 @@ one_more start at hay needle items new x its rest target is next h s t e =
     ∙ ap (λ l. passages_view items ++ map place l) (sym next)
     ∙ e
 
+-- the first of some occurrences is one
 pub head_occurs : (hay needle its rest : List ℕ) (at : ℕ) → its ≡ at ∷ rest → All (OccursAt hay needle) its → OccursAt hay needle at
 head_occurs hay needle its rest at e h = All-head (OccursAt hay needle) at rest (subst (All (OccursAt hay needle)) e h)
 
+-- the others are occurrences too
 pub tail_occurs : (hay needle its rest : List ℕ) (at : ℕ) → its ≡ at ∷ rest → All (OccursAt hay needle) its → All (OccursAt hay needle) rest
 tail_occurs hay needle its rest at e h = All-tail (OccursAt hay needle) at rest (subst (All (OccursAt hay needle)) e h)

@@ -12,15 +12,19 @@ use Rattle.usfm_ref.proofs.Orders.{key_total, key_exact, then_parts}
 use Rattle.concordance.specs.Words.{Spelling, form_cmp}
 use Rattle.concordance.specs.Loops.SpellingOrder.{spelling_cmp}
 
+-- forms are in a total order
 pub form_total : IsTotalOrder form_cmp
 form_total = nat_list_cmp_total
 
+-- forms that compare as equal are one form
 pub form_exact : (a b : List ℕ) → form_cmp a b ≡ Equal → a ≡ b
 form_exact a b h = slice_cmp-IsAntisymmetric nat_cmp-IsAntisymmetric a b h
 
+-- spellings are in a total order
 pub spelling_total : IsTotalOrder spelling_cmp
 spelling_total = then_total (on_total (λ (s : Spelling). s.form) form_total) (on_total (λ (s : Spelling). s.key) key_total)
 
+-- spellings that compare as equal are one spelling
 pub spelling_exact : (a b : Spelling) → spelling_cmp a b ≡ Equal → a ≡ b
 spelling_exact a b h =
     let p = then_parts (form_cmp a.form b.form) (key_cmp a.key b.key) h in

@@ -1,5 +1,7 @@
 -- The runs of a passage are its longest ones, and each word character lies in one.
-use Rattle.std.proofs.Common.{◌≡◌, ℕ, ◌+◌, ◌<◌, Bool, true, false, cond, not, ◌&&◌, List, [], ◌∷◌, ◌++◌, All, length, get_or, count_by, refl, sym, ap, ◌∙◌, arith, append_assoc, append-nil, length-append, ltb-true, lt-ltb}
+use Rattle.std.proofs.Common.{◌≡◌, ℕ, ◌+◌, ◌<◌, Bool, true, false, cond, not, ◌&&◌, List, [], ◌∷◌}
+use Rattle.std.proofs.Common.{◌++◌, All, length, get_or, count_by, refl, sym, ap, ◌∙◌, arith}
+use Rattle.std.proofs.Common.{append_assoc, append-nil, length-append, ltb-true, lt-ltb}
 use Rattle.std.specs.Prelude.{nat_le, nat_lt, chars, encode_utf8, encode_utf8_all, take_while}
 use Rattle.std.specs.List.{list_all}
 use Rattle.std.specs.Cmp.{both_ways}
@@ -10,9 +12,10 @@ use Rattle.std.proofs.lemmas.List.Sums.{sum_by-cons, AllPass-from_list_all}
 use Rattle.std.proofs.lemmas.Str.{encodes-append}
 use Rattle.concordance.specs.Laws.{IsLongestRun, RunsAreLongest, WordCharactersAreInOneRun, lies_in}
 use Rattle.concordance.specs.Passages.{Passage}
-use Rattle.concordance.specs.Loops.RunReading.{is_like, behind, front_bytes}
-use Rattle.concordance.specs.Words.{is_word_char, runs_behind}
-use Rattle.concordance.proofs.RunLemmas.{after, front_more, front_none, behind_more, behind_none, bytes_more, bytes_none, char_some}
+use Rattle.concordance.specs.Loops.RunReading.{is_like, after, front_bytes}
+use Rattle.concordance.specs.Words.{is_word_char, runs_from}
+use Rattle.concordance.proofs.RunLemmas.{runs_then, front_more, front_none, after_more, after_none}
+use Rattle.concordance.proofs.RunLemmas.{bytes_more, bytes_none, char_some}
 
 -- ---- the word characters at the front
 
@@ -23,15 +26,15 @@ front cs = take_while (is_like true) cs
 abbrev run_of : ℕ → List ℕ → Passage
 run_of n cs = record { start = n; text = front_bytes true cs }
 
-front_and_behind : (cs : List ℕ) → cs ≡ front cs ++ behind true cs
-front_and_behind [] = refl
-front_and_behind (c ∷ cs) = by (front_and_behind cs) (is_word_char c) refl
+front_and_after : (cs : List ℕ) → cs ≡ front cs ++ after true cs
+front_and_after [] = refl
+front_and_after (c ∷ cs) = by (front_and_after cs) (is_word_char c) refl
   where
-    by : cs ≡ front cs ++ behind true cs → (b : Bool) → is_word_char c ≡ b
-        → c ∷ cs ≡ front (c ∷ cs) ++ behind true (c ∷ cs)
+    by : cs ≡ front cs ++ after true cs → (b : Bool) → is_word_char c ≡ b
+        → c ∷ cs ≡ front (c ∷ cs) ++ after true (c ∷ cs)
     by rest true e =
-        ap (λ l. c ∷ l) rest ∙ (λ i. sym (front_more true c cs e) i ++ sym (behind_more true c cs e) i)
-    by rest false e = λ i. sym (front_none true c cs e) i ++ sym (behind_none true c cs e) i
+        ap (λ l. c ∷ l) rest ∙ (λ i. sym (front_more true c cs e) i ++ sym (after_more true c cs e) i)
+    by rest false e = λ i. sym (front_none true c cs e) i ++ sym (after_none true c cs e) i
 
 front_words : (cs : List ℕ) → list_all is_word_char (front cs) ≡ true
 front_words [] = refl
@@ -45,15 +48,15 @@ front_words (c ∷ cs) = by (front_words cs) (is_word_char c) refl
 front_some : (c : ℕ) (cs : List ℕ) → is_word_char c ≡ true → 0 < length (front (c ∷ cs))
 front_some c cs e = let l = ap length (front_more true c cs e) in omega arith
 
-first_behind : (cs : List ℕ) (c : ℕ) (rest : List ℕ) → behind true cs ≡ c ∷ rest → is_word_char c ≡ false
-first_behind [] c rest h = absurd (let l = ap length h in omega arith)
-first_behind (d ∷ ds) c rest h = by (first_behind ds c rest) (is_word_char d) refl
+first_after : (cs : List ℕ) (c : ℕ) (rest : List ℕ) → after true cs ≡ c ∷ rest → is_word_char c ≡ false
+first_after [] c rest h = absurd (let l = ap length h in omega arith)
+first_after (d ∷ ds) c rest h = by (first_after ds c rest) (is_word_char d) refl
   where
-    by : (behind true ds ≡ c ∷ rest → is_word_char c ≡ false) → (b : Bool) → is_word_char d ≡ b
+    by : (after true ds ≡ c ∷ rest → is_word_char c ≡ false) → (b : Bool) → is_word_char d ≡ b
         → is_word_char c ≡ false
-    by go true e = go (sym (behind_more true d ds e) ∙ h)
+    by go true e = go (sym (after_more true d ds e) ∙ h)
     by go false e =
-        let same : d ≡ c = ap (λ (l : List ℕ). get_or l 0 0) (sym (behind_none true d ds e) ∙ h) in
+        let same : d ≡ c = ap (λ (l : List ℕ). get_or l 0 0) (sym (after_none true d ds e) ∙ h) in
         ap is_word_char (sym same) ∙ e
 
 -- ---- each run is a longest one
@@ -80,13 +83,13 @@ one_more_before before c =
 
 module _ (p : Passage) where
   -- the runs in characters that come after others of the passage
-  longest_behind : (before cs : List ℕ) (within : Bool) (n : ℕ) → chars p.text ≡ before ++ cs
+  longest_after : (before cs : List ℕ) (within : Bool) (n : ℕ) → chars p.text ≡ before ++ cs
       → ends_with_word before ≡ within → n ≡ p.start + length (encode_utf8_all before)
-      → All (IsLongestRun p) (runs_behind within n cs)
-  longest_behind before [] within n is ends at = All-nil (IsLongestRun p)
-  longest_behind before (c ∷ cs) within n is ends at =
+      → All (IsLongestRun p) (runs_from within n cs)
+  longest_after before [] within n is ends at = All-nil (IsLongestRun p)
+  longest_after before (c ∷ cs) within n is ends at =
       by within (is_word_char c) ends refl
-      (longest_behind (before ++ c ∷ []) cs (is_word_char c) (n + length (encode_utf8 c))
+      (longest_after (before ++ c ∷ []) cs (is_word_char c) (n + length (encode_utf8 c))
       (is ∙ sym (append_assoc before (c ∷ []) cs)) (last_word before c)
       (let l = one_more_before before c in omega arith))
     where
@@ -94,28 +97,30 @@ module _ (p : Passage) where
       longest none e = record {
         before = before;
         own = front (c ∷ cs);
-        behind = behind true (c ∷ cs);
-        characters = is ∙ ap (λ l. before ++ l) (front_and_behind (c ∷ cs));
+        after = after true (c ∷ cs);
+        characters = is ∙ ap (λ l. before ++ l) (front_and_after (c ∷ cs));
         start = at;
         bytes = refl;
         some = front_some c cs e;
         of_words = AllPass-from_list_all is_word_char (front (c ∷ cs)) (front_words (c ∷ cs));
         none_before = λ others d h. sym (last_word others d) ∙ ap ends_with_word (sym h) ∙ none;
-        none_behind = first_behind (c ∷ cs);
+        none_after = first_after (c ∷ cs);
       }
 
       by : (w b : Bool) → ends_with_word before ≡ w → is_word_char c ≡ b
-          → All (IsLongestRun p) (after (is_word_char c) n c cs)
-          → All (IsLongestRun p) (cond (b && not w) (run_of n (c ∷ cs) ∷ after (is_word_char c) n c cs) (after (is_word_char c) n c cs))
+          → All (IsLongestRun p) (runs_then (is_word_char c) n c cs)
+          → All (IsLongestRun p)
+          (cond (b && not w) (run_of n (c ∷ cs) ∷ runs_then (is_word_char c) n c cs) (runs_then (is_word_char c) n c cs))
       by true true none e rest = rest
       by true false none e rest = rest
       by false false none e rest = rest
       by false true none e rest =
-          All-cons (IsLongestRun p) (run_of n (c ∷ cs)) (after (is_word_char c) n c cs) (longest none e) rest
+          All-cons (IsLongestRun p) (run_of n (c ∷ cs)) (runs_then (is_word_char c) n c cs) (longest none e) rest
 
+-- before and after a run there is no word character
 pub runs_are_longest : RunsAreLongest
 runs_are_longest p =
-    longest_behind p [] (chars p.text) false p.start refl refl
+    longest_after p [] (chars p.text) false p.start refl refl
     (let l : length (encode_utf8_all []) ≡ 0 = refl in omega arith)
 
 -- ---- each word character lies in one
@@ -132,18 +137,18 @@ lies_before : (at : ℕ) (run : Passage) → at < run.start → lies_in at run �
 lies_before at run h = and_left (nat_le run.start at) _ (grind (arith, nat_tests))
 
 -- it lies in none of the runs that begin after it
-none_reached : (at : ℕ) (within : Bool) (n : ℕ) (cs : List ℕ) → at < n → count_at at (runs_behind within n cs) ≡ 0
+none_reached : (at : ℕ) (within : Bool) (n : ℕ) (cs : List ℕ) → at < n → count_at at (runs_from within n cs) ≡ 0
 none_reached at within n [] h = refl
 none_reached at within n (c ∷ cs) h =
     by within (is_word_char c) (none_reached at (is_word_char c) (n + length (encode_utf8 c)) cs (omega arith))
   where
-    by : (w b : Bool) → count_at at (after (is_word_char c) n c cs) ≡ 0
-        → count_at at (cond (b && not w) (run_of n (c ∷ cs) ∷ after (is_word_char c) n c cs) (after (is_word_char c) n c cs)) ≡ 0
+    by : (w b : Bool) → count_at at (runs_then (is_word_char c) n c cs) ≡ 0
+        → count_at at (cond (b && not w) (run_of n (c ∷ cs) ∷ runs_then (is_word_char c) n c cs) (runs_then (is_word_char c) n c cs)) ≡ 0
     by true true e = e
     by true false e = e
     by false false e = e
     by false true e =
-        one_counted at (run_of n (c ∷ cs)) (after (is_word_char c) n c cs)
+        one_counted at (run_of n (c ∷ cs)) (runs_then (is_word_char c) n c cs)
         ∙ (λ i. cond (lies_before at (run_of n (c ∷ cs)) h i) 1 0 + e i)
 
 shifted : (k a b : ℕ) → nat_lt (k + a) (k + b) ≡ nat_lt a b
@@ -190,7 +195,7 @@ abbrev expected : Bool → List ℕ → ℕ → ℕ
 expected within ds c = cond (within && all_words ds c) 0 (cond (is_word_char c) 1 0)
 
 counted : (within : Bool) (n : ℕ) (ds : List ℕ) (c : ℕ) (rest : List ℕ)
-    → count_at (n + length (encode_utf8_all ds)) (runs_behind within n (ds ++ c ∷ rest)) ≡ expected within ds c
+    → count_at (n + length (encode_utf8_all ds)) (runs_from within n (ds ++ c ∷ rest)) ≡ expected within ds c
 counted within n [] c rest =
     by within (is_word_char c) refl
     (none_reached (n + length (encode_utf8_all [])) (is_word_char c) (n + length (encode_utf8 c)) rest
@@ -202,19 +207,19 @@ counted within n [] c rest =
         and_from _ _ (grind (arith, nat_tests)) (shifted n 0 (length (front_bytes true (c ∷ rest))) ∙ reach)
 
     by : (w b : Bool) → is_word_char c ≡ b
-        → count_at (n + length (encode_utf8_all [])) (after (is_word_char c) n c rest) ≡ 0
+        → count_at (n + length (encode_utf8_all [])) (runs_then (is_word_char c) n c rest) ≡ 0
         → count_at (n + length (encode_utf8_all []))
-        (cond (b && not w) (run_of n (c ∷ rest) ∷ after (is_word_char c) n c rest) (after (is_word_char c) n c rest))
+        (cond (b && not w) (run_of n (c ∷ rest) ∷ runs_then (is_word_char c) n c rest) (runs_then (is_word_char c) n c rest))
         ≡ cond (w && b) 0 (cond b 1 0)
     by true true e l = l
     by true false e l = l
     by false false e l = l
     by false true e l =
-        one_counted (n + length (encode_utf8_all [])) (run_of n (c ∷ rest)) (after (is_word_char c) n c rest)
+        one_counted (n + length (encode_utf8_all [])) (run_of n (c ∷ rest)) (runs_then (is_word_char c) n c rest)
         ∙ (λ i. cond (here e i) 1 0 + l i)
 counted within n (d ∷ ds) c rest =
     by within (is_word_char d) (all_words ds c) refl refl
-    (ap (λ k. count_at k (after (is_word_char d) n d (ds ++ c ∷ rest))) past
+    (ap (λ k. count_at k (runs_then (is_word_char d) n d (ds ++ c ∷ rest))) past
     ∙ counted (is_word_char d) (n + length (encode_utf8 d)) ds c rest)
   where
     past : n + length (encode_utf8_all (d ∷ ds)) ≡ n + length (encode_utf8 d) + length (encode_utf8_all ds)
@@ -234,21 +239,23 @@ counted within n (d ∷ ds) c rest =
     one_in_all false f = omega arith
 
     by : (w b a : Bool) → is_word_char d ≡ b → all_words ds c ≡ a
-        → count_at (n + length (encode_utf8_all (d ∷ ds))) (after (is_word_char d) n d (ds ++ c ∷ rest))
+        → count_at (n + length (encode_utf8_all (d ∷ ds))) (runs_then (is_word_char d) n d (ds ++ c ∷ rest))
         ≡ cond (b && a) 0 (cond (is_word_char c) 1 0)
         → count_at (n + length (encode_utf8_all (d ∷ ds)))
-        (cond (b && not w) (run_of n (d ∷ (ds ++ c ∷ rest)) ∷ after (is_word_char d) n d (ds ++ c ∷ rest))
-        (after (is_word_char d) n d (ds ++ c ∷ rest)))
+        (cond (b && not w) (run_of n (d ∷ (ds ++ c ∷ rest)) ∷ runs_then (is_word_char d) n d (ds ++ c ∷ rest))
+        (runs_then (is_word_char d) n d (ds ++ c ∷ rest)))
         ≡ cond (w && (b && a)) 0 (cond (is_word_char c) 1 0)
     by true true a e f l = l
     by true false a e f l = l
     by false false a e f l = l
     by false true a e f l =
-        one_counted (n + length (encode_utf8_all (d ∷ ds))) (run_of n (d ∷ (ds ++ c ∷ rest))) (after (is_word_char d) n d (ds ++ c ∷ rest))
+        one_counted (n + length (encode_utf8_all (d ∷ ds))) (run_of n (d ∷ (ds ++ c ∷ rest)))
+        (runs_then (is_word_char d) n d (ds ++ c ∷ rest))
         ∙ (λ i. cond (here a e f i) 1 0 + l i)
         ∙ one_in_all a f
 
+-- each word character of a passage lies in exactly one run, and no other character in any
 pub word_characters_are_in_one_run : WordCharactersAreInOneRun
-word_characters_are_in_one_run p before c behind is =
-    ap (λ cs. count_at (p.start + length (encode_utf8_all before)) (runs_behind false p.start cs)) is
-    ∙ counted false p.start before c behind
+word_characters_are_in_one_run p before c after is =
+    ap (λ cs. count_at (p.start + length (encode_utf8_all before)) (runs_from false p.start cs)) is
+    ∙ counted false p.start before c after

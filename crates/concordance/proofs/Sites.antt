@@ -1,15 +1,19 @@
 -- The plain leaves are what the reading of the tree gives, and they fit.
 use Rattle.sty_sheet.specs.declared.kind.StyleKind.{StyleKind}
-use Rattle.std.proofs.Common.{◌≡◌, ℕ, ◌+◌, ◌^◌, ◌<◌, Bool, true, false, cond, List, [], ◌∷◌, ◌++◌, length, map, filter, Option, None, Some, refl, sym, ap, subst, ◌∙◌, arith, length-append}
+use Rattle.std.proofs.Common.{◌≡◌, ℕ, ◌+◌, ◌^◌, ◌<◌, Bool, true, false, cond, List, [], ◌∷◌, ◌++◌}
+use Rattle.std.proofs.Common.{length, map, filter, Option, None, Some, refl, sym, ap, subst, ◌∙◌}
+use Rattle.std.proofs.Common.{arith, length-append}
 use Rattle.std.specs.Prelude.{is_some}
 use Rattle.sty_sheet.specs.Records.{Record}
 use Rattle.usfm_token.specs.Tokens.{MarkParts, mark_bytes}
 use Rattle.usfm_tree.specs.Around.{Around}
-use Rattle.usfm_tree.specs.Forest.{Forest, nothing, text, leaf, node, bytes_of, span_bytes, close_bytes}
+use Rattle.usfm_tree.specs.Forest.{Forest, nothing, text, leaf, node, bytes_of, span_bytes}
+use Rattle.usfm_tree.specs.Forest.{close_bytes}
 use Rattle.usfm_tree.specs.Places.{Runs}
 use Rattle.usfm_tree.proofs.SpanLemmas.{span_is, bytes_then}
 use Rattle.concordance.specs.Passages.{Passage}
-use Rattle.concordance.specs.Plain.{Site, is_nothing, node_end, mark_at_end, sites_in, is_plain, trimmed}
+use Rattle.concordance.specs.Plain.{Site, is_nothing, node_end, mark_at_end, sites_in, is_plain}
+use Rattle.concordance.specs.Plain.{trimmed}
 use Rattle.concordance.specs.Loops.Reading.{inside_of, left_of, counts, leaves_from, TextsFit}
 
 abbrev plain_of : List Record → List Site → List Passage
@@ -40,7 +44,7 @@ pub sites_read : (sheet : List Record) (around : List Around) (b : Option MarkPa
     → plain_of sheet (sites_in around b f) ≡ leaves_from sheet (inside_of sheet around) b f
 sites_read sheet around b nothing = refl
 sites_read sheet around b (text s t f) =
-    plain_cons sheet (record { start = s; bytes = t; around = around; behind = b; is_last = is_nothing f }) (sites_in around None f)
+    plain_cons sheet (record { start = s; bytes = t; around = around; before = b; is_last = is_nothing f }) (sites_in around None f)
     ∙ ap (λ l. cond (counts (inside_of sheet around)) (left_of (inside_of sheet around) b (is_nothing f) s t ∷ l) l)
     (sites_read sheet around None f)
 sites_read sheet around b (leaf s m f) = sites_read sheet around (Some m) f
@@ -59,6 +63,7 @@ pub node_bytes : (k : StyleKind) (n : ℕ) (x : List ℕ) (m : MarkParts) (ks : 
     → x ≡ span_bytes m ks c → bytes_of (node k n x m ks c f) ≡ x ++ bytes_of f
 node_bytes k n x m ks c f e = bytes_then (node k n x m ks c nothing) f ∙ ap (λ z. z ++ bytes_of f) (span_is k n x m ks c ∙ sym e)
 
+-- the texts of a tree end below 2^64 where the tree does
 pub texts_fit : (n : ℕ) (f : Forest) → Runs n f → n + length (bytes_of f) < 2 ^ 64 → TextsFit f
 texts_fit n nothing r h = tt
 texts_fit n (text s t f) r h =

@@ -1,5 +1,7 @@
 -- Passages that do not overlap in a text: those of a tree, and those within others.
-use Rattle.std.proofs.Common.{◌≡◌, ℕ, ◌+◌, ◌-◌, ◌≤◌, Bool, true, false, cond, ◌&&◌, List, [], ◌∷◌, ◌++◌, length, take, drop, Option, None, Some, refl, sym, ap, subst, ◌∙◌, arith, append_assoc, append-nil, length-append}
+use Rattle.std.proofs.Common.{◌≡◌, ℕ, ◌+◌, ◌-◌, ◌≤◌, Bool, true, false, cond, ◌&&◌, List, [], ◌∷◌}
+use Rattle.std.proofs.Common.{◌++◌, length, take, drop, Option, None, Some, refl, sym, ap, subst}
+use Rattle.std.proofs.Common.{◌∙◌, arith, append_assoc, append-nil, length-append}
 use Rattle.std.specs.Prelude.{is_some}
 use Rattle.std.specs.List.{flat_map, position_or_len}
 use Rattle.std.specs.Str.{bytes_eq}
@@ -17,8 +19,10 @@ use Rattle.usfm_tree.specs.SheetViews.{styles_in}
 use Rattle.usfm_tree.proofs.PlaceLemmas.{tree_runs, past, runs_at}
 use Rattle.usfm_tree.proofs.LeavesLemmas.{tree_bytes}
 use Rattle.concordance.specs.Passages.{Passage, StandsIn, StandApart}
-use Rattle.concordance.specs.Plain.{is_nothing, node_end, mark_at_end, is_bar, number_length, verse_length, without_attributes, plain_leaves}
-use Rattle.concordance.specs.Loops.Reading.{Surroundings, inside_of, within, left_of, counts, with_text, leaves_from}
+use Rattle.concordance.specs.Plain.{is_nothing, node_end, mark_at_end, is_bar, number_length}
+use Rattle.concordance.specs.Plain.{verse_length, without_attributes, plain_leaves}
+use Rattle.concordance.specs.Loops.Reading.{Surroundings, inside_of, within, left_of, counts}
+use Rattle.concordance.specs.Loops.Reading.{with_text, leaves_from}
 use Rattle.concordance.proofs.Sites.{sites_read, node_bytes}
 
 -- what comes before the passage in the text, and what after it
@@ -30,14 +34,17 @@ abbrev pub Apart : List ℕ → ℕ → ℕ → List Passage → Type 0
 Apart s low high [] = Unit {0}
 Apart s low high (p ∷ ps) = (low ≤ p.start) × Stands s p × (p.start + length p.text ≤ high) × Apart s (p.start + length p.text) high ps
 
+-- passages that lie apart from a place on do so from each lower one on
 pub apart_from : (s : List ℕ) (low low' high : ℕ) (ps : List Passage) → low ≤ low' → Apart s low' high ps → Apart s low high ps
 apart_from s low low' high [] h a = tt
 apart_from s low low' high (p ∷ ps) h a = let b = a.0 in (omega arith, a.1, a.2, a.3)
 
+-- passages that lie apart up to a place do so up to each higher one
 pub apart_to : (s : List ℕ) (low high high' : ℕ) (ps : List Passage) → high ≤ high' → Apart s low high ps → Apart s low high' ps
 apart_to s low high high' [] h a = tt
 apart_to s low high high' (p ∷ ps) h a = let e = a.2 in (a.0, a.1, omega arith, apart_to s (p.start + length p.text) high high' ps h a.3)
 
+-- passages that lie apart before a place, and others after it
 pub apart_append : (s : List ℕ) (low mid high : ℕ) (ps qs : List Passage) → low ≤ mid → mid ≤ high → Apart s low mid ps
     → Apart s mid high qs → Apart s low high (ps ++ qs)
 apart_append s low mid high [] qs l h a b = apart_from s low mid high qs l b
@@ -75,6 +82,7 @@ stands_in s p (x, y, is, at) =
     ∙ ap (λ l. take (length p.text) (drop (length x) l)) is
     ∙ ap (take (length p.text)) (drop-append_seam x (p.text ++ y)) ∙ take-append_seam p.text y
 
+-- passages that lie apart in a text do not overlap there
 pub stand_apart : (s : List ℕ) (low : ℕ) (ps : List Passage) → Apart s low (length s) ps → StandApart s low ps
 stand_apart s low [] a = tt
 stand_apart s low (p ∷ ps) a = (a.0, stands_in s p a.1, a.2, stand_apart s (p.start + length p.text) ps a.3)
@@ -93,9 +101,9 @@ number_fits (Some m) t = by (bytes_eq (mark_bytes m) (92 ∷ 118 ∷ []))
     by true = verse_fits t (verse_in t) refl
     by false = omega arith
 
-attributes_behind : (may : Bool) (t : List ℕ) → (q : List ℕ) × (t ≡ without_attributes may t ++ q)
-attributes_behind true t = (drop (position_or_len is_bar t) t, sym (take-append-drop (position_or_len is_bar t) t))
-attributes_behind false t = ([], sym (append-nil t))
+attributes_after : (may : Bool) (t : List ℕ) → (q : List ℕ) × (t ≡ without_attributes may t ++ q)
+attributes_after true t = (drop (position_or_len is_bar t) t, sym (take-append-drop (position_or_len is_bar t) t))
+attributes_after false t = ([], sym (append-nil t))
 
 -- what is left of a text is in it
 left_apart : (s : List ℕ) (sur : Surroundings) (b : Option MarkParts) (last : Bool) (a t z : List ℕ) → s ≡ a ++ (t ++ z) → (k : ℕ)
@@ -105,15 +113,15 @@ left_apart s sur b last a t z is k at =
     let may = last && sur.in_closed in
     let fits = number_fits b t in
     let front = take n t in
-    let behind = attributes_behind may (drop n t) in
-    let cut : t ≡ front ++ (without_attributes may (drop n t) ++ behind.0) = sym (take-append-drop n t) ∙ ap (λ l. front ++ l) behind.1 in
+    let after = attributes_after may (drop n t) in
+    let cut : t ≡ front ++ (without_attributes may (drop n t) ++ after.0) = sym (take-append-drop n t) ∙ ap (λ l. front ++ l) after.1 in
     let l : length front ≡ n = length-take-le n t fits in
-    let sizes : length t ≡ length front + (length (without_attributes may (drop n t)) + length behind.0) =
-    ap length cut ∙ length-append front (without_attributes may (drop n t) ++ behind.0)
-    ∙ ap (λ m. length front + m) (length-append (without_attributes may (drop n t)) behind.0)
+    let sizes : length t ≡ length front + (length (without_attributes may (drop n t)) + length after.0) =
+    ap length cut ∙ length-append front (without_attributes may (drop n t) ++ after.0)
+    ∙ ap (λ m. length front + m) (length-append (without_attributes may (drop n t)) after.0)
     in
     let whole : Passage = record { start = length a; text = t } in
-    (omega arith, stands_within s whole (left_of sur b last k t) front behind.0 (a, z, is, refl) cut (omega arith), omega arith, tt)
+    (omega arith, stands_within s whole (left_of sur b last k t) front after.0 (a, z, is, refl) cut (omega arith), omega arith, tt)
 
 with_text_apart : (s : List ℕ) (sur : Surroundings) (b : Option MarkParts) (last : Bool) (a t z : List ℕ) → s ≡ a ++ (t ++ z) → (k : ℕ)
     → k ≡ length a → (high : ℕ) → length a + length t ≤ high → (later : List Passage) → Apart s (length a + length t) high later
@@ -130,6 +138,7 @@ from_to : (s : List ℕ) (low low' high high' : ℕ) (ps : List Passage) → low
     → Apart s low' high' ps
 from_to s low low' high high' ps e f a = subst (λ (l : ℕ). Apart s l high' ps) e (subst (λ (h : ℕ). Apart s low h ps) f a)
 
+-- the leaves of a tree lie apart where the tree is in the text
 pub forest_apart : (sheet : List Record) (sur : Surroundings) (b : Option MarkParts) (f : Forest) (s a z : List ℕ)
     → s ≡ a ++ (bytes_of f ++ z) → Runs (length a) f → Apart s (length a) (length a + length (bytes_of f)) (leaves_from sheet sur b f)
 forest_apart sheet sur b nothing s a z is r = tt

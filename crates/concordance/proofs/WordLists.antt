@@ -1,5 +1,7 @@
 -- Words gathered from spellings, whatever their order and however often one comes.
-use Rattle.std.proofs.Common.{◌≡◌, ℕ, zero, suc, ◌<◌, Bool, true, false, cond, ◌&&◌, ◌||◌, List, [], ◌∷◌, ◌++◌, length, map, filter, take, slice_get, Some, append-nil, append_assoc, refl, sym, ap, ◌∙◌, arith, false-eqb}
+use Rattle.std.proofs.Common.{◌≡◌, ℕ, zero, suc, ◌<◌, Bool, true, false, cond, ◌&&◌, ◌||◌, List, []}
+use Rattle.std.proofs.Common.{◌∷◌, ◌++◌, length, map, filter, take, slice_get, Some, append-nil}
+use Rattle.std.proofs.Common.{append_assoc, refl, sym, ap, ◌∙◌, arith, false-eqb}
 use Rattle.std.specs.declared.cmp.Ordering.{Ordering}
 use Rattle.std.specs.declared.cmp.Ordering.TheVariants.{Less, Equal, Greater}
 use Rattle.std.specs.Ordering.{is_eq, is_lt}
@@ -20,8 +22,11 @@ use Rattle.usfm_ref.proofs.Members.{same_tested, tested_rising}
 use Rattle.usfm_ref.proofs.Orders.{key_total, key_exact}
 use Rattle.usfm_ref.proofs.Sorted.{rises-rising, is_less}
 use Rattle.concordance.specs.Loops.SpellingOrder.{spelling_cmp}
-use Rattle.concordance.specs.Loops.Groups.{Group, told_with, told_by, told, is_bare, has_bare, is_told, AlsoTells, TellsSame, composed, form_at}
-use Rattle.concordance.specs.Words.{Spelling, WordParts, form_cmp, form_of, keys_with, word_with, words_in}
+use Rattle.concordance.specs.Loops.Groups.{Group, spellings_with, group_spellings, all_spellings}
+use Rattle.concordance.specs.Loops.Groups.{is_bare, has_bare, is_spelled, SpellsBoth, SpellsSame}
+use Rattle.concordance.specs.Loops.Groups.{composed, form_at}
+use Rattle.concordance.specs.Words.{Spelling, WordParts, form_cmp, form_of, keys_with, word_with}
+use Rattle.concordance.specs.Words.{words_in}
 use Rattle.concordance.proofs.OrderLemmas.{form_total, form_exact, spelling_total, spelling_exact}
 
 -- ---- rising lists
@@ -67,26 +72,26 @@ any_keys f k (s ∷ ss) = by (any_keys f k ss) (bytes_eq s.form f)
 
 -- what is said in one list and also in another
 abbrev Also : List Spelling → List Spelling → Type 0
-Also ss ts = (s : Spelling) → is_told s ss ≡ true → is_told s ts ≡ true
+Also ss ts = (s : Spelling) → is_spelled s ss ≡ true → is_spelled s ts ≡ true
 
 module _ (p : Spelling → Bool) where
-  any_told : (s : Spelling) (ts : List Spelling) → p s ≡ true → is_told s ts ≡ true → list_any p ts ≡ true
-  any_told s [] e h = absurd (false≢true h)
-  any_told s (t ∷ ts) e h = by (any_told s ts e) (is_eq (spelling_cmp s t)) refl
+  any_spelled : (s : Spelling) (ts : List Spelling) → p s ≡ true → is_spelled s ts ≡ true → list_any p ts ≡ true
+  any_spelled s [] e h = absurd (false≢true h)
+  any_spelled s (t ∷ ts) e h = by (any_spelled s ts e) (is_eq (spelling_cmp s t)) refl
     where
-      by : (is_told s ts ≡ true → list_any p ts ≡ true) → (b : Bool) → is_eq (spelling_cmp s t) ≡ b → list_any p (t ∷ ts) ≡ true
+      by : (is_spelled s ts ≡ true → list_any p ts ≡ true) → (b : Bool) → is_eq (spelling_cmp s t) ≡ b → list_any p (t ∷ ts) ≡ true
       by rest true k = ap (λ b. b || list_any p ts) (ap p (sym (spelling_exact s t ((Equal-is _).0 k))) ∙ e)
-      by rest false k = or_right (p t) _ (rest (sym (ap (λ b. b || is_told s ts) k) ∙ h))
+      by rest false k = or_right (p t) _ (rest (sym (ap (λ b. b || is_spelled s ts) k) ∙ h))
 
   any_also : (ss ts : List Spelling) → Also ss ts → list_any p ss ≡ true → list_any p ts ≡ true
   any_also [] ts also h = absurd (false≢true h)
   any_also (s ∷ ss) ts also h = by (any_also ss ts (λ t k. also t (or_right (is_eq (spelling_cmp t s)) _ k))) (p s) refl
     where
       by : (list_any p ss ≡ true → list_any p ts ≡ true) → (b : Bool) → p s ≡ b → list_any p ts ≡ true
-      by rest true e = any_told s ts e (also s (ap (λ r. is_eq r || is_told s ss) (tied_itself spelling_total s)))
+      by rest true e = any_spelled s ts e (also s (ap (λ r. is_eq r || is_spelled s ss) (tied_itself spelling_total s)))
       by rest false e = rest (sym (ap (λ b. b || list_any p ss) e) ∙ h)
 
-  any_same : (ss ts : List Spelling) → TellsSame ss ts → list_any p ss ≡ list_any p ts
+  any_same : (ss ts : List Spelling) → SpellsSame ss ts → list_any p ss ≡ list_any p ts
   any_same ss ts same = both _ _ (any_also ss ts (λ s h. sym (same s) ∙ h)) (any_also ts ss (λ s h. same s ∙ h))
     where
       both : (a b : Bool) → (a ≡ true → b ≡ true) → (b ≡ true → a ≡ true) → a ≡ b
@@ -94,7 +99,7 @@ module _ (p : Spelling → Bool) where
       both false true f g = absurd (false≢true (g refl))
       both false false f g = refl
 
-forms_same : (ss ts : List Spelling) → TellsSame ss ts → rising form_cmp (map (λ s. s.form) ss) ≡ rising form_cmp (map (λ s. s.form) ts)
+forms_same : (ss ts : List Spelling) → SpellsSame ss ts → rising form_cmp (map (λ s. s.form) ss) ≡ rising form_cmp (map (λ s. s.form) ts)
 forms_same ss ts same =
     same_tested form_cmp form_total form_exact (rising form_cmp (map (λ s. s.form) ss)) (rising form_cmp (map (λ s. s.form) ts))
     (rises-rising form_cmp form_total (map (λ s. s.form) ss)) (rises-rising form_cmp form_total (map (λ s. s.form) ts))
@@ -103,7 +108,7 @@ forms_same ss ts same =
     ∙ any_same (λ s. is_eq (form_cmp f s.form)) ss ts same
     ∙ sym (any_forms f ts) ∙ sym (tested_rising form_cmp form_total form_exact f (map (λ s. s.form) ts)))
 
-keys_same : (f : List ℕ) (ss ts : List Spelling) → TellsSame ss ts → rising key_cmp (keys_with ss f) ≡ rising key_cmp (keys_with ts f)
+keys_same : (f : List ℕ) (ss ts : List Spelling) → SpellsSame ss ts → rising key_cmp (keys_with ss f) ≡ rising key_cmp (keys_with ts f)
 keys_same f ss ts same =
     same_tested key_cmp key_total key_exact (rising key_cmp (keys_with ss f)) (rising key_cmp (keys_with ts f))
     (rises-rising key_cmp key_total (keys_with ss f)) (rises-rising key_cmp key_total (keys_with ts f))
@@ -112,7 +117,8 @@ keys_same f ss ts same =
     ∙ any_same (λ s. bytes_eq s.form f && is_eq (key_cmp k s.key)) ss ts same
     ∙ sym (any_keys f k ts) ∙ sym (tested_rising key_cmp key_total key_exact k (keys_with ts f)))
 
-pub words_same : (ss ts : List Spelling) → TellsSame ss ts → words_in ss ≡ words_in ts
+-- lists that say the same spellings have the same words
+pub words_same : (ss ts : List Spelling) → SpellsSame ss ts → words_in ss ≡ words_in ts
 words_same ss ts same =
     ap (map (word_with ss)) (forms_same ss ts same)
     ∙ ap (λ (w : List ℕ → WordParts). map w (rising form_cmp (map (λ s. s.form) ts)))
@@ -120,34 +126,35 @@ words_same ss ts same =
 
 -- ---- spellings composed
 
-told_composed : (s : Spelling) (ss : List Spelling)
-    → is_told s (map composed ss) ≡ list_any (λ t. is_eq (spelling_cmp s (composed t))) ss
-told_composed s [] = refl
-told_composed s (t ∷ ss) = ap (λ b. is_eq (spelling_cmp s (composed t)) || b) (told_composed s ss)
+spelled_composed : (s : Spelling) (ss : List Spelling)
+    → is_spelled s (map composed ss) ≡ list_any (λ t. is_eq (spelling_cmp s (composed t))) ss
+spelled_composed s [] = refl
+spelled_composed s (t ∷ ss) = ap (λ b. is_eq (spelling_cmp s (composed t)) || b) (spelled_composed s ss)
 
-keys_composed : (form : List ℕ) (keys : List KeyParts) → map composed (told_with form keys) ≡ told_with (form_of form) keys
+keys_composed : (form : List ℕ) (keys : List KeyParts) → map composed (spellings_with form keys) ≡ spellings_with (form_of form) keys
 keys_composed form [] = refl
 keys_composed form (k ∷ keys) =
     ap (λ l. (let s : Spelling = record { form = form_of form; key = k } in s) ∷ l) (keys_composed form keys)
 
 -- what says the same does so when it is composed
-pub composed_same : (ss ts : List Spelling) → TellsSame ss ts → TellsSame (map composed ss) (map composed ts)
+pub composed_same : (ss ts : List Spelling) → SpellsSame ss ts → SpellsSame (map composed ss) (map composed ts)
 composed_same ss ts same s =
-    told_composed s ss ∙ any_same (λ t. is_eq (spelling_cmp s (composed t))) ss ts same ∙ sym (told_composed s ts)
+    spelled_composed s ss ∙ any_same (λ t. is_eq (spelling_cmp s (composed t))) ss ts same ∙ sym (spelled_composed s ts)
 
 -- one more
-pub noted_more : (s : Spelling) (old new : List Spelling) (t : Spelling) (rest : List Spelling) → AlsoTells old (t ∷ []) new
-    → (is_told s new || is_told s rest) ≡ (is_told s old || is_told s (t ∷ rest))
+pub noted_more : (s : Spelling) (old new : List Spelling) (t : Spelling) (rest : List Spelling) → SpellsBoth old (t ∷ []) new
+    → (is_spelled s new || is_spelled s rest) ≡ (is_spelled s old || is_spelled s (t ∷ rest))
 noted_more s old new t rest also =
-    ap (λ b. b || is_told s rest) (also s) ∙ by (is_told s old) (is_eq (spelling_cmp s t)) (is_told s rest)
+    ap (λ b. b || is_spelled s rest) (also s) ∙ by (is_spelled s old) (is_eq (spelling_cmp s t)) (is_spelled s rest)
   where
     by : (a b c : Bool) → ((a || (b || false)) || c) ≡ (a || (b || c))
     by true b c = refl
     by false true c = refl
     by false false c = refl
 
-pub none_more : (s : Spelling) (ss : List Spelling) → (is_told s ss || is_told s []) ≡ is_told s ss
-none_more s ss = by (is_told s ss)
+-- no more spellings say nothing more
+pub none_more : (s : Spelling) (ss : List Spelling) → (is_spelled s ss || is_spelled s []) ≡ is_spelled s ss
+none_more s ss = by (is_spelled s ss)
   where
     by : (a : Bool) → (a || false) ≡ a
     by true = refl
@@ -155,20 +162,23 @@ none_more s ss = by (is_told s ss)
 
 -- the spellings of the groups up to a place, and of the one there
 pub composed_at : (gs : List Group) (i : ℕ) (g : Group) → slice_get gs i ≡ Some g
-    → map composed (told (take (suc i) gs)) ≡ map composed (told (take i gs)) ++ told_with (form_at g) g.1.items
+    → map composed (all_spellings (take (suc i) gs)) ≡ map composed (all_spellings (take i gs)) ++ spellings_with (form_at g) g.1.items
 composed_at [] i g h = cc
 composed_at (x ∷ gs) zero g h =
     let same : x ≡ g = cc in
-    ap (map composed) (append-nil (told_by x)) ∙ keys_composed x.0.now x.1.items ∙ ap (λ (y : Group). told_with (form_at y) y.1.items) same
+    ap (map composed) (append-nil (group_spellings x)) ∙ keys_composed x.0.now x.1.items
+    ∙ ap (λ (y : Group). spellings_with (form_at y) y.1.items) same
 composed_at (x ∷ gs) (suc i) g h =
-    map-append composed (told_by x) (told (take (suc i) gs)) ∙ ap (λ l. map composed (told_by x) ++ l) (composed_at gs i g h)
-    ∙ sym (append_assoc (map composed (told_by x)) (map composed (told (take i gs))) (told_with (form_at g) g.1.items))
-    ∙ ap (λ l. l ++ told_with (form_at g) g.1.items) (sym (map-append composed (told_by x) (told (take i gs))))
+    map-append composed (group_spellings x) (all_spellings (take (suc i) gs))
+    ∙ ap (λ l. map composed (group_spellings x) ++ l) (composed_at gs i g h)
+    ∙ sym (append_assoc (map composed (group_spellings x)) (map composed (all_spellings (take i gs)))
+    (spellings_with (form_at g) g.1.items))
+    ∙ ap (λ l. l ++ spellings_with (form_at g) g.1.items) (sym (map-append composed (group_spellings x) (all_spellings (take i gs))))
 
 -- some more in each of two lists
-pub same_more : (ss ts more us : List Spelling) → TellsSame ss ts → AlsoTells ts more us → TellsSame (ss ++ more) us
+pub same_more : (ss ts more us : List Spelling) → SpellsSame ss ts → SpellsBoth ts more us → SpellsSame (ss ++ more) us
 same_more ss ts more us same also s =
-    list_any-append (λ t. is_eq (spelling_cmp s t)) ss more ∙ ap (λ b. b || is_told s more) (same s) ∙ sym (also s)
+    list_any-append (λ t. is_eq (spelling_cmp s t)) ss more ∙ ap (λ b. b || is_spelled s more) (same s) ∙ sym (also s)
 
 -- ---- the word of the least form first
 
@@ -270,8 +280,9 @@ module _ (f : List ℕ) where
 
 -- ---- groups
 
-abbrev pub word_told : Group → WordParts
-word_told g = record { form = g.0.now; keys = rising key_cmp g.1.items }
+-- a group as a word: its form, and its keys
+abbrev pub word_spelled : Group → WordParts
+word_spelled g = record { form = g.0.now; keys = rising key_cmp g.1.items }
 
 group_has : (f : List ℕ) (ks : List KeyParts) → list_all (has_form f) (map (λ k. record { form = f; key = k }) ks) ≡ true
 group_has f [] = refl
@@ -287,38 +298,43 @@ group_over : (f g : List ℕ) (ks : List KeyParts) → is_lt (form_cmp f g) ≡ 
 group_over f g [] l = refl
 group_over f g (k ∷ ks) l = and_from _ _ l (group_over f g ks l)
 
-groups_over : (f : List ℕ) (gs : List Group) → list_all (λ g. is_lt (form_cmp f g.0.now)) gs ≡ true → list_all (is_over f) (told gs) ≡ true
+groups_over : (f : List ℕ) (gs : List Group) → list_all (λ g. is_lt (form_cmp f g.0.now)) gs ≡ true
+    → list_all (is_over f) (all_spellings gs) ≡ true
 groups_over f [] a = refl
 groups_over f (g ∷ gs) a =
     let q = and_parts (is_lt (form_cmp f g.0.now)) (list_all (λ g. is_lt (form_cmp f g.0.now)) gs) a in
-    list_all-append (is_over f) (told_by g) (told gs) ∙ and_from _ _ (group_over f g.0.now g.1.items q.0) (groups_over f gs q.1)
+    list_all-append (is_over f) (group_spellings g) (all_spellings gs)
+    ∙ and_from _ _ (group_over f g.0.now g.1.items q.0) (groups_over f gs q.1)
 
-some_keys : (g : Group) → is_bare g ≡ false → 0 < length (told_by g)
+some_keys : (g : Group) → is_bare g ≡ false → 0 < length (group_spellings g)
 some_keys g h =
     let l = length-map g.1.items (λ k. (let s : Spelling = record { form = g.0.now; key = k } in s)) in
     let n = false-eqb (length g.1.items) 0 (sym h) in omega arith
 
 -- groups with rising forms say a word each
 pub groups_words : (gs : List Group) → rises_by form_cmp (λ g. g.0.now) gs ≡ true → has_bare gs ≡ false
-    → words_in (told gs) ≡ map word_told gs
+    → words_in (all_spellings gs) ≡ map word_spelled gs
 groups_words [] r h = refl
 groups_words (g ∷ gs) r h =
     let q = and_parts (list_all (λ x. is_lt (form_cmp g.0.now x.0.now)) gs) (rises_by form_cmp (λ g. g.0.now) gs) r in
     let f = or_parts (is_bare g) (has_bare gs) h in
-    words_split g.0.now (told_by g) (told gs) (some_keys g f.0) (group_has g.0.now g.1.items) (groups_over g.0.now gs q.0)
+    words_split g.0.now (group_spellings g) (all_spellings gs) (some_keys g f.0) (group_has g.0.now g.1.items) (groups_over g.0.now gs q.0)
     ∙ (λ i. (let word : WordParts = record { form = g.0.now; keys = rising key_cmp (group_keys g.0.now g.1.items i) } in word)
     ∷ groups_words gs q.1 f.1 i)
 
 -- ---- groups made, and put in order
 
-is_told_groups : (s : Spelling) (gs : List Group) → is_told s (told gs) ≡ list_any (λ g. is_told s (told_by g)) gs
-is_told_groups s [] = refl
-is_told_groups s (g ∷ gs) =
-    list_any-append (λ t. is_eq (spelling_cmp s t)) (told_by g) (told gs) ∙ ap (λ b. is_told s (told_by g) || b) (is_told_groups s gs)
+is_spelled_groups : (s : Spelling) (gs : List Group) → is_spelled s (all_spellings gs) ≡ list_any (λ g. is_spelled s (group_spellings g)) gs
+is_spelled_groups s [] = refl
+is_spelled_groups s (g ∷ gs) =
+    list_any-append (λ t. is_eq (spelling_cmp s t)) (group_spellings g) (all_spellings gs)
+    ∙ ap (λ b. is_spelled s (group_spellings g) || b) (is_spelled_groups s gs)
 
 -- the order of groups does not matter
-pub reordered_tell : (gs hs : List Group) → IsPermutation gs hs → TellsSame (told gs) (told hs)
-reordered_tell gs hs p s = is_told_groups s gs ∙ list_any-IsPermutation (λ g. is_told s (told_by g)) gs hs p ∙ sym (is_told_groups s hs)
+pub reordered_tell : (gs hs : List Group) → IsPermutation gs hs → SpellsSame (all_spellings gs) (all_spellings hs)
+reordered_tell gs hs p s =
+    is_spelled_groups s gs ∙ list_any-IsPermutation (λ g. is_spelled s (group_spellings g)) gs hs p ∙ sym (is_spelled_groups s hs)
 
+-- groups in another order have keys where all had
 pub reordered_keyed : (gs hs : List Group) → IsPermutation gs hs → has_bare gs ≡ false → has_bare hs ≡ false
 reordered_keyed gs hs p h = sym (list_any-IsPermutation is_bare gs hs p) ∙ h

@@ -1,5 +1,6 @@
 -- What holds of the runs of word characters in every passage.
-use Rattle.std.specs.Prelude.{◌≡◌, ℕ, ◌+◌, ◌<◌, nat_le, nat_lt, Bool, false, ◌&&◌, List, [], ◌∷◌, ◌++◌, All, count_by, length, if◌then◌else◌, chars, encode_utf8_all}
+use Rattle.std.specs.Prelude.{◌≡◌, ℕ, ◌+◌, ◌<◌, nat_le, nat_lt, Bool, false, ◌&&◌, List, [], ◌∷◌}
+use Rattle.std.specs.Prelude.{◌++◌, All, count_by, length, if◌then◌else◌, chars, encode_utf8_all}
 use Rattle.std.specs.List.{AllPass}
 use Rattle.concordance.specs.Passages.{Passage}
 use Rattle.concordance.specs.Words.{is_word_char, runs_in}
@@ -10,14 +11,14 @@ use Rattle.concordance.specs.Words.{is_word_char, runs_in}
 pub record IsLongestRun (p run : Passage) : Type 0 where
   pub before : List ℕ
   pub own : List ℕ
-  pub behind : List ℕ
-  pub characters : chars p.text ≡ before ++ (own ++ behind)
+  pub after : List ℕ
+  pub characters : chars p.text ≡ before ++ (own ++ after)
   pub start : run.start ≡ p.start + length (encode_utf8_all before)
   pub bytes : run.text ≡ encode_utf8_all own
   pub some : 0 < length own
   pub of_words : AllPass is_word_char own
   pub none_before : (front : List ℕ) (c : ℕ) → before ≡ front ++ c ∷ [] → is_word_char c ≡ false
-  pub none_behind : (c : ℕ) (rest : List ℕ) → behind ≡ c ∷ rest → is_word_char c ≡ false
+  pub none_after : (c : ℕ) (rest : List ℕ) → after ≡ c ∷ rest → is_word_char c ≡ false
 
 -- each run of a passage is a longest one
 abbrev pub RunsAreLongest : Type 0
@@ -31,7 +32,7 @@ lies_in at p = nat_le p.start at && nat_lt at (p.start + length p.text)
 -- word character, and else in none.
 abbrev pub WordCharactersAreInOneRun : Type 0
 WordCharactersAreInOneRun =
-    (p : Passage) (before : List ℕ) (c : ℕ) (behind : List ℕ)
-    → chars p.text ≡ before ++ c ∷ behind
+    (p : Passage) (before : List ℕ) (c : ℕ) (after : List ℕ)
+    → chars p.text ≡ before ++ c ∷ after
     → count_by (lies_in (p.start + length (encode_utf8_all before))) (runs_in p)
     ≡ (if is_word_char c then 1 else 0)

@@ -6,7 +6,8 @@
 -- rule.
 use Rattle.sty_sheet.specs.declared.kind.StyleKind.{StyleKind}
 use Rattle.sty_sheet.specs.declared.kind.StyleKind.TheVariants as kinds
-use Rattle.std.specs.Prelude.{ℕ, ◌+◌, ◌==◌, Bool, true, false, not, ◌&&◌, List, [], ◌∷◌, ◌++◌, map, filter, drop, codes, Option, None, Some, is_some, if◌then◌else◌}
+use Rattle.std.specs.Prelude.{ℕ, ◌+◌, ◌==◌, Bool, true, false, not, ◌&&◌, List, [], ◌∷◌, ◌++◌, map}
+use Rattle.std.specs.Prelude.{filter, drop, codes, Option, None, Some, is_some, if◌then◌else◌}
 use Rattle.std.specs.List.{list_any, before_first}
 use Rattle.std.specs.Option.{option_map_or}
 use Rattle.std.specs.Str.{bytes_eq}
@@ -28,7 +29,7 @@ pub record Site : Type 0 where
   pub start : ℕ
   pub bytes : List ℕ
   pub around : List Around
-  pub behind : Option MarkParts
+  pub before : Option MarkParts
   pub is_last : Bool
 
 -- the mark at the end of a node: its closing mark, or else what its kids end with
@@ -38,10 +39,10 @@ node_end inside (Some close) = Some close
 
 -- the mark at the end of entries that come after a mark or a text, if they do not end with a text
 abbrev pub mark_at_end : Option MarkParts → Forest → Option MarkParts
-mark_at_end behind nothing = behind
-mark_at_end behind (text s t f) = mark_at_end None f
-mark_at_end behind (leaf s m f) = mark_at_end (Some m) f
-mark_at_end behind (node k s b m ks c f) = mark_at_end (node_end (mark_at_end (Some m) ks) c) f
+mark_at_end before nothing = before
+mark_at_end before (text s t f) = mark_at_end None f
+mark_at_end before (leaf s m f) = mark_at_end (Some m) f
+mark_at_end before (node k s b m ks c f) = mark_at_end (node_end (mark_at_end (Some m) ks) c) f
 
 -- whether there is no entry
 abbrev pub is_nothing : Forest → Bool
@@ -52,12 +53,12 @@ is_nothing (node k s b m ks c f) = false
 
 -- the texts of entries within these nodes and after a mark, if one is there, in order
 abbrev pub sites_in : List Around → Option MarkParts → Forest → List Site
-sites_in around behind nothing = []
-sites_in around behind (text s t f) =
-    record { start = s; bytes = t; around = around; behind = behind; is_last = is_nothing f }
+sites_in around before nothing = []
+sites_in around before (text s t f) =
+    record { start = s; bytes = t; around = around; before = before; is_last = is_nothing f }
     ∷ sites_in around None f
-sites_in around behind (leaf s m f) = sites_in around (Some m) f
-sites_in around behind (node k s b m ks c f) =
+sites_in around before (leaf s m f) = sites_in around (Some m) f
+sites_in around before (node k s b m ks c f) =
     sites_in (record { kind = k; mark = m; is_closed = is_some c } ∷ around) (Some m) ks
     ++ sites_in around (node_end (mark_at_end (Some m) ks) c) f
 
@@ -120,7 +121,7 @@ without_attributes may_end bytes = if may_end then before_first is_bar bytes els
 -- a text without the number and the attributes
 abbrev pub trimmed : Site → Passage
 trimmed t =
-    let n = number_length t.behind t.bytes in
+    let n = number_length t.before t.bytes in
     record {
       start = t.start + n;
       text = without_attributes (may_end_with_attributes t)

@@ -1,6 +1,8 @@
 -- The words of a text: Unicode's alphabetic characters and the marks that combine with characters, in Normalization Form C (UAX #15).
 -- That a word is a longest run of these within one plain leaf is this project's own rule.
-use Rattle.std.specs.Prelude.{ℕ, ◌+◌, Bool, true, false, ◌&&◌, ◌||◌, not, List, [], ◌∷◌, map, filter, length, take_while, if◌then◌else◌, chars, encode_utf8, encode_utf8_all}
+use Rattle.std.specs.Prelude.{ℕ, ◌+◌, Bool, true, false, ◌&&◌, ◌||◌, not, List, [], ◌∷◌, map}
+use Rattle.std.specs.Prelude.{filter, length, take_while, if◌then◌else◌, chars, encode_utf8}
+use Rattle.std.specs.Prelude.{encode_utf8_all}
 use Rattle.std.specs.List.{flat_map}
 use Rattle.std.specs.Ordering.{nat_cmp}
 use Rattle.std.specs.Str.{bytes_eq}
@@ -8,7 +10,8 @@ use Rattle.std.specs.Cmp.Lexicographic.{slice_cmp}
 use Rattle.std.specs.declared.cmp.Ordering.{Ordering}
 use Rattle.sty_sheet.specs.Records.{Record}
 use Rattle.ucd_category.specs.declared.GeneralCategory.{GeneralCategory}
-use Rattle.ucd_category.specs.declared.GeneralCategory.TheVariants.{NonspacingMark, SpacingMark, EnclosingMark}
+use Rattle.ucd_category.specs.declared.GeneralCategory.TheVariants.{NonspacingMark, SpacingMark}
+use Rattle.ucd_category.specs.declared.GeneralCategory.TheVariants.{EnclosingMark}
 use Rattle.unicode.specs.Binary.{is_alphabetic}
 use Rattle.unicode.specs.GeneralCategory.{general_category}
 use Rattle.unicode_normalization.specs.Forms.{nfc}
@@ -34,17 +37,17 @@ is_word_char c = is_alphabetic c || is_combining (general_category c)
 
 -- The longest runs of word characters, in characters that begin at a place, where a word character comes before them or not: a run
 -- begins at each that has none directly before it, and goes on as far as they last.
-abbrev pub runs_behind : Bool → ℕ → List ℕ → List Passage
-runs_behind within at [] = []
-runs_behind within at (c ∷ cs) =
-    let later = runs_behind (is_word_char c) (at + length (encode_utf8 c)) cs in
+abbrev pub runs_from : Bool → ℕ → List ℕ → List Passage
+runs_from within at [] = []
+runs_from within at (c ∷ cs) =
+    let later = runs_from (is_word_char c) (at + length (encode_utf8 c)) cs in
     if is_word_char c && not within then
     record { start = at; text = encode_utf8_all (take_while is_word_char (c ∷ cs)) } ∷ later
     else later
 
 -- the longest runs of word characters in a passage, in order
 abbrev pub runs_in : Passage → List Passage
-runs_in p = runs_behind false p.start (chars p.text)
+runs_in p = runs_from false p.start (chars p.text)
 
 -- ---- spellings
 

@@ -2,7 +2,7 @@ ghost use Rattle.std.specs.Prelude.{◌≡◌, ◌<◌, length, map, IsTrue, IsF
 ghost use Rattle.sty_sheet.specs.Views.{records_of};
 ghost use Rattle.usfm_ref.specs.Keys.{key_cmp};
 ghost use Rattle.usfm_ref.specs.Rising.{rising};
-ghost use Rattle.concordance.specs.Loops.Groups.{told, told_with, has_bare, rise, AlsoTells, TellsSame};
+ghost use Rattle.concordance.specs.Loops.Groups.{all_spellings, spellings_with, has_bare, rise, SpellsBoth, SpellsSame};
 ghost use Rattle.concordance.specs.Loops.Groups.{form_at, composed};
 ghost use Rattle.concordance.specs.Loops.KeyedViews.{hits_left, spelled};
 ghost use Rattle.concordance.specs.Loops.FormViews.{forms_view};
@@ -60,8 +60,8 @@ fn note<'f>(
 ) -> Result<(), AllocError>
     requires keyed { IsFalse (has_bare groups.old.entries) }
     requires some { 0 < length keys.now }
-    ensures told { OnOk result (AlsoTells (told groups.old.entries)
-        (told_with form.entry.now keys.now) (told groups.new.entries)) }
+    ensures spells { OnOk result (SpellsBoth (all_spellings groups.old.entries)
+        (spellings_with form.entry.now keys.now) (all_spellings groups.new.entries)) }
     ensures keyed { OnOk result (IsFalse (has_bare groups.new.entries)) }
 {
     match groups.get_index_of(form) {
@@ -76,8 +76,8 @@ fn note<'f>(
 
 // The keys of each run.
 fn noted<'a>(alloc: Global, runs: Keyed<'_, 'a>) -> Result<IndexMap<&'a str, Vec<Key>>, AllocError>
-    ensures told { IfOk result (λ groups.
-        TellsSame (map spelled (hits_left runs.entry)) (told groups.entries)) }
+    ensures spells { IfOk result (λ groups.
+        SpellsSame (map spelled (hits_left runs.entry)) (all_spellings groups.entries)) }
     ensures keyed { IfOk result (λ groups. IsFalse (has_bare groups.entries)) }
 {
     let mut groups = IndexMap::new(alloc);
@@ -111,8 +111,8 @@ fn composed<'f>(
 ) -> Result<IndexMap<&'f str, Vec<Key>>, AllocError>
     requires keyed { IsFalse (has_bare runs.now.entries) }
     requires forms { forms_view forms.now ≡ map form_at runs.now.entries }
-    ensures told { IfOk result (λ groups.
-        TellsSame (map composed (told runs.now.entries)) (told groups.entries)) }
+    ensures spells { IfOk result (λ groups.
+        SpellsSame (map composed (all_spellings runs.now.entries)) (all_spellings groups.entries)) }
     ensures keyed { IfOk result (λ groups. IsFalse (has_bare groups.entries)) }
 {
     let mut groups = IndexMap::new(alloc);
@@ -143,8 +143,8 @@ fn in_order<'f>(
     mut groups: IndexMap<&'f str, Vec<Key>>,
 ) -> Result<IndexMap<&'f str, Vec<Key>>, AllocError>
     requires keyed { IsFalse (has_bare groups.entries) }
-    ensures told { IfOk result (λ sorted.
-        TellsSame (told groups.entry.entries) (told sorted.entries)) }
+    ensures spells { IfOk result (λ sorted.
+        SpellsSame (all_spellings groups.entry.entries) (all_spellings sorted.entries)) }
     ensures keyed { IfOk result (λ sorted. IsFalse (has_bare sorted.entries)) }
     ensures rise { IfOk result (λ sorted. IsTrue (rise sorted.entries)) }
 {
@@ -156,7 +156,8 @@ fn in_order<'f>(
 fn gathered(alloc: Global, groups: &IndexMap<&str, Vec<Key>>) -> Result<Vec<Word>, AllocError>
     requires keyed { IsFalse (has_bare groups.now.entries) }
     requires rise { IsTrue (rise groups.now.entries) }
-    ensures { IfOk result (λ words. words.items ≡ spec.words_in (told groups.now.entries)) }
+    ensures { IfOk result
+        (λ words. words.items ≡ spec.words_in (all_spellings groups.now.entries)) }
 {
     let mut words = Vec::with_capacity(alloc, groups.len())?;
     for index in 0..groups.len() {

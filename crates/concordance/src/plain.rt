@@ -15,7 +15,7 @@ ghost use Rattle.usfm_tree.specs.StepViews.{IsStyled, entry_before, step_before}
 ghost use Rattle.concordance.specs.Loops.Gathered as gathered;
 ghost use Rattle.concordance.specs.Loops.Gathered.{EntryFits, innermost, settled};
 ghost use Rattle.concordance.specs.Plain as plain;
-ghost use Rattle.concordance.specs.Loops.LeafViews.{passage_view, passages_view, mark_behind, waiting_of};
+ghost use Rattle.concordance.specs.Loops.LeafViews.{passage_view, passages_view, mark_before, waiting_of};
 ghost use Rattle.concordance.specs.Loops.LeafViews.{enclosures, leaves_with};
 
 use crate::passage::Passage;
@@ -42,16 +42,16 @@ pub(crate) struct Enclosure {
 pub(crate) struct Gathering<'a> {
     pub(crate) leaves: Vec<Passage<'a>>,
     pub(crate) waiting: Option<Passage<'a>>,
-    pub(crate) behind: Option<Mark<'a>>,
+    pub(crate) before: Option<Mark<'a>>,
     pub(crate) around: Vec<Enclosure>,
 }
 
 // The bytes of the number directly after the mark `\v`, with the blanks and the bridge.
-fn number_len(behind: Option<Mark<'_>>, text: &str) -> usize
-    ensures value { result ≡ plain.number_length (option_map mark_parts behind.entry) text.now }
+fn number_len(before: Option<Mark<'_>>, text: &str) -> usize
+    ensures value { result ≡ plain.number_length (option_map mark_parts before.entry) text.now }
     ensures boundary { IsCharBoundary text.now result }
 {
-    match behind {
+    match before {
         Some(mark) if mark.slice() == "\\v" => verse_len(text),
         _ => 0,
     }
@@ -98,18 +98,18 @@ fn enclosed(outer: Enclosure, kind: StyleKind, style: &Style<'_>) -> Enclosure
 // A text that counts, without the number before it.
 fn counted<'a>(
     enclosure: Enclosure,
-    behind: Option<Mark<'_>>,
+    before: Option<Mark<'_>>,
     start: usize,
     text: &'a str,
 ) -> Option<Passage<'a>>
     requires { start + length text.now < 2 ^ 64 }
-    ensures { let behind = option_map mark_parts behind.entry in
-        option_map passage_view result ≡ gathered.counted enclosure behind start text.entry.now }
+    ensures { let before = option_map mark_parts before.entry in
+        option_map passage_view result ≡ gathered.counted enclosure before start text.entry.now }
 {
     if enclosure.in_aside || !enclosure.in_verse_text {
         return None;
     }
-    let count = number_len(behind, text);
+    let count = number_len(before, text);
     let text = text.split_at(count).1;
     Some(Passage {
         start: start + count,
@@ -125,7 +125,7 @@ fn attributes_may_end(innermost: Enclosure, entry: Entry<'_, '_>) -> bool
 }
 
 // The mark after a milestone: its `\*`, or its own mark, unless a text follows that.
-fn behind_milestone<'a>(
+fn milestone_end<'a>(
     mark: Mark<'a>,
     text: Option<(usize, &str)>,
     close: Option<Mark<'a>>,
@@ -133,7 +133,7 @@ fn behind_milestone<'a>(
     ensures { let text = option_map (λ t. t.1.now) text.entry in
         let close = option_map mark_parts close.entry in
         option_map mark_parts result
-        ≡ gathered.behind_milestone (mark_parts mark.entry) text close }
+        ≡ gathered.milestone_end (mark_parts mark.entry) text close }
 {
     match (text, close) {
         (_, Some(close)) => Some(close),
@@ -163,7 +163,7 @@ impl<'a> Gathering<'a> {
             ≡ passages_view self.old.leaves.items
             ++ settled may_end_with_attributes (waiting_of self.old) []) }
         ensures waiting { OnOk result (waiting_of self.new ≡ None) }
-        ensures behind { OnOk result (mark_behind self.new ≡ mark_behind self.old) }
+        ensures before { OnOk result (mark_before self.new ≡ mark_before self.old) }
         ensures around { OnOk result (enclosures self.new ≡ enclosures self.old) }
     {
         if let Some(Passage { start, text }) = self.waiting {
@@ -203,20 +203,20 @@ impl<'a> Gathering<'a> {
         self.settle(attributes_may_end(innermost, entry))?;
         match entry {
             Entry::Text(start, text) => {
-                self.waiting = counted(innermost, self.behind, start, text);
-                self.behind = None;
+                self.waiting = counted(innermost, self.before, start, text);
+                self.before = None;
             }
-            Entry::Leaf(mark) => self.behind = Some(mark),
+            Entry::Leaf(mark) => self.before = Some(mark),
             Entry::Begin(kind, mark, style) => {
                 self.around.push(enclosed(innermost, kind, style))?;
-                self.behind = Some(mark);
+                self.before = Some(mark);
             }
             Entry::Close(mark) => {
                 self.around.pop();
-                self.behind = Some(mark);
+                self.before = Some(mark);
             }
             Entry::Milestone(mark, text, close) => {
-                self.behind = behind_milestone(mark, text, close);
+                self.before = milestone_end(mark, text, close);
             }
         }
         Ok(())
@@ -246,7 +246,7 @@ pub(crate) fn plain_leaves<'a>(
     let mut gathering = Gathering {
         leaves: Vec::new(alloc),
         waiting: None,
-        behind: None,
+        before: None,
         around: Vec::new(alloc),
     };
     let mut walk = TreeWalk::new(alloc, text, sheet);
@@ -257,7 +257,7 @@ pub(crate) fn plain_leaves<'a>(
     let Gathering {
         leaves,
         waiting: _,
-        behind: _,
+        before: _,
         around: _,
     } = gathering;
     Ok(leaves)

@@ -3,7 +3,7 @@
 ghost use Rattle.std.specs.Prelude.{◌≡◌, ◌<◌, ◌+◌, ◌^◌, ◌++◌, length, chars, IsUtf8, OnOk, IfOk};
 ghost use Rattle.std.specs.List.{flat_map, All};
 ghost use Rattle.concordance.specs.Loops.Reading.{EndsWithin, IsText};
-ghost use Rattle.concordance.specs.Loops.RunReading.{behind, front_bytes};
+ghost use Rattle.concordance.specs.Loops.RunReading.{after, front_bytes};
 ghost use Rattle.concordance.specs.Loops.LeafViews.{passage_view, passages_view};
 ghost use Rattle.concordance.specs.Words as words;
 
@@ -34,9 +34,9 @@ fn is_combining(category: GeneralCategory) -> bool
 }
 
 // What comes after the word characters at the front of a text, or after the others.
-fn behind_front(text: &str, is_word: bool) -> &str
+fn after_front(text: &str, is_word: bool) -> &str
     ensures front { text.now ≡ front_bytes is_word (chars text.now) ++ result.now }
-    ensures rest { chars result.now ≡ behind is_word (chars text.now) }
+    ensures rest { chars result.now ≡ after is_word (chars text.now) }
 {
     let mut chars = text.chars();
     loop {
@@ -57,11 +57,11 @@ fn push_runs<'a>(runs: &mut Vec<Passage<'a>>, passage: Passage<'a>) -> Result<()
 {
     let mut rest = passage.text;
     loop {
-        let at = behind_front(rest, false);
+        let at = after_front(rest, false);
         if at.is_empty() {
             return Ok(());
         }
-        rest = behind_front(at, true);
+        rest = after_front(at, true);
         let start = passage.start + (passage.text.len() - at.len());
         let text = at.split_at(at.len() - rest.len()).0;
         runs.push(Passage { start, text })?;

@@ -1,5 +1,7 @@
 -- The words that allow a node, looked up one by one among those of OccursUnder.
-use Rattle.std.proofs.Common.{◌≡◌, ℕ, Bool, true, false, ◌&&◌, ◌||◌, List, [], ◌∷◌, ◌++◌, Option, None, Some, sym, refl, ap, ◌∙◌}
+use Rattle.std.proofs.Common.{◌≡◌, ℕ, Bool, true, false, ◌&&◌, ◌||◌, List, [], ◌∷◌, ◌++◌, Option}
+use Rattle.std.proofs.Common.{None, Some, sym, refl, ap, ◌∙◌}
+use Rattle.std.proofs.Math.Bool.{or-false}
 use Rattle.std.specs.Prelude.{codes, if◌then◌else◌}
 use Rattle.std.specs.List.{list_any}
 use Rattle.std.specs.Option.{option_map_or, option_to_list}
@@ -34,17 +36,13 @@ each_name names (w ∷ words) =
     (λ i. among_turned names w i || each_name names words i)
     ∙ sym (any_or (λ n. bytes_eq n w) (λ n. has_word n words) names)
 
-or_false : (b : Bool) → (b || false) ≡ b
-or_false true = refl
-or_false false = refl
-
 -- a name, if there is one, and perhaps NEST, each looked up among the words
 pub each_allowed : (name : Option (List ℕ)) (nest : Bool) (words : List (List ℕ))
     → (option_map_or (λ n. has_word n words) name false || (nest && has_word (codes "NEST") words))
     ≡ list_any (is_among (option_to_list name ++ (if nest then codes "NEST" ∷ [] else []))) words
-each_allowed None true words = sym (each_name (codes "NEST" ∷ []) words ∙ or_false (has_word (codes "NEST") words))
+each_allowed None true words = sym (each_name (codes "NEST" ∷ []) words ∙ or-false (has_word (codes "NEST") words))
 each_allowed None false words = sym (each_name [] words)
 each_allowed (Some n) true words =
     sym (each_name (n ∷ codes "NEST" ∷ []) words
-    ∙ ap (λ b. has_word n words || b) (or_false (has_word (codes "NEST") words)))
+    ∙ ap (λ b. has_word n words || b) (or-false (has_word (codes "NEST") words)))
 each_allowed (Some n) false words = sym (each_name (n ∷ []) words)

@@ -1,10 +1,12 @@
 -- The reading of the marks from the left gives the findings.
-use Rattle.std.proofs.Common.{◌≡◌, ℕ, ◌+◌, ◌<◌, ◌≤◌, Bool, true, false, cond, List, [], ◌∷◌, ◌++◌, length, map, Option, sym, refl, ap, ◌∙◌, subst, arith}
+use Rattle.std.proofs.Common.{◌≡◌, ℕ, ◌+◌, ◌<◌, ◌≤◌, Bool, true, false, cond, List, [], ◌∷◌, ◌++◌}
+use Rattle.std.proofs.Common.{length, map, Option, sym, refl, ap, ◌∙◌, subst, arith}
 use Rattle.std.specs.Prelude.{filter, ◌==◌, ◌&&◌}
 use Rattle.std.specs.List.{flat_map}
 use Rattle.sty_sheet.specs.Records.{Record}
 use Rattle.usfm_ref.specs.Keys.{KeyParts, book_head}
-use Rattle.usfm_token.specs.Tokens.{MarkParts, Lexeme, mark, words, mark_bytes, slice_of, tokens_of, AreLexemes}
+use Rattle.usfm_token.specs.Tokens.{MarkParts, Lexeme, mark, words, mark_bytes, slice_of, tokens_of}
+use Rattle.usfm_token.specs.Tokens.{AreLexemes}
 use Rattle.usfm_tree.specs.Forest.{Forest}
 use Rattle.usfm_tree.specs.Reading.{tree_of}
 use Rattle.usfm_tree.specs.SheetViews.{styles_in}
@@ -16,17 +18,23 @@ use Rattle.verse_cut.proofs.MarkLaws.{IsGreatest}
 use Rattle.segment_check.specs.Spots.{Spot}
 use Rattle.segment_check.specs.Scenes.{Scene, scenes_behind, scenes_of}
 use Rattle.verse_cut.specs.Places.{key_at}
-use Rattle.segment_check.specs.TreeConditions.{unknown_marker, stray_close, unclosed_char, unclosed_note, too_deep, not_under}
-use Rattle.segment_check.specs.Findings.{all_codes, stands_at, holds_of, found_at, spots_of, findings}
+use Rattle.segment_check.specs.TreeConditions.{unknown_marker, stray_close, unclosed_char}
+use Rattle.segment_check.specs.TreeConditions.{unclosed_note, too_deep, not_under}
+use Rattle.segment_check.specs.Findings.{all_codes, stands_at, holds_of, found_at, spots_of}
+use Rattle.segment_check.specs.Findings.{findings}
 use Rattle.segment_check.specs.Laws.{FindingsAreRead}
-use Rattle.segment_check.specs.Reading.{State, key_then, told_first, told_rest, untold, held_at, behind, holds_in, findings_with, found_from, found_in, start_state, told_of}
-use Rattle.segment_check.specs.Loops.TreeViews.{told_in}
+use Rattle.segment_check.specs.Reading.{State, key_then, seen_first, seen_rest, unseen, held_at}
+use Rattle.segment_check.specs.Reading.{behind, holds_in, findings_with, found_from, found_in}
+use Rattle.segment_check.specs.Reading.{start_state, seen_of}
+use Rattle.segment_check.specs.Loops.TreeViews.{seen_in}
 use Rattle.segment_check.specs.declared.code.Code.{Code}
 use Rattle.segment_check.specs.declared.code.Code.TheVariants as code
 use Rattle.segment_check.specs.declared.finding.Finding.{Finding}
-use Rattle.segment_check.specs.declared.told.Told.{Told}
-use Rattle.segment_check.proofs.Threads.{Thread, left_behind, Passes, passes, text_thread, tree_thread}
-use Rattle.segment_check.proofs.Openings.{mark_key-by, Reaching, force_then, great_then, reaching_then, not_rising_is, overlap_is}
+use Rattle.segment_check.specs.declared.seen.Seen.{Seen}
+use Rattle.segment_check.proofs.Threads.{Thread, left_behind, Passes, passes, text_thread}
+use Rattle.segment_check.proofs.Threads.{tree_thread}
+use Rattle.segment_check.proofs.Openings.{mark_key-by, Reaching, force_then, great_then}
+use Rattle.segment_check.proofs.Openings.{reaching_then, not_rising_is, overlap_is}
 use Rattle.segment_check.proofs.Pieces.{Cuts, cuts_start, cuts_later, cuts_then, key_here}
 
 filter_same : (p q : Code → Bool) → ((c : Code) → p c ≡ q c) → (cs : List Code) → filter p cs ≡ filter q cs
@@ -45,7 +53,7 @@ module _ (sheet : List Record) (s : List ℕ) where
     force : chapter_in_force 0 before ≡ st.key.chapter
     great : IsGreatest st.key (keyed_behind 0 [] before)
     reaching : Reaching st.key st.reach before
-    told : st.told ≡ map (told_of sheet) left
+    seen : st.seen ≡ map (seen_of sheet) left
     thread : Thread at (map slice_of ts) left
     same : (p : ℕ) (test : Spot → Bool) → at ≤ p → stands_at tree p test ≡ stands_at left p test
     cuts : Cuts (pieces_of s) st.key at at ts
@@ -57,7 +65,7 @@ module _ (sheet : List Record) (s : List ℕ) where
     force = k.force;
     great = k.great;
     reaching = k.reaching;
-    told = k.told;
+    seen = k.seen;
     thread = text_thread at t (map slice_of ts) left each.0 k.thread;
     same = λ p test h. k.same p test (omega arith);
     cuts =
@@ -92,29 +100,29 @@ module _ (sheet : List Record) (s : List ℕ) where
       force = force_then before site st.key k.force k.great;
       great = great_then before site st.key k.force k.great;
       reaching = reaching_then before site st.key k.force k.great st.reach k.reaching;
-      told = ap (told_rest at) k.told ∙ pass.rest;
+      seen = ap (seen_rest at) k.seen ∙ pass.rest;
       thread = pass.thread;
       same = λ p test h. k.same p test (omega arith) ∙ pass.later p test (let n = some in omega (arith, n));
       cuts = cuts_later (pieces_of s) on.key at (at + length (mark_bytes m)) (at + length (mark_bytes m)) ts (omega arith) cut_on;
     }
 
     -- what is reported of the mark is what its tree says there
-    told_here : (test : Spot → Bool) (field : Told → Bool) → ((x : Spot) → field (told_of sheet x) ≡ test x) → field (untold at) ≡ false
-        → field (told_first at st.told) ≡ stands_at tree at test
-    told_here test field is none =
-        ap (λ l. field (told_first at l)) k.told ∙ pass.first test field is none ∙ sym (k.same at test (omega arith))
+    seen_here : (test : Spot → Bool) (field : Seen → Bool) → ((x : Spot) → field (seen_of sheet x) ≡ test x) → field (unseen at) ≡ false
+        → field (seen_first at st.seen) ≡ stands_at tree at test
+    seen_here test field is none =
+        ap (λ l. field (seen_first at l)) k.seen ∙ pass.first test field is none ∙ sym (k.same at test (omega arith))
 
     holds_is : (c : Code) → holds_in (held_at st at m (text_after ts)) c ≡ holds_of sheet tree scene c
-    holds_is code.UnknownMarker = told_here (unknown_marker sheet) (λ t. t.unknown_marker) (λ x. refl) refl
-    holds_is code.StrayClose = told_here stray_close (λ t. t.stray_close) (λ x. refl) refl
-    holds_is code.UnclosedChar = told_here unclosed_char (λ t. t.unclosed_char) (λ x. refl) refl
-    holds_is code.UnclosedNote = told_here unclosed_note (λ t. t.unclosed_note) (λ x. refl) refl
-    holds_is code.TooDeep = told_here (too_deep sheet) (λ t. t.too_deep) (λ x. refl) refl
+    holds_is code.UnknownMarker = seen_here (unknown_marker sheet) (λ t. t.unknown_marker) (λ x. refl) refl
+    holds_is code.StrayClose = seen_here stray_close (λ t. t.stray_close) (λ x. refl) refl
+    holds_is code.UnclosedChar = seen_here unclosed_char (λ t. t.unclosed_char) (λ x. refl) refl
+    holds_is code.UnclosedNote = seen_here unclosed_note (λ t. t.unclosed_note) (λ x. refl) refl
+    holds_is code.TooDeep = seen_here (too_deep sheet) (λ t. t.too_deep) (λ x. refl) refl
     holds_is code.BadNumber = refl
     holds_is code.BadBridge = refl
     holds_is code.NotRising = not_rising_is before site st.key k.force k.great
     holds_is code.Overlap = overlap_is before site st.key k.force k.great st.reach k.reaching
-    holds_is code.NotUnder = told_here (not_under sheet) (λ t. t.not_under) (λ x. refl) refl
+    holds_is code.NotUnder = seen_here (not_under sheet) (λ t. t.not_under) (λ x. refl) refl
 
     key_is : key_at (pieces_of s) at ≡ on.key
     key_is = key_here (pieces_of s) on.key at (at + length (mark_bytes m)) ts (let n = some in omega (arith, n)) cut_on
@@ -145,12 +153,12 @@ module _ (sheet : List Record) (s : List ℕ) where
   and_false true = refl
   and_false false = refl
 
-  knows_start : Knows [] 0 (start_state (map (told_of sheet) tree)) tree (tokens_of s)
+  knows_start : Knows [] 0 (start_state (map (seen_of sheet) tree)) tree (tokens_of s)
   knows_start = record {
     force = refl;
     great = λ k. and_true (key_below book_head k);
     reaching = λ c v h. and_false (0 == c);
-    told = refl;
+    seen = refl;
     thread = tree_thread sheet s;
     same = λ p test h. refl;
     cuts = cuts_start s;
@@ -159,12 +167,12 @@ module _ (sheet : List Record) (s : List ℕ) where
 pub findings_are_read : FindingsAreRead
 unfolding found_in findings scenes_of
 findings_are_read sheet s =
-    found_is sheet s [] 0 (start_state (map (told_of sheet) (spots_of sheet s))) (spots_of sheet s) (tokens_of s) (each-tokens_of s)
+    found_is sheet s [] 0 (start_state (map (seen_of sheet) (spots_of sheet s))) (spots_of sheet s) (tokens_of s) (each-tokens_of s)
     (knows_start sheet s)
 
 -- with what is reported of the tree, a reading of the text finds its findings
-pub tree_findings : (sheet : List Record) (s : List ℕ) (f : Forest) (told : List Told) (list : List Finding)
-    → f ≡ tree_of (styles_in sheet) s → told ≡ told_in sheet [] f → list ≡ found_in told s → list ≡ findings sheet s
+pub tree_findings : (sheet : List Record) (s : List ℕ) (f : Forest) (seen : List Seen) (list : List Finding)
+    → f ≡ tree_of (styles_in sheet) s → seen ≡ seen_in sheet [] f → list ≡ found_in seen s → list ≡ findings sheet s
 unfolding spots_of
-tree_findings sheet s f told list ef et h =
-    h ∙ ap (λ t. found_in t s) (et ∙ ap (told_in sheet []) ef) ∙ findings_are_read sheet s
+tree_findings sheet s f seen list ef et h =
+    h ∙ ap (λ t. found_in t s) (et ∙ ap (seen_in sheet []) ef) ∙ findings_are_read sheet s

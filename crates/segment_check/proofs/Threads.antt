@@ -1,5 +1,7 @@
 -- The marks of a tree, in the order of the tokens of its text.
-use Rattle.std.proofs.Common.{◌≡◌, ℕ, ◌+◌, ◌<◌, ◌≤◌, Bool, true, false, cond, List, [], ◌∷◌, ◌++◌, length, map, Option, None, Some, ◌⊎◌, ⊎_elim, inl, inr, sym, refl, ap, ◌∙◌, subst, arith, length-append}
+use Rattle.std.proofs.Common.{◌≡◌, ℕ, ◌+◌, ◌<◌, ◌≤◌, Bool, true, false, cond, List, [], ◌∷◌, ◌++◌}
+use Rattle.std.proofs.Common.{length, map, Option, None, Some, ◌⊎◌, ⊎_elim, inl, inr, sym, refl, ap}
+use Rattle.std.proofs.Common.{◌∙◌, subst, arith, length-append}
 use Rattle.std.specs.Prelude.{◌==◌, ◌&&◌, ◌||◌, slice_index}
 use Rattle.std.specs.List.{flat_map}
 use Rattle.std.specs.Option.{is_some}
@@ -9,7 +11,8 @@ use Rattle.std.proofs.Math.Bool.{or-false}
 use Rattle.sty_sheet.specs.Records.{Record}
 use Rattle.usfm_token.specs.Tokens.{MarkParts, IsText, mark_bytes, slice_of, tokens_of}
 use Rattle.usfm_tree.specs.Around.{Around}
-use Rattle.usfm_tree.specs.Forest.{Forest, nothing, text, leaf, node, leaves_of, bytes_of, close_leaves, close_bytes}
+use Rattle.usfm_tree.specs.Forest.{Forest, nothing, text, leaf, node, leaves_of, bytes_of}
+use Rattle.usfm_tree.specs.Forest.{close_leaves, close_bytes}
 use Rattle.usfm_tree.specs.Places.{Runs}
 use Rattle.usfm_tree.specs.Reading.{tree_of}
 use Rattle.usfm_tree.specs.SheetViews.{styles_in}
@@ -17,8 +20,8 @@ use Rattle.usfm_tree.proofs.LeavesLemmas.{tree_leaves}
 use Rattle.usfm_tree.proofs.PlaceLemmas.{tree_runs}
 use Rattle.segment_check.specs.Spots.{Spot, spots}
 use Rattle.segment_check.specs.Findings.{stands_at, spots_of}
-use Rattle.segment_check.specs.Reading.{told_first, told_rest, untold, told_of}
-use Rattle.segment_check.specs.declared.told.Told.{Told}
+use Rattle.segment_check.specs.Reading.{seen_first, seen_rest, unseen, seen_of}
+use Rattle.segment_check.specs.declared.seen.Seen.{Seen}
 
 -- marks of a tree are there, each once and in order, at leaves from a place on
 abbrev pub Thread : ℕ → List (List ℕ) → List Spot → Type 0
@@ -118,9 +121,9 @@ thread_start n (l ∷ ls) x xs t =
 pub record Passes (sheet : List Record) (at : ℕ) (l : List ℕ) (ls : List (List ℕ)) (xs : List Spot) : Type 0 where
   pub thread : Thread (at + length l) ls (left_behind at xs)
   pub later : (p : ℕ) (test : Spot → Bool) → at < p → stands_at xs p test ≡ stands_at (left_behind at xs) p test
-  pub rest : told_rest at (map (told_of sheet) xs) ≡ map (told_of sheet) (left_behind at xs)
-  pub first : (test : Spot → Bool) (field : Told → Bool) → ((x : Spot) → field (told_of sheet x) ≡ test x) → field (untold at) ≡ false
-      → field (told_first at (map (told_of sheet) xs)) ≡ stands_at xs at test
+  pub rest : seen_rest at (map (seen_of sheet) xs) ≡ map (seen_of sheet) (left_behind at xs)
+  pub first : (test : Spot → Bool) (field : Seen → Bool) → ((x : Spot) → field (seen_of sheet x) ≡ test x) → field (unseen at) ≡ false
+      → field (seen_first at (map (seen_of sheet) xs)) ≡ stands_at xs at test
 
 pub passes : (sheet : List Record) (at : ℕ) (l : List ℕ) (ls : List (List ℕ)) (xs : List Spot) → 0 < length l → Thread at (l ∷ ls) xs
     → Passes sheet at l ls xs
@@ -140,10 +143,10 @@ passes sheet at l ls (x ∷ xs) some t = ⊎_elim (λ a. here a.0 a.2) (λ b. be
               ap (λ b. (b && test x) || stands_at xs p test) (not_same x.start p (omega (arith, e)))
               ∙ ap (λ ys. stands_at ys p test) (sym (ap (λ b. cond b xs (x ∷ xs)) is));
           rest =
-              ap (λ b. cond b (map (told_of sheet) xs) (told_of sheet x ∷ map (told_of sheet) xs)) is
-              ∙ ap (λ b. map (told_of sheet) (cond b xs (x ∷ xs))) (sym is);
+              ap (λ b. cond b (map (seen_of sheet) xs) (seen_of sheet x ∷ map (seen_of sheet) xs)) is
+              ∙ ap (λ b. map (seen_of sheet) (cond b xs (x ∷ xs))) (sym is);
           first = λ test field same none.
-              ap (λ b. field (cond b (told_of sheet x) (untold at))) is ∙ same x ∙ sym (or-false (test x))
+              ap (λ b. field (cond b (seen_of sheet x) (unseen at))) is ∙ same x ∙ sym (or-false (test x))
               ∙ ap (λ r. test x || r) (sym (thread_beyond (at + length l) at ls xs test (omega arith) h))
               ∙ ap (λ b. (b && test x) || stands_at xs at test) (sym is);
         }
@@ -158,10 +161,10 @@ passes sheet at l ls (x ∷ xs) some t = ⊎_elim (λ a. here a.0 a.2) (λ b. be
           thread = let F : List Spot → Type 0 = λ ys. Thread (at + length l) ls ys in subst F (sym (ap (λ b. cond b xs (x ∷ xs)) is)) h;
           later = λ p test q. ap (λ ys. stands_at ys p test) (sym (ap (λ b. cond b xs (x ∷ xs)) is));
           rest =
-              ap (λ b. cond b (map (told_of sheet) xs) (told_of sheet x ∷ map (told_of sheet) xs)) is
-              ∙ ap (λ b. map (told_of sheet) (cond b xs (x ∷ xs))) (sym is);
+              ap (λ b. cond b (map (seen_of sheet) xs) (seen_of sheet x ∷ map (seen_of sheet) xs)) is
+              ∙ ap (λ b. map (seen_of sheet) (cond b xs (x ∷ xs))) (sym is);
           first = λ test field same none.
-              ap (λ b. field (cond b (told_of sheet x) (untold at))) is ∙ none
+              ap (λ b. field (cond b (seen_of sheet x) (unseen at))) is ∙ none
               ∙ sym (thread_beyond (at + length l) at ls (x ∷ xs) test (omega arith) h);
         }
 

@@ -1,7 +1,10 @@
 -- What a tree says of its marks, entry by entry.
 use Rattle.sty_sheet.specs.declared.kind.StyleKind.{StyleKind}
 use Rattle.sty_sheet.specs.declared.kind.StyleKind.TheVariants as kinds
-use Rattle.std.proofs.Common.{◌≡◌, ℕ, suc, ◌+◌, ◌-◌, ◌<◌, Bool, true, false, cond, List, [], ◌∷◌, ◌++◌, length, map, drop, codes, Option, None, Some, sym, refl, ap, ◌∙◌, subst, arith, append_assoc, append-nil, length-append, get_or, add-one}
+use Rattle.std.proofs.Common.{◌≡◌, ℕ, suc, ◌+◌, ◌-◌, ◌<◌, Bool, true, false, cond, List, [], ◌∷◌}
+use Rattle.std.proofs.Common.{◌++◌, length, map, drop, codes, Option, None, Some, sym, refl, ap}
+use Rattle.std.proofs.Common.{◌∙◌, subst, arith, append_assoc, append-nil, length-append, get_or}
+use Rattle.std.proofs.Common.{add-one}
 use Rattle.std.specs.Prelude.{◌==◌, nat_le, ◌&&◌, not, find}
 use Rattle.std.specs.Option.{is_some, option_map, option_map_or, option_to_list}
 use Rattle.std.proofs.Math.Seq.{drop-cons}
@@ -9,20 +12,24 @@ use Rattle.std.proofs.lemmas.Bool.Decides.{nat_tests}
 use Rattle.sty_sheet.specs.Records.{Record}
 use Rattle.usfm_token.specs.Tokens.{MarkParts, mark}
 use Rattle.usfm_tree.specs.Around.{Around}
-use Rattle.usfm_tree.specs.Forest.{Forest, ◌then◌, kids_of, start_of, mark_of, close_of, leaves_of, close_leaves}
+use Rattle.usfm_tree.specs.Forest.{Forest, ◌then◌, kids_of, start_of, mark_of, close_of, leaves_of}
+use Rattle.usfm_tree.specs.Forest.{close_leaves}
 use Rattle.usfm_tree.specs.Reading.{role, is_character_kind}
 use Rattle.usfm_tree.specs.SheetViews.{styles_in}
 use Rattle.usfm_tree.specs.Views.{view, forest_of, alone, node_step, parts_step, Parts}
 use Rattle.usfm_tree.specs.declared.node.Node.{Node}
-use Rattle.usfm_tree.specs.declared.node.Node.TheOpen.{Node-F, Text, Para, Char, Note, Milestone, Leaf}
+use Rattle.usfm_tree.specs.declared.node.Node.TheOpen.{Node-F, Text, Para, Char, Note, Milestone}
+use Rattle.usfm_tree.specs.declared.node.Node.TheOpen.{Leaf}
 use Rattle.usfm_tree.specs.declared.node.Node.TheFolds.{fold_out-Node}
 use Rattle.usfm_tree.proofs.ReadingLemmas.{then-assoc}
 use Rattle.usfm_tree.proofs.SpanLemmas.{leaves_then}
 use Rattle.segment_check.specs.Spots.{Spot, spots}
-use Rattle.segment_check.specs.TreeConditions.{holds_characters, allow, begins_node, is_restricted_kind, forbids, under_words}
-use Rattle.segment_check.specs.Reading.{told_of}
-use Rattle.segment_check.specs.Loops.TreeViews.{Tells, told_in, Surroundings, surroundings_of, entering, allowing, told_by, kind_here}
-use Rattle.segment_check.specs.declared.told.Told.{Told}
+use Rattle.segment_check.specs.TreeConditions.{holds_characters, allow, begins_node}
+use Rattle.segment_check.specs.TreeConditions.{is_restricted_kind, forbids, under_words}
+use Rattle.segment_check.specs.Reading.{seen_of}
+use Rattle.segment_check.specs.Loops.TreeViews.{Tells, seen_in, Surroundings, surroundings_of}
+use Rattle.segment_check.specs.Loops.TreeViews.{entering, allowing, seen_by, kind_here}
+use Rattle.segment_check.specs.declared.seen.Seen.{Seen}
 
 -- ---- what nodes around decide
 
@@ -61,14 +68,14 @@ room_is n = grind (arith, nat_tests)
 
 -- what is reported of a mark is reported by what the nodes around decide
 pub told_is : (sheet : List Record) (start : ℕ) (m : MarkParts) (kind : Option StyleKind) (is_closed : Bool) (around : List Around)
-    → told_of sheet (record { start = start; mark = m; node = kind; is_closed = is_closed; around = around })
-    ≡ told_by sheet (surroundings_of around) start m kind is_closed
+    → seen_of sheet (record { start = start; mark = m; node = kind; is_closed = is_closed; around = around })
+    ≡ seen_by sheet (surroundings_of around) start m kind is_closed
 told_is sheet start m kind is_closed around = λ i. record {
   start = start;
-  unknown_marker = (told_by sheet (surroundings_of around) start m kind is_closed).unknown_marker;
-  stray_close = (told_by sheet (surroundings_of around) start m kind is_closed).stray_close;
-  unclosed_char = (told_by sheet (surroundings_of around) start m kind is_closed).unclosed_char;
-  unclosed_note = (told_by sheet (surroundings_of around) start m kind is_closed).unclosed_note;
+  unknown_marker = (seen_by sheet (surroundings_of around) start m kind is_closed).unknown_marker;
+  stray_close = (seen_by sheet (surroundings_of around) start m kind is_closed).stray_close;
+  unclosed_char = (seen_by sheet (surroundings_of around) start m kind is_closed).unclosed_char;
+  unclosed_note = (seen_by sheet (surroundings_of around) start m kind is_closed).unclosed_note;
   too_deep = not (is_some kind) && begins_node (role (styles_in sheet) (mark m)) && room_is (length around) i;
   not_under =
       option_map_or (λ k. is_restricted_kind k && forbids (under_words sheet m.name) (allow_is k around i)) kind false;
@@ -77,64 +84,64 @@ told_is sheet start m kind is_closed around = λ i. record {
 -- ---- entries
 
 -- what is reported within an entry
-abbrev pub inner_told : List Record → List Around → Option StyleKind → MarkParts → Bool → Forest → List Told
-inner_told sheet around None m is_closed ks = []
-inner_told sheet around (Some k) m is_closed ks = told_in sheet (record { kind = k; mark = m; is_closed = is_closed } ∷ around) ks
+abbrev pub inner_seen : List Record → List Around → Option StyleKind → MarkParts → Bool → Forest → List Seen
+inner_seen sheet around None m is_closed ks = []
+inner_seen sheet around (Some k) m is_closed ks = seen_in sheet (record { kind = k; mark = m; is_closed = is_closed } ∷ around) ks
 
 -- what is reported of an entry by its parts
-abbrev pub entry_told : List Record → List Around → ℕ → Option MarkParts → Option StyleKind → Option MarkParts → Forest → List Told
-entry_told sheet around start None kind close ks = []
-entry_told sheet around start (Some m) kind close ks =
-    told_of sheet (record { start = start; mark = m; node = kind; is_closed = is_some close; around = around })
-    ∷ inner_told sheet around kind m (is_some close) ks
+abbrev pub entry_seen : List Record → List Around → ℕ → Option MarkParts → Option StyleKind → Option MarkParts → Forest → List Seen
+entry_seen sheet around start None kind close ks = []
+entry_seen sheet around start (Some m) kind close ks =
+    seen_of sheet (record { start = start; mark = m; node = kind; is_closed = is_some close; around = around })
+    ∷ inner_seen sheet around kind m (is_some close) ks
 
 -- and of the first of entries
-abbrev pub told_first : List Record → List Around → Forest → List Told
-told_first sheet around v = entry_told sheet around (start_of v) (mark_of v) (kind_here v) (close_of v) (kids_of v)
+abbrev pub seen_first : List Record → List Around → Forest → List Seen
+seen_first sheet around v = entry_seen sheet around (start_of v) (mark_of v) (kind_here v) (close_of v) (kids_of v)
 
 map-append : {A B : Type 0} (f : A → B) (xs ys : List A) → map f (xs ++ ys) ≡ map f xs ++ map f ys
 map-append f [] ys = refl
 map-append f (x ∷ xs) ys = ap (λ r. f x ∷ r) (map-append f xs ys)
 
 step_node : (sheet : List Record) (around : List Around) (k : StyleKind) (b : Parts) (rest : Forest)
-    → told_in sheet around ((alone k b) then rest) ≡ entry_told sheet around b.start (Some b.mark) (Some k) b.close b.kids
-    ++ told_in sheet around rest
+    → seen_in sheet around ((alone k b) then rest) ≡ entry_seen sheet around b.start (Some b.mark) (Some k) b.close b.kids
+    ++ seen_in sheet around rest
 step_node sheet around k b rest =
-    ap (λ r. told_of sheet (record { start = b.start; mark = b.mark; node = Some k; is_closed = is_some b.close; around = around }) ∷ r)
-    (map-append (told_of sheet) (spots (record { kind = k; mark = b.mark; is_closed = is_some b.close } ∷ around) b.kids)
+    ap (λ r. seen_of sheet (record { start = b.start; mark = b.mark; node = Some k; is_closed = is_some b.close; around = around }) ∷ r)
+    (map-append (seen_of sheet) (spots (record { kind = k; mark = b.mark; is_closed = is_some b.close } ∷ around) b.kids)
     (spots around rest))
 
-step_told : (sheet : List Record) (around : List Around) (x : Node-F Forest Parts) (rest : Forest)
-    → let f = node_step x in told_in sheet around (f then rest) ≡ told_first sheet around f ++ told_in sheet around rest
-step_told sheet around (Text t) rest = refl
-step_told sheet around (Leaf l) rest = refl
-step_told sheet around (Para b) rest = step_node sheet around kinds.Paragraph b rest
-step_told sheet around (Char b) rest = step_node sheet around kinds.Character b rest
-step_told sheet around (Note b) rest = step_node sheet around kinds.Note b rest
-step_told sheet around (Milestone b) rest = step_node sheet around kinds.Milestone b rest
+step_seen : (sheet : List Record) (around : List Around) (x : Node-F Forest Parts) (rest : Forest)
+    → let f = node_step x in seen_in sheet around (f then rest) ≡ seen_first sheet around f ++ seen_in sheet around rest
+step_seen sheet around (Text t) rest = refl
+step_seen sheet around (Leaf l) rest = refl
+step_seen sheet around (Para b) rest = step_node sheet around kinds.Paragraph b rest
+step_seen sheet around (Char b) rest = step_node sheet around kinds.Character b rest
+step_seen sheet around (Note b) rest = step_node sheet around kinds.Note b rest
+step_seen sheet around (Milestone b) rest = step_node sheet around kinds.Milestone b rest
 
-abbrev EntryTold : List Record → List Around → Forest → Type 0
-EntryTold sheet around f = (rest : Forest) → told_in sheet around (f then rest) ≡ told_first sheet around f ++ told_in sheet around rest
+abbrev EntrySeen : List Record → List Around → Forest → Type 0
+EntrySeen sheet around f = (rest : Forest) → seen_in sheet around (f then rest) ≡ seen_first sheet around f ++ seen_in sheet around rest
 
-told_before : (sheet : List Record) (around : List Around) (n : Node) → EntryTold sheet around (view n)
+told_before : (sheet : List Record) (around : List Around) (n : Node) → EntrySeen sheet around (view n)
 told_before sheet around n =
-    subst (EntryTold sheet around) (sym (fold_out-Node Forest Parts node_step parts_step n)) (step_told sheet around _)
+    subst (EntrySeen sheet around) (sym (fold_out-Node Forest Parts node_step parts_step n)) (step_seen sheet around _)
 
 pub node_told : (sheet : List Record) (around : List Around) (n : Node) (ns : List Node)
-    → told_in sheet around (forest_of (n ∷ ns)) ≡ told_first sheet around (view n) ++ told_in sheet around (forest_of ns)
+    → seen_in sheet around (forest_of (n ∷ ns)) ≡ seen_first sheet around (view n) ++ seen_in sheet around (forest_of ns)
 node_told sheet around n ns = told_before sheet around n (forest_of ns)
 
 -- what is reported of some nodes and of what follows them
-nodes_told : (sheet : List Record) (around : List Around) (ns : List Node) (rest : Forest)
-    → told_in sheet around ((forest_of ns) then rest) ≡ told_in sheet around (forest_of ns) ++ told_in sheet around rest
-nodes_told sheet around [] rest = refl
-nodes_told sheet around (n ∷ ns) rest =
-    let first = told_first sheet around (view n) in
-    ap (told_in sheet around) (then-assoc (view n) (forest_of ns) rest)
+nodes_seen : (sheet : List Record) (around : List Around) (ns : List Node) (rest : Forest)
+    → seen_in sheet around ((forest_of ns) then rest) ≡ seen_in sheet around (forest_of ns) ++ seen_in sheet around rest
+nodes_seen sheet around [] rest = refl
+nodes_seen sheet around (n ∷ ns) rest =
+    let first = seen_first sheet around (view n) in
+    ap (seen_in sheet around) (then-assoc (view n) (forest_of ns) rest)
     ∙ told_before sheet around n ((forest_of ns) then rest)
-    ∙ ap (λ l. first ++ l) (nodes_told sheet around ns rest)
-    ∙ sym (append_assoc first (told_in sheet around (forest_of ns)) (told_in sheet around rest))
-    ∙ ap (λ l. l ++ told_in sheet around rest) (sym (node_told sheet around n ns))
+    ∙ ap (λ l. first ++ l) (nodes_seen sheet around ns rest)
+    ∙ sym (append_assoc first (seen_in sheet around (forest_of ns)) (seen_in sheet around rest))
+    ∙ ap (λ l. l ++ seen_in sheet around rest) (sym (node_told sheet around n ns))
 
 -- ---- how large
 
@@ -171,9 +178,9 @@ node_left : (ns : List Node) (i : ℕ) (n : Node) → n ≡ get_or ns i n → i 
 node_left ns i n e h = drop-cons ns i n h ∙ ap (λ x. x ∷ drop (suc i) ns) (sym e) ∙ ap (λ j. n ∷ drop j ns) (sym (add-one i))
 
 pub told_left : (sheet : List Record) (around : List Around) (ns : List Node) (i : ℕ) (n : Node) → n ≡ get_or ns i n → i < length ns
-    → told_in sheet around (forest_of (drop i ns)) ≡ told_first sheet around (view n) ++ told_in sheet around (forest_of (drop (i + 1) ns))
+    → seen_in sheet around (forest_of (drop i ns)) ≡ seen_first sheet around (view n) ++ seen_in sheet around (forest_of (drop (i + 1) ns))
 told_left sheet around ns i n e h =
-    ap (λ l. told_in sheet around (forest_of l)) (node_left ns i n e h) ∙ node_told sheet around n (drop (i + 1) ns)
+    ap (λ l. seen_in sheet around (forest_of l)) (node_left ns i n e h) ∙ node_told sheet around n (drop (i + 1) ns)
 
 pub size_left : (ns : List Node) (i : ℕ) (n : Node) → n ≡ get_or ns i n → i < length ns
     → size_of (kids_of (view n)) + size_of (forest_of (drop (i + 1) ns)) < size_of (forest_of (drop i ns))
@@ -182,7 +189,7 @@ size_left ns i n e h =
     subst F (sym (node_left ns i n e h)) (node_smaller n (drop (i + 1) ns))
 
 -- one entry more is reported
-pub advance : (old new whole e before after : List Told) → old ++ before ≡ whole → before ≡ e ++ after → new ≡ old ++ e
+pub advance : (old new whole e before after : List Seen) → old ++ before ≡ whole → before ≡ e ++ after → new ≡ old ++ e
     → new ++ after ≡ whole
 advance old new whole e before after h split more =
     ap (λ l. l ++ after) more ∙ append_assoc old e after ∙ ap (λ l. old ++ l) (sym split) ∙ h
@@ -196,50 +203,50 @@ closed_is f o c b e h = e ∙ is_some-map f o ∙ ap is_some h
 
 -- what is reported of a mark is its entry's
 pub told_more : (sheet : List Record) (around : List Around) (i : Surroundings) (v : Forest) (m : MarkParts) (start : ℕ)
-    (kind : Option StyleKind) (is_closed : Bool) (t : Told) (inner old new : List Told)
-    → i ≡ surroundings_of around → t ≡ told_by sheet i start m kind is_closed
+    (kind : Option StyleKind) (is_closed : Bool) (t : Seen) (inner old new : List Seen)
+    → i ≡ surroundings_of around → t ≡ seen_by sheet i start m kind is_closed
     → Some m ≡ mark_of v → start ≡ start_of v → kind ≡ kind_here v → is_closed ≡ is_some (close_of v)
-    → inner ≡ inner_told sheet around kind m is_closed (kids_of v) → new ≡ (old ++ t ∷ []) ++ inner
-    → new ≡ old ++ told_first sheet around v
+    → inner ≡ inner_seen sheet around kind m is_closed (kids_of v) → new ≡ (old ++ t ∷ []) ++ inner
+    → new ≡ old ++ seen_first sheet around v
 told_more sheet around i v m start kind is_closed t inner old new ei et em es ek ec en ew =
     ew ∙ append_assoc old (t ∷ []) inner
     ∙ ap (λ x. old ++ x ∷ inner)
-    (et ∙ ap (λ (s : Surroundings). told_by sheet s start m kind is_closed) ei ∙ sym (told_is sheet start m kind is_closed around))
-    ∙ ap (λ l. old ++ told_of sheet (spot start kind is_closed) ∷ l) en
-    ∙ (λ j. old ++ told_of sheet (spot (es j) (ek j) (ec j)) ∷ inner_told sheet around (ek j) m (ec j) (kids_of v))
-    ∙ ap (λ o. old ++ entry_told sheet around (start_of v) o (kind_here v) (close_of v) (kids_of v)) em
+    (et ∙ ap (λ (s : Surroundings). seen_by sheet s start m kind is_closed) ei ∙ sym (told_is sheet start m kind is_closed around))
+    ∙ ap (λ l. old ++ seen_of sheet (spot start kind is_closed) ∷ l) en
+    ∙ (λ j. old ++ seen_of sheet (spot (es j) (ek j) (ec j)) ∷ inner_seen sheet around (ek j) m (ec j) (kids_of v))
+    ∙ ap (λ o. old ++ entry_seen sheet around (start_of v) o (kind_here v) (close_of v) (kids_of v)) em
   where
     spot : ℕ → Option StyleKind → Bool → Spot
     spot at node closed = record { start = at; mark = m; node = node; is_closed = closed; around = around }
 
 -- what is reported within a node
 pub told_within : (sheet : List Record) (around : List Around) (i inner : Surroundings) (k : StyleKind) (kind : Option StyleKind)
-    (m : MarkParts) (is_closed : Bool) (name : List ℕ) (f ks : Forest) (old new : List Told)
+    (m : MarkParts) (is_closed : Bool) (name : List ℕ) (f ks : Forest) (old new : List Seen)
     → i ≡ surroundings_of around → name ≡ m.name → inner ≡ entering k name i → kind ≡ Some k → f ≡ ks → Tells sheet inner f old new
-    → new ≡ old ++ inner_told sheet around kind m is_closed ks
+    → new ≡ old ++ inner_seen sheet around kind m is_closed ks
 told_within sheet around i inner k kind m is_closed name f ks old new ei en ew ek ef h =
     h within (ew ∙ ap (λ n. entering k n i) en ∙ ap (entering k m.name) ei ∙ enters k m is_closed around)
-    ∙ ap (λ x. old ++ told_in sheet within x) ef
-    ∙ ap (λ o. old ++ inner_told sheet around o m is_closed ks) (sym ek)
+    ∙ ap (λ x. old ++ seen_in sheet within x) ef
+    ∙ ap (λ o. old ++ inner_seen sheet around o m is_closed ks) (sym ek)
   where
     within : List Around
     within = record { kind = k; mark = m; is_closed = is_closed } ∷ around
 
 -- nothing is reported of a text
-pub nothing_told : (sheet : List Record) (around : List Around) (v : Forest) (old : List Told)
-    → None ≡ mark_of v → old ≡ old ++ told_first sheet around v
+pub nothing_told : (sheet : List Record) (around : List Around) (v : Forest) (old : List Seen)
+    → None ≡ mark_of v → old ≡ old ++ seen_first sheet around v
 nothing_told sheet around v old e =
-    sym (append-nil old) ∙ ap (λ o. old ++ entry_told sheet around (start_of v) o (kind_here v) (close_of v) (kids_of v)) e
+    sym (append-nil old) ∙ ap (λ o. old ++ entry_seen sheet around (start_of v) o (kind_here v) (close_of v) (kids_of v)) e
 
 -- ---- a loop over what a reader gives
 
 -- some nodes under the root more are reported
-pub tells_on : (sheet : List Record) (i : Surroundings) (old new whole : List Told) (ns : List Node) (f g : Forest)
-    → old ++ told_in sheet [] f ≡ whole → f ≡ ((forest_of ns) then g) → i ≡ surroundings_of [] → Tells sheet i (forest_of ns) old new
-    → new ++ told_in sheet [] g ≡ whole
+pub tells_on : (sheet : List Record) (i : Surroundings) (old new whole : List Seen) (ns : List Node) (f g : Forest)
+    → old ++ seen_in sheet [] f ≡ whole → f ≡ ((forest_of ns) then g) → i ≡ surroundings_of [] → Tells sheet i (forest_of ns) old new
+    → new ++ seen_in sheet [] g ≡ whole
 tells_on sheet i old new whole ns f g h split root tells =
-    advance old new whole (told_in sheet [] (forest_of ns)) (told_in sheet [] f) (told_in sheet [] g) h
-    (ap (told_in sheet []) split ∙ nodes_told sheet [] ns g) (tells [] root)
+    advance old new whole (seen_in sheet [] (forest_of ns)) (seen_in sheet [] f) (seen_in sheet [] g) h
+    (ap (seen_in sheet []) split ∙ nodes_seen sheet [] ns g) (tells [] root)
 
 pub less_left : (ns : List Node) (f g : Forest) → f ≡ ((forest_of ns) then g) → 0 < length ns → size_of g < size_of f
 less_left [] f g split some = absurd (omega (arith, some))

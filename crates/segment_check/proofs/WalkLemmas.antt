@@ -1,5 +1,7 @@
 -- What one token does to a walk over the marks of a text.
-use Rattle.std.proofs.Common.{◌≡◌, ℕ, ◌-◌, ◌+◌, ◌≤◌, List, [], ◌∷◌, ◌++◌, length, Option, None, Some, sym, refl, ap, ◌∙◌, subst, arith, append_assoc, append-nil, length-append}
+use Rattle.std.proofs.Common.{◌≡◌, ℕ, ◌-◌, ◌+◌, ◌≤◌, List, [], ◌∷◌, ◌++◌, length, Option, None}
+use Rattle.std.proofs.Common.{Some, sym, refl, ap, ◌∙◌, subst, arith, append_assoc, append-nil}
+use Rattle.std.proofs.Common.{length-append}
 use Rattle.std.specs.Option.{MatchOption}
 use Rattle.usfm_token.specs.Tokens.{MarkParts, Lexeme, mark, words, mark_bytes, slice_of, tokens_of}
 use Rattle.usfm_token.specs.View.{lexeme}
@@ -8,9 +10,10 @@ use Rattle.usfm_token.proofs.Walk.{token_front}
 use Rattle.verse_cut.specs.Keys.{text_after}
 use Rattle.verse_cut.specs.Loops.Walks.{IsFirst}
 use Rattle.segment_check.specs.Loops.WalkViews.{before}
-use Rattle.segment_check.specs.Reading.{State, behind, held_at, findings_with, found_from, found_in, start_state}
+use Rattle.segment_check.specs.Reading.{State, behind, held_at, findings_with, found_from, found_in}
+use Rattle.segment_check.specs.Reading.{start_state}
 use Rattle.segment_check.specs.declared.finding.Finding.{Finding}
-use Rattle.segment_check.specs.declared.told.Told.{Told}
+use Rattle.segment_check.specs.declared.seen.Seen.{Seen}
 
 -- where the token after the first begins
 pub next_place : (n : ℕ) (at rest : List ℕ) (t : Lexeme) → tokens_of at ≡ t ∷ tokens_of rest → length at ≤ n
@@ -59,6 +62,6 @@ pub end_step : (st : State) (n : ℕ) (all : List Lexeme) (found whole : List Fi
     → found ≡ whole
 end_step st n all found whole none h = sym (append-nil found) ∙ ap (λ l. found ++ found_from st n l) (sym none) ∙ h
 
-pub found_in-from : (told : List Told) (s : List ℕ) → found_in told s ≡ found_from (start_state told) 0 (tokens_of s)
+pub found_in-from : (seen : List Seen) (s : List ℕ) → found_in seen s ≡ found_from (start_state seen) 0 (tokens_of s)
 unfolding found_in
-found_in-from told s = refl
+found_in-from seen s = refl

@@ -1,5 +1,7 @@
 -- The findings, as a reading of the marks from the left. A law says that they are the findings of the definition.
-use Rattle.std.specs.Prelude.{ℕ, ◌+◌, ◌==◌, nat_lt, nat_le, Bool, true, false, not, ◌&&◌, ◌||◌, List, [], ◌∷◌, ◌++◌, length, map, filter, Option, None, Some, if◌then◌else◌}
+use Rattle.std.specs.Prelude.{ℕ, ◌+◌, ◌==◌, nat_lt, nat_le, Bool, true, false, not, ◌&&◌, ◌||◌}
+use Rattle.std.specs.Prelude.{List, [], ◌∷◌, ◌++◌, length, map, filter, Option, None, Some}
+use Rattle.std.specs.Prelude.{if◌then◌else◌}
 use Rattle.std.specs.Option.{is_some, option_map_or}
 use Rattle.usfm_ref.specs.Keys.{KeyParts, book_head}
 use Rattle.usfm_ref.specs.declared.number.VerseMark.{VerseMark}
@@ -8,7 +10,8 @@ use Rattle.usfm_token.specs.Tokens.{MarkParts, Lexeme, mark, words, mark_bytes, 
 use Rattle.verse_cut.specs.Keys.{key_below, text_after}
 use Rattle.segment_check.specs.Scenes.{verse_behind}
 use Rattle.segment_check.specs.Spots.{Spot}
-use Rattle.segment_check.specs.TreeConditions.{unknown_marker, stray_close, unclosed_char, unclosed_note, too_deep, not_under}
+use Rattle.segment_check.specs.TreeConditions.{unknown_marker, stray_close, unclosed_char}
+use Rattle.segment_check.specs.TreeConditions.{unclosed_note, too_deep, not_under}
 use Rattle.segment_check.specs.NumberConditions.{lacks_number, has_bad_bridge, reaches}
 use Rattle.segment_check.specs.Numbers.{chapter_behind, key_by}
 use Rattle.segment_check.specs.Findings.{all_codes}
@@ -16,11 +19,11 @@ use Rattle.segment_check.specs.declared.code.Code.{Code}
 use Rattle.segment_check.specs.declared.code.Code.TheVariants as code
 use Rattle.segment_check.specs.declared.finding.Finding.{Finding}
 use Rattle.segment_check.specs.declared.marks.Held.{Held}
-use Rattle.segment_check.specs.declared.told.Told.{Told}
+use Rattle.segment_check.specs.declared.seen.Seen.{Seen}
 
 -- which of the conditions of the tree hold of a mark
-abbrev pub told_of : List Record → Spot → Told
-told_of sheet spot = record {
+abbrev pub seen_of : List Record → Spot → Seen
+seen_of sheet spot = record {
   start = spot.start;
   unknown_marker = unknown_marker sheet spot;
   stray_close = stray_close spot;
@@ -60,11 +63,11 @@ any_reaches reach v = option_map_or (λ last. reaches last v) reach false
 pub record State : Type 0 where
   pub key : KeyParts
   pub reach : Option Last
-  pub told : List Told
+  pub seen : List Seen
 
 -- of a mark that begins at a place none of these conditions holds
-abbrev pub untold : ℕ → Told
-untold start = record {
+abbrev pub unseen : ℕ → Seen
+unseen start = record {
   start = start;
   unknown_marker = false;
   stray_close = false;
@@ -76,14 +79,14 @@ untold start = record {
 
 -- what the tree says of the mark that begins at a place: the first that is left, if it is of that place, and else
 -- that nothing holds
-abbrev pub told_first : ℕ → List Told → Told
-told_first at [] = untold at
-told_first at (t ∷ ts) = if t.start == at then t else untold at
+abbrev pub seen_first : ℕ → List Seen → Seen
+seen_first at [] = unseen at
+seen_first at (t ∷ ts) = if t.start == at then t else unseen at
 
 -- what the tree says of the marks after the one that begins at a place
-abbrev pub told_rest : ℕ → List Told → List Told
-told_rest at [] = []
-told_rest at (t ∷ ts) = if t.start == at then ts else t ∷ ts
+abbrev pub seen_rest : ℕ → List Seen → List Seen
+seen_rest at [] = []
+seen_rest at (t ∷ ts) = if t.start == at then ts else t ∷ ts
 
 -- whether a key is above the open piece's
 abbrev pub is_above : KeyParts → Option KeyParts → Bool
@@ -104,7 +107,7 @@ reach_with reach (Some v) = further reach v.last
 abbrev pub held_at : State → ℕ → MarkParts → List ℕ → Held
 held_at st at m after =
     let key = key_by st.key.chapter (chapter_behind m after) (verse_behind m after) in record {
-      told = told_first at st.told;
+      seen = seen_first at st.seen;
       bad_number = lacks_number m after;
       bad_bridge = has_bad_bridge m after;
       not_rising = is_some key && not (is_above st.key key);
@@ -118,21 +121,21 @@ behind st at m after =
     let key = key_by st.key.chapter (chapter_behind m after) (verse_behind m after) in record {
       key = key_then st.key key;
       reach = if is_above st.key key then reach_with st.reach (verse_behind m after) else st.reach;
-      told = told_rest at st.told;
+      seen = seen_rest at st.seen;
     }
 
 -- whether the condition of a code is among those that hold of a mark
 abbrev pub holds_in : Held → Code → Bool
-holds_in held code.UnknownMarker = held.told.unknown_marker
-holds_in held code.StrayClose = held.told.stray_close
-holds_in held code.UnclosedChar = held.told.unclosed_char
-holds_in held code.UnclosedNote = held.told.unclosed_note
-holds_in held code.TooDeep = held.told.too_deep
+holds_in held code.UnknownMarker = held.seen.unknown_marker
+holds_in held code.StrayClose = held.seen.stray_close
+holds_in held code.UnclosedChar = held.seen.unclosed_char
+holds_in held code.UnclosedNote = held.seen.unclosed_note
+holds_in held code.TooDeep = held.seen.too_deep
 holds_in held code.BadNumber = held.bad_number
 holds_in held code.BadBridge = held.bad_bridge
 holds_in held code.NotRising = held.not_rising
 holds_in held code.Overlap = held.overlap
-holds_in held code.NotUnder = held.told.not_under
+holds_in held code.NotUnder = held.seen.not_under
 
 -- the findings at a place with a key: one for each code whose condition holds
 abbrev pub findings_with : Held → ℕ → KeyParts → List Finding
@@ -157,9 +160,9 @@ found_from st at (mark m ∷ ts) =
     ++ found_from (behind st at m (text_after ts)) (at + length (mark_bytes m)) ts
 
 -- the state before all marks: the open piece is that of the book head, and no bridge was read
-abbrev pub start_state : List Told → State
-start_state told = record { key = book_head; reach = None; told = told }
+abbrev pub start_state : List Seen → State
+start_state seen = record { key = book_head; reach = None; seen = seen }
 
 -- what is found in a text, where a tree says this of its marks
-unfoldable pub found_in : List Told → List ℕ → List Finding
-found_in told s = found_from (start_state told) 0 (tokens_of s)
+unfoldable pub found_in : List Seen → List ℕ → List Finding
+found_in seen s = found_from (start_state seen) 0 (tokens_of s)

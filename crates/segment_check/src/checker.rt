@@ -17,7 +17,7 @@ use sty_sheet::Sheet;
 pub fn check(alloc: Global, text: &str, sheet: &Sheet<'_>) -> Result<Vec<Finding>, AllocError>
     ensures { IfOk result (λ list. list.items ≡ findings (records_of sheet.now) text.now) }
 {
-    let told = tell_tree(alloc, text, sheet)?;
-    let findings = find_marks(alloc, text, told.as_slice())?;
+    let seen = tell_tree(alloc, text, sheet)?;
+    let findings = find_marks(alloc, text, seen.as_slice())?;
     Ok(findings)
 }

@@ -16,7 +16,7 @@ mod inside;
 pub mod laws;
 mod marks;
 mod numbers;
-mod told;
+mod seen;
 mod tree;
 
 pub use checker::check;

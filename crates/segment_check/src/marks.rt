@@ -15,7 +15,7 @@ use crate::finding::Finding;
 use crate::numbers::{
     chapter_behind, fails_bridge, further, key_of, lacks_number, reaches, verse_behind,
 };
-use crate::told::Told;
+use crate::seen::Seen;
 use std::alloc::{AllocError, Global};
 use usfm_ref::{Key, Place, VerseMark};
 use usfm_token::{Mark, Token, TokenIter};
@@ -23,7 +23,7 @@ use usfm_token::{Mark, Token, TokenIter};
 // Which codes hold at a mark.
 #[derive(Clone, Copy)]
 struct Held {
-    told: Told,
+    seen: Seen,
     bad_number: bool,
     bad_bridge: bool,
     not_rising: bool,
@@ -36,13 +36,13 @@ struct Held {
 struct Walk<'t> {
     key: Key,
     reach: Option<(u16, Option<u8>)>,
-    told: &'t [Told],
+    seen: &'t [Seen],
 }
 
-fn untold(start: usize) -> Told
-    ensures { result ≡ reading.untold start }
+fn unseen(start: usize) -> Seen
+    ensures { result ≡ reading.unseen start }
 {
-    Told {
+    Seen {
         start,
         unknown_marker: false,
         stray_close: false,
@@ -54,21 +54,21 @@ fn untold(start: usize) -> Told
 }
 
 impl Walk<'_> {
-    ghost use Rattle.segment_check.specs.Reading.{behind, found_with, held_at, told_first, told_rest};
+    ghost use Rattle.segment_check.specs.Reading.{behind, found_with, held_at, seen_first, seen_rest};
     ghost use Rattle.segment_check.specs.Loops.WalkViews.{state_of};
 
     // Takes what the tree says of the mark that begins here.
-    fn take_told(&mut self, start: usize) -> Told
-        ensures first { result ≡ told_first start (state_of self.old).told }
+    fn take_seen(&mut self, start: usize) -> Seen
+        ensures first { result ≡ seen_first start (state_of self.old).seen }
         ensures rest { let st = state_of self.old in
-            state_of self.new ≡ record st { told = told_rest start st.told } }
+            state_of self.new ≡ record st { seen = seen_rest start st.seen } }
     {
-        match self.told {
-            [told, rest @ ..] if told.start == start => {
-                self.told = rest;
-                *told
+        match self.seen {
+            [seen, rest @ ..] if seen.start == start => {
+                self.seen = rest;
+                *seen
             }
-            _ => untold(start),
+            _ => unseen(start),
         }
     }
 
@@ -79,12 +79,12 @@ impl Walk<'_> {
         ensures behind { let st = state_of self.old in
             state_of self.new ≡ behind st start (mark_parts mark.entry) after.now }
     {
-        let told = self.take_told(start);
+        let seen = self.take_seen(start);
         let verse = verse_behind(mark, after);
         let key = key_of(self.key.chapter, chapter_behind(mark, after), verse);
         let opens = is_above(self.key, key);
         let held = Held {
-            told,
+            seen,
             bad_number: lacks_number(mark, after),
             bad_bridge: has_bad_bridge(verse, after),
             not_rising: key.is_some() && !opens,
@@ -205,23 +205,23 @@ fn push_held(
     ensures { let found = findings_with held start key in
         OnOk result (findings.new.items ≡ findings.old.items ++ found) }
 {
-    let told = held.told;
+    let seen = held.seen;
     push_if(
         findings,
-        told.unknown_marker,
+        seen.unknown_marker,
         Code::UnknownMarker,
         start,
         key,
     )?;
-    push_if(findings, told.stray_close, Code::StrayClose, start, key)?;
-    push_if(findings, told.unclosed_char, Code::UnclosedChar, start, key)?;
-    push_if(findings, told.unclosed_note, Code::UnclosedNote, start, key)?;
-    push_if(findings, told.too_deep, Code::TooDeep, start, key)?;
+    push_if(findings, seen.stray_close, Code::StrayClose, start, key)?;
+    push_if(findings, seen.unclosed_char, Code::UnclosedChar, start, key)?;
+    push_if(findings, seen.unclosed_note, Code::UnclosedNote, start, key)?;
+    push_if(findings, seen.too_deep, Code::TooDeep, start, key)?;
     push_if(findings, held.bad_number, Code::BadNumber, start, key)?;
     push_if(findings, held.bad_bridge, Code::BadBridge, start, key)?;
     push_if(findings, held.not_rising, Code::NotRising, start, key)?;
     push_if(findings, held.overlap, Code::Overlap, start, key)?;
-    push_if(findings, told.not_under, Code::NotUnder, start, key)?;
+    push_if(findings, seen.not_under, Code::NotUnder, start, key)?;
     Ok(())
 }
 
@@ -229,9 +229,9 @@ fn push_held(
 pub(crate) fn find_marks(
     alloc: Global,
     text: &str,
-    told: &[Told],
+    seen: &[Seen],
 ) -> Result<Vec<Finding>, AllocError>
-    ensures { IfOk result (λ list. list.items ≡ found_in told.now text.now) }
+    ensures { IfOk result (λ list. list.items ≡ found_in seen.now text.now) }
 {
     let mut findings = Vec::new(alloc);
     let mut walk = Walk {
@@ -240,7 +240,7 @@ pub(crate) fn find_marks(
             place: Place::Head,
         },
         reach: None,
-        told,
+        seen,
     };
     let mut tokens = TokenIter::new(text);
     let mut at = text;

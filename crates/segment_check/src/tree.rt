@@ -7,7 +7,7 @@ ghost use Rattle.segment_check.specs.TreeConditions as conditions;
 ghost use Rattle.segment_check.specs.TreeConditions.{is_among, is_restricted_kind, under_words};
 ghost use Rattle.segment_check.specs.Loops.TreeViews.{Tells, allowed_names, inside_view, is_misplaced};
 ghost use Rattle.segment_check.specs.Loops.TreeViews.{kind_here};
-ghost use Rattle.segment_check.specs.Loops.TreeViews.{told_by, told_under};
+ghost use Rattle.segment_check.specs.Loops.TreeViews.{seen_by, seen_under};
 ghost use Rattle.sty_sheet.specs.Records.{has_word};
 ghost use Rattle.sty_sheet.specs.Views.{record_of, records_of};
 ghost use Rattle.usfm_token.specs.View.{mark_parts};
@@ -16,7 +16,7 @@ ghost use Rattle.usfm_tree.specs.SheetViews.{style_view, styles_of};
 ghost use Rattle.usfm_tree.specs.Views.{view, forest_of};
 
 use crate::inside::{Allowed, Inside};
-use crate::told::Told;
+use crate::seen::Seen;
 use std::alloc::{AllocError, Global};
 use sty_sheet::{Sheet, Style, StyleKind};
 use usfm_token::Mark;
@@ -112,14 +112,14 @@ fn tell_mark(
     mark: Mark<'_>,
     kind: Option<StyleKind>,
     is_closed: bool,
-) -> Told
+) -> Seen
     ensures { let here = inside_view inside.entry in
-        result ≡ told_by (records_of sheet.now) here start (mark_parts mark.entry) kind is_closed }
+        result ≡ seen_by (records_of sheet.now) here start (mark_parts mark.entry) kind is_closed }
 {
     let style = sheet.style_of(mark.name());
     let is_leaf = kind.is_none();
     let is_open = !is_closed;
-    Told {
+    Seen {
         start,
         unknown_marker: !mark.closing() && style.is_none(),
         stray_close: is_leaf && mark.closing(),
@@ -132,14 +132,14 @@ fn tell_mark(
 
 // Adds what holds of all marks of nodes that are side by side, in order.
 fn tell_nodes<'a>(
-    told: &mut Vec<Told>,
+    seen: &mut Vec<Seen>,
     sheet: &Sheet<'_>,
     inside: Inside<'a>,
     nodes: &[Node<'a>],
 ) -> Result<(), AllocError>
     ensures { let here = inside_view inside.entry in
         let tells = Tells (records_of sheet.now) here (forest_of nodes.now) in
-        OnOk result (tells told.old.items told.new.items) }
+        OnOk result (tells seen.old.items seen.new.items) }
 {
     for node in nodes {
         let Some(mark) = node.mark() else {
@@ -147,9 +147,9 @@ fn tell_nodes<'a>(
         };
         let kind = kind_of(node);
         let is_closed = node.close().is_some();
-        told.push(tell_mark(sheet, inside, node.start(), mark, kind, is_closed))?;
+        seen.push(tell_mark(sheet, inside, node.start(), mark, kind, is_closed))?;
         if let Some(kind) = kind {
-            tell_nodes(told, sheet, inside.within(kind, mark.name()), node.kids())?;
+            tell_nodes(seen, sheet, inside.within(kind, mark.name()), node.kids())?;
         }
     }
     Ok(())
@@ -161,19 +161,19 @@ pub(crate) fn tell_tree(
     alloc: Global,
     text: &str,
     sheet: &Sheet<'_>,
-) -> Result<Vec<Told>, AllocError>
+) -> Result<Vec<Seen>, AllocError>
     ensures { let tree = tree_of (styles_of sheet.now) text.now in
-        let due = told_under (records_of sheet.now) tree in
-        IfOk result (λ told. told.items ≡ due) }
+        let due = seen_under (records_of sheet.now) tree in
+        IfOk result (λ seen. seen.items ≡ due) }
 {
-    let mut told = Vec::new(alloc);
+    let mut seen = Vec::new(alloc);
     let mut reader = TreeReader::new(alloc, text, sheet);
     loop {
         let nodes = reader.next_nodes()?;
         if nodes.is_empty() {
             break;
         }
-        tell_nodes(&mut told, sheet, Inside::root(), nodes.as_slice())?;
+        tell_nodes(&mut seen, sheet, Inside::root(), nodes.as_slice())?;
     }
-    Ok(told)
+    Ok(seen)
 }

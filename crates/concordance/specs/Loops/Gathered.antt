@@ -1,6 +1,7 @@
 -- The plain leaves as a walk over the tree gathers them.
 use Rattle.sty_sheet.specs.declared.kind.StyleKind.{StyleKind}
-use Rattle.std.specs.Prelude.{ℕ, ◌+◌, ◌^◌, ◌<◌, Bool, false, not, ◌&&◌, ◌||◌, List, [], ◌∷◌, length, drop, Option, None, Some, if◌then◌else◌}
+use Rattle.std.specs.Prelude.{ℕ, ◌+◌, ◌^◌, ◌<◌, Bool, false, not, ◌&&◌, ◌||◌, List, [], ◌∷◌, length}
+use Rattle.std.specs.Prelude.{drop, Option, None, Some, if◌then◌else◌}
 use Rattle.sty_sheet.specs.Records.{Record}
 use Rattle.usfm_token.specs.Tokens.{MarkParts}
 use Rattle.usfm_tree.specs.Events.{Event, words, single, begins, ends}
@@ -8,7 +9,8 @@ use Rattle.usfm_tree.specs.Reading.{is_character_kind, is_paragraph_kind}
 use Rattle.usfm_tree.specs.declared.step.Entry.{Entry}
 use Rattle.usfm_tree.specs.declared.step.Entry.TheVariants as entries
 use Rattle.concordance.specs.Passages.{Passage}
-use Rattle.concordance.specs.Plain.{has_verse_text, is_aside_kind, node_end, number_length, without_attributes}
+use Rattle.concordance.specs.Plain.{has_verse_text, is_aside_kind, node_end, number_length}
+use Rattle.concordance.specs.Plain.{without_attributes}
 use Rattle.concordance.specs.declared.plain.Enclosure.{Enclosure}
 
 -- under the root
@@ -35,8 +37,8 @@ enclosed sheet e kind m = record {
 
 -- a text that counts, without the number before it; whether attributes may end it is known when the next entry is met
 abbrev pub counted : Enclosure → Option MarkParts → ℕ → List ℕ → Option Passage
-counted e behind start bytes =
-    let n = number_length behind bytes in
+counted e before start bytes =
+    let n = number_length before bytes in
     if not e.in_aside && e.in_verse_text
     then Some (record { start = start + n; text = drop n bytes }) else None
 
@@ -60,25 +62,25 @@ attributes_may_end e (entries.Close m) = e.is_character
 attributes_may_end e (entries.Milestone m t close) = false
 
 -- the mark after a milestone, which takes a text or none
-abbrev pub behind_milestone : MarkParts → Option (List ℕ) → Option MarkParts → Option MarkParts
-behind_milestone m None close = node_end (Some m) close
-behind_milestone m (Some t) close = node_end None close
+abbrev pub milestone_end : MarkParts → Option (List ℕ) → Option MarkParts → Option MarkParts
+milestone_end m None close = node_end (Some m) close
+milestone_end m (Some t) close = node_end None close
 
 -- The leaves that a walk gives which has this still to meet, where nodes are open, a mark comes directly before, if any, and a text
 -- waits, if any.
 abbrev pub gathered : List Record → List Enclosure → Option MarkParts → Option Passage → List Event
     → List Passage
-gathered sheet es behind waiting [] = settled false waiting []
-gathered sheet es behind waiting (words s t ∷ events) =
-    settled false waiting (gathered sheet es None (counted (innermost es) behind s t) events)
-gathered sheet es behind waiting (single m ∷ events) =
+gathered sheet es before waiting [] = settled false waiting []
+gathered sheet es before waiting (words s t ∷ events) =
+    settled false waiting (gathered sheet es None (counted (innermost es) before s t) events)
+gathered sheet es before waiting (single m ∷ events) =
     settled false waiting (gathered sheet es (Some m) None events)
-gathered sheet es behind waiting (begins k m ∷ events) =
+gathered sheet es before waiting (begins k m ∷ events) =
     settled false waiting
     (gathered sheet (enclosed sheet (innermost es) k m ∷ es) (Some m) None events)
-gathered sheet es behind waiting (ends c ∷ events) =
+gathered sheet es before waiting (ends c ∷ events) =
     settled (closes_character (innermost es) c) waiting
-    (gathered sheet (outer es) (node_end behind c) None events)
+    (gathered sheet (outer es) (node_end before c) None events)
 
 -- each text ends at a place that fits
 abbrev pub EventsFit : List Event → Type 0

@@ -14,16 +14,16 @@ abbrev pub Group : Type 0
 Group = Bor (List ℕ) × Vec KeyParts
 
 -- a form with each of some keys, as spellings
-abbrev pub told_with : List ℕ → List KeyParts → List Spelling
-told_with form keys = map (λ k. record { form = form; key = k }) keys
+abbrev pub spellings_with : List ℕ → List KeyParts → List Spelling
+spellings_with form keys = map (λ k. record { form = form; key = k }) keys
 
 -- the spellings of a group: its form with each of its keys
-abbrev pub told_by : Group → List Spelling
-told_by g = told_with g.0.now g.1.items
+abbrev pub group_spellings : Group → List Spelling
+group_spellings g = spellings_with g.0.now g.1.items
 
 -- the spellings of all groups
-abbrev pub told : List Group → List Spelling
-told gs = flat_map told_by gs
+abbrev pub all_spellings : List Group → List Spelling
+all_spellings gs = flat_map group_spellings gs
 
 -- one has no key
 abbrev pub is_bare : Group → Bool
@@ -38,16 +38,16 @@ abbrev pub rise : List Group → Bool
 rise gs = rises_by form_cmp (λ g. g.0.now) gs
 
 -- a spelling is among some
-abbrev pub is_told : Spelling → List Spelling → Bool
-is_told s ss = list_any (λ t. is_eq (spelling_cmp s t)) ss
+abbrev pub is_spelled : Spelling → List Spelling → Bool
+is_spelled s ss = list_any (λ t. is_eq (spelling_cmp s t)) ss
 
 -- two lists say the same spellings, whatever their order and however often
-abbrev pub TellsSame : List Spelling → List Spelling → Type 0
-TellsSame ss ts = (s : Spelling) → is_told s ss ≡ is_told s ts
+abbrev pub SpellsSame : List Spelling → List Spelling → Type 0
+SpellsSame ss ts = (s : Spelling) → is_spelled s ss ≡ is_spelled s ts
 
 -- the last list says what the first two do
-abbrev pub AlsoTells : List Spelling → List Spelling → List Spelling → Type 0
-AlsoTells ss more ts = (s : Spelling) → is_told s ts ≡ (is_told s ss || is_told s more)
+abbrev pub SpellsBoth : List Spelling → List Spelling → List Spelling → Type 0
+SpellsBoth ss more ts = (s : Spelling) → is_spelled s ts ≡ (is_spelled s ss || is_spelled s more)
 
 -- a spelling of a run, composed
 abbrev pub composed : Spelling → Spelling

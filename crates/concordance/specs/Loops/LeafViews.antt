@@ -23,8 +23,8 @@ abbrev pub passages_view : List Passage → List passages.Passage
 passages_view ps = map passage_view ps
 
 -- the mark directly before what comes next
-abbrev pub mark_behind : Gathering → Option MarkParts
-mark_behind g = option_map mark_parts g.behind
+abbrev pub mark_before : Gathering → Option MarkParts
+mark_before g = option_map mark_parts g.before
 
 -- the text that waits, with its attributes
 abbrev pub waiting_of : Gathering → Option passages.Passage
@@ -37,7 +37,7 @@ enclosures g = reverse g.around.items
 -- the leaves so far, and those that a walk still gives which has this to meet
 abbrev pub leaves_with : List Record → Gathering → List Event → List passages.Passage
 leaves_with sheet g events =
-    passages_view g.leaves.items ++ gathered sheet (enclosures g) (mark_behind g)
+    passages_view g.leaves.items ++ gathered sheet (enclosures g) (mark_before g)
     (waiting_of g) events
 
 -- the pieces from the one on that holds the place last asked for

@@ -1,5 +1,7 @@
 -- The plain leaves as one reading of the tree, from the left, and what is left of the pieces on the way.
-use Rattle.std.specs.Prelude.{ℕ, ◌+◌, ◌^◌, ◌<◌, Bool, true, ◌==◌, nat_le, nat_lt, not, ◌&&◌, ◌||◌, List, [], ◌∷◌, ◌++◌, length, drop, Option, None, Some, is_some, IsUtf8, if◌then◌else◌}
+use Rattle.std.specs.Prelude.{ℕ, ◌+◌, ◌^◌, ◌<◌, Bool, true, ◌==◌, nat_le, nat_lt, not, ◌&&◌, ◌||◌}
+use Rattle.std.specs.Prelude.{List, [], ◌∷◌, ◌++◌, length, drop, Option, None, Some, is_some}
+use Rattle.std.specs.Prelude.{IsUtf8, if◌then◌else◌}
 use Rattle.std.specs.List.{list_any}
 use Rattle.sty_sheet.specs.Records.{Record}
 use Rattle.usfm_token.specs.Tokens.{MarkParts}
@@ -8,7 +10,8 @@ use Rattle.usfm_tree.specs.Forest.{Forest, nothing, text, leaf, node}
 use Rattle.usfm_tree.specs.Reading.{is_character_kind}
 use Rattle.verse_cut.specs.Pieces.{Part, pieces_joined}
 use Rattle.concordance.specs.Passages.{Passage}
-use Rattle.concordance.specs.Plain.{is_verse_text, is_aside, in_closed_character, is_nothing, node_end, mark_at_end, number_length, without_attributes}
+use Rattle.concordance.specs.Plain.{is_verse_text, is_aside, in_closed_character, is_nothing}
+use Rattle.concordance.specs.Plain.{node_end, mark_at_end, number_length, without_attributes}
 
 -- What the nodes around a text say of it: one of them has the text of verses, one is a note or a milestone, and the innermost is a
 -- character node that ends with its closing mark.
@@ -35,8 +38,8 @@ within sheet i a = record {
 
 -- what is left of a text
 abbrev pub left_of : Surroundings → Option MarkParts → Bool → ℕ → List ℕ → Passage
-left_of i behind is_last start bytes =
-    let n = number_length behind bytes in
+left_of i before is_last start bytes =
+    let n = number_length before bytes in
     record { start = start + n; text = without_attributes (is_last && i.in_closed) (drop n bytes) }
 
 -- whether a text counts, by what the nodes around it say
@@ -46,16 +49,16 @@ counts i = i.in_verse_text && not i.in_aside
 -- a text that counts, before the leaves after it
 abbrev pub with_text : Surroundings → Option MarkParts → Bool → ℕ → List ℕ → List Passage
     → List Passage
-with_text i behind is_last start bytes later =
-    if counts i then left_of i behind is_last start bytes ∷ later else later
+with_text i before is_last start bytes later =
+    if counts i then left_of i before is_last start bytes ∷ later else later
 
 -- the plain leaves of entries
 abbrev pub leaves_from : List Record → Surroundings → Option MarkParts → Forest → List Passage
-leaves_from sheet i behind nothing = []
-leaves_from sheet i behind (text s t f) =
-    with_text i behind (is_nothing f) s t (leaves_from sheet i None f)
-leaves_from sheet i behind (leaf s m f) = leaves_from sheet i (Some m) f
-leaves_from sheet i behind (node k s b m ks c f) =
+leaves_from sheet i before nothing = []
+leaves_from sheet i before (text s t f) =
+    with_text i before (is_nothing f) s t (leaves_from sheet i None f)
+leaves_from sheet i before (leaf s m f) = leaves_from sheet i (Some m) f
+leaves_from sheet i before (node k s b m ks c f) =
     leaves_from sheet (within sheet i (record { kind = k; mark = m; is_closed = is_some c }))
     (Some m) ks
     ++ leaves_from sheet i (node_end (mark_at_end (Some m) ks) c) f

@@ -1,5 +1,6 @@
 -- The runs of word characters as a reading from the left.
-use Rattle.std.specs.Prelude.{ℕ, Bool, true, false, not, List, [], ◌∷◌, take_while, if◌then◌else◌, encode_utf8_all}
+use Rattle.std.specs.Prelude.{ℕ, Bool, true, false, not, List, [], ◌∷◌, take_while, if◌then◌else◌}
+use Rattle.std.specs.Prelude.{encode_utf8_all}
 use Rattle.concordance.specs.Words.{is_word_char}
 
 -- a word character, or another
@@ -8,9 +9,9 @@ is_like true c = is_word_char c
 is_like false c = not (is_word_char c)
 
 -- what comes after the characters at the front that are so
-abbrev pub behind : Bool → List ℕ → List ℕ
-behind is_word [] = []
-behind is_word (c ∷ cs) = if is_like is_word c then behind is_word cs else c ∷ cs
+abbrev pub after : Bool → List ℕ → List ℕ
+after is_word [] = []
+after is_word (c ∷ cs) = if is_like is_word c then after is_word cs else c ∷ cs
 
 -- the bytes of those characters
 abbrev pub front_bytes : Bool → List ℕ → List ℕ

@@ -8,7 +8,7 @@ use Rattle.segment_check.specs.declared.marks.Walk.{Walk}
 
 -- where a walk is, as a state of the reading
 abbrev pub state_of : Walk → State
-state_of w = record { key = w.key; reach = w.reach; told = w.told.now }
+state_of w = record { key = w.key; reach = w.reach; seen = w.seen.now }
 
 -- the token, if there is one, before others; and else nothing
 abbrev pub before : Option Token → List Lexeme → List Lexeme

@@ -1,10 +1,12 @@
-use Rattle.std.proofs.Common.{◌≡◌, ◌∙◌, ◌++◌, ◌+◌, ℕ, List, All, map, sym, ap, subst, refl, length, slice_range, IsUtf8}
+use Rattle.std.proofs.Common.{◌≡◌, ◌∙◌, ◌++◌, ◌+◌, ℕ, List, All, map, sym, ap, subst, refl, length}
+use Rattle.std.proofs.Common.{slice_range, IsUtf8}
 use Rattle.std.specs.Str.{IsCharBoundary}
 use Rattle.memchr.specs.Find.{OccursAt, matches}
 use Rattle.memchr.proofs.lemmas.CallerLemmas.{All-matches}
 use Rattle.concordance.specs.Passages.{Passage}
 use Rattle.concordance.specs.Loops.LeafViews.{passages_view}
-use Rattle.concordance.proofs.Occurring.{boundary_before, boundary_behind, one_more, head_occurs, tail_occurs}
+use Rattle.concordance.proofs.Occurring.{boundary_before, boundary_after, one_more, head_occurs}
+use Rattle.concordance.proofs.Occurring.{tail_occurs}
 use Rattle.concordance.proofs.finding.push_occurrences.Goals as goal
 
 pub loop-at-init : goal.loop-at-init
@@ -34,7 +36,7 @@ part-text-requires-clause-start c =
 pub part-text-requires-clause-end : goal.part-text-requires-clause-end
 part-text-requires-clause-end c =
     subst (λ (n : List ℕ). IsCharBoundary c.args.passage.text.now (c.in-Some.at + length n)) (sym c.needle-len.ensures)
-    (boundary_behind c.args.passage.text.now c.args.finder.now c.in-Some.at
+    (boundary_after c.args.passage.text.now c.args.finder.now c.in-Some.at
     (subst IsUtf8 c.as_bytes.ensures.value c.as_bytes.ensures.utf8) c.requires.utf8 c.requires.some
     (head_occurs c.args.passage.text.now c.args.finder.now c.loop-at.at-iterator c.next.new.self c.in-Some.at
     c.in-Some.ensures.steps c.loop-at.invariant.2.occur))

@@ -1,8 +1,10 @@
-use Rattle.std.proofs.Common.{◌≡◌, ◌<◌, ◌∙◌, [], ◌∷◌, suc, zero, ℕ, ap, sym, List, map, take, length, slice_get, get_or, Some, add-one, arith, ◌||◌}
+use Rattle.std.proofs.Common.{◌≡◌, ◌<◌, ◌∙◌, [], ◌∷◌, suc, zero, ℕ, ap, sym, List, map, take}
+use Rattle.std.proofs.Common.{length, slice_get, get_or, Some, add-one, arith, ◌||◌}
 use Rattle.std.proofs.lemmas.Bool.{false≢true}
 use Rattle.std.proofs.lemmas.List.{length-map}
 use Rattle.concordance.specs.Loops.FormViews.{form_bytes}
-use Rattle.concordance.specs.Loops.Groups.{Group, told, told_with, has_bare, is_told, composed, form_at, AlsoTells}
+use Rattle.concordance.specs.Loops.Groups.{Group, all_spellings, spellings_with, has_bare}
+use Rattle.concordance.specs.Loops.Groups.{is_spelled, composed, form_at, SpellsBoth}
 use Rattle.concordance.specs.declared.form.Form.{Form}
 use Rattle.concordance.proofs.GroupSteps.{group_keyed}
 use Rattle.concordance.proofs.WordLists.{composed_at, same_more}
@@ -39,15 +41,15 @@ loop-index-preserved c =
           w.text.ensures
           ∙ form_here c.args.forms.now runs i c.index-forms-index.result g c.requires.forms c.loop-index-test.true c.index-forms-index.is
           at in
-          let also : AlsoTells (told old) (told_with (form_at g) g.1.items) (told w.note.new.groups.entries) =
-          λ s. w.in_ok-note.ensures.told s
-          ∙ (λ j. is_told s (told old) || is_told s (told_with (form j) (w.as_slice.ensures.value j))) in
+          let also : SpellsBoth (all_spellings old) (spellings_with (form_at g) g.1.items) (all_spellings w.note.new.groups.entries) =
+          λ s. w.in_ok-note.ensures.spells s
+          ∙ (λ j. is_spelled s (all_spellings old) || is_spelled s (spellings_with (form j) (w.as_slice.ensures.value j))) in
           record {
-            told =
-                λ s. ap (is_told s) (ap (λ n. map composed (told (take n runs))) (add-one i) ∙ composed_at runs i g at)
-                ∙ same_more (map composed (told (take i runs))) (told old) (told_with (form_at g) g.1.items)
-                (told w.note.new.groups.entries) c.loop-index.invariant.told also s
-                ∙ ap (λ gs. is_told s (told gs.entries)) (sym w.groups-is);
+            all_spellings =
+                λ s. ap (is_spelled s) (ap (λ n. map composed (all_spellings (take n runs))) (add-one i) ∙ composed_at runs i g at)
+                ∙ same_more (map composed (all_spellings (take i runs))) (all_spellings old) (spellings_with (form_at g) g.1.items)
+                (all_spellings w.note.new.groups.entries) c.loop-index.invariant.spells also s
+                ∙ ap (λ gs. is_spelled s (all_spellings gs.entries)) (sym w.groups-is);
             keyed = ap (λ gs. has_bare gs.entries) w.groups-is ∙ w.in_ok-note.ensures.keyed;
           })
       | in_default w ↦

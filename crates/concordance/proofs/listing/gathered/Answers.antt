@@ -1,10 +1,11 @@
-use Rattle.std.proofs.Common.{◌∙◌, ◌<◌, ◌++◌, ◌∷◌, [], ap, sym, subst, map, take, take_all, add-one, arith}
+use Rattle.std.proofs.Common.{◌∙◌, ◌<◌, ◌++◌, ◌∷◌, [], ap, sym, subst, map, take, take_all, add-one}
+use Rattle.std.proofs.Common.{arith}
 use Rattle.std.proofs.lemmas.Bool.{false≢true}
 use Rattle.usfm_ref.specs.Keys.{key_cmp}
 use Rattle.usfm_ref.specs.Rising.{rising}
 use Rattle.concordance.specs.Words.{WordParts}
 use Rattle.concordance.proofs.GroupSteps.{map_at}
-use Rattle.concordance.proofs.WordLists.{word_told, groups_words}
+use Rattle.concordance.proofs.WordLists.{word_spelled, groups_words}
 use Rattle.concordance.proofs.listing.gathered.Goals.{in-Some+in_ok-word_of+in_ok-push, in_default}
 use Rattle.concordance.proofs.listing.gathered.Goals as goal
 
@@ -19,8 +20,8 @@ loop-index-preserved c =
             form = w.in_ok-word_of.ensures.form i;
             keys = (w.in_ok-word_of.ensures.keys ∙ ap (rising key_cmp) w.deref.ensures.value) i;
           } in word) ∷ [])
-          ∙ sym (ap (λ n. map word_told (take n groups)) (add-one c.loop-index.index)
-          ∙ map_at word_told groups c.loop-index.index (w.in-Some.form.now, w.in-Some.keys.now) (sym w.in-Some.ensures.entry))
+          ∙ sym (ap (λ n. map word_spelled (take n groups)) (add-one c.loop-index.index)
+          ∙ map_at word_spelled groups c.loop-index.index (w.in-Some.form.now, w.in-Some.keys.now) (sym w.in-Some.ensures.entry))
       | in_default w ↦ absurd (false≢true (w.in_default.ensures.found.1
           (subst (λ n. c.loop-index.index < n) c.len-index-end.ensures.len c.loop-index-test.true)))
     ]
@@ -28,6 +29,6 @@ loop-index-preserved c =
 pub returns : goal.returns
 returns c =
     c.loop-index.invariant
-    ∙ ap (map word_told) (take_all c.loop-index.index c.args.groups.now.entries
+    ∙ ap (map word_spelled) (take_all c.loop-index.index c.args.groups.now.entries
     (let l = c.len-index-end.ensures.len in let t = c.loop-index-test.false in omega arith))
     ∙ sym (groups_words c.args.groups.now.entries c.requires.rise c.requires.keyed)

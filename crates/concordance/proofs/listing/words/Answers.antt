@@ -4,7 +4,7 @@ use Rattle.std.specs.Prelude.{IfOk}
 use Rattle.sty_sheet.specs.Views.{records_of}
 use Rattle.verse_cut.specs.Pieces.{pieces_of}
 use Rattle.verse_cut.specs.Views.{parts_of}
-use Rattle.concordance.specs.Loops.Groups.{told, composed}
+use Rattle.concordance.specs.Loops.Groups.{all_spellings, composed}
 use Rattle.concordance.specs.Loops.KeyedViews.{hits_left, spelled}
 use Rattle.concordance.specs.Plain.{plain_leaves}
 use Rattle.concordance.specs.Loops.Reading.{EndsWithin, IsText, hold_all}
@@ -49,9 +49,9 @@ returns c =
     ap (λ h. map composed (map spelled h)) c.new.ensures
     ∙ runs_spelled (parts_of c.deref-3.result.now) (passages_view c.deref-2.result.now)
     ∙ (λ i. map (spelling_at ((ap parts_of c.deref-3.ensures.value ∙ c.in_ok-pieces.ensures.value) i)) (found at i)) in
-    let all : words_in (told c.in_ok-sorted.sorted.entries) ≡ words_of sheet text =
-    sym (words_same (map composed hits) (told c.in_ok-sorted.sorted.entries)
-    (λ s. composed_same hits (told c.in_ok-noted.noted.entries) c.in_ok-noted.ensures.told s
-    ∙ c.in_ok-groups.ensures.told s ∙ c.in_ok-sorted.ensures.told s))
+    let all : words_in (all_spellings c.in_ok-sorted.sorted.entries) ≡ words_of sheet text =
+    sym (words_same (map composed hits) (all_spellings c.in_ok-sorted.sorted.entries)
+    (λ s. composed_same hits (all_spellings c.in_ok-noted.noted.entries) c.in_ok-noted.ensures.spells s
+    ∙ c.in_ok-groups.ensures.spells s ∙ c.in_ok-sorted.ensures.spells s))
     ∙ ap words_in spelled_all in
     subst (λ (ws : List WordParts). IfOk c.gathered.result (λ words. words.items ≡ ws)) all c.gathered.ensures

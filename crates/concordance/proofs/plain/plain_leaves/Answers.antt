@@ -1,4 +1,5 @@
-use Rattle.std.proofs.Common.{◌≡◌, ◌∙◌, ◌++◌, [], None, Option, ap, sym, subst, reverse, length, arith, List}
+use Rattle.std.proofs.Common.{◌≡◌, ◌∙◌, ◌++◌, [], None, Option, ap, sym, subst, reverse, length}
+use Rattle.std.proofs.Common.{arith, List}
 use Rattle.std.specs.Prelude.{IfSome}
 use Rattle.sty_sheet.specs.Records.{Record}
 use Rattle.sty_sheet.specs.Views.{records_of}
@@ -12,8 +13,10 @@ use Rattle.usfm_tree.proofs.LeavesLemmas.{tree_bytes}
 use Rattle.usfm_tree.proofs.PlaceLemmas.{tree_runs}
 use Rattle.concordance.specs.Loops.Gathered.{gathered, EventsFit}
 use Rattle.concordance.specs.Plain.{plain_leaves}
-use Rattle.concordance.specs.Loops.LeafViews.{passages_view, mark_behind, waiting_of, enclosures, leaves_with}
-use Rattle.concordance.proofs.Gathers.{whole, all_end, events_fit, fit_after_ends, entry_fits, fit_after, step_shorter}
+use Rattle.concordance.specs.Loops.LeafViews.{passages_view, mark_before, waiting_of, enclosures}
+use Rattle.concordance.specs.Loops.LeafViews.{leaves_with}
+use Rattle.concordance.proofs.Gathers.{whole, all_end, events_fit, fit_after_ends, entry_fits}
+use Rattle.concordance.proofs.Gathers.{fit_after, step_shorter}
 use Rattle.concordance.proofs.Sites.{sites_read, texts_fit}
 use Rattle.concordance.proofs.plain.plain_leaves.Goals.{In-Some}
 use Rattle.concordance.proofs.plain.plain_leaves.Goals as goal
@@ -79,6 +82,6 @@ returns c =
     let F : Option Step → Type 0 = λ o. IsNext (events_ahead c.loop-walk.walk) o (events_ahead c.next_step.new.self) in
     let end = subst F c.in_default.is c.in_ok-step.ensures.next in
     c.in_ok-settle.ensures.leaves
-    ∙ ap (λ l. passages_view g.leaves.items ++ l) (sym (all_end sheet end.0 (enclosures g) (mark_behind g) (waiting_of g)))
+    ∙ ap (λ l. passages_view g.leaves.items ++ l) (sym (all_end sheet end.0 (enclosures g) (mark_before g) (waiting_of g)))
     ∙ ap (leaves_with sheet g) (sym end.1) ∙ c.loop-walk.invariant.leaves
     ∙ sym (sites_read sheet [] None (tree_of (styles_of c.args.sheet.now) c.args.text.now))

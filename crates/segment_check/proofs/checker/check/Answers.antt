@@ -10,6 +10,6 @@ pub returns : goal.returns
 returns c =
     let sheet = c.args.sheet.now in
     let text = c.args.text.now in
-    tree_findings (records_of sheet) text (tree_of (styles_of sheet) text) c.in_ok-told.told.items
-    c.in_ok-findings.findings.items refl c.in_ok-told.ensures
+    tree_findings (records_of sheet) text (tree_of (styles_of sheet) text) c.in_ok-seen.seen.items
+    c.in_ok-findings.findings.items refl c.in_ok-seen.ensures
     (c.in_ok-findings.ensures ∙ ap (λ t. found_in t text) c.as_slice.ensures.value)

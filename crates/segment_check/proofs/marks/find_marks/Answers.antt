@@ -2,7 +2,8 @@ use Rattle.std.proofs.Common.{◌≡◌, ◌∙◌, ◌∷◌, ◌-◌, ap, sym,
 use Rattle.usfm_token.specs.Tokens.{mark, words, tokens_of}
 use Rattle.usfm_token.specs.View.{lexeme, mark_parts, rest_of}
 use Rattle.segment_check.specs.Loops.WalkViews.{before, state_of}
-use Rattle.segment_check.proofs.WalkLemmas.{next_place, still_within, ahead_is, first_is, mark_step, text_step, end_step, found_in-from}
+use Rattle.segment_check.proofs.WalkLemmas.{next_place, still_within, ahead_is, first_is, mark_step}
+use Rattle.segment_check.proofs.WalkLemmas.{text_step, end_step, found_in-from}
 use Rattle.segment_check.proofs.marks.find_marks.Goals as goal
 use Rattle.segment_check.proofs.marks.find_marks.Goals.{After-next-next-in-Some}
 
@@ -61,4 +62,4 @@ returns c =
     (tokens_of c.loop-next.at.now) c.loop-next.findings.items _
     (c.loop-next.invariant.ahead ∙ ap (λ o. before o (tokens_of (rest_of c.loop-next.tokens))) c.in_default.is)
     c.loop-next.invariant.found
-    ∙ sym (found_in-from c.args.told.now c.args.text.now)
+    ∙ sym (found_in-from c.args.seen.now c.args.text.now)

@@ -9,7 +9,7 @@ abbrev pub invariant-loop-next : goal.invariant-loop-next
 invariant-loop-next l = record {
   ahead : tokens_of l.at ≡ before l.next (tokens_of (rest_of l.tokens));
   found : l.findings.items ++ found_from (state_of l.walk) (length l.text - length l.at) (tokens_of l.at)
-      ≡ found_from (start_state l.told) 0 (tokens_of l.text);
+      ≡ found_from (start_state l.seen) 0 (tokens_of l.text);
   within : length l.at ≤ length l.text;
 }
 

@@ -1,4 +1,5 @@
-use Rattle.std.proofs.Common.{length, ◌∙◌, ap, map, drop, ◌∷◌, ◌-◌, List, sym, take_all, length-drop, arith}
+use Rattle.std.proofs.Common.{length, ◌∙◌, ap, map, drop, ◌∷◌, ◌-◌, List, sym, take_all}
+use Rattle.std.proofs.Common.{length-drop, arith}
 use Rattle.concordance.specs.Hits.{HitParts, keyed}
 use Rattle.concordance.specs.Loops.LeafViews.{passages_view, pieces_left}
 use Rattle.concordance.proofs.KeyedLemmas.{keyed_step}

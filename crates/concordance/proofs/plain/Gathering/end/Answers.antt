@@ -1,6 +1,7 @@
-use Rattle.std.proofs.Common.{◌≡◌, ◌-◌, ◌∙◌, ◌++◌, false, None, ap, sym, drop, reverse, take, length, arith}
+use Rattle.std.proofs.Common.{◌≡◌, ◌-◌, ◌∙◌, ◌++◌, false, None, ap, sym, drop, reverse, take}
+use Rattle.std.proofs.Common.{length, arith}
 use Rattle.concordance.specs.Loops.Gathered.{gathered}
-use Rattle.concordance.specs.Loops.LeafViews.{passages_view, mark_behind, waiting_of, enclosures}
+use Rattle.concordance.specs.Loops.LeafViews.{passages_view, mark_before, waiting_of, enclosures}
 use Rattle.concordance.proofs.Gathers.{some_end, leaves_after, reverse_take}
 use Rattle.concordance.proofs.plain.Gathering.end.Goals as goal
 
@@ -17,7 +18,7 @@ returns-in_ok-settle c =
     ≡ length items - c.args.count = omega arith in is))
     ∙ reverse_take c.args.count items ∙ ap (drop c.args.count) kept.around in
     leaves_after (passages_view old.leaves.items) (passages_view c.settle.new.self.leaves.items) false (waiting_of old) _
-    (gathered sheet (drop c.args.count (enclosures old)) (mark_behind old) None later) kept.leaves
-    (λ i. gathered sheet (around i) (kept.behind i) (kept.waiting i) later)
+    (gathered sheet (drop c.args.count (enclosures old)) (mark_before old) None later) kept.leaves
+    (λ i. gathered sheet (around i) (kept.before i) (kept.waiting i) later)
     ∙ ap (λ l. passages_view old.leaves.items ++ l)
-    (sym (some_end sheet c.args.count (enclosures old) (mark_behind old) (waiting_of old) later (omega arith))))
+    (sym (some_end sheet c.args.count (enclosures old) (mark_before old) (waiting_of old) later (omega arith))))

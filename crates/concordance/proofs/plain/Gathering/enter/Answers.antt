@@ -4,7 +4,8 @@ use Rattle.std.specs.Option.{option_map}
 use Rattle.usfm_token.specs.View.{mark_parts}
 use Rattle.usfm_tree.specs.StepViews.{IsStyled, entry_before}
 use Rattle.concordance.specs.Loops.Gathered.{attributes_may_end, enclosed, gathered, innermost}
-use Rattle.concordance.specs.Loops.LeafViews.{passages_view, mark_behind, waiting_of, enclosures, leaves_with}
+use Rattle.concordance.specs.Loops.LeafViews.{passages_view, mark_before, waiting_of, enclosures}
+use Rattle.concordance.specs.Loops.LeafViews.{leaves_with}
 use Rattle.concordance.proofs.Gathers.{leaves_after, milestone_taken}
 use Rattle.concordance.proofs.plain.Gathering.enter.Goals as goal
 
@@ -40,13 +41,13 @@ returns-in-Milestone c =
     let m = mark_parts c.in-Milestone.mark in
     let t = option_map (λ x. x.1.now) c.in-Milestone.text in
     let close = option_map mark_parts c.in-Milestone.close in
-    let after = Rattle.concordance.specs.Loops.Gathered.behind_milestone m t close in
+    let after = Rattle.concordance.specs.Loops.Gathered.milestone_end m t close in
     let may_end = c.attributes_may_end.ensures ∙ ap (attributes_may_end c.innermost-innermost.result) c.in-Milestone.is in
     leaves_after (passages_view old.leaves.items) (passages_view c.settle.new.self.leaves.items) c.attributes_may_end.result
     (waiting_of old) _ (gathered sheet es after None later) kept.leaves
-    (λ i. gathered sheet (kept.around i) (c.behind_milestone-self.ensures i) (kept.waiting i) later)
+    (λ i. gathered sheet (kept.around i) (c.milestone_end-self.ensures i) (kept.waiting i) later)
     ∙ ap (λ x. passages_view old.leaves.items
     ++ Rattle.concordance.specs.Loops.Gathered.settled x (waiting_of old) (gathered sheet es after None later)) may_end
     ∙ ap (λ l. passages_view old.leaves.items ++ l)
-    (sym (milestone_taken sheet es (mark_behind old) (waiting_of old) m c.in-Milestone.text close later))
+    (sym (milestone_taken sheet es (mark_before old) (waiting_of old) m c.in-Milestone.text close later))
     ∙ ap (λ e. leaves_with sheet old (entry_before e later)) (sym c.in-Milestone.is))

@@ -1,6 +1,6 @@
 // What a tree says of one of its marks: which of the tree's codes hold there.
 #[derive(Clone, Copy, Debug)]
-pub(crate) struct Told {
+pub(crate) struct Seen {
     pub(crate) start: usize,
     pub(crate) unknown_marker: bool,
     pub(crate) stray_close: bool,
