@@ -17,7 +17,7 @@ EXCEPTIONS = {
     "crates/op_core/proofs/Exported.antt",
     "crates/op_core/proofs/index/put_in/Answers.antt",
     "crates/op_core/proofs/set/thinning/ids/Answers.antt",
-    "crates/usfm_cli/src/standing.rt",
+    "crates/replica_state/proofs/ImportedTexts.antt",
 }
 
 

@@ -26,6 +26,7 @@ union_is_set held (set ∷ sets) union h each e =
     by later None e = later e
     by later (Some id) e = absurd (cc)
 
+-- what a stream is folded into cuts back into the picked texts of the union
 pub folded_books_cut_back : FoldedBooksCutBack
 folded_books_cut_back book input text bytes h = by (union_in [] input) refl h
   where

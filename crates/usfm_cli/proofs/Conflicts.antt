@@ -186,5 +186,6 @@ module _ (held : List Operation) (set : IsOpSet held) where
       ∙ told keys (is_any keys) (is_any (awaited held)) refl
       ∙ ap (λ b. cond b (Some (length keys)) None) (sym any_reported)
 
+-- the segments that are counted as in conflict are those that the report lists texts of
 pub told_are_reported : ConflictsToldAreReported
 told_are_reported held set = told_are held set

@@ -58,6 +58,7 @@ book_is (Project file commands) held a book =
     exported (file_after file commands) a.state book a.reads ∙ ap (λ (ops : List Operation). export_text ops book) a.is_held
 book_is (Stream input) held a book = ap (book_in book) a.union
 
+-- replicas that accepted the same operations write the same bytes of every book
 pub same_bytes : SameOperationsSameBytes
 same_bytes one other held also a b e c book =
     let x = accepted_is_legal one held a in
@@ -71,6 +72,7 @@ report_is : (file : List ℕ) (commands : List Command) (held : List Operation) 
 report_is file commands held a =
     reported (file_after file commands) a.state a.reads ∙ ap (λ (ops : List Operation). Ok (report ops)) a.is_held
 
+-- the projects among them write the same report
 pub same_report : SameOperationsSameReport
 same_report file other commands others held also a b e c =
     let x = accepted_is_legal (Project file commands) held a in

@@ -178,6 +178,7 @@ pub record DoneSoFar (s : State) (commands : List Command) (n : ℕ) (now : Stat
   pub so_far : in_turn s (take n commands) ≡ Ok (record { after = now; outputs = outputs })
   pub count : length outputs ≡ n
 
+-- before the first command nothing was done
 pub none_done : (s : State) (commands : List Command) → DoneSoFar s commands 0 s []
 none_done s commands = record { so_far = refl; count = refl }
 
@@ -220,6 +221,7 @@ module _ (s : State) (commands : List Command) (n : ℕ) (now : State) (outputs 
     refused = why;
   }
 
+-- after the last one all were done in turn
 pub all_done : (s : State) (commands : List Command) (n : ℕ) (now : State) (outputs : List (List ℕ)) → DoneSoFar s commands n now outputs
     → length commands ≤ n → in_turn s commands ≡ Ok (record { after = now; outputs = outputs })
 all_done s commands n now outputs d past = ap (in_turn s) (sym (take_all n commands past)) ∙ d.so_far
@@ -252,6 +254,7 @@ in_turn_is (command ∷ later) s again =
         ∙ ap (λ w. written_before w (λ next. one_after_another next later)) (sym e)
     by (Err fault) e on again = ap (λ w. written_before w (λ next. one_after_another next later)) (sym e)
 
+-- commands in turn make what they make one after another
 pub in_turn_is_one_after_another : InTurnIsOneAfterAnother
 in_turn_is_one_after_another bytes s commands fit again =
     let spelled : bytes ≡ project s = (project_is bytes s fit (again 0)).spelled in
@@ -259,6 +262,7 @@ in_turn_is_one_after_another bytes s commands fit again =
     ∙ in_turn_is commands s (λ n. ap (λ (file : List ℕ). project_at (file_after file (take n commands))) (sym spelled) ∙ again n)
     ∙ ap (λ (file : List ℕ). one_after_another file commands) (sym spelled)
 
+-- where all are accepted, the file is that of the replica after the last
 pub accepted_is_file_after : AcceptedIsFileAfter
 accepted_is_file_after bytes [] made e = cc e
 accepted_is_file_after bytes (command ∷ later) made e =

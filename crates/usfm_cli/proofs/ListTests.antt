@@ -1,6 +1,6 @@
 -- Tests of lists: of those that are filtered, mapped and put together, and tests that pass less or more.
-use Rattle.std.proofs.Common.{◌≡◌, Bool, true, false, cond, ◌&&◌, ◌||◌, List, [], ◌∷◌}
-use Rattle.std.proofs.Common.{map, filter, refl, sym, ap, ◌∙◌}
+use Rattle.std.proofs.Common.{◌≡◌, Bool, true, false, cond, ◌&&◌, ◌||◌, List, [], ◌∷◌, map, filter}
+use Rattle.std.proofs.Common.{refl, sym, ap, ◌∙◌}
 use Rattle.std.specs.List.{list_any, flat_map, AllByRecursion}
 use Rattle.std.specs.declared.cmp.Ordering.{Ordering}
 use Rattle.std.specs.declared.cmp.Ordering.TheVariants.{Less, Equal, Greater}
@@ -10,6 +10,7 @@ use Rattle.std.proofs.lemmas.List.Folds.{list_any-append}
 use Rattle.usfm_ref.specs.Keys.{KeyParts, key_cmp}
 use Rattle.usfm_ref.proofs.Orders.{key_exact}
 
+-- to filter by one test and then by another is to filter by both
 pub filter_both : {X : Type 0} (p q r : X → Bool) → ((x : X) → (q x && p x) ≡ r x) → (xs : List X) → filter p (filter q xs) ≡ filter r xs
 filter_both p q r f [] = refl
 filter_both {X} p q r f (x ∷ xs) = by (filter_both p q r f xs) (q x) (r x) (f x)
@@ -19,6 +20,7 @@ filter_both {X} p q r f (x ∷ xs) = by (filter_both p q r f xs) (q x) (r x) (f 
     by rest true c f = (λ i. cond (f i) (x ∷ rest i) (rest i))
     by rest false c f = rest ∙ ap (λ (d : Bool). cond d (x ∷ filter r xs) (filter r xs)) f
 
+-- a test passes in a filtered list where both tests pass in the list
 pub any_filter : {X : Type 0} (p q : X → Bool) (xs : List X) → list_any p (filter q xs) ≡ list_any (λ x. q x && p x) xs
 any_filter p q [] = refl
 any_filter {X} p q (x ∷ xs) = by (any_filter p q xs) (q x)
@@ -28,15 +30,18 @@ any_filter {X} p q (x ∷ xs) = by (any_filter p q xs) (q x)
     by rest true = ap (λ b. p x || b) rest
     by rest false = rest
 
+-- a test passes in a mapped list where it passes of an image
 pub any_map : {X Y : Type 0} (p : Y → Bool) (f : X → Y) (xs : List X) → list_any p (map f xs) ≡ list_any (λ x. p (f x)) xs
 any_map p f [] = refl
 any_map p f (x ∷ xs) = ap (λ b. p (f x) || b) (any_map p f xs)
 
+-- a test passes in lists one after the other where it passes in one of them
 pub any_flat : {X Y : Type 0} (p : Y → Bool) (f : X → List Y) (xs : List X)
     → list_any p (flat_map f xs) ≡ list_any (λ x. list_any p (f x)) xs
 any_flat p f [] = refl
 any_flat p f (x ∷ xs) = list_any-append p (f x) (flat_map f xs) ∙ ap (λ b. list_any p (f x) || b) (any_flat p f xs)
 
+-- one of two holds where the second does
 pub or_last : {b : Bool} (a : Bool) → b ≡ true → (a || b) ≡ true
 or_last true h = refl
 or_last false h = h
@@ -54,6 +59,7 @@ none_of_less {X} p q f (x ∷ xs) h = by (none_of_less p q f xs) (p x) refl (q x
     by rest false e true f h = absurd (false≢true (sym h))
     by rest false e false f h = rest h
 
+-- nothing is left of a list in which the test passes nowhere
 pub filter_none : {X : Type 0} (p : X → Bool) (xs : List X) → list_any p xs ≡ false → filter p xs ≡ []
 filter_none p [] h = refl
 filter_none {X} p (x ∷ xs) h = by (filter_none p xs) (p x) h
@@ -68,15 +74,6 @@ pub any_of_more : {X : Type 0} (p q : X → Bool) → ((x : X) → p x ≡ true 
     → list_any q xs ≡ true
 any_of_more p q f xs h =
     elim (list_any q xs) as (λ b. list_any q xs ≡ b → b ≡ true) [ true ↦ λ _. refl | false ↦ λ e. sym (none_of_less p q f xs e) ∙ h ] refl
-
--- an item that passes
-pub some_passes : {X : Type 0} (p : X → Bool) (xs : List X) → list_any p xs ≡ true → (x : X) × (p x ≡ true)
-some_passes p [] h = absurd (false≢true h)
-some_passes {X} p (x ∷ xs) h = by (some_passes p xs) (p x) refl h
-  where
-    by : (list_any p xs ≡ true → (y : X) × (p y ≡ true)) → (b : Bool) → p x ≡ b → (b || list_any p xs) ≡ true → (y : X) × (p y ≡ true)
-    by later true e h = (x, e)
-    by later false e h = later h
 
 -- a test that passes a key passes in a list with it
 pub key_passes : (p : KeyParts → Bool) (key : KeyParts) → p key ≡ true → (keys : List KeyParts)
@@ -97,6 +94,7 @@ same_tests true b f g = sym (f refl)
 same_tests false true f g = g refl
 same_tests false false f g = refl
 
+-- what holds of all of a list holds of all that is left of it
 pub kept_each : {X : Type 0} (P : X → Type 0) (p : X → Bool) (xs : List X) → AllByRecursion P xs → AllByRecursion P (filter p xs)
 kept_each P p [] all = tt
 kept_each {X} P p (x ∷ xs) all = by (kept_each P p xs all.1) (p x)
@@ -104,15 +102,3 @@ kept_each {X} P p (x ∷ xs) all = by (kept_each P p xs all.1) (p x)
     by : AllByRecursion P (filter p xs) → (b : Bool) → AllByRecursion P (cond b (x ∷ filter p xs) (filter p xs))
     by rest true = (all.0, rest)
     by rest false = rest
-
-pub or_false : (a : Bool) → (a || false) ≡ a
-or_false true = refl
-or_false false = refl
-
-pub or_assoc : (a b c : Bool) → ((a || b) || c) ≡ (a || (b || c))
-or_assoc true b c = refl
-or_assoc false b c = refl
-
-pub and_none : (a : Bool) → (a && false) ≡ false
-and_none true = refl
-and_none false = refl

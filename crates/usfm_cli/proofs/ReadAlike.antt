@@ -1,7 +1,8 @@
 -- Projects and streams that hold the same but for texts left out read alike.
-use Rattle.std.proofs.Common.{◌≡◌, ℕ, Bool, true, false, ◌||◌, cond, List, [], ◌∷◌, None, Result, Ok, Err, refl, sym, ap, ◌∙◌}
+use Rattle.std.proofs.Common.{◌≡◌, ℕ, Bool, true, false, ◌||◌, cond, List, [], ◌∷◌, None, Result}
+use Rattle.std.proofs.Common.{Ok, Err, refl, sym, ap, ◌∙◌}
 use Rattle.std.specs.List.{AllByRecursion}
-use Rattle.op_core.specs.Ids.{Id, same_id}
+use Rattle.op_core.specs.Ids.{Id}
 use Rattle.op_core.specs.Ops.{Operation}
 use Rattle.op_core.specs.Sets.{rises, clash, join}
 use Rattle.op_core.specs.Lists.{ids_of, is_held}
@@ -16,10 +17,12 @@ use Rattle.op_core.proofs.Families.{family_joins, unions_alike}
 use Rattle.op_core.proofs.Groupings.{skeleton_exports}
 use Rattle.op_core.proofs.Together.{joined_in}
 use Rattle.replica_state.specs.States.{State}
+use Rattle.replica_state.proofs.World.Held.{among_is_held}
 use Rattle.project_file.specs.Projects.{project_at}
 use Rattle.conflict_report.proofs.SameReports.{skeleton_reports}
 use Rattle.usfm_cli.specs.Commands.{export_text}
-use Rattle.usfm_cli.specs.Streams.{unless_clash, union_in, union_with, AreSpelled, book_in, book_of_stream}
+use Rattle.usfm_cli.specs.Streams.{unless_clash, union_in, union_with, AreSpelled, book_in}
+use Rattle.usfm_cli.specs.Streams.{book_of_stream}
 use Rattle.usfm_cli.specs.StreamLaws.{one_holds, FoldAlike}
 use Rattle.usfm_cli.specs.Executing.{executed}
 use Rattle.usfm_cli.specs.ExecLaws.{output_of, ReadTheSame}
@@ -35,6 +38,7 @@ pub texts_alike : (a b : List Operation) (book : List ℕ) → skeleton a ≡ sk
     export_text a book ≡ export_text b book
 texts_alike a b book e same = λ i. cond (any_same a b e (of_book book) i) (Ok (same i)) (Err NoBook)
 
+-- projects with one skeleton that do not clash read the same
 pub skeletons_read : (file other : List ℕ) (s t : State) → project_at file ≡ Ok s → project_at other ≡ Ok t →
     (rises s.held ≡ true) × (is_legal s.held ≡ true) → (rises t.held ≡ true) × (is_legal t.held ≡ true)
     → skeleton s.held ≡ skeleton t.held → clash s.held t.held ≡ None → ReadTheSame file other
@@ -46,19 +50,17 @@ skeletons_read file other s t loads loaded hs ht e c = record {
   report = reported file s loads ∙ ap Ok (skeleton_reports s.held t.held hs.0 ht.0 hs.1 ht.1 c e) ∙ sym (reported other t loaded);
 }
 
-among_held : (ops : List Operation) (q : Id) → is_among (ids_of ops) q ≡ is_held ops q
-among_held [] q = refl
-among_held (o ∷ ops) q = ap (λ b. same_id q o.id || b) (among_held ops q)
-
 -- what a union is said to be twice is the same
 one_union : (r : Result (List Operation) Id) (a b : List Operation) → r ≡ Ok a → r ≡ Ok b → a ≡ b
 one_union r a b e f = cc (sym e ∙ f)
 
+-- projects of one family with the same ids read the same
 pub ids_read : (family : Id → Operation) (file other : List ℕ) (s t : State) → project_at file ≡ Ok s → project_at other ≡ Ok t →
     IsOf family s.held → IsOf family t.held
     → ((id : Id) → is_held s.held id ≡ is_held t.held id) → ReadTheSame file other
 ids_read family file other s t loads loaded hs ht ids =
-    let alike = unions_alike family (Part s.held) (Part t.held) hs ht (λ id. among_held s.held id ∙ ids id ∙ sym (among_held t.held id)) in
+    let alike =
+        unions_alike family (Part s.held) (Part t.held) hs ht (λ id. among_is_held s.held id ∙ ids id ∙ sym (among_is_held t.held id)) in
     let e : skeleton s.held ≡ skeleton t.held = ap skeleton (one_union (Ok s.held) s.held alike.a refl alike.one_is) ∙ alike.skeletons
     ∙ sym (ap skeleton (one_union (Ok t.held) t.held alike.b refl alike.other_is)) in
     skeletons_read file other s t loads loaded (hs.rising, hs.legal) (ht.rising, ht.legal) e (family_joins family s.held t.held hs ht).0
@@ -79,7 +81,7 @@ holds_in : (way : Joining) (sets : List (List Operation)) (id : Id) →
 holds_in way [] id = sym (or_none (holds_by way id))
 holds_in way (set ∷ rest) id =
     holds_in (Joined way (Part set)) rest id ∙ or_on (holds_by way id) (is_among (ids_of set) id) (one_holds rest id)
-    ∙ ap (λ b. holds_by way id || (b || one_holds rest id)) (among_held set id)
+    ∙ ap (λ b. holds_by way id || (b || one_holds rest id)) (among_is_held set id)
 
 module _ (family : Id → Operation) where
   are_of : (way : Joining) (sets : List (List Operation)) → AreOf family way → AllByRecursion (IsOf family) sets →
@@ -140,7 +142,7 @@ module _ (family : Id → Operation) where
   read_as_thinned_stream file s sets input loads hs spelled of ids book =
       let u = union_of sets input spelled of in
       let alike = unions_alike family (Part s.held) (joined_in (Part []) sets) hs (are_of (Part []) sets none_of of)
-      (λ id. among_held s.held id ∙ ids id ∙ sym (holds_in (Part []) sets id)) in
+      (λ id. among_is_held s.held id ∙ ids id ∙ sym (holds_in (Part []) sets id)) in
       let a : s.held ≡ alike.a = one_union (Ok s.held) s.held alike.a refl alike.one_is in
       let b : u.union ≡ alike.b = one_union (union_by (joined_in (Part []) sets)) u.union alike.b u.by alike.other_is in
       exported file s book loads

@@ -31,6 +31,7 @@ pub exported : (file : List ℕ) (s : State) (book : List ℕ) → project_at fi
     output_of (executed file (Export book)) ≡ export_text s.held book
 exported file s book loads = ap (λ r. output_of (of_loaded r (Export book))) loads ∙ told_is_written s (export_text s.held book)
 
+-- what the command of the report writes of a project that is read
 pub reported : (file : List ℕ) (s : State) → project_at file ≡ Ok s → output_of (executed file Report) ≡ Ok (report s.held)
 reported file s loads = ap (λ r. output_of (of_loaded r Report)) loads
 
@@ -44,6 +45,7 @@ read_as_stream file s sets input union loads hs spelled e there back book =
     (union_joined (Part []) [] sets union refl (sym (gives_union sets input spelled) ∙ e)) in
     exported file s book loads ∙ ap (λ (held : List Operation). export_text held book) same ∙ sym (ap (book_in book) e)
 
+-- projects that hold the same operations read the same
 pub same_operations : (file other : List ℕ) (s t : State) → project_at file ≡ Ok s → project_at other ≡ Ok t → IsState s → IsState t →
     HoldTheSame s t → ReadTheSame file other
 same_operations file other s t loads loaded hs ht same =

@@ -18,6 +18,7 @@ pub record Leads (first : List ℕ) (commands : List Command) (file : List ℕ) 
   pub same_file : file_after file left ≡ file_after first commands
   pub run : (s : State) → project_at first ≡ Ok s → LeadsFrom s commands file left
 
+-- before the first command the run is as it began
 pub leads_start : (first : List ℕ) (commands : List Command) → Leads first commands first commands
 leads_start first commands = record { same_file = refl; run = λ s loads. record { now = s; loads = loads; leads = refl } }
 

@@ -67,6 +67,7 @@ module _ (bytes : List ℕ) where
     sheet_refused A text (sheet_faults.EmptyMarker n) same read takes later = due text _ _ same read refl
     sheet_refused A text (sheet_faults.BadStyleType n) same read takes later = due text _ _ same read refl
 
+-- what is searched where the sheet is one and the book has an operation
 pub searched_is : (held : List Operation) (book sheet needle : List ℕ) (records : List Record) →
     is_utf8 sheet ≡ true → sheet_of sheet ≡ Ok records → has_book held book ≡ true →
     searched held book sheet needle ≡ unless_empty needle (Ok (hit_lines book (hits_of records (export held book) needle)))
@@ -74,6 +75,7 @@ searched_is held book sheet needle records is read has =
     let found = λ (r : List Record). of_book_text held book (λ text. unless_empty needle (Ok (hit_lines book (hits_of r text needle)))) in
     cond-true _ _ _ is ∙ ap (λ r. by_records r found) read ∙ cond-true _ _ _ has
 
+-- a needle that is not empty is not refused
 pub some_needle : (needle : List ℕ) (found : Result (List ℕ) Fault) → needle ≢ [] → unless_empty needle found ≡ found
 some_needle [] found some = absurd (some refl)
 some_needle (b ∷ needle) found some = refl
@@ -83,6 +85,7 @@ pub search_is_late : (sheet needle found : List ℕ) → MayWantMemory (is_after
 search_is_late sheet [] found = refl
 search_is_late sheet (b ∷ needle) found = tt
 
+-- a search is refused as out of memory, or for a needle that is empty
 pub search_refused : (A : Type 0) (sheet needle found : List ℕ) (wanted : Result (List ℕ) Fault) (fault : FindFault) →
     wanted ≡ unless_empty needle (Ok found) → (fault ≡ finding.EmptyNeedle → needle ≡ []) →
     Gives {A = A} (is_after_sheet sheet) wanted (Err (of_find fault))

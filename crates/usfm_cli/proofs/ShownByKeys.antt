@@ -1,12 +1,14 @@
 -- What a book shows by its keys, in whatever order, put into a set, is the set of what it shows.
-use Rattle.std.proofs.Common.{◌≡◌, ℕ, Bool, true, false, cond, ◌&&◌, ◌||◌, List, [], ◌∷◌}
-use Rattle.std.proofs.Common.{filter, refl, sym, ap, subst, ◌∙◌, Option, None, Some, is_some}
+use Rattle.std.proofs.Common.{◌≡◌, ℕ, Bool, true, false, cond, ◌&&◌, ◌||◌, List, [], ◌∷◌, filter}
+use Rattle.std.proofs.Common.{refl, sym, ap, subst, ◌∙◌, Option, None, Some, is_some}
 use Rattle.std.specs.List.{list_all, list_any, flat_map, All, AllByRecursion}
 use Rattle.std.specs.List.Sorted.{IsPermutation}
 use Rattle.std.specs.Ordering.{is_eq}
+use Rattle.std.proofs.Math.Bool.{or-false, or_assoc}
 use Rattle.std.proofs.lemmas.Bool.{and_parts, and_from, false≢true}
 use Rattle.std.proofs.lemmas.List.Sorted.{All-permutation, list_any-IsPermutation}
-use Rattle.std.proofs.lemmas.List.Elements.{All-nil, All-append, All-from_recursion, recursion_from_All}
+use Rattle.std.proofs.lemmas.List.Elements.{All-nil, All-append, All-from_recursion}
+use Rattle.std.proofs.lemmas.List.Elements.{recursion_from_All}
 use Rattle.std.proofs.lemmas.Cmp.{tied_itself}
 use Rattle.usfm_ref.specs.Keys.{KeyParts, key_cmp}
 use Rattle.usfm_ref.specs.Segments.{Segment, segment}
@@ -25,7 +27,9 @@ use Rattle.op_core.proofs.Gets.{AnyHeld, any_held, any_from, all_at}
 use Rattle.op_core.proofs.Union.{met_none, get-put, rises-put, put_held, held_itself, same_gets}
 use Rattle.usfm_cli.specs.Standing.{is_shown_in_book, shown_set}
 use Rattle.usfm_cli.proofs.Puts.{put_all}
-use Rattle.usfm_cli.proofs.ListTests.{any_filter, any_map, any_flat, any_of_more, some_passes, key_passes, same_tests, or_false, or_assoc}
+use Rattle.replica_state.proofs.ImportedTexts.{any_found}
+use Rattle.usfm_cli.proofs.ListTests.{any_filter, any_map, any_flat, any_of_more, key_passes}
+use Rattle.usfm_cli.proofs.ListTests.{same_tests}
 use Rattle.usfm_cli.proofs.ShownSets.{passes_both, shown_is_full, shown_is_set}
 
 -- ---- operations put into a set
@@ -55,7 +59,7 @@ module _ (whole : List Operation) (full : list_all is_full whole ≡ true) where
           (subst Within (sym same) w, λ q. ap (λ (xs : List Operation). is_some (get xs q)) same ∙ had q (same_id q o.id) refl)
         where
           had : (q : Id) (b : Bool) → same_id q o.id ≡ b → is_some (get ops q) ≡ (is_some (get ops q) || b)
-          had q false f = sym (or_false (is_some (get ops q)))
+          had q false f = sym (or-false (is_some (get ops q)))
           had q true f = let there : is_some (get ops q) ≡ true = ap (λ (i : Id). is_some (get ops i)) (id_from_same q o.id f)
               ∙ ap is_some e in there ∙ sym (ap (λ b. b || true) there)
       by None e = (within, λ q. ap is_some (get-put o ops q h) ∙ some q (get ops q) (same_id q o.id))
@@ -83,7 +87,7 @@ module _ (whole : List Operation) (full : list_all is_full whole ≡ true) where
 
   pub put_some : (ops set : List Operation) → rises set ≡ true → Within set → AllByRecursion (λ o. get whole o.id ≡ Some o) ops
       → (q : Id) → is_some (get (put_all set ops) q) ≡ (is_some (get set q) || list_any (λ o. same_id q o.id) ops)
-  put_some [] set h w each q = sym (or_false (is_some (get set q)))
+  put_some [] set h w each q = sym (or-false (is_some (get set q)))
   put_some (o ∷ ops) set h w each q =
       let one = one_put o set h w each.0 in
       put_some ops (put o set) (rises-put o set h) one.0 each.1 q
@@ -107,7 +111,7 @@ module _ (held : List Operation) (book : List ℕ) (set : IsOpSet held) where
     where
       into : list_any (λ key. list_any p (shown_at key)) (keys_of held book) ≡ true → list_any p (shown_set held book) ≡ true
       into h =
-          let found = some_passes (λ key. list_any p (shown_at key)) (keys_of held book) h in
+          let found = any_found (λ key. list_any p (shown_at key)) (keys_of held book) h in
           any_filter p (is_shown_in_book held book) held
           ∙ any_of_more (λ o. is_shown held (segment book found.0) o && p o) (λ o. is_shown_in_book held book o && p o)
           (λ o e. let parts = and_parts (is_shown held (segment book found.0) o) (p o) e in and_from _ _

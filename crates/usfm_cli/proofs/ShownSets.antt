@@ -1,21 +1,24 @@
 -- The operations that a book shows give the same export as all, so that their bundle makes the book's file.
-use Rattle.std.proofs.Common.{◌≡◌, ◌≢◌, ◌<◌, ◌^◌, ℕ, Bool, true, false, not, cond, ◌&&◌, ◌||◌, List, [], ◌∷◌}
-use Rattle.std.proofs.Common.{length, filter, inl, inr, nat_le, refl, sym, ap, subst, ◌∙◌}
+use Rattle.std.proofs.Common.{◌≡◌, ◌≢◌, ◌<◌, ◌^◌, ℕ, Bool, true, false, not, cond, ◌&&◌, ◌||◌, List}
+use Rattle.std.proofs.Common.{[], ◌∷◌, length, filter, inl, inr, nat_le, refl, sym, ap, subst, ◌∙◌}
 use Rattle.std.specs.List.{list_all, list_any, flat_map}
 use Rattle.std.specs.Ordering.{is_eq}
+use Rattle.std.proofs.Math.Bool.{and-false}
 use Rattle.std.proofs.lemmas.Bool.{and_parts, and_from, not-true, or_cases, false≢true}
 use Rattle.usfm_ref.specs.Books.{same_bytes}
 use Rattle.usfm_ref.specs.Keys.{KeyParts, key_cmp, head_of, is_head, is_verse_of}
 use Rattle.usfm_ref.specs.Segments.{Segment, segment, same_segment}
 use Rattle.usfm_ref.proofs.Members.{same_tested, tested_rising}
 use Rattle.usfm_ref.proofs.Sorted.{rises-rising}
-use Rattle.usfm_ref.proofs.Orders.{key_total, key_exact, same_bytes-is, same_bytes-refl, same_segment-is, same_segment-refl}
+use Rattle.usfm_ref.proofs.Orders.{key_total, key_exact, same_bytes-is, same_bytes-refl}
+use Rattle.usfm_ref.proofs.Orders.{same_segment-is, same_segment-refl}
 use Rattle.op_core.specs.Ids.{Id}
 use Rattle.op_core.specs.Ops.{Operation, IsOperation, in_segment, is_verse_in, is_full, names}
 use Rattle.op_core.specs.Sets.{IsOpSet}
 use Rattle.op_core.specs.Thinned.{is_legal, is_past}
-use Rattle.op_core.specs.Shown.{is_replaced, is_shown, shown, last, text_in, text_of, is_empty, is_verse_with_text}
-use Rattle.op_core.specs.Shown.{has_verse_text, greatest, pick, picked_text, Line}
+use Rattle.op_core.specs.Shown.{is_replaced, is_shown, shown, last, text_in, text_of, is_empty}
+use Rattle.op_core.specs.Shown.{is_verse_with_text, has_verse_text, greatest, pick, picked_text}
+use Rattle.op_core.specs.Shown.{Line}
 use Rattle.op_core.specs.Export.{of_book, has_book, keys_in, exported_keys, export}
 use Rattle.op_core.proofs.Filters.{rises-filter, filter_within, filter_kept, all_of_filter}
 use Rattle.op_core.proofs.Gets.{AnyHeld, any_held, any_from}
@@ -24,8 +27,8 @@ use Rattle.bundle_codec.specs.Spelling.{bundle}
 use Rattle.bundle_codec.proofs.Wholes.{whole_reads}
 use Rattle.usfm_cli.specs.Folders.{is_export, makes}
 use Rattle.usfm_cli.specs.Standing.{is_shown_in_book, shown_set}
-use Rattle.usfm_cli.proofs.ListTests.{filter_both, any_filter, any_map, any_flat, none_of_less, filter_none}
-use Rattle.usfm_cli.proofs.ListTests.{same_tests, kept_each, and_none}
+use Rattle.usfm_cli.proofs.ListTests.{filter_both, any_filter, any_map, any_flat, none_of_less}
+use Rattle.usfm_cli.proofs.ListTests.{filter_none, same_tests, kept_each}
 
 module _ (held : List Operation) (book : List ℕ) (set : IsOpSet held) where
   -- ---- what a segment of the book shows
@@ -43,7 +46,7 @@ module _ (held : List Operation) (book : List ℕ) (set : IsOpSet held) where
     where
       by : (i : Bool) → in_segment g o ≡ i → (n : Bool) → is_replaced held g o.id ≡ n
           → (is_shown_in_book held book o && (i && not (is_replaced (shown_set held book) g o.id))) ≡ (i && not n)
-      by false e n f = and_none (is_shown_in_book held book o)
+      by false e n f = and-false (is_shown_in_book held book o)
       by true e n f = elim n as
           (λ (n : Bool). is_replaced held g o.id ≡ n
           → (is_shown_in_book held book o && not (is_replaced (shown_set held book) g o.id)) ≡ not n) [

@@ -28,6 +28,7 @@ within_end (suc bound) held = refl
 
 -- ---- from the sets to the stream
 
+-- a stream that is bundles one after another is read as the union of their sets
 pub to_union : (bound : ℕ) (held : List Operation) (sets : List (List Operation)) → AreEach sets → length (flat_map bundle sets) ≤ bound →
     union_within bound held (flat_map bundle sets) ≡ union_with held sets
 to_union bound held [] each w = within_end bound held
@@ -79,17 +80,20 @@ spells (suc bound) held (x ∷ input) union b w h =
     read_on bound held (x ∷ input) union (λ set left b w h. spells bound (join held set) left union b w h) b w
     (bundle_at (x ∷ input)) refl h
 
+-- a stream that is read as a union is one of bundles
 pub stream_of : (input : List ℕ) (union : List Operation) → AreBytes input → union_in [] input ≡ Ok union → IsStreamOf input union
 stream_of input union b h =
     let s = spells (length input) [] input union b (omega arith) h in
     record { sets = s.sets; spelled = record { each = s.each; bytes = s.bytes }; union_is = s.is }
 
+-- what a stream is read as is the union of the sets that it spells
 pub gives_union : (sets : List (List Operation)) (input : List ℕ) → AreSpelled sets input → union_in [] input ≡ union_with [] sets
 gives_union sets input s =
     ap (λ (bytes : List ℕ). union_in [] bytes) s.bytes ∙ to_union (length (flat_map bundle sets)) [] sets s.each (omega arith)
 
 -- ---- order, grouping and repetition
 
+-- sets joined to a union one after another, as one way of joining
 pub union_joined : (way : Joining) (held : List Operation) (sets : List (List Operation)) (union : List Operation) →
     union_by way ≡ Ok held → union_with held sets ≡ Ok union → union_by (joined_in way sets) ≡ Ok union
 union_joined way held [] union w h = let same : held ≡ union = cc h in w ∙ ap Ok same
@@ -104,6 +108,7 @@ pub are_sets : (sets : List (List Operation)) → AreEach sets → AllByRecursio
 are_sets [] each = tt
 are_sets (set ∷ rest) each = (each.0.set, are_sets rest each.1)
 
+-- streams with the same operations together have the same bytes of every book
 pub same_books : (sets others : List (List Operation)) (input other : List ℕ) (a b : List Operation) →
     AreSpelled sets input → AreSpelled others other → SameTogether sets others → union_in [] input ≡ Ok a →
     union_in [] other ≡ Ok b → (book : List ℕ) → book_of_stream book input ≡ book_of_stream book other

@@ -23,6 +23,7 @@ use Rattle.usfm_cli.specs.Executing.{executed, of_loaded, written}
 use Rattle.usfm_cli.specs.ExecLaws.{output_of}
 use Rattle.usfm_cli.specs.declared.command.Command.TheVariants.{Receive, Summary, Delta}
 
+-- the summary that a project writes is read as it
 pub summary_again : (held : List Operation) → IsOpSet held → length (summary (summary_of held)) < 2 ^ 64
     → read_summary (summary (summary_of held)) ≡ Some (summary_of held)
 summary_again held set short =

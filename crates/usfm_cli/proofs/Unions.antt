@@ -24,9 +24,11 @@ pub record LeadsTo (held : List Operation) (rest : List ℕ) (wanted : Result (L
   pub within : length rest ≤ bound
   pub leads : union_within bound held rest ≡ wanted
 
+-- before the first bundle nothing is held
 pub leads_start : (input : List ℕ) → LeadsTo [] input (union_in [] input)
 leads_start input = record { bound = length input; within = omega arith; leads = refl }
 
+-- after the last one the union is held
 pub leads_end : (held : List Operation) (rest : List ℕ) (wanted : Result (List Operation) Fault) → rest ≡ [] →
     LeadsTo held rest wanted → wanted ≡ Ok held
 unfolding union_within
@@ -99,6 +101,7 @@ pub some_left : (xs : List ℕ) (r : Bool) → r ≡ (length xs == 0) → r ≡ 
 some_left [] r e f = cc (sym e ∙ f)
 some_left (x ∷ xs) r e f = omega arith
 
+-- nothing is left where no length is
 pub none_left : (xs : List ℕ) (r : Bool) → r ≡ (length xs == 0) → r ≡ true → xs ≡ []
 none_left [] r e f = refl
 none_left (x ∷ xs) r e f = absurd (omega (arith, eqb-true (length (x ∷ xs)) 0 (sym e ∙ f)))
@@ -108,6 +111,7 @@ pub record IsOnWay (input : List ℕ) (held : List Operation) (rest : List ℕ) 
   pub leads : LeadsTo held rest (union_in [] input)
   pub back : ReceivesOne held rest → ReceivesOne [] input
 
+-- before the first bundle all of the stream is ahead
 pub way_start : (input : List ℕ) → IsOnWay input [] input
 way_start input = record { leads = leads_start input; back = λ one. one }
 

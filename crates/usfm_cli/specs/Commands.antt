@@ -59,14 +59,14 @@ shown_line o = line_of (codes "op") (id_text o.id ++ 32 ∷ decimal (length (own
 
 -- what a command writes of a step: how many operations are new, the id that an edit made, how many edits an import
 -- made, how many texts were left out; or the step's refusal
-abbrev pub told : Reply → Result (List ℕ) Fault
-told (Received (Ok count)) = Ok (line_of (codes "new") (decimal count))
-told (Received (Err fault)) = Err (of_receiving fault)
-told (Edited (Ok id)) = Ok (line_of (codes "made") (id_text id))
-told (Edited (Err fault)) = Err (of_edit fault)
-told (Imported (Ok count)) = Ok (line_of (codes "added") (decimal count))
-told (Imported (Err fault)) = Err (of_import fault)
-told (Thinned count) = Ok (line_of (codes "thinned") (decimal count))
+abbrev pub reply_line : Reply → Result (List ℕ) Fault
+reply_line (Received (Ok count)) = Ok (line_of (codes "new") (decimal count))
+reply_line (Received (Err fault)) = Err (of_receiving fault)
+reply_line (Edited (Ok id)) = Ok (line_of (codes "made") (id_text id))
+reply_line (Edited (Err fault)) = Err (of_edit fault)
+reply_line (Imported (Ok count)) = Ok (line_of (codes "added") (decimal count))
+reply_line (Imported (Err fault)) = Err (of_import fault)
+reply_line (Thinned count) = Ok (line_of (codes "thinned") (decimal count))
 
 -- what a command writes of an import since a base: how many edits it made; or the refusal
 abbrev pub told_since : Result ℕ SinceFault → Result (List ℕ) Fault
@@ -80,7 +80,7 @@ done_if after (Err fault) = Err fault
 
 -- what a step does, or why it is refused
 abbrev pub done : Step → Result Done Fault
-done taken = done_if taken.after (told taken.reply)
+done taken = done_if taken.after (reply_line taken.reply)
 
 -- what is done with bytes that are to be a text, which are refused where they are not UTF-8
 abbrev pub with_text : List ℕ → Result Done Fault → Result Done Fault

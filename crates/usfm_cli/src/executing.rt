@@ -85,7 +85,7 @@ pub fn exec(alloc: Global, project: &[u8], command: &Command<'_>) -> Result<Outc
     ensures memory { result ≡ Err Fault.Memory → (s : State) → project_at project.now ≡ Ok s
         → s.held ≡ [] → MayWantMemory (is_late command.now) (outcome s command.now) }
     // A command that only reports gives the file back as it is.
-    ensures told { IfOk result (λ made.
+    ensures unchanged { IfOk result (λ made.
         IsTrue (only_tells command.now) → made.project ≡ project.now) }
     // The file after it is that of the replica after the command's step.
     ensures after { IfOk result (λ made. (s : State) → project_at project.now ≡ Ok s

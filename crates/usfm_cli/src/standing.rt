@@ -75,7 +75,11 @@ impl Model for Standing {
 
     ghost Value = { ProjectParts };
 
-    ghost view = { λ s. record { books = s.books.items; conflicts = s.conflicts; awaits = s.awaits } };
+    ghost view = { λ s. record {
+      books = s.books.items;
+      conflicts = s.conflicts;
+      awaits = s.awaits;
+    } };
 }
 
 impl Standing {

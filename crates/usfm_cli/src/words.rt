@@ -160,12 +160,12 @@ pub fn read_words(alloc: Global, words: &[String]) -> Result<Line, LineFault> {
             Some((name, given)) => line_of(alloc, name, given),
             None => Err(LineFault::Usage(String::from_str(alloc, NO_SUBCOMMAND)?)),
         },
-        Err(error) => Err(told(alloc, &error)?),
+        Err(error) => Err(line_fault(alloc, &error)?),
     }
 }
 
 // What is to be said of words that are no line.
-fn told(alloc: Global, error: &Error) -> Result<LineFault, AllocError> {
+fn line_fault(alloc: Global, error: &Error) -> Result<LineFault, AllocError> {
     if error.kind() == ErrorKind::OutOfMemory {
         return Err(AllocError);
     }
