@@ -12,12 +12,10 @@ WIDE = re.compile(r"\s*(//|--|#\[|(pub )?(ghost )?use )")
 CITED = re.compile(r"^use Rattle\.(\w+)\.proofs\.([\w.]+)\.\{([^}]*)\}", re.M)
 # Files that have wider lines or uncommented lemmas still.
 EXCEPTIONS = {
-    "crates/conflict_report/proofs/Latest.antt",
     "crates/op_core/proofs/Changed.antt",
     "crates/op_core/proofs/Exported.antt",
     "crates/op_core/proofs/index/put_in/Answers.antt",
     "crates/op_core/proofs/set/thinning/ids/Answers.antt",
-    "crates/replica_state/proofs/ImportedTexts.antt",
 }
 
 

@@ -82,7 +82,8 @@ fn occurrences<'a>(
 ///
 /// # Errors
 /// `EmptyNeedle` exactly where the needle is empty, and else `Memory` where a growth is refused. A
-/// needle that occurs nowhere in the text, not even in a mark or a note, takes no memory.
+/// search for a needle that occurs nowhere in the text, not even in a mark or a note, never answers
+/// `Memory`.
 pub fn find<'a>(
     alloc: Global,
     text: &'a str,

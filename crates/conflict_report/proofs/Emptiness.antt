@@ -187,5 +187,6 @@ module _ (held : List Operation) (set : IsOpSet held) where
       (λ key. none (segment book key)) (keys_of held book)) (books_of held) in
       λ i. books i ++ flat_map awaited_line (h.1 i)
 
+-- a report is empty exactly where no segment has two texts and nothing is awaited
 pub empty_reports : EmptyReports
 empty_reports held set = (told_empty held set, empty_told held set)

@@ -65,6 +65,7 @@ turned : {X : Type 0} (b : Bool) (x y : X) → cond b x y ≡ cond (not b) y x
 turned true x y = refl
 turned false x y = refl
 
+-- what a walk from the front keeps of each text is the last operation that has it: those that are not repeated
 pub latest_is : (ops : List Operation) → rises ops ≡ true → latest ops ≡ filter (λ o. not (is_repeated ops o)) ops
 latest_is [] h = refl
 latest_is (o ∷ later) h =
@@ -77,6 +78,7 @@ latest_is (o ∷ later) h =
 
 -- ---- a walk from the back
 
+-- operations that are lent, as they are now
 abbrev pub now_of : List (Bor Operation) → List Operation
 now_of ops = map (λ op. op.now) ops
 
@@ -86,6 +88,7 @@ pub record IsWalked (all left distinct : List Operation) : Type 0 where
   pub joined : left ++ behind ≡ all
   pub told : distinct ≡ reverse (latest behind)
 
+-- before the walk from the back nothing was met
 pub walked_start : (all left distinct : List Operation) → left ≡ all → distinct ≡ [] → IsWalked all left distinct
 walked_start all left distinct e none = record { behind = []; joined = append-nil left ∙ e; told = none }
 
@@ -133,6 +136,7 @@ no_items : {X : Type 0} (xs : List X) → length xs ≡ 0 → xs ≡ []
 no_items [] h = refl
 no_items (x ∷ xs) h = absurd (omega arith)
 
+-- after it what was kept are the distinct texts that the segment shows
 pub walked_end : (held : List Operation) (g : Segment) (left distinct : List (Bor Operation)) → IsOpSet held → length left ≡ 0
     → IsWalked (shown held g) (now_of left) (now_of distinct) → now_of distinct ≡ distinct_texts held g
 walked_end held g left distinct set none w =

@@ -28,6 +28,7 @@ pub skeleton_reports : SkeletonReports
 skeleton_reports held other rising other_rising legal other_legal none e =
     same_reports held other e (λ g. skeleton_shows held other g rising other_rising legal other_legal none e)
 
+-- replicas that received the same but for texts left out write the same report
 pub thinned_bundles_same_reports : ThinnedBundlesSameReports
 thinned_bundles_same_reports family name other commands others taken others_taken same =
     let alike = (run_alike family name other commands others taken others_taken same).same in

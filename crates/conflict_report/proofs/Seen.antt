@@ -16,6 +16,7 @@ use Rattle.op_core.specs.Ops.{Operation, own_text}
 abbrev pub text_cmp : Bor (List ℕ) → Bor (List ℕ) → Ordering
 text_cmp a b = slice_cmp nat_cmp a.now b.now
 
+-- the texts that were met on a walk
 abbrev pub Texts : Type 0
 Texts = BTreeSet (Bor (List ℕ))
 
@@ -27,9 +28,11 @@ has ops text = list_any (λ o. same_bytes (own_text o.now) text) ops
 abbrev pub Seen : Texts → List (Bor Operation) → Type 0
 Seen texts ops = (q : Bor (List ℕ)) → contains text_cmp texts q ≡ has ops q.now
 
+-- before the walk no text was met
 pub none_seen : (texts : Texts) (ops : List (Bor Operation)) → texts.keys ≡ [] → ops ≡ [] → Seen texts ops
 none_seen texts ops e f q = (λ i. list_any (is_at (text_cmp q)) (e i)) ∙ sym (λ i. has (f i) q.now)
 
+-- what was met depends on the keys of the map alone
 pub same_seen : (old new : Texts) (ops : List (Bor Operation)) → new.keys ≡ old.keys → Seen old ops → Seen new ops
 same_seen old new ops e h q = (λ i. list_any (is_at (text_cmp q)) (e i)) ∙ h q
 
@@ -39,6 +42,7 @@ turned true false = refl
 turned false true = refl
 turned false false = refl
 
+-- with one more key the map has the texts of one more operation
 pub more_seen : (old new : Texts) (ops : List (Bor Operation)) (op : Bor Operation) (key : Bor (List ℕ)) → key.now ≡ own_text op.now
     → ((q : Bor (List ℕ)) → contains text_cmp new q ≡ cond (is_at (text_cmp key) q) true (contains text_cmp old q))
     → Seen old ops → Seen new (ops ++ op ∷ [])

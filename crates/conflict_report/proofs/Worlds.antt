@@ -17,16 +17,20 @@ use Rattle.conflict_report.proofs.SameReports.{same_reports}
 same_report : (s t : List Operation) → ShowSame s t → report s ≡ report t
 same_report s t h = same_reports s t h.skeletons h.shown
 
+-- what stands for a set has the set's report
 pub stand_ins_report : (s u : List Operation) → StandsFor s u → report s ≡ report u
 stand_ins_report s u h = same_report s u (stands_shows s u h)
 
+-- a replica reports what it would report if none had thinned
 pub thinning_reports : (events : List Event) (name : List ℕ) → report ((after events).held name) ≡ report ((after (twin events)).held name)
 thinning_reports events name = same_report _ _ (thinning_shows_nothing events name)
 
+-- replicas with one skeleton write the same report
 pub skeletons_report : (events : List Event) (a b : List ℕ) → skeleton ((after events).held a) ≡ skeleton ((after events).held b)
     → report ((after events).held a) ≡ report ((after events).held b)
 skeletons_report events a b e = same_report _ _ (show_same events a b e)
 
+-- after relays round all, all who are there write the same report, and nothing is awaited
 pub all_report : (is_there : List ℕ → Bool) (later past : List Event) → EndsInRelays is_there later past
     → (a b : List ℕ) → is_there a ≡ true → is_there b ≡ true
     → ReportAlike ((after (later ++ past)).held a) ((after (later ++ past)).held b)

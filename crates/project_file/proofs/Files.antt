@@ -25,6 +25,7 @@ short_bundle : (s : State) → length (project s) < 2 ^ 64 → length (bundle s.
 unfolding project
 short_bundle s h = omega (arith, length-append magic (length s.name ∷ (s.name ++ bundle s.held)), length-append s.name (bundle s.held))
 
+-- the file of a replica is read as that replica
 pub project_again : (s : State) → IsState s → length (project s) < 2 ^ 64 → project_at (project s) ≡ Ok s
 unfolding project
 project_again s v short =
@@ -32,6 +33,7 @@ project_again s v short =
     ∙ ap (state_of s.name) (whole_reads (bundle s.held)
     (record { ops = s.held; set = v.set; legal = v.legal; spelled = refl; short = short_bundle s short }))
 
+-- bytes that are the file of a replica are read as it
 pub read_again : (bytes : List ℕ) (s : State) → length bytes < 2 ^ 64 → IsState s → bytes ≡ project s → project_at bytes ≡ Ok s
 read_again bytes s short v e = ap project_at e ∙ project_again s v (omega (arith, ap length e))
 
@@ -50,6 +52,7 @@ not_refused bytes fault short f s v e = let read = read_again bytes s short v e 
 pub same_replica : (bytes : List ℕ) (s t : State) → length bytes < 2 ^ 64 → project_at bytes ≡ Ok s → IsState t → bytes ≡ project t → s ≡ t
 same_replica bytes s t short read v e = let same : Ok s ≡ Ok t = sym read ∙ read_again bytes t short v e in cc same
 
+-- two replicas with one file are one
 pub one_replica : (s t : State) → IsState s → IsState t → length (project s) < 2 ^ 64 → project s ≡ project t → s ≡ t
 one_replica s t v w short e = same_replica (project s) s t short (project_again s v short) w e
 
@@ -95,6 +98,7 @@ project_is bytes s fits e = by_front (front_at bytes) refl e
 
 -- ---- a replica that held nothing and received the bundle after a front
 
+-- a replica that holds nothing clashes with no bundle
 pub no_clash : (name : List ℕ) (r : State) (held : List Operation) (id : Id) → r ≡ begun name → clash r.held held ≡ Some id → ⊥
 no_clash name r held id e f = let none : clash r.held held ≡ None = ap (λ (s : State). clash s.held held) e ∙ clash_none held in absurd cc
 

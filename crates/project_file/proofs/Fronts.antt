@@ -25,6 +25,7 @@ name_again name rest h =
     let fits : leb (length name) (length (name ++ rest)) ≡ true = le-leb _ _ (omega (arith, length-append name rest)) in
     rw (fits, front, later, h) refl
 
+-- the front of a project is read as the name that it was written for
 pub front_again : (name rest : List ℕ) → IsTrue (is_name name) → front_at (magic ++ (length name ∷ (name ++ rest))) ≡ Some (name, rest)
 unfolding front_at magic
 front_again name rest h = name_again name rest h
@@ -50,11 +51,13 @@ past_magic true bytes name rest h e =
     record { spelled = begins ∙ ap (λ (w : List ℕ). magic ++ w) named.0; valid = named.1 }
 past_magic false bytes name rest h e = let none : None ≡ Some (name, rest) = rw h at e in cc none
 
+-- what is read as the front of a project is spelled so
 pub front_is : (bytes name rest : List ℕ) → front_at bytes ≡ Some (name, rest) → IsFront bytes name rest
 front_is bytes name rest e = past_magic (starts_with eqb bytes magic) bytes name rest refl e
 
 -- ---- bytes
 
+-- what follows the front of bytes are bytes
 pub bytes_after : (bytes name rest : List ℕ) → AreBytes bytes → IsFront bytes name rest → AreBytes rest
 unfolding magic
 bytes_after bytes name rest fits f =

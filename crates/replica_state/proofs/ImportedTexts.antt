@@ -26,6 +26,7 @@ use Rattle.replica_state.proofs.DueKeys.{due_rise, not_due}
 use Rattle.replica_state.proofs.FilePieces.{book_is_code, book_is_headed}
 use Rattle.replica_state.proofs.KeyTexts.{text_at, text_of_piece, stands, item_at}
 
+-- where a test passes in a list, it passes of something
 pub any_found : {X : Type 0} (p : X → Bool) (xs : List X) → list_any p xs ≡ true → (x : X) × (p x ≡ true)
 any_found p [] h = cc h
 any_found {X} p (x ∷ xs) h = by (λ g. any_found p xs g) (p x) refl h

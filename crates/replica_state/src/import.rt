@@ -36,7 +36,7 @@ impl Replica {
     /// - `Memory` where a growth was refused.
     ///
     /// The first of them is answered, and the replica is then unchanged. A file that is no book's
-    /// takes no memory.
+    /// is never refused as out of memory.
     pub fn import(&mut self, file: &str) -> Result<u64, ImportFault>
         ensures step { result ≢ Err ImportFault.Memory →
             step self.old (Import file.now) ≡ record { after = self.new; reply = Imported result } }

@@ -13,8 +13,8 @@ use op_core::{Op, OpSet};
 impl Replica {
     /// Takes in the operations of a bundle, and says how many are new. Only the new ones are copied;
     /// then the text of each held one is left out that the bundle has thinned. So a bundle whose
-    /// operations are all held, alike or thinned on either side, takes no memory, nor does one whose
-    /// new operations all come after a clash.
+    /// operations are all held, alike or thinned on either side, is never refused as out of memory, nor
+    /// is one whose new operations all come after a clash.
     ///
     /// # Errors
     /// `Clash` with the least id under which the replica and the bundle have operations that do not

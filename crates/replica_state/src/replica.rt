@@ -68,7 +68,7 @@ impl Replica {
     }
 
     /// The ids that a held operation names and none has, rising, each once. Where there is none, it
-    /// takes no memory.
+    /// never answers out of memory.
     ///
     /// # Errors
     /// Out of memory alone.
@@ -80,7 +80,8 @@ impl Replica {
     }
 
     /// What the segment shows: the operations of it whose ids no operation of it names as replaced,
-    /// rising, lent from the replica. Where it shows none, it takes no memory.
+    /// rising, lent from the replica. Where it shows none, it never
+    /// answers out of memory.
     ///
     /// # Errors
     /// Out of memory alone.

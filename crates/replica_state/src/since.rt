@@ -48,8 +48,8 @@ impl Replica {
     /// - `Memory` where a growth was refused.
     ///
     /// The first of them is answered, and the replica is then unchanged: it has not received the base
-    /// either. A file that is no book's takes no memory, nor does a clash that comes in the base before
-    /// what is new.
+    /// either. A file that is no book's is never refused as out of memory, nor is a clash that comes in
+    /// the base before what is new.
     pub fn import_since(&mut self, base: &Bundle<'_>, file: &str) -> Result<u64, SinceFault>
         ensures step { result ≢ Err SinceFault.Memory →
             since.imported_since self.old base.now file.now

@@ -132,6 +132,7 @@ module _ (styles : Styles) where
       (λ b. All-nil Deep)
       (λ b. enter_deep (kids styles k) os around t l (role styles t.token) (kids_deep k) refl same)
 
+-- each leaf of a tree that might have begun a node was left out for its depth
 pub leaves_are_too_deep : LeavesAreTooDeep
 unfolding spots_of tree_of
 leaves_are_too_deep sheet s = let l = placed 0 (tokens_of s) in kids_deep (styles_in sheet) (suc (length l)) [] [] l refl

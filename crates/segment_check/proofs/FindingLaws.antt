@@ -149,15 +149,19 @@ in_order : (sheet : List Record) (s : List ℕ) → AllPairs Before (findings sh
 unfolding findings scenes_of
 in_order sheet s = pairs sheet s [] 0 (tokens_of s) (each-tokens_of s)
 
+-- the starts of findings never fall
 pub starts_never_fall : StartsNeverFall
 starts_never_fall sheet s i j d p q = ⊎_elim (λ h. omega arith) (λ h. let e = h.0 in omega (arith, e)) (in_order sheet s i j d p q)
 
+-- at one start the codes of findings rise
 pub codes_rise : CodesRise
 codes_rise sheet s i j d p q same = ⊎_elim (λ h. absurd (omega arith)) (λ h. h.1) (in_order sheet s i j d p q)
 
+-- no two findings have one start and one code
 pub no_two_alike : NoTwoAlike
 no_two_alike sheet s i j d p q same alike = let h = codes_rise sheet s i j d p q same in let e = ap place_of alike in omega (arith, h, e)
 
+-- each finding starts where a token starts
 pub starts_are_tokens : StartsAreTokens
 unfolding findings scenes_of
 starts_are_tokens sheet s = starts sheet s [] [] 0 (tokens_of s) refl refl

@@ -164,6 +164,7 @@ module _ (sheet : List Record) (s : List ℕ) where
     cuts = cuts_start s;
   }
 
+-- what is found from the left are the findings of the definition
 pub findings_are_read : FindingsAreRead
 unfolding found_in findings scenes_of
 findings_are_read sheet s =

@@ -22,6 +22,7 @@ pub record Cuts (all : List Part) (key : KeyParts) (from next : ℕ) (ts : List 
   pub here : next ≡ start + length sofar
   pub finds : (p : ℕ) → from ≤ p → find (holds p) all ≡ find (holds p) (pieces_with key start sofar (cut_from key next ts))
 
+-- at the start of a book all its pieces are ahead
 pub cuts_start : (s : List ℕ) → Cuts (pieces_of s) book_head 0 0 (tokens_of s)
 unfolding cut_of
 cuts_start s = record {
@@ -32,6 +33,7 @@ cuts_start s = record {
   finds = λ p h. ap (find (holds p)) (sym (cut_is_read s));
 }
 
+-- what holds of the pieces from a place on holds from each later one on, before the next token
 pub cuts_later : (all : List Part) (key : KeyParts) (from to next : ℕ) (ts : List Lexeme) → from ≤ to → Cuts all key from next ts
     → Cuts all key to next ts
 cuts_later all key from to next ts h c = record {

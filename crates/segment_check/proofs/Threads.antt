@@ -33,6 +33,7 @@ Thread n (l ∷ ls) (x ∷ xs) = ((x.start ≡ n) × (l ≡ mark_bytes x.mark) �
 thread_from : (n k : ℕ) (ls : List (List ℕ)) (xs : List Spot) → n ≡ k → Thread n ls xs → Thread k ls xs
 thread_from n k ls xs e h = let F : ℕ → Type 0 = λ m. Thread m ls xs in subst F e h
 
+-- no marks are in the order of whatever tokens
 pub thread_none : (n : ℕ) (ls : List (List ℕ)) → Thread n ls []
 thread_none n [] = tt
 thread_none n (l ∷ ls) = tt
@@ -80,6 +81,7 @@ forest_thread around n (node k s b m ks c f) r =
           (thread_from _ _ (leaves_of f) (spots around f) (omega (arith, len)) (forest_thread around (n + length b) f r.3))),
     )
 
+-- the marks of a tree are in the order of the tokens of its text
 pub tree_thread : (sheet : List Record) (s : List ℕ) → Thread 0 (map slice_of (tokens_of s)) (spots_of sheet s)
 unfolding spots_of
 tree_thread sheet s =
@@ -125,6 +127,7 @@ pub record Passes (sheet : List Record) (at : ℕ) (l : List ℕ) (ls : List (Li
   pub first : (test : Spot → Bool) (field : Seen → Bool) → ((x : Spot) → field (seen_of sheet x) ≡ test x) → field (unseen at) ≡ false
       → field (seen_first at (map (seen_of sheet) xs)) ≡ stands_at xs at test
 
+-- a token is passed, with its mark if the tree has one there
 pub passes : (sheet : List Record) (at : ℕ) (l : List ℕ) (ls : List (List ℕ)) (xs : List Spot) → 0 < length l → Thread at (l ∷ ls) xs
     → Passes sheet at l ls xs
 passes sheet at l ls [] some t = record {

@@ -36,6 +36,7 @@ use Rattle.segment_check.specs.declared.seen.Seen.{Seen}
 room_less : (n : ℕ) → 64 - n - 1 ≡ 64 - suc n
 room_less n = omega arith
 
+-- what the nodes around a place decide, with one more node around it
 pub enters : (k : StyleKind) (m : MarkParts) (is_closed : Bool) (around : List Around)
     → entering k m.name (surroundings_of around) ≡ surroundings_of (record { kind = k; mark = m; is_closed = is_closed } ∷ around)
 enters kinds.Paragraph m is_closed around =
@@ -127,6 +128,7 @@ told_before : (sheet : List Record) (around : List Around) (n : Node) → EntryS
 told_before sheet around n =
     subst (EntrySeen sheet around) (sym (fold_out-Node Forest Parts node_step parts_step n)) (step_seen sheet around _)
 
+-- what is seen of nodes is what is seen of the first, and then of the others
 pub node_told : (sheet : List Record) (around : List Around) (n : Node) (ns : List Node)
     → seen_in sheet around (forest_of (n ∷ ns)) ≡ seen_first sheet around (view n) ++ seen_in sheet around (forest_of ns)
 node_told sheet around n ns = told_before sheet around n (forest_of ns)
@@ -145,6 +147,7 @@ nodes_seen sheet around (n ∷ ns) rest =
 
 -- ---- how large
 
+-- how many entries a tree has
 abbrev pub size_of : Forest → ℕ
 size_of f = length (leaves_of f)
 
@@ -166,6 +169,7 @@ step_smaller (Note b) rest =
 step_smaller (Milestone b) rest =
     branch_smaller (leaves_of (kids_of (node_step (Milestone b)))) (close_leaves (close_of (node_step (Milestone b)))) (leaves_of rest)
 
+-- the kids of the first node and the other nodes together have fewer entries than all
 pub node_smaller : (n : Node) (ns : List Node) → size_of (kids_of (view n)) + size_of (forest_of ns) < size_of (forest_of (n ∷ ns))
 node_smaller n ns =
     let e : IsSmaller (view n) = subst IsSmaller (sym (fold_out-Node Forest Parts node_step parts_step n)) (step_smaller _) in
@@ -177,11 +181,13 @@ node_smaller n ns =
 node_left : (ns : List Node) (i : ℕ) (n : Node) → n ≡ get_or ns i n → i < length ns → drop i ns ≡ n ∷ drop (i + 1) ns
 node_left ns i n e h = drop-cons ns i n h ∙ ap (λ x. x ∷ drop (suc i) ns) (sym e) ∙ ap (λ j. n ∷ drop j ns) (sym (add-one i))
 
+-- what is seen of the nodes from one on is what is seen of it, and then of those after it
 pub told_left : (sheet : List Record) (around : List Around) (ns : List Node) (i : ℕ) (n : Node) → n ≡ get_or ns i n → i < length ns
     → seen_in sheet around (forest_of (drop i ns)) ≡ seen_first sheet around (view n) ++ seen_in sheet around (forest_of (drop (i + 1) ns))
 told_left sheet around ns i n e h =
     ap (λ l. seen_in sheet around (forest_of l)) (node_left ns i n e h) ∙ node_told sheet around n (drop (i + 1) ns)
 
+-- its kids and the nodes after it together have fewer entries than the nodes from it on
 pub size_left : (ns : List Node) (i : ℕ) (n : Node) → n ≡ get_or ns i n → i < length ns
     → size_of (kids_of (view n)) + size_of (forest_of (drop (i + 1) ns)) < size_of (forest_of (drop i ns))
 size_left ns i n e h =
@@ -198,6 +204,7 @@ is_some-map : {A B : Type 0} (f : A → B) (o : Option A) → is_some o ≡ is_s
 is_some-map f None = refl
 is_some-map f (Some x) = refl
 
+-- something has an image exactly where it is there
 pub closed_is : {A B : Type 0} (f : A → B) (o : Option A) (c : Option B) (b : Bool) → b ≡ is_some o → option_map f o ≡ c → b ≡ is_some c
 closed_is f o c b e h = e ∙ is_some-map f o ∙ ap is_some h
 
@@ -248,6 +255,7 @@ tells_on sheet i old new whole ns f g h split root tells =
     advance old new whole (seen_in sheet [] (forest_of ns)) (seen_in sheet [] f) (seen_in sheet [] g) h
     (ap (seen_in sheet []) split ∙ nodes_seen sheet [] ns g) (tells [] root)
 
+-- after some nodes fewer entries are left
 pub less_left : (ns : List Node) (f g : Forest) → f ≡ ((forest_of ns) then g) → 0 < length ns → size_of g < size_of f
 less_left [] f g split some = absurd (omega (arith, some))
 less_left (n ∷ ns) f g split some =

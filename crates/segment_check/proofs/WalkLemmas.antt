@@ -22,11 +22,13 @@ next_place n at rest t front within =
     let len : length at ≡ length (slice_of t) + length rest = ap length (token_front at rest t front) ∙ length-append (slice_of t) rest in
     omega (arith, len)
 
+-- what is left after a token is no longer than what was left before it
 pub still_within : (n : ℕ) (at rest : List ℕ) (t : Lexeme) → tokens_of at ≡ t ∷ tokens_of rest → length at ≤ n → length rest ≤ n
 still_within n at rest t front within =
     let len : length at ≡ length (slice_of t) + length rest = ap length (token_front at rest t front) ∙ length-append (slice_of t) rest in
     omega (arith, len)
 
+-- the tokens ahead are the next one, if there is one, and those after it
 pub ahead_is : (next : Option Token) (old new : List ℕ) → MatchOption next ((tokens_of old ≡ []) × (tokens_of new ≡ []))
     (λ t. tokens_of old ≡ lexeme t ∷ tokens_of new) → tokens_of old ≡ before next (tokens_of new)
 ahead_is None old new h = h.0
@@ -36,9 +38,11 @@ first_before : (next : Option Token) (ts : List Lexeme) → IsFirst next (before
 first_before None ts = refl
 first_before (Some t) ts = refl
 
+-- the next token is the first of those ahead
 pub first_is : (next : Option Token) (ts us : List Lexeme) → ts ≡ before next us → IsFirst next ts
 first_is next ts us e = subst (IsFirst next) (sym e) (first_before next us)
 
+-- at a mark the walk finds what the reading finds there, and goes on in the state after it
 pub mark_step : (st new : State) (n n' : ℕ) (m : MarkParts) (after : List ℕ) (ts all : List Lexeme) (found more whole : List Finding)
     → all ≡ mark m ∷ ts → after ≡ text_after ts → n + length (mark_bytes m) ≡ n' → new ≡ behind st n m after
     → more ≡ found ++ findings_with (held_at st n m after) n (behind st n m after).key → found ++ found_from st n all ≡ whole
@@ -53,15 +57,18 @@ mark_step st new n n' m after ts all found more whole front is place state add h
     ∙ ap (λ l. found ++ found_from st n l) (sym front)
     ∙ h
 
+-- at a text the walk finds nothing
 pub text_step : (st : State) (n n' : ℕ) (t : List ℕ) (ts all : List Lexeme) (found whole : List Finding) → all ≡ words t ∷ ts
     → n + length t ≡ n' → found ++ found_from st n all ≡ whole → found ++ found_from st n' ts ≡ whole
 text_step st n n' t ts all found whole front place h =
     ap (λ k. found ++ found_from st k ts) (sym place) ∙ ap (λ l. found ++ found_from st n l) (sym front) ∙ h
 
+-- at the end all was found
 pub end_step : (st : State) (n : ℕ) (all : List Lexeme) (found whole : List Finding) → all ≡ [] → found ++ found_from st n all ≡ whole
     → found ≡ whole
 end_step st n all found whole none h = sym (append-nil found) ∙ ap (λ l. found ++ found_from st n l) (sym none) ∙ h
 
+-- the reading of a text is the reading from its start
 pub found_in-from : (seen : List Seen) (s : List ℕ) → found_in seen s ≡ found_from (start_state seen) 0 (tokens_of s)
 unfolding found_in
 found_in-from seen s = refl

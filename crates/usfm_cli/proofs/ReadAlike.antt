@@ -60,7 +60,7 @@ pub ids_read : (family : Id → Operation) (file other : List ℕ) (s t : State)
     → ((id : Id) → is_held s.held id ≡ is_held t.held id) → ReadTheSame file other
 ids_read family file other s t loads loaded hs ht ids =
     let alike =
-        unions_alike family (Part s.held) (Part t.held) hs ht (λ id. among_is_held s.held id ∙ ids id ∙ sym (among_is_held t.held id)) in
+    unions_alike family (Part s.held) (Part t.held) hs ht (λ id. among_is_held s.held id ∙ ids id ∙ sym (among_is_held t.held id)) in
     let e : skeleton s.held ≡ skeleton t.held = ap skeleton (one_union (Ok s.held) s.held alike.a refl alike.one_is) ∙ alike.skeletons
     ∙ sym (ap skeleton (one_union (Ok t.held) t.held alike.b refl alike.other_is)) in
     skeletons_read file other s t loads loaded (hs.rising, hs.legal) (ht.rising, ht.legal) e (family_joins family s.held t.held hs ht).0

@@ -98,7 +98,7 @@ fn folded(alloc: Global, bundle: &[u8]) -> Result<Option<Replica>, AllocError>
 /// # Errors
 /// - `FileChanged` (131) where there is a newer one and the file was put in its place by then, and
 ///   neither makes it.
-/// - `Memory` (1) where a growth was refused. Without a newer one it takes no memory.
+/// - `Memory` (1) where a growth was refused. Without a newer one it is never answered.
 pub fn written_from<'a>(
     alloc: Global,
     book: Book,

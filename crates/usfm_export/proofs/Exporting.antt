@@ -34,6 +34,7 @@ pub record IsWritten (held : List Operation) (book : List ℕ) (before : Option 
   pub keys : done ++ with_heads before left ≡ exported_keys held book
   pub taken : TakesAll a b (texts_at held book done) 0 gone
 
+-- before the first key nothing was written
 pub written_start : (held : List Operation) (book : List ℕ) (a : Option (List ℕ)) → IsWritten held book None (keys_of held book) a a 0
 written_start held book a = record { done = []; keys = heads_are held book; taken = TakesAll-nil a 0 (omega arith) }
 
@@ -66,6 +67,7 @@ module _ (held : List Operation) (book : List ℕ) (before : Option KeyParts) (k
         (TakesFront-append a b c (texts_at held book w.done) (texts_at held book (with_head before k))
         (texts_at held book (with_heads (Some k) rest)) 0 gone total w.taken t)
 
+-- after the last key the export was written
 pub written_end : (held : List Operation) (book : List ℕ) (before : Option KeyParts) (left : List KeyParts) (a b : Option (List ℕ))
     (gone : ℕ)
     → left ≡ [] → IsWritten held book before left a b gone → Appends a b (export held book)
