@@ -23,12 +23,14 @@ added_by true s o none = sym (ap (λ p. option_or p (Some s)) (none refl))
 added_by false s None none = refl
 added_by false s (Some r) none = refl
 
+-- one more milestone is kept under its closing name where nothing was
 pub adds : (s : Style) (x : List ℕ) (old : List ℕ → Option Style) → Some x ≡ milestone_closer (record_of s) → old x ≡ None
     → (name : List ℕ) → update bytes_eq old x (Some s) name ≡ option_or (old name) (cond (closes name s) (Some s) None)
 adds s x old is none name =
     added_by (bytes_eq x name) s (old name) (λ same. ap old (sym ((bytes_eq-Decides x name).0 same)) ∙ none)
     ∙ ap (λ t. option_or (old name) (cond t (Some s) None)) (sym (closes_is (record_of s) x is name))
 
+-- nothing is found where none is
 pub nothing_held : (o : Option (Bor Style)) (p : Option Style) → option_map (λ s. s.now) o ≡ p → is_some o ≡ false → p ≡ None
 nothing_held None p is none = sym is
 nothing_held (Some s) p is none = absurd (false≢true (sym none))

@@ -98,5 +98,6 @@ puts_from before [] = ap each_once (sym (append-nil before))
 puts_from before (r ∷ rs) =
     ap (λ l. fold put l rs) (sym (each_push before r)) ∙ puts_from (before ++ (r ∷ [])) rs ∙ ap each_once (append_assoc before (r ∷ []) rs)
 
+-- all records put one after the other are each marker's last one, once
 pub puts_all : (rs : List Record) → fold put [] rs ≡ each_once rs
 puts_all rs = puts_from [] rs

@@ -12,18 +12,23 @@ use Rattle.sty_sheet.specs.Views.{record_of}
 use Rattle.sty_sheet.specs.declared.listed.Listed.{Listed}
 use Rattle.sty_sheet.specs.declared.style.Style.{Style}
 
+-- what a map of styles by markers has
 abbrev pub Entries : Type 0
 Entries = List (Bor (List ℕ) × Listed)
 
+-- the markers that it goes by
 abbrev pub texts : Entries → List (List ℕ)
 texts es = map (λ e. e.0.now) es
 
+-- the markers that its styles have
 abbrev pub markers : Entries → List (List ℕ)
 markers es = map (λ e. e.1.style.marker.now) es
 
+-- its styles, as records
 abbrev pub records : Entries → List Record
 records es = map record_of (map (λ l. l.style) (map (λ e. e.1) es))
 
+-- whether two lent markers are equal
 abbrev pub key_eq : Bor (List ℕ) → Bor (List ℕ) → Bool
 key_eq x y = bytes_eq x.now y.now
 
@@ -40,6 +45,7 @@ puts_by : (b : Bool) (e : Bor (List ℕ) × Listed) (v : Listed) (es fs : Entrie
 puts_by true e v es fs rs h = refl
 puts_by false e v es fs rs h = ap (λ l. record_of e.1.style ∷ l) h
 
+-- to insert a style is to put its record
 pub puts : (es : Entries) (k : Bor (List ℕ)) (v : Listed) → k.now ≡ v.style.marker.now → texts es ≡ markers es
     → records (insert_entry key_eq es k v) ≡ put (records es) (record_of v.style)
 puts [] k v h keyed = refl
@@ -54,6 +60,7 @@ keys_by : (b : Bool) (e : Bor (List ℕ) × Listed) (v : Listed) (es fs : Entrie
 keys_by true e v es fs same head tail other = λ i. same refl i ∷ tail i
 keys_by false e v es fs same head tail other = λ i. head i ∷ other i
 
+-- a map goes by its styles' markers still when one is inserted
 pub keyed_after : (es : Entries) (k : Bor (List ℕ)) (v : Listed) → k.now ≡ v.style.marker.now → texts es ≡ markers es
     → texts (insert_entry key_eq es k v) ≡ markers (insert_entry key_eq es k v)
 keyed_after [] k v h keyed = ap (λ x. x ∷ []) h
@@ -67,6 +74,7 @@ found_by : (b : Bool) (e : Listed) (o : Option Listed) (rs : Option Record) → 
 found_by true e o rs h = refl
 found_by false e o rs h = h
 
+-- what a map finds of a marker is the record of that name
 pub finds : (es : Entries) (name : List ℕ) → texts es ≡ markers es
     → option_map (λ l. record_of l.style) (lookup (λ k. bytes_eq name k.now) es) ≡ named name (records es)
 finds [] name keyed = refl
@@ -80,6 +88,7 @@ pub keyed_result : {A B : Type 0} (r : Result A B) (es fs : Entries) (k : Bor (L
 keyed_result (Ok a) es fs k v h keyed ok err = subst (λ l. texts l ≡ markers l) (sym ok) (keyed_after es k v h keyed)
 keyed_result (Err b) es fs k v h keyed ok err = subst (λ l. texts l ≡ markers l) (sym err) keyed
 
+-- a lent style, as a record
 pub copied : (o : Option (Bor Style)) (p : Option Style) → option_map (λ s. s.now) o ≡ p
     → option_map (λ s. record_of s.now) o ≡ option_map record_of p
 copied None p h = ap (option_map record_of) h

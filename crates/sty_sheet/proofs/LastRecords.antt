@@ -83,6 +83,7 @@ unfolding records_in
 last_of_sheet (Some fault) fs rs m h = absurd (cc)
 last_of_sheet None fs rs m h = ap (λ r. named m (records_in r)) (sym h) ∙ last_named m (all_records fs)
 
+-- of a marker the last record of the sheet is the one that is found
 pub last_record_counts : (text : List ℕ) (rs : List Record) (m : List ℕ) → sheet_of text ≡ Ok rs
     → named m rs ≡ find (of_marker m) (reverse (all_records (fields_of text)))
 unfolding sheet_of

@@ -61,6 +61,7 @@ still_within s t n b f g fs gs line same due on within =
     let here = ap (begun_ahead (is_some s.begun) (n + 1)) (line ∙ ap (λ h. h ∷ fs) (sym same)) in
     omega arith
 
+-- the records ahead of the first line are no more than those that begin before the first fault
 pub within_at_first : (text : List ℕ) → begun_ahead false 1 (fields_of text) ≤ begun_before_fault text
 unfolding begun_ahead counted
 within_at_first text = omega arith

@@ -12,6 +12,7 @@ or_none : {A : Type 0} (o : Option A) → option_or None o ≡ option_or o None
 or_none None = refl
 or_none (Some x) = refl
 
+-- of three things that may be there, the first that is, grouped in either way
 pub or_assoc : {A : Type 0} (o p q : Option A) → option_or (option_or o p) q ≡ option_or o (option_or p q)
 or_assoc None p q = refl
 or_assoc (Some x) p q = refl
@@ -67,5 +68,6 @@ fields_from m before (f ∷ fs) =
     ap (λ r. fold (λ r f. with_field f r) r fs) (sym (record_push m before f)) ∙ fields_from m (before ++ (f ∷ [])) fs
     ∙ ap (record_with m) (append_assoc before (f ∷ []) fs)
 
+-- fields taken one after the other make the record that has them
 pub takes_all : (m : List ℕ) (fs : List Field) → fold (λ r f. with_field f r) (record_with m []) fs ≡ record_with m fs
 takes_all m fs = fields_from m [] fs

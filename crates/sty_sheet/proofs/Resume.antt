@@ -20,10 +20,12 @@ ahead : Option Record → List Field → List Record
 ahead None fs = all_records fs
 ahead (Some r) fs = fold (λ r f. with_field f r) r (own_fields fs) ∷ all_records fs
 
+-- the fault, if there is one, or else the records
 unfoldable pub faulty_or : Option SheetFault → List Record → Result (List Record) SheetFault
 faulty_or (Some fault) rs = Err fault
 faulty_or None rs = Ok rs
 
+-- what the definition gives from a state of the reading on
 pub resume : Reading → ℕ → List Field → Result (List Record) SheetFault
 resume s n fs = faulty_or (first_fault (is_some s.begun) (n + 1) fs) (fold put s.whole (ahead s.begun fs))
 
@@ -73,6 +75,7 @@ step_total rs (Some r) (marker value) fs =
     ap (λ own. fold put rs (fold (λ r f. with_field f r) r own ∷ all_records (marker value ∷ fs))) (own_none value fs)
     ∙ ap (fold put (put rs r)) (begins_record value fs)
 
+-- a record is begun after a field where one was before it, or the field is a marker
 pub step_seen : (rs : List Record) (o : Option Record) (f : Field)
     → is_some (after (record { whole = rs; begun = o }) f).begun ≡ (is_some o || is_marker f)
 step_seen rs None passed = refl
@@ -90,6 +93,7 @@ step_seen rs (Some r) (style_type value) = refl
 step_seen rs (Some r) (text_type value) = refl
 step_seen rs (Some r) (marker value) = refl
 
+-- where a field has no fault, the reading goes on in the state after it
 pub goes_on : (s : Reading) (n : ℕ) (f : Field) (fs : List Field) → field_fault (is_some s.begun) (n + 1) f ≡ None
     → resume s n (f ∷ fs) ≡ resume (after s f) (n + 1) fs
 unfolding resume total
@@ -97,6 +101,7 @@ goes_on s n f fs h =
     ap (λ o. faulty_or (option_or o (first_fault (is_some s.begun || is_marker f) (n + 1 + 1) fs)) (total s (f ∷ fs))) h
     ∙ (λ i. faulty_or (first_fault (sym (step_seen s.whole s.begun f) i) (n + 1 + 1) fs) (step_total s.whole s.begun f fs i))
 
+-- where it has one, that is what the sheet has
 pub stops : (s : Reading) (n : ℕ) (f : Field) (fs : List Field) (fault : SheetFault) → field_fault (is_some s.begun) (n + 1) f ≡ Some fault
     → resume s n (f ∷ fs) ≡ Err fault
 unfolding resume faulty_or
@@ -109,6 +114,7 @@ unfolding ahead
 ends_by rs None = refl
 ends_by rs (Some r) = refl
 
+-- at the end the sheet has the records that were read, the last one too
 pub ends : (s : Reading) (n : ℕ) → resume s n [] ≡ Ok (finished s)
 unfolding resume faulty_or
 ends s n = ap Ok (ends_by s.whole s.begun)
@@ -118,18 +124,21 @@ unfolding faulty_or
 starts_by (Some fault) fs = refl
 starts_by None fs = ap Ok (puts_all (all_records fs))
 
+-- from the start on it is the definition
 pub starts : (text : List ℕ) → resume (record { whole = []; begun = None }) 0 (fields_of text) ≡ sheet_of text
 unfolding resume ahead sheet_of
 starts text = starts_by (first_fault false 1 (fields_of text)) (fields_of text)
 
 -- One line more, where result is what the definition gives.
 
+-- the same of a line that an iterator gives
 pub takes_line : (s t : Reading) (n : ℕ) (f g : Field) (fs gs : List Field) (sheet : Result (List Record) SheetFault)
     → gs ≡ g ∷ fs → f ≡ g → field_fault (is_some s.begun) (n + 1) f ≡ None → t ≡ after s f → resume s n gs ≡ sheet
     → resume t (n + 1) fs ≡ sheet
 takes_line s t n f g fs gs sheet line same due on reads =
     ap (λ s. resume s (n + 1) fs) on ∙ sym (goes_on s n f fs due) ∙ ap (λ h. resume s n (h ∷ fs)) same ∙ ap (resume s n) (sym line) ∙ reads
 
+-- and of one that is refused
 pub refuses_line : (s : Reading) (n : ℕ) (f g : Field) (fs gs : List Field) (sheet : Result (List Record) SheetFault) (fault : SheetFault)
     → gs ≡ g ∷ fs → f ≡ g → Tells (Err fault) (field_fault (is_some s.begun) (n + 1) f) → resume s n gs ≡ sheet → Gives (Err fault) sheet
 refuses_line s n f g fs gs sheet Memory line same due reads = tt

@@ -33,6 +33,7 @@ no_memory true n (style_type value) h = by (kind_named value) h
     by (Some kind) h = cc h
 no_memory seen n (text_type value) h = not_misplaced seen n h
 
+-- the fault of a field is the one that is due
 pub tells_due : (seen : Bool) (n : ℕ) (f : Field) (fault : SheetFault) → field_fault seen n f ≡ Some fault
     → Tells (Err fault) (field_fault seen n f)
 tells_due seen n f Memory h = absurd (no_memory seen n f h)
@@ -40,6 +41,7 @@ tells_due seen n f (FieldBeforeMarker m) h = h
 tells_due seen n f (EmptyMarker m) h = h
 tells_due seen n f (BadStyleType m) h = h
 
+-- an image is there exactly where something is
 pub is_some_map : {A B : Type 0} (f : A → B) (o : Option A) → is_some (option_map f o) ≡ is_some o
 is_some_map f None = refl
 is_some_map f (Some x) = refl

@@ -12,12 +12,14 @@ turn true false = refl
 turn false true = refl
 turn false false = refl
 
+-- a word may come before or after the others
 pub move_word : (s h r : Bool) → ((s || h) || r) ≡ (h || (s || r))
 move_word true true r = refl
 move_word true false r = refl
 move_word false true r = refl
 move_word false false r = refl
 
+-- whether two lent words are equal
 abbrev pub same_text : Bor (List ℕ) → Bor (List ℕ) → Bool
 same_text x y = bytes_eq x.now y.now
 

@@ -19,6 +19,7 @@ blank_by b false false false false hp hq hr hs h = absurd (cc)
 blank_ascii : (b : ℕ) → is_blank b ≡ true → b < 128
 blank_ascii b h = blank_by b (b == 32) (b == 9) (b == 13) (b == 10) refl refl refl refl h
 
+-- a text may be cut after the blanks at its front
 pub boundary_after_blanks : (bs : List ℕ) → IsUtf8 bs → IsCharBoundary bs (prefix_len is_blank bs)
 boundary_after_blanks bs utf8 =
     let low : prefix_len is_blank bs ≤ length bs = prefix_len-le-length _ bs in
@@ -34,6 +35,7 @@ not_not : (b : Bool) → not b ≡ false → b ≡ true
 not_not true h = refl
 not_not false h = absurd (cc)
 
+-- and before its first blank
 pub boundary_before_blank : (bs : List ℕ) → IsCharBoundary bs (prefix_len not_blank bs)
 boundary_before_blank bs =
     ⊎_elim
@@ -42,6 +44,7 @@ boundary_before_blank bs =
     ≡ prefix_len not_blank bs = omega arith in subst (IsCharBoundary bs) end (IsCharBoundary-end bs))
     (order (prefix_len not_blank bs) (length bs))
 
+-- and before the blanks at its end
 pub boundary_before_end : (bs : List ℕ) → IsCharBoundary bs (length bs - suffix_len is_blank bs)
 boundary_before_end bs =
     let n = suffix_len is_blank bs in
@@ -79,6 +82,7 @@ comment_stops may (b ∷ bs) h =
     stops_by b bs (comment_at (is_blank b) bs) (may && b == 35) (λ t. eqb-true b 35 (both_true may (b == 35) t))
     (comment_stops (is_blank b) bs) h
 
+-- and before a comment
 pub boundary_before_comment : (bs : List ℕ) → IsCharBoundary bs (comment_at true bs)
 boundary_before_comment bs =
     ⊎_elim

@@ -71,6 +71,7 @@ first_is bs h =
     (filter is_filled (tails (behind_word bs)))) (filled (first_word bs) h)
     ∙ ap (λ ws. first_word bs ∷ ws) (tails_are bs)
 
+-- the words of a value are the first one, and those after it
 pub next_is : (bs : List ℕ) → 0 < length (first_word (behind_blanks bs))
     → words_of bs ≡ first_word (behind_blanks bs) ∷ words_of (behind_word (behind_blanks bs))
 next_is bs h = sym (words_behind bs) ∙ first_is (behind_blanks bs) h

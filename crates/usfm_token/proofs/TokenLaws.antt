@@ -46,6 +46,7 @@ mark_front bs = split_mark-join {text = 92 ∷ bs} {name_on = behind_plus bs} {n
 rest_by_drop : (xs p q : List ℕ) → xs ≡ p ++ q → xs ≡ p ++ drop (length p) xs
 rest_by_drop xs p q h = h ∙ ap (λ r. p ++ r) (sym (ap (drop (length p)) h ∙ drop_at p q _ refl))
 
+-- the first token of some bytes is a front of them
 pub first_front : (b : ℕ) (bs : List ℕ) (e : Bool) → (b == 92) ≡ e
     → b ∷ bs ≡ slice_of (cond e (mark (mark_behind bs)) (words (before_first is_backslash (b ∷ bs))))
     ++ drop (length (slice_of (cond e (mark (mark_behind bs)) (words (before_first is_backslash (b ∷ bs)))))) (b ∷ bs)
@@ -343,6 +344,7 @@ after_text (b ∷ bs) h =
     (cond e (mark (mark_behind bs)) (words (before_first is_backslash (b ∷ bs))) ∷ tokens_of
     (drop (length (slice_of (first_lexeme b bs))) (b ∷ bs)))) (sym is) tt)
 
+-- what a text is cut into are tokens
 pub each_in : (n : ℕ) (s : List ℕ) → length s ≤ n → AreLexemes (tokens_of s)
 each_in n [] h = subst AreLexemes (sym tokens_of-nil) tt
 each_in zero (b ∷ bs) h = absurd (omega arith)

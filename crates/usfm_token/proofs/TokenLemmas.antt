@@ -53,6 +53,7 @@ boundary_after_name bs utf8 =
 
 -- Tokens from the left.
 
+-- a text between marks has a byte
 pub text_positive : (b : ℕ) (bs : List ℕ) → (b == 92) ≡ false → 0 < length (before_first is_backslash (b ∷ bs))
 text_positive b bs h = rw (length-prefix_len (λ x. not (is_backslash x)) (b ∷ bs), h) (omega arith)
 
@@ -114,10 +115,12 @@ front_named bs k lt =
 pub boundary_past_ascii : (bs : List ℕ) → IsUtf8 bs → 0 < length bs → get_or bs 0 0 < 128 → IsCharBoundary bs 1
 boundary_past_ascii bs utf8 some ascii = IsCharBoundary-after_ascii bs 0 utf8 some ascii
 
+-- bytes are there where a first one is read
 pub some_from_read : (bs : List ℕ) (b : ℕ) → 0 < b → get_or bs 0 0 ≡ b → 0 < length bs
 some_from_read [] b some read = absurd (omega arith)
 some_from_read (x ∷ bs) b some read = omega arith
 
+-- bytes with a first one are that one and the others
 pub cons_from_read : (bs : List ℕ) (b : ℕ) → 0 < b → get_or bs 0 0 ≡ b → bs ≡ b ∷ drop 1 bs
 cons_from_read [] b some read = absurd (omega arith)
 cons_from_read (x ∷ bs) b some read = ap (λ y. y ∷ bs) read
@@ -132,6 +135,7 @@ pub record SplitsMark (text name_on name after_name after : List ℕ) (nested cl
   pub closing_is : closing ≡ (get_or after_name 0 0 == 42)
   pub star : after_name ≡ optional_byte closing 42 ++ after
 
+-- after a plus, if there is one, comes the mark's name
 pub behind_plus_is : (n : Bool) (behind name_on : List ℕ) → n ≡ (get_or behind 0 0 == 43) → behind ≡ optional_byte n 43 ++ name_on
     → behind_plus behind ≡ name_on
 behind_plus_is true behind name_on h e = rw (← h) (ap (drop 1) e)
@@ -185,6 +189,7 @@ module _ {text name_on name after_name after : List ℕ} {nested closing : Bool}
         closing = (ap (λ l. get_or l 0 0 == 42) after_here ∙ sym splits.closing_is) i;
       }
 
+-- bytes that begin with a backslash begin with a mark
 pub tokens_of-mark : (s rest : List ℕ) (m : MarkParts) → mark_bytes m ++ rest ≡ s → get_or s 0 0 ≡ 92 → m ≡ mark_behind (drop 1 s)
     → tokens_of s ≡ mark m ∷ tokens_of rest
 tokens_of-mark s rest m join read is =

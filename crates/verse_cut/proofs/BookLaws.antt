@@ -141,6 +141,7 @@ pub record Parted (s : List ℕ) : Type 0 where
   pub rise : Rise book_head later
   pub ahead : Ahead book_head later
 
+-- the pieces of each text are texts for keys
 pub parted : (s : List ℕ) → Parted s
 unfolding cut_of
 parted s =
@@ -174,6 +175,7 @@ rise_of k (t ∷ ts) r =
       and_from (list_all (λ u. key_below t.key u.key) ts) (rises_by key_cmp (λ u. u.key) ts) m.0 m.1,
     )
 
+-- texts that rise from the head of the book do so with its own text before them
 pub texts_rise : (head : List ℕ) (ts : List KeyText) → Rise book_head ts → TextsRise (at_book_head head ∷ ts)
 texts_rise head ts r =
     let m = rise_of book_head ts r in and_from (list_all (λ u. key_below book_head u.key) ts) (rises_by key_cmp (λ u. u.key) ts) m.0 m.1

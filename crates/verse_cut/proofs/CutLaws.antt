@@ -40,11 +40,13 @@ lie_from s pre at (t ∷ ts) whole here =
     (lie_from s (pre ++ t.text) (at + length t.text) ts (whole ∙ sym (append_assoc pre t.text (texts_joined ts)))
     (omega (arith, length-append pre t.text)))
 
+-- the keys of pieces rise
 pub pieces_rise : PiecesRise
 pieces_rise s =
     let r = parted s in
     subst KeysRise (sym r.pieces) (rises_from 0 (at_book_head r.head ∷ r.later) ∙ texts_rise r.head r.later r.rise)
 
+-- each piece lies in the text at its start
 pub pieces_lie : PiecesLie
 pieces_lie s =
     let r = parted s in
@@ -100,6 +102,7 @@ unique s pre k at (m ∷ ms) (p ∷ q ∷ ps) o n whole here =
         → (opened p ≡ record { key = k; at = at }) × (opened q ≡ m) × (opened q ∷ map opened ps ≡ m ∷ ms)
     parts o = (cc, cc, cc)
 
+-- a text has one cut alone
 pub one_cut : OneCut
 unfolding pieces_of
 one_cut ps s = (

@@ -30,6 +30,7 @@ fits_is_read book k text = by (same_key k book_head)
 
 -- ---- what the steps of a call test
 
+-- the reading of a text tests whether it fits
 pub fits_by : (book : List ℕ) (k : KeyParts) (text : List ℕ) (r : Bool) → r ≡ text_fits book k text → Decides r (Fits book k text)
 fits_by book k text r is = (λ e. (fits_is_read book k text).0 (sym is ∙ e), λ f. is ∙ (fits_is_read book k text).1 f)
 
@@ -47,6 +48,7 @@ pub fits_other : (book : List ℕ) (k : KeyParts) (text : List ℕ) → same_key
 unfolding text_fits
 fits_other book k text h = sym (cond-false _ _ _ h)
 
+-- a text is empty where it has no bytes
 pub empty_is : (text : List ℕ) → (length text == 0) ≡ is_empty text
 empty_is [] = refl
 empty_is (b ∷ bs) = ne_eqb (length (b ∷ bs)) 0 (λ e. omega arith)

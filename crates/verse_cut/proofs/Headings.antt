@@ -49,6 +49,7 @@ id_at-some bytes behind h = by (same_bytes (take 3 bytes) (codes "\\id") && begi
 id_at-of : (blank : ℕ) (behind : List ℕ) → is_blank blank ≡ true → id_at (codes "\\id" ++ blank ∷ behind) ≡ Some behind
 id_at-of blank behind h = cond-true _ _ _ h
 
+-- what is read after an `\id` comes after one
 pub behind_id-some : (text behind : List ℕ) → behind_id text ≡ Some behind → BeginsWithId text behind
 unfolding behind_id
 behind_id-some text behind h = by (same_bytes (take 3 text) byte_order_mark) refl h
@@ -66,6 +67,7 @@ behind_id-some text behind h = by (same_bytes (take 3 text) byte_order_mark) ref
     by false e h =
         let id = id_at-some text behind h in record { marked = false; blank = id.blank; is_blank = id.is_blank; text_is = id.bytes_are }
 
+-- what comes after an `\id` is read
 pub behind_id-of : (text behind : List ℕ) → BeginsWithId text behind → behind_id text ≡ Some behind
 unfolding behind_id
 behind_id-of text behind h = ap (λ t. id_at (behind_bom t)) h.text_is ∙ by h.marked
@@ -91,6 +93,7 @@ code_leads-of code rest h =
     (ap (λ l. same_bytes l code) (take_at code rest (length code) refl) ∙ same_bytes-refl code)
     (ap ends_code (drop_at code rest (length code) refl) ∙ h)
 
+-- a text that is read as headed by a book is
 pub is_headed-is : (book text : List ℕ) → is_headed book text ≡ true → IsHeaded book text
 is_headed-is book text h = by (behind_id text) refl h
   where
@@ -104,6 +107,7 @@ is_headed-is book text h = by (behind_id text) refl h
           ends = p.1;
         }
 
+-- a text that is headed by a book is read so
 pub is_headed-of : (book text : List ℕ) → IsHeaded book text → is_headed book text ≡ true
 is_headed-of book text h = ap (code_behind book) (behind_id-of text (book ++ h.rest) h.begins) ∙ code_leads-of book h.rest h.ends
 
@@ -152,6 +156,7 @@ book_only text r e book code h =
     (ap ends_code (drop_at book h.rest 3 three) ∙ h.ends) in
     e ∙ ap book_at (behind_id-of text (book ++ h.rest) h.begins) ∙ ap book_or_bad (cond-true _ _ _ test ∙ ap Some front)
 
+-- that there is no `\id` is answered exactly where the text begins with none
 pub book_no_id : (text : List ℕ) (r : Result (List ℕ) BookFault) → r ≡ book_in text
     → (r ≡ Err NoId) ↔ ((behind : List ℕ) → BeginsWithId text behind → ⊥)
 unfolding book_in
@@ -165,10 +170,12 @@ book_no_id text r e = (
     by None b none = refl
     by (Some bytes) b none = absurd (none bytes (behind_id-some text bytes b))
 
+-- no book is read where no `\id` is
 pub book_in-none : (text : List ℕ) → behind_id text ≡ None → Err NoId ≡ book_in text
 unfolding book_in
 book_in-none text h = ap book_at (sym h)
 
+-- after an `\id` the book is read that leads what follows, or that none does
 pub book_in-some : (text bytes : List ℕ) → behind_id text ≡ Some bytes → book_or_bad (leading_book bytes) ≡ book_in text
 unfolding book_in
 book_in-some text bytes h = ap book_at (sym h)

@@ -27,6 +27,7 @@ abbrev pub Rise : KeyParts → List KeyText → Type 0
 Rise k [] = Unit {0}
 Rise k (t ∷ ts) = (key_below k t.key ≡ true) × Rise t.key ts
 
+-- texts whose keys rise and are above a key rise from it
 pub rise_from : (k : KeyParts) (ts : List KeyText) → list_all (λ u. key_below k u.key) ts ≡ true → rises_by key_cmp (λ u. u.key) ts ≡ true
     → Rise k ts
 rise_from k [] above rises = tt
@@ -41,10 +42,12 @@ rise_behind head ts h =
     let r = and_parts (list_all (λ u. key_below book_head u.key) ts) (rises_by key_cmp (λ u. u.key) ts) h in
     rise_from book_head ts r.0 r.1
 
+-- what rises from a key rises from each lower one
 pub rise_weaken : (g k : KeyParts) (ts : List KeyText) → key_below g k ≡ true → Rise k ts → Rise g ts
 rise_weaken g k [] p r = tt
 rise_weaken g k (t ∷ ts) p r = (below_trans g k t.key p r.0, r.1)
 
+-- of texts that rise from a key each has a key above it
 pub rise_all : (k : KeyParts) (ts : List KeyText) → Rise k ts → (j : ℕ) (d : KeyText) → j < length ts
     → key_below k (get_or ts j d).key ≡ true
 rise_all k [] r j d lt = absurd (omega arith)

@@ -41,12 +41,14 @@ pub key_below-is : (a b : KeyParts)
     → key_below a b ≡ nat_lt a.chapter b.chapter || (a.chapter == b.chapter && is_lt (place_cmp a.place b.place))
 key_below-is a b = tests (nat_lt a.chapter b.chapter) (a.chapter == b.chapter) (place_cmp a.place b.place)
 
+-- a lower key has no greater chapter
 pub below_chapter : (a b : KeyParts) → key_below a b ≡ true → a.chapter ≤ b.chapter
 below_chapter a b p =
     let t : nat_lt a.chapter b.chapter || (a.chapter == b.chapter && is_lt (place_cmp a.place b.place)) ≡ true = sym (key_below-is a b)
     ∙ p in
     grind (arith, nat_tests)
 
+-- a key that is not lower has no smaller chapter
 pub not_below_chapter : (a b : KeyParts) → key_below a b ≡ false → b.chapter ≤ a.chapter
 not_below_chapter a b p =
     let t : nat_lt a.chapter b.chapter || (a.chapter == b.chapter && is_lt (place_cmp a.place b.place)) ≡ false = sym (key_below-is a b)

@@ -64,6 +64,7 @@ keyed_is c before at (mark m ∷ ts) =
     ap (with_key (mark_key n m (text_after ts)) at)
     (keyed_is c (before ++ s ∷ []) on ts ∙ ap (λ x. keyed_from x on ts) (in_force-snoc c before s ∙ step))
 
+-- the marks with keys are those of the tokens from the left
 pub keyed_marks-from : (c : ℕ) (s : List ℕ) → keyed_marks c s ≡ keyed_from c 0 (tokens_of s)
 unfolding keyed_marks
 keyed_marks-from c s = keyed_is c [] 0 (tokens_of s)
@@ -78,6 +79,7 @@ below_in_force g q h = let low = not_below_chapter g q h in omega arith
 
 -- ---- opening marks, by the greatest key of the marks before
 
+-- the marks whose keys are above a key and above those of all marks before them
 abbrev pub rising : KeyParts → List Keyed → List Keyed
 rising g [] = []
 rising g (m ∷ ms) = cond (key_below g m.key) (m ∷ rising m.key ms) (rising g ms)
@@ -133,6 +135,7 @@ opening_is g before (m ∷ ms) h =
     by go false is =
         go g (λ k. greatest-more g before m k h ∙ both_first (key_below g k) (key_below m.key k) (λ q. below_weak g m.key k is q))
 
+-- the marks that open a piece are those that rise from the head of the book
 pub opening-rising : (ms : List Keyed) → opening ms ≡ rising book_head ms
 opening-rising ms = opening_is book_head [] ms (λ k. and_true (key_below book_head k))
 

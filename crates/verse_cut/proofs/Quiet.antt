@@ -101,11 +101,13 @@ is_key-is k (Some q) h = ap Some (same_key-is q k h)
 is_key-from : (k : KeyParts) (o : Option KeyParts) → o ≡ Some k → is_key k o ≡ true
 is_key-from k o h = ap (is_key k) h ∙ same_key-refl k
 
+-- tokens that lead with a key: the first has it, and the others are quiet
 pub leads_parts : (k : KeyParts) (t : Lexeme) (ts : List Lexeme) → leads k (t ∷ ts) ≡ true
     → (key_of k.chapter t ts ≡ Some k) × (is_quiet k ts ≡ true)
 leads_parts k t ts h =
     let p = and_parts (is_key k (key_of k.chapter t ts)) (is_quiet k ts) h in (is_key-is k (key_of k.chapter t ts) p.0, p.1)
 
+-- a token of the key and quiet ones after it lead with it
 pub leads_from : (k : KeyParts) (t : Lexeme) (ts : List Lexeme) → key_of k.chapter t ts ≡ Some k → is_quiet k ts ≡ true
     → leads k (t ∷ ts) ≡ true
 leads_from k t ts h q = and_from (is_key k (key_of k.chapter t ts)) (is_quiet k ts) (is_key-from k (key_of k.chapter t ts) h) q
@@ -150,6 +152,7 @@ rising_quiet k at (t ∷ ts) h =
         by_test false is h =
             (ap not is, go (ap (λ c. rising k (keyed_from c (at + length (slice_of t)) ts)) (sym (below_in_force k q is)) ∙ h))
 
+-- of quiet tokens no mark rises
 pub quiet_rising : (k : KeyParts) (at : ℕ) (ts : List Lexeme) → is_quiet k ts ≡ true → rising k (keyed_from k.chapter at ts) ≡ []
 quiet_rising k at [] h = refl
 quiet_rising k at (t ∷ ts) h =
@@ -169,6 +172,7 @@ quiet_rising k at (t ∷ ts) h =
 pub head_quiet : (s : List ℕ) → opening (keyed_marks 0 s) ≡ [] → is_quiet book_head (tokens_of s) ≡ true
 head_quiet s h = rising_quiet book_head 0 (tokens_of s) (sym (opening-from s) ∙ h)
 
+-- in a text that is quiet at the head of the book no mark opens a piece
 pub quiet_head : (s : List ℕ) → is_quiet book_head (tokens_of s) ≡ true → opening (keyed_marks 0 s) ≡ []
 quiet_head s h = opening-from s ∙ quiet_rising book_head 0 (tokens_of s) h
 
@@ -202,6 +206,7 @@ leads_tokens k (t ∷ ts) each h = let p = by (key_of k.chapter t ts) h in leads
               (sym (ap (λ (x : KeyParts). max k.chapter x.chapter) h.1 ∙ own_in_force k)) ∙ none),
         )
 
+-- what is read as leading with a key does so
 pub tokens_lead : (k : KeyParts) (ts : List Lexeme) → leads k ts ≡ true → LeadsWith k (keyed_from k.chapter 0 ts)
 tokens_lead k [] h = absurd (cc)
 tokens_lead k (t ∷ ts) h =
@@ -218,9 +223,11 @@ tokens_lead k (t ∷ ts) h =
 pub lead_with : (k : KeyParts) (s : List ℕ) → leads k (tokens_of s) ≡ true → LeadsWith k (keyed_marks k.chapter s)
 lead_with k s h = subst (LeadsWith k) (sym (keyed_marks-from k.chapter s)) (tokens_lead k (tokens_of s) h)
 
+-- what leads with a key is read so
 pub with_lead : (k : KeyParts) (s : List ℕ) → LeadsWith k (keyed_marks k.chapter s) → leads k (tokens_of s) ≡ true
 with_lead k s h = leads_tokens k (tokens_of s) (each-tokens_of s) (subst (LeadsWith k) (keyed_marks-from k.chapter s) h)
 
+-- a text that fits a key and is not empty leads with it
 pub fits_leads : (k : KeyParts) (b : ℕ) (bs : List ℕ) → FitsKey k (b ∷ bs) → leads k (tokens_of (b ∷ bs)) ≡ true
 fits_leads k b bs h = ⊎_elim (λ e. absurd (cc)) (λ l. with_lead k (b ∷ bs) l) h
 

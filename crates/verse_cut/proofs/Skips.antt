@@ -78,6 +78,7 @@ one_text b bs none =
     (sym (take_all (position_or_len is_backslash (b ∷ bs)) (b ∷ bs) (omega arith)))
     ∙ ap (λ ts. words (b ∷ bs) ∷ ts) tokens_of-nil
 
+-- a text without marks is quiet
 pub quiet_text : (k : KeyParts) (s : List ℕ) → HasNoMark s → is_quiet k (tokens_of s) ≡ true
 quiet_text k [] none = ap (is_quiet k) tokens_of-nil
 quiet_text k (b ∷ bs) none = ap (is_quiet k) (one_text b bs none)

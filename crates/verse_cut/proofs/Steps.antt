@@ -11,6 +11,7 @@ use Rattle.verse_cut.specs.Loops.Walks.{read_of, parts_at, GoesToEnd, OpensAt}
 use Rattle.verse_cut.proofs.MarkLaws.{cut_is_read}
 use Rattle.verse_cut.proofs.Quiet.{by_key, stays}
 
+-- what was read is what lies before what is left
 pub read_more : (from sofar rest : List ℕ) → from ≡ sofar ++ rest → read_of from rest ≡ sofar
 read_more from sofar rest h =
     let n : length from - length rest ≡ length sofar = omega (arith, ap length h ∙ length-append sofar rest) in
@@ -23,6 +24,7 @@ pub record Goes (key : KeyParts) (text here : List ℕ) : Type 0 where
   pub cuts : (at : ℕ) → cut_from key at (tokens_of text)
       ≡ goes_on (read_of text here) (cut_from key (at + length (read_of text here)) (tokens_of here))
 
+-- a walk begins at its text
 pub goes_start : (key : KeyParts) (text : List ℕ) → Goes key text text
 goes_start key text =
     let nothing : read_of text text ≡ [] = read_more text [] text refl in
@@ -114,18 +116,21 @@ read_both from rest here p q =
     read_more from (read_of from rest ++ read_of rest here) here
     (sym p ∙ ap (λ r. read_of from rest ++ r) (sym q) ∙ sym (append_assoc (read_of from rest) (read_of rest here) here))
 
+-- what was read by two steps, one after the other
 pub read_join : (from rest here : List ℕ) → read_of from rest ++ rest ≡ from → read_of rest here ++ here ≡ rest
     → read_of from here ++ here ≡ from
 read_join from rest here p q =
     ap (λ r. r ++ here) (read_both from rest here p q)
     ∙ append_assoc (read_of from rest) (read_of rest here) here ∙ ap (λ r. read_of from rest ++ r) q ∙ p
 
+-- at the start of a text all its pieces are ahead
 pub parts_start : (text : List ℕ) → parts_at book_head 0 text text ≡ pieces_of text
 unfolding cut_of
 parts_start text =
     ap (λ r. pieces_with book_head 0 r (cut_from book_head (0 + length r) (tokens_of text))) (read_more text [] text refl)
     ∙ cut_is_read text
 
+-- where a mark opens a piece, the piece before it ends, and the others are ahead
 pub parts_open : (key found : KeyParts) (start : ℕ) (from rest here behind text : List ℕ) → read_of from rest ++ rest ≡ from
     → OpensAt key rest here behind found → text ≡ read_of from here
     → parts_at key start from rest ≡ record { key = key; start = start; text = text } ∷ parts_at found (start + length text) here behind
