@@ -42,6 +42,7 @@ verse_total : IsTotalOrder verse_cmp
 verse_total =
     then_total (on_total (λ (a : ℕ × Option ℕ). a.0) nat_cmp_total) (on_total (λ (a : ℕ × Option ℕ). a.1) (options_total nat_cmp_total))
 
+-- places are in a total order
 pub place_total : IsTotalOrder place_cmp
 place_total = subst IsTotalOrder (λ i p q. sym (place_as p q) i) (on_total verse (options_total verse_total))
 
@@ -49,6 +50,7 @@ place_total = subst IsTotalOrder (λ i p q. sym (place_as p q) i) (on_total vers
 pub key_total : IsTotalOrder key_cmp
 key_total = then_total (on_total (λ (a : KeyParts). a.chapter) nat_cmp_total) (on_total (λ (a : KeyParts). a.place) place_total)
 
+-- codes are in a total order
 pub code_total : IsTotalOrder code_cmp
 code_total = nat_list_cmp_total
 
@@ -74,6 +76,7 @@ letter_exact None (Some b) h = cc
 letter_exact (Some a) None h = cc
 letter_exact (Some a) (Some b) h = ap Some (nat_cmp-IsAntisymmetric a b h)
 
+-- places that compare as equal are one place
 pub place_exact : (p q : Place) → place_cmp p q ≡ Equal → p ≡ q
 place_exact Head Head h = refl
 place_exact Head (Verse n l) h = cc
@@ -117,6 +120,7 @@ same_letter-refl : (a : Option ℕ) → same_letter a a ≡ true
 same_letter-refl None = refl
 same_letter-refl (Some a) = eq-eqb a a refl
 
+-- the test of equal places, read
 pub same_place-is : (a b : Place) → same_place a b ≡ true → a ≡ b
 same_place-is Head Head h = refl
 same_place-is Head (Verse n l) h = cc
@@ -124,6 +128,7 @@ same_place-is (Verse n l) Head h = cc
 same_place-is (Verse n l) (Verse m k) h =
     let p = and_parts (eqb n m) (same_letter l k) h in λ i. Verse (eqb-true n m p.0 i) (same_letter-is l k p.1 i)
 
+-- a place is equal to itself
 pub same_place-refl : (a : Place) → same_place a a ≡ true
 same_place-refl Head = refl
 same_place-refl (Verse n l) = and_from _ _ (eq-eqb n n refl) (same_letter-refl l)

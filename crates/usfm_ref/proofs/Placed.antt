@@ -67,6 +67,7 @@ narrowed_end p xs low high d h l =
     sym (position_or_len_is (λ x. not (p x)) xs low d (omega arith) (λ k m. ap not (h.below k d m))
     (λ m. ap not (h.above low d (omega arith) m)))
 
+-- in a list without items nothing is left to be looked at
 pub narrowed_none : {X : Type 0} (p : X → Bool) (low high : ℕ) → IsNarrowed p [] low high → low ≡ 0
 narrowed_none p low high h =
     let w : high ≤ 0 = h.within in

@@ -17,10 +17,12 @@ use Rattle.usfm_ref.proofs.Spellings.{number_of-le}
 
 -- ---- ranges
 
+-- a number that is read is at most 999
 pub number_small : (bytes : List ℕ) (number : ℕ) (letter : Option ℕ) (rest : List ℕ) → StartsWithNumber bytes number letter rest
     → number ≤ 999
 number_small bytes number letter rest h = let small = number_of-le h.digits h.are_digits in omega (arith, h.number_is, small)
 
+-- a number that is read, with its letter, is within a verse's ranges
 pub number_is_verse : (bytes : List ℕ) (verse : ℕ × Option ℕ) (rest : List ℕ) → StartsWithNumber bytes verse.0 verse.1 rest
     → is_verse verse ≡ true
 number_is_verse bytes verse rest h = and_from _ _ (le-leb verse.0 999 (number_small bytes verse.0 verse.1 rest h)) h.is_letter
@@ -38,11 +40,13 @@ bridge_is_verse : (bytes : List ℕ) (last : Option (ℕ × Option ℕ)) (rest :
 bridge_is_verse bytes None rest h = refl
 bridge_is_verse bytes (Some last) rest h = number_is_verse h.behind last rest h.last_is
 
+-- the last verse of a bridge that is read is within its ranges
 pub mark_is_last : (text : List ℕ) (mark : VerseMark) → ReadsVerse text mark → is_last mark.last ≡ true
 mark_is_last text mark h = bridge_is_verse h.behind mark.last h.rest h.last_is
 
 -- ---- what is read is ASCII, and so ends between two characters
 
+-- what comes before the rest of a text is ASCII
 pub record IsAsciiBefore (text rest : List ℕ) : Type 0 where
   pub front : List ℕ
   pub text_is : text ≡ front ++ rest
@@ -99,6 +103,7 @@ blanks_before text bytes blanks e h = record {
   ascii = all_ascii is_blank blank_ascii blanks (and_parts (nat_le 1 (length blanks)) (list_all is_blank blanks) h).1;
 }
 
+-- what is read as a verse's number is ASCII
 pub read_is_ascii : (text : List ℕ) (mark : VerseMark) (h : ReadsVerse text mark) → IsAsciiBefore text h.rest
 read_is_ascii text mark h =
     before_both text h.bytes h.rest (blanks_before text h.bytes h.blanks h.text_is h.are_blanks)

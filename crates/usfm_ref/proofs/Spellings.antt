@@ -37,10 +37,12 @@ lengths digits h =
     (and_parts (nat_le 1 (length digits) && nat_le (length digits) 3) (list_all is_ascii_digit digits) h).0 in
     (leb-true 1 (length digits) two.0, leb-true (length digits) 3 two.1)
 
+-- one to three digits are a number of at most 999
 pub number_of-le : (digits : List ℕ) → are_digits digits ≡ true → number_of digits ≤ 999
 number_of-le digits h =
     let short : number_of digits < 10 ^ 3 = digits_value_short numerals digits 3 (all_digits digits h) (lengths digits h).1 in omega arith
 
+-- a number that is read is at most 999
 pub number_at-le : (bytes : List ℕ) (n : ℕ × List ℕ) → number_at bytes ≡ Some n → n.0 ≤ 999
 number_at-le bytes n h =
     let run = number_at-some bytes n h in let le = number_of-le run.digits run.are_digits in omega (arith, run.number_is, le)
@@ -92,6 +94,7 @@ first_is_one zero h e = ap length (decimal_digit 0 (omega arith))
 first_is_one (suc n) h e =
     let first : 48 < get_or (decimal (suc n)) 0 0 = first_decimal (suc n) (omega arith) (omega arith) in absurd (omega arith)
 
+-- a number as it is written is read
 pub plain_at-of : (n : ℕ) (rest : List ℕ) → n ≤ 999 → stops is_ascii_digit rest ≡ true → plain_at (decimal n ++ rest) ≡ Some (n, rest)
 unfolding plain_at
 plain_at-of n rest h s =
@@ -116,6 +119,7 @@ first_of_led (a ∷ b ∷ ds) rest all led e some =
     and_from (a == 48) (is_ascii_digit b) (eq-eqb a 48 e) (and_parts (is_ascii_digit b) (list_all is_ascii_digit ds) digits.1).0 in
     cc
 
+-- what is read as one is written so
 pub plain_at-some : (bytes : List ℕ) (n : ℕ × List ℕ) → plain_at bytes ≡ Some n → IsPlain bytes n.0 n.1
 unfolding plain_at
 plain_at-some bytes n h = by_zero (is_zero_led bytes) refl h
@@ -182,6 +186,7 @@ verse_written rest number (b ∷ []) place plain h = by_letter (is_ascii_lowerca
     by_letter false e h = cc
 verse_written rest number (b ∷ c ∷ behind) place plain h = cc
 
+-- what is read as a place is written so
 pub place_in-some : (bytes : List ℕ) (place : Place) → place_in bytes ≡ Some place → IsWritten bytes place
 unfolding place_in
 place_in-some [] place h = let is : Head ≡ place = same_Some _ _ h in rw (← is) record { bytes_are = refl; is_place = refl }
@@ -201,6 +206,7 @@ stops_at_place : (place : Place) → stops is_ascii_digit (place_text place) ≡
 stops_at_place Head = refl
 stops_at_place (Verse number letter) = refl
 
+-- a key as it is written is read
 pub key_in-of : (key : KeyParts) → is_key key.chapter key.place ≡ true → key_in (key_text key) ≡ Some key
 unfolding key_in
 key_in-of key h =
@@ -211,6 +217,7 @@ key_in-of key h =
       place_in-of key.place parts.1,
     ) refl
 
+-- what is read as a key is written so, and within its ranges
 pub key_in-some : (bytes : List ℕ) (key : KeyParts) → key_in bytes ≡ Some key
     → (bytes ≡ key_text key) × (is_key key.chapter key.place ≡ true)
 unfolding key_in
@@ -248,6 +255,7 @@ key_behind-some (b ∷ rest) key h = by_space (b == 32) refl h
         (ap (λ (x : ℕ). x ∷ rest) (eqb-true b 32 e) ∙ ap (λ (r : List ℕ). 32 ∷ r) written.0, written.1)
     by_space false e h = cc
 
+-- a reference as it is written is read
 pub ref_in-of : ReadsWhatIsWritten
 unfolding ref_in key_behind
 ref_in-of [] key b k = cc
@@ -259,6 +267,7 @@ ref_in-of (x ∷ y ∷ z ∷ w ∷ rest) key b k = cc
 same_Ok : {T E : Type 0} (x y : T) → ◌≡◌ {A = Result T E} (Ok x) (Ok y) → x ≡ y
 same_Ok x y h = cc
 
+-- what is read as a reference is written so
 pub ref_in-some : WritesWhatIsRead
 unfolding ref_in
 ref_in-some text book key h = by_code (is_book_code (take 3 text)) refl h
@@ -281,18 +290,22 @@ ref_in-some text book key h = by_code (is_book_code (take 3 text)) refl h
 
 -- ---- what the steps of a call read
 
+-- what is answered of a text is the reference that it is
 pub ref_reads : (text : List ℕ) (r : Result (List ℕ × KeyParts) RefFault) → r ≡ ref_in text → IfOk r (λ p. IsRefTo text p.0 p.1)
 ref_reads text (Ok p) e = ref_in-some text p.0 p.1 (sym e)
 ref_reads text (Err fault) e = tt
 
+-- a text that is a reference is answered with it
 pub ref_only : (text : List ℕ) (r : Result (List ℕ × KeyParts) RefFault) → r ≡ ref_in text → (book : List ℕ) (key : KeyParts)
     → IsRefTo text book key → r ≡ Ok (book, key)
 ref_only text r e book key h = e ∙ ap ref_in h.text_is ∙ ref_in-of book key h.is_book h.is_key
 
+-- a text whose first three bytes are no code has no book
 pub ref_in-no_code : (text : List ℕ) → is_book_code (take 3 text) ≡ false → ref_in text ≡ Err BadBook
 unfolding ref_in
 ref_in-no_code text h = rw h refl
 
+-- one that begins with a code is a reference where a key follows
 pub ref_in-code : (text code behind : List ℕ) (key : Option KeyParts) → code ≡ take 3 text → behind ≡ drop 3 text
     → is_book_code code ≡ true → key ≡ key_behind behind → ref_in text ≡ ref_to code key
 unfolding ref_in

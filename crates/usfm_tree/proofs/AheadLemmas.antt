@@ -26,6 +26,7 @@ whole_left styles source =
     let zero_is : length source - length source ≡ 0 = omega arith in
     ap (λ k. (kids_of_list styles [] (placed k (tokens_of source))).0) zero_is
 
+-- without open nodes there are no frames
 pub no_frames : (os : List (Open Begun)) → length os ≡ 0 → reverse (map frame_of os) ≡ []
 no_frames [] none = refl
 no_frames (o ∷ os) none = absurd (omega (arith, none))

@@ -35,20 +35,24 @@ left_entry styles (o ∷ os) l after g h =
     (ends (take_close styles (o ∷ os) r.1).0 ∷ events_left styles os (take_close styles (o ∷ os) r.1).1)) h
     ∙ events_then g inner.0 (ends closed.0 ∷ events_left styles os closed.1)
 
+-- at a text the walk meets it
 pub left_text : (styles : Styles) (os : List Open) (t : Placed) (l : List Placed) (b : List ℕ)
     → role styles t.token ≡ plain b → events_left styles os (t ∷ l) ≡ words t.start b ∷ events_left styles os l
 left_text styles os t l b is = left_entry styles os (t ∷ l) l (text t.start b nothing) (enters styles os t l (plain b) is refl)
 
+-- at a mark that is a leaf it meets that
 pub left_alone : (styles : Styles) (os : List Open) (t : Placed) (l : List Placed) (m : MarkParts)
     → role styles t.token ≡ alone m → events_left styles os (t ∷ l) ≡ single m ∷ events_left styles os l
 left_alone styles os t l m is = left_entry styles os (t ∷ l) l (leaf t.start m nothing) (enters styles os t l (alone m) is refl)
 
+-- a closing mark that ends nothing is a leaf
 pub left_stray : (styles : Styles) (os : List Open) (t : Placed) (l : List Placed) (m : MarkParts)
     → role styles t.token ≡ closes m → ended os (closes m) ≡ 0
     → events_left styles os (t ∷ l) ≡ single m ∷ events_left styles os l
 left_stray styles os t l m is none =
     left_entry styles os (t ∷ l) l (leaf t.start m nothing) (enters styles os t l (closes m) is none)
 
+-- so is a mark whose node would be too deep
 pub left_deep : (styles : Styles) (os : List Open) (t : Placed) (l : List Placed) (k : StyleKind) (c : Option (List ℕ)) (m : MarkParts)
     → role styles t.token ≡ opens k c m → ended os (opens k c m) ≡ 0 → has_room os ≡ false
     → events_left styles os (t ∷ l) ≡ single m ∷ events_left styles os l
@@ -59,6 +63,7 @@ left_deep styles os t l k c m is none full =
     ∙ ap (λ b. cond b (opened styles (kids_of_list styles) o os t m (kids_of_list styles (o ∷ os) l))
     (followed (leaf t.start m) (kids_of_list styles os l))) full)
 
+-- at any other mark that begins a node the node begins
 pub left_begin : (styles : Styles) (os : List Open) (t : Placed) (l : List Placed) (k : StyleKind) (c : Option (List ℕ)) (m : MarkParts)
     → role styles t.token ≡ opens k c m → ended os (opens k c m) ≡ 0 → has_room os ≡ true
     → events_left styles os (t ∷ l) ≡ begins k m ∷ events_left styles (open_of k c m ∷ os) l
@@ -71,6 +76,7 @@ left_begin styles os t l k c m is none room =
     ∙ ap (λ b. cond b (opened styles (kids_of_list styles) o os t m inner)
     (followed (leaf t.start m) (kids_of_list styles os l))) room)
 
+-- a milestone that would be too deep is a leaf
 pub left_deep_span : (styles : Styles) (os : List Open) (t : Placed) (l : List Placed) (m : MarkParts)
     → role styles t.token ≡ spans m → has_room os ≡ false
     → events_left styles os (t ∷ l) ≡ single m ∷ events_left styles os l
@@ -80,6 +86,7 @@ left_deep_span styles os t l m is full =
     ∙ ap (λ b. cond b (spanned (kids_of_list styles) os t m (milestone_takes l))
     (followed (leaf t.start m) (kids_of_list styles os l))) full)
 
+-- any other milestone begins, takes what it takes, and ends
 pub left_span : (styles : Styles) (os : List Open) (t : Placed) (l : List Placed) (m : MarkParts)
     → role styles t.token ≡ spans m → has_room os ≡ true
     → events_left styles os (t ∷ l)

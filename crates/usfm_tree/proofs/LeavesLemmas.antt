@@ -35,6 +35,7 @@ marked_bytes : (m : MarkParts) (s : Option reading.Style) → role_bytes (marked
 marked_bytes m None = refl
 marked_bytes m (Some s) = styled_bytes m s.closer s.kind
 
+-- the part that a token has in a tree has its bytes
 pub role_slice : (styles : Styles) (t : Lexeme) → role_bytes (role styles t) ≡ slice_of t
 role_slice styles (words b) = refl
 role_slice styles (mark m) = either_role m.closing m (closes m) (marked m (styles m.name)) refl (marked_bytes m (styles m.name))
@@ -64,6 +65,7 @@ bare_bytes false true (x ∷ w) h = absurd (cc)
 bare_bytes true true w h = absurd (cc)
 bare_bytes n false w h = absurd (cc)
 
+-- a bare closing mark is a backslash and a star
 pub bare_slice : (t : Lexeme) → is_bare_close t ≡ true → slice_of t ≡ 92 ∷ 42 ∷ []
 bare_slice (words b) h = absurd (cc)
 bare_slice (mark m) h = bare_bytes m.nested m.closing m.name h

@@ -251,6 +251,7 @@ stands_in s g (a, b, is, at, h) =
 pub parts_stand : (s : List ℕ) (path : List ℕ) (f g : Forest) → Runs 0 f → bytes_of f ≡ s → part_at path f ≡ Some g → StandsIn s g
 parts_stand s path f g runs join e = stands_in s g (part_stands s path f g ([], [], sym join ∙ sym (append-nil (bytes_of f)), runs) e)
 
+-- what a path leads to is in the text at its start
 pub found_stands : {X : Type 0} (as_forest : X → Forest) (s : List ℕ) (path : List ℕ) (f : Forest) (found : Option X) → PartsStand s f
     → option_map as_forest found ≡ part_at path f → IfSome found (λ n. StandsIn s (as_forest n))
 found_stands as_forest s path f None stand e = tt

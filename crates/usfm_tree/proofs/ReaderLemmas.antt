@@ -21,13 +21,16 @@ use Rattle.usfm_tree.specs.declared.reader.Begun.{Begun}
 use Rattle.std.specs.Option.{option_map}
 use Rattle.usfm_tree.proofs.ReadingLemmas.{then-assoc, then-nothing}
 
+-- nodes with one more at their end
 pub forest_of_push : (ns : List Node) (n : Node) → forest_of (ns ++ n ∷ []) ≡ forest_of ns then view n
 forest_of_push [] n = then-nothing (view n)
 forest_of_push (m ∷ ns) n = ap (λ f. view m then f) (forest_of_push ns n) ∙ sym (then-assoc (view m) (forest_of ns) (view n))
 
+-- open nodes with one more, as frames
 pub frames_push : (os : List (Open Begun)) (o : Open Begun) → reverse (map frame_of (os ++ o ∷ [])) ≡ frame_of o ∷ reverse (map frame_of os)
 frames_push os o = ap reverse (map-append frame_of os (o ∷ [])) ∙ reverse-append (map frame_of os) (frame_of o ∷ [])
 
+-- an open node that is taken off the stack ends, and is put after those before it
 pub ends_by_pop : (items new_items : List (Open Begun)) (o : Open Begun) (kids new_kids : List Node) (n : Node) (close : Option MarkParts)
     → items ≡ new_items ++ o ∷ [] → new_kids ≡ o.kept.before.items ++ n ∷ []
     → view n ≡ spanning o.kind o.kept.start (mark_parts o.kept.mark) (forest_of kids) close nothing
@@ -49,12 +52,15 @@ pub branch_parts_made : (x : Branch-F Node Branch)
     }
 branch_parts_made = fold-roll-Branch Forest Parts node_step parts_step
 
+-- open nodes with one more, the innermost first
 pub opens_in_push : {K : Type 0} (os : List (Open K)) (o : Open K) → opens_in (os ++ o ∷ []) ≡ open_view o ∷ opens_in os
 opens_in_push os o = ap reverse (map-append open_view os (o ∷ [])) ∙ reverse-append (map open_view os) (open_view o ∷ [])
 
+-- the innermost is the last of the stack
 pub opens_in_last : {K : Type 0} (os front : List (Open K)) (o : Open K) → os ≡ front ++ o ∷ [] → opens_in os ≡ open_view o ∷ opens_in front
 opens_in_last os front o h = ap opens_in h ∙ opens_in_push front o
 
+-- there are as many open nodes as the stack has
 pub length_opens_in : {K : Type 0} (os : List (Open K)) → length (opens_in os) ≡ length os
 length_opens_in os = length-reverse (map open_view os) ∙ length-map os open_view
 
@@ -71,6 +77,7 @@ map_frames (o ∷ os) = ap (λ l. open_view o ∷ l) (map_frames os)
 pub opens_of_frames : (os : List (Open Begun)) → opens_of (reverse (map frame_of os)) ≡ opens_in os
 opens_of_frames os = map_reverse (λ (f : Frame). f.open_node) (map frame_of os) ∙ ap reverse (map_frames os)
 
+-- nodes that end one after the other
 pub resumes_twice : (r : reading.Role) (a b c : Forest) (fs gs hs : List Frame) (closed : Bool) → Resumes r a fs b gs false
     → Resumes r b gs c hs closed → Resumes r a fs c hs closed
 resumes_twice r a b c fs gs hs closed h k styles t l e = h styles t l e ∙ k styles t l e

@@ -22,6 +22,7 @@ close_by_shorter os t l (opens k c m) = omega arith
 close_by_shorter os t l (closes m) = let P : Closed → Type 0 = λ c. length c.1 ≤ length (t ∷ l) in
     either P (closed_by m os == 1) (Some m, l) (None, t ∷ l) (omega arith) (omega arith)
 
+-- after a closing mark that is taken no more is left
 pub take_close_shorter : (styles : Styles) (os : List Open) (l : List Placed) → length (take_close styles os l).1 ≤ length l
 take_close_shorter styles os [] = omega arith
 take_close_shorter styles os (t ∷ l) = close_by_shorter os t l (role styles t.token)
@@ -37,13 +38,16 @@ milestone_at_shorter : (start : ℕ) (t : Placed) (x : Lexeme) (l : List Placed)
 milestone_at_shorter start t (words b) l = take_bare_shorter (t ∷ l) _ l (omega arith)
 milestone_at_shorter start t (mark m) l = take_bare_shorter (t ∷ l) _ (t ∷ l) (omega arith)
 
+-- after what a milestone takes no more is left
 pub milestone_shorter : (l : List Placed) → length (milestone_takes l).rest ≤ length l
 milestone_shorter [] = omega arith
 milestone_shorter (t ∷ l) = milestone_at_shorter t.start t t.token l
 
+-- what reads kids: what it gives, and what is left
 abbrev pub Reader : Type 0
 Reader = List Open → List Placed → Read
 
+-- it leaves no more than it was given
 abbrev pub Shortens : Reader → Type 0
 Shortens go = (os : List Open) (l : List Placed) → length (go os l).1 ≤ length l
 
@@ -64,6 +68,7 @@ enter_shorter styles go os t l (opens k c m) h =
     (omega (arith, h inside l, take_close_shorter styles inside inner.1, h os (take_close styles inside inner.1).1))
     (omega (arith, h os l))
 
+-- the reading of kids leaves no more than it was given
 pub kids_shorter : (styles : Styles) (n : ℕ) → Shortens (kids styles n)
 unfolding kids
 kids_shorter styles zero os l = omega arith
@@ -110,15 +115,18 @@ kids_enough styles (suc n) (suc k) os (t ∷ l) p q =
 
 -- The equations of the reading.
 
+-- at the end there are no kids
 pub kids-nil : (styles : Styles) (os : List Open) → kids_of_list styles os [] ≡ (nothing, [])
 unfolding kids
 kids-nil styles os = refl
 
+-- a token that ends an open node is no kid
 pub kids-stop : (styles : Styles) (os : List Open) (t : Placed) (l : List Placed) → nat_lt 0 (ended os (role styles t.token)) ≡ true
     → kids_of_list styles os (t ∷ l) ≡ (nothing, t ∷ l)
 unfolding kids
 kids-stop styles os t l h = ap (λ b. cond b (nothing, t ∷ l) (enter styles (kids styles (length (t ∷ l))) os t l (role styles t.token))) h
 
+-- any other token is entered
 pub kids-enter : (styles : Styles) (os : List Open) (t : Placed) (l : List Placed) → nat_lt 0 (ended os (role styles t.token)) ≡ false
     → kids_of_list styles os (t ∷ l) ≡ enter styles (kids_of_list styles) os t l (role styles t.token)
 unfolding kids
@@ -137,6 +145,7 @@ then-assoc (text s t f) g h = ap (text s t) (then-assoc f g h)
 then-assoc (leaf s m f) g h = ap (leaf s m) (then-assoc f g h)
 then-assoc (node k s b m ks c f) g h = ap (node k s b m ks c) (then-assoc f g h)
 
+-- nodes and then nothing
 pub then-nothing : (f : Forest) → f then nothing ≡ f
 then-nothing nothing = refl
 then-nothing (text s t f) = ap (text s t) (then-nothing f)
@@ -178,6 +187,7 @@ resume-open styles sofar fs t l k c m h =
     let closed = take_close styles os inner.1 in
     resume-entry styles sofar fs (t ∷ l) closed.1 (spanning k t.start m inner.0 closed.0 nothing) h
 
+-- the closing mark that ends a node is the token, which is then taken, or there is none
 pub close_by_is : (os : List Open) (t : Placed) (l : List Placed) (r : Role)
     → close_by os t l r ≡ (closing_mark r (ended os r), cond (is_some (closing_mark r (ended os r))) l (t ∷ l))
 close_by_is os t l (plain b) = refl
@@ -206,34 +216,40 @@ resumes_by_end r sofar new_sofar (f ∷ fs) new_fs count close counted some is e
     ∙ ap (λ (c : Closed). resume styles (ended_node f sofar c.0) fs c.1) closed
     ∙ (λ i. resume styles (sym ends.1 i) (sym ends.0 i) (cond (is_some close) l (t ∷ l)))
 
+-- an image is there exactly where something is
 pub is_some-option_map : {A B : Type 0} (f : A → B) (o : Option A) → is_some (option_map f o) ≡ is_some o
 is_some-option_map f None = refl
 is_some-option_map f (Some x) = refl
 
 -- A token that ends nothing.
 
+-- a token that ends nothing is entered
 pub enters : (styles : Styles) (os : List Open) (t : Placed) (l : List Placed) (r : Role) → role styles t.token ≡ r
     → ended os r ≡ 0 → kids_of_list styles os (t ∷ l) ≡ enter styles (kids_of_list styles) os t l r
 enters styles os t l r is none =
     kids-enter styles os t l (ap (λ q. nat_lt 0 (ended os q)) is ∙ ap (nat_lt 0) none)
     ∙ ap (enter styles (kids_of_list styles) os t l) is
 
+-- the reading goes on after a text, which is put after the nodes so far
 pub resume-text : (styles : Styles) (sofar : Forest) (fs : List Frame) (t : Placed) (l : List Placed) (b : List ℕ)
     → role styles t.token ≡ plain b → resume styles sofar fs (t ∷ l) ≡ resume styles (sofar then text t.start b nothing) fs l
 resume-text styles sofar fs t l b is =
     resume-entry styles sofar fs (t ∷ l) l (text t.start b nothing) (enters styles (opens_of fs) t l (plain b) is refl)
 
+-- and after a mark that is a leaf
 pub resume-alone : (styles : Styles) (sofar : Forest) (fs : List Frame) (t : Placed) (l : List Placed) (m : MarkParts)
     → role styles t.token ≡ alone m → resume styles sofar fs (t ∷ l) ≡ resume styles (sofar then leaf t.start m nothing) fs l
 resume-alone styles sofar fs t l m is =
     resume-entry styles sofar fs (t ∷ l) l (leaf t.start m nothing) (enters styles (opens_of fs) t l (alone m) is refl)
 
+-- and after a closing mark that ends nothing, as a leaf
 pub resume-stray : (styles : Styles) (sofar : Forest) (fs : List Frame) (t : Placed) (l : List Placed) (m : MarkParts)
     → role styles t.token ≡ closes m → ended (opens_of fs) (closes m) ≡ 0
     → resume styles sofar fs (t ∷ l) ≡ resume styles (sofar then leaf t.start m nothing) fs l
 resume-stray styles sofar fs t l m is none =
     resume-entry styles sofar fs (t ∷ l) l (leaf t.start m nothing) (enters styles (opens_of fs) t l (closes m) is none)
 
+-- and after a mark whose node would be too deep, as a leaf
 pub resume-deep : (styles : Styles) (sofar : Forest) (fs : List Frame) (t : Placed) (l : List Placed) (k : StyleKind) (c : Option (List ℕ))
     (m : MarkParts) → role styles t.token ≡ opens k c m → ended (opens_of fs) (opens k c m) ≡ 0 → has_room (opens_of fs) ≡ false
     → resume styles sofar fs (t ∷ l) ≡ resume styles (sofar then leaf t.start m nothing) fs l
@@ -243,6 +259,7 @@ resume-deep styles sofar fs t l k c m is none full =
     ∙ ap (λ b. cond b (opened styles (kids_of_list styles) (open_of k c m) (opens_of fs) t m
     (kids_of_list styles (open_of k c m ∷ opens_of fs) l)) (followed (leaf t.start m) (kids_of_list styles (opens_of fs) l))) full)
 
+-- it goes on within a node that begins
 pub resume-begin : (styles : Styles) (sofar : Forest) (fs : List Frame) (t : Placed) (l : List Placed) (k : StyleKind)
     (c : Option (List ℕ)) (m : MarkParts) → role styles t.token ≡ opens k c m → ended (opens_of fs) (opens k c m) ≡ 0
     → has_room (opens_of fs) ≡ true
@@ -254,6 +271,7 @@ resume-begin styles sofar fs t l k c m is none room =
     ∙ ap (λ b. cond b (opened styles (kids_of_list styles) (open_of k c m) (opens_of fs) t m
     (kids_of_list styles (open_of k c m ∷ opens_of fs) l)) (followed (leaf t.start m) (kids_of_list styles (opens_of fs) l))) room)
 
+-- and after a milestone that would be too deep, as a leaf
 pub resume-deep_span : (styles : Styles) (sofar : Forest) (fs : List Frame) (t : Placed) (l : List Placed) (m : MarkParts)
     → role styles t.token ≡ spans m → has_room (opens_of fs) ≡ false
     → resume styles sofar fs (t ∷ l) ≡ resume styles (sofar then leaf t.start m nothing) fs l
@@ -263,6 +281,7 @@ resume-deep_span styles sofar fs t l m is full =
     ∙ ap (λ b. cond b (spanned (kids_of_list styles) (opens_of fs) t m (milestone_takes l))
     (followed (leaf t.start m) (kids_of_list styles (opens_of fs) l))) full)
 
+-- and after a milestone with what it takes
 pub resume-span : (styles : Styles) (sofar : Forest) (fs : List Frame) (t : Placed) (l : List Placed) (m : MarkParts)
     → role styles t.token ≡ spans m → has_room (opens_of fs) ≡ true
     → resume styles sofar fs (t ∷ l)
@@ -280,24 +299,28 @@ pub resume-start : (styles : Styles) (s : List ℕ) → resume styles nothing []
 unfolding tree_of
 resume-start styles s = refl
 
+-- what is made of the nodes so far and of the open ones at a text
 pub enters_text : (start : ℕ) (b : List ℕ) (sofar new_sofar : Forest) (fs new_fs : List Frame)
     → new_sofar ≡ sofar then text start b nothing → new_fs ≡ fs → Enters (plain b) start sofar fs new_sofar new_fs
 enters_text start b sofar new_sofar fs new_fs e f styles t l is at =
     resume-text styles sofar fs t l b is ∙ (λ i. resume styles (sofar then text (at i) b nothing) fs l)
     ∙ (λ i. resume styles (sym e i) (sym f i) l)
 
+-- at a mark that is a leaf
 pub enters_alone : (start : ℕ) (m : MarkParts) (sofar new_sofar : Forest) (fs new_fs : List Frame)
     → new_sofar ≡ sofar then leaf start m nothing → new_fs ≡ fs → Enters (alone m) start sofar fs new_sofar new_fs
 enters_alone start m sofar new_sofar fs new_fs e f styles t l is at =
     resume-alone styles sofar fs t l m is ∙ (λ i. resume styles (sofar then leaf (at i) m nothing) fs l)
     ∙ (λ i. resume styles (sym e i) (sym f i) l)
 
+-- at a closing mark that ends nothing
 pub enters_stray : (start : ℕ) (m : MarkParts) (sofar new_sofar : Forest) (fs new_fs : List Frame) → ended (opens_of fs) (closes m) ≡ 0
     → new_sofar ≡ sofar then leaf start m nothing → new_fs ≡ fs → Enters (closes m) start sofar fs new_sofar new_fs
 enters_stray start m sofar new_sofar fs new_fs none e f styles t l is at =
     resume-stray styles sofar fs t l m is none ∙ (λ i. resume styles (sofar then leaf (at i) m nothing) fs l)
     ∙ (λ i. resume styles (sym e i) (sym f i) l)
 
+-- at a mark whose node would be too deep
 pub enters_deep : (start : ℕ) (k : StyleKind) (c : Option (List ℕ)) (m : MarkParts) (sofar new_sofar : Forest) (fs new_fs : List Frame)
     → ended (opens_of fs) (opens k c m) ≡ 0 → 64 ≤ length (opens_of fs) → new_sofar ≡ sofar then leaf start m nothing → new_fs ≡ fs
     → Enters (opens k c m) start sofar fs new_sofar new_fs
@@ -305,6 +328,7 @@ enters_deep start k c m sofar new_sofar fs new_fs none full e f styles t l is at
     resume-deep styles sofar fs t l k c m is none (le-ltb _ _ full) ∙ (λ i. resume styles (sofar then leaf (at i) m nothing) fs l)
     ∙ (λ i. resume styles (sym e i) (sym f i) l)
 
+-- at a mark that begins a node
 pub enters_node : (start : ℕ) (k : StyleKind) (c : Option (List ℕ)) (m : MarkParts) (sofar new_sofar : Forest) (fs new_fs : List Frame)
     → ended (opens_of fs) (opens k c m) ≡ 0 → length (opens_of fs) < 64 → new_sofar ≡ nothing
     → new_fs ≡ record { open_node = open_of k c m; start = start; mark = m; before = sofar } ∷ fs
@@ -321,5 +345,6 @@ finish_end styles sofar new_sofar [] new_fs ends = absurd ends
 finish_end styles sofar new_sofar (f ∷ fs) new_fs ends =
     resume-end styles sofar f fs [] (kids-nil styles (f.open_node ∷ opens_of fs)) ∙ (λ i. resume styles (sym ends.1 i) (sym ends.0 i) [])
 
+-- at the end, with nothing open, all was read
 pub finish_done : (styles : Styles) (sofar : Forest) → resume styles sofar [] [] ≡ sofar
 finish_done styles sofar = ap (λ r. sofar then r.0) (kids-nil styles []) ∙ then-nothing sofar

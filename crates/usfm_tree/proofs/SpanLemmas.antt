@@ -34,9 +34,11 @@ pub span_is : (k : StyleKind) (s : ℕ) (b : List ℕ) (m : MarkParts) (ks : For
 span_is k s b m ks c = ap (λ l. mark_bytes m ++ l)
     (flat_map-append (λ (t : List ℕ). t) (leaves_of ks) (close_leaves c ++ []) ∙ ap (λ l. bytes_of ks ++ l) (close_is c))
 
+-- open nodes with one more, as spans
 pub spans_push : (os : List (Open Begun)) (o : Open Begun) → reverse (map span_of (os ++ o ∷ [])) ≡ span_of o ∷ reverse (map span_of os)
 spans_push os o = ap reverse (map-append span_of os (o ∷ [])) ∙ reverse-append (map span_of os) (span_of o ∷ [])
 
+-- what is open adjoins what is left still, with one node taken off the stack
 pub adjoins_pop : (items new_items : List (Open Begun)) (o : Open Begun) (sofar : Forest) (rest : List ℕ) → items ≡ new_items ++ o ∷ []
     → Adjoins (reverse (map span_of items)) sofar rest → Adjoins (span_of o ∷ reverse (map span_of new_items)) sofar rest
 adjoins_pop items new_items o sofar rest popped h =
@@ -60,6 +62,7 @@ adjoins_put ss new_ss sofar new_sofar e b rest h is made same =
     let H : List Span → Type 0 = λ x. Adjoins x new_sofar rest in
     subst H (sym same) (subst G (sym made) (put_at ss sofar e rest (subst F (sym is) h)))
 
+-- what adjoins some bytes adjoins equal ones
 pub adjoins_at : (ss : List Span) (sofar : Forest) (at rest : List ℕ) → Adjoins ss sofar at → at ≡ rest → Adjoins ss sofar rest
 adjoins_at ss sofar at rest h is = let F : List ℕ → Type 0 = λ x. Adjoins ss sofar x in subst F is h
 
@@ -88,8 +91,10 @@ adjoins_end s ss sofar new_sofar e close rest h is made =
     (span_front s.from (mark_bytes s.mark) (bytes_of sofar) (close_bytes close) rest h.0))
     is made refl
 
+-- the bytes of a text
 pub bytes_text : (s : ℕ) (t : List ℕ) → bytes_of (text s t nothing) ≡ t
 bytes_text s t = append-nil t
 
+-- the bytes of a leaf
 pub bytes_leaf : (s : ℕ) (m : MarkParts) → bytes_of (leaf s m nothing) ≡ mark_bytes m
 bytes_leaf s m = append-nil (mark_bytes m)

@@ -39,6 +39,7 @@ module _ (r : Role) (whole : List Open) (n : ℕ) (o : Open) (os : List Open) (h
 
 -- ---- what it is, where it ends nothing more
 
+-- what the open nodes, and what is still to be met, are after a token
 abbrev pub Becomes : reading.Role → ℕ → ℕ → List ℕ → List ℕ → List Open → List Open → (List Event → List Event) → Type 0
 Becomes r start end rest after os new_os entry =
     (styles : reading.Styles) (t : Placed) → reading.role styles t.token ≡ r → t.start ≡ start

@@ -47,10 +47,12 @@ takes_text n rest after t h within =
     let f = (left_front n rest after (words t) h within).0 in
     ap milestone_takes f ∙ sym (ap (λ l. take_bare l (text (n - length rest) t nothing) (left_of n after)) f)
 
+-- at the end of the text nothing is taken
 pub bare_none : (n : ℕ) (after : List ℕ) (whole : List Placed) (k : Forest) → tokens_of after ≡ []
     → take_bare whole k (left_of n after) ≡ Taken_none whole
 bare_none n after whole k h = ap (λ l. take_bare whole k (placed (n - length after) l)) h
 
+-- of tokens the first is taken where it is a bare closing mark
 pub bare_front : (n : ℕ) (after behind : List ℕ) (t : Lexeme) (whole : List Placed) (k : Forest) → tokens_of after ≡ t ∷ tokens_of behind
     → length after ≤ n → take_bare whole k (left_of n after)
     ≡ cond (is_bare_close t) (record { kids = k; close = Some bare; rest = left_of n behind }) (Taken_none whole)
@@ -74,9 +76,11 @@ Outcome rest t c after =
     × (length after ≤ length rest)
     × (length (tokens_of after) ≤ length (tokens_of rest))
 
+-- at the end of the text a milestone takes nothing
 pub outcome_none : (rest : List ℕ) → tokens_of rest ≡ [] → Outcome rest None None rest
 outcome_none rest h n within = (takes_none n rest h, refl, omega arith, omega arith)
 
+-- nor does it before a mark that is no bare closing mark
 pub outcome_other : (rest after : List ℕ) (m : MarkParts) → tokens_of rest ≡ mark m ∷ tokens_of after → is_bare_close (mark m) ≡ false
     → Outcome rest None None rest
 outcome_other rest after m h other n within = (
@@ -88,6 +92,7 @@ outcome_other rest after m h other n within = (
   omega arith,
 )
 
+-- it takes a bare closing mark that follows it
 pub outcome_bare : (rest after : List ℕ) (m : MarkParts) → tokens_of rest ≡ mark m ∷ tokens_of after → is_bare_close (mark m) ≡ true
     → Outcome rest None (Some m) after
 outcome_bare rest after m h is n within =
@@ -100,6 +105,7 @@ outcome_bare rest after m h is n within =
       s.1,
     )
 
+-- it takes no text at the end
 pub outcome_text_end : (rest after t : List ℕ) → tokens_of rest ≡ words t ∷ tokens_of after → tokens_of after ≡ []
     → Outcome rest None None rest
 outcome_text_end rest after t h none n within = (
@@ -110,6 +116,7 @@ outcome_text_end rest after t h none n within = (
   omega arith,
 )
 
+-- nor one before another token than a bare closing mark
 pub outcome_text_other : (rest after behind t : List ℕ) (x : Lexeme) → tokens_of rest ≡ words t ∷ tokens_of after
     → tokens_of after ≡ x ∷ tokens_of behind → is_bare_close x ≡ false → Outcome rest None None rest
 outcome_text_other rest after behind t x h h2 other n within = (
@@ -122,6 +129,7 @@ outcome_text_other rest after behind t x h h2 other n within = (
   omega arith,
 )
 
+-- it takes a text and the bare closing mark after it
 pub outcome_text_bare : (rest after behind t : List ℕ) (m : MarkParts) → tokens_of rest ≡ words t ∷ tokens_of after
     → tokens_of after ≡ mark m ∷ tokens_of behind → is_bare_close (mark m) ≡ true → Outcome rest (Some t) (Some m) behind
 outcome_text_bare rest after behind t m h h2 is n within =
@@ -141,6 +149,7 @@ outcome_text_bare rest after behind t m h h2 is n within =
 
 -- A milestone mark, and where the reading goes on.
 
+-- a milestone that would be too deep is a leaf
 pub span_deep : (start end : ℕ) (m : MarkParts) (rest : List ℕ) (sofar new_sofar : Forest) (fs new_fs : List Frame)
     → 64 ≤ length (opens_of fs) → new_sofar ≡ sofar then leaf start m nothing → new_fs ≡ fs
     → EntersTo (spans m) start end rest rest sofar fs new_sofar new_fs
@@ -149,6 +158,7 @@ span_deep start end m rest sofar new_sofar fs new_fs full e f styles t is at =
     ∙ (λ i. resume styles (sofar then leaf (at i) m nothing) fs (left_of end rest))
     ∙ (λ i. resume styles (sym e i) (sym f i) (left_of end rest))
 
+-- any other is a node with what it takes
 pub span_node : (start end : ℕ) (m : MarkParts) (rest after : List ℕ) (kids : Forest) (close : Option MarkParts) (sofar new_sofar : Forest)
     (fs new_fs : List Frame) → length (opens_of fs) < 64
     → milestone_takes (left_of end rest) ≡ record { kids = kids; close = close; rest = left_of end after }
