@@ -6,7 +6,7 @@ use Rattle.std.specs.Str.{bytes_eq}
 use Rattle.std.proofs.lemmas.Slice.Eq.{bytes_eq-Decides}
 use Rattle.sty_sheet.specs.Records.{Record}
 use Rattle.sty_sheet.specs.Sheets.{of_marker, last_record, each_once}
-use Rattle.sty_sheet.specs.Steps.{put}
+use Rattle.sty_sheet.specs.Loops.Steps.{put}
 
 same_test : (p q : Bool) → (p ≡ true → q ≡ true) → (q ≡ true → p ≡ true) → p ≡ q
 same_test true q there back = sym (there refl)

@@ -6,7 +6,7 @@ use Rattle.std.specs.Str.{bytes_eq}
 use Rattle.std.specs.Map.{lookup}
 use Rattle.std.proofs.lemmas.Slice.Eq.{bytes_eq-Decides}
 use Rattle.indexmap.specs.IndexMap.{insert_entry}
-use Rattle.sty_sheet.specs.Steps.{put}
+use Rattle.sty_sheet.specs.Loops.Steps.{put}
 use Rattle.sty_sheet.specs.Records.{Record, named}
 use Rattle.sty_sheet.specs.Views.{record_of}
 use Rattle.sty_sheet.specs.declared.listed.Listed.{Listed}

@@ -10,7 +10,7 @@ use Rattle.std.proofs.lemmas.Slice.Eq.{bytes_eq-Decides}
 use Rattle.sty_sheet.specs.Fields.{Field, fields_of}
 use Rattle.sty_sheet.specs.Records.{Record, named}
 use Rattle.sty_sheet.specs.Sheets.{first_fault, all_records, of_marker, each_once, sheet_with, sheet_of}
-use Rattle.sty_sheet.specs.Steps.{put}
+use Rattle.sty_sheet.specs.Loops.Steps.{put}
 use Rattle.sty_sheet.specs.declared.fault.SheetFault.{SheetFault}
 use Rattle.sty_sheet.proofs.EachOnce.{puts_all}
 use Rattle.sty_sheet.proofs.RecordFields.{or_assoc}

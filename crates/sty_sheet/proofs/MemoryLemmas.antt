@@ -8,7 +8,7 @@ use Rattle.sty_sheet.specs.Fields.{Field, passed, marker, occurs_under, endmarke
 use Rattle.sty_sheet.specs.Memory.{before_fault, begun_before_fault, may_take, takes_memory}
 use Rattle.sty_sheet.specs.Records.{Record}
 use Rattle.sty_sheet.specs.Sheets.{field_fault, first_fault, all_records, sheet_of}
-use Rattle.sty_sheet.specs.Steps.{Reading, after}
+use Rattle.sty_sheet.specs.Loops.Steps.{Reading, after}
 use Rattle.sty_sheet.specs.declared.fault.SheetFault.{SheetFault}
 use Rattle.sty_sheet.specs.declared.fault.SheetFault.TheVariants.{Memory, FieldBeforeMarker, EmptyMarker, BadStyleType}
 use Rattle.sty_sheet.specs.declared.kind.StyleKind.{StyleKind}

@@ -6,7 +6,7 @@ use Rattle.std.specs.Option.{option_or, unwrap_or}
 use Rattle.sty_sheet.specs.Fields.{Field, passed, marker, occurs_under, endmarker, name, style_type, text_type, is_word, kind_named, as_name, as_endmarker, as_occurs_under, as_style_type, as_text_type}
 use Rattle.sty_sheet.specs.Records.{Record, words_of, closing_name}
 use Rattle.sty_sheet.specs.Sheets.{latest, value_of, record_with}
-use Rattle.sty_sheet.specs.Steps.{with_field}
+use Rattle.sty_sheet.specs.Loops.Steps.{with_field}
 
 or_none : {A : Type 0} (o : Option A) → option_or None o ≡ option_or o None
 or_none None = refl

@@ -8,7 +8,7 @@ use Rattle.sty_sheet.specs.Lines.{first_word}
 use Rattle.sty_sheet.specs.Fields.{Field, passed, marker, occurs_under, endmarker, name, style_type, text_type, is_marker, fields_of}
 use Rattle.sty_sheet.specs.Records.{Record}
 use Rattle.sty_sheet.specs.Sheets.{field_fault, first_fault, own_fields, all_records, record_with, sheet_with, sheet_of}
-use Rattle.sty_sheet.specs.Steps.{Reading, with_field, put, finished, after, Tells}
+use Rattle.sty_sheet.specs.Loops.Steps.{Reading, with_field, put, finished, after, Tells}
 use Rattle.sty_sheet.specs.Views.{Gives}
 use Rattle.sty_sheet.specs.declared.fault.SheetFault.TheVariants.{Memory, FieldBeforeMarker, EmptyMarker, BadStyleType}
 use Rattle.sty_sheet.specs.declared.fault.SheetFault.{SheetFault}

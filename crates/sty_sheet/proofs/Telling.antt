@@ -5,7 +5,7 @@ use Rattle.std.specs.Option.{option_map}
 use Rattle.std.specs.Str.{bytes_eq}
 use Rattle.sty_sheet.specs.Fields.{Field, passed, marker, occurs_under, endmarker, name, style_type, text_type, kind_named}
 use Rattle.sty_sheet.specs.Sheets.{misplaced, field_fault}
-use Rattle.sty_sheet.specs.Steps.{Tells}
+use Rattle.sty_sheet.specs.Loops.Steps.{Tells}
 use Rattle.sty_sheet.specs.declared.fault.SheetFault.{SheetFault}
 use Rattle.sty_sheet.specs.declared.fault.SheetFault.TheVariants.{Memory, FieldBeforeMarker, EmptyMarker, BadStyleType}
 use Rattle.sty_sheet.specs.declared.kind.StyleKind.{StyleKind}

@@ -8,5 +8,4 @@ pub mod StyleViews
 pub mod Listing
 pub mod Views
 pub mod Closers
-pub mod Steps
 pub mod Loops

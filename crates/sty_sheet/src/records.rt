@@ -52,7 +52,7 @@ fn closers_of<'s>(
 
 impl<'s> Records<'s> {
     ghost use Rattle.std.specs.Prelude.{[]};
-    ghost use Rattle.sty_sheet.specs.Steps.{put};
+    ghost use Rattle.sty_sheet.specs.Loops.Steps.{put};
     ghost use Rattle.sty_sheet.specs.Views.{record_of, records_in, records_of};
 
     // No records.

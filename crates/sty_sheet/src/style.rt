@@ -4,7 +4,7 @@ ghost use Rattle.sty_sheet.specs.Loops.FieldViews.{field_view};
 ghost use Rattle.sty_sheet.specs.Closers.{milestone_closer};
 ghost use Rattle.sty_sheet.specs.Records.{has_word};
 ghost use Rattle.sty_sheet.specs.Sheets.{record_with};
-ghost use Rattle.sty_sheet.specs.Steps.{with_field};
+ghost use Rattle.sty_sheet.specs.Loops.Steps.{with_field};
 ghost use Rattle.sty_sheet.specs.Views.{record_of, words_left};
 
 use crate::field::Field;

@@ -2,7 +2,7 @@ use Rattle.std.proofs.Common.{◌≡◌, Some, ◌∙◌, ap, sym}
 use Rattle.sty_sheet.specs.Loops.FieldViews.{field_view}
 use Rattle.sty_sheet.specs.Sheets.{field_fault}
 use Rattle.std.specs.Prelude.{is_some}
-use Rattle.sty_sheet.specs.Steps.{reading_of}
+use Rattle.sty_sheet.specs.Loops.Steps.{reading_of}
 use Rattle.sty_sheet.specs.Views.{record_of}
 use Rattle.sty_sheet.specs.declared.fault.SheetFault.TheVariants.{Memory}
 use Rattle.sty_sheet.proofs.Telling.{tells_due, is_some_map, no_memory}

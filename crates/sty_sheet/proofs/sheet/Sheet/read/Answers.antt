@@ -9,7 +9,7 @@ use Rattle.sty_sheet.specs.Fields.{field_of}
 use Rattle.sty_sheet.specs.Lines.{behind_feff}
 use Rattle.sty_sheet.specs.Memory.{begun_before_fault}
 use Rattle.sty_sheet.specs.Sheets.{field_fault, sheet_of}
-use Rattle.sty_sheet.specs.Steps.{Reading, reading_of, Tells}
+use Rattle.sty_sheet.specs.Loops.Steps.{Reading, reading_of, Tells}
 use Rattle.sty_sheet.specs.Views.{Gives, record_of}
 use Rattle.sty_sheet.specs.declared.fault.SheetFault.TheVariants.{Memory}
 use Rattle.sty_sheet.proofs.LineSteps.{next_line, no_line, feff_le}

@@ -5,7 +5,7 @@ use Rattle.std.specs.Str.Iter.{lines_steps, lines_rest}
 use Rattle.sty_sheet.specs.Fields.{field_of}
 use Rattle.sty_sheet.specs.Memory.{begun_before_fault}
 use Rattle.sty_sheet.specs.Sheets.{sheet_of}
-use Rattle.sty_sheet.specs.Steps.{reading_of}
+use Rattle.sty_sheet.specs.Loops.Steps.{reading_of}
 use Rattle.sty_sheet.proofs.MemoryLemmas.{begun_ahead}
 use Rattle.sty_sheet.proofs.Resume.{resume}
 use Rattle.sty_sheet.proofs.sheet.Sheet.read.Given as goal
