@@ -150,7 +150,8 @@ module _ (held new : List Operation) (turns : List Turn) (changes : List Change)
         missing_rises = ap (λ (r : Option Register). ids_rise (missing_in r)) n.is ∙ n.takes.missing_rises;
         missing = λ q. ap (λ (r : Option Register). among (missing_in r) q) n.is ∙ n.takes.missing q
             ∙ (λ i. (mb q i && not ((k.found q ∙ (λ j. new_is q j && index.keeps.missing (change_at c) q j)) i))
-            || (k.lacking q ∙ (λ j. (((named_is q j && not (new_is q j)) && not (was_shown (change_at c) q j)) && not (index.keeps.missing (change_at c) q j)) && not (is_in held (change_at c) q))) i)
+            || (k.lacking q ∙ (λ j. (((named_is q j && not (new_is q j)) && not (was_shown (change_at c) q j))
+            && not (index.keeps.missing (change_at c) q j)) && not (is_in held (change_at c) q))) i)
             ∙ missing_table (is_in held (change_at c) q) (is_replaced held (change_at c) q) (is_in new (change_at c) q)
             (is_replaced new (change_at c) q);
       }

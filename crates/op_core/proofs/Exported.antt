@@ -250,7 +250,9 @@ keys_given (o ∷ held) book key h = by (keys_given held book key) (of_book book
     by : (list_any (gives_key book key) held ≡ true
         → list_any (same_key key) (flat_map (λ k. head_of k ∷ k ∷ []) (keys_in held book)) ≡ true) → (b : Bool) → ((b
         && (same_key key (head_of o.segment.key)
-        || same_key key o.segment.key)) || list_any (gives_key book key) held) ≡ true → list_any (same_key key) (flat_map (λ k. head_of k ∷ k ∷ []) (map (λ p. p.segment.key) (cond b (o ∷ filter (of_book book) held) (filter (of_book book) held)))) ≡ true
+        || same_key key o.segment.key)) || list_any (gives_key book key) held) ≡ true
+        → list_any (same_key key) (flat_map (λ k. head_of k ∷ k ∷ [])
+        (map (λ p. p.segment.key) (cond b (o ∷ filter (of_book book) held) (filter (of_book book) held)))) ≡ true
     by later true h =
         three (same_key key (head_of o.segment.key)) (same_key key o.segment.key) _ (list_any (gives_key book key) held) later h
     by later false h = later h

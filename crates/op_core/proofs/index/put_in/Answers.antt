@@ -96,7 +96,9 @@ returns-then-is_eq-clause-err c =
 pub returns-in_err-reserve-clause-err : goal.returns-in_err-reserve-clause-err
 returns-in_err-reserve-clause-err c =
     let same : c.if-at-len.chapters.items ≡ c.args.chapters.now.items = elim c.if-at-len.branch [
-      | then-at-len+else-is_eq w ↦ rw w.chapters-is (sym (set_same c.args.chapters.now.items c.place_chapter-at.result w.index_mut-chapter.result.now w.index_mut-chapter.ensures.value))
+      | then-at-len+else-is_eq w ↦ rw w.chapters-is
+          (sym (set_same c.args.chapters.now.items c.place_chapter-at.result w.index_mut-chapter.result.now
+          w.index_mut-chapter.ensures.value))
       | else-at-len w ↦ rw w.chapters-is refl
     ] in
     on_err c.from_residual.result
@@ -109,7 +111,9 @@ put_register-requires-2-clause-absent c = ap (register_at c.args.register.key) c
 pub returns-in_err-put_register-clause-err : goal.returns-in_err-put_register-clause-err
 returns-in_err-put_register-clause-err c =
     let same : c.if-at-len.chapters.items ≡ c.args.chapters.now.items = elim c.if-at-len.branch [
-      | then-at-len+else-is_eq w ↦ rw w.chapters-is (sym (set_same c.args.chapters.now.items c.place_chapter-at.result w.index_mut-chapter.result.now w.index_mut-chapter.ensures.value))
+      | then-at-len+else-is_eq w ↦ rw w.chapters-is
+          (sym (set_same c.args.chapters.now.items c.place_chapter-at.result w.index_mut-chapter.result.now
+          w.index_mut-chapter.ensures.value))
       | else-at-len w ↦ rw w.chapters-is refl
     ] in
     on_err c.from_residual-in_err-put_register.result
@@ -119,13 +123,21 @@ returns-in_err-put_register-clause-err c =
 pub returns-clause-ok : goal.returns-clause-ok
 returns-clause-ok c =
     let same : c.if-at-len.chapters.items ≡ c.args.chapters.now.items = elim c.if-at-len.branch [
-      | then-at-len+else-is_eq w ↦ rw w.chapters-is (sym (set_same c.args.chapters.now.items c.place_chapter-at.result w.index_mut-chapter.result.now w.index_mut-chapter.ensures.value))
+      | then-at-len+else-is_eq w ↦ rw w.chapters-is
+          (sym (set_same c.args.chapters.now.items c.place_chapter-at.result w.index_mut-chapter.result.now
+          w.index_mut-chapter.ensures.value))
       | else-at-len w ↦ rw w.chapters-is refl
     ] in
     let none' : found segment_cmp segment_total place_of (segment c.args.book c.head_of-head.result) c.args.chapters.now.items ≡ None =
     elim c.if-at-len.branch [
-      | then-at-len+else-is_eq w ↦ found_not segment_cmp segment_total place_of (segment c.args.book c.head_of-head.result) c.args.chapters.now.items c.place_chapter-at.result w.index_mut-chapter.result.now c.requires.orderly.rising (rw (← c.deref.ensures.value) c.place_chapter-at.ensures.place) w.index_mut-chapter.ensures.value (tied_back segment_cmp segment_total (place_of w.index_mut-chapter.result.now) (segment c.args.book c.head_of-head.result) _ (sym (w.is_eq.ensures ∙ ap is_eq w.order.ensures) ∙ w.if-is_eq.false))
-      | else-at-len w ↦ found_end segment_cmp segment_total place_of (segment c.args.book c.head_of-head.result) c.args.chapters.now.items c.place_chapter-at.result c.requires.orderly.rising (rw (← c.deref.ensures.value) c.place_chapter-at.ensures.place) (omega arith)
+      | then-at-len+else-is_eq w ↦ found_not segment_cmp segment_total place_of (segment c.args.book c.head_of-head.result)
+          c.args.chapters.now.items c.place_chapter-at.result w.index_mut-chapter.result.now c.requires.orderly.rising
+          (rw (← c.deref.ensures.value) c.place_chapter-at.ensures.place) w.index_mut-chapter.ensures.value
+          (tied_back segment_cmp segment_total (place_of w.index_mut-chapter.result.now) (segment c.args.book c.head_of-head.result) _
+          (sym (w.is_eq.ensures ∙ ap is_eq w.order.ensures) ∙ w.if-is_eq.false))
+      | else-at-len w ↦ found_end segment_cmp segment_total place_of (segment c.args.book c.head_of-head.result)
+          c.args.chapters.now.items c.place_chapter-at.result c.requires.orderly.rising
+          (rw (← c.deref.ensures.value) c.place_chapter-at.ensures.place) (omega arith)
     ] in
     let none : found segment_cmp segment_total place_of (chapter_of (segment c.args.book c.args.register.key)) c.args.chapters.now.items
     ≡ None = ap (λ (k : KeyParts). found segment_cmp segment_total place_of (segment c.args.book k) c.args.chapters.now.items)

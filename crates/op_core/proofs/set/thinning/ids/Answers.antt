@@ -9,8 +9,13 @@ pub loop-op-preserved : goal.loop-op-preserved
 loop-op-preserved c =
     let thinned = none_thinned (λ t. t.now) c.text.result c.op-item.result.text c.is_none.result c.text.ensures c.is_none.ensures in
     elim c.if-is_none.branch [
-      | then-is_none+in_ok-push w ↦ λ q. rw w.ids-is (gathers c.args.ops.now c.loop-op.op-index c.op-item.result c.loop-op-test.true c.op-item.is q c.loop-op.ids.items w.push.new.self.items w.id.result w.id.ensures.id (thinned ∙ w.if-is_none.true) w.in_ok-push.ensures.items (c.loop-op.invariant q))
-      | else-is_none w ↦ λ q. rw w.ids-is (passes c.args.ops.now c.loop-op.op-index c.op-item.result c.loop-op-test.true c.op-item.is q c.loop-op.ids.items (thinned ∙ w.if-is_none.false) (c.loop-op.invariant q))
+      | then-is_none+in_ok-push w ↦ λ q. rw w.ids-is
+          (gathers c.args.ops.now c.loop-op.op-index c.op-item.result c.loop-op-test.true c.op-item.is q c.loop-op.ids.items
+          w.push.new.self.items w.id.result w.id.ensures.id (thinned ∙ w.if-is_none.true) w.in_ok-push.ensures.items
+          (c.loop-op.invariant q))
+      | else-is_none w ↦ λ q. rw w.ids-is
+          (passes c.args.ops.now c.loop-op.op-index c.op-item.result c.loop-op-test.true c.op-item.is q c.loop-op.ids.items
+          (thinned ∙ w.if-is_none.false) (c.loop-op.invariant q))
     ]
 
 pub returns : goal.returns
