@@ -45,7 +45,7 @@ loop-index-preserved c =
           λ s. w.in_ok-note.ensures.spells s
           ∙ (λ j. is_spelled s (all_spellings old) || is_spelled s (spellings_with (form j) (w.as_slice.ensures.value j))) in
           record {
-            all_spellings =
+            spells =
                 λ s. ap (is_spelled s) (ap (λ n. map composed (all_spellings (take n runs))) (add-one i) ∙ composed_at runs i g at)
                 ∙ same_more (map composed (all_spellings (take i runs))) (all_spellings old) (spellings_with (form_at g) g.1.items)
                 (all_spellings w.note.new.groups.entries) c.loop-index.invariant.spells also s

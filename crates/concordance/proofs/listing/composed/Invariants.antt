@@ -4,6 +4,6 @@ use Rattle.concordance.proofs.listing.composed.Given as goal
 
 abbrev pub invariant-loop-index : goal.invariant-loop-index
 invariant-loop-index l = record {
-  all_spellings : SpellsSame (map composed (all_spellings (take l.index l.runs.entries))) (all_spellings l.groups.entries);
+  spells : SpellsSame (map composed (all_spellings (take l.index l.runs.entries))) (all_spellings l.groups.entries);
   keyed : has_bare l.groups.entries ≡ false;
 }
