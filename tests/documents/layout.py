@@ -10,13 +10,6 @@ TESTS = re.compile(r"^crates/(usfm_team|\w+/src/tests)\b")
 # Lines that may be as wide as they are: comments, imports and attributes.
 WIDE = re.compile(r"\s*(//|--|#\[|(pub )?(ghost )?use )")
 CITED = re.compile(r"^use Rattle\.(\w+)\.proofs\.([\w.]+)\.\{([^}]*)\}", re.M)
-# Files that have wider lines or uncommented lemmas still.
-EXCEPTIONS = {
-    "crates/op_core/proofs/Changed.antt",
-    "crates/op_core/proofs/Exported.antt",
-    "crates/op_core/proofs/index/put_in/Answers.antt",
-    "crates/op_core/proofs/set/thinning/ids/Answers.antt",
-}
 
 
 def check_length(path, lines):
@@ -41,7 +34,7 @@ def check_comments(files):
         lines = text_of(path).splitlines() if path in files else []
         for at, line in enumerate(lines):
             found = re.match(r"(?:(?:abbrev|unfoldable) )?pub (?:record |data )?([^\s:(){}]+)", line)
-            if found and found[1] in names and path not in EXCEPTIONS:
+            if found and found[1] in names:
                 check(lines[at - 1].startswith("-- "), f"{path}:{at + 1}: {found[1]} is cited by another crate, and has no comment")
 
 
@@ -50,6 +43,6 @@ def check_layout():
     for path in files:
         lines = text_of(path).splitlines()
         check_length(path, lines)
-        if path.startswith("crates/") and not TESTS.match(path) and path not in EXCEPTIONS:
+        if path.startswith("crates/") and not TESTS.match(path):
             check_width(path, lines)
     check_comments([it for it in files if it.startswith("crates/") and it.endswith(".antt")])
