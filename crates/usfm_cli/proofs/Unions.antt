@@ -1,5 +1,5 @@
 -- A stream of bundles on its way.
-use Rattle.std.proofs.Common.{◌≡◌, ◌==◌, Bool, true, false, ℕ, zero, suc, ◌<◌, ◌≤◌, List, [], ◌∷◌, length, take}
+use Rattle.std.proofs.Common.{◌≡◌, ◌==◌, ◌⊎◌, inl, inr, Bool, true, false, ℕ, zero, suc, ◌<◌, ◌≤◌, List, [], ◌∷◌, length, take}
 use Rattle.std.proofs.Common.{drop, Some, None, Result, Ok, Err, arith, length-take, length-drop, refl, sym, ap, ◌∙◌}
 use Rattle.std.proofs.lemmas.Bool.{eqb-true}
 use Rattle.op_core.specs.Ids.{Id}
@@ -106,14 +106,25 @@ pub none_left : (xs : List ℕ) (r : Bool) → r ≡ (length xs == 0) → r ≡ 
 none_left [] r e f = refl
 none_left (x ∷ xs) r e f = absurd (omega (arith, eqb-true (length (x ∷ xs)) 0 (sym e ∙ f)))
 
--- a stream on its way: what is left leads to what the whole leads to, and a bundle that is received of it is received of the whole
+-- a stream on its way: what is left leads to what the whole leads to, and a bundle that is received of it is received of the whole;
+-- where not all is left, one was
 pub record IsOnWay (input : List ℕ) (held : List Operation) (rest : List ℕ) : Type 0 where
   pub leads : LeadsTo held rest (union_in [] input)
   pub back : ReceivesOne held rest → ReceivesOne [] input
+  pub begun : (rest ≡ input) ⊎ ReceivesOne [] input
 
 -- before the first bundle all of the stream is ahead
 pub way_start : (input : List ℕ) → IsOnWay input [] input
-way_start input = record { leads = leads_start input; back = λ one. one }
+way_start input = record { leads = leads_start input; back = λ one. one; begun = inl refl }
+
+-- at the end of a stream that is not empty a bundle was received
+pub received_one : (input : List ℕ) (held : List Operation) (rest : List ℕ) → IsOnWay input held rest → 0 < length input → rest ≡ []
+    → ReceivesOne [] input
+received_one input held rest w some e = by w.begun
+  where
+    by : (rest ≡ input) ⊎ ReceivesOne [] input → ReceivesOne [] input
+    by (inl same) = absurd (omega (arith, some, ap length (sym same ∙ e)))
+    by (inr one) = one
 
 module _ (input : List ℕ) (held set : List Operation) (rest left : List ℕ) (w : IsOnWay input held rest) (some : 0 < length rest)
     (read : bundle_at rest ≡ Ok (set, left)) where
@@ -121,6 +132,7 @@ module _ (input : List ℕ) (held set : List Operation) (rest left : List ℕ) (
   way_on c s = record {
     leads = leads_on held rest (union_in [] input) w.leads some set left read c s;
     back = λ one. w.back (After held rest set left read c one);
+    begun = inr (w.back (Here held rest set left read));
   }
 
   -- a refused bundle is refused with the clash, or out of memory
