@@ -12,6 +12,7 @@ use Rattle.bundle_codec.specs.Reading.{bundle_at, fields_at, magic_at, RefusesBu
 use Rattle.replica_state.specs.declared.fault.ReceiveFault.{ReceiveFault}
 use Rattle.replica_state.specs.declared.fault.ReceiveFault.TheVariants as receiving
 use Rattle.replica_state.specs.Receives.{RefusesReceive}
+use Rattle.replica_state.specs.States.{State}
 use Rattle.usfm_cli.specs.Faults.{of_bundle, of_receiving}
 use Rattle.usfm_cli.specs.Streams.{with_set, unless_clash, union_within, union_in, UnionAnswers, ReceivesOne}
 use Rattle.usfm_cli.specs.Streams.ReceivesOne.{Here, Judged, After}
@@ -34,6 +35,11 @@ pub leads_end : (held : List Operation) (rest : List ℕ) (wanted : Result (List
 unfolding union_within
 leads_end held [] wanted e l = sym l.leads
 leads_end held (b ∷ rest) wanted e l = cc e
+
+-- no bytes lead to no operation
+pub union_of_none : (input : List ℕ) (s : State) → input ≡ [] → s.held ≡ [] → union_in [] input ≡ Ok s.held
+unfolding union_within
+union_of_none input s e h = ap (union_in []) e ∙ ap Ok (sym h)
 
 -- one turn, at bytes that are not at their end
 pub next : (bound : ℕ) (held : List Operation) (rest : List ℕ) → length rest ≤ bound → 0 < length rest →
