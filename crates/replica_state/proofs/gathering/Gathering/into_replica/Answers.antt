@@ -9,6 +9,9 @@ use Rattle.replica_state.specs.Steps.{with_ops}
 use Rattle.replica_state.proofs.Gathered.{apart_from_none, legal_from_none}
 use Rattle.replica_state.proofs.gathering.Gathering.into_replica.Goals as goal
 
+pub join_new-requires-clause-rising : goal.join_new-requires-clause-rising
+join_new-requires-clause-rising c = c.in_ok-ops.ensures.set.rising
+
 pub join_new-requires-clause-apart : goal.join_new-requires-clause-apart
 join_new-requires-clause-apart c =
     subst (λ (s : State). AreApart s.held c.in_ok-ops.ops.items) (sym c.new-replica.ensures) (apart_from_none c.in_ok-ops.ops.items)
