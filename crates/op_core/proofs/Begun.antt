@@ -93,7 +93,8 @@ module _ (new : List Operation) (turns : List Turn) (now after : List Chapter) (
   each_now : (g : Segment) → BegunAt new turns later g (register_of g after)
   each_now g = subst (BegunAt new turns later g) (sym (c.is_now g)) (by (is_eq (segment_cmp g (turn_at first))) refl)
     where
-      other : (x : Option Register) → is_eq (segment_cmp g (turn_at first)) ≡ false → BegunAt new turns rest g x → BegunAt new turns later g x
+      other : (x : Option Register) → is_eq (segment_cmp g (turn_at first)) ≡ false → BegunAt new turns rest g x
+          → BegunAt new turns later g x
       other None t h = λ f. h f ∙ at_other rest own later (turn_at first) whole own_all later_all g f
           (same_segment-cmp (turn_at first) g ∙ tied_back segment_cmp segment_total g (turn_at first) false t)
       other (Some x) t h = (

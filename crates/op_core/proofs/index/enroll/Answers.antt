@@ -12,7 +12,8 @@ use Rattle.op_core.proofs.index.enroll.Goals as goal
 
 pub returns-then-is_empty-clause-ok : goal.returns-then-is_empty-clause-ok
 returns-then-is_empty-clause-ok c =
-    begun_enrolled c.args.held.now c.args.new.now _ (nil_from_length c.args.held.now (eqb-true _ _ (sym c.is_empty.ensures ∙ c.if-is_empty.true)))
+    begun_enrolled c.args.held.now c.args.new.now _
+    (nil_from_length c.args.held.now (eqb-true _ _ (sym c.is_empty.ensures ∙ c.if-is_empty.true)))
     c.requires.new.rising c.in_ok-chapters.ensures
 
 pub returns-in_err-lay_out-clause-err : goal.returns-in_err-lay_out-clause-err
