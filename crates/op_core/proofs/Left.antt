@@ -104,7 +104,7 @@ where_more ids x ops now e =
 
 -- ---- a slice written back into its vector
 
-pub written : (new items : List Operation) (n : ℕ) → length new ≡ n → take n (new ++ drop (length new) items) ≡ new
+pub written : {X : Type 0} (new items : List X) (n : ℕ) → length new ≡ n → take n (new ++ drop (length new) items) ≡ new
 written new items n e = ap (λ (k : ℕ). take k (new ++ drop (length new) items)) (sym e) ∙ take-append_seam new (drop (length new) items)
 
 pub length_where : (p : Id → Bool) (ops : List Operation) → length (thin_where p ops) ≡ length ops

@@ -16,9 +16,9 @@ use Rattle.op_core.specs.Ops.{Operation}
 use Rattle.op_core.specs.Sets.{rises, get, meet, put, join}
 use Rattle.op_core.specs.Loops.Index.{AreApart, IsBefore}
 use Rattle.op_core.proofs.Rising.{id_total, same_id-cmp, below_trans}
-use Rattle.op_core.proofs.Union.{AllAbove, rises_parts, above_trans, join_push, same_gets, rises-join, get-join}
+use Rattle.op_core.proofs.Union.{AllAbove, rises_parts, above_trans, join_push}
 use Rattle.op_core.proofs.Enrolled.{AllBelow, split_rises, front_rises, get-append}
-use Rattle.op_core.proofs.Fronts.{put_first, join_none}
+use Rattle.op_core.proofs.Fronts.{put_first}
 
 abbrev pub place : Id → List Operation → ℕ
 place = sorted.place id_cmp id_total (λ (o : Operation). o.id)

@@ -14,30 +14,30 @@ use Rattle.op_core.proofs.TwoSteps.{past_not_shown}
 
 -- ---- a walk that changes each item
 
-module _ (f : Operation → Operation) where
-  abbrev pub walked : List Operation → ℕ → List Operation
+module _ {X : Type 0} (f : X → X) where
+  abbrev pub walked : List X → ℕ → List X
   walked s i = map f (take i s) ++ drop i s
 
-  pub walk_get : (s : List Operation) (i : ℕ) (d : Operation) → i < length s → get_or (walked s i) i d ≡ get_or s i d
+  pub walk_get : (s : List X) (i : ℕ) (d : X) → i < length s → get_or (walked s i) i d ≡ get_or s i d
   walk_get [] i d l = absurd (omega arith)
   walk_get (y ∷ s) zero d l = refl
   walk_get (y ∷ s) (suc i) d l = walk_get s i d (omega arith)
 
-  walk_set : (s : List Operation) (i : ℕ) (o : Operation) → i < length s → o ≡ get_or s i o
+  pub walk_set : (s : List X) (i : ℕ) (o : X) → i < length s → o ≡ get_or s i o
       → slice_set (walked s i) i (f o) ≡ walked s (suc i)
   walk_set [] i o l e = absurd (omega arith)
   walk_set (y ∷ s) zero o l e = ap (λ x. f x ∷ s) e
   walk_set (y ∷ s) (suc i) o l e = ap (λ xs. f y ∷ xs) (walk_set s i o (omega arith) e)
 
-  walk_keep : (s : List Operation) (i : ℕ) (o : Operation) → i < length s → o ≡ get_or s i o → f o ≡ o → walked s i ≡ walked s (suc i)
+  walk_keep : (s : List X) (i : ℕ) (o : X) → i < length s → o ≡ get_or s i o → f o ≡ o → walked s i ≡ walked s (suc i)
   walk_keep [] i o l e k = absurd (omega arith)
   walk_keep (y ∷ s) zero o l e k = ap (λ x. x ∷ s) (sym e ∙ sym k ∙ ap f e)
   walk_keep (y ∷ s) (suc i) o l e k = ap (λ xs. f y ∷ xs) (walk_keep s i o (omega arith) e k)
 
-  pub walk_start : (s : List Operation) → walked s 0 ≡ s
+  pub walk_start : (s : List X) → walked s 0 ≡ s
   walk_start s = refl
 
-  pub walk_end : (s : List Operation) (i : ℕ) → length s ≤ i → walked s i ≡ map f s
+  pub walk_end : (s : List X) (i : ℕ) → length s ≤ i → walked s i ≡ map f s
   walk_end [] zero l = refl
   walk_end [] (suc i) l = refl
   walk_end (y ∷ s) zero l = absurd (omega arith)

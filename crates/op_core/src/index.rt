@@ -8,12 +8,14 @@ ghost use Rattle.op_core.specs.Sets as sets;
 ghost use Rattle.op_core.specs.Sets.{IsOpSet};
 ghost use Rattle.op_core.specs.Loops.Index.{register_of, shown_in, IsOrderly, IsIndex, AreApart, Changes, Same};
 
+mod begin;
 pub(crate) mod change;
 mod lay;
 mod ready;
 mod settle;
 mod turns;
 
+use self::begin::begin_index;
 use self::lay::lay_out;
 use self::ready::ready_all;
 use self::settle::settle_all;
@@ -27,7 +29,8 @@ use std::alloc::{AllocError, Global};
 use usfm_ref::Book;
 
 // Takes in operations that rise and of which none is held. What they change at each segment is reckoned
-// aside, with the room for it, before the first change is made.
+// aside, with the room for it, before the first change is made. Where nothing is held, the whole index is
+// made aside.
 pub(crate) fn enroll(
     chapters: &mut Vec<Chapter>,
     alloc: Global,
@@ -44,6 +47,10 @@ pub(crate) fn enroll(
     ensures err { OnErr result (IsIndex held.now chapters.new.items) }
 {
     let turns = turns_of(alloc, new, compared)?;
+    if held.is_empty() {
+        *chapters = begin_index(alloc, new, &turns, compared)?;
+        return Ok(());
+    }
     lay_out(chapters, alloc, &turns, near, compared)?;
     let changes = ready_all(chapters, alloc, held, new, &turns, near, compared)?;
     settle_all(chapters, changes, near, compared);

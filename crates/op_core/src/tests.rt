@@ -334,3 +334,31 @@ fn what_another_segment_names_stays_full(rt: HostRuntime) -> Result<(), Fail> {
     assert!(rt; !is_thinned(&set, &ana2));
     Ok(())
 }
+
+// Adds an operation that a pile lacks. The contract of `add` stays out of the proofs of the tests that call this.
+fn add(alloc: Global, pile: Pile, op: Op) -> Result<Pile, Fail> {
+    if pile.find(&op.id()).is_some() {
+        return Err(Fail::from("the operation is there"));
+    }
+    Ok(pile.add(vec![in alloc; op]?)?)
+}
+
+#[test]
+fn a_pile_gathers_what_falls(rt: HostRuntime) -> Result<(), Fail> {
+    let alloc = rt.alloc();
+    let mut pile = Pile::new(alloc);
+    for at in 0..20 {
+        let op = op(alloc, op_id(20 - at, "ana")?, head(1)?, &[], "\\c 1\n")?;
+        pile = add(alloc, pile, op)?;
+    }
+    pile.leave_text(&op_id(7, "ana")?);
+    let ops = pile.into_ops()?;
+    assert!(rt; ops.len() == 20);
+    let mut number = 0;
+    for op in &ops {
+        number += 1;
+        assert!(rt; op.id() == op_id(number, "ana")?);
+        assert!(rt; op.text().is_none() == (number == 7));
+    }
+    Ok(())
+}

@@ -12,6 +12,7 @@ pub mod Exports
 pub mod OwnExports
 pub mod DeltasJoined
 pub mod Leaving
+pub mod Gathered
 pub mod Thinning
 pub mod ThinnedRuns
 pub mod World

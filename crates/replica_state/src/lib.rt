@@ -4,6 +4,7 @@
 
 mod edit;
 mod fault;
+mod gathering;
 mod import;
 pub mod laws;
 mod pieces;
@@ -12,6 +13,7 @@ mod replica;
 mod since;
 
 pub use fault::{EditFault, ImportFault, ReceiveFault, SinceFault};
+pub use gathering::Gathering;
 pub use replica::Replica;
 
 #[cfg(test)]

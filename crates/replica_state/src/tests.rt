@@ -2,6 +2,7 @@
 mod comparisons;
 mod deltas;
 mod editing;
+mod gathering;
 mod player;
 mod receiving;
 mod since;

@@ -1,5 +1,5 @@
 -- A stream of bundles on its way.
-use Rattle.std.proofs.Common.{◌≡◌, ◌==◌, Bool, true, false, ℕ, zero, suc, ◌<◌, ◌≤◌, List, [], ◌∷◌, length, take}
+use Rattle.std.proofs.Common.{◌≡◌, ◌==◌, ◌⊎◌, inl, inr, Bool, true, false, ℕ, zero, suc, ◌<◌, ◌≤◌, List, [], ◌∷◌, length, take}
 use Rattle.std.proofs.Common.{drop, Some, None, Result, Ok, Err, arith, length-take, length-drop, refl, sym, ap, ◌∙◌}
 use Rattle.std.proofs.lemmas.Bool.{eqb-true}
 use Rattle.op_core.specs.Ids.{Id}
@@ -12,6 +12,7 @@ use Rattle.bundle_codec.specs.Reading.{bundle_at, fields_at, magic_at, RefusesBu
 use Rattle.replica_state.specs.declared.fault.ReceiveFault.{ReceiveFault}
 use Rattle.replica_state.specs.declared.fault.ReceiveFault.TheVariants as receiving
 use Rattle.replica_state.specs.Receives.{RefusesReceive}
+use Rattle.replica_state.specs.States.{State}
 use Rattle.usfm_cli.specs.Faults.{of_bundle, of_receiving}
 use Rattle.usfm_cli.specs.Streams.{with_set, unless_clash, union_within, union_in, UnionAnswers, ReceivesOne}
 use Rattle.usfm_cli.specs.Streams.ReceivesOne.{Here, Judged, After}
@@ -34,6 +35,11 @@ pub leads_end : (held : List Operation) (rest : List ℕ) (wanted : Result (List
 unfolding union_within
 leads_end held [] wanted e l = sym l.leads
 leads_end held (b ∷ rest) wanted e l = cc e
+
+-- no bytes lead to no operation
+pub union_of_none : (input : List ℕ) (s : State) → input ≡ [] → s.held ≡ [] → union_in [] input ≡ Ok s.held
+unfolding union_within
+union_of_none input s e h = ap (union_in []) e ∙ ap Ok (sym h)
 
 -- one turn, at bytes that are not at their end
 pub next : (bound : ℕ) (held : List Operation) (rest : List ℕ) → length rest ≤ bound → 0 < length rest →
@@ -106,14 +112,25 @@ pub none_left : (xs : List ℕ) (r : Bool) → r ≡ (length xs == 0) → r ≡ 
 none_left [] r e f = refl
 none_left (x ∷ xs) r e f = absurd (omega (arith, eqb-true (length (x ∷ xs)) 0 (sym e ∙ f)))
 
--- a stream on its way: what is left leads to what the whole leads to, and a bundle that is received of it is received of the whole
+-- a stream on its way: what is left leads to what the whole leads to, and a bundle that is received of it is received of the whole;
+-- where not all is left, one was
 pub record IsOnWay (input : List ℕ) (held : List Operation) (rest : List ℕ) : Type 0 where
   pub leads : LeadsTo held rest (union_in [] input)
   pub back : ReceivesOne held rest → ReceivesOne [] input
+  pub begun : (rest ≡ input) ⊎ ReceivesOne [] input
 
 -- before the first bundle all of the stream is ahead
 pub way_start : (input : List ℕ) → IsOnWay input [] input
-way_start input = record { leads = leads_start input; back = λ one. one }
+way_start input = record { leads = leads_start input; back = λ one. one; begun = inl refl }
+
+-- at the end of a stream that is not empty a bundle was received
+pub received_one : (input : List ℕ) (held : List Operation) (rest : List ℕ) → IsOnWay input held rest → 0 < length input → rest ≡ []
+    → ReceivesOne [] input
+received_one input held rest w some e = by w.begun
+  where
+    by : (rest ≡ input) ⊎ ReceivesOne [] input → ReceivesOne [] input
+    by (inl same) = absurd (omega (arith, some, ap length (sym same ∙ e)))
+    by (inr one) = one
 
 module _ (input : List ℕ) (held set : List Operation) (rest left : List ℕ) (w : IsOnWay input held rest) (some : 0 < length rest)
     (read : bundle_at rest ≡ Ok (set, left)) where
@@ -121,6 +138,7 @@ module _ (input : List ℕ) (held set : List Operation) (rest left : List ℕ) (
   way_on c s = record {
     leads = leads_on held rest (union_in [] input) w.leads some set left read c s;
     back = λ one. w.back (After held rest set left read c one);
+    begun = inr (w.back (Here held rest set left read));
   }
 
   -- a refused bundle is refused with the clash, or out of memory

@@ -7,7 +7,7 @@ ghost use Rattle.usfm_cli.specs.Folding.{FoldsStream, source_failures, sink_fail
 use crate::{ByteSource, Fault, read_to_end};
 use bundle_codec::decode;
 use op_core::ReplicaName;
-use replica_state::Replica;
+use replica_state::{Gathering, Replica};
 use std::alloc::Global;
 use usfm_export::{ByteSink, write_book};
 use usfm_ref::Book;
@@ -54,13 +54,16 @@ fn receive_all(alloc: Global, input: &[u8]) -> Result<Replica, Fault>
     ensures { UnionAnswers input.now result }
 {
     let name = ReplicaName::read("fold").unwrap();
-    let mut fold = Replica::new(alloc, name);
+    if input.is_empty() {
+        return Ok(Replica::new(alloc, name));
+    }
+    let mut gathered = Gathering::new(alloc);
     let mut rest = input;
     'bundles: while !rest.is_empty() {
         let (bundle, length) = decode(alloc, rest)?;
-        fold.receive(&bundle)?;
+        gathered = gathered.receive(&bundle)?;
         let (_, left) = rest.split_at(length);
         rest = left;
     }
-    Ok(fold)
+    Ok(gathered.into_replica(name)?)
 }

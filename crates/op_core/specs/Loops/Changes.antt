@@ -1,11 +1,12 @@
 -- What new operations change in the index, segment by segment.
-use Rattle.std.specs.Prelude.{◌≡◌, false, List, Option, Some, None, IsTrue}
+use Rattle.std.specs.Prelude.{◌≡◌, Bool, false, not, ◌&&◌, List, Option, Some, None, IsTrue}
 use Rattle.std.specs.List.{find, list_any, AllByRecursion}
 use Rattle.std.specs.Ordering.{is_eq}
 use Rattle.usfm_ref.specs.Segments.{Segment, segment_cmp, same_segment}
 use Rattle.usfm_ref.specs.Rising.{rises_by}
+use Rattle.op_core.specs.Ids.{Id, ids_rise}
 use Rattle.op_core.specs.Ops.{Operation}
-use Rattle.op_core.specs.Loops.Index.{register_of, shown_in, missing_in, change_at, IsRisingChange, IsChangeOf, HasRoomIn, Takes, IsOrderly}
+use Rattle.op_core.specs.Loops.Index.{among, register_of, shown_in, missing_in, change_at, IsRisingChange, IsChangeOf, HasRoomIn, Takes, IsOrderly}
 use Rattle.op_core.specs.Loops.Turns.{turn_at, arrives, is_named}
 use Rattle.op_core.specs.declared.register.Register.{Register}
 use Rattle.op_core.specs.declared.chapter.Chapter.{Chapter}
@@ -50,6 +51,14 @@ pub record Taken (c : Change) (before after : Option Register) : Type 0 where
 abbrev pub TakesIn : Option Change → Option Register → Option Register → Type 0
 TakesIn None before after = after ≡ before
 TakesIn (Some c) before after = Taken c before after
+
+-- a register, if there is one, as operations make it where there was none: it shows what arrives and is not named, and misses
+-- what is named and does not arrive
+pub record IsBegun (arrives is_named : Id → Bool) (r : Option Register) : Type 0 where
+  pub shown_rises : IsTrue (ids_rise (shown_in r))
+  pub shown : (q : Id) → among (shown_in r) q ≡ (arrives q && not (is_named q))
+  pub missing_rises : IsTrue (ids_rise (missing_in r))
+  pub missing : (q : Id) → among (missing_in r) q ≡ (is_named q && not (arrives q))
 
 -- an index after some changes
 pub record Settles (changes : List Change) (before after : List Chapter) : Type 0 where

@@ -2,7 +2,7 @@ use Rattle.std.proofs.Common.{sym, ◌∙◌, not}
 use Rattle.std.proofs.lemmas.List.{nil_from_length}
 use Rattle.op_core.specs.Loops.Index.{among}
 use Rattle.op_core.proofs.IdSets.{filter_rises, filter_members}
-use Rattle.op_core.proofs.Parting.{parts_first, part_less, part_greater, part_equal, none_left, right_lone, none_right, left_alone}
+use Rattle.op_core.proofs.Parting.{part_less, part_greater, part_equal, none_left, right_lone, none_right, left_alone}
 use Rattle.op_core.proofs.ids.part_ids.Goals as goal
 
 pub pairs-preserved-in-Less : goal.pairs-preserved-in-Less

@@ -1,0 +1,81 @@
+// The index of operations where none is held. It is made aside, one segment after the other, and nothing is
+// looked for in it: no register is there before its segment's turns come.
+ghost use Rattle.std.specs.Prelude.{◌≡◌, IsTrue, IfOk, Some};
+ghost use Rattle.op_core.specs.Sets as sets;
+ghost use Rattle.op_core.specs.Loops.Index.{IsIndex};
+ghost use Rattle.op_core.specs.Loops.Turns.{AreTurnsOf, comes, is_called};
+ghost use Rattle.op_core.specs.Loops.Changes.{IsBegun};
+
+use super::change::Aside;
+use super::put_in;
+use super::turns::{Turn, gather_arrived, gather_named, run_len};
+use crate::chapter::Chapter;
+use crate::ids::part_ids;
+use crate::op::Op;
+use crate::place::Near;
+use crate::register::Register;
+use std::alloc::{AllocError, Global};
+use usfm_ref::Key;
+
+// The index of operations, by their turns.
+pub(crate) fn begin_index(
+    alloc: Global,
+    new: &[Op],
+    turns: &[Turn],
+    compared: &mut u64,
+) -> Result<Vec<Chapter>, AllocError>
+    requires new { IsTrue (sets.rises new.now) }
+    requires turns { AreTurnsOf new.now turns.now }
+    ensures { IfOk result (λ chapters. IsIndex new.now chapters.items) }
+{
+    let mut chapters = Vec::new(alloc);
+    let mut aside = Aside::new(alloc);
+    let mut near = Near::default();
+    let mut rest = turns;
+    'runs: while let Some((first, others)) = rest.split_first() {
+        let len = 1 + run_len(first, others, compared);
+        let (own, later) = rest.split_at(len);
+        let register = begin_register(alloc, new, first.key, own, &mut aside, compared)?;
+        put_in(
+            &mut chapters,
+            alloc,
+            first.book,
+            register,
+            &mut near,
+            compared,
+        )?;
+        rest = later;
+    }
+    Ok(chapters)
+}
+
+// The register of a segment, by its turns.
+fn begin_register(
+    alloc: Global,
+    new: &[Op],
+    key: Key,
+    own: &[Turn],
+    aside: &mut Aside,
+    compared: &mut u64,
+) -> Result<Register, AllocError>
+    ensures key { IfOk result (λ r. r.key ≡ key) }
+    ensures begun { IfOk result (λ r.
+        IsBegun (comes new.now own.now) (is_called new.now own.now) (Some r)) }
+{
+    gather_arrived(&mut aside.arrived, new, own, compared)?;
+    gather_named(&mut aside.named, new, own, compared)?;
+    part_ids(
+        &mut aside.fresh,
+        &mut aside.absent,
+        &aside.arrived,
+        &aside.named,
+        compared,
+    )?;
+    let shown = Vec::from_slice(alloc, &aside.fresh)?;
+    let missing = Vec::from_slice(alloc, &aside.absent)?;
+    Ok(Register {
+        key,
+        shown,
+        missing,
+    })
+}
