@@ -1,7 +1,7 @@
 mod plain;
 mod rows;
 
-use crate::{IdFault, Op, OpId, OpSet, Picked, ReplicaName, SetFault, names_fall};
+use crate::{IdFault, Op, OpId, OpSet, Picked, Pile, ReplicaName, SetFault, names_fall};
 use std::alloc::Global;
 use std::test::Fail;
 use usfm_ref::{Book, Key, Place};
