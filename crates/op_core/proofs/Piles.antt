@@ -135,7 +135,7 @@ pub join_end : (parts : List (List Operation)) (last all : List Operation) → I
 join_end parts last all h e =
     sym (join_none last h.set.rising) ∙ ap (λ (ps : List (List Operation)). join (union_of [] ps) last) (sym e) ∙ h.union
 
--- the last part is put behind the others
+-- the last part is put after the others
 module _ (parts now : List (List Operation)) (last all : List Operation) (h : IsJoining parts last all) (e : now ≡ parts ++ last ∷ []) where
   pub pushed_piled : ArePiled [] now
   pushed_piled = subst (ArePiled []) (sym e) (piled_more [] parts last h.piled h.set h.apart)
