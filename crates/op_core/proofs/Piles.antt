@@ -1,6 +1,5 @@
 -- A set kept in parts.
 use Rattle.std.proofs.Common.{◌≡◌, Bool, true, false, cond, List, [], ◌∷◌, ◌++◌, Option, Some, None, map, option_map, refl, sym, ap, subst, ◌∙◌}
-use Rattle.std.specs.List.{AllByRecursion}
 use Rattle.op_core.specs.Ids.{Id}
 use Rattle.op_core.specs.Ops.{Operation, bare}
 use Rattle.op_core.specs.Sets.{IsOpSet, rises, get, met, join}
@@ -18,7 +17,8 @@ use Rattle.op_core.proofs.TwoSteps.{rises_where, get_where}
 pub no_ops : IsOpSet []
 no_ops = record { rising = refl; each = tt }
 
-pub IsOpSet-union : (held : List Operation) (parts : List (List Operation)) → IsOpSet held → ArePiled held parts → IsOpSet (union_of held parts)
+pub IsOpSet-union : (held : List Operation) (parts : List (List Operation)) → IsOpSet held → ArePiled held parts
+    → IsOpSet (union_of held parts)
 IsOpSet-union held [] h p = h
 IsOpSet-union held (part ∷ parts) h p = IsOpSet-union (join held part) parts (IsOpSet-join held part h p.0) p.1.1
 
@@ -135,7 +135,7 @@ pub join_end : (parts : List (List Operation)) (last all : List Operation) → I
 join_end parts last all h e =
     sym (join_none last h.set.rising) ∙ ap (λ (ps : List (List Operation)). join (union_of [] ps) last) (sym e) ∙ h.union
 
--- the last part is put behind the others
+-- the last part is put after the others
 module _ (parts now : List (List Operation)) (last all : List Operation) (h : IsJoining parts last all) (e : now ≡ parts ++ last ∷ []) where
   pub pushed_piled : ArePiled [] now
   pushed_piled = subst (ArePiled []) (sym e) (piled_more [] parts last h.piled h.set h.apart)
@@ -155,7 +155,8 @@ module _ (p : Id → Bool) where
       ∙ sym (get-join (thin_where p a) (thin_where p b) q (rises_where p a ha) (rises_where p b hb)))
     where
       by : (q : Id) (m : Option Operation) → get b q ≡ m
-          → option_map (bare_where p) (met (get a q) (get b q)) ≡ met (option_map (bare_where p) (get a q)) (option_map (bare_where p) (get b q))
+          → option_map (bare_where p) (met (get a q) (get b q))
+          ≡ met (option_map (bare_where p) (get a q)) (option_map (bare_where p) (get b q))
       by q None e =
           (λ i. option_map (bare_where p) (met (get a q) (e i)))
           ∙ ap (option_map (bare_where p)) (met_none (get a q))
@@ -173,15 +174,20 @@ module _ (p : Id → Bool) where
   apart_where : (held new : List Operation) → AreApart held new → AreApart (thin_where p held) (thin_where p new)
   apart_where held [] a = tt
   apart_where held (o ∷ new) a =
-      (ap (get (thin_where p held)) (same_name o (p o.id)) ∙ get_where p held o.id ∙ ap (option_map (bare_where p)) a.0, apart_where held new a.1)
+      let none = ap (get (thin_where p held)) (same_name o (p o.id)) ∙ get_where p held o.id ∙ ap (option_map (bare_where p)) a.0 in
+      (none, apart_where held new a.1)
 
   pub piled_where : (held : List Operation) (parts : List (List Operation)) → IsOpSet held → ArePiled held parts
       → ArePiled (thin_where p held) (map (thin_where p) parts)
   piled_where held [] h a = tt
-  piled_where held (part ∷ parts) h a =
-      (IsOpSet-where p part a.0, (apart_where held part a.1.0,
+  piled_where held (part ∷ parts) h a = (
+    IsOpSet-where p part a.0,
+    (
+      apart_where held part a.1.0,
       subst (λ (ops : List Operation). ArePiled ops (map (thin_where p) parts)) (where_join held part h.rising a.0.rising a.1.0)
-      (piled_where (join held part) parts (IsOpSet-join held part h a.0) a.1.1)))
+          (piled_where (join held part) parts (IsOpSet-join held part h a.0) a.1.1),
+    ),
+  )
 
   pub union_where : (held : List Operation) (parts : List (List Operation)) → IsOpSet held → ArePiled held parts
       → union_of (thin_where p held) (map (thin_where p) parts) ≡ thin_where p (union_of held parts)

@@ -1,7 +1,7 @@
 mod plain;
 mod rows;
 
-use crate::{IdFault, Op, OpId, OpSet, Picked, ReplicaName, SetFault, names_fall};
+use crate::{IdFault, Op, OpId, OpSet, Picked, Pile, ReplicaName, SetFault, names_fall};
 use std::alloc::Global;
 use std::test::Fail;
 use usfm_ref::{Book, Key, Place};
@@ -354,9 +354,7 @@ fn a_pile_gathers_what_falls(rt: HostRuntime) -> Result<(), Fail> {
     pile.leave_text(&op_id(7, "ana")?);
     let ops = pile.into_ops()?;
     assert!(rt; ops.len() == 20);
-    let mut number = 0;
-    for op in &ops {
-        number += 1;
+    for (number, op) in (1..).zip(&ops) {
         assert!(rt; op.id() == op_id(number, "ana")?);
         assert!(rt; op.text().is_none() == (number == 7));
     }

@@ -12,7 +12,7 @@ use Rattle.usfm_ref.proofs.Orders.{key_exact, same_key-is}
 use Rattle.verse_cut.specs.Fits.{IsHeaded, Fits, ends_code}
 use Rattle.verse_cut.specs.Pieces.{Part, pieces_of}
 use Rattle.verse_cut.specs.Joins.{IsJoinOf}
-use Rattle.verse_cut.specs.Reading.{behind_id, book_at, book_or_bad, leading_book, book_in, text_fits}
+use Rattle.verse_cut.specs.Reading.{behind_id, book_at, book_or_bad, leading_book, book_in}
 use Rattle.verse_cut.proofs.BookLaws.{books_are_joins}
 use Rattle.verse_cut.proofs.FitLaws.{fits_is_read, fits_other}
 use Rattle.verse_cut.proofs.Headings.{book_reads}

@@ -1,8 +1,7 @@
 -- The bundles of a gathering.
 use Rattle.std.proofs.Common.{◌≡◌, true, List, [], ◌∷◌, None, refl, sym, ap, subst, ◌∙◌}
-use Rattle.std.specs.List.{AllByRecursion}
 use Rattle.op_core.specs.Ops.{Operation}
-use Rattle.op_core.specs.Sets.{IsOpSet, get, clash, join}
+use Rattle.op_core.specs.Sets.{IsOpSet, clash, join}
 use Rattle.op_core.specs.Loops.Index.{AreApart}
 use Rattle.op_core.specs.Thinned.{is_legal, thin_where, is_thinned_in, ArePast}
 use Rattle.op_core.proofs.Fronts.{join_none}

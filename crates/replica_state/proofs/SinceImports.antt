@@ -1,20 +1,18 @@
 -- An import since a base is the import of its file where nothing else of the book came in since.
 use Rattle.std.proofs.Common.{◌≡◌, ℕ, suc, ◌≤◌, Bool, true, false, not, cond, ◌&&◌, ◌||◌, nat_le, List, [], ◌∷◌, filter, length}
-use Rattle.std.proofs.Common.{Option, None, Result, Ok, Err, refl, sym, ap, ◌∙◌, arith}
+use Rattle.std.proofs.Common.{Option, Result, Ok, Err, refl, sym, ap, ◌∙◌, arith}
 use Rattle.std.specs.List.{list_any}
 use Rattle.std.specs.Option.{is_some}
-use Rattle.std.proofs.lemmas.Bool.{and_parts, and_left, and_right, cond-true}
+use Rattle.std.proofs.lemmas.Bool.{and_parts, and_left, cond-true}
 use Rattle.usfm_ref.specs.Books.{same_bytes}
 use Rattle.usfm_ref.specs.Keys.{KeyParts, is_head, is_verse_of, same_key}
-use Rattle.usfm_ref.specs.Segments.{Segment, segment}
+use Rattle.usfm_ref.specs.Segments.{segment}
 use Rattle.usfm_ref.proofs.Orders.{same_bytes-is, same_bytes-refl}
 use Rattle.verse_cut.specs.Pieces.{Part, pieces_of}
-use Rattle.verse_cut.specs.Reading.{book_in}
 use Rattle.verse_cut.specs.declared.fault.BookFault.{BookFault}
 use Rattle.op_core.specs.Equal.{same_id-refl}
 use Rattle.op_core.specs.Ids.{Id}
 use Rattle.op_core.specs.Ops.{Operation, own_text, in_segment, is_verse_in, names}
-use Rattle.op_core.specs.Sets.{clash}
 use Rattle.op_core.specs.Shown.{shown, is_replaced, is_shown, last, text_in, text_of, is_empty, has_verse_text, is_verse_with_text}
 use Rattle.op_core.specs.Shown.{wants_chapter_line, Line, greatest, picked_text}
 use Rattle.op_core.specs.CutsBack.{picked_at}
@@ -24,11 +22,10 @@ use Rattle.op_core.specs.NextIds.{next_number, is_among}
 use Rattle.replica_state.specs.States.{State}
 use Rattle.replica_state.specs.Edits.{has_numbers, edit_with}
 use Rattle.replica_state.specs.Imports.{piece_of, piece_at, has_verse, is_due, walked_keys, due_keys, edits_from, import_into}
-use Rattle.replica_state.specs.Steps.{Import, Imported, Step, imported, step, with_ops}
-use Rattle.replica_state.specs.Since.{SinceStep, stood_ids, seen_ids, is_none_seen, is_changed, changed_keys, changes_from}
+use Rattle.replica_state.specs.Steps.{Import, Step, imported, step, with_ops}
+use Rattle.replica_state.specs.Since.{stood_ids, seen_ids, is_none_seen, is_changed, changed_keys, changes_from}
 use Rattle.replica_state.specs.Since.{with_edits, changed, changed_after, changed_in, imported_since}
 use Rattle.replica_state.specs.SinceLaws.{IsImportWhereNothingCame}
-use Rattle.replica_state.specs.declared.fault.ImportFault.{ImportFault}
 use Rattle.replica_state.specs.declared.fault.ImportFault.TheVariants as importing
 use Rattle.replica_state.specs.declared.fault.SinceFault.TheVariants.{NumbersUsedUp}
 

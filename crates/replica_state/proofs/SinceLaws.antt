@@ -1,20 +1,18 @@
 -- Laws of imports since a base.
-use Rattle.std.proofs.Common.{◌≡◌, ◌⊎◌, ℕ, zero, suc, ◌+◌, ◌<◌, Bool, true, false, not, cond, ◌&&◌, ◌||◌, List, [], ◌∷◌, ◌++◌, inl, inr, filter, None, Ok}
+use Rattle.std.proofs.Common.{◌≡◌, ◌⊎◌, ℕ, zero, suc, ◌+◌, Bool, true, false, not, cond, ◌&&◌, ◌||◌, List, [], ◌∷◌, ◌++◌, inl, inr, filter}
 use Rattle.std.proofs.Common.{Result, Option, refl, sym, ap, subst, ◌∙◌, arith}
 use Rattle.std.specs.List.{Contains, AllByRecursion}
 use Rattle.std.proofs.lemmas.Bool.{and_parts, and_from, cond-true, le-leb, not-true}
 use Rattle.std.proofs.lemmas.List.Elements.{Contains-append_left}
 use Rattle.std.proofs.lemmas.List.Folds.{list_any-append}
 use Rattle.std.proofs.lemmas.Map.Views.{Contains-from_any}
-use Rattle.usfm_ref.specs.Books.{same_bytes}
 use Rattle.usfm_ref.specs.Keys.{KeyParts}
 use Rattle.usfm_ref.specs.Segments.{Segment, segment}
 use Rattle.usfm_ref.proofs.Orders.{same_bytes-is, same_segment-is}
 use Rattle.verse_cut.specs.Pieces.{Part, pieces_of}
 use Rattle.verse_cut.specs.declared.fault.BookFault.{BookFault}
-use Rattle.op_core.specs.Ids.{Id, same_id, id_below}
+use Rattle.op_core.specs.Ids.{Id, same_id}
 use Rattle.op_core.specs.Ops.{Operation, IsOperation, own_text, in_segment, names}
-use Rattle.op_core.specs.Sets.{rises, get, join}
 use Rattle.op_core.specs.Shown.{shown, text_of, is_shown, is_replaced}
 use Rattle.op_core.specs.Lists.{ids_of, shown_ids}
 use Rattle.op_core.specs.NextIds.{greatest_number, next_number, is_among}

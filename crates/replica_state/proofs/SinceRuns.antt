@@ -1,5 +1,5 @@
 -- An import since a base is a receiving and then edits over given ids.
-use Rattle.std.proofs.Common.{◌≡◌, ℕ, suc, max, ◌+◌, ◌<◌, ◌≤◌, Bool, true, false, not, cond, ◌&&◌, ◌||◌, nat_le, List, [], ◌∷◌, ◌++◌, map, filter, length}
+use Rattle.std.proofs.Common.{◌≡◌, ℕ, suc, ◌+◌, ◌<◌, ◌≤◌, Bool, true, false, not, cond, ◌&&◌, ◌||◌, List, [], ◌∷◌, ◌++◌, map, filter, length}
 use Rattle.std.proofs.Common.{Option, Some, None, Result, Ok, Err, option_map, refl, sym, ap, subst, ◌∙◌, arith, append-nil, append_assoc}
 use Rattle.std.specs.Cmp.{tied_itself}
 use Rattle.std.specs.List.{list_all, list_any, find}
@@ -20,14 +20,14 @@ use Rattle.verse_cut.specs.declared.fault.BookFault.{BookFault}
 use Rattle.op_core.specs.Equal.{id_from_same, same_id-refl}
 use Rattle.op_core.specs.Ids.{Id, same_id}
 use Rattle.op_core.specs.Ops.{Operation, in_segment, names}
-use Rattle.op_core.specs.Sets.{IsOpSet, rises, get, join, met, meet, clash}
+use Rattle.op_core.specs.Sets.{rises, get, join, met, meet, clash}
 use Rattle.op_core.specs.Shown.{shown, is_shown, is_replaced}
 use Rattle.op_core.specs.Lists.{ids_of, shown_ids, keys_of}
 use Rattle.op_core.specs.NextIds.{greatest_number, next_number, is_among, given_ids}
 use Rattle.op_core.specs.Export.{of_book, has_book}
 use Rattle.op_core.proofs.Gets.{AnyHeld, any_held, any_from}
 use Rattle.op_core.proofs.Union.{agree_from_no_clash, get-join, rises-join}
-use Rattle.replica_state.specs.States.{State, IsState}
+use Rattle.replica_state.specs.States.{State}
 use Rattle.replica_state.specs.Receives.{lacked}
 use Rattle.replica_state.specs.Edits.{has_numbers, edit_fault, first_not_shown, next_id, edit_by, unless}
 use Rattle.replica_state.specs.Imports.{piece_at, walked_keys}

@@ -3,7 +3,7 @@ use Rattle.std.proofs.Common.{◌≡◌, ℕ, suc, max, ◌+◌, ◌<◌, ◌≤
 use Rattle.std.proofs.Common.{filter, length, Option, Some, None, Result, Ok, Err, refl, sym, ap, subst, ◌∙◌, arith}
 use Rattle.std.specs.List.{AllByRecursion, list_all, list_any}
 use Rattle.std.specs.Ordering.{is_eq}
-use Rattle.std.proofs.lemmas.Bool.{and_parts, and_from, and_left, and_right, or_parts, or_from, or_left, or_right, not-true, cond-true, cond-false}
+use Rattle.std.proofs.lemmas.Bool.{and_parts, and_from, and_right, or_parts, or_from, or_left, or_right, not-true, cond-true, cond-false}
 use Rattle.std.proofs.lemmas.Bool.{false_from_ne_true, leb-true, le-leb}
 use Rattle.std.proofs.lemmas.List.Folds.{list_any-append}
 use Rattle.usfm_ref.specs.Books.{same_bytes}
@@ -13,12 +13,12 @@ use Rattle.usfm_ref.proofs.Orders.{same_bytes-refl, same_key-refl}
 use Rattle.verse_cut.specs.Pieces.{Part, pieces_of}
 use Rattle.verse_cut.specs.Reading.{book_in}
 use Rattle.verse_cut.specs.declared.fault.BookFault.{BookFault}
-use Rattle.op_core.specs.Ids.{Id, same_id, ids_rise}
+use Rattle.op_core.specs.Ids.{Id, ids_rise}
 use Rattle.op_core.specs.Ops.{Operation, IsOperation, own_text, in_segment, names}
 use Rattle.op_core.specs.Sets.{IsOpSet, rises, get, join, met, clash}
 use Rattle.op_core.specs.Shown.{shown, is_shown, is_replaced}
 use Rattle.op_core.specs.Export.{of_book, keys_in}
-use Rattle.op_core.specs.Lists.{ids_of, shown_ids, keys_of, is_held}
+use Rattle.op_core.specs.Lists.{ids_of, shown_ids, keys_of}
 use Rattle.op_core.specs.NextIds.{greatest_number, next_number, is_among}
 use Rattle.op_core.proofs.Agreement.{Agree, agree_itself}
 use Rattle.op_core.proofs.Enrolled.{apart_at}
@@ -29,7 +29,7 @@ use Rattle.op_core.proofs.Groupings.{join_agrees}
 use Rattle.op_core.proofs.NextIds.{beyond, shown_fall, some_fall}
 use Rattle.op_core.proofs.NoClash.{no_clash}
 use Rattle.op_core.proofs.Shows.{not_named, names_none}
-use Rattle.op_core.proofs.Union.{AgreeAtAll, IsOpSet-join, agree_from_no_clash, get-join, rises-join, join_assoc, join_comm, join_itself}
+use Rattle.op_core.proofs.Union.{AgreeAtAll, IsOpSet-join, agree_from_no_clash, get-join, join_assoc, join_comm, join_itself}
 use Rattle.replica_state.specs.States.{State, IsState}
 use Rattle.replica_state.specs.Edits.{has_numbers}
 use Rattle.replica_state.specs.Imports.{piece_at, is_due, walked_keys}

@@ -1,15 +1,15 @@
 -- Runs of receivings and thinnings of one family.
 use Rattle.std.proofs.Common.{◌≡◌, ℕ, Bool, true, false, ◌||◌, List, [], ◌∷◌, length}
-use Rattle.std.proofs.Common.{Option, Some, None, Ok, refl, sym, ap, subst, ◌∙◌}
+use Rattle.std.proofs.Common.{Option, None, Ok, refl, sym, ap, subst, ◌∙◌}
 use Rattle.std.specs.List.{AllByRecursion}
 use Rattle.std.specs.Option.{is_some}
 use Rattle.op_core.specs.Ids.{Id}
 use Rattle.op_core.specs.Ops.{Operation}
-use Rattle.op_core.specs.Sets.{get, met, clash, join}
+use Rattle.op_core.specs.Sets.{get, clash, join}
 use Rattle.op_core.specs.Lists.{is_held}
 use Rattle.op_core.specs.Thinned.{is_sent, delta, thin, IsOf}
 use Rattle.op_core.proofs.Bare.{held_same}
-use Rattle.op_core.proofs.Families.{among_held, family_joins, family_thins, held_either}
+use Rattle.op_core.proofs.Families.{family_joins, family_thins, held_either}
 use Rattle.op_core.proofs.Filters.{rises-filter, filter_within}
 use Rattle.op_core.proofs.Groupings.{delta_joins}
 use Rattle.op_core.proofs.Legal.{delta_legal, skeleton_thin}
@@ -20,7 +20,7 @@ use Rattle.replica_state.specs.Steps.{Command, Receive, Edit, EditOver, Import, 
 use Rattle.replica_state.specs.Runs.{after, IsTaken, NoneRefused}
 use Rattle.replica_state.specs.ThinLaws.{SameButThinned, TakesFrom, brought, is_brought, RunAlike, GivesUnion}
 use Rattle.replica_state.proofs.DeltasJoined.{delta_new}
-use Rattle.replica_state.proofs.Thinning.{held_among, same_family}
+use Rattle.replica_state.proofs.Thinning.{same_family}
 use Rattle.op_core.proofs.Awaited.{held-get}
 
 module _ (family : Id → Operation) where

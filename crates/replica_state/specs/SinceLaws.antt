@@ -1,5 +1,5 @@
 -- Laws of imports since a base (this project's own rule).
-use Rattle.std.specs.Prelude.{◌≡◌, ◌≤◌, ℕ, true, List, ◌∷◌, filter, length, map, None, Result, Ok}
+use Rattle.std.specs.Prelude.{◌≡◌, ◌≤◌, ℕ, true, List, ◌∷◌, filter, length, map, None, Ok}
 use Rattle.std.specs.List.{Contains, list_any}
 use Rattle.usfm_ref.specs.Keys.{KeyParts, book_head}
 use Rattle.usfm_ref.specs.Segments.{Segment, segment}

@@ -14,11 +14,11 @@ use Rattle.op_core.specs.Names.{name_cmp}
 use Rattle.op_core.specs.Ids.{Id}
 use Rattle.op_core.specs.Ops.{Operation, is_full}
 use Rattle.op_core.specs.Sets.{get, join, clash}
-use Rattle.op_core.specs.Shown.{wants_chapter_line, Pick, Line, greatest, last, shown, pick, picked_text}
-use Rattle.op_core.specs.Lists.{ids_of, is_held, shown_ids}
-use Rattle.op_core.specs.NextIds.{is_among, given_ids, greatest_number, next_number}
+use Rattle.op_core.specs.Shown.{wants_chapter_line, Line, greatest, last, shown, picked_text}
+use Rattle.op_core.specs.Lists.{ids_of, is_held}
+use Rattle.op_core.specs.NextIds.{is_among, greatest_number, next_number}
 use Rattle.op_core.specs.Export.{of_book, has_book}
-use Rattle.op_core.specs.Thinned.{skeleton, StandsFor}
+use Rattle.op_core.specs.Thinned.{StandsFor}
 use Rattle.op_core.specs.ThinLaws.{AnswersSame}
 use Rattle.op_core.proofs.Alike.{picks_same, answers_same}
 use Rattle.op_core.proofs.Bare.{any_same, told_same, ids_same, held_same}
@@ -27,15 +27,15 @@ use Rattle.op_core.proofs.Gets.{all_from}
 use Rattle.op_core.proofs.NextIds.{beyond}
 use Rattle.op_core.proofs.NoClash.{no_clash}
 use Rattle.op_core.proofs.StandIns.{full_stands, join_stands}
-use Rattle.bundle_codec.specs.Summaries.{summary_of, numbers_of, ranges_of}
+use Rattle.bundle_codec.specs.Summaries.{summary_of, ranges_of}
 use Rattle.replica_state.specs.declared.fault.EditFault.{EditFault}
 use Rattle.replica_state.specs.declared.fault.EditFault.TheVariants.{BadSegment, NoBook, NotShown}
 use Rattle.replica_state.specs.declared.fault.ImportFault.{ImportFault}
 use Rattle.replica_state.specs.declared.fault.ImportFault.TheVariants as import
 use Rattle.replica_state.specs.States.{State}
 use Rattle.replica_state.specs.Receives.{lacked}
-use Rattle.replica_state.specs.Edits.{has_numbers, edit_with, next_id, edit_by, edit_fault, first_not_shown, unless, edit_op, edit_over_op}
-use Rattle.replica_state.specs.Imports.{piece_at, piece_of, has_verse, loses_line, is_due, walked_keys}
+use Rattle.replica_state.specs.Edits.{has_numbers, edit_with, next_id, edit_by, edit_fault, unless, edit_op, edit_over_op}
+use Rattle.replica_state.specs.Imports.{piece_at, piece_of, has_verse}
 use Rattle.replica_state.specs.Imports.{due_keys, edits_from, edits_numbered, import_into, import_ops}
 use Rattle.replica_state.specs.Steps.{Received, edited, imported, received}
 use Rattle.replica_state.specs.World.{edit_made, edits_made}

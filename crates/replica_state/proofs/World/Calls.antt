@@ -1,10 +1,6 @@
 -- The calls of replicas as events of a world.
-use Rattle.std.proofs.Common.{◌≡◌, ◌≢◌, ℕ, Bool, true, false, cond, List, [], ◌∷◌, ◌++◌, filter, Option}
-use Rattle.std.proofs.Common.{Some, None, Result, Ok, Err, refl, sym, ap, subst, ◌∙◌, IfOk, IfErr}
-use Rattle.std.specs.Prelude.{slice_get}
-use Rattle.std.specs.Cmp.Lexicographic.{bytes_decides}
-use Rattle.std.specs.List.{AllByRecursion}
-use Rattle.std.proofs.lemmas.Bool.{cond-true}
+use Rattle.std.proofs.Common.{◌≡◌, ℕ, Bool, true, false, List, ◌∷◌}
+use Rattle.std.proofs.Common.{None, Result, Ok, Err, sym, ap, ◌∙◌, IfOk, IfErr}
 use Rattle.usfm_ref.specs.Books.{same_bytes}
 use Rattle.op_core.specs.Ids.{Id}
 use Rattle.op_core.specs.Ops.{Operation}
@@ -17,14 +13,11 @@ use Rattle.bundle_codec.specs.Summaries.{Known, covers, outside}
 use Rattle.replica_state.specs.declared.fault.ReceiveFault.{ReceiveFault}
 use Rattle.replica_state.specs.declared.fault.ReceiveFault.TheVariants.{Memory, Clash}
 use Rattle.replica_state.specs.Receives.{RefusesReceive}
-use Rattle.replica_state.specs.States.{State, IsState}
-use Rattle.replica_state.specs.Steps.{Command, Receive, Reply, Step, step}
-use Rattle.replica_state.specs.World.{World, Event, Bundles, Receives, happens, replica, replica_of, received, with_bundle, with_held}
-use Rattle.replica_state.specs.World.Invisible.{receive_reply}
-use Rattle.replica_state.specs.World.Calls.{IsIn, IsReceiving, IsSending, NeverClashes}
+use Rattle.replica_state.specs.States.{State}
+use Rattle.replica_state.specs.World.{World, Event, Bundles, happens, replica_of, with_bundle}
+use Rattle.replica_state.specs.World.Calls.{IsIn, IsSending, NeverClashes}
 use Rattle.replica_state.proofs.World.Flights.{apart, not_there}
 use Rattle.replica_state.proofs.World.Held.{of_its_ids}
-use Rattle.replica_state.proofs.World.Moves.{held_same}
 use Rattle.replica_state.proofs.World.Twins.{no_clash_here}
 
 -- a legal bundle of some ids is made

@@ -1,6 +1,6 @@
 -- What exchanges bring.
 use Rattle.std.proofs.Common.{◌≡◌, ℕ, inl, inr, Bool, true, false, not, ◌&&◌, List, [], ◌∷◌, ◌++◌}
-use Rattle.std.proofs.Common.{append_assoc, filter, refl, sym, ap, subst, ◌∙◌, Option, Some, None}
+use Rattle.std.proofs.Common.{append_assoc, refl, sym, ap, subst, ◌∙◌, Option, Some, None}
 use Rattle.std.specs.Prelude.{slice_get}
 use Rattle.std.specs.List.{list_all}
 use Rattle.std.specs.Option.{option_map}
@@ -19,19 +19,19 @@ use Rattle.op_core.proofs.Legal.{delta_legal}
 use Rattle.op_core.proofs.Union.{same_gets}
 use Rattle.bundle_codec.specs.Summaries.{summary_of, covers, outside}
 use Rattle.bundle_codec.proofs.Told.{covers_its_ids}
-use Rattle.replica_state.specs.World.{World, Event, Bundles, Receives, after, replica_of, is_apart}
+use Rattle.replica_state.specs.World.{Event, Bundles, Receives, after, replica_of, is_apart}
 use Rattle.replica_state.specs.World.Schedules.{Holds, Where, At, Within, found, in_bundle, IsMade, IsOrThinned}
-use Rattle.replica_state.specs.World.Exchanges.{HoldUnion, IsBefore, Request, Whole, Lacking, Hearing}
+use Rattle.replica_state.specs.World.Exchanges.{HoldUnion, Request, Whole, Lacking, Hearing}
 use Rattle.replica_state.specs.World.Exchanges.{told, wanted, IsAsked, Hears, heard, IsRelay}
 use Rattle.replica_state.specs.World.Agreement.{HoldsAll, EndsInRelays}
 use Rattle.replica_state.proofs.World.Flights.{apart, all_apart, all_both, all_parts, bundles_stay}
 use Rattle.op_core.proofs.Awaited.{held-get}
-use Rattle.replica_state.proofs.World.Held.{join_left, join_right, held_at, at_held, not_held, delta_holds}
+use Rattle.replica_state.proofs.World.Held.{join_left, join_right, held_at, at_held, delta_holds}
 use Rattle.replica_state.proofs.World.Held.{delta_joins, join_turned, join_back, same_delta, of_its_ids, all_ids}
 use Rattle.replica_state.proofs.World.Moments.{the_twin, whole, holds_of, InFull, of_bare, whole_of, stands, one_in_twin, found_whole}
 use Rattle.replica_state.proofs.World.Moves.{Sound, received_is}
 use Rattle.replica_state.proofs.World.Next.{names_shown, shown_held}
-use Rattle.replica_state.proofs.World.Runs.{grown, grown_to, was_made, made_held, made_name, relay, all_held, holds_within, held_same}
+use Rattle.replica_state.proofs.World.Runs.{grown_to, was_made, made_held, relay, all_held, holds_within, held_same}
 use Rattle.replica_state.proofs.World.Twins.{BothAt, each_at, twins, sound_no_clash, no_clash_here}
 
 -- the summary of a set lacks what the set does not hold

@@ -8,7 +8,7 @@ use Rattle.op_core.specs.Ops.{Operation, is_full, with_text, bare}
 use Rattle.op_core.specs.Sets.{rises, get, join, meet, meet_text, met, clash}
 use Rattle.op_core.specs.Lists.{is_held, ids_of}
 use Rattle.op_core.specs.NextIds.{is_among}
-use Rattle.op_core.specs.Thinned.{skeleton, of_ids, delta, is_sent, is_lacked, lacks_thinned}
+use Rattle.op_core.specs.Thinned.{skeleton, of_ids, delta, is_sent}
 use Rattle.op_core.proofs.Agreement.{Agree, agree_itself}
 use Rattle.op_core.proofs.Bare.{rises_bare}
 use Rattle.op_core.proofs.Clashes.{get_id}

@@ -13,7 +13,7 @@ use Rattle.op_core.specs.Thinned.{skeleton, StandsFor}
 use Rattle.op_core.proofs.Agreement.{Agree, agree-from, agree_itself}
 use Rattle.op_core.proofs.Clashes.{get_id}
 use Rattle.op_core.proofs.Groupings.{get_bare}
-use Rattle.replica_state.specs.World.{World, Event, after, made, replica_of}
+use Rattle.replica_state.specs.World.{World, Event, after, replica_of}
 use Rattle.replica_state.specs.World.Twin.{twin}
 use Rattle.replica_state.specs.World.Schedules.{Holds, HoldsAs, Makes, Where, At, Within, found, in_bundle, IsMade, IsOrThinned, IsChain}
 use Rattle.replica_state.proofs.World.Next.{falls, chain}

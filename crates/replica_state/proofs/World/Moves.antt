@@ -6,8 +6,6 @@ use Rattle.std.specs.Cmp.Lexicographic.{bytes_decides}
 use Rattle.std.proofs.lemmas.Bool.{cond-true, false≢true}
 use Rattle.usfm_ref.specs.Books.{same_bytes}
 use Rattle.usfm_ref.proofs.Orders.{same_bytes-is}
-use Rattle.verse_cut.specs.Pieces.{pieces_of}
-use Rattle.verse_cut.specs.Reading.{book_in}
 use Rattle.op_core.specs.Ids.{Id}
 use Rattle.op_core.specs.Ops.{Operation, is_full}
 use Rattle.op_core.specs.Sets.{rises, get, join, clash}
@@ -19,7 +17,6 @@ use Rattle.op_core.proofs.NextIds.{beyond}
 use Rattle.op_core.proofs.Union.{rises-join}
 use Rattle.replica_state.specs.declared.fault.EditFault.{EditFault}
 use Rattle.replica_state.specs.declared.fault.ImportFault.{ImportFault}
-use Rattle.replica_state.specs.States.{State}
 use Rattle.replica_state.specs.Edits.{edit_op, edit_over_op}
 use Rattle.replica_state.specs.Imports.{import_ops}
 use Rattle.replica_state.specs.Steps.{received, edited, imported}

@@ -20,7 +20,7 @@ use Rattle.op_core.proofs.NextIds.{beyond, shown_fall, some_fall}
 use Rattle.replica_state.specs.declared.fault.EditFault.{EditFault}
 use Rattle.replica_state.specs.declared.fault.ImportFault.TheVariants.{NumbersUsedUp}
 use Rattle.replica_state.specs.States.{State}
-use Rattle.replica_state.specs.Edits.{has_numbers, edit_with, next_id, edit_by, edit_fault, first_not_shown, unless}
+use Rattle.replica_state.specs.Edits.{has_numbers, edit_with, next_id, edit_by, edit_fault, unless}
 use Rattle.replica_state.specs.Imports.{edits_from, edits_numbered, import_into, due_keys, piece_at}
 use Rattle.replica_state.specs.World.{World, Event, Edits, EditsOver, Imports, Thins, Summarizes, Bundles, Receives}
 use Rattle.replica_state.specs.World.{ReceivesCut, FindsNoMemory, after, made, edit_made, edits_made, replica, replica_of}

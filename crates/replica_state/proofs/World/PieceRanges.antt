@@ -1,9 +1,9 @@
 -- The pieces of a text: their keys are within their ranges, and of a UTF-8 text they are UTF-8.
-use Rattle.std.proofs.Common.{◌≡◌, ℕ, ◌+◌, ◌<◌, ◌≤◌, nat_le, Bool, true, false, cond, ◌&&◌, ◌||◌, List, []}
-use Rattle.std.proofs.Common.{◌∷◌, ◌++◌, length, take, drop, get_or, map, filter, codes, IsUtf8, Option}
-use Rattle.std.proofs.Common.{Some, None, option_map, refl, sym, ap, subst, ◌∙◌, arith, length-append}
+use Rattle.std.proofs.Common.{◌≡◌, ℕ, ◌+◌, ◌≤◌, nat_le, Bool, true, false, cond, ◌||◌, List, []}
+use Rattle.std.proofs.Common.{◌∷◌, ◌++◌, length, get_or, codes, IsUtf8, Option}
+use Rattle.std.proofs.Common.{Some, None, option_map, refl, sym, subst, arith, length-append}
 use Rattle.std.specs.Prelude.{bytes_eq}
-use Rattle.std.specs.List.{All, AllByRecursion}
+use Rattle.std.specs.List.{AllByRecursion}
 use Rattle.std.specs.Option.{IfSome}
 use Rattle.std.proofs.Math.Seq.{take-append_seam, drop-append_seam, get_or-append_seam}
 use Rattle.std.proofs.lemmas.Bool.{and_parts, and_from, le-leb}
@@ -12,7 +12,7 @@ use Rattle.std.proofs.lemmas.List.Elements.{All-tail}
 use Rattle.std.proofs.lemmas.Str.{IsUtf8-nil, IsUtf8-take, IsUtf8-drop, IsCharBoundary-before_ascii}
 use Rattle.usfm_ref.specs.Books.{is_book_code}
 use Rattle.usfm_ref.specs.declared.number.VerseMark.{VerseMark}
-use Rattle.usfm_ref.specs.Keys.{KeyParts, is_key, key_cmp, book_head, chapter_head, head_of}
+use Rattle.usfm_ref.specs.Keys.{KeyParts, is_key, book_head, chapter_head}
 use Rattle.usfm_ref.specs.Numbers.{chapter_in, verse_in}
 use Rattle.usfm_ref.proofs.Ranges.{chapter_small, mark_is_verse}
 use Rattle.usfm_ref.proofs.Readings.{verse_in-some}
@@ -21,7 +21,7 @@ use Rattle.verse_cut.specs.Fits.{IsHeaded, FitsKey}
 use Rattle.verse_cut.specs.Joins.{KeyText, texts_joined, at_book_head, pieces_from}
 use Rattle.verse_cut.specs.Keys.{key_below, verse_key, mark_key, text_after}
 use Rattle.verse_cut.specs.Pieces.{Part, pieces_of}
-use Rattle.verse_cut.specs.Reading.{key_of, Later, goes_on, opens_at, cut_from, cut_of}
+use Rattle.verse_cut.specs.Reading.{key_of, goes_on, opens_at, cut_from, cut_of}
 use Rattle.verse_cut.proofs.BookLaws.{books_are_joins}
 use Rattle.verse_cut.proofs.JoinLaws.{FitKeys, fit_keys, begins_mark, rise_behind}
 use Rattle.verse_cut.proofs.MarkLaws.{cut_is_read}

@@ -1,8 +1,6 @@
 -- What is read of the bytes of a bundle that was made in a world.
-use Rattle.std.proofs.Common.{◌≡◌, ◌≢◌, ℕ, ◌<◌, ◌^◌, Bool, true, false, cond, List, [], ◌∷◌, ◌++◌, length}
+use Rattle.std.proofs.Common.{◌≡◌, ℕ, Bool, true, false, cond, List, [], ◌∷◌}
 use Rattle.std.proofs.Common.{Option, Some, None, Result, Ok, Err, refl, sym, ap, ◌∙◌, MatchResult}
-use Rattle.std.specs.Prelude.{slice_get}
-use Rattle.std.specs.List.{AllByRecursion}
 use Rattle.op_core.specs.Ops.{Operation}
 use Rattle.op_core.specs.Thinned.{all_full}
 use Rattle.bundle_codec.specs.declared.fault.BundleFault.{BundleFault}
@@ -10,10 +8,8 @@ use Rattle.bundle_codec.specs.declared.fault.BundleFault.TheVariants.{Memory, Ma
 use Rattle.bundle_codec.specs.declared.fault.BundleFault.TheVariants.{BadReplaced, BadTag, NotUtf8, BadText, Unsupported}
 use Rattle.bundle_codec.specs.declared.fault.WholeFault.{WholeFault}
 use Rattle.bundle_codec.specs.declared.fault.WholeFault.TheVariants.{Bundle, Trailing}
-use Rattle.bundle_codec.specs.Spelling.{bundle}
-use Rattle.bundle_codec.specs.Reading.{◌>>=◌, fields_at, judge_named, judge_thinned, unnamed_place, bundle_at, TakesMemory, RefusesBundle}
+use Rattle.bundle_codec.specs.Reading.{◌>>=◌, judge_named, judge_thinned, unnamed_place, bundle_at, TakesMemory, RefusesBundle}
 use Rattle.bundle_codec.specs.Joining.{whole_if, whole_at, RefusesWhole}
-use Rattle.replica_state.specs.World.{Event, IsWithin, after}
 use Rattle.replica_state.specs.World.Calls.{RefusesCut}
 use Rattle.replica_state.proofs.World.Bytes.{bundles_are_read}
 

@@ -12,10 +12,10 @@ use Rattle.op_core.specs.Sets.{get}
 use Rattle.op_core.proofs.Clashes.{get_id}
 use Rattle.op_core.proofs.Union.{same_gets}
 use Rattle.replica_state.specs.World.{World, Event, Edits, EditsOver, Imports, Thins, Summarizes, Bundles, Receives}
-use Rattle.replica_state.specs.World.{ReceivesCut, FindsNoMemory, after, made, replica, replica_of, edits_at, is_exchange}
+use Rattle.replica_state.specs.World.{ReceivesCut, FindsNoMemory, after, made, replica_of, edits_at, is_exchange}
 use Rattle.replica_state.specs.World.Schedules.{Makes, Where, At, Within, found, in_bundle, IsMade}
 use Rattle.replica_state.specs.World.Exchanges.{IsBefore, Hearing, Hears, heard, IsRelay}
-use Rattle.replica_state.specs.World.Agreement.{AllTell, EndsInRelays}
+use Rattle.replica_state.specs.World.Agreement.{EndsInRelays}
 use Rattle.replica_state.proofs.World.Moves.{Sound, Move}
 use Rattle.replica_state.proofs.World.Next.{made_next}
 

@@ -1,5 +1,5 @@
 -- What is held in a world is a set of operations, each within its ranges.
-use Rattle.std.proofs.Common.{◌≡◌, ℕ, suc, ◌⊎◌, inl, inr, nat_le, Bool, true, false, not, cond, ◌&&◌, ◌||◌, List, [], ◌∷◌, ◌++◌}
+use Rattle.std.proofs.Common.{◌≡◌, ℕ, suc, ◌⊎◌, inl, inr, nat_le, Bool, true, false, not, cond, ◌||◌, List, [], ◌∷◌, ◌++◌}
 use Rattle.std.proofs.Common.{map, filter, length, IsUtf8, Option, Some, None, Result, Ok, Err, refl, sym, ap, subst, ◌∙◌}
 use Rattle.std.specs.Prelude.{slice_get}
 use Rattle.std.specs.declared.cmp.Ordering.{Ordering}
@@ -21,13 +21,13 @@ use Rattle.verse_cut.specs.Reading.{book_in, text_fits}
 use Rattle.replica_state.proofs.World.PieceRanges.{IsKey, pieces_are_text, pieces_have_keys}
 use Rattle.op_core.specs.Names.{is_name}
 use Rattle.op_core.specs.Ids.{Id, same_id, is_id, is_number}
-use Rattle.op_core.specs.Ops.{Operation, IsOperation, IsTextFor, MayBeText, is_segment, bare, names}
-use Rattle.op_core.specs.Sets.{IsOpSet, rises, get}
-use Rattle.op_core.specs.Lists.{keys_of, shown_ids}
+use Rattle.op_core.specs.Ops.{Operation, IsOperation, IsTextFor, MayBeText, is_segment, names}
+use Rattle.op_core.specs.Sets.{rises, get}
+use Rattle.op_core.specs.Lists.{keys_of}
 use Rattle.op_core.specs.NextIds.{is_among, next_number}
 use Rattle.op_core.specs.Equal.{same_id-refl}
 use Rattle.op_core.specs.Export.{of_book, has_book, keys_in}
-use Rattle.op_core.specs.Thinned.{is_legal, StandsFor}
+use Rattle.op_core.specs.Thinned.{StandsFor}
 use Rattle.op_core.proofs.Clashes.{get_cases, get_id}
 use Rattle.op_core.proofs.Gets.{all_held}
 use Rattle.replica_state.specs.declared.fault.EditFault.{EditFault}
@@ -37,8 +37,8 @@ use Rattle.replica_state.specs.States.{State}
 use Rattle.replica_state.specs.Edits.{has_numbers, edit_with, next_id, edit_by, edit_fault, unless}
 use Rattle.replica_state.specs.Imports.{text_in, piece_of, piece_at, is_due, walked_keys, due_keys, edits_from, edits_numbered, import_into}
 use Rattle.replica_state.specs.World.{World, Event, Edits, EditsOver, Imports, Thins, Summarizes, Bundles, Receives, ReceivesCut}
-use Rattle.replica_state.specs.World.{FindsNoMemory, IsEdit, IsWithin, after, made, edit_made, edits_made, replica, replica_of}
-use Rattle.replica_state.specs.World.Schedules.{At, Within, found, in_bundle, IsOrThinned, AreSets}
+use Rattle.replica_state.specs.World.{FindsNoMemory, IsWithin, after, made, edit_made, edits_made, replica, replica_of}
+use Rattle.replica_state.specs.World.Schedules.{Within, in_bundle, IsOrThinned, AreSets}
 use Rattle.replica_state.proofs.FilePieces.{book_is_code, book_is_headed, piece_fits}
 use Rattle.replica_state.proofs.World.Held.{held_at}
 use Rattle.replica_state.proofs.World.Moments.{the_twin, whole, stands, whole_of, found_whole}

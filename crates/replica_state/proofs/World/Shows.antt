@@ -1,9 +1,8 @@
 -- What replicas show and answer.
-use Rattle.std.proofs.Common.{◌≡◌, ℕ, Bool, true, false, not, ◌++◌, ◌||◌, List, [], ◌∷◌, map}
+use Rattle.std.proofs.Common.{◌≡◌, ℕ, Bool, true, false, not, ◌++◌, ◌||◌, List, [], ◌∷◌}
 use Rattle.std.proofs.Common.{filter, refl, sym, ap, subst, ◌∙◌, Option, Some, None, Result}
 use Rattle.std.specs.Prelude.{slice_get}
 use Rattle.std.specs.List.{list_any, flat_map}
-use Rattle.std.proofs.lemmas.Bool.{false≢true}
 use Rattle.usfm_ref.specs.Rising.{rising}
 use Rattle.op_core.specs.Ids.{Id, id_cmp, same_id}
 use Rattle.op_core.specs.Ops.{Operation, names}
@@ -11,7 +10,7 @@ use Rattle.op_core.specs.Sets.{rises, get, clash}
 use Rattle.op_core.specs.Lists.{is_held, awaited}
 use Rattle.op_core.specs.NextIds.{is_among}
 use Rattle.op_core.specs.Equal.{same_id-refl}
-use Rattle.op_core.specs.Thinned.{skeleton, thin, StandsFor}
+use Rattle.op_core.specs.Thinned.{skeleton, StandsFor}
 use Rattle.op_core.specs.ThinLaws.{AnswersSame}
 use Rattle.op_core.proofs.Alike.{picks_same, answers_same}
 use Rattle.op_core.proofs.Gets.{any_held}
@@ -21,9 +20,9 @@ use Rattle.replica_state.specs.declared.fault.ImportFault.{ImportFault}
 use Rattle.replica_state.specs.States.{State}
 use Rattle.replica_state.specs.Edits.{edit_op, edit_over_op}
 use Rattle.replica_state.specs.Imports.{import_ops}
-use Rattle.replica_state.specs.Steps.{Command, Reply, Receive, Edit, EditOver, Import, Thin, step, edited, imported}
+use Rattle.replica_state.specs.Steps.{Command, Receive, Edit, EditOver, Import, Thin, step, edited, imported}
 use Rattle.replica_state.specs.World.{World, Event, Edits, EditsOver, Imports, Thins, Summarizes, Bundles}
-use Rattle.replica_state.specs.World.{Receives, ReceivesCut, FindsNoMemory, after, made, edit_made, replica}
+use Rattle.replica_state.specs.World.{Receives, ReceivesCut, FindsNoMemory, after, made, edit_made}
 use Rattle.replica_state.specs.World.Twin.{twin}
 use Rattle.replica_state.specs.World.Agreement.{ShowSame, EndsInRelays, AgreeInTheEnd}
 use Rattle.replica_state.specs.World.Invisible.{AreAlike, StepsAlike, ActsFor, reply, receive_reply}

@@ -9,7 +9,7 @@ use Rattle.replica_state.specs.Steps.{Command, Receive, Edit, EditOver, Import, 
 use Rattle.replica_state.specs.World.{World, Event, Edits, EditsOver, Imports, Thins}
 use Rattle.replica_state.specs.World.{Summarizes, Bundles, Receives, ReceivesCut}
 use Rattle.replica_state.specs.World.{FindsNoMemory, after, made, replica}
-use Rattle.replica_state.specs.World.Twin.{keeps_texts, is_twins, twin}
+use Rattle.replica_state.specs.World.Twin.{keeps_texts, twin}
 use Rattle.replica_state.specs.World.Schedules.{Holds, IsMade}
 use Rattle.replica_state.specs.World.Agreement.{ShowSame}
 

@@ -15,4 +15,5 @@ loop-i-preserved c =
     let h = c.loop-i.invariant in
     let lt : i < length s = c.loop-i-test.true in
     let at : o ≡ get_or s i o = c.index-parts-i.is ∙ ap (λ (xs : List (List Operation)). get_or xs i o) h ∙ walk_get f s i o lt in
-    (λ j. slice_set (h j) i ((c.leave_text.ensures ∙ ap f (sym c.index-parts-i.is)) j)) ∙ walk_set f s i o lt at ∙ ap (walked f s) (sym (add-one i))
+    (λ j. slice_set (h j) i ((c.leave_text.ensures ∙ ap f (sym c.index-parts-i.is)) j)) ∙ walk_set f s i o lt at
+    ∙ ap (walked f s) (sym (add-one i))

@@ -4,7 +4,7 @@ use Rattle.op_core.specs.Ids.{Id, same_id}
 use Rattle.op_core.specs.Ops.{Operation, is_full}
 use Rattle.op_core.specs.Thinned.{thin_where}
 use Rattle.op_core.proofs.Left.{none_thinned}
-use Rattle.replica_state.proofs.Leaving.{IsLeaving, passed, left, may_leave, all_left, none_left}
+use Rattle.replica_state.proofs.Leaving.{IsLeaving, left, all_left, none_left}
 use Rattle.replica_state.proofs.receive.leave_texts.Goals as goal
 
 pub loop-view-preserved-then-is_none : goal.loop-view-preserved-then-is_none

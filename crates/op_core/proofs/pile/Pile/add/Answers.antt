@@ -18,9 +18,10 @@ returns-then-len-clause-ok c =
 
 pub join-requires : goal.join-requires
 join-requires c =
-    next_apart c.joining.parts.items c.pop.new.self.items c.joining.last c.in-Some.before (join c.args.self c.args.new.items) c.joining.invariant c.in-Some.ensures.items
+    next_apart c.joining.parts.items c.pop.new.self.items c.joining.last c.in-Some.before (join c.args.self c.args.new.items)
+    c.joining.invariant c.in-Some.ensures.items
 
 pub joining-preserved : goal.joining-preserved
 joining-preserved c =
-    join_more c.joining.parts.items c.pop.new.self.items c.joining.last c.in-Some.before (join c.args.self c.args.new.items) c.joining.invariant c.in-Some.ensures.items
-    c.in_ok-last.last c.in_ok-last.ensures.union
+    join_more c.joining.parts.items c.pop.new.self.items c.joining.last c.in-Some.before (join c.args.self c.args.new.items)
+    c.joining.invariant c.in-Some.ensures.items c.in_ok-last.last c.in_ok-last.ensures.union

@@ -5,12 +5,13 @@ use Rattle.op_core.proofs.pile.Pile.into_ops.Goals as goal
 
 pub join-requires : goal.join-requires
 join-requires c =
-    next_apart c.joining.parts.items c.pop.new.self.items c.joining.last c.in-Some.before c.args.self c.joining.invariant c.in-Some.ensures.items
+    next_apart c.joining.parts.items c.pop.new.self.items c.joining.last c.in-Some.before c.args.self c.joining.invariant
+    c.in-Some.ensures.items
 
 pub joining-preserved : goal.joining-preserved
 joining-preserved c =
-    join_more c.joining.parts.items c.pop.new.self.items c.joining.last c.in-Some.before c.args.self c.joining.invariant c.in-Some.ensures.items
-    c.in_ok-last.last c.in_ok-last.ensures.union
+    join_more c.joining.parts.items c.pop.new.self.items c.joining.last c.in-Some.before c.args.self c.joining.invariant
+    c.in-Some.ensures.items c.in_ok-last.last c.in_ok-last.ensures.union
 
 pub returns-clause-ops : goal.returns-clause-ops
 returns-clause-ops c =

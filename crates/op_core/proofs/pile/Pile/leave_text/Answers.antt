@@ -1,4 +1,4 @@
-use Rattle.std.proofs.Common.{◌≡◌, [], map, length, sym, ap, subst, ◌∙◌}
+use Rattle.std.proofs.Common.{[], map, length, sym, ap, subst, ◌∙◌}
 use Rattle.std.proofs.lemmas.List.{length-map}
 use Rattle.op_core.specs.Ids.{same_id}
 use Rattle.op_core.specs.Loops.Piles.{union_of, ArePiled}

@@ -32,12 +32,13 @@ leave_texts-requires c =
 
 pub invariant_of-result : goal.invariant_of-result
 invariant_of-result c =
-    let is = c.in_ok-pile.ensures.ok ∙ ap (λ (held : List Operation). join held c.in_ok-new.new.items) c.self.view_is in
-    (gathered_set c.args.self c.args.bundle.now c.in_ok-new.new.items c.in_ok-pile.pile c.in_ok-new.ensures.held
-    c.in_ok-new.ensures.set c.in_ok-new.ensures.agrees c.in_ok-new.ensures.ok is c.leave_texts.new.pile c.leave_texts.ensures,
-    gathered_legal c.args.self c.args.bundle.now c.in_ok-new.new.items c.in_ok-pile.pile c.in_ok-new.ensures.held
-    c.in_ok-new.ensures.set c.in_ok-new.ensures.agrees c.in_ok-new.ensures.ok is c.leave_texts.new.pile c.leave_texts.ensures
-    c.in_ok-new.ensures.held_legal c.in_ok-new.ensures.legal)
+    let is = c.in_ok-pile.ensures.ok ∙ ap (λ (held : List Operation). join held c.in_ok-new.new.items) c.self.view_is in (
+      gathered_set c.args.self c.args.bundle.now c.in_ok-new.new.items c.in_ok-pile.pile c.in_ok-new.ensures.held
+          c.in_ok-new.ensures.set c.in_ok-new.ensures.agrees c.in_ok-new.ensures.ok is c.leave_texts.new.pile c.leave_texts.ensures,
+      gathered_legal c.args.self c.args.bundle.now c.in_ok-new.new.items c.in_ok-pile.pile c.in_ok-new.ensures.held
+          c.in_ok-new.ensures.set c.in_ok-new.ensures.agrees c.in_ok-new.ensures.ok is c.leave_texts.new.pile c.leave_texts.ensures
+          c.in_ok-new.ensures.held_legal c.in_ok-new.ensures.legal,
+    )
 
 pub returns-clause-ok : goal.returns-clause-ok
 returns-clause-ok c =

@@ -1,4 +1,4 @@
-use Rattle.std.proofs.Common.{◌≡◌, refl}
+use Rattle.std.proofs.Common.{◌≡◌}
 use Rattle.op_core.specs.Lists.{is_held}
 use Rattle.bundle_codec.specs.Spelling.{bundle}
 use Rattle.replica_state.specs.World.{Bundles}

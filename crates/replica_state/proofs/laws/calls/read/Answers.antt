@@ -1,4 +1,3 @@
-use Rattle.std.proofs.Common.{◌≡◌}
 use Rattle.replica_state.proofs.World.Reads.{refuses_cut}
 use Rattle.replica_state.proofs.World.Sets.{hold_sets}
 use Rattle.replica_state.proofs.laws.calls.read.Goals as goal
