@@ -39,13 +39,13 @@ fn number_at(text: &[u8], letters: bool) -> Option<(u16, u8)> {
 pub fn key_at(text: &[u8], chapter: u16) -> Option<Key> {
     let is_name = |b: &&u8| b.is_ascii_alphanumeric() || matches!(**b, b'-' | b'_');
     let name = text.iter().take_while(is_name).count();
-    let behind = &text[name..];
-    if behind.first() == Some(&b'*') {
+    let after = &text[name..];
+    if after.first() == Some(&b'*') {
         return None;
     }
     match &text[..name] {
-        b"c" => number_at(behind, false).map(|(chapter, _)| Key { chapter, place: Place::Head }),
-        b"v" => number_at(behind, true).map(|(verse, letter)| Key { chapter, place: Place::Verse(verse, letter) }),
+        b"c" => number_at(after, false).map(|(chapter, _)| Key { chapter, place: Place::Head }),
+        b"v" => number_at(after, true).map(|(verse, letter)| Key { chapter, place: Place::Verse(verse, letter) }),
         _ => None,
     }
 }
@@ -65,15 +65,15 @@ pub fn code_of_head(text: &str) -> Option<&[u8]> {
 }
 
 /// Whether a book's code ends before these bytes.
-pub fn code_ends(behind: &[u8]) -> bool {
-    behind.first().is_none_or(|b| is_blank(*b) || *b == b'\\')
+pub fn code_ends(after: &[u8]) -> bool {
+    after.first().is_none_or(|b| is_blank(*b) || *b == b'\\')
 }
 
 /// Whether a text fits a key of a book.
 pub fn fits(book: &[u8], key: Key, text: &str) -> bool {
     if key == (Key { chapter: 0, place: Place::Head }) {
-        let behind = code_of_head(text).and_then(|code| code.strip_prefix(book));
-        return behind.is_some_and(code_ends) && is_quiet(text, key);
+        let after = code_of_head(text).and_then(|code| code.strip_prefix(book));
+        return after.is_some_and(code_ends) && is_quiet(text, key);
     }
     match text.as_bytes() {
         [] => true,

@@ -1,28 +1,90 @@
-//! Judging a bundle in plain Rust: what the plain programs of the benches of bundles have in common. Nothing is copied
-//! out of the bytes.
+//! Judging bundles of either format in plain Rust: what the plain programs that read operations have in common. What is
+//! handed on is lent by the bytes: nothing is copied out of them.
 
 #[path = "fitting.rs"]
-mod fitting;
+pub mod fitting;
 #[path = "reading.rs"]
 mod reading;
 
-use fitting::fits;
+use fitting::{Key, fits};
 pub use reading::{Fault, Reader};
 
-#[derive(Clone, Copy, PartialEq, Eq, PartialOrd, Ord)]
+pub const MAGIC: &[u8; 8] = b"USFMSR1\n";
+/// Of a bundle in which a text was left out.
+pub const SECOND_MAGIC: &[u8; 8] = b"USFMSR2\n";
+
+/// A book and a key, as they are spelled.
+pub type Segment = [u8; 9];
+
+#[derive(Clone, Copy, PartialEq, Eq, PartialOrd, Ord, Hash)]
 pub struct Id<'a> {
     pub number: u64,
     pub name: &'a [u8],
 }
 
-/// An operation's id, and the bytes that spell it.
-pub struct Entry<'a> {
+/// An operation of which all was judged. What is seldom asked is read again, so that many of them take little room.
+#[derive(Clone, Copy)]
+pub struct Op<'a> {
     pub id: Id<'a>,
+    /// All that spells it.
     pub bytes: &'a [u8],
+    /// How many of these come before the tag of the text.
+    head: usize,
 }
 
-fn at(number: u32, place: u64) -> Fault {
-    (number, place.to_string())
+impl<'a> Op<'a> {
+    /// What spells it after its id, without the text.
+    fn after_id(&self) -> &'a [u8] {
+        &self.head()[9 + self.id.name.len()..]
+    }
+
+    pub fn segment(&self) -> Segment {
+        self.after_id()[..9].try_into().unwrap()
+    }
+
+    /// What spells all but the text.
+    pub fn head(&self) -> &'a [u8] {
+        &self.bytes[..self.head]
+    }
+
+    /// None where it was left out.
+    pub fn text(&self) -> Option<&'a [u8]> {
+        self.bytes.get(self.head + 9..)
+    }
+
+    /// The ids that it names.
+    pub fn replaced(&self) -> impl Iterator<Item = Id<'a>> {
+        let mut rest = &self.after_id()[17..];
+        std::iter::from_fn(move || {
+            let (number, after) = rest.split_first_chunk()?;
+            let (length, after) = after.split_first()?;
+            let (name, after) = after.split_at((*length).into());
+            rest = after;
+            let number = u64::from_be_bytes(*number);
+            Some(Id { number, name })
+        })
+    }
+}
+
+/// An operation without a text, and whether one of its segment names it.
+struct LeftOut<'a> {
+    place: u64,
+    id: Id<'a>,
+    segment: Segment,
+    is_named: bool,
+}
+
+/// Adds the next operation of a bundle to those without a text, which rise by id.
+fn note<'a>(left_out: &mut Vec<LeftOut<'a>>, place: u64, op: &Op<'a>) {
+    for named in op.replaced() {
+        if let Ok(at) = left_out.binary_search_by(|one| one.id.cmp(&named)) {
+            left_out[at].is_named |= left_out[at].segment == op.segment();
+        }
+    }
+    if op.text().is_none() {
+        let (id, segment) = (op.id, op.segment());
+        left_out.push(LeftOut { place, id, segment, is_named: false });
+    }
 }
 
 impl<'a> Reader<'a> {
@@ -35,65 +97,86 @@ impl<'a> Reader<'a> {
         Ok(Id { number, name })
     }
 
-    fn book(&mut self, place: u64) -> Result<&'a [u8], Fault> {
-        let code = self.take(3)?;
-        if code.iter().all(|b| b.is_ascii_uppercase() || b.is_ascii_digit()) {
-            Ok(code)
-        } else {
-            Err(at(64, place))
-        }
-    }
-
-    fn replaced(&mut self, place: u64, own: Id<'a>) -> Result<(), Fault> {
+    fn replaced(&mut self, own: u64, bad: impl Fn() -> Fault + Copy) -> Result<(), Fault> {
         let mut before = None;
         for _ in 0..self.u64()? {
-            let id = self.id(|| at(65, place))?;
-            if before.is_some_and(|before| before >= id) || id.number >= own.number {
-                return Err(at(65, place));
+            let id = self.id(bad)?;
+            if id.number >= own || before.is_some_and(|before| before >= id) {
+                return Err(bad());
             }
             before = Some(id);
         }
         Ok(())
     }
 
-    fn operation(&mut self, place: u64, before: Option<Id<'a>>) -> Result<Entry<'a>, Fault> {
-        let start = self.rest;
-        let id = self.id(|| at(63, place))?;
-        if before.is_some_and(|before| before >= id) {
-            return Err(at(62, place));
-        }
-        let book = self.book(place)?;
-        let key = self.key(|| at(64, place))?;
-        self.replaced(place, id)?;
-        if self.u8()? != 1 {
-            return Err(at(66, place));
+    /// A text that fits, or none where it may be left out.
+    fn text(&mut self, book: &[u8; 3], key: Key, is_second: bool, told: impl Fn(u32) -> Fault) -> Result<(), Fault> {
+        match self.u8()? {
+            0 if is_second => return Ok(()),
+            1 => {}
+            _ => return Err(told(66)),
         }
         let length = self.u64()?;
-        let text = self.take(length)?;
-        let text = std::str::from_utf8(text).map_err(|_| at(67, place))?;
-        if !fits(book, key, text) {
-            return Err(at(68, place));
-        }
-        let bytes = &start[..start.len() - self.rest.len()];
-        Ok(Entry { id, bytes })
+        let text = std::str::from_utf8(self.take(length)?).map_err(|_| told(67))?;
+        if fits(book, key, text) { Ok(()) } else { Err(told(68)) }
     }
 
-    /// Judges the bundle at the front, and hands each operation on.
-    pub fn bundle(&mut self, mut each: impl FnMut(Entry<'a>)) -> Result<u64, Fault> {
+    fn operation<const SECOND: bool>(&mut self, place: u64, before: Option<Id<'a>>) -> Result<Op<'a>, Fault> {
+        let told = |number: u32| (number, format!(" {place}"));
+        let start = self.rest;
+        let id = self.id(|| told(63))?;
+        if before.is_some_and(|before| before >= id) {
+            return Err(told(62));
+        }
+        let book: [u8; 3] = self.take(3)?.try_into().unwrap();
+        if !book.iter().all(|b| b.is_ascii_uppercase() || b.is_ascii_digit()) {
+            return Err(told(64));
+        }
+        let key = self.key(|| told(64))?;
+        self.replaced(id.number, || told(65))?;
+        let head = start.len() - self.rest.len();
+        self.text(&book, key, SECOND, told)?;
+        let bytes = &start[..start.len() - self.rest.len()];
+        Ok(Op { id, bytes, head })
+    }
+
+    /// Reads which format a bundle has: whether it is the second.
+    fn is_second(&mut self) -> Result<bool, Fault> {
         let front = &self.rest[..self.rest.len().min(MAGIC.len())];
-        if !MAGIC.starts_with(front) {
+        if !MAGIC.starts_with(front) && !SECOND_MAGIC.starts_with(front) {
             return Err((60, String::new()));
         }
-        self.take(MAGIC.len() as u64)?;
+        Ok(self.take(MAGIC.len() as u64)? == SECOND_MAGIC)
+    }
+
+    /// The operations of a bundle of the first format, or of the second.
+    fn operations<const SECOND: bool>(&mut self, mut each: impl FnMut(u64, Op<'a>)) -> Result<u64, Fault> {
         let count = self.u64()?;
         let mut before = None;
         for place in 0..count {
-            let entry = self.operation(place + 1, before)?;
-            before = Some(entry.id);
-            each(entry);
+            let op = self.operation::<SECOND>(place + 1, before)?;
+            before = Some(op.id);
+            each(place + 1, op);
         }
         Ok(count)
     }
-}
 
-pub const MAGIC: &[u8] = b"USFMSR1\n";
+    /// Judges the bundle at the front, and hands on each operation as soon as it is judged. Answers how many there are.
+    pub fn bundle(&mut self, mut each: impl FnMut(Op<'a>)) -> Result<u64, Fault> {
+        if !self.is_second()? {
+            return self.operations::<false>(|_, op| each(op));
+        }
+        let mut left_out = Vec::new();
+        let count = self.operations::<true>(|place, op| {
+            note(&mut left_out, place, &op);
+            each(op);
+        })?;
+        if left_out.is_empty() {
+            return Err((69, " 0".to_owned()));
+        }
+        match left_out.iter().find(|one| !one.is_named) {
+            Some(one) => Err((69, format!(" {}", one.place))),
+            None => Ok(count),
+        }
+    }
+}

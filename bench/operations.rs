@@ -1,127 +1,102 @@
-//! Sets of operations in plain Rust: what the plain programs that hold operations have in common.
+//! Sets of operations in plain Rust: what the plain programs that hold operations have in common. The operations lend
+//! what the bundles have that they were read from.
 
-#[path = "fitting.rs"]
-pub mod fitting;
-#[path = "reading.rs"]
-mod reading;
+// No program uses all of it.
+#![allow(dead_code)]
 
-use fitting::{Key, Place, fits};
-pub use reading::{Fault, Reader};
+#[path = "judging.rs"]
+pub mod judging;
+
+pub use judging::{Fault, Id, Op, Reader, fitting};
+
+use fitting::{Key, Place};
+use judging::{MAGIC, SECOND_MAGIC};
 use std::borrow::Cow;
+use std::cmp::Ordering;
 use std::collections::{BTreeMap, BTreeSet, HashSet};
+use std::io::{self, Write};
 
-#[derive(Clone, PartialEq, Eq, PartialOrd, Ord, Hash)]
-pub struct Id {
-    pub number: u64,
-    pub name: Vec<u8>,
-}
-
-#[derive(PartialEq)]
-pub struct Op {
-    pub id: Id,
-    pub book: [u8; 3],
-    pub key: Key,
-    pub replaced: Vec<Id>,
-    pub text: String,
-}
-
-impl Reader<'_> {
-    fn id(&mut self, bad: impl Fn() -> Fault) -> Result<Id, Fault> {
-        let number = self.u64()?;
-        if !(1..=1_000_000_000_000_000).contains(&number) {
-            return Err(bad());
-        }
-        let name = self.name(bad)?.to_vec();
-        Ok(Id { number, name })
+impl<'a> Op<'a> {
+    pub fn book(&self) -> [u8; 3] {
+        let [one, two, three, ..] = self.segment();
+        [one, two, three]
     }
 
-    fn op(&mut self, at: u64, before: Option<&Id>) -> Result<Op, Fault> {
-        let told = |number: u32| (number, format!(" {at}"));
-        let id = self.id(|| told(63))?;
-        if before.is_some_and(|before| *before >= id) {
-            return Err(told(62));
-        }
-        let book: [u8; 3] = self.take(3)?.try_into().unwrap();
-        if !book.iter().all(|b| b.is_ascii_uppercase() || b.is_ascii_digit()) {
-            return Err(told(64));
-        }
-        let key = self.key(|| told(64))?;
-        let mut replaced: Vec<Id> = Vec::new();
-        for _ in 0..self.u64()? {
-            let named = self.id(|| told(65))?;
-            if named.number >= id.number || replaced.last().is_some_and(|last| *last >= named) {
-                return Err(told(65));
-            }
-            replaced.push(named);
-        }
-        if self.u8()? != 1 {
-            return Err(told(66));
-        }
-        let length = self.u64()?;
-        let text = std::str::from_utf8(self.take(length)?).map_err(|_| told(67))?;
-        if !fits(&book, key, text) {
-            return Err(told(68));
-        }
-        Ok(Op {
-            id,
-            book,
-            key,
-            replaced,
-            text: text.to_owned(),
-        })
+    pub fn key(&self) -> Key {
+        let [_, _, _, high, low, kind, verse_high, verse_low, letter] = self.segment();
+        let chapter = u16::from_be_bytes([high, low]);
+        let verse = u16::from_be_bytes([verse_high, verse_low]);
+        let place = if kind == 0 { Place::Head } else { Place::Verse(verse, letter) };
+        Key { chapter, place }
     }
 
-    /// The bundle at the front.
-    pub fn bundle(&mut self) -> Result<Vec<Op>, Fault> {
-        for wanted in *b"USFMSR1\n" {
-            if self.u8()? != wanted {
-                return Err((60, String::new()));
-            }
-        }
-        let mut ops: Vec<Op> = Vec::new();
-        for at in 1..=self.u64()? {
-            let op = self.op(at, ops.last().map(|op| &op.id))?;
-            ops.push(op);
-        }
-        Ok(ops)
-    }
-}
-
-/// The union of two lists that rise by id.
-pub fn join(held: Vec<Op>, other: Vec<Op>) -> Result<Vec<Op>, Fault> {
-    let mut both = Vec::with_capacity(held.len() + other.len());
-    let mut held = held.into_iter().peekable();
-    let mut other = other.into_iter().peekable();
-    loop {
-        let order = match (held.peek(), other.peek()) {
-            (None, None) => return Ok(both),
-            (Some(_), None) => std::cmp::Ordering::Less,
-            (None, Some(_)) => std::cmp::Ordering::Greater,
-            (Some(x), Some(y)) => x.id.cmp(&y.id),
-        };
-        match order {
-            std::cmp::Ordering::Less => both.extend(held.next()),
-            std::cmp::Ordering::Greater => both.extend(other.next()),
-            std::cmp::Ordering::Equal => {
-                if held.peek() != other.peek() {
-                    let id = &held.peek().unwrap().id;
-                    return Err((51, format!(" {} {}", id.number, String::from_utf8_lossy(&id.name))));
-                }
-                other.next();
-                both.extend(held.next());
-            }
+    /// The one of two operations of one id that stands for both: the one without a text, if there is one.
+    pub fn meet(self, other: Op<'a>) -> Result<Op<'a>, Fault> {
+        let is_left_out = self.text().is_none() || other.text().is_none();
+        if self.bytes == other.bytes || is_left_out && self.head() == other.head() {
+            Ok(if other.text().is_none() { other } else { self })
+        } else {
+            Err((51, format!(" {} {}", self.id.number, String::from_utf8_lossy(self.id.name))))
         }
     }
 }
 
-/// The operations of a book that each segment shows, rising by id.
-pub fn shown_in(ops: &[Op], book: [u8; 3]) -> BTreeMap<Key, Vec<&Op>> {
-    let mut segments: BTreeMap<Key, Vec<&Op>> = BTreeMap::new();
-    for op in ops.iter().filter(|op| op.book == book) {
-        segments.entry(op.key).or_default().push(op);
+impl<'a> Reader<'a> {
+    /// Judges a bundle that nothing follows, and hands on each operation.
+    pub fn whole_bundle(mut self, each: impl FnMut(Op<'a>)) -> Result<u64, Fault> {
+        let count = self.bundle(each)?;
+        if self.rest.is_empty() { Ok(count) } else { Err((70, String::new())) }
     }
-    for ops in segments.values_mut() {
-        let replaced: HashSet<&Id> = ops.iter().flat_map(|op| &op.replaced).collect();
+}
+
+/// The operations of a bundle that nothing follows.
+pub fn whole_bundle(bytes: &[u8]) -> Result<Vec<Op<'_>>, Fault> {
+    let mut ops = Vec::new();
+    Reader { rest: bytes }.whole_bundle(|op| ops.push(op))?;
+    Ok(ops)
+}
+
+/// Hands on the union of two lists that rise by id.
+pub fn join<'a>(held: &[Op<'a>], other: &[Op<'a>], mut each: impl FnMut(Op<'a>)) -> Result<(), Fault> {
+    let (mut i, mut j) = (0, 0);
+    while i < held.len() && j < other.len() {
+        let order = held[i].id.cmp(&other[j].id);
+        each(match order {
+            Ordering::Less => held[i],
+            Ordering::Greater => other[j],
+            Ordering::Equal => held[i].meet(other[j])?,
+        });
+        i += usize::from(order.is_le());
+        j += usize::from(order.is_ge());
+    }
+    held[i..].iter().chain(&other[j..]).for_each(|op| each(*op));
+    Ok(())
+}
+
+/// Writes the front of a bundle.
+pub fn write_front(out: &mut impl Write, is_second: bool, count: u64) -> io::Result<()> {
+    out.write_all(if is_second { SECOND_MAGIC } else { MAGIC })?;
+    out.write_all(&count.to_be_bytes())
+}
+
+pub fn left_out(ops: &[Op]) -> usize {
+    ops.iter().filter(|op| op.text().is_none()).count()
+}
+
+/// Writes the bundle of operations that rise by id.
+pub fn write_bundle(out: &mut impl Write, ops: &[Op]) -> io::Result<()> {
+    write_front(out, left_out(ops) > 0, ops.len() as u64)?;
+    ops.iter().try_for_each(|op| out.write_all(op.bytes))
+}
+
+/// Of the operations of a book, which rise by id, those that each segment shows.
+pub fn shown_in<'a>(ops: impl IntoIterator<Item = Op<'a>>) -> BTreeMap<Key, Vec<Op<'a>>> {
+    let mut segments: BTreeMap<Key, Vec<Op>> = BTreeMap::new();
+    for op in ops {
+        segments.entry(op.key()).or_default().push(op);
+    }
+    for ops in segments.values_mut().filter(|ops| ops.len() > 1) {
+        let replaced: HashSet<Id> = ops.iter().flat_map(Op::replaced).collect();
         ops.retain(|op| !replaced.contains(&op.id));
     }
     segments
@@ -129,11 +104,11 @@ pub fn shown_in(ops: &[Op], book: [u8; 3]) -> BTreeMap<Key, Vec<&Op>> {
 
 /// The picked text of each segment of a book, out of what it shows. A chapter with a verse has its line, where no text
 /// of its head is picked.
-pub fn picked<'a>(shown: &BTreeMap<Key, Vec<&'a Op>>) -> BTreeMap<Key, Cow<'a, str>> {
+pub fn picked<'a>(shown: &BTreeMap<Key, Vec<Op<'a>>>) -> BTreeMap<Key, Cow<'a, [u8]>> {
     let mut texts = BTreeMap::new();
     let mut with_verses = BTreeSet::new();
     for (key, ops) in shown {
-        let text = ops.last().map_or("", |op| &op.text);
+        let text = ops.last().and_then(Op::text).unwrap_or(b"");
         if key.place != Place::Head && !text.is_empty() {
             with_verses.insert(key.chapter);
         }
@@ -144,17 +119,17 @@ pub fn picked<'a>(shown: &BTreeMap<Key, Vec<&'a Op>>) -> BTreeMap<Key, Cow<'a, s
         let place = Place::Head;
         let head = texts.entry(Key { chapter, place }).or_default();
         if head.is_empty() {
-            *head = Cow::Owned(format!("\\c {chapter}\n"));
+            *head = Cow::Owned(format!("\\c {chapter}\n").into_bytes());
         }
     }
     texts
 }
 
-/// The text of a book: what is picked, by rising key.
-pub fn export(ops: &[Op], book: [u8; 3]) -> Result<String, Fault> {
-    let shown = shown_in(ops, book);
+/// The text of a book, of operations that rise by id: what is picked, by rising key.
+pub fn export<'a>(ops: impl IntoIterator<Item = Op<'a>>) -> Result<Vec<u8>, Fault> {
+    let shown = shown_in(ops);
     if shown.is_empty() {
         return Err((82, String::new()));
     }
-    Ok(picked(&shown).into_values().collect())
+    Ok(picked(&shown).into_values().collect::<Vec<_>>().concat())
 }

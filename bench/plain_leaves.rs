@@ -126,7 +126,7 @@ fn number_at(bytes: &[u8], lettered: bool) -> Option<(u16, u8, usize)> {
 }
 
 // The number after blanks, and the length of all with a bridge.
-fn number_behind(text: &str, lettered: bool) -> Option<(u16, u8, usize)> {
+fn number_after(text: &str, lettered: bool) -> Option<(u16, u8, usize)> {
     let bytes = text.as_bytes();
     let blanks = bytes.iter().take_while(|b| is_blank(**b)).count();
     if blanks == 0 {
@@ -187,11 +187,11 @@ impl<'a, 's, F: FnMut(usize, &'a str, Key)> Walk<'a, 's, F> {
 
     fn take_key(&mut self, mark: &Mark<'_>, rest: &str) -> usize {
         if mark.slice == "\\c" {
-            if let Some((chapter, _, _)) = number_behind(rest, false) {
+            if let Some((chapter, _, _)) = number_after(rest, false) {
                 self.key = self.key.max((chapter, 0, 0));
             }
         } else if mark.slice == "\\v" {
-            if let Some((verse, letter, length)) = number_behind(rest, true) {
+            if let Some((verse, letter, length)) = number_after(rest, true) {
                 self.key = self.key.max((self.key.0, verse + 1, letter));
                 return length;
             }

@@ -1,4 +1,4 @@
-//! Reading the fields of bundles in plain Rust: what judging them in place and copying them out have in common.
+//! Reading the fields of bundles in plain Rust, each judged when it is read.
 
 use super::fitting::{Key, Place};
 

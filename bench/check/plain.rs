@@ -70,7 +70,7 @@ fn number(bytes: &[u8], lettered: bool) -> Option<(Verse, &[u8])> {
     ends.then_some(((number, letter), rest))
 }
 
-fn number_behind(after: &str, lettered: bool) -> Option<(Verse, &[u8])> {
+fn number_after(after: &str, lettered: bool) -> Option<(Verse, &[u8])> {
     let bytes = after.as_bytes();
     let blanks = bytes.iter().take_while(|b| is_blank(**b)).count();
     if blanks == 0 { None } else { number(&bytes[blanks..], lettered) }
@@ -114,7 +114,7 @@ impl<'a> Checker<'a, '_> {
         let (mut number, mut verse, mut key) = (false, None, None);
         if !mark.nested && !mark.closing && (mark.name == "c" || mark.name == "v") {
             number = true;
-            let read = number_behind(after, mark.name == "v");
+            let read = number_after(after, mark.name == "v");
             if mark.name == "c" {
                 key = read.map(|(n, _)| Key { chapter: n.0, verse: None });
             } else if let Some((own, rest)) = read {

@@ -21,10 +21,10 @@ fn main() -> ExitCode {
     for _ in 0..rounds {
         let start = Instant::now();
         let mut length = MAGIC.len() + 8;
-        let count = match (Reader { rest: &bytes }).bundle(|entry| length += entry.bytes.len()) {
+        let count = match (Reader { rest: &bytes }).bundle(|op| length += op.bytes.len()) {
             Ok(count) => count,
             Err((number, details)) => {
-                eprintln!("fault {number} {details}");
+                eprintln!("fault {number}{details}");
                 return ExitCode::FAILURE;
             }
         };

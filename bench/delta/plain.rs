@@ -14,7 +14,7 @@ use std::fs;
 use std::hint::black_box;
 use std::time::{Duration, Instant};
 
-fn holding(bundles: &[&[u8]]) -> Held {
+fn holding<'a>(bundles: &[&'a [u8]]) -> Held<'a> {
     let mut held = Held::default();
     for bundle in bundles {
         held.receive(bundle).expect("a bundle");

@@ -1,13 +1,13 @@
 //! The jobs of bench.rt.txt in plain Rust, to be measured against: sets of operations with what each segment shows,
-//! made by single inserts and joined.
+//! made by single inserts and joined. Names and texts are lent by whoever makes an operation.
 
 use std::collections::{BTreeMap, HashMap, HashSet};
 use std::time::{Duration, Instant};
 
-#[derive(Clone, PartialEq, Eq, PartialOrd, Ord, Hash)]
+#[derive(Clone, Copy, PartialEq, Eq, PartialOrd, Ord, Hash)]
 struct Id {
     number: u64,
-    name: Vec<u8>,
+    name: &'static [u8],
 }
 
 type Segment = ([u8; 3], u16, u16);
@@ -17,7 +17,7 @@ struct Op {
     id: Id,
     segment: Segment,
     replaced: Vec<Id>,
-    text: String,
+    text: &'static str,
 }
 
 /// What a segment shows, and what was named in it before it came.
@@ -43,14 +43,14 @@ impl Set {
         for named in &op.replaced {
             register.shown.retain(|id| id != named);
             if !self.ops.contains_key(named) {
-                register.named.insert(named.clone());
+                register.named.insert(*named);
             }
         }
         if !register.named.remove(&op.id) {
             let at = register.shown.partition_point(|id| *id < op.id);
-            register.shown.insert(at, op.id.clone());
+            register.shown.insert(at, op.id);
         }
-        self.ops.insert(op.id.clone(), op);
+        self.ops.insert(op.id, op);
     }
 
     fn join(&mut self, other: Set) {
@@ -72,7 +72,7 @@ const BOOKS: [&str; 8] = ["MAT", "MRK", "LUK", "JHN", "ACT", "ROM", "1CO", "2CO"
 const NAMES: [&str; 4] = ["ana", "ben", "cy", "dan-2"];
 
 fn id_of(number: u64) -> Id {
-    let name = NAMES[(number % 4) as usize].as_bytes().to_vec();
+    let name = NAMES[(number % 4) as usize].as_bytes();
     Id { number, name }
 }
 
@@ -83,7 +83,7 @@ fn op_of(number: u64, at: u64, places: u64, before: u64) -> Op {
         id: id_of(number),
         segment: (book, (in_book / 40 % 999) as u16, (in_book % 40) as u16),
         replaced: (before > 0).then(|| id_of(before)).into_iter().collect(),
-        text: String::new(),
+        text: "",
     }
 }
 

@@ -1,53 +1,33 @@
 //! The job of `bundle_codec::join_bundles` in plain Rust, to be measured against: judges two bundles, and writes the
-//! bundle of their union.
+//! bundle of their union out of the bytes that spell its operations.
 //!
 //! `plain FIRST SECOND ROUNDS` prints the least time of a round in nanoseconds, and the length and a sum of the joined
 //! bytes. Built by `rustc -O`, without crates.
 
-#[path = "../judging.rs"]
-mod judging;
+#[path = "../operations.rs"]
+mod operations;
 
-use judging::{Entry, Fault, MAGIC, Reader};
-use std::cmp::Ordering;
+use operations::{Fault, join, whole_bundle, write_front};
 use std::env;
 use std::fs;
 use std::process::ExitCode;
 use std::time::{Duration, Instant};
 
-fn whole(bytes: &[u8]) -> Result<Vec<Entry<'_>>, Fault> {
-    let mut reader = Reader { rest: bytes };
-    let mut entries = Vec::new();
-    reader.bundle(|entry| entries.push(entry))?;
-    if !reader.rest.is_empty() {
-        return Err((70, String::new()));
-    }
-    Ok(entries)
-}
+const FRONT: usize = 16;
 
-fn join(first: &[u8], second: &[u8]) -> Result<Vec<u8>, Fault> {
-    let left = whole(first)?;
-    let right = whole(second)?;
+fn join_bundles(first: &[u8], second: &[u8]) -> Result<Vec<u8>, Fault> {
+    let left = whole_bundle(first)?;
+    let right = whole_bundle(second)?;
     let mut bytes = Vec::with_capacity(first.len() + second.len());
-    bytes.extend_from_slice(MAGIC);
-    bytes.extend_from_slice(&[0; 8]);
-    let mut count = 0u64;
-    let (mut i, mut j) = (0, 0);
-    while i < left.len() || j < right.len() {
-        let order = match (left.get(i), right.get(j)) {
-            (Some(x), Some(y)) => x.id.cmp(&y.id),
-            (Some(_), None) => Ordering::Less,
-            (None, _) => Ordering::Greater,
-        };
-        if order == Ordering::Equal && left[i].bytes != right[j].bytes {
-            let name = String::from_utf8_lossy(left[i].id.name);
-            return Err((51, format!("{} {name}", left[i].id.number)));
-        }
-        bytes.extend_from_slice(if order.is_le() { left[i].bytes } else { right[j].bytes });
-        i += usize::from(order.is_le());
-        j += usize::from(order.is_ge());
+    bytes.extend_from_slice(&[0; FRONT]);
+    let mut count = 0;
+    let mut is_second = false;
+    join(&left, &right, |op| {
+        bytes.extend_from_slice(op.bytes);
         count += 1;
-    }
-    bytes[8..16].copy_from_slice(&count.to_be_bytes());
+        is_second |= op.text().is_none();
+    })?;
+    write_front(&mut &mut bytes[..FRONT], is_second, count).expect("room");
     Ok(bytes)
 }
 
@@ -60,10 +40,10 @@ fn main() -> ExitCode {
     let (mut length, mut sum) = (0, 0u64);
     for _ in 0..rounds {
         let start = Instant::now();
-        let joined = match join(&first, &second) {
+        let joined = match join_bundles(&first, &second) {
             Ok(joined) => joined,
             Err((number, details)) => {
-                eprintln!("fault {number} {details}");
+                eprintln!("fault {number}{details}");
                 return ExitCode::FAILURE;
             }
         };

@@ -1,5 +1,7 @@
 //! The jobs of `usfm_team` on a project in plain Rust, to be measured against: loads the project's file, imports a book
-//! into it, receives a bundle or exports a book, and writes the file anew where it was changed.
+//! into it, receives a bundle or exports a book, and writes the file anew where it was changed. Names and texts are
+//! lent by the files that were read. All operations are judged, and an import or an export then leaves those of other
+//! books alone; a receive joins the bytes of the operations.
 //!
 //! `plain import PROJECT FILE`, `plain receive PROJECT BUNDLE`, `plain export PROJECT BOOK`. Beside these, `plain load
 //! PROJECT` only loads, and `plain index PROJECT` then makes a register of what each segment shows, as a replica that
@@ -8,38 +10,28 @@
 
 #[path = "../operations.rs"]
 mod operations;
-#[path = "../writing.rs"]
-mod writing;
+#[path = "../projects.rs"]
+mod projects;
 
 use operations::fitting::{Key, Place, code_ends, code_of_head, key_at};
-use operations::{Fault, Id, Op, Reader, export, join, picked, shown_in};
+use operations::{Fault, Id, Op, export, picked, shown_in, whole_bundle};
+use projects::{Project, answer, fault, read, receive};
 use std::collections::{BTreeMap, BTreeSet, HashMap};
-use std::fs;
 use std::io::{self, Write};
 use std::process::ExitCode;
-use writing::{answer, replace, write_id, write_name, write_replaced, write_segment, write_text};
-
-const MAGIC: &[u8] = b"USFMPJ1\n";
 
 const GREATEST_NUMBER: u64 = 1_000_000_000_000_000;
 
-const LONGEST_FILE: usize = 268_435_456;
-
-fn fault(number: u32) -> Fault {
-    (number, String::new())
+/// The text of a file, and the code of the book that it begins with.
+fn book_in(file: &[u8]) -> Result<([u8; 3], &str), Fault> {
+    let text = std::str::from_utf8(file).map_err(|error| (10, format!(" {}", error.valid_up_to())))?;
+    Ok((book_of(text)?, text))
 }
 
-fn whole_bundle(bytes: &[u8]) -> Result<Vec<Op>, Fault> {
-    let mut reader = Reader { rest: bytes };
-    let ops = reader.bundle()?;
-    if reader.rest.is_empty() { Ok(ops) } else { Err(fault(70)) }
-}
-
-/// The code of the book that a text begins with.
 fn book_of(text: &str) -> Result<[u8; 3], Fault> {
     let code = code_of_head(text).ok_or(fault(30))?;
-    let (book, behind) = code.split_first_chunk().ok_or(fault(20))?;
-    if code_ends(behind) && book.iter().all(|b| b.is_ascii_uppercase() || b.is_ascii_digit()) {
+    let (book, after) = code.split_first_chunk().ok_or(fault(20))?;
+    if code_ends(after) && book.iter().all(|b| b.is_ascii_uppercase() || b.is_ascii_digit()) {
         Ok(*book)
     } else {
         Err(fault(20))
@@ -70,15 +62,15 @@ fn cut(text: &str) -> BTreeMap<Key, &str> {
 /// A text for a segment, and the ids that it shows.
 struct Change<'a> {
     key: Key,
-    replaced: Vec<Id>,
+    replaced: Vec<Id<'a>>,
     text: &'a str,
 }
 
 /// What makes the text of a book the one of these pieces: a change at each key whose picked text is another. A head
 /// without a text of its own, which is picked as its chapter's line, is changed too where there is no verse that would
 /// go on giving it that line.
-fn changes<'a>(ops: &[Op], book: [u8; 3], pieces: &BTreeMap<Key, &'a str>) -> Vec<Change<'a>> {
-    let shown = shown_in(ops, book);
+fn changes<'a>(ops: Vec<Op<'a>>, pieces: &BTreeMap<Key, &'a str>) -> Vec<Change<'a>> {
+    let shown = shown_in(ops);
     let picked = picked(&shown);
     let verses = pieces.keys().filter(|key| key.place != Place::Head);
     let with_verses: BTreeSet<u16> = verses.map(|key| key.chapter).collect();
@@ -86,141 +78,118 @@ fn changes<'a>(ops: &[Op], book: [u8; 3], pieces: &BTreeMap<Key, &'a str>) -> Ve
     let mut changes = Vec::new();
     for key in keys {
         let text = pieces.get(&key).copied().unwrap_or("");
-        let before = picked.get(&key).map_or("", |text| text);
+        let before = picked.get(&key).map_or(&b""[..], |text| text);
         let held = shown.get(&key).map_or(&[][..], |ops| ops);
-        let has_text = held.last().is_some_and(|op| !op.text.is_empty());
-        if text != before || !(text.is_empty() || has_text || with_verses.contains(&key.chapter)) {
-            let replaced = held.iter().map(|op| op.id.clone()).collect();
+        let has_text = held.last().and_then(Op::text).is_some_and(|text| !text.is_empty());
+        if text.as_bytes() != before || !(text.is_empty() || has_text || with_verses.contains(&key.chapter)) {
+            let replaced = held.iter().map(|op| op.id).collect();
             changes.push(Change { key, replaced, text });
         }
     }
     changes
 }
 
-struct Project {
-    name: Vec<u8>,
-    ops: Vec<Op>,
-}
-
-impl Project {
-    fn load(bytes: &[u8]) -> Result<Project, Fault> {
-        let rest = bytes.strip_prefix(MAGIC).ok_or(fault(110))?;
-        let mut reader = Reader { rest };
-        let name = reader.name(|| fault(110)).map_err(|_| fault(110))?;
-        let ops = whole_bundle(reader.rest)?;
-        Ok(Project { name: name.to_vec(), ops })
-    }
-
-    /// Makes the text of a book this one, by an operation for each change. Answers how many were made.
-    fn import(&mut self, file: &[u8]) -> Result<usize, Fault> {
-        let text = std::str::from_utf8(file).map_err(|error| (10, format!(" {}", error.valid_up_to())))?;
-        let book = book_of(text)?;
-        let changes = changes(&self.ops, book, &cut(text));
-        let count = changes.len();
-        let last = self.ops.last().map_or(0, |op| op.id.number);
-        if last + count as u64 > GREATEST_NUMBER {
-            return Err(fault(81));
-        }
-        self.ops.extend((last + 1..).zip(changes).map(|(number, change)| Op {
-            id: Id { number, name: self.name.clone() },
-            book,
-            key: change.key,
-            replaced: change.replaced,
-            text: change.text.to_owned(),
-        }));
-        Ok(count)
-    }
-
-    /// Joins the operations of a bundle, and answers how many were new.
-    fn receive(&mut self, bundle: &[u8]) -> Result<usize, Fault> {
-        let other = whole_bundle(bundle)?;
-        let before = self.ops.len();
-        self.ops = join(std::mem::take(&mut self.ops), other)?;
-        Ok(self.ops.len() - before)
-    }
-
-    fn write(&self, out: &mut impl Write) -> io::Result<()> {
-        out.write_all(MAGIC)?;
-        write_name(out, &self.name)?;
-        out.write_all(b"USFMSR1\n")?;
-        out.write_all(&(self.ops.len() as u64).to_be_bytes())?;
-        self.ops.iter().try_for_each(|op| write_op(out, op))
-    }
-
-    /// Saves the project where operations are new.
-    fn save_new(&self, path: &str, count: usize) -> Result<(), Fault> {
-        if count == 0 {
-            return Ok(());
-        }
-        replace(path, |out| self.write(out)).map_err(|_| fault(130))
-    }
-
-    /// How many ids are shown, counted in a register for each segment.
-    fn index(&self) -> usize {
-        let mut registers: HashMap<([u8; 3], Key), Vec<&Id>> = HashMap::new();
-        for op in &self.ops {
-            let shown = registers.entry((op.book, op.key)).or_default();
-            shown.retain(|id| !op.replaced.contains(id));
-            shown.push(&op.id);
-        }
-        registers.values().map(Vec::len).sum()
-    }
-}
-
-fn parts(id: &Id) -> (u64, &[u8]) {
-    (id.number, &id.name)
-}
-
-fn write_op(out: &mut impl Write, op: &Op) -> io::Result<()> {
-    write_id(out, parts(&op.id))?;
-    write_segment(out, &op.book, op.key)?;
-    write_replaced(out, op.replaced.iter().map(parts))?;
-    write_text(out, Some(&op.text))
-}
-
-fn read(path: &str) -> Result<Vec<u8>, Fault> {
-    let bytes = fs::read(path).map_err(|_| fault(120))?;
-    if bytes.len() > LONGEST_FILE { Err(fault(121)) } else { Ok(bytes) }
-}
-
-/// What a line of words writes, or none where it asks for nothing that is known.
-fn run(words: &[&str]) -> Option<Result<String, Fault>> {
-    match *words {
-        ["import", project, file] => Some(import(project, file)),
-        ["receive", project, bundle] => Some(receive(project, bundle)),
-        ["export", project, book] => {
-            let book = book.as_bytes().try_into().ok()?;
-            Some(load(project).and_then(|project| export(&project.ops, book)))
-        }
-        ["load", project] => Some(load(project).map(|project| format!("{}\n", project.ops.len()))),
-        ["index", project] => Some(load(project).map(|project| format!("{}\n", project.index()))),
-        _ => None,
-    }
-}
-
-fn load(path: &str) -> Result<Project, Fault> {
-    Project::load(&read(path)?)
-}
-
-/// A project, and another file, which is read before the project is judged.
-fn load_with(path: &str, file: &str) -> Result<(Project, Vec<u8>), Fault> {
+/// Makes the text of a book the one of a file, by an operation for each change, after all that the project holds.
+fn import(path: &str, file: &str) -> Result<String, Fault> {
     let bytes = read(path)?;
     let file = read(file)?;
-    Ok((Project::load(&bytes)?, file))
-}
-
-fn import(path: &str, file: &str) -> Result<String, Fault> {
-    let (mut project, file) = load_with(path, file)?;
-    let count = project.import(&file)?;
-    project.save_new(path, count)?;
+    let project = Project::new(&bytes)?;
+    let read = book_in(&file);
+    let book = read.as_ref().ok().map(|(book, _)| *book);
+    let mut ops = Vec::new();
+    let mut last = 0;
+    let held = project.judge(|op| {
+        last = op.id.number;
+        if Some(op.book()) == book {
+            ops.push(op);
+        }
+    })?;
+    let (book, text) = read?;
+    let changes = changes(ops, &cut(text));
+    let count = changes.len() as u64;
+    if last + count > GREATEST_NUMBER {
+        return Err(fault(81));
+    }
+    if count > 0 {
+        let (magic, rest) = project.bundle.split_at(8);
+        project.replace(path, |out| {
+            out.write_all(magic)?;
+            out.write_all(&(held + count).to_be_bytes())?;
+            out.write_all(&rest[8..])?;
+            let mut made = (last + 1..).map(|number| Id { number, name: project.name }).zip(&changes);
+            made.try_for_each(|(id, change)| write_change(out, id, book, change))
+        })?;
+    }
     Ok(format!("added {count}\n"))
 }
 
-fn receive(path: &str, bundle: &str) -> Result<String, Fault> {
-    let (mut project, bundle) = load_with(path, bundle)?;
-    let count = project.receive(&bundle)?;
-    project.save_new(path, count)?;
-    Ok(format!("new {count}\n"))
+fn write_id(out: &mut impl Write, id: Id<'_>) -> io::Result<()> {
+    out.write_all(&id.number.to_be_bytes())?;
+    out.write_all(&[id.name.len() as u8])?;
+    out.write_all(id.name)
+}
+
+fn write_change(out: &mut impl Write, id: Id<'_>, book: [u8; 3], change: &Change<'_>) -> io::Result<()> {
+    write_id(out, id)?;
+    out.write_all(&book)?;
+    write_key(out, change.key)?;
+    out.write_all(&(change.replaced.len() as u64).to_be_bytes())?;
+    change.replaced.iter().try_for_each(|id| write_id(out, *id))?;
+    out.write_all(&[1])?;
+    out.write_all(&(change.text.len() as u64).to_be_bytes())?;
+    out.write_all(change.text.as_bytes())
+}
+
+fn write_key(out: &mut impl Write, key: Key) -> io::Result<()> {
+    let (kind, verse, letter) = match key.place {
+        Place::Head => (0, 0, 0),
+        Place::Verse(verse, letter) => (1, verse, letter),
+    };
+    out.write_all(&key.chapter.to_be_bytes())?;
+    out.write_all(&[kind])?;
+    out.write_all(&verse.to_be_bytes())?;
+    out.write_all(&[letter])
+}
+
+fn export_book(path: &str, book: [u8; 3]) -> Result<Vec<u8>, Fault> {
+    let bytes = read(path)?;
+    let mut ops = Vec::new();
+    Project::new(&bytes)?.judge(|op| {
+        if op.book() == book {
+            ops.push(op);
+        }
+    })?;
+    export(ops)
+}
+
+/// How many ids are shown, counted in a register for each segment.
+fn shown_ids(ops: &[Op]) -> usize {
+    let mut registers: HashMap<_, Vec<Id>> = HashMap::new();
+    for op in ops {
+        let shown = registers.entry(op.segment()).or_default();
+        shown.retain(|id| op.replaced().all(|named| named != *id));
+        shown.push(op.id);
+    }
+    registers.values().map(Vec::len).sum()
+}
+
+/// Counts in the operations of a project.
+fn counted(path: &str, count: impl Fn(&[Op]) -> usize) -> Result<Vec<u8>, Fault> {
+    let bytes = read(path)?;
+    let ops = whole_bundle(Project::new(&bytes)?.bundle)?;
+    Ok(format!("{}\n", count(&ops)).into_bytes())
+}
+
+/// What a line of words writes, or none where it asks for nothing that is known.
+fn run(words: &[&str]) -> Option<Result<Vec<u8>, Fault>> {
+    match *words {
+        ["import", project, file] => Some(import(project, file).map(String::into_bytes)),
+        ["receive", project, bundle] => Some(receive(project, bundle).map(String::into_bytes)),
+        ["export", project, book] => Some(export_book(project, book.as_bytes().try_into().ok()?)),
+        ["load", project] => Some(counted(project, |ops| ops.len())),
+        ["index", project] => Some(counted(project, shown_ids)),
+        _ => None,
+    }
 }
 
 fn main() -> io::Result<ExitCode> {

@@ -5,14 +5,16 @@
 
 The plain program is built here by `rustc -O`, the files are those of generate.py: a book of about 1,000 verses is
 imported into a project of 66 books, a bundle of 100 operations is received by it, and a book is exported from it. Each
-job runs several times on a fresh copy of the project. The table has the least wall time, the least time of the processor,
-which other work disturbs less, and the peak of resident memory of one more run below `/usr/bin/time`: a child of this
-script would begin with the script's own. The files lie in /dev/shm where it is there, so that no disk is measured.
+job runs several times on a fresh copy of the project. The table has the least wall time, the least time of the
+processor, which other work disturbs less, and the peak of resident memory of one more run below `/usr/bin/time`: a
+child of this script would begin with the script's own. The files lie in /dev/shm where it is there, so that no disk is
+measured.
 
-The plain program looks at the segments of one book alone. What an index of all segments takes is measured apart, as
-the plain program's `index` without its `load`, and each quotient of times is there a second time with that added to the
-plain program. The exit status is 1 where the two programs write different outputs or projects, or where a book that was
-imported is not exported again byte for byte.
+The plain program lends names and texts from the files that it read. For an import or an export it looks at the segments
+of one book alone, and for a receive at none: it joins the bytes of the operations. What an index of all segments takes
+is measured apart, as the plain program's `index` without its `load`, and each quotient of times is there a second time
+with that added to the plain program. The exit status is 1 where the two programs write different outputs or projects,
+or where a book that was imported is not exported again byte for byte.
 """
 import os
 import subprocess

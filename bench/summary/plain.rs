@@ -7,11 +7,27 @@
 #[path = "../held.rs"]
 mod held;
 
-use held::{Held, sum_of, summary_bytes};
+use held::{Held, Summary, sum_of};
 use std::env;
 use std::fs;
 use std::hint::black_box;
 use std::time::{Duration, Instant};
+
+/// The bytes of a summary.
+fn summary_bytes(summary: &Summary<'_>) -> Vec<u8> {
+    let mut bytes = b"USFMSS1\n".to_vec();
+    bytes.extend((summary.len() as u64).to_be_bytes());
+    for (name, ranges) in summary {
+        bytes.push(name.len() as u8);
+        bytes.extend_from_slice(name);
+        bytes.extend((ranges.len() as u64).to_be_bytes());
+        for (first, last) in ranges {
+            bytes.extend(first.to_be_bytes());
+            bytes.extend(last.to_be_bytes());
+        }
+    }
+    bytes
+}
 
 fn main() {
     let words: Vec<String> = env::args().collect();

@@ -3,12 +3,13 @@
 
     run.py [PROGRAM]      by default the program that `./usfm_team` builds
 
-The files are those of generate.py: a project of 100,000 operations, half of them replaced. The job `thin` leaves out the
-replaced texts; `receive` takes in the bundle of another copy that did; `send` writes all operations of the thinned
-project. Told are the least wall time, the least time of the processor and the peak of resident memory of several runs,
-and the bytes of the project's file before and after the thinning. The files lie in /dev/shm where it is there, so that no
-disk is measured. The exit status is 1 where the two programs write different outputs or projects, or where the thinned
-project is not the one that receives the thinned bundle.
+The files are those of generate.py: a project of 100,000 operations, half of them replaced. The job `thin` leaves out
+the replaced texts; `receive` takes in the bundle of another copy that did; `send` writes all operations of the thinned
+project. The plain program lends texts from the files that it read and writes operations by their bytes, to `send` those
+of the project's bundle as they are, once they are judged. Told are the least wall time, the least time of the processor
+and the peak of resident memory of several runs, and the bytes of the project's file before and after the thinning. The
+files lie in /dev/shm where it is there, so that no disk is measured. The exit status is 1 where the two programs write
+different outputs or projects, or where the thinned project is not the one that receives the thinned bundle.
 """
 import os
 import sys

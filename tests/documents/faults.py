@@ -42,7 +42,7 @@ def variants(path, name):
 
 def numbers_of_code():
     """The number of each variant of `Fault`, and of those inside it, as `fault_line` writes it."""
-    arms = re.findall(r"(\w+Fault|Fault)::(\w+)(?:\([_a-z]*\)| \{[^}]*\})?\)? => (\d+),", text_of("crates/usfm_cli/src/telling.rt"))
+    arms = re.findall(r"(\w+Fault|Fault)::(\w+)(?:\([_a-z]*\)| \{[^}]*\})?\)? => (\d+),", text_of("crates/usfm_cli/src/fault_lines.rt"))
     return {(kind, variant): int(number) for kind, variant, number in arms}
 
 
@@ -134,7 +134,7 @@ def numbers_said(text):
 
 def faults_of_commands():
     """The faults of each command of a project, by its name in the code, as the comment of `exec` has them."""
-    text = errors_of("crates/usfm_cli/src/executing.rt", "exec")
+    text = errors_of("crates/usfm_cli/src/projects.rt", "exec")
     found, before = {}, set()
     for names, said in re.findall(r"^ - ((?:`\w+`(?:, | and )?)+): (.*(?:\n   .*)*)", text, re.M):
         before = numbers_said(said) | (before if "the same" in said else set())

@@ -13,7 +13,7 @@ use Rattle.usfm_ref.proofs.Sorted.{is_less, tied_back}
 use Rattle.op_core.specs.Names.{name_cmp}
 use Rattle.op_core.specs.Ids.{Id}
 use Rattle.bundle_codec.specs.declared.summaries.range.NumberRange.{NumberRange}
-use Rattle.bundle_codec.specs.Summaries.{Known, is_range, are_apart, has_number, covers}
+use Rattle.bundle_codec.specs.Summaries.{NameRanges, is_range, are_apart, has_number, covers}
 use Rattle.bundle_codec.proofs.SummaryReads.{range_bounds, name_total}
 
 -- ---- a number among ranges
@@ -143,11 +143,11 @@ module _ (n : ℕ) (rs : List NumberRange) where
 -- ---- an id in a summary
 
 -- the ranges that are under a name
-abbrev pub under_name : List ℕ → List Known → Option Known
+abbrev pub under_name : List ℕ → List NameRanges → Option NameRanges
 under_name q s = find (λ k. is_eq (name_cmp q k.name)) s
 
 -- whether a number lies in the ranges of what was found
-abbrev pub found_has : Option Known → ℕ → Bool
+abbrev pub found_has : Option NameRanges → ℕ → Bool
 found_has None n = false
 found_has (Some k) n = has_number k.ranges n
 
@@ -157,32 +157,34 @@ same_tied a b = texts_ties b a ∙ sym (tied_back name_cmp name_total b a (is_eq
 apart_name : (a b : List ℕ) → is_lt (name_cmp a b) ≡ true → same_bytes b a ≡ false
 apart_name a b h = same_tied a b ∙ ap is_eq (is_less _ h)
 
-pub above_covers_none : (id : Id) (s : List Known) → list_all (λ k. is_lt (name_cmp id.name k.name)) s ≡ true → covers s id ≡ false
+pub above_covers_none : (id : Id) (s : List NameRanges) → list_all (λ k. is_lt (name_cmp id.name k.name)) s ≡ true → covers s id ≡ false
 above_covers_none id [] h = refl
 above_covers_none id (k ∷ s) h =
     let p = and_parts (is_lt (name_cmp id.name k.name)) (list_all (λ x. is_lt (name_cmp id.name x.name)) s) h in
     rw (apart_name id.name k.name p.0) (above_covers_none id s p.1)
 
-pub covers-found : (id : Id) (s : List Known) → rises_by name_cmp (λ (k : Known). k.name) s ≡ true
+pub covers-found : (id : Id) (s : List NameRanges) → rises_by name_cmp (λ (k : NameRanges). k.name) s ≡ true
     → covers s id ≡ found_has (under_name id.name s) id.number
 covers-found id [] h = refl
 covers-found id (k ∷ s) h =
-    let p = and_parts (list_all (λ (x : Known). is_lt (name_cmp k.name x.name)) s) (rises_by name_cmp (λ (x : Known). x.name) s) h in
+    let p = and_parts (list_all (λ (x : NameRanges). is_lt (name_cmp k.name x.name)) s)
+    (rises_by name_cmp (λ (x : NameRanges). x.name) s) h in
     by (is_eq (name_cmp id.name k.name)) refl p (λ h. covers-found id s h)
   where
     by : (b : Bool) → is_eq (name_cmp id.name k.name) ≡ b
-        → (list_all (λ (x : Known). is_lt (name_cmp k.name x.name)) s ≡ true) × (rises_by name_cmp (λ (x : Known). x.name) s ≡ true)
-        → (rises_by name_cmp (λ (x : Known). x.name) s ≡ true → covers s id ≡ found_has (under_name id.name s) id.number)
+        → (list_all (λ (x : NameRanges). is_lt (name_cmp k.name x.name)) s ≡ true) ×
+        (rises_by name_cmp (λ (x : NameRanges). x.name) s ≡ true)
+        → (rises_by name_cmp (λ (x : NameRanges). x.name) s ≡ true → covers s id ≡ found_has (under_name id.name s) id.number)
         → covers (k ∷ s) id ≡ found_has (under_name id.name (k ∷ s)) id.number
     by true e p on =
         let same : k.name ≡ id.name = same_bytes-is k.name id.name (same_tied id.name k.name ∙ e) in
         let none : covers s id ≡ false =
-        above_covers_none id s (subst (λ (q : List ℕ). list_all (λ (x : Known). is_lt (name_cmp q x.name)) s ≡ true) same p.0) in
+        above_covers_none id s (subst (λ (q : List ℕ). list_all (λ (x : NameRanges). is_lt (name_cmp q x.name)) s ≡ true) same p.0) in
         rw (same_tied id.name k.name ∙ e, e, none) (or-false (has_number k.ranges id.number))
     by false e p on = rw (same_tied id.name k.name ∙ e, e) (on p.1)
 
-pub covered_is : (id : Id) (name : List ℕ) (number : ℕ) (s names : List Known) (one : Option Known)
-    → rises_by name_cmp (λ (k : Known). k.name) names ≡ true → names ≡ s → ◌≡◌ {A = Id} (record { number = number; name = name }) id
+pub covered_is : (id : Id) (name : List ℕ) (number : ℕ) (s names : List NameRanges) (one : Option NameRanges)
+    → rises_by name_cmp (λ (k : NameRanges). k.name) names ≡ true → names ≡ s → ◌≡◌ {A = Id} (record { number = number; name = name }) id
     → one ≡ under_name name names → covers s id ≡ found_has one number
 covered_is id name number s names one h e f g =
     (λ j. covers (sym e j) (sym f j)) ∙ covers-found (record { number = number; name = name }) names h

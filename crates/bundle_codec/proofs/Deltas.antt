@@ -12,7 +12,7 @@ use Rattle.op_core.proofs.Fresh.{fresh, fresh_apart, join_fresh}
 use Rattle.op_core.proofs.Legal.{delta_legal, full_delta}
 use Rattle.op_core.proofs.Groupings.{delta_joins}
 use Rattle.op_core.proofs.Union.{held_itself}
-use Rattle.bundle_codec.specs.Summaries.{Known, IsSummaryOf, covers, outside}
+use Rattle.bundle_codec.specs.Summaries.{NameRanges, IsSummaryOf, covers, outside}
 
 not_some : {A : Type 0} (x : Option A) → not (is_some x) ≡ is_none x
 not_some None = refl
@@ -24,7 +24,7 @@ same_filter p q (x ∷ xs) h = λ i. cond (h x i) (x ∷ same_filter p q xs h i)
 
 -- ---- without thinned operations
 
-pub outside_fresh : (own other : List Operation) (s : List Known) → IsTrue (all_full own) → IsSummaryOf other s
+pub outside_fresh : (own other : List Operation) (s : List NameRanges) → IsTrue (all_full own) → IsSummaryOf other s
     → outside s own ≡ fresh other own
 outside_fresh own other s full h =
     full_delta own (covers s) full
@@ -38,7 +38,7 @@ apart_none held (o ∷ new) h = ap
     ∙ apart_none held new h.1
 
 -- what lies outside a copy's summary gives that copy the union, where all operations are full
-pub outside_union : (own other : List Operation) (s : List Known) → IsOpSet own → IsOpSet other → IsTrue (all_full own)
+pub outside_union : (own other : List Operation) (s : List NameRanges) → IsOpSet own → IsOpSet other → IsTrue (all_full own)
     → IsSummaryOf other s
     → (join other (outside s own) ≡ join other own) × (clash other (outside s own) ≡ None)
 outside_union own other s a b full h =
@@ -49,14 +49,14 @@ outside_union own other s a b full h =
 
 -- ---- with thinned operations
 
-pub outside_skeleton : (own other : List Operation) (s : List Known) → IsOpSet own → IsOpSet other → clash other own ≡ None
+pub outside_skeleton : (own other : List Operation) (s : List NameRanges) → IsOpSet own → IsOpSet other → clash other own ≡ None
     → IsSummaryOf other s
     → (skeleton (join other (outside s own)) ≡ skeleton (join other own)) × (clash other (outside s own) ≡ None)
 outside_skeleton own other s a b none h =
     let p = delta_joins other own (covers s) b.rising a.rising none (λ q e. sym (h.exactly q) ∙ e) in (p.1, p.0)
 
 -- of a legal set, what lies outside a summary is legal
-pub outside_legal : (own : List Operation) (s : List Known) → IsOpSet own → IsTrue (is_legal own) → IsTrue (is_legal (outside s own))
+pub outside_legal : (own : List Operation) (s : List NameRanges) → IsOpSet own → IsTrue (is_legal own) → IsTrue (is_legal (outside s own))
 outside_legal own s a legal = delta_legal own (covers s) a.rising legal
 
 -- ---- its own summary
@@ -86,7 +86,7 @@ known_each held knows [] e h = tt
 known_each held knows (o ∷ ops) e h = (e o.id ∙ ap is_some h.0, known_each held knows ops e h.1)
 
 -- nothing of a set lies outside its own summary
-pub own_outside : (held : List Operation) (s : List Known) → IsOpSet held → IsSummaryOf held s → outside s held ≡ []
+pub own_outside : (held : List Operation) (s : List NameRanges) → IsOpSet held → IsSummaryOf held s → outside s held ≡ []
 own_outside held s a h =
     let all = known_each held (covers s) held h.exactly (held_itself held a.rising) in
     none_sent held (covers s) all held all

@@ -13,7 +13,7 @@ use Rattle.op_core.specs.Names.{name_cmp}
 use Rattle.op_core.specs.Ids.{Id}
 use Rattle.op_core.specs.Ops.{Operation}
 use Rattle.bundle_codec.specs.declared.summaries.range.NumberRange.{NumberRange}
-use Rattle.bundle_codec.specs.Summaries.{Known, IsKnown, IsSummaryOf, is_range, are_apart, has_number, covers}
+use Rattle.bundle_codec.specs.Summaries.{NameRanges, AreNameRanges, IsSummaryOf, is_range, are_apart, has_number, covers}
 use Rattle.bundle_codec.proofs.SummaryReads.{range_bounds, name_total}
 use Rattle.bundle_codec.proofs.Covered.{lies_in, lies_yes, lies_bounds, lies_not, same_tied, above_covers_none}
 use Rattle.bundle_codec.proofs.Holding.{id_of}
@@ -51,8 +51,8 @@ module _ (r : NumberRange) (rs : List NumberRange) (right : Right (r ∷ rs)) wh
   first_right : (1 ≤ r.first) × ((r.first ≤ r.last) × (r.last ≤ 1000000000000000))
   first_right = range_bounds r (and_parts (is_range r) (list_all is_range rs) right.each).0
 
-  behind_first : list_all (λ (x : NumberRange). ltb (suc r.last) x.first) rs ≡ true
-  behind_first = (and_parts (list_all (λ (x : NumberRange). ltb (suc r.last) x.first) rs) (are_apart rs) right.apart).0
+  rest_above : list_all (λ (x : NumberRange). ltb (suc r.last) x.first) rs ≡ true
+  rest_above = (and_parts (list_all (λ (x : NumberRange). ltb (suc r.last) x.first) rs) (are_apart rs) right.apart).0
 
   rest_right : Right rs
   rest_right = record {
@@ -68,20 +68,20 @@ module _ (r : NumberRange) (rs : List NumberRange) (right : Right (r ∷ rs)) wh
     where
       by : (b : Bool) → lies_in n r ≡ b → r.first ≤ n
       by true f = (lies_bounds n r f).0
-      by false f = omega (arith, from_above r.last rs n behind_first (in_rest (lies_in n r) (has_number rs n) f e), first_right.1.0)
+      by false f = omega (arith, from_above r.last rs n rest_above (in_rest (lies_in n r) (has_number rs n) f e), first_right.1.0)
 
   -- the first range goes no further than a range with the same numbers around it
   ends_so : (n : ℕ) → r.last < n → n ≤ suc r.last → has_number (r ∷ rs) n ≡ true → ⊥
   ends_so n over near e =
       let out : lies_in n r ≡ false = lies_not n r (λ h. omega (arith, h.1, over)) in
-      omega (arith, from_above r.last rs n behind_first (in_rest (lies_in n r) (has_number rs n) out e), near)
+      omega (arith, from_above r.last rs n rest_above (in_rest (lies_in n r) (has_number rs n) out e), near)
 
   -- the others have the numbers above its end
   rest_over : (n : ℕ) → r.last < n → has_number (r ∷ rs) n ≡ has_number rs n
   rest_over n over = or_rest (lies_in n r) (has_number rs n) (lies_not n r (λ h. omega (arith, h.1, over)))
 
   rest_under : (n : ℕ) → n ≤ r.last → has_number rs n ≡ false
-  rest_under n under = false_from_ne_true (has_number rs n) (λ e. omega (arith, from_above r.last rs n behind_first e, under))
+  rest_under n under = false_from_ne_true (has_number rs n) (λ e. omega (arith, from_above r.last rs n rest_above e, under))
 
 last_no_more : (r s : NumberRange) (rs ss : List NumberRange) → Right (r ∷ rs) → Right (s ∷ ss) → r.first ≡ s.first
     → ((n : ℕ) → has_number (r ∷ rs) n ≡ has_number (s ∷ ss) n) → s.last ≤ r.last
@@ -115,20 +115,22 @@ same_ranges (r ∷ rs) (s ∷ ss) a b same =
 
 -- ---- names
 
-abbrev Rises : List Known → Type 0
-Rises ks = rises_by name_cmp (λ (k : Known). k.name) ks ≡ true
+abbrev Rises : List NameRanges → Type 0
+Rises ks = rises_by name_cmp (λ (k : NameRanges). k.name) ks ≡ true
 
-abbrev AllAfter : List ℕ → List Known → Type 0
-AllAfter q ks = list_all (λ (k : Known). is_lt (name_cmp q k.name)) ks ≡ true
+abbrev AllAfter : List ℕ → List NameRanges → Type 0
+AllAfter q ks = list_all (λ (k : NameRanges). is_lt (name_cmp q k.name)) ks ≡ true
 
-module _ (k : Known) (ks : List Known) (rises : Rises (k ∷ ks)) where
+module _ (k : NameRanges) (ks : List NameRanges) (rises : Rises (k ∷ ks)) where
   after_first : AllAfter k.name ks
   after_first =
-      (and_parts (list_all (λ (x : Known). is_lt (name_cmp k.name x.name)) ks) (rises_by name_cmp (λ (x : Known). x.name) ks) rises).0
+      (and_parts (list_all (λ (x : NameRanges). is_lt (name_cmp k.name x.name)) ks)
+      (rises_by name_cmp (λ (x : NameRanges). x.name) ks) rises).0
 
   rest_rises : Rises ks
   rest_rises =
-      (and_parts (list_all (λ (x : Known). is_lt (name_cmp k.name x.name)) ks) (rises_by name_cmp (λ (x : Known). x.name) ks) rises).1
+      (and_parts (list_all (λ (x : NameRanges). is_lt (name_cmp k.name x.name)) ks)
+      (rises_by name_cmp (λ (x : NameRanges). x.name) ks) rises).1
 
   rest_none : (n : ℕ) → covers ks (id_of n k.name) ≡ false
   rest_none n = above_covers_none (id_of n k.name) ks after_first
@@ -140,7 +142,7 @@ module _ (k : Known) (ks : List Known) (rises : Rises (k ∷ ks)) where
   others_cover : (id : Id) → same_bytes k.name id.name ≡ false → covers (k ∷ ks) id ≡ covers ks id
   others_cover id e = ap (λ b. (b && has_number k.ranges id.number) || covers ks id) e
 
-right_of : (k : Known) → IsKnown k → Right k.ranges
+right_of : (k : NameRanges) → AreNameRanges k → Right k.ranges
 right_of k h = record { each = h.each; apart = h.apart }
 
 some_number : (rs : List NumberRange) → rs ≢ [] → Right rs → (n : ℕ) × (has_number rs n ≡ true)
@@ -148,20 +150,21 @@ some_number [] some a = absurd (some refl)
 some_number (r ∷ rs) some a = (r.first, has_first r rs a)
 
 -- the first name is covered, and so no name of the other summary's alone comes after it
-not_less : (k j : Known) (ks js : List Known) → IsKnown k → Rises (k ∷ ks) → Rises (j ∷ js)
+not_less : (k j : NameRanges) (ks js : List NameRanges) → AreNameRanges k → Rises (k ∷ ks) → Rises (j ∷ js)
     → ((id : Id) → covers (k ∷ ks) id ≡ covers (j ∷ js) id) → name_cmp k.name j.name ≡ Less → ⊥
 not_less k j ks js h a b same less =
     let n = some_number k.ranges h.some (right_of k h) in
     let all : AllAfter k.name (j ∷ js) =
-    and_from _ _ (ap is_lt less) (above_trans name_cmp name_total (λ (x : Known). x.name) k.name j.name js less (after_first j js b)) in
+    and_from _ _ (ap is_lt less)
+    (above_trans name_cmp name_total (λ (x : NameRanges). x.name) k.name j.name js less (after_first j js b)) in
     true≢false (sym n.1 ∙ sym (head_covers k ks a n.0) ∙ same (id_of n.0 k.name) ∙ above_covers_none (id_of n.0 k.name) (j ∷ js) all)
 
-covered_first : (k : Known) (ks : List Known) → IsKnown k → Rises (k ∷ ks) → ((id : Id) → covers (k ∷ ks) id ≡ false) → ⊥
+covered_first : (k : NameRanges) (ks : List NameRanges) → AreNameRanges k → Rises (k ∷ ks) → ((id : Id) → covers (k ∷ ks) id ≡ false) → ⊥
 covered_first k ks h a none =
     let n = some_number k.ranges h.some (right_of k h) in
     true≢false (sym n.1 ∙ sym (head_covers k ks a n.0) ∙ none (id_of n.0 k.name))
 
-first_name : (k j : Known) (ks js : List Known) → IsKnown k → IsKnown j → Rises (k ∷ ks) → Rises (j ∷ js)
+first_name : (k j : NameRanges) (ks js : List NameRanges) → AreNameRanges k → AreNameRanges j → Rises (k ∷ ks) → Rises (j ∷ js)
     → ((id : Id) → covers (k ∷ ks) id ≡ covers (j ∷ js) id) → k.name ≡ j.name
 first_name k j ks js h g a b same = by (name_cmp k.name j.name) refl
   where
@@ -171,7 +174,7 @@ first_name k j ks js h g a b same = by (name_cmp k.name j.name) refl
     by Greater e =
         absurd (not_less j k js ks g b a (λ id. sym (same id)) (back name_cmp name_total (λ (x : List ℕ). x) k.name j.name Greater e))
 
-same_names : (ks js : List Known) → AllByRecursion IsKnown ks → AllByRecursion IsKnown js → Rises ks → Rises js
+same_names : (ks js : List NameRanges) → AllByRecursion AreNameRanges ks → AllByRecursion AreNameRanges js → Rises ks → Rises js
     → ((id : Id) → covers ks id ≡ covers js id) → ks ≡ js
 same_names [] [] h g a b same = refl
 same_names [] (j ∷ js) h g a b same = absurd (covered_first j js g.0 b (λ id. sym (same id)))
@@ -185,7 +188,8 @@ same_names (k ∷ ks) (j ∷ js) h g a b same =
     (λ id. tails k j ks js a b same name id (same_bytes k.name id.name) refl) in
     λ i. record { name = name i; ranges = ranges i } ∷ rest i
   where
-    tails : (k j : Known) (ks js : List Known) → Rises (k ∷ ks) → Rises (j ∷ js) → ((id : Id) → covers (k ∷ ks) id ≡ covers (j ∷ js) id)
+    tails : (k j : NameRanges) (ks js : List NameRanges) → Rises (k ∷ ks) → Rises (j ∷ js)
+        → ((id : Id) → covers (k ∷ ks) id ≡ covers (j ∷ js) id)
         → k.name ≡ j.name → (id : Id) (t : Bool) → same_bytes k.name id.name ≡ t → covers ks id ≡ covers js id
     tails k j ks js a b same name id true e =
         let is = same_bytes-is k.name id.name e in
@@ -194,5 +198,5 @@ same_names (k ∷ ks) (j ∷ js) h g a b same =
     tails k j ks js a b same name id false e =
         sym (others_cover k ks a id e) ∙ same id ∙ others_cover j js b id (ap (λ (q : List ℕ). same_bytes q id.name) (sym name) ∙ e)
 
-pub same_summary : (held : List Operation) (a b : List Known) → IsSummaryOf held a → IsSummaryOf held b → a ≡ b
+pub same_summary : (held : List Operation) (a b : List NameRanges) → IsSummaryOf held a → IsSummaryOf held b → a ≡ b
 same_summary held a b f g = same_names a b f.form.each g.form.each f.form.rising g.form.rising (λ id. f.exactly id ∙ sym (g.exactly id))

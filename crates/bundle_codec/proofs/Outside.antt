@@ -11,7 +11,7 @@ use Rattle.op_core.specs.Sets.{IsOpSet}
 use Rattle.op_core.specs.Thinned.{all_full, is_sent}
 use Rattle.op_core.proofs.Rising.{id_total}
 use Rattle.bundle_codec.specs.Spelling.{magic_of, operation, bundle}
-use Rattle.bundle_codec.specs.Summaries.{Known, covers, outside}
+use Rattle.bundle_codec.specs.Summaries.{NameRanges, covers, outside}
 use Rattle.bundle_codec.proofs.Refronted.{begun, refronted}
 use Rattle.op_core.proofs.Past.{counts_within}
 
@@ -21,7 +21,7 @@ all_filter P p (x ∷ xs) h = let rest = all_filter P p xs h.1 in
     elim (p x) as (λ b. AllByRecursion P (cond b (x ∷ filter p xs) (filter p xs))) [ true ↦ (h.0, rest) | false ↦ rest ]
 
 -- what lies outside a summary is a set
-pub outside_set : (s : List Known) (held : List Operation) → IsOpSet held → IsOpSet (outside s held)
+pub outside_set : (s : List NameRanges) (held : List Operation) → IsOpSet held → IsOpSet (outside s held)
 outside_set s held set = record {
   rising = rises_filter id_cmp id_total (λ (o : Operation). o.id) (is_sent held (covers s)) held set.rising;
   each = all_filter _ (is_sent held (covers s)) held set.each;

@@ -100,10 +100,10 @@ from_more n m (r ∷ rs) le h =
 apart_from : (n : ℕ) (r : NumberRange) (rs : List NumberRange) → is_range r ≡ true → ltb n r.first ≡ true → (suc n ≡ r.first → ⊥)
     → list_all (λ (s : NumberRange). ltb (suc r.last) s.first) rs ≡ true
     → list_all (λ (s : NumberRange). ltb (suc n) s.first) (r ∷ rs) ≡ true
-apart_from n r rs h lt ne behind =
+apart_from n r rs h lt ne after =
     let b = range_bounds r h in
     and_from _ _ (lt-ltb (suc n) r.first (gap n r.first (ltb-true _ _ lt) ne))
-    (from_more (suc n) (suc r.last) rs (omega (arith, ltb-true _ _ lt, b.1.0)) behind)
+    (from_more (suc n) (suc r.last) rs (omega (arith, ltb-true _ _ lt, b.1.0)) after)
   where
     gap : (n m : ℕ) → n < m → (suc n ≡ m → ⊥) → suc n < m
     gap n m lt ne = elim (cases_lt (suc n) m) [ inl more ↦ more | inr le ↦ absurd (ne (omega (arith, lt, le))) ]

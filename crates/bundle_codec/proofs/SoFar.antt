@@ -17,7 +17,7 @@ use Rattle.op_core.specs.Ids.{Id, is_number}
 use Rattle.op_core.specs.Ops.{Operation, IsOperation}
 use Rattle.op_core.specs.Sets.{rises, get, IsOpSet}
 use Rattle.bundle_codec.specs.declared.summaries.range.NumberRange.{NumberRange}
-use Rattle.bundle_codec.specs.Summaries.{Known, IsKnown, IsSummaryOf, covers, has_number}
+use Rattle.bundle_codec.specs.Summaries.{NameRanges, AreNameRanges, IsSummaryOf, covers, has_number}
 use Rattle.bundle_codec.specs.Loops.SummaryMaking.{under, HoldsRun, AreRanges, AreUnder, HoldsRanges, listed}
 use Rattle.bundle_codec.proofs.SummaryReads.{name_total}
 use Rattle.bundle_codec.proofs.Covered.{covers-found, under_name, found_has}
@@ -33,9 +33,9 @@ all_front : {X : Type 0} (P : X → Type 0) (xs ys : List X) → AllByRecursion 
 all_front P [] ys h = tt
 all_front P (x ∷ xs) ys h = (h.0, all_front P xs ys h.1)
 
-all_behind : {X : Type 0} (P : X → Type 0) (xs ys : List X) → AllByRecursion P (xs ++ ys) → AllByRecursion P ys
-all_behind P [] ys h = h
-all_behind P (x ∷ xs) ys h = all_behind P xs ys h.1
+all_after : {X : Type 0} (P : X → Type 0) (xs ys : List X) → AllByRecursion P (xs ++ ys) → AllByRecursion P ys
+all_after P [] ys h = h
+all_after P (x ∷ xs) ys h = all_after P xs ys h.1
 
 numbered : (ops : List Operation) → AllByRecursion IsOperation ops
     → AllByRecursion (λ (o : Operation). is_number o.id.number ≡ true) ops
@@ -49,7 +49,7 @@ so_far_run all it ops rest o id m n set next same more s =
     let h = subst (λ (i : Id). HoldsRun i ops rest m n) same more in
     let cut : s.done ++ ((o ∷ h.0.run) ++ rest) ≡ all = ap (λ (w : List Operation). s.done ++ o ∷ w) (sym h.0.parts) ∙ whole in
     let valid = all_front IsOperation (o ∷ h.0.run) rest
-    (all_behind IsOperation s.done ((o ∷ h.0.run) ++ rest) (subst (AllByRecursion IsOperation) (sym cut) set.each)) in
+    (all_after IsOperation s.done ((o ∷ h.0.run) ++ rest) (subst (AllByRecursion IsOperation) (sym cut) set.each)) in
     record {
       done = s.done ++ o ∷ h.0.run;
       parts = append_assoc s.done (o ∷ h.0.run) rest ∙ cut;
@@ -87,8 +87,8 @@ has_held all q n None h = sym (h n)
 has_held all q n (Some rs) h = h.1 n
 
 module _ {A : Type 0} where
-  abbrev pub known_of : List ℕ × Vec NumberRange A → Known
-  known_of e = record { name = e.0; ranges = e.1.items }
+  abbrev pub name_ranges_of : List ℕ × Vec NumberRange A → NameRanges
+  name_ranges_of e = record { name = e.0; ranges = e.1.items }
 
   ranges_at_each : (all : List Operation) (m : BTreeMap (List ℕ) (Vec NumberRange A)) (es : List (List ℕ × Vec NumberRange A))
       → ((q : List ℕ) → AreUnder all q (under m q)) → AllByRecursion (λ x. lookup (is_at (name_cmp x.0)) m.entries ≡ Some x.1) es
@@ -103,30 +103,30 @@ module _ {A : Type 0} where
       record { ordered = ordered; each = ranges_at_each all m m.entries names (each_at_name m.entries ordered); names = names }
 
   less_all : (name : List ℕ) (es : List (List ℕ × Vec NumberRange A)) → AllByRecursion (λ y. name_cmp name y ≡ Less) (keys_of es)
-      → list_all (λ (k : Known). is_lt (name_cmp name k.name)) (map known_of es) ≡ true
+      → list_all (λ (k : NameRanges). is_lt (name_cmp name k.name)) (map name_ranges_of es) ≡ true
   less_all name [] h = refl
   less_all name (e ∷ es) h = and_from _ _ (ap is_lt h.0) (less_all name es h.1)
 
   pub rises_listed : (es : List (List ℕ × Vec NumberRange A)) → IsStrictlySortedBy name_cmp (keys_of es)
-      → rises_by name_cmp (λ (k : Known). k.name) (map known_of es) ≡ true
+      → rises_by name_cmp (λ (k : NameRanges). k.name) (map name_ranges_of es) ≡ true
   unfolding IsStrictlySortedBy
   rises_listed [] s = refl
   rises_listed (e ∷ es) s = and_from _ _ (less_all e.0 es s.0) (rises_listed es s.1)
 
   found_listed : (q : List ℕ) (n : ℕ) (es : List (List ℕ × Vec NumberRange A))
-      → found_has (under_name q (map known_of es)) n ≡ has_under (option_map (λ v. v.items) (lookup (is_at (name_cmp q)) es)) n
+      → found_has (under_name q (map name_ranges_of es)) n ≡ has_under (option_map (λ v. v.items) (lookup (is_at (name_cmp q)) es)) n
   found_listed q n [] = refl
   found_listed q n (e ∷ es) = let rest = found_listed q n es in
       elim (is_eq (name_cmp q e.0)) as
-      (λ b. found_has (cond b (Some (known_of e)) (under_name q (map known_of es))) n
+      (λ b. found_has (cond b (Some (name_ranges_of e)) (under_name q (map name_ranges_of es))) n
       ≡ has_under (option_map (λ v. v.items) (cond b (Some e.1) (lookup (is_at (name_cmp q)) es))) n) [ true ↦ refl | false ↦ rest ]
 
-  pub is_summary_of : (all : List Operation) (m : BTreeMap (List ℕ) (Vec NumberRange A)) (s : List Known) → s ≡ listed m
-      → AllByRecursion IsKnown s → HoldsRanges all m → IsSummaryOf all s
+  pub is_summary_of : (all : List Operation) (m : BTreeMap (List ℕ) (Vec NumberRange A)) (s : List NameRanges) → s ≡ listed m
+      → AllByRecursion AreNameRanges s → HoldsRanges all m → IsSummaryOf all s
   is_summary_of all m s e valid h = record {
-    form = record { rising = ap (rises_by name_cmp (λ (k : Known). k.name)) e ∙ rises_listed m.entries h.ordered; each = valid };
+    form = record { rising = ap (rises_by name_cmp (λ (k : NameRanges). k.name)) e ∙ rises_listed m.entries h.ordered; each = valid };
     exactly = λ id.
-        ap (λ (ks : List Known). covers ks id) e
+        ap (λ (ks : List NameRanges). covers ks id) e
         ∙ covers-found id (listed m) (rises_listed m.entries h.ordered)
         ∙ found_listed id.name id.number m.entries
         ∙ has_held all id.name id.number (under m id.name) (h.names id.name);
@@ -135,21 +135,21 @@ module _ {A : Type 0} where
 -- ---- the names of a map, one after another
 
 pub record Walked {A : Type 0} (m : BTreeMap (List ℕ) (Vec NumberRange A)) (it : List (List ℕ × Vec NumberRange A))
-    (names : List Known) : Type 0 where
-  pub parts : names ++ map known_of it ≡ listed m
-  pub valid : AllByRecursion IsKnown names
+    (names : List NameRanges) : Type 0 where
+  pub parts : names ++ map name_ranges_of it ≡ listed m
+  pub valid : AllByRecursion AreNameRanges names
   pub right : AllByRecursion (λ e. AreRanges e.1.items) it
 
 module _ {A : Type 0} (m : BTreeMap (List ℕ) (Vec NumberRange A)) where
-  pub walked_none : (it : List (List ℕ × Vec NumberRange A)) (names : List Known) → it ≡ m.entries → names ≡ []
+  pub walked_none : (it : List (List ℕ × Vec NumberRange A)) (names : List NameRanges) → it ≡ m.entries → names ≡ []
       → AllByRecursion (λ e. AreRanges e.1.items) m.entries → Walked m it names
   walked_none it names e none h = record {
-    parts = (λ i. none i ++ map known_of (e i));
-    valid = subst (AllByRecursion IsKnown) (sym none) tt;
+    parts = (λ i. none i ++ map name_ranges_of (e i));
+    valid = subst (AllByRecursion AreNameRanges) (sym none) tt;
     right = subst (AllByRecursion (λ (x : List ℕ × Vec NumberRange A). AreRanges x.1.items)) (sym e) h;
   }
 
-  module _ (it rest : List (List ℕ × Vec NumberRange A)) (e : List ℕ × Vec NumberRange A) (names : List Known) (next : it ≡ e ∷ rest)
+  module _ (it rest : List (List ℕ × Vec NumberRange A)) (e : List ℕ × Vec NumberRange A) (names : List NameRanges) (next : it ≡ e ∷ rest)
       (w : Walked m it names) where
     both : AreRanges e.1.items × AllByRecursion (λ (x : List ℕ × Vec NumberRange A). AreRanges x.1.items) rest
     both = subst (AllByRecursion (λ (x : List ℕ × Vec NumberRange A). AreRanges x.1.items)) next w.right
@@ -157,13 +157,15 @@ module _ {A : Type 0} (m : BTreeMap (List ℕ) (Vec NumberRange A)) where
     pub walked_first : AreRanges e.1.items
     walked_first = both.0
 
-    pub walked_more : (k : Known) (new : List Known) → new ≡ names ++ k ∷ [] → k ≡ known_of e → IsKnown k → Walked m rest new
+    pub walked_more : (k : NameRanges) (new : List NameRanges) → new ≡ names ++ k ∷ [] → k ≡ name_ranges_of e → AreNameRanges k
+        → Walked m rest new
     walked_more k new more is valid = record {
-      parts = ap (λ (ks : List Known). ks ++ map known_of rest) more ∙ append_assoc names (k ∷ []) (map known_of rest)
-          ∙ ap (λ (x : Known). names ++ x ∷ map known_of rest) is ∙ ap (λ es. names ++ map known_of es) (sym next) ∙ w.parts;
-      valid = subst (AllByRecursion IsKnown) (sym more) (all_push IsKnown names k w.valid valid);
+      parts = ap (λ (ks : List NameRanges). ks ++ map name_ranges_of rest) more ∙ append_assoc names (k ∷ []) (map name_ranges_of rest)
+          ∙ ap (λ (x : NameRanges). names ++ x ∷ map name_ranges_of rest) is ∙ ap (λ es. names ++ map name_ranges_of es) (sym next)
+          ∙ w.parts;
+      valid = subst (AllByRecursion AreNameRanges) (sym more) (all_push AreNameRanges names k w.valid valid);
       right = both.1;
     }
 
-  pub walked_all : (it : List (List ℕ × Vec NumberRange A)) (names : List Known) → it ≡ [] → Walked m it names → names ≡ listed m
-  walked_all it names end w = sym (append-nil names) ∙ ap (λ es. names ++ map known_of es) (sym end) ∙ w.parts
+  pub walked_all : (it : List (List ℕ × Vec NumberRange A)) (names : List NameRanges) → it ≡ [] → Walked m it names → names ≡ listed m
+  walked_all it names end w = sym (append-nil names) ∙ ap (λ es. names ++ map name_ranges_of es) (sym end) ∙ w.parts

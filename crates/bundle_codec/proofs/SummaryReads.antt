@@ -12,8 +12,8 @@ use Rattle.usfm_ref.proofs.Sorted.{is_less, above_trans}
 use Rattle.op_core.specs.Names.{is_name, name_cmp}
 use Rattle.bundle_codec.specs.declared.summaries.range.NumberRange.{NumberRange}
 use Rattle.bundle_codec.specs.Reading.{AreBytes, any, number_at, is_name_length}
-use Rattle.bundle_codec.specs.Summaries.{Known, IsKnown, IsSummary, is_range, are_apart, summary_magic, range, known, summary}
-use Rattle.bundle_codec.specs.SummaryReading.{bad, begins_after, range_at, after_range, ranges_at, name_after, name_at, known_at, after_known, summary_at}
+use Rattle.bundle_codec.specs.Summaries.{NameRanges, AreNameRanges, IsSummary, is_range, are_apart, summary_magic, range, name_ranges, summary}
+use Rattle.bundle_codec.specs.SummaryReading.{bad, begins_after, range_at, after_range, ranges_at, name_after, name_at, name_ranges_at, after_name, summary_at}
 use Rattle.bundle_codec.proofs.Readers.{Each, Reads, step, ends, checked, reads_as, many_reads}
 use Rattle.bundle_codec.proofs.FieldReaders.{byte_reads, block_reads, number_reads, exactly_reads, wide64}
 use Rattle.bundle_codec.proofs.FieldsSpelled.{name_length}
@@ -114,21 +114,21 @@ name_reads before =
     (λ n f. (name_length n f.0, ((refl, f.0), (f.1, refl))))
     (λ n f. ap (λ (w : List ℕ). length n ∷ w) (append-nil n))
 
-abbrev pub KnownFollows : Option (List ℕ) → Known → Type 0
-KnownFollows before k = NameFollows before k.name
+abbrev pub NameRangesFollow : Option (List ℕ) → NameRanges → Type 0
+NameRangesFollow before k = NameFollows before k.name
     × (((length k.ranges < 2 ^ 64) × (leb 1 (length k.ranges) ≡ true)) × Each RangeFollows after_range None k.ranges)
 
-pub known_reads : (before : Option (List ℕ)) → Reads (known_at before) known (KnownFollows before)
-unfolding known_at
-known_reads before =
-    reads_as known (KnownFollows before)
-    (step (λ (k : Known). k.name) (name_reads before) (λ name.
-    step (λ (k : Known). length k.ranges) (number_reads w64 (2 ^ 64) wide64 (λ (n : ℕ). leb 1 n) bad) (λ count.
-    step (λ (k : Known). k.ranges) (many_reads range_at after_range range RangeFollows range_reads count None) (λ ranges.
+pub name_ranges_read : (before : Option (List ℕ)) → Reads (name_ranges_at before) name_ranges (NameRangesFollow before)
+unfolding name_ranges_at
+name_ranges_read before =
+    reads_as name_ranges (NameRangesFollow before)
+    (step (λ (k : NameRanges). k.name) (name_reads before) (λ name.
+    step (λ (k : NameRanges). length k.ranges) (number_reads w64 (2 ^ 64) wide64 (λ (n : ℕ). leb 1 n) bad) (λ count.
+    step (λ (k : NameRanges). k.ranges) (many_reads range_at after_range range RangeFollows range_reads count None) (λ ranges.
     ends (record { name = name; ranges = ranges }))
-    (λ ranges k _ f. ap (λ (x : Known). x.ranges) (sym f)))
+    (λ ranges k _ f. ap (λ (x : NameRanges). x.ranges) (sym f)))
     (λ count k _ f. f.0.0))
-    (λ name k _ f. ap (λ (x : Known). x.name) (sym f.1.1)))
+    (λ name k _ f. ap (λ (x : NameRanges). x.name) (sym f.1.1)))
     (λ k f. (f.0, (f.1.0, f.1.1.0.1)))
     (λ k f. (f.0, (f.1.0, ((refl, f.1.1), refl))))
     (λ k f. ap (λ (w : List ℕ). (length k.name ∷ k.name) ++ (to_be_bytes w64 (length k.ranges) ++ w))
@@ -162,11 +162,11 @@ module _ (before : Option (List ℕ)) (bytes name mid : List ℕ) (count : ℕ) 
 
 -- ---- names that follow one another rise
 
-names_above : (name : List ℕ) (ks : List Known) → Each KnownFollows after_known (Some name) ks
-    → list_all (λ (k : Known). is_lt (name_cmp name k.name)) ks ≡ true
+names_above : (name : List ℕ) (ks : List NameRanges) → Each NameRangesFollow after_name (Some name) ks
+    → list_all (λ (k : NameRanges). is_lt (name_cmp name k.name)) ks ≡ true
 names_above name [] e = refl
 names_above name (k ∷ ks) e = and_from _ _ e.0.0.1
-    (above_trans name_cmp name_total (λ (x : Known). x.name) name k.name ks (is_less _ e.0.0.1) (names_above k.name ks e.1))
+    (above_trans name_cmp name_total (λ (x : NameRanges). x.name) name k.name ks (is_less _ e.0.0.1) (names_above k.name ks e.1))
 
 some_ranges : (rs : List NumberRange) → leb 1 (length rs) ≡ true → rs ≢ []
 some_ranges rs h none = absurd (omega (arith, leb-true _ _ h, ap length none))
@@ -175,61 +175,66 @@ counted_some : (rs : List NumberRange) → rs ≢ [] → leb 1 (length rs) ≡ t
 counted_some [] some = absurd (some refl)
 counted_some (r ∷ rs) some = le-leb 1 (length (r ∷ rs)) (omega arith)
 
-pub known-from_follows : (before : Option (List ℕ)) (k : Known) → KnownFollows before k → IsKnown k
-known-from_follows before k f =
+pub name_ranges-from_follows : (before : Option (List ℕ)) (k : NameRanges) → NameRangesFollow before k → AreNameRanges k
+name_ranges-from_follows before k f =
     let r = ranges-from_each None k.ranges f.1.1 in
     record { name = f.0.0; some = some_ranges k.ranges f.1.0.1; each = r.0; apart = r.1 }
 
 -- each name's ranges can be counted
-abbrev pub RangesCounted : List Known → Type 0
-RangesCounted ks = AllByRecursion (λ (k : Known). length k.ranges < 2 ^ 64) ks
+abbrev pub RangesCounted : List NameRanges → Type 0
+RangesCounted ks = AllByRecursion (λ (k : NameRanges). length k.ranges < 2 ^ 64) ks
 
-rises-from_each : (before : Option (List ℕ)) (ks : List Known) → Each KnownFollows after_known before ks
-    → rises_by name_cmp (λ (k : Known). k.name) ks ≡ true
+rises-from_each : (before : Option (List ℕ)) (ks : List NameRanges) → Each NameRangesFollow after_name before ks
+    → rises_by name_cmp (λ (k : NameRanges). k.name) ks ≡ true
 rises-from_each before [] e = refl
 rises-from_each before (k ∷ ks) e = and_from _ _ (names_above k.name ks e.1) (rises-from_each (Some k.name) ks e.1)
 
-each_known : (before : Option (List ℕ)) (ks : List Known) → Each KnownFollows after_known before ks
-    → AllByRecursion IsKnown ks × RangesCounted ks
-each_known before [] e = (tt, tt)
-each_known before (k ∷ ks) e = let p = each_known (Some k.name) ks e.1 in ((known-from_follows before k e.0, p.0), (e.0.1.0.0, p.1))
+each_name_ranges : (before : Option (List ℕ)) (ks : List NameRanges) → Each NameRangesFollow after_name before ks
+    → AllByRecursion AreNameRanges ks × RangesCounted ks
+each_name_ranges before [] e = (tt, tt)
+each_name_ranges before (k ∷ ks) e = let p = each_name_ranges (Some k.name) ks e.1 in
+    ((name_ranges-from_follows before k e.0, p.0), (e.0.1.0.0, p.1))
 
-known_follows : (before : Option (List ℕ)) (k : Known) → IsKnown k → length k.ranges < 2 ^ 64 → name_after before k.name ≡ true
-    → KnownFollows before k
-known_follows before k h short a = ((h.name, a), ((short, counted_some k.ranges h.some), each-from_ranges k.ranges h.each h.apart))
+name_ranges_follow : (before : Option (List ℕ)) (k : NameRanges) → AreNameRanges k → length k.ranges < 2 ^ 64
+    → name_after before k.name ≡ true
+    → NameRangesFollow before k
+name_ranges_follow before k h short a = ((h.name, a), ((short, counted_some k.ranges h.some), each-from_ranges k.ranges h.each h.apart))
 
-each_after : (name : List ℕ) (ks : List Known) → AllByRecursion IsKnown ks → RangesCounted ks
-    → rises_by name_cmp (λ (k : Known). k.name) ks ≡ true → list_all (λ (k : Known). is_lt (name_cmp name k.name)) ks ≡ true
-    → Each KnownFollows after_known (Some name) ks
+each_after : (name : List ℕ) (ks : List NameRanges) → AllByRecursion AreNameRanges ks → RangesCounted ks
+    → rises_by name_cmp (λ (k : NameRanges). k.name) ks ≡ true → list_all (λ (k : NameRanges). is_lt (name_cmp name k.name)) ks ≡ true
+    → Each NameRangesFollow after_name (Some name) ks
 each_after name [] a c r b = tt
 each_after name (k ∷ ks) a c r b =
-    let p = and_parts (list_all (λ (x : Known). is_lt (name_cmp k.name x.name)) ks) (rises_by name_cmp (λ (x : Known). x.name) ks) r in
-    let q = and_parts (is_lt (name_cmp name k.name)) (list_all (λ (x : Known). is_lt (name_cmp name x.name)) ks) b in
-    (known_follows (Some name) k a.0 c.0 q.0, each_after k.name ks a.1 c.1 p.1 p.0)
+    let p = and_parts (list_all (λ (x : NameRanges). is_lt (name_cmp k.name x.name)) ks)
+    (rises_by name_cmp (λ (x : NameRanges). x.name) ks) r in
+    let q = and_parts (is_lt (name_cmp name k.name)) (list_all (λ (x : NameRanges). is_lt (name_cmp name x.name)) ks) b in
+    (name_ranges_follow (Some name) k a.0 c.0 q.0, each_after k.name ks a.1 c.1 p.1 p.0)
 
-each-from_names : (ks : List Known) → AllByRecursion IsKnown ks → RangesCounted ks → rises_by name_cmp (λ (k : Known). k.name) ks ≡ true
-    → Each KnownFollows after_known None ks
+each-from_names : (ks : List NameRanges) → AllByRecursion AreNameRanges ks → RangesCounted ks
+    → rises_by name_cmp (λ (k : NameRanges). k.name) ks ≡ true
+    → Each NameRangesFollow after_name None ks
 each-from_names [] a c r = tt
 each-from_names (k ∷ ks) a c r =
-    let p = and_parts (list_all (λ (x : Known). is_lt (name_cmp k.name x.name)) ks) (rises_by name_cmp (λ (x : Known). x.name) ks) r in
-    (known_follows None k a.0 c.0 refl, each_after k.name ks a.1 c.1 p.1 p.0)
+    let p = and_parts (list_all (λ (x : NameRanges). is_lt (name_cmp k.name x.name)) ks)
+    (rises_by name_cmp (λ (x : NameRanges). x.name) ks) r in
+    (name_ranges_follow None k a.0 c.0 refl, each_after k.name ks a.1 c.1 p.1 p.0)
 
 -- ---- a summary
 
 -- a summary that can be counted
-abbrev pub IsCountedSummary : List Known → Type 0
+abbrev pub IsCountedSummary : List NameRanges → Type 0
 IsCountedSummary s = IsSummary s × ((length s < 2 ^ 64) × RangesCounted s)
 
 pub summary_reads : Reads summary_at summary IsCountedSummary
 unfolding summary_at summary
 summary_reads =
     reads_as summary IsCountedSummary
-    (step (λ (s : List Known). tt) (exactly_reads summary_magic bad) (λ _.
-    step (λ (s : List Known). length s) (number_reads w64 (2 ^ 64) wide64 any bad) (λ count.
-    many_reads known_at after_known known KnownFollows known_reads count None)
+    (step (λ (s : List NameRanges). tt) (exactly_reads summary_magic bad) (λ _.
+    step (λ (s : List NameRanges). length s) (number_reads w64 (2 ^ 64) wide64 any bad) (λ count.
+    many_reads name_ranges_at after_name name_ranges NameRangesFollow name_ranges_read count None)
     (λ count s _ f. f.0))
     (λ _ s _ f. refl))
-    (λ s f. let p = each_known None s f.1.1.1 in
+    (λ s f. let p = each_name_ranges None s f.1.1.1 in
     (record { rising = rises-from_each None s f.1.1.1; each = p.0 }, (f.1.0.0, p.1)))
     (λ s f. (tt, ((f.1.0, refl), (refl, each-from_names s f.0.each f.1.1 f.0.rising))))
     (λ s f. refl)

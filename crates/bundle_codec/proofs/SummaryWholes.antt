@@ -8,8 +8,8 @@ use Rattle.std.proofs.lemmas.List.{append-nil, length-append, drop_more}
 use Rattle.bundle_codec.specs.declared.fault.BundleFault.{BundleFault}
 use Rattle.bundle_codec.specs.declared.summaries.range.NumberRange.{NumberRange}
 use Rattle.bundle_codec.specs.Reading.{AreBytes, after}
-use Rattle.bundle_codec.specs.Summaries.{Known, IsSummary, SpellsSummary, summary_magic, range, known, summary}
-use Rattle.bundle_codec.specs.SummaryReading.{summary_at, nothing_behind, read_whole}
+use Rattle.bundle_codec.specs.Summaries.{NameRanges, IsSummary, SpellsSummary, summary_magic, range, name_ranges, summary}
+use Rattle.bundle_codec.specs.SummaryReading.{summary_at, names_alone, read_whole}
 use Rattle.bundle_codec.proofs.Readers.{ok_is}
 use Rattle.bundle_codec.proofs.OneSpelling.{flat_map_long}
 use Rattle.bundle_codec.proofs.SummaryReads.{RangesCounted, IsCountedSummary, summary_reads}
@@ -19,29 +19,29 @@ use Rattle.bundle_codec.proofs.SummaryReads.{RangesCounted, IsCountedSummary, su
 range_some : (r : NumberRange) → 1 ≤ length (range r)
 range_some r = omega (arith, length-append (to_be_bytes w64 r.first) (to_be_bytes w64 r.last))
 
-known_length : (k : Known) → 1 + length (flat_map range k.ranges) ≤ length (known k)
-known_length k = omega (
+name_ranges_length : (k : NameRanges) → 1 + length (flat_map range k.ranges) ≤ length (name_ranges k)
+name_ranges_length k = omega (
   arith,
   length-append k.name (to_be_bytes w64 (length k.ranges) ++ flat_map range k.ranges),
   length-append (to_be_bytes w64 (length k.ranges)) (flat_map range k.ranges),
 )
 
-known_some : (k : Known) → 1 ≤ length (known k)
-known_some k = omega (arith, known_length k)
+name_ranges_some : (k : NameRanges) → 1 ≤ length (name_ranges k)
+name_ranges_some k = omega (arith, name_ranges_length k)
 
-counted_each : (ks : List Known) → length (flat_map known ks) < 2 ^ 64 → RangesCounted ks
+counted_each : (ks : List NameRanges) → length (flat_map name_ranges ks) < 2 ^ 64 → RangesCounted ks
 counted_each [] h = tt
 counted_each (k ∷ ks) h =
-    let parts : length (flat_map known (k ∷ ks)) ≡ length (known k) + length (flat_map known ks) =
-    ap length (flat_map-cons known k ks) ∙ length-append (known k) (flat_map known ks) in
-    (omega (arith, known_length k, flat_map_long range range_some k.ranges), counted_each ks (omega arith))
+    let parts : length (flat_map name_ranges (k ∷ ks)) ≡ length (name_ranges k) + length (flat_map name_ranges ks) =
+    ap length (flat_map-cons name_ranges k ks) ∙ length-append (name_ranges k) (flat_map name_ranges ks) in
+    (omega (arith, name_ranges_length k, flat_map_long range range_some k.ranges), counted_each ks (omega arith))
 
-pub counted-from_length : (s : List Known) → IsSummary s → length (summary s) < 2 ^ 64 → IsCountedSummary s
+pub counted-from_length : (s : List NameRanges) → IsSummary s → length (summary s) < 2 ^ 64 → IsCountedSummary s
 unfolding summary
 counted-from_length s form h =
-    let parts = length-append summary_magic (to_be_bytes w64 (length s) ++ flat_map known s) in
-    let counted = length-append (to_be_bytes w64 (length s)) (flat_map known s) in
-    let many = flat_map_long known known_some s in
+    let parts = length-append summary_magic (to_be_bytes w64 (length s) ++ flat_map name_ranges s) in
+    let counted = length-append (to_be_bytes w64 (length s)) (flat_map name_ranges s) in
+    let many = flat_map_long name_ranges name_ranges_some s in
     (form, (omega arith, counted_each s (omega arith)))
 
 -- ---- whole summaries
@@ -53,7 +53,7 @@ is_nil (x ∷ xs) e = absurd (omega (arith, eqb-true (length (x ∷ xs)) 0 (sym 
 pub not_nil : (xs : List ℕ) → false ≡ eqb (length xs) 0 → xs ≢ []
 not_nil xs e h = absurd (false≢true (e ∙ ap (λ (ys : List ℕ). eqb (length ys) 0) h))
 
-pub is_read : (s : List Known) (rest : List ℕ) → IsSummary s → length (summary s ++ rest) < 2 ^ 64
+pub is_read : (s : List NameRanges) (rest : List ℕ) → IsSummary s → length (summary s ++ rest) < 2 ^ 64
     → summary_at (summary s ++ rest) ≡ Ok (s, rest)
 is_read s rest form short = summary_reads.again s rest (counted-from_length s form (omega (arith, length-append (summary s) rest)))
 
@@ -64,7 +64,7 @@ spelled_read bytes short h =
     ap summary_at alone ∙ is_read h.names [] h.form (omega (arith, ap length alone))
 
 -- what is read to its end is a summary, which the bytes spell
-pub read_is : (bytes : List ℕ) → AreBytes bytes → (s : List Known) (rest : List ℕ) → rest ≡ [] → summary_at bytes ≡ Ok (s, rest)
+pub read_is : (bytes : List ℕ) → AreBytes bytes → (s : List NameRanges) (rest : List ℕ) → rest ≡ [] → summary_at bytes ≡ Ok (s, rest)
     → IsSummary s × (bytes ≡ summary s)
 read_is bytes fits s rest none e =
     let t = summary_reads.takes bytes s rest fits e in
@@ -74,7 +74,7 @@ read_is bytes fits s rest none e =
 pub some_names : (bytes : List ℕ) → AreBytes bytes → (rest : List ℕ) → rest ≡ [] → after (summary_at bytes) ≡ Ok rest → SpellsSummary bytes
 some_names bytes fits rest none e = by (summary_at bytes) refl e
   where
-    by : (r : Result (List Known × List ℕ) BundleFault) → summary_at bytes ≡ r → after r ≡ Ok rest → SpellsSummary bytes
+    by : (r : Result (List NameRanges × List ℕ) BundleFault) → summary_at bytes ≡ r → after r ≡ Ok rest → SpellsSummary bytes
     by (Ok x) h a =
         let t = read_is bytes fits x.0 x.1 (ok_is x.1 rest a ∙ none) h in
         record { names = x.0; form = t.0; spelled = t.1 }
@@ -91,38 +91,38 @@ none_followed bytes short rest e some h = some (ok_is rest [] (sym e ∙ ap afte
 
 -- ---- as a whole reading says it
 
-pub read_fails : (r : Result (List Known × List ℕ) BundleFault) (f : BundleFault) → after r ≡ Err f → read_whole r ≡ None
+pub read_fails : (r : Result (List NameRanges × List ℕ) BundleFault) (f : BundleFault) → after r ≡ Err f → read_whole r ≡ None
 read_fails (Ok x) f e = absurd cc
 read_fails (Err g) f e = refl
 
-behind_none : (names : List Known) (rest : List ℕ) → rest ≢ [] → nothing_behind names rest ≡ None
-behind_none names [] some = absurd (some refl)
-behind_none names (b ∷ rest) some = refl
+alone_none : (names : List NameRanges) (rest : List ℕ) → rest ≢ [] → names_alone names rest ≡ None
+alone_none names [] some = absurd (some refl)
+alone_none names (b ∷ rest) some = refl
 
-pub read_goes_on : (r : Result (List Known × List ℕ) BundleFault) (rest : List ℕ) → after r ≡ Ok rest → rest ≢ [] → read_whole r ≡ None
-read_goes_on (Ok x) rest e some = behind_none x.0 x.1 (λ none. some (sym (ok_is x.1 rest e) ∙ none))
+pub read_goes_on : (r : Result (List NameRanges × List ℕ) BundleFault) (rest : List ℕ) → after r ≡ Ok rest → rest ≢ [] → read_whole r ≡ None
+read_goes_on (Ok x) rest e some = alone_none x.0 x.1 (λ none. some (sym (ok_is x.1 rest e) ∙ none))
 read_goes_on (Err g) rest e some = refl
 
-pub read_ends : (r : Result (List Known × List ℕ) BundleFault) (rest : List ℕ) → after r ≡ Ok rest → rest ≡ [] → IsSome (read_whole r)
-read_ends (Ok x) rest e none = ap (λ (w : List ℕ). is_some (nothing_behind x.0 w)) (ok_is x.1 rest e ∙ none)
+pub read_ends : (r : Result (List NameRanges × List ℕ) BundleFault) (rest : List ℕ) → after r ≡ Ok rest → rest ≡ [] → IsSome (read_whole r)
+read_ends (Ok x) rest e none = ap (λ (w : List ℕ). is_some (names_alone x.0 w)) (ok_is x.1 rest e ∙ none)
 read_ends (Err g) rest e none = absurd cc
 
 -- a summary that was read to the end is a whole one
-pub read_gives : (r : Result (List Known × List ℕ) BundleFault) (s : List Known) (rest : List ℕ) → rest ≡ [] → r ≡ Ok (s, rest)
+pub read_gives : (r : Result (List NameRanges × List ℕ) BundleFault) (s : List NameRanges) (rest : List ℕ) → rest ≡ [] → r ≡ Ok (s, rest)
     → read_whole r ≡ Some s
-read_gives r s rest none e = ap read_whole e ∙ ap (nothing_behind s) none
+read_gives r s rest none e = ap read_whole e ∙ ap (names_alone s) none
 
 -- one summary has one spelling, and one spelling is of one summary
-pub one_summary : (a b : List Known) → IsSummary a → IsSummary b → length (summary a) < 2 ^ 64 → summary a ≡ summary b → a ≡ b
+pub one_summary : (a b : List NameRanges) → IsSummary a → IsSummary b → length (summary a) < 2 ^ 64 → summary a ≡ summary b → a ≡ b
 one_summary a b f g short e =
     let one = spelled_read (summary a) short (record { names = a; form = f; spelled = refl }) in
     let other = spelled_read (summary a) short (record { names = b; form = g; spelled = e }) in
-    ap (λ (x : List Known × List ℕ). x.0) (ok_is (a, []) (b, []) (sym one ∙ other))
+    ap (λ (x : List NameRanges × List ℕ). x.0) (ok_is (a, []) (b, []) (sym one ∙ other))
 
 -- the front with the count, and the names
-pub summary_fronted : (s : List Known) → (summary_magic ++ to_be_bytes w64 (length s)) ++ flat_map known s ≡ summary s
+pub summary_fronted : (s : List NameRanges) → (summary_magic ++ to_be_bytes w64 (length s)) ++ flat_map name_ranges s ≡ summary s
 unfolding summary
-summary_fronted s = append_assoc summary_magic (to_be_bytes w64 (length s)) (flat_map known s)
+summary_fronted s = append_assoc summary_magic (to_be_bytes w64 (length s)) (flat_map name_ranges s)
 
 -- bytes with one thing more of a list after them
 pub pushed_on : {A : Type 0} (f : A → List ℕ) (xs : List A) (i : ℕ) (d : A) (bytes new whole : List ℕ) → i < length xs

@@ -16,7 +16,7 @@ use Rattle.op_core.specs.Ids.{Id, id_below, is_number}
 use Rattle.op_core.specs.Ops.{Operation, IsOperation}
 use Rattle.op_core.specs.Sets.{IsOpSet, get, rises}
 use Rattle.op_core.proofs.Union.{held_itself}
-use Rattle.bundle_codec.specs.Summaries.{Known, IsKnown, IsSummaryOf, has_number, covers, numbers_of, ranges_of, summary_of}
+use Rattle.bundle_codec.specs.Summaries.{NameRanges, AreNameRanges, IsSummaryOf, has_number, covers, numbers_of, ranges_of, summary_of}
 use Rattle.bundle_codec.proofs.SummaryReads.{name_total}
 use Rattle.bundle_codec.proofs.Holding.{below_strict, id_of}
 use Rattle.bundle_codec.proofs.Covered.{same_tied}
@@ -147,7 +147,7 @@ module _ (q : List ℕ) where
           (rest (sym (λ i. is_some (cond (e i && same_bytes q o.id.name) (Some o) (get ops (id_of n q)))) ∙ h)) ∙ or_true (is_q o.id.name)
 
 module _ (held : List Operation) where
-  abbrev told : List ℕ → Known
+  abbrev told : List ℕ → NameRanges
   told q = record { name = q; ranges = ranges_of (numbers_of held q) }
 
   covers_told : (id : Id) (xs : List (List ℕ))
@@ -198,8 +198,14 @@ module _ (held : List Operation) (set : IsOpSet held) where
     name : is_name q ≡ true
     some : numbers_of held q ≢ []
 
-  good_known : (q : List ℕ) → Good q → IsKnown (told held q)
-  good_known q g = record { name = g.name; some = ranges_some (numbers_of held q) g.some; each = (right q).each; apart = (right q).apart }
+  good_name_ranges : (q : List ℕ) → Good q → AreNameRanges (told held q)
+  good_name_ranges q g = record {
+    name = g.name;
+    some = ranges_some (numbers_of held q) g.some;
+    each = (right q).each;
+    apart =
+        (right q).apart;
+  }
 
   good_each : (ops : List Operation) → AllByRecursion IsOperation ops → AllByRecursion (λ o. get held o.id ≡ Some o) ops
       → AllByRecursion Good (map (λ (o : Operation). o.id.name) ops)
@@ -226,18 +232,18 @@ module _ (held : List Operation) (set : IsOpSet held) where
   all_rising [] h = tt
   all_rising (x ∷ xs) h = all_item x (rising name_cmp xs) h.0 (all_rising xs h.1)
 
-  each_known : (xs : List (List ℕ)) → AllByRecursion Good xs → AllByRecursion IsKnown (map (told held) xs)
-  each_known [] h = tt
-  each_known (x ∷ xs) h = (good_known x h.0, each_known xs h.1)
+  each_name_ranges : (xs : List (List ℕ)) → AllByRecursion Good xs → AllByRecursion AreNameRanges (map (told held) xs)
+  each_name_ranges [] h = tt
+  each_name_ranges (x ∷ xs) h = (good_name_ranges x h.0, each_name_ranges xs h.1)
 
   below_told : (q : List ℕ) (xs : List (List ℕ)) → list_all (λ x. is_lt (name_cmp q x)) xs ≡ true
-      → list_all (λ (k : Known). is_lt (name_cmp q k.name)) (map (told held) xs) ≡ true
+      → list_all (λ (k : NameRanges). is_lt (name_cmp q k.name)) (map (told held) xs) ≡ true
   below_told q [] h = refl
   below_told q (x ∷ xs) h =
       let p = and_parts (is_lt (name_cmp q x)) (list_all (λ y. is_lt (name_cmp q y)) xs) h in and_from _ _ p.0 (below_told q xs p.1)
 
   rises_told : (xs : List (List ℕ)) → rises_by name_cmp (λ x. x) xs ≡ true
-      → rises_by name_cmp (λ (k : Known). k.name) (map (told held) xs) ≡ true
+      → rises_by name_cmp (λ (k : NameRanges). k.name) (map (told held) xs) ≡ true
   rises_told [] h = refl
   rises_told (x ∷ xs) h = let p = and_parts (list_all (λ y. is_lt (name_cmp x y)) xs) (rises_by name_cmp (λ y. y) xs) h in
       and_from _ _ (below_told x xs p.0) (rises_told xs p.1)
@@ -248,11 +254,11 @@ module _ (held : List Operation) (set : IsOpSet held) where
     form = record {
       rising = rises_told (rising name_cmp (map (λ (o : Operation). o.id.name) held))
           (rises-rising name_cmp name_total (map (λ (o : Operation). o.id.name) held));
-      each = each_known (rising name_cmp (map (λ (o : Operation). o.id.name) held))
+      each = each_name_ranges (rising name_cmp (map (λ (o : Operation). o.id.name) held))
           (all_rising (map (λ (o : Operation). o.id.name) held) (good_each held set.each (held_itself held set.rising)));
     };
     exactly = covers_its_ids held;
   }
 
-  pub same_as_told : (s : List Known) → IsSummaryOf held s → s ≡ summary_of held
+  pub same_as_told : (s : List NameRanges) → IsSummaryOf held s → s ≡ summary_of held
   same_as_told s h = same_summary held s (summary_of held) h summary_of_is

@@ -21,7 +21,7 @@ use Rattle.bundle_codec.specs.declared.summaries.range.NumberRange.{NumberRange}
 -- ---- a summary
 
 -- a name, and the ranges of its numbers
-pub record Known : Type 0 where
+pub record NameRanges : Type 0 where
   pub name : List ℕ
   pub ranges : List NumberRange
 
@@ -35,7 +35,7 @@ are_apart [] = true
 are_apart (r ∷ rs) = list_all (λ s. nat_lt (suc r.last) s.first) rs && are_apart rs
 
 -- a right name, and at least one range
-pub record IsKnown (k : Known) : Type 0 where
+pub record AreNameRanges (k : NameRanges) : Type 0 where
   pub name : IsTrue (is_name k.name)
   pub some : k.ranges ≢ []
   pub each : IsTrue (list_all is_range k.ranges)
@@ -43,23 +43,23 @@ pub record IsKnown (k : Known) : Type 0 where
 
 -- a summary: names that rise by their bytes, each with ranges that lie from 1 to 10^15, at least one, no two of
 -- which touch
-pub record IsSummary (s : List Known) : Type 0 where
+pub record IsSummary (s : List NameRanges) : Type 0 where
   pub rising : IsTrue (rises_by name_cmp (λ k. k.name) s)
-  pub each : AllByRecursion IsKnown s
+  pub each : AllByRecursion AreNameRanges s
 
 -- whether a number lies in one of the ranges
 abbrev pub has_number : List NumberRange → ℕ → Bool
 has_number ranges n = list_any (λ r. nat_le r.first n && nat_le n r.last) ranges
 
 -- whether an id's number lies in a range of its name
-abbrev pub covers : List Known → Id → Bool
+abbrev pub covers : List NameRanges → Id → Bool
 covers s id = list_any (λ k. same_bytes k.name id.name && has_number k.ranges id.number) s
 
 -- ---- the summary of a set
 
 -- Each held number lies in a range of its name, and no range has another number. Since no two ranges touch, each is as
 -- long as can be, and each number lies in one of them alone.
-pub record IsSummaryOf (held : List Operation) (s : List Known) : Type 0 where
+pub record IsSummaryOf (held : List Operation) (s : List NameRanges) : Type 0 where
   pub form : IsSummary s
   pub exactly : (id : Id) → covers s id ≡ is_some (get held id)
 
@@ -80,13 +80,13 @@ ranges_of [] = []
 ranges_of (n ∷ ns) = with_first n (ranges_of ns)
 
 -- for each name in an id of the set, the ranges of its numbers
-abbrev pub summary_of : List Operation → List Known
+abbrev pub summary_of : List Operation → List NameRanges
 summary_of held =
     map (λ name. record { name = name; ranges = ranges_of (numbers_of held name) })
     (rising name_cmp (map (λ o. o.id.name) held))
 
 -- the operations whose ids lie outside a summary, and where one of these is thinned, all others of its segment
-abbrev pub outside : List Known → List Operation → List Operation
+abbrev pub outside : List NameRanges → List Operation → List Operation
 outside s held = delta held (covers s)
 
 -- whether some books with keys are those of a segment too
@@ -109,16 +109,16 @@ abbrev pub counted_ranges : List NumberRange → List ℕ
 counted_ranges ranges = to_be_bytes w64 (length ranges) ++ flat_map range ranges
 
 -- the name's length in one byte, the name, and its ranges
-abbrev pub known : Known → List ℕ
-known k = length k.name ∷ (k.name ++ counted_ranges k.ranges)
+abbrev pub name_ranges : NameRanges → List ℕ
+name_ranges k = length k.name ∷ (k.name ++ counted_ranges k.ranges)
 
 -- the magic, how many names, and each of them with its ranges
-unfoldable pub summary : List Known → List ℕ
-summary s = summary_magic ++ (to_be_bytes w64 (length s) ++ flat_map known s)
+unfoldable pub summary : List NameRanges → List ℕ
+summary s = summary_magic ++ (to_be_bytes w64 (length s) ++ flat_map name_ranges s)
 
 -- the bytes are a summary and nothing more
 pub record SpellsSummary (bytes : List ℕ) : Type 0 where
-  pub names : List Known
+  pub names : List NameRanges
   pub form : IsSummary names
   pub spelled : bytes ≡ summary names
 

@@ -10,7 +10,7 @@ use Rattle.bundle_codec.specs.declared.fault.SummaryFault.{SummaryFault}
 use Rattle.bundle_codec.specs.declared.fault.SummaryFault.TheVariants.{Memory, BadSummary}
 use Rattle.bundle_codec.specs.declared.summaries.range.NumberRange.{NumberRange}
 use Rattle.bundle_codec.specs.Reading.{◌>>=◌, any, check, byte_at, block_at, number_at, exactly_at, many_at, is_name_length}
-use Rattle.bundle_codec.specs.Summaries.{Known, is_range, summary_magic}
+use Rattle.bundle_codec.specs.Summaries.{NameRanges, is_range, summary_magic}
 
 -- the one fault, in the words of fields
 abbrev pub bad : BundleFault
@@ -52,24 +52,25 @@ name_at before bytes = do
   Ok name
 
 -- a name with its ranges, at least one
-unfoldable pub known_at : Option (List ℕ) → List ℕ → Result (Known × List ℕ) BundleFault
-known_at before bytes = do
+unfoldable pub name_ranges_at : Option (List ℕ) → List ℕ → Result (NameRanges × List ℕ) BundleFault
+name_ranges_at before bytes = do
   name ← name_at before bytes
   count ← number_at w64 (λ n. nat_le 1 n) bad name.1
   ranges ← ranges_at count.0 count.1
   Ok (record { name = name.0; ranges = ranges.0 }, ranges.1)
 
 -- of a name that was read with its ranges, the name, and the bytes after the ranges
-abbrev pub name_read : Result (Known × List ℕ) BundleFault → Result (List ℕ × List ℕ) BundleFault
+abbrev pub name_read : Result (NameRanges × List ℕ) BundleFault →
+    Result (List ℕ × List ℕ) BundleFault
 name_read read = read >>= λ k. Ok (k.0.name, k.1)
 
 -- the name before the next one
-abbrev pub after_known : Option (List ℕ) → Known → Option (List ℕ)
-after_known before k = Some k.name
+abbrev pub after_name : Option (List ℕ) → NameRanges → Option (List ℕ)
+after_name before k = Some k.name
 
 -- this many names with their ranges
-abbrev pub names_at : ℕ → List ℕ → Result (List Known × List ℕ) BundleFault
-names_at n bytes = many_at known_at after_known n None bytes
+abbrev pub names_at : ℕ → List ℕ → Result (List NameRanges × List ℕ) BundleFault
+names_at n bytes = many_at name_ranges_at after_name n None bytes
 
 -- where memory was there to keep what is read, it is what the bytes spell, and the bytes after it are left
 abbrev pub Keeps : {X A : Type 0} → Result (List X × List ℕ) BundleFault →
@@ -77,7 +78,7 @@ abbrev pub Keeps : {X A : Type 0} → Result (List X × List ℕ) BundleFault �
 Keeps read x = IfSome x.0 (λ v. read ≡ Ok (v.items, x.1.now))
 
 -- a summary at the front, and what follows it
-unfoldable pub summary_at : List ℕ → Result (List Known × List ℕ) BundleFault
+unfoldable pub summary_at : List ℕ → Result (List NameRanges × List ℕ) BundleFault
 summary_at bytes = do
   start ← exactly_at summary_magic bad bytes
   count ← number_at w64 any bad start.1
@@ -86,20 +87,20 @@ summary_at bytes = do
 -- ---- whole summaries
 
 -- the names that were read, if no bytes follow them
-abbrev pub nothing_behind : List Known → List ℕ → Option (List Known)
-nothing_behind names [] = Some names
-nothing_behind names (b ∷ rest) = None
+abbrev pub names_alone : List NameRanges → List ℕ → Option (List NameRanges)
+names_alone names [] = Some names
+names_alone names (b ∷ rest) = None
 
 -- the names of a summary that was read to the end of the bytes
-abbrev pub read_whole : Result (List Known × List ℕ) BundleFault → Option (List Known)
-read_whole (Ok read) = nothing_behind read.0 read.1
+abbrev pub read_whole : Result (List NameRanges × List ℕ) BundleFault → Option (List NameRanges)
+read_whole (Ok read) = names_alone read.0 read.1
 read_whole (Err fault) = None
 
 -- the summary that the bytes are, to their end
-abbrev pub read_summary : List ℕ → Option (List Known)
+abbrev pub read_summary : List ℕ → Option (List NameRanges)
 read_summary bytes = read_whole (summary_at bytes)
 
 -- bytes are refused as bad exactly where they are no summary, and out of memory is answered for a summary alone
-abbrev pub ReadFails : Option (List Known) → SummaryFault → Type 0
+abbrev pub ReadFails : Option (List NameRanges) → SummaryFault → Type 0
 ReadFails found Memory = IsSome found
 ReadFails found BadSummary = found ≡ None

@@ -21,7 +21,7 @@ use std::marker::Model;
 pub struct Bundle<'a> {
     full: bool,
     count: u64,
-    bytes: &'a [u8],
+    pub(crate) bytes: &'a [u8],
 }
 
 impl<'a> Model for Bundle<'a> {

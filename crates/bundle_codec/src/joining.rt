@@ -1,11 +1,16 @@
 // The bundle of the union of two bundles.
-ghost use Rattle.std.specs.Prelude.{◌≡◌, Ok, IfOk, IfErr};
+ghost use Rattle.std.specs.Prelude.{◌≡◌, ◌++◌, Ok, IfOk, IfErr, IsTrue, length};
+ghost use Rattle.op_core.specs.Sets as sets;
+ghost use Rattle.op_core.specs.Thinned.{is_legal};
 ghost use Rattle.bundle_codec.specs.Joining as joining;
+ghost use Rattle.bundle_codec.specs.Loops.Merging.{RefusesUnion};
+ghost use Rattle.bundle_codec.specs.Spelling as spelled;
 
+use crate::bundle::Bundle;
 use crate::fault::JoinFault;
 use crate::merging::push_union;
 use crate::whole::decode_whole;
-use crate::writing::{push_front, set_front};
+use crate::writing::{push_front, set_front_at};
 use std::alloc::Global;
 
 /// The bundle of the union of two bundles, each operation copied with the bytes that spell it.
@@ -30,9 +35,42 @@ pub fn join_bundles(alloc: Global, first: &[u8], second: &[u8]) -> Result<Vec<u8
 {
     let left = decode_whole(alloc, first)?;
     let right = decode_whole(alloc, second)?;
-    let mut bytes = Vec::with_capacity(alloc, first.len() + second.len())?;
-    push_front(&mut bytes, true, 0)?;
-    let (full, count) = push_union(&mut bytes, left.ops(), right.ops())?;
-    set_front(&mut bytes, full, count);
+    let room = Vec::with_capacity(alloc, first.len() + second.len())?;
+    let (bytes, _) = left.join_after(&right, room)?;
     Ok(bytes)
+}
+
+impl Bundle<'_> {
+    /// The bytes with the bundle of the union of two bundles after them, for a file that has it after
+    /// something else, and how many operations the union has. Each is copied with the bytes that spell
+    /// it. The bytes are taken, and dropped on an error.
+    ///
+    /// An operation that one of them has in full and the other without its text is thinned in the union.
+    /// As much is taken at once as both of them fill; nothing goes by a count that they state.
+    ///
+    /// # Errors
+    /// - `Clash` with the least id under which the two have operations that do not agree, as of
+    ///   `join_bundles`.
+    /// - `Memory` where a growth was refused.
+    pub fn join_after(
+        &self,
+        other: &Bundle<'_>,
+        mut bytes: Vec<u8>,
+    ) -> Result<(Vec<u8>, u64), JoinFault>
+        ensures joined { let union = sets.join self.now other.now in
+            IfOk result (λ made. made.0.items ≡ bytes.items ++ spelled.bundle union) }
+        ensures count { IfOk result (λ made. made.1 ≡ length (sets.join self.now other.now)) }
+        ensures agrees { IfOk result (λ _. sets.clash self.now other.now ≡ None) }
+        // The union is a legal set of operations.
+        ensures set { IfOk result (λ _. sets.IsOpSet (sets.join self.now other.now)) }
+        ensures legal { IfOk result (λ _. IsTrue (is_legal (sets.join self.now other.now))) }
+        ensures refused { IfErr result (RefusesUnion (sets.clash self.now other.now)) }
+    {
+        let at = bytes.len();
+        push_front(&mut bytes, true, 0)?;
+        bytes.reserve(self.bytes.len() + other.bytes.len())?;
+        let (full, count) = push_union(&mut bytes, self.ops(), other.ops())?;
+        set_front_at(&mut bytes, at, full, count);
+        Ok((bytes, count))
+    }
 }

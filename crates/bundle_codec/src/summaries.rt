@@ -22,7 +22,7 @@ use range::find_range;
 use reading::summary_of;
 use std::alloc::{AllocError, Global};
 use std::marker::Model;
-use writing::{push_front, push_known};
+use writing::{push_front, push_name_ranges};
 
 /// Which ids a copy holds: names, rising by their bytes, each with ranges of numbers, of which no two
 /// touch.
@@ -33,9 +33,9 @@ pub struct Summary {
 
 impl Model for Summary {
     ghost use Rattle.std.specs.Prelude.{List};
-    ghost use Rattle.bundle_codec.specs.Summaries.{Known, IsSummary};
+    ghost use Rattle.bundle_codec.specs.Summaries.{NameRanges, IsSummary};
 
-    ghost Value = { List Known };
+    ghost Value = { List NameRanges };
 
     ghost view = { λ s. s.names.items };
 
@@ -83,8 +83,8 @@ impl Summary {
         let mut bytes = Vec::new(alloc);
         let names = self.names.as_slice();
         push_front(&mut bytes, names.len() as u64)?;
-        for known in names {
-            push_known(&mut bytes, known)?;
+        for name_ranges in names {
+            push_name_ranges(&mut bytes, name_ranges)?;
         }
         Ok(bytes)
     }
@@ -110,7 +110,7 @@ impl Summary {
     {
         match find_name(&self.names, id.name.text().as_bytes(), 0) {
             None => false,
-            Some((_, known)) => find_range(known.ranges(), id.number, 0).is_some(),
+            Some((_, name_ranges)) => find_range(name_ranges.ranges(), id.number, 0).is_some(),
         }
     }
 

@@ -145,7 +145,10 @@ fn vectors(rt: HostRuntime) -> Result<(), Fail> {
 // The front of a bundle, and what each of its views says that it is spelled by.
 fn spelled_again(alloc: Global, bytes: &[u8]) -> Result<Vec<u8>, Fail> {
     let (bundle, _) = decode(alloc, bytes)?;
-    let mut spelled = bytes[..16].to_vec(alloc)?;
+    let Some(front) = bytes.get(..16) else {
+        return Err(Fail::from("a bundle has a front"));
+    };
+    let mut spelled = front.to_vec(alloc)?;
     for view in bundle.ops() {
         spelled.extend_from_slice(view.spelled())?;
     }

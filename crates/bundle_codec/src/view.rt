@@ -1,4 +1,5 @@
 ghost use Rattle.std.specs.Prelude.{◌≡◌, ◌<◌, ◌^◌, length, IfOk};
+ghost use Rattle.op_core.specs.Export.{of_book};
 ghost use Rattle.op_core.specs.Ids.{id_cmp};
 ghost use Rattle.op_core.specs.Ops.{IsOperation, in_segment, same_op, agree};
 ghost use Rattle.op_core.specs.Ops as ops;
@@ -54,6 +55,14 @@ impl<'a> OpView<'a> {
         ensures { result ≡ self.now.segment.book }
     {
         book_in(self.fields.code)
+    }
+
+    /// Whether its segment is of the book.
+    pub fn is_of_book(&self, book: Book) -> bool
+        ensures { result ≡ of_book book self.now }
+    {
+        let code = book.code();
+        self.fields.code == code.as_slice()
     }
 
     /// The key of its segment.
@@ -125,8 +134,9 @@ impl<'a> OpView<'a> {
         own == other.bytes
     }
 
-    // Whether the two are equal, or at least one is thinned and they are equal but for their texts.
-    pub(crate) fn agrees(&self, other: &OpView<'_>) -> bool
+    /// Whether the two are equal, or at least one is thinned and they are equal but for their texts. It
+    /// takes no memory.
+    pub fn agrees(&self, other: &OpView<'_>) -> bool
         ensures { result ≡ agree self.now other.now }
     {
         match (self.text(), other.text()) {

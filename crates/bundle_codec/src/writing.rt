@@ -66,7 +66,16 @@ pub(crate) fn set_front(bytes: &mut Vec<u8>, full: bool, count: u64)
     ensures { let front = spelled.magic_of full ++ to_be_bytes w64 count in
         bytes.new.items ≡ front ++ drop 16 bytes.old.items }
 {
-    bytes[0..16].copy_from_slice(&front_of(full, count));
+    set_front_at(bytes, 0, full, count);
+}
+
+// Writes the format and the count of a bundle over those that are at a place of the bytes.
+pub(crate) fn set_front_at(bytes: &mut Vec<u8>, at: usize, full: bool, count: u64)
+    requires { at + 16 ≤ vec_len bytes.old }
+    ensures { let front = spelled.magic_of full ++ to_be_bytes w64 count in
+        bytes.new.items ≡ take at bytes.old.items ++ (front ++ drop (at + 16) bytes.old.items) }
+{
+    bytes[at..at + 16].copy_from_slice(&front_of(full, count));
 }
 
 // The magic of the format and the count.

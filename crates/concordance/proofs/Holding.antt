@@ -6,7 +6,7 @@ use Rattle.std.proofs.lemmas.Bool.{and_from}
 use Rattle.std.proofs.lemmas.Bool.Decides.{nat_tests}
 use Rattle.std.proofs.lemmas.List.Elements.{All-nil, All-cons, All-head, All-tail}
 use Rattle.sty_sheet.specs.Records.{Record}
-use Rattle.verse_cut.specs.Pieces.{Part, AreNeighbours, pieces_of, IsCutOf}
+use Rattle.verse_cut.specs.Pieces.{PieceParts, AreNeighbours, pieces_of, IsCutOf}
 use Rattle.concordance.specs.Hits.{keyed, occurrences, passage_of, hits_of}
 use Rattle.concordance.specs.Passages.{Passage, StandApart}
 use Rattle.concordance.specs.Plain.{plain_leaves}
@@ -63,16 +63,16 @@ rise_apart s low high (p ∷ ps) a f =
     from k [] h b = tt
     from k (q ∷ qs) h b = (let c = b.0 in omega arith, b.1, b.2, b.3)
 
-neighbours_tested : (at : ℕ) (ps : List Part) → AreNeighbours at ps → are_neighbours at ps ≡ true
+neighbours_tested : (at : ℕ) (ps : List PieceParts) → AreNeighbours at ps → are_neighbours at ps ≡ true
 neighbours_tested at [] h = refl
 neighbours_tested at (p ∷ ps) h = and_from _ _ (let e = h.0 in grind (arith, nat_tests)) (neighbours_tested (at + length p.text) ps h.1)
 
-begin_is : (ps : List Part) → AreNeighbours 0 ps → begin_of ps ≡ 0
+begin_is : (ps : List PieceParts) → AreNeighbours 0 ps → begin_of ps ≡ 0
 begin_is [] h = refl
 begin_is (p ∷ ps) h = h.0
 
 -- the pieces of a text hold passages of it that are not empty
-pub pieces_hold : (s : List ℕ) (pieces : List Part) (ps : List Passage) → IsCutOf pieces s → Apart s 0 (length s) ps → Filled ps
+pub pieces_hold : (s : List ℕ) (pieces : List PieceParts) (ps : List Passage) → IsCutOf pieces s → Apart s 0 (length s) ps → Filled ps
     → hold_all pieces ps ≡ true
 pieces_hold s pieces ps cut a f =
     let zero_is = begin_is pieces cut.neighbours in
@@ -94,7 +94,7 @@ pub found_filled : (sheet : List Record) (s needle : List ℕ) → 0 < length ne
     → Filled (flat_map (occurrences needle) (plain_leaves sheet s))
 found_filled sheet s needle some = filled_each (occurrences needle) (plain_leaves sheet s) (occurrences_filled needle some)
 
-passages_keyed : (pieces : List Part) (ps : List Passage) → map passage_of (map (keyed pieces) ps) ≡ ps
+passages_keyed : (pieces : List PieceParts) (ps : List Passage) → map passage_of (map (keyed pieces) ps) ≡ ps
 passages_keyed pieces [] = refl
 passages_keyed pieces (p ∷ ps) = ap (λ l. p ∷ l) (passages_keyed pieces ps)
 

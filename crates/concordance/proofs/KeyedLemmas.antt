@@ -5,7 +5,7 @@ use Rattle.std.specs.Prelude.{nat_le, nat_lt}
 use Rattle.std.proofs.lemmas.Bool.{and_parts}
 use Rattle.std.proofs.lemmas.Bool.Decides.{nat_tests}
 use Rattle.usfm_ref.specs.Keys.{KeyParts}
-use Rattle.verse_cut.specs.Pieces.{Part}
+use Rattle.verse_cut.specs.Pieces.{PieceParts}
 use Rattle.verse_cut.specs.Places.{key_at}
 use Rattle.concordance.specs.Hits.{HitParts, keyed}
 use Rattle.concordance.specs.Passages.{Passage}
@@ -17,7 +17,7 @@ use Rattle.concordance.specs.declared.passage.Passage as passages
 le_from : (a b : ℕ) → nat_le a b ≡ true → a ≤ b
 le_from a b h = grind (arith, nat_tests)
 
-keyed_from : (ps ps' : List Part) (low end : ℕ) (qs : List Passage) → rise_between low end qs ≡ true
+keyed_from : (ps ps' : List PieceParts) (low end : ℕ) (qs : List Passage) → rise_between low end qs ≡ true
     → ((n : ℕ) → low ≤ n → key_at ps' n ≡ key_at ps n) → map (keyed ps) qs ≡ map (keyed ps') qs
 keyed_from ps ps' low end [] h same = refl
 keyed_from ps ps' low end (q ∷ qs) h same =
@@ -28,7 +28,7 @@ keyed_from ps ps' low end (q ∷ qs) h same =
     ∷ keyed_from ps ps' q.start end qs b.1 (λ n l. same n (omega arith)) i
 
 -- the first passage gets the key of its piece, and the others theirs, from the pieces that are left
-pub keyed_step : (ps ps' : List Part) (items : List passages.Passage) (p : passages.Passage) (key : KeyParts) → 0 < length items
+pub keyed_step : (ps ps' : List PieceParts) (items : List passages.Passage) (p : passages.Passage) (key : KeyParts) → 0 < length items
     → p ≡ get_or items 0 p → IsTrue (hold_all ps (passages_view items)) → ((n : ℕ) → p.start ≤ n → key_at ps' n ≡ key_at ps n)
     → key ≡ key_at ps p.start
     → map (keyed ps) (passages_view items) ≡ (let one : HitParts = record { key = key; start = p.start; text = p.text.now } in one)

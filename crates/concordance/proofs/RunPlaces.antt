@@ -7,7 +7,7 @@ use Rattle.std.specs.Prelude.{chars, encode_utf8, encode_utf8_all, map}
 use Rattle.std.proofs.lemmas.List.Elements.{All-head, All-tail}
 use Rattle.std.proofs.lemmas.Str.{encodes-chars}
 use Rattle.sty_sheet.specs.Records.{Record}
-use Rattle.verse_cut.specs.Pieces.{Part}
+use Rattle.verse_cut.specs.Pieces.{PieceParts}
 use Rattle.concordance.specs.Hits.{keyed}
 use Rattle.concordance.specs.Passages.{Passage}
 use Rattle.concordance.specs.Plain.{plain_leaves}
@@ -144,7 +144,7 @@ all_runs_filled ps = filled_each runs_in ps (λ p. filled_after false p.start (c
 -- ---- spellings
 
 -- runs with their keys, composed, are the spellings of the definition
-pub runs_spelled : (pieces : List Part) (ps : List Passage)
+pub runs_spelled : (pieces : List PieceParts) (ps : List Passage)
     → map composed (map spelled (map (keyed pieces) ps)) ≡ map (spelling_at pieces) ps
 runs_spelled pieces [] = refl
 runs_spelled pieces (p ∷ ps) = ap (λ l. spelling_at pieces p ∷ l) (runs_spelled pieces ps)

@@ -4,7 +4,7 @@ use Rattle.std.specs.List.{flat_map}
 use Rattle.memchr.specs.Find.{matches}
 use Rattle.sty_sheet.specs.Records.{Record}
 use Rattle.usfm_ref.specs.Keys.{KeyParts}
-use Rattle.verse_cut.specs.Pieces.{Part, pieces_of}
+use Rattle.verse_cut.specs.Pieces.{PieceParts, pieces_of}
 use Rattle.verse_cut.specs.Places.{key_at}
 use Rattle.concordance.specs.Passages.{Passage}
 use Rattle.concordance.specs.Plain.{plain_leaves}
@@ -21,7 +21,7 @@ pub record HitParts : Type 0 where
   pub text : List ℕ
 
 -- a passage as a hit, with the key of the piece that holds its start
-abbrev pub keyed : List Part → Passage → HitParts
+abbrev pub keyed : List PieceParts → Passage → HitParts
 keyed ps p = record { key = key_at ps p.start; start = p.start; text = p.text }
 
 -- the hits of a needle in a text, by the records of a style sheet: where it occurs within one plain leaf, from the

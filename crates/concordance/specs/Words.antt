@@ -17,7 +17,7 @@ use Rattle.unicode.specs.GeneralCategory.{general_category}
 use Rattle.unicode_normalization.specs.Forms.{nfc}
 use Rattle.usfm_ref.specs.Keys.{KeyParts, key_cmp}
 use Rattle.usfm_ref.specs.Rising.{rising}
-use Rattle.verse_cut.specs.Pieces.{Part, pieces_of}
+use Rattle.verse_cut.specs.Pieces.{PieceParts, pieces_of}
 use Rattle.verse_cut.specs.Places.{key_at}
 use Rattle.concordance.specs.Passages.{Passage}
 use Rattle.concordance.specs.Plain.{plain_leaves}
@@ -61,7 +61,7 @@ abbrev pub form_of : List ℕ → List ℕ
 form_of bytes = encode_utf8_all (nfc (chars bytes))
 
 -- the form is the run in Normalization Form C, and the key is that of the piece that holds its start
-abbrev pub spelling_at : List Part → Passage → Spelling
+abbrev pub spelling_at : List PieceParts → Passage → Spelling
 spelling_at ps run = record { form = form_of run.text; key = key_at ps run.start }
 
 -- ---- words

@@ -1,7 +1,7 @@
 //! Passages with the keys of the pieces that hold their starts.
 
 ghost use Rattle.std.specs.Prelude.{◌≡◌, map, IsTrue};
-ghost use Rattle.verse_cut.specs.Views.{parts_of};
+ghost use Rattle.verse_cut.specs.Views.{pieces_view};
 ghost use Rattle.concordance.specs.Hits.{keyed};
 ghost use Rattle.concordance.specs.Loops.Reading.{hold_all};
 ghost use Rattle.concordance.specs.Loops.LeafViews.{passages_view, pieces_left};
@@ -23,9 +23,9 @@ impl<'p, 'a> Keyed<'p, 'a> {
     ghost use Rattle.concordance.specs.Loops.KeyedViews.{hits_left};
 
     pub(crate) fn new(passages: &'p [Passage<'a>], pieces: &'p [Piece<'a>]) -> Self
-        requires { IsTrue (hold_all (parts_of pieces.now) (passages_view passages.now)) }
+        requires { IsTrue (hold_all (pieces_view pieces.now) (passages_view passages.now)) }
         ensures { hits_left result
-            ≡ map (keyed (parts_of pieces.now)) (passages_view passages.now) }
+            ≡ map (keyed (pieces_view pieces.now)) (passages_view passages.now) }
     {
         Keyed {
             passages,

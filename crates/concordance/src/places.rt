@@ -4,7 +4,7 @@ ghost use Rattle.std.specs.Prelude.{◌≡◌, ℕ, ◌<◌, ◌≤◌, IsTrue};
 ghost use Rattle.verse_cut.specs.Places.{key_at};
 ghost use Rattle.concordance.specs.Loops.Reading.{are_neighbours, begin_of, end_of};
 ghost use Rattle.concordance.specs.Loops.LeafViews.{pieces_left};
-ghost use Rattle.verse_cut.specs.Views.{parts_of};
+ghost use Rattle.verse_cut.specs.Views.{pieces_view};
 
 use usfm_ref::Key;
 use verse_cut::Piece;
@@ -17,7 +17,7 @@ pub(crate) struct Places<'p, 'a> {
 
 impl<'p, 'a> Places<'p, 'a> {
     pub(crate) fn new(pieces: &'p [Piece<'a>]) -> Self
-        ensures { pieces_left result ≡ parts_of pieces.now }
+        ensures { pieces_left result ≡ pieces_view pieces.now }
     {
         Places { pieces }
     }

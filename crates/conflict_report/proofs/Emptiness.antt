@@ -132,17 +132,17 @@ only (o ∷ p ∷ ops) t u l a b = absurd (omega arith)
 first : (o : Operation) (ops : List Operation) → Contains (o ∷ ops) o
 first o ops = (0, omega arith, refl)
 
-behind : (o p : Operation) (ops : List Operation) → Contains ops p → Contains (o ∷ ops) p
-behind o p ops h = (suc h.0, omega (arith, h.1), h.2)
+in_rest : (o p : Operation) (ops : List Operation) → Contains ops p → Contains (o ∷ ops) p
+in_rest o p ops h = (suc h.0, omega (arith, h.1), h.2)
 
 agree_few : (ops : List Operation) → ((o p : Operation) → Contains ops o → Contains ops p → own_text o ≡ own_text p)
     → length (latest ops) ≤ 1
 agree_few [] h = omega arith
 agree_few (o ∷ []) h = omega arith
 agree_few (o ∷ p ∷ ops) h =
-    let rest = agree_few (p ∷ ops) (λ q r hq hr. h q r (behind o q (p ∷ ops) hq) (behind o r (p ∷ ops) hr)) in
+    let rest = agree_few (p ∷ ops) (λ q r hq hr. h q r (in_rest o q (p ∷ ops) hq) (in_rest o r (p ∷ ops) hr)) in
     let same : same_bytes (own_text p) (own_text o) ≡ true = subst (λ (t : List ℕ). same_bytes t (own_text o) ≡ true)
-    (h o p (first o (p ∷ ops)) (behind o p (p ∷ ops) (first p ops))) (same_bytes-refl (own_text o)) in
+    (h o p (first o (p ∷ ops)) (in_rest o p (p ∷ ops) (first p ops))) (same_bytes-refl (own_text o)) in
     subst (λ (b : Bool). length (cond (b || has_text (own_text o) ops) (latest (p ∷ ops)) (o ∷ latest (p ∷ ops))) ≤ 1) (sym same) rest
 
 -- ---- fewer than two texts

@@ -84,13 +84,13 @@ now_of ops = map (λ op. op.now) ops
 
 -- the operations after those that are left are reported
 pub record IsWalked (all left distinct : List Operation) : Type 0 where
-  pub behind : List Operation
-  pub joined : left ++ behind ≡ all
-  pub told : distinct ≡ reverse (latest behind)
+  pub after : List Operation
+  pub joined : left ++ after ≡ all
+  pub told : distinct ≡ reverse (latest after)
 
 -- before the walk from the back nothing was met
 pub walked_start : (all left distinct : List Operation) → left ≡ all → distinct ≡ [] → IsWalked all left distinct
-walked_start all left distinct e none = record { behind = []; joined = append-nil left ∙ e; told = none }
+walked_start all left distinct e none = record { after = []; joined = append-nil left ∙ e; told = none }
 
 any_now : (text : List ℕ) (ops : List (Bor Operation)) → list_any (λ op. same_bytes (own_text op.now) text) ops ≡ has_text text (now_of ops)
 any_now text [] = refl
@@ -102,22 +102,22 @@ any_reverse text ops =
 
 module _ (all : List Operation) (left rest : List (Bor Operation)) (op : Bor Operation) (distinct : List (Bor Operation))
     (e : left ≡ rest ++ op ∷ []) (w : IsWalked all (now_of left) (now_of distinct)) where
-  seen : (b : Bool) → b ≡ list_any (λ o. same_bytes (own_text o.now) (own_text op.now)) distinct → has_text (own_text op.now) w.behind ≡ b
+  seen : (b : Bool) → b ≡ list_any (λ o. same_bytes (own_text o.now) (own_text op.now)) distinct → has_text (own_text op.now) w.after ≡ b
   seen b h =
-      sym (h ∙ any_now (own_text op.now) distinct ∙ ap (has_text (own_text op.now)) w.told ∙ any_reverse (own_text op.now) (latest w.behind)
-      ∙ any_latest (own_text op.now) w.behind)
+      sym (h ∙ any_now (own_text op.now) distinct ∙ ap (has_text (own_text op.now)) w.told ∙ any_reverse (own_text op.now) (latest w.after)
+      ∙ any_latest (own_text op.now) w.after)
 
-  joined_more : now_of rest ++ op.now ∷ w.behind ≡ all
+  joined_more : now_of rest ++ op.now ∷ w.after ≡ all
   joined_more =
-      sym (append_assoc (now_of rest) (op.now ∷ []) w.behind)
-      ∙ ap (λ (ops : List Operation). ops ++ w.behind) (sym (map-append (λ (o : Bor Operation). o.now) rest (op ∷ [])) ∙ ap now_of (sym e))
+      sym (append_assoc (now_of rest) (op.now ∷ []) w.after)
+      ∙ ap (λ (ops : List Operation). ops ++ w.after) (sym (map-append (λ (o : Bor Operation). o.now) rest (op ∷ [])) ∙ ap now_of (sym e))
       ∙ w.joined
 
   -- its text is reported already
   pub walked_past : true ≡ list_any (λ o. same_bytes (own_text o.now) (own_text op.now)) distinct
       → IsWalked all (now_of rest) (now_of distinct)
   walked_past h = record {
-    behind = op.now ∷ w.behind;
+    after = op.now ∷ w.after;
     joined = joined_more;
     told = w.told ∙ ap reverse (sym (cond-true _ _ _ (seen true h)));
   }
@@ -126,10 +126,10 @@ module _ (all : List Operation) (left rest : List (Bor Operation)) (op : Bor Ope
   pub walked_more : false ≡ list_any (λ o. same_bytes (own_text o.now) (own_text op.now)) distinct
       → IsWalked all (now_of rest) (now_of (distinct ++ op ∷ []))
   walked_more h = record {
-    behind = op.now ∷ w.behind;
+    after = op.now ∷ w.after;
     joined = joined_more;
     told = map-append (λ (o : Bor Operation). o.now) distinct (op ∷ []) ∙ ap (λ (ops : List Operation). ops ++ op.now ∷ []) w.told
-        ∙ sym (reverse-append (op.now ∷ []) (latest w.behind)) ∙ ap reverse (sym (cond-false _ _ _ (seen false h)));
+        ∙ sym (reverse-append (op.now ∷ []) (latest w.after)) ∙ ap reverse (sym (cond-false _ _ _ (seen false h)));
   }
 
 no_items : {X : Type 0} (xs : List X) → length xs ≡ 0 → xs ≡ []
@@ -140,6 +140,6 @@ no_items (x ∷ xs) h = absurd (omega arith)
 pub walked_end : (held : List Operation) (g : Segment) (left distinct : List (Bor Operation)) → IsOpSet held → length left ≡ 0
     → IsWalked (shown held g) (now_of left) (now_of distinct) → now_of distinct ≡ distinct_texts held g
 walked_end held g left distinct set none w =
-    let all : w.behind ≡ shown held g = ap (λ (ops : List (Bor Operation)). now_of ops ++ w.behind) (sym (no_items left none)) ∙ w.joined in
+    let all : w.after ≡ shown held g = ap (λ (ops : List (Bor Operation)). now_of ops ++ w.after) (sym (no_items left none)) ∙ w.joined in
     w.told ∙ ap (λ (ops : List Operation). reverse (latest ops)) all
     ∙ ap reverse (latest_is (shown held g) (rises_filter id_cmp id_total (λ (o : Operation). o.id) (is_shown held g) held set.rising))

@@ -7,7 +7,7 @@ use Rattle.op_core.specs.Ops.{Operation}
 use Rattle.op_core.specs.Sets.{rises, get}
 use Rattle.op_core.proofs.Union.{AllAbove, rises_parts}
 use Rattle.op_core.proofs.Clashes.{get_cases}
-use Rattle.op_core.proofs.Gets.{get_first, get_behind}
+use Rattle.op_core.proofs.Gets.{get_first, get_after}
 
 above-filter : (id : Id) (p : Operation → Bool) (ops : List Operation) → AllAbove id ops → AllAbove id (filter p ops)
 above-filter id p [] h = refl
@@ -29,7 +29,7 @@ rises-filter p (x ∷ ops) h =
 pub filter_within : (p : Operation → Bool) (ops : List Operation) → rises ops ≡ true → (q : Id) (o : Operation)
     → get (filter p ops) q ≡ Some o → get ops q ≡ Some o
 filter_within p [] h q o g = g
-filter_within p (x ∷ ops) h q o g = by (λ g. get_behind x ops q o h (filter_within p ops (rises_parts x ops h).1 q o g)) (p x) g
+filter_within p (x ∷ ops) h q o g = by (λ g. get_after x ops q o h (filter_within p ops (rises_parts x ops h).1 q o g)) (p x) g
   where
     by : (get (filter p ops) q ≡ Some o → get (x ∷ ops) q ≡ Some o) → (b : Bool) → get (cond b (x ∷ filter p ops) (filter p ops)) q ≡ Some o
         → get (x ∷ ops) q ≡ Some o

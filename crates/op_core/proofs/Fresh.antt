@@ -138,6 +138,7 @@ length_put o (p ∷ ops) g =
       | Greater ↦ λ e. ap suc (length_put o ops (rest_none o p ops e g))
     ] refl
 
+-- a union of what is apart has as many operations as both
 pub length_join : (held new : List Operation) → rises held ≡ true → rises new ≡ true → AreApart held new
     → length (join held new) ≡ length held + length new
 length_join held [] hh hn a = omega arith

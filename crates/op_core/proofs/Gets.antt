@@ -23,9 +23,9 @@ pub get_first : (o : Operation) (ops : List Operation) → get (o ∷ ops) o.id 
 get_first o ops = cond-true (same_id o.id o.id) (Some o) (get ops o.id) (same_id-refl o.id)
 
 -- what is held after the first
-pub get_behind : (o : Operation) (ops : List Operation) (q : Id) (z : Operation) → rises (o ∷ ops) ≡ true → get ops q ≡ Some z
+pub get_after : (o : Operation) (ops : List Operation) (q : Id) (z : Operation) → rises (o ∷ ops) ≡ true → get ops q ≡ Some z
     → get (o ∷ ops) q ≡ Some z
-get_behind o ops q z h g =
+get_after o ops q z h g =
     let p = rises_parts o ops h in
     cond-false (same_id q o.id) (Some o) (get ops q) (apart_above q o.id (above_of_get o.id ops q z p.0 g)) ∙ g
 
@@ -61,7 +61,7 @@ any_held P (x ∷ ops) h a = by (λ b. any_held P ops (rises_parts x ops h).1 b)
   where
     by : (list_any P ops ≡ true → AnyHeld P ops) → (b : Bool) → P x ≡ b → (b || list_any P ops) ≡ true → AnyHeld P (x ∷ ops)
     by later true e a = record { one = x; held = get_first x ops; passes = e }
-    by later false e a = let r = later a in record { one = r.one; held = get_behind x ops r.one.id r.one h r.held; passes = r.passes }
+    by later false e a = let r = later a in record { one = r.one; held = get_after x ops r.one.id r.one h r.held; passes = r.passes }
 
 -- what is held under an id and passes a test is one of the set that does
 pub any_from : (P : Operation → Bool) (ops : List Operation) (q : Id) (o : Operation) → get ops q ≡ Some o → P o ≡ true

@@ -88,18 +88,18 @@ join_last ops ys o n e h hy g =
 -- ---- what is left of the lists
 
 -- new operations after all of a list go to its end
-pub join_behind : (held new : List Operation) (n : ℕ) → length held ≤ n → rises held ≡ true → rises new ≡ true → AreApart held new
+pub join_after : (held new : List Operation) (n : ℕ) → length held ≤ n → rises held ≡ true → rises new ≡ true → AreApart held new
     → IsBefore n held new → join held new ≡ held ++ new
-join_behind held [] n l hh hn a b = sym (append-nil held)
-join_behind held (o ∷ new) n l hh hn a b =
+join_after held [] n l hh hn a b = sym (append-nil held)
+join_after held (o ∷ new) n l hh hn a b =
     let p = rises_parts o new hn in
     let m = b.0 in
-    let behind : length held ≤ place o.id held = omega (arith, m, l) in
+    let after : length held ≤ place o.id held = omega (arith, m, l) in
     let at = at_place o held (place o.id held) refl hh a.0 in
-    ap (put o) (join_behind held new n l hh p.1 a.1 b.1)
+    ap (put o) (join_after held new n l hh p.1 a.1 b.1)
     ∙ put_under o held new p.0
     ∙ ap (λ (xs : List Operation). xs ++ new)
-    (at.stands ∙ (λ i. take_all (place o.id held) held behind i ++ o ∷ drop_all (place o.id held) held behind i))
+    (at.stands ∙ (λ i. take_all (place o.id held) held after i ++ o ∷ drop_all (place o.id held) held after i))
     ∙ append_assoc held (o ∷ []) new
 
 pub rises_take : (ops : List Operation) (n : ℕ) → rises ops ≡ true → rises (take n ops) ≡ true
@@ -178,26 +178,26 @@ before_first held o new n e h = (omega (arith, e), each new (rises_parts o new h
 pub record Moved {X : Type 0} (all left start to : List X) : Type 0 where
   pub gone : List X
   pub whole : all ≡ left ++ gone
-  pub behind : to ≡ start ++ reverse gone
+  pub after : to ≡ start ++ reverse gone
 
 pub moved_none : {X : Type 0} (all start : List X) → Moved all all start start
-moved_none all start = record { gone = []; whole = sym (append-nil all); behind = sym (append-nil start) }
+moved_none all start = record { gone = []; whole = sym (append-nil all); after = sym (append-nil start) }
 
 pub moved_more : {X : Type 0} (all left left' start to to' : List X) (o : X) → left ≡ left' ++ o ∷ [] → to' ≡ to ++ o ∷ []
     → Moved all left start to → Moved all left' start to'
 moved_more {X} all left left' start to to' o e f m = record {
   gone = o ∷ m.gone;
   whole = m.whole ∙ ap (λ (xs : List X). xs ++ m.gone) e ∙ append_assoc left' (o ∷ []) m.gone;
-  behind = f ∙ ap (λ (xs : List X). xs ++ o ∷ []) m.behind ∙ append_assoc start (reverse m.gone) (o ∷ [])
+  after = f ∙ ap (λ (xs : List X). xs ++ o ∷ []) m.after ∙ append_assoc start (reverse m.gone) (o ∷ [])
       ∙ ap (λ (xs : List X). start ++ xs) (sym (reverse-append (o ∷ []) m.gone));
 }
 
 pub moved_left : {X : Type 0} (all left start to : List X) (n : ℕ) → n ≡ length left → Moved all left start to → left ≡ take n all
 moved_left all left start to n e m = sym (ap (take n) m.whole ∙ ap (λ (k : ℕ). take k (left ++ m.gone)) e ∙ take-append_seam left m.gone)
 
-pub moved_behind : {X : Type 0} (all left start to : List X) (n : ℕ) → n ≡ length left → Moved all left start to
+pub moved_after : {X : Type 0} (all left start to : List X) (n : ℕ) → n ≡ length left → Moved all left start to
     → to ≡ start ++ reverse (drop n all)
-moved_behind {X} all left start to n e m = m.behind
+moved_after {X} all left start to n e m = m.after
     ∙ ap (λ (xs : List X). start ++ reverse xs)
     (sym (ap (drop n) m.whole ∙ ap (λ (k : ℕ). drop k (left ++ m.gone)) e ∙ drop-append_seam left m.gone))
 

@@ -67,7 +67,7 @@ pub record Parts (ids others alone lone left right : List Id) : Type 0 where
   pub rises : ids_rise left ≡ true
   pub rises_too : ids_rise right ≡ true
   pub ahead : (q : Id) → among left q ≡ true → among others q ≡ among right q
-  pub behind : (q : Id) → among right q ≡ true → among ids q ≡ among left q
+  pub after : (q : Id) → among right q ≡ true → among ids q ≡ among left q
 
 pub parts_first : (ids others alone lone : List Id) → alone ≡ [] → lone ≡ [] → ids_rise ids ≡ true → ids_rise others ≡ true
     → Parts ids others alone lone ids others
@@ -77,12 +77,12 @@ parts_first ids others alone lone a b h k = record {
   rises = h;
   rises_too = k;
   ahead = λ q m. refl;
-  behind = λ q m. refl;
+  after = λ q m. refl;
 }
 
 turned : (ids others alone lone left right : List Id) → Parts ids others alone lone left right → Parts others ids lone alone right left
 turned ids others alone lone left right h =
-    record { kept = h.kept_too; kept_too = h.kept; rises = h.rises_too; rises_too = h.rises; ahead = h.behind; behind = h.ahead }
+    record { kept = h.kept_too; kept_too = h.kept; rises = h.rises_too; rises_too = h.rises; ahead = h.after; after = h.ahead }
 
 module _ (ids others alone lone : List Id) (x : Id) (xs : List Id) where
   -- the first on the left is below all on the right
@@ -97,7 +97,7 @@ module _ (ids others alone lone : List Id) (x : Id) (xs : List Id) where
         rises = (parts id_cmp id_total (λ (i : Id). i) x xs h.rises).1;
         rises_too = h.rises_too;
         ahead = λ q k. h.ahead q (later q x xs k);
-        behind = λ q k. h.behind q k ∙ ap (λ b. b || among xs q) (not_same_back x q (over_some x q right o k));
+        after = λ q k. h.after q k ∙ ap (λ b. b || among xs q) (not_same_back x q (over_some x q right o k));
       }
 
   -- the first of both is the same
@@ -106,14 +106,14 @@ module _ (ids others alone lone : List Id) (x : Id) (xs : List Id) where
       let over = parts id_cmp id_total (λ (i : Id). i) x xs h.rises in
       let above = parts id_cmp id_total (λ (i : Id). i) x ys h.rises_too in
       let is : among others x ≡ true = h.ahead x (here x xs) ∙ here x ys in
-      let has : among ids x ≡ true = h.behind x (here x ys) ∙ here x xs in
+      let has : among ids x ≡ true = h.after x (here x ys) ∙ here x xs in
       record {
         kept = ap (λ b. alone ++ cond (not b) (x ∷ apart others xs) (apart others xs)) (sym is) ∙ h.kept;
         kept_too = ap (λ b. lone ++ cond (not b) (x ∷ apart ids ys) (apart ids ys)) (sym has) ∙ h.kept_too;
         rises = over.1;
         rises_too = above.1;
         ahead = λ q k. h.ahead q (later q x xs k) ∙ ap (λ b. b || among ys q) (not_same_back x q (over_some x q xs over.0 k));
-        behind = λ q k. h.behind q (later q x ys k) ∙ ap (λ b. b || among xs q) (not_same_back x q (over_some x q ys above.0 k));
+        after = λ q k. h.after q (later q x ys k) ∙ ap (λ b. b || among xs q) (not_same_back x q (over_some x q ys above.0 k));
       }
 
 -- nothing is left of the one list
@@ -131,7 +131,7 @@ module _ (ids others alone lone left right : List Id) (h : Parts ids others alon
 
   pub right_lone : (more : List Id) → left ≡ [] → more ≡ lone ++ right → more ≡ apart ids others
   right_lone more e m =
-      m ∙ ap (λ (xs : List Id). lone ++ xs) (all_apart ids right (λ q k. h.behind q k ∙ ap (λ (xs : List Id). among xs q) e)) ∙ h.kept_too
+      m ∙ ap (λ (xs : List Id). lone ++ xs) (all_apart ids right (λ q k. h.after q k ∙ ap (λ (xs : List Id). among xs q) e)) ∙ h.kept_too
 
   pub none_right : right ≡ [] → lone ≡ apart ids others
   none_right e = sym (append-nil lone) ∙ ap (λ (xs : List Id). lone ++ apart ids xs) (sym e) ∙ h.kept_too

@@ -17,6 +17,7 @@ use Rattle.usfm_ref.proofs.Sorted.{Above, is_less, above_trans as above_trans_by
 use Rattle.op_core.proofs.Rising.{id_total, id_exact, same_id-cmp}
 use Rattle.op_core.specs.Equal.{id_from_same, same_id-refl}
 
+-- the operations are above an id
 abbrev pub AllAbove : Id → List Operation → Type 0
 AllAbove id ops = Above id_cmp id_total (λ (o : Operation). o.id) id ops
 
@@ -24,6 +25,7 @@ AllAbove id ops = Above id_cmp id_total (λ (o : Operation). o.id) id ops
 pub apart_below : (a b : Id) → id_below a b ≡ true → same_id a b ≡ false
 apart_below a b h = same_id-cmp a b ∙ ap is_eq (is_less _ h)
 
+-- nor is one above another
 pub apart_above : (a b : Id) → id_below b a ≡ true → same_id a b ≡ false
 apart_above a b h = same_id-cmp a b ∙ ap is_eq (id_total.antisymm a b ∙ ap ordering_reverse (is_less _ h))
 
@@ -292,6 +294,7 @@ put_at o ops id at e g h =
     ap (λ n. insert ops n o) (h ∙ ap (λ (i : Id). position_or_len (λ p. not (id_below p.id i)) ops) e)
     ∙ sym (put_insert o ops (sym (g ∙ ap (get ops) e)))
 
+-- a set stays one when an operation is put in
 pub IsOpSet-put : (o : Operation) (ops : List Operation) → IsOperation o → IsOpSet ops → IsOpSet (put o ops)
 IsOpSet-put o ops h g = record { rising = rises-put o ops g.rising; each = each-put IsOperation meet-IsOperation o ops h g.each }
 

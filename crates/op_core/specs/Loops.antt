@@ -2,4 +2,3 @@
 pub mod Index
 pub mod Changes
 pub mod Turns
-pub mod Piles

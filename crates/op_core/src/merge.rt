@@ -138,7 +138,7 @@ pub(crate) fn merge(
     requires before { IsBefore from ops.old.items new.items }
     requires tail { tail.items ≡ [] }
     requires room { 0 < vec_len ops.old → vec_len ops.old + vec_len new ≤ vec_capacity ops.old }
-    requires room_behind { from < vec_len ops.old
+    requires room_after { from < vec_len ops.old
         → vec_len ops.old + vec_len new ≤ vec_capacity tail + from }
     ensures { ops.new.items ≡ sets.join ops.old.items new.items }
 {
@@ -166,19 +166,19 @@ fn interleave(
     requires before { IsBefore from ops.old.items new.items }
     requires tail { tail.items ≡ [] }
     requires room { vec_len ops.old + vec_len new ≤ vec_capacity ops.old }
-    requires room_behind { vec_len ops.old + vec_len new ≤ vec_capacity tail + from }
+    requires room_after { vec_len ops.old + vec_len new ≤ vec_capacity tail + from }
     ensures { ops.new.items ≡ sets.join ops.old.items new.items }
 {
     'merging: while let Some(op) = new.pop() {
         let at = place_last(ops, op.id(), compared);
-        move_behind(ops, at, &mut tail);
+        move_after(ops, at, &mut tail);
         tail.push(op).unwrap();
     }
-    move_behind(&mut tail, 0, ops);
+    move_after(&mut tail, 0, ops);
 }
 
 // Moves what is from a place on to the end of another list, the last first. There is room for it.
-pub(crate) fn move_behind<T: Drop>(list: &mut Vec<T>, at: usize, to: &mut Vec<T>)
+pub(crate) fn move_after<T: Drop>(list: &mut Vec<T>, at: usize, to: &mut Vec<T>)
     requires at { at ≤ vec_len list.old }
     requires room { vec_len to.old + vec_len list.old ≤ vec_capacity to.old + at }
     ensures left { list.new.items ≡ take at list.old.items }

@@ -48,18 +48,6 @@ pub(crate) fn place_last(ops: &[Op], id: OpId, compared: &mut u64) -> usize
     place_op(ops, id, Steps::near(ops.len(), ops.len()), compared)
 }
 
-// The same, begun where the last search ended.
-pub(crate) fn place_near(ops: &[Op], id: OpId, near: &mut usize, compared: &mut u64) -> usize
-    requires rising { IsTrue (sets.rises ops.now) }
-    ensures place { result ≡ position_or_len (λ o. not (id_below o.id id)) ops.now }
-    ensures within { result ≤ length ops.now }
-    ensures counted { Counts (length ops.now) compared.old compared.new }
-{
-    let at = place_op(ops, id, Steps::near(*near, ops.len()), compared);
-    *near = at;
-    at
-}
-
 // The operation of an id.
 pub(crate) fn find_op<'a>(ops: &'a [Op], id: OpId, compared: &mut u64) -> Option<&'a Op>
     requires rising { IsTrue (sets.rises ops.now) }
@@ -79,7 +67,8 @@ pub(crate) fn find_near<'a>(
     requires rising { IsTrue (sets.rises ops.now) }
     ensures { option_copied result ≡ sets.get ops.now id }
 {
-    let at = place_near(ops, id, near, compared);
+    let at = place_op(ops, id, Steps::near(*near, ops.len()), compared);
+    *near = at;
     op_at(ops, at, id)
 }
 

@@ -1,7 +1,7 @@
 mod plain;
 mod rows;
 
-use crate::{IdFault, Op, OpId, OpSet, Picked, Pile, ReplicaName, SetFault, names_fall};
+use crate::{IdFault, Op, OpId, OpSet, Picked, ReplicaName, SetFault, names_fall};
 use std::alloc::Global;
 use std::test::Fail;
 use usfm_ref::{Book, Key, Place};
@@ -163,7 +163,7 @@ fn what_is_held_stays(rt: HostRuntime) -> Result<(), Fail> {
     let again = op(alloc, op_id(2, "ana")?, verse(1)?, &[], "\\v 1 In\n")?;
     assert!(rt; !put(&mut set, again)?);
     assert_eq!(rt; join(&mut set, first_set(alloc)?)?, 0);
-    assert_eq!(rt; set.join_rising(Vec::new(alloc))?, 0);
+    assert_eq!(rt; OpSet::new(alloc).join_rising(Vec::new(alloc))?, 0);
     assert_eq!(rt; set.len(), 2);
     let mat = Book::read("MAT")?;
     assert!(rt; matches!(&set.pick(mat, head(1)?), Picked::ChapterLine(1)));
@@ -294,11 +294,10 @@ fn what_is_thinned_stays_thinned(rt: HostRuntime) -> Result<(), Fail> {
 fn what_another_set_thinned_is_thinned(rt: HostRuntime) -> Result<(), Fail> {
     let alloc = rt.alloc();
     let ana2 = op_id(2, "ana")?;
-    for held in [first_set(alloc)?, joined_set(alloc)?] {
+    for (held, new) in [(first_set(alloc)?, 1), (joined_set(alloc)?, 0)] {
         let mut set = held;
         let mut thinner = joined_set(alloc)?;
         assert_eq!(rt; thinner.thin(), 1);
-        let new = 3 - set.len() as u64;
         assert_eq!(rt; join(&mut set, thinner)?, new);
         assert!(rt; set.len() == 3 && is_thinned(&set, &ana2));
     }
@@ -332,31 +331,5 @@ fn what_another_segment_names_stays_full(rt: HostRuntime) -> Result<(), Fail> {
     assert!(rt; put(&mut set, over)?);
     assert_eq!(rt; set.thin(), 0);
     assert!(rt; !is_thinned(&set, &ana2));
-    Ok(())
-}
-
-// Adds an operation that a pile lacks. The contract of `add` stays out of the proofs of the tests that call this.
-fn add(alloc: Global, pile: Pile, op: Op) -> Result<Pile, Fail> {
-    if pile.find(&op.id()).is_some() {
-        return Err(Fail::from("the operation is there"));
-    }
-    Ok(pile.add(vec![in alloc; op]?)?)
-}
-
-#[test]
-fn a_pile_gathers_what_falls(rt: HostRuntime) -> Result<(), Fail> {
-    let alloc = rt.alloc();
-    let mut pile = Pile::new(alloc);
-    for at in 0..20 {
-        let op = op(alloc, op_id(20 - at, "ana")?, head(1)?, &[], "\\c 1\n")?;
-        pile = add(alloc, pile, op)?;
-    }
-    pile.leave_text(&op_id(7, "ana")?);
-    let ops = pile.into_ops()?;
-    assert!(rt; ops.len() == 20);
-    for (number, op) in (1..).zip(&ops) {
-        assert!(rt; op.id() == op_id(number, "ana")?);
-        assert!(rt; op.text().is_none() == (number == 7));
-    }
     Ok(())
 }

@@ -1,5 +1,5 @@
 -- Project files: what is spelled is read, and what is read is spelled so.
-use Rattle.std.proofs.Common.{◌≡◌, ℕ, ◌<◌, ◌^◌, List, [], ◌∷◌, ◌++◌, length, Option, Some, None, Result, Ok, Err, Vec, IfOk, IsTrue, refl, sym, ap, subst, ◌∙◌, append_assoc, arith}
+use Rattle.std.proofs.Common.{◌≡◌, ℕ, ◌<◌, ◌^◌, List, ◌∷◌, ◌++◌, length, Option, Some, None, Result, Ok, Err, Vec, IfOk, IsTrue, refl, sym, ap, subst, ◌∙◌, arith}
 use Rattle.std.proofs.lemmas.List.{length-append}
 use Rattle.op_core.specs.Ids.{Id}
 use Rattle.op_core.specs.Ops.{Operation}
@@ -56,14 +56,6 @@ same_replica bytes s t short read v e = let same : Ok s ≡ Ok t = sym read ∙ 
 pub one_replica : (s t : State) → IsState s → IsState t → length (project s) < 2 ^ 64 → project s ≡ project t → s ≡ t
 one_replica s t v w short e = same_replica (project s) s t short (project_again s v short) w e
 
--- the parts of a project file, one after the other
-pub project-parts : (s : State) (name : List ℕ) → name ≡ s.name → ((magic ++ length name ∷ []) ++ name) ++ bundle s.held ≡ project s
-unfolding project
-project-parts s name e =
-    append_assoc (magic ++ length name ∷ []) name (bundle s.held)
-    ∙ append_assoc magic (length name ∷ []) (name ++ bundle s.held)
-    ∙ ap (λ (w : List ℕ). magic ++ (length w ∷ (w ++ bundle s.held))) e
-
 -- ---- what is read is spelled so
 
 -- the bytes are the project file of a replica
@@ -96,20 +88,27 @@ project_is bytes s fits e = by_front (front_at bytes) refl e
     by_front None f e = cc e
     by_front (Some front) f e = by_whole front.0 front.1 (front_is bytes front.0 front.1 f) (whole_at front.1) refl e
 
--- ---- a replica that held nothing and received the bundle after a front
+-- ---- a front, and the bundle after it
+
+module _ (bytes name rest : List ℕ) (held : List Operation) (front : front_at bytes ≡ Some (name, rest)) where
+  pub read_is : whole_at rest ≡ Ok held → project_at bytes ≡ Ok (record { name = name; held = held })
+  read_is whole = ap after_front front ∙ ap (state_of name) whole
+
+  pub is_file : IsOpSet held → IsTrue (is_legal held) → rest ≡ bundle held → IsFileOf bytes (record { name = name; held = held })
+  is_file set legal e = IsFileOf-from_parts bytes name rest held (front_is bytes name rest front) set legal e
+
+-- bytes are read as one replica
+pub read_once : (bytes : List ℕ) (s t : State) → project_at bytes ≡ Ok s → project_at bytes ≡ Ok t → s ≡ t
+read_once bytes s t e f = let same : Ok s ≡ Ok t = sym e ∙ f in cc same
+
+-- ---- a replica that held nothing and received a bundle
 
 -- a replica that holds nothing clashes with no bundle
 pub no_clash : (name : List ℕ) (r : State) (held : List Operation) (id : Id) → r ≡ begun name → clash r.held held ≡ Some id → ⊥
 no_clash name r held id e f = let none : clash r.held held ≡ None = ap (λ (s : State). clash s.held held) e ∙ clash_none held in absurd cc
 
-module _ (bytes name rest : List ℕ) (held : List Operation) (s : State) (front : front_at bytes ≡ Some (name, rest))
-    (whole : whole_at rest ≡ Ok held) (set : IsOpSet held) (new : s ≡ with_ops (begun name) held) where
-  held_is : s ≡ record { name = name; held = held }
-  held_is = new ∙ (λ i. record { name = name; held = join_none held set.rising i })
-
-  pub loaded_is : project_at bytes ≡ Ok s
-  loaded_is = ap after_front front ∙ ap (state_of name) whole ∙ ap Ok (sym held_is)
-
-  pub is_file : IsTrue (is_legal held) → rest ≡ bundle held → IsFileOf bytes s
-  is_file legal e =
-      subst (IsFileOf bytes) (sym held_is) (IsFileOf-from_parts bytes name rest held (front_is bytes name rest front) set legal e)
+-- it then holds the bundle's set
+pub held_is : (name : List ℕ) (held : List Operation) (s r : State) → IsOpSet held → s ≡ with_ops r held → r ≡ begun name
+    → s ≡ record { name = name; held = held }
+held_is name held s r set e f =
+    e ∙ ap (λ (t : State). with_ops t held) f ∙ (λ i. record { name = name; held = join_none held set.rising i })

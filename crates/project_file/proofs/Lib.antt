@@ -1,3 +1,4 @@
 pub mod Fronts
 pub mod Files
 mod Refusals
+pub mod Received

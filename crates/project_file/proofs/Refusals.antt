@@ -1,5 +1,5 @@
 -- What the refusal of a bundle says of the project file that ends with it, and where none is for memory.
-use Rattle.std.proofs.Common.{◌≡◌, ◌≢◌, ℕ, false, List, [], ◌∷◌, Some, Result, Ok, Err, sym, ap, subst, inl, ◌∙◌}
+use Rattle.std.proofs.Common.{◌≡◌, ◌≢◌, ℕ, true, false, List, [], ◌∷◌, Option, None, Some, Result, Ok, Err, IsOk, sym, ap, subst, inl, inr, refl, ◌∙◌}
 use Rattle.std.proofs.lemmas.Bool.{true≢false}
 use Rattle.op_core.specs.Ops.{Operation}
 use Rattle.op_core.specs.Thinned.{all_full}
@@ -67,19 +67,31 @@ module _ (bytes name rest : List ℕ) (front : front_at bytes ≡ Some (name, re
       by (Ok held) e = let same : ◌≡◌ {A = State} (record { name = name; held = held }) s = cc e in ap (λ (r : State). Ok r.held) same
       by (Err fault) e = cc e
 
-  -- to judge the bundle of no operation no memory is taken
-  pub nothing_takes : (s : State) → project_at bytes ≡ Ok s → s.held ≡ [] → (fault : WholeFault) → RefusesWhole rest fault
+  -- to judge a bundle of full operations no memory is taken
+  pub full_takes_none : (s : State) → project_at bytes ≡ Ok s → all_full s.held ≡ true → (fault : WholeFault) → RefusesWhole rest fault
       → refusal_of fault ≢ Memory
-  nothing_takes s e none whole.Trailing r h = cc h
-  nothing_takes s e none (whole.Bundle bundle_faults.Memory) r h =
-      true≢false (sym (ap all_full none) ∙ takes_thinned rest s.held r (whole_is_held s e))
-  nothing_takes s e none (whole.Bundle bundle_faults.Magic) r h = cc h
-  nothing_takes s e none (whole.Bundle bundle_faults.Truncated) r h = cc h
-  nothing_takes s e none (whole.Bundle (bundle_faults.NotRising at)) r h = cc h
-  nothing_takes s e none (whole.Bundle (bundle_faults.BadId at)) r h = cc h
-  nothing_takes s e none (whole.Bundle (bundle_faults.BadKey at)) r h = cc h
-  nothing_takes s e none (whole.Bundle (bundle_faults.BadReplaced at)) r h = cc h
-  nothing_takes s e none (whole.Bundle (bundle_faults.BadTag at)) r h = cc h
-  nothing_takes s e none (whole.Bundle (bundle_faults.NotUtf8 at)) r h = cc h
-  nothing_takes s e none (whole.Bundle (bundle_faults.BadText at)) r h = cc h
-  nothing_takes s e none (whole.Bundle (bundle_faults.Unsupported at)) r h = cc h
+  full_takes_none s e full whole.Trailing r h = cc h
+  full_takes_none s e full (whole.Bundle bundle_faults.Memory) r h =
+      true≢false (sym full ∙ takes_thinned rest s.held r (whole_is_held s e))
+  full_takes_none s e full (whole.Bundle bundle_faults.Magic) r h = cc h
+  full_takes_none s e full (whole.Bundle bundle_faults.Truncated) r h = cc h
+  full_takes_none s e full (whole.Bundle (bundle_faults.NotRising at)) r h = cc h
+  full_takes_none s e full (whole.Bundle (bundle_faults.BadId at)) r h = cc h
+  full_takes_none s e full (whole.Bundle (bundle_faults.BadKey at)) r h = cc h
+  full_takes_none s e full (whole.Bundle (bundle_faults.BadReplaced at)) r h = cc h
+  full_takes_none s e full (whole.Bundle (bundle_faults.BadTag at)) r h = cc h
+  full_takes_none s e full (whole.Bundle (bundle_faults.NotUtf8 at)) r h = cc h
+  full_takes_none s e full (whole.Bundle (bundle_faults.BadText at)) r h = cc h
+  full_takes_none s e full (whole.Bundle (bundle_faults.Unsupported at)) r h = cc h
+
+-- where the bytes are a project file, memory may be taken to copy its bundle
+pub copies : (bytes : List ℕ) (s : State) → project_at bytes ≡ Ok s → TakesMemoryAfter (front_at bytes)
+copies bytes s e = by (front_at bytes) e
+  where
+    is_whole : (name : List ℕ) (w : Result (List Operation) WholeFault) → state_of name w ≡ Ok s → IsOk w
+    is_whole name (Ok held) e = refl
+    is_whole name (Err fault) e = cc e
+
+    by : (front : Option (List ℕ × List ℕ)) → after_front front ≡ Ok s → TakesMemoryAfter front
+    by None e = cc e
+    by (Some front) e = inr (is_whole front.0 (whole_at front.1) e)

@@ -6,6 +6,7 @@ use Rattle.op_core.specs.Ops.{Operation}
 use Rattle.bundle_codec.specs.declared.fault.WholeFault.{WholeFault}
 use Rattle.bundle_codec.specs.Spelling.{bundle}
 use Rattle.bundle_codec.specs.Joining.{whole_at}
+use Rattle.replica_state.specs.OneBook.{of_one_book}
 use Rattle.replica_state.specs.States.{State}
 use Rattle.project_file.specs.declared.fault.LoadFault.{LoadFault}
 use Rattle.project_file.specs.declared.fault.LoadFault.TheVariants.{BadProject, Bundle}
@@ -49,3 +50,14 @@ after_front (Some front) = state_of front.0 (whole_at front.1)
 -- or wrong, or else that of the bundle
 abbrev pub project_at : List ℕ → Result State LoadFault
 project_at bytes = after_front (front_at bytes)
+
+-- ---- of one book
+
+-- a replica with the operations of the book alone, or why there is none
+abbrev pub with_book : List ℕ → Result State LoadFault → Result State LoadFault
+with_book book (Ok s) = Ok (of_one_book s book)
+with_book book (Err fault) = Err fault
+
+-- the replica whose project file the bytes are, with the operations of the book alone; or the first fault
+abbrev pub book_at : List ℕ → List ℕ → Result State LoadFault
+book_at bytes book = with_book book (project_at bytes)

@@ -1,5 +1,6 @@
 ghost use Rattle.std.specs.Prelude.{◌≡◌};
 ghost use Rattle.project_file.specs.declared.fault.CreateFault.TheVariants as creating;
+ghost use Rattle.project_file.specs.declared.fault.LoadFault.TheVariants as loading;
 ghost use Rattle.project_file.specs.Answers.{refusal_of};
 
 use bundle_codec::{BundleFault, WholeFault};
@@ -37,6 +38,14 @@ impl From<AllocError> for CreateFault {
 
     fn from(_: AllocError) -> CreateFault {
         CreateFault::Memory
+    }
+}
+
+impl From<AllocError> for LoadFault {
+    ghost from_gives = { λ _ fault. fault ≡ loading.Memory };
+
+    fn from(_: AllocError) -> LoadFault {
+        LoadFault::Memory
     }
 }
 

@@ -7,7 +7,7 @@ pub mod laws;
 mod project;
 
 pub use fault::{CreateFault, LoadFault};
-pub use project::{create, load, save};
+pub use project::{Project, create, judge, load, load_book, save};
 
 #[cfg(test)]
 mod tests;

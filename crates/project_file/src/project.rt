@@ -1,15 +1,25 @@
 // Project files made, loaded and saved.
-ghost use Rattle.std.specs.Prelude.{◌≡◌, ◌≢◌, ◌↔◌, [], Ok, Err, IfOk, IfErr, IfSome, IsSome, IsTrue, MatchResult, option_map};
+ghost use Rattle.std.specs.Prelude.{◌≡◌, ◌≢◌, ◌↔◌, ◌++◌, ◌∷◌, [], Ok, Err, length, option_map};
+ghost use Rattle.std.specs.Prelude.{IfOk, IfErr, IfSome, IsSome, IsTrue, MatchResult};
 ghost use Rattle.op_core.specs.Names.{is_name};
+ghost use Rattle.op_core.specs.OneBook.{ops_of_book};
+ghost use Rattle.op_core.specs.Sets.{clash};
+ghost use Rattle.op_core.specs.Thinned.{all_full};
+ghost use Rattle.bundle_codec.specs.Loops.Merging.{RefusesUnion};
+ghost use Rattle.replica_state.specs.OneBook.{of_one_book};
+ghost use Rattle.replica_state.specs.Receives.{lacked};
 ghost use Rattle.replica_state.specs.States.{State, IsState, begun};
+ghost use Rattle.replica_state.specs.Steps.{with_ops};
 ghost use Rattle.project_file.specs.Answers as answers;
 ghost use Rattle.project_file.specs.Projects as projects;
 
 use crate::fault::{CreateFault, LoadFault};
-use bundle_codec::decode_whole;
+use bundle_codec::{Bundle, JoinFault, decode_whole};
 use op_core::ReplicaName;
 use replica_state::{ReceiveFault, Replica};
 use std::alloc::{AllocError, Global};
+use std::marker::Model;
+use usfm_ref::Book;
 
 static MAGIC: [u8; 8] = *b"USFMPJ1\n";
 
@@ -56,17 +66,110 @@ pub fn load(alloc: Global, bytes: &[u8]) -> Result<Replica, LoadFault>
     ensures nothing_held { (s : State) → projects.project_at bytes.now ≡ Ok s → s.held ≡ []
         → result ≢ Err LoadFault.Memory }
 {
+    let project = judge(alloc, bytes)?;
+    let mut replica = Replica::new(alloc, project.name);
+    match replica.receive(&project.bundle) {
+        Ok(_) => Ok(replica),
+        Err(ReceiveFault::Memory) => Err(LoadFault::Memory),
+        Err(ReceiveFault::Clash(_)) => unreachable!(),
+    }
+}
+
+/// The replica whose project file the bytes are, with the operations of one book alone. All of the
+/// file is judged, as `load` does, but only what is of the book is copied.
+///
+/// # Errors
+/// Those of `load`. `Memory` (1) is not answered where the book has no operation and none of any book
+/// is thinned.
+pub fn load_book(alloc: Global, bytes: &[u8], book: Book) -> Result<Replica, LoadFault>
+    // The bytes are a project file, and of its replica what is of the book is loaded.
+    ensures loaded { IfOk result (λ s. projects.book_at bytes.now book ≡ Ok s) }
+    // Of a project file the book is loaded, or out of memory is answered.
+    ensures only { (s : State) → IsState s → bytes.now ≡ projects.project s
+        → MatchResult result (λ loaded. loaded ≡ of_one_book s book)
+        (λ fault. fault ≡ LoadFault.Memory) }
+    // Which refusal it is.
+    ensures refused { IfErr result (answers.RefusesLoad bytes.now) }
+    // Where nothing of the book is held, and nothing that is thinned, it is loaded without memory.
+    ensures nothing_held { (s : State) → projects.project_at bytes.now ≡ Ok s
+        → IsTrue (all_full s.held) → ops_of_book s.held book ≡ [] → result ≢ Err LoadFault.Memory }
+{
+    let project = judge(alloc, bytes)?;
+    Ok(Replica::of_book(alloc, project.name, &project.bundle, book)?)
+}
+
+/// A project file, judged: a replica's name, and the bundle of what the replica holds, lent from the
+/// bytes of the file. Made by `judge`.
+#[derive(Debug, Drop)]
+pub struct Project<'a> {
+    name: ReplicaName,
+    bundle: Bundle<'a>,
+}
+
+impl<'a> Model for Project<'a> {
+    ghost use Rattle.replica_state.specs.States.{State, IsState};
+
+    ghost Value = { State };
+
+    ghost view = { λ p. record { name = p.name; held = p.bundle } };
+
+    ghost invariant = { λ p. IsState (record { name = p.name; held = p.bundle }) };
+}
+
+impl Project<'_> {
+    /// The project file of the replica after it took in the operations of a bundle, and how many of them
+    /// are new, as `Replica::receive` says it. Each operation is copied with the bytes that spell it, out
+    /// of one or the other; no replica is made.
+    ///
+    /// # Errors
+    /// Those of `Bundle::join_after`: `Clash` (51) with the least id under which the replica and the
+    /// bundle have operations that do not agree, and `Memory` (1) where a growth was refused.
+    pub fn receive(&self, alloc: Global, bundle: &Bundle<'_>) -> Result<(Vec<u8>, u64), JoinFault>
+        ensures spelled { IfOk result (λ made.
+            made.0.items ≡ projects.project (with_ops self.now bundle.now)) }
+        ensures again { IfOk result (λ made.
+            projects.project_at made.0.items ≡ Ok (with_ops self.now bundle.now)) }
+        ensures new { IfOk result (λ made.
+            made.1 ≡ length (lacked self.now.held bundle.now)) }
+        ensures agrees { IfOk result (λ _. clash self.now.held bundle.now ≡ None) }
+        ensures refused { IfErr result (RefusesUnion (clash self.now.held bundle.now)) }
+    {
+        // The bundle's operations show that they rise.
+        let _ = bundle.ops();
+        let front = front_for(alloc, &self.name)?;
+        let (file, count) = self.bundle.join_after(bundle, front)?;
+        Ok((file, count - self.bundle.len()))
+    }
+}
+
+/// The project file that the bytes are. What it holds stays lent from them.
+///
+/// The name is judged before any memory is taken, and so is the bundle, but for what a thinned
+/// operation may be. Nothing goes by a count that the bytes state.
+///
+/// # Errors
+/// Those of `load`. `Memory` (1) is answered only where each field of the bundle is right and an
+/// operation is thinned.
+pub fn judge(alloc: Global, bytes: &[u8]) -> Result<Project<'_>, LoadFault>
+    // What is read is a replica, and the bytes are its project file.
+    ensures read { IfOk result (λ s. projects.project_at bytes.now ≡ Ok s) }
+    ensures valid { IfOk result IsState }
+    ensures spelled { IfOk result (λ s. bytes.now ≡ projects.project s) }
+    // A project file is read, or out of memory is answered.
+    ensures only { (s : State) → IsState s → bytes.now ≡ projects.project s
+        → MatchResult result (λ read. read ≡ s) (λ fault. fault ≡ LoadFault.Memory) }
+    // Which refusal it is.
+    ensures refused { IfErr result (answers.RefusesLoad bytes.now) }
+    // Where nothing that is held is thinned, it takes no memory.
+    ensures full { (s : State) → projects.project_at bytes.now ≡ Ok s → IsTrue (all_full s.held)
+        → result ≢ Err LoadFault.Memory }
+{
     let Some(front) = front_of(bytes) else {
         return Err(LoadFault::BadProject);
     };
     let (name, rest) = front;
     let bundle = decode_whole(alloc, rest)?;
-    let mut replica = Replica::new(alloc, name);
-    match replica.receive(&bundle) {
-        Ok(_) => Ok(replica),
-        Err(ReceiveFault::Memory) => Err(LoadFault::Memory),
-        Err(ReceiveFault::Clash(_)) => unreachable!(),
-    }
+    Ok(Project { name, bundle })
 }
 
 /// The project file of a replica. There is one for each replica.
@@ -77,13 +180,21 @@ pub fn save(alloc: Global, replica: &Replica) -> Result<Vec<u8>, AllocError>
     ensures spelled { IfOk result (λ bytes. bytes.items ≡ projects.project replica.now) }
     ensures again { IfOk result (λ bytes. projects.project_at bytes.items ≡ Ok replica.now) }
 {
-    let name = replica.name();
+    let bytes = front_for(alloc, &replica.name())?;
+    replica.bundle_after(bytes)
+}
+
+// What a project file of a replica of this name begins with: the magic, and the name after its length.
+fn front_for(alloc: Global, name: &ReplicaName) -> Result<Vec<u8>, AllocError>
+    ensures { IfOk result (λ bytes.
+        bytes.items ≡ projects.magic ++ (length name.now ∷ name.now)) }
+{
     let name = name.text().as_bytes();
     let mut bytes = Vec::new(alloc);
     bytes.extend_from_slice(&MAGIC)?;
     bytes.extend_from_slice(&[name.len() as u8])?;
     bytes.extend_from_slice(name)?;
-    replica.bundle_after(bytes)
+    Ok(bytes)
 }
 
 // The name after the magic, and the bytes after it.

@@ -1,9 +1,11 @@
 // The worked rows of project files.
-use crate::{CreateFault, LoadFault, create, load, save};
-use bundle_codec::{BundleFault, WholeFault};
+use crate::{CreateFault, LoadFault, create, judge, load, load_book, save};
+use bundle_codec::{BundleFault, JoinFault, WholeFault, decode_whole};
+use op_core::OpId;
 use std::alloc::{AllocError, Global};
 use std::process::Abort;
 use std::test::Fail;
+use usfm_ref::Book;
 
 // The project file of a replica `ana` that holds nothing.
 const ANA: [u8; 28] = *b"USFMPJ1\n\x03anaUSFMSR1\n\0\0\0\0\0\0\0\0";
@@ -15,6 +17,10 @@ const B1: [u8; 108] =
 // 2 ana on MAT 1:1, thinned, and 3 ben on it, naming 2 ana.
 const V2: [u8; 104] =
     *b"USFMSR2\n\0\0\0\0\0\0\0\x02\0\0\0\0\0\0\0\x02\x03anaMAT\0\x01\x01\0\x01\0\0\0\0\0\0\0\0\0\0\0\0\0\0\0\0\0\x03\x03benMAT\0\x01\x01\0\x01\0\0\0\0\0\0\0\0\x01\0\0\0\0\0\0\0\x02\x03ana\x01\0\0\0\0\0\0\0\x08\\v 1 At\n";
+
+// 3 ana on RUT 0, which names nothing.
+const RUTH: [u8; 46] =
+    *b"\0\0\0\0\0\0\0\x03\x03anaRUT\0\0\0\0\0\0\0\0\0\0\0\0\0\0\x01\0\0\0\0\0\0\0\x08\\id RUT\n";
 
 const CUT: LoadFault = LoadFault::Bundle(WholeFault::Bundle(BundleFault::Truncated));
 
@@ -48,6 +54,76 @@ fn loaded_and_saved(rt: HostRuntime) -> Result<(), Fail> {
     assert_loads(&rt, alloc, &ANA)?;
     assert_loads(&rt, alloc, &joined(alloc, &ANA[..12], &B1)?)?;
     assert_loads(&rt, alloc, &joined(alloc, &ANA[..12], &V2)?)
+}
+
+#[test]
+fn loaded_of_one_book(rt: HostRuntime) -> Result<(), Fail> {
+    let alloc = rt.alloc();
+    let of_two = joined(alloc, &ANA[..12], b"USFMSR1\n\0\0\0\0\0\0\0\x03")?;
+    let of_two = joined(alloc, &joined(alloc, &of_two, &B1[16..])?, &RUTH)?;
+    assert_loads(&rt, alloc, &of_two)?;
+    let of_ruth = joined(alloc, &ANA[..12], b"USFMSR1\n\0\0\0\0\0\0\0\x01")?;
+    for (book, wanted) in [
+        ("MAT", &joined(alloc, &ANA[..12], &B1)?),
+        ("RUT", &joined(alloc, &of_ruth, &RUTH)?),
+        ("ACT", &ANA.to_vec(alloc)?),
+    ] {
+        let replica = load_book(alloc, &of_two, Book::read(book)?)?;
+        assert_eq!(rt;
+            save(alloc, &replica)?.as_slice(),
+            wanted.as_slice(),
+            "{book}"
+        );
+    }
+    // What is wrong in another book is refused too.
+    let Some((_, cut)) = of_two.split_last() else {
+        return Err(Fail::from("a project's file is not empty"));
+    };
+    assert_eq!(rt; load_book(alloc, cut, Book::read("MAT")?).err(), Some(CUT));
+    assert_eq!(rt;
+        load_book(alloc, b"", Book::read("MAT")?).err(),
+        Some(LoadFault::BadProject)
+    );
+    Ok(())
+}
+
+// Whether a bundle that a project receives gives this file, and has this many new operations.
+fn is_received(
+    alloc: Global,
+    file: &[u8],
+    bundle: &[u8],
+    wanted: &[u8],
+    new: u64,
+) -> Result<bool, Fail> {
+    let project = judge(alloc, file)?;
+    let made = project.receive(alloc, &decode_whole(alloc, bundle)?)?;
+    Ok(made.0.as_slice() == wanted && made.1 == new)
+}
+
+#[test]
+fn received_on_the_bytes(rt: HostRuntime) -> Result<(), Fail> {
+    let alloc = rt.alloc();
+    let of_two = joined(alloc, &ANA[..12], &B1)?;
+    let thinned = joined(alloc, &ANA[..12], b"USFMSR2\n\0\0\0\0\0\0\0\x03")?;
+    let thinned = joined(alloc, &joined(alloc, &thinned, &B1[16..62])?, &V2[16..])?;
+    assert!(rt; is_received(alloc, &ANA, &B1, &of_two, 2)?);
+    assert!(rt; is_received(alloc, &of_two, &B1, &of_two, 0)?);
+    assert!(rt; is_received(alloc, &of_two, &V2, &thinned, 1)?);
+    Ok(())
+}
+
+#[test]
+fn clash_on_the_bytes(rt: HostRuntime) -> Result<(), Fail> {
+    let alloc = rt.alloc();
+    let file = joined(alloc, &ANA[..12], &B1)?;
+    let other = joined(alloc, &B1[..105], b"At\n")?;
+    let made = judge(alloc, &file)?.receive(alloc, &decode_whole(alloc, &other)?);
+    assert_eq!(rt; made.err(), Some(JoinFault::Clash(OpId::read("2:ana")?)));
+    let Some((_, cut)) = file.split_last() else {
+        return Err(Fail::from("a project's file is not empty"));
+    };
+    assert_eq!(rt; judge(alloc, cut).err(), Some(CUT));
+    Ok(())
 }
 
 #[test]

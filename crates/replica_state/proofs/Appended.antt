@@ -14,7 +14,7 @@ use Rattle.usfm_ref.specs.Rising.{rises_by}
 use Rattle.usfm_ref.specs.Segments.{Segment, segment}
 use Rattle.usfm_ref.proofs.Orders.{key_total, key_exact, same_bytes-refl, same_key-is, same_key-refl}
 use Rattle.usfm_ref.proofs.Sorted.{is_less}
-use Rattle.verse_cut.specs.Pieces.{Part}
+use Rattle.verse_cut.specs.Pieces.{PieceParts}
 use Rattle.op_core.specs.Ids.{Id, same_id, id_below, ids_rise}
 use Rattle.op_core.specs.Ops.{Operation, IsOperation, in_segment, names}
 use Rattle.op_core.specs.Sets.{rises, get, join, met}
@@ -68,25 +68,25 @@ any_none g id (o ∷ ops) e = by (λ f. any_none g id ops f) (in_segment g o && 
     by rest true f e = absurd (cc)
     by rest false f e = ap (λ b. b || is_replaced ops g id) f ∙ rest e
 
-module _ (s : State) (state : IsState s) (book : List ℕ) (pieces : List Part) where
+module _ (s : State) (state : IsState s) (book : List ℕ) (pieces : List PieceParts) where
   abbrev edits : ℕ → List KeyParts → List Operation
   edits n keys = edits_from n s book pieces keys
 
   -- ---- the edits come after
 
-  rises_behind : (ops : List Operation) (n : ℕ) (keys : List KeyParts) → rises ops ≡ true → greatest_number ops < n
+  rises_with : (ops : List Operation) (n : ℕ) (keys : List KeyParts) → rises ops ≡ true → greatest_number ops < n
       → rises (ops ++ edits n keys) ≡ true
-  rises_behind [] n keys h l = edits_rise s book pieces n keys
-  rises_behind (o ∷ ops) n keys h l =
+  rises_with [] n keys h l = edits_rise s book pieces n keys
+  rises_with (o ∷ ops) n keys h l =
       let p = rises_parts o ops h in
       and_from _ _ (list_all-append (λ (q : Operation). id_below o.id q.id) ops (edits n keys)
       ∙ and_from _ _ p.0 (numbers_above s book pieces o.id n keys (omega arith)))
-      (rises_behind ops n keys p.1 (omega arith))
+      (rises_with ops n keys p.1 (omega arith))
 
-  pub joined_behind : (keys : List KeyParts) → join s.held (edits (next_number s.held) keys) ≡ s.held ++ edits (next_number s.held) keys
-  joined_behind keys =
+  pub joined_after : (keys : List KeyParts) → join s.held (edits (next_number s.held) keys) ≡ s.held ++ edits (next_number s.held) keys
+  joined_after keys =
       let new = edits (next_number s.held) keys in
-      same_gets _ _ (rises-join s.held new state.set.rising) (rises_behind s.held (next_number s.held) keys state.set.rising (omega arith))
+      same_gets _ _ (rises-join s.held new state.set.rising) (rises_with s.held (next_number s.held) keys state.set.rising (omega arith))
       (λ q. get-join s.held new q state.set.rising (edits_rise s book pieces (next_number s.held) keys)
       ∙ one_of_both (get s.held q) (get new q)
       (λ o g. apart_at s.held new q o (edits_are_new s book pieces (next_number s.held) keys (omega arith)) g)

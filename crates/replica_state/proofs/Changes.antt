@@ -8,7 +8,7 @@ use Rattle.std.proofs.lemmas.Bool.{and_from}
 use Rattle.std.proofs.lemmas.List.Folds.{list_all-append, find-append}
 use Rattle.usfm_ref.specs.Keys.{KeyParts}
 use Rattle.usfm_ref.specs.Segments.{segment}
-use Rattle.verse_cut.specs.Pieces.{Part, pieces_of}
+use Rattle.verse_cut.specs.Pieces.{PieceParts, pieces_of}
 use Rattle.verse_cut.specs.Reading.{book_in}
 use Rattle.verse_cut.specs.declared.fault.BookFault.{BookFault}
 use Rattle.op_core.specs.Names.{name_cmp}
@@ -30,7 +30,7 @@ use Rattle.replica_state.proofs.Appended.{one_of_both}
 use Rattle.replica_state.specs.declared.fault.SinceFault.{SinceFault}
 use Rattle.replica_state.specs.declared.fault.SinceFault.TheVariants.{Clash, NumbersUsedUp}
 
-module _ (s : State) (base : List Operation) (book : List ℕ) (pieces : List Part) where
+module _ (s : State) (base : List Operation) (book : List ℕ) (pieces : List PieceParts) where
   -- the edit of a key, with a number
   abbrev pub change_at : ℕ → KeyParts → Operation
   change_at n key =
@@ -74,9 +74,9 @@ module _ (s : State) (base : List Operation) (book : List ℕ) (pieces : List Pa
       (rises_after ops n keys p.1 (omega arith))
 
   -- and they stand after it
-  pub changes_behind : (held : List Operation) (n : ℕ) (keys : List KeyParts) → rises held ≡ true → greatest_number held < n
+  pub changes_after : (held : List Operation) (n : ℕ) (keys : List KeyParts) → rises held ≡ true → greatest_number held < n
       → join held (changes_from n s base book pieces keys) ≡ held ++ changes_from n s base book pieces keys
-  changes_behind held n keys h l =
+  changes_after held n keys h l =
       let new = changes_from n s base book pieces keys in
       same_gets _ _ (rises-join held new h) (rises_after held n keys h l)
       (λ q. get-join held new q h (changes_rise n keys)
@@ -114,7 +114,7 @@ module _ (s : State) (base : List Operation) (book : List ℕ) (pieces : List Pa
 
 -- ---- where the edits are made beside the replica
 
-module _ (t : State) (base : List Operation) (book : List ℕ) (pieces : List Part) (keys : List KeyParts) where
+module _ (t : State) (base : List Operation) (book : List ℕ) (pieces : List PieceParts) (keys : List KeyParts) where
   -- edits that are made do not hang on the replica that stands where none are
   pub still_made : (b c x : State) (n : ℕ) → changed b t base book pieces keys ≡ record { after = x; answer = Ok n }
       → changed c t base book pieces keys ≡ record { after = x; answer = Ok n }
@@ -151,7 +151,7 @@ since_is s base file book x named none e =
     ap (λ (r : Result (List ℕ) BookFault). changed_in s base (pieces_of file) r) named
     ∙ ap (λ (c : Option Id). changed_after s base book (pieces_of file) c) none ∙ e
 
-module _ (s t : State) (base was : List Operation) (file book : List ℕ) (pieces : List Part) (received : t ≡ with_ops s base)
+module _ (s t : State) (base was : List Operation) (file book : List ℕ) (pieces : List PieceParts) (received : t ≡ with_ops s base)
     (held : was ≡ base) (cut : pieces ≡ pieces_of file) (named : book_in file ≡ Ok book) (none : clash s.held base ≡ None) where
   same : changed (with_ops s base) (with_ops s base) base book (pieces_of file)
       (changed_keys (with_ops s base).held base book (pieces_of file))
@@ -186,7 +186,7 @@ clash_in s base file book id named some =
     ∙ ap (λ (c : Option Id). changed_after s base book (pieces_of file) c) some
 
 -- where there is nothing to be received, the edits are those of the replica as it is
-pub unreceived : (s : State) (base was : List Operation) (file book : List ℕ) (pieces : List Part) → with_ops s base ≡ s → was ≡ base
+pub unreceived : (s : State) (base was : List Operation) (file book : List ℕ) (pieces : List PieceParts) → with_ops s base ≡ s → was ≡ base
     → pieces ≡ pieces_of file → book_in file ≡ Ok book → clash s.held base ≡ None → (x : SinceStep)
     → changed s s was book pieces (changed_keys s.held was book pieces) ≡ x → imported_since s base file ≡ x
 unreceived s base was file book pieces kept held cut named none x e =

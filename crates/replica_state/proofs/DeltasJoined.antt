@@ -5,7 +5,7 @@ use Rattle.std.specs.Option.{is_some}
 use Rattle.op_core.specs.Ops.{Operation}
 use Rattle.op_core.specs.Sets.{join, get}
 use Rattle.op_core.specs.Thinned.{all_full, is_sent, lacks_thinned}
-use Rattle.bundle_codec.specs.Summaries.{Known, IsSummaryOf, covers, outside}
+use Rattle.bundle_codec.specs.Summaries.{NameRanges, IsSummaryOf, covers, outside}
 use Rattle.bundle_codec.proofs.Deltas.{outside_union}
 use Rattle.replica_state.specs.States.{State, IsState}
 use Rattle.replica_state.specs.Receives.{lacked}
@@ -25,7 +25,7 @@ filter_twice p q weaker (x ∷ xs) = by (q x) refl (p x) refl (filter_twice p q 
     by false e false f rest = rest
 
 -- of the delta for a summary of what is held, as much is lacked as of the whole
-pub delta_new : (own other : List Operation) (s : List Known) → IsSummaryOf own s → lacked own (outside s other) ≡ lacked own other
+pub delta_new : (own other : List Operation) (s : List NameRanges) → IsSummaryOf own s → lacked own (outside s other) ≡ lacked own other
 delta_new own other s h =
     filter_twice (λ (o : Operation). is_none (get own o.id)) (is_sent other (covers s)) sent other
   where
@@ -37,7 +37,7 @@ delta_new own other s h =
     sent o n = ap (λ b. b || lacks_thinned other (covers s) o.segment) (unknown (get own o.id) (covers s o.id) n (h.exactly o.id))
 
 -- a copy that takes in what it lacks holds the union
-pub delta_joined : (own other : State) (s : List Known) → IsState own → IsState other → IsTrue (all_full other.held) →
+pub delta_joined : (own other : State) (s : List NameRanges) → IsState own → IsState other → IsTrue (all_full other.held) →
     IsSummaryOf own.held s →
     step own (Receive (outside s other.held))
     ≡ record {

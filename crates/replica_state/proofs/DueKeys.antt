@@ -13,7 +13,7 @@ use Rattle.usfm_ref.specs.Segments.{segment}
 use Rattle.usfm_ref.proofs.Members.{tested_rising}
 use Rattle.usfm_ref.proofs.Orders.{key_total, key_exact}
 use Rattle.usfm_ref.proofs.Sorted.{rises_filter, rises-rising}
-use Rattle.verse_cut.specs.Pieces.{Part}
+use Rattle.verse_cut.specs.Pieces.{PieceParts}
 use Rattle.verse_cut.specs.Reading.{is_empty}
 use Rattle.op_core.specs.Ops.{Operation}
 use Rattle.op_core.specs.Shown.{wants_chapter_line}
@@ -37,12 +37,12 @@ there_kept p q (k ∷ ks) t h = by (λ g. there_kept p q ks t g) (is_eq (key_cmp
     by rest false e true f h = or_right _ _ (rest h)
     by rest false e false f h = rest h
 
-module _ (held : List Operation) (book : List ℕ) (pieces : List Part) where
+module _ (held : List Operation) (book : List ℕ) (pieces : List PieceParts) where
   pub due_rise : rises_by key_cmp (λ k. k) (due_keys held book pieces) ≡ true
   due_rise = rises_filter key_cmp key_total (λ k. k) (is_due held book pieces) (walked_keys held book pieces)
       (rises-rising key_cmp key_total (map head_of (keys_of held book) ++ (keys_of held book ++ map (λ p. p.key) pieces)))
 
-  piece_there : (q : KeyParts) (ps : List Part) → is_some (piece_of ps q) ≡ true → is_there q (map (λ p. p.key) ps) ≡ true
+  piece_there : (q : KeyParts) (ps : List PieceParts) → is_some (piece_of ps q) ≡ true → is_there q (map (λ p. p.key) ps) ≡ true
   piece_there q [] h = cc h
   piece_there q (p ∷ ps) h = by (λ g. piece_there q ps g) (is_eq (key_cmp q p.key)) h
     where
@@ -97,7 +97,7 @@ module _ (held : List Operation) (book : List ℕ) (pieces : List Part) where
       → ((is_there q (map head_of (keys_of held book)) || is_there q (keys_of held book)) || is_there q (map (λ p. p.key) pieces)) ≡ true
   due_among q h = by (is_empty (picked_at held book q)) refl
     where
-      none : (t : List ℕ) → is_empty t ≡ true → (o : Option Part)
+      none : (t : List ℕ) → is_empty t ≡ true → (o : Option PieceParts)
           → (not (same_bytes t (text_in o))
           || ((wants_chapter_line held (segment book q) && is_some o) && not (has_verse pieces q.chapter))) ≡ true → is_some o ≡ true
       none [] e (Some p) d = refl

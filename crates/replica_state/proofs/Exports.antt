@@ -25,7 +25,7 @@ use Rattle.replica_state.specs.ImportLaws.{ImportsAreExported}
 use Rattle.replica_state.specs.Steps.{Step, Import, Imported, imported, step}
 use Rattle.replica_state.specs.declared.fault.ImportFault.{ImportFault}
 use Rattle.replica_state.specs.declared.fault.ImportFault.TheVariants.{NumbersUsedUp}
-use Rattle.replica_state.proofs.Appended.{is_there, key_is, joined_behind}
+use Rattle.replica_state.proofs.Appended.{is_there, key_is, joined_after}
 use Rattle.replica_state.proofs.DueKeys.{there_kept}
 use Rattle.replica_state.proofs.ImportedTexts as imports
 use Rattle.replica_state.proofs.KeyLists.{same_key-cmp}
@@ -50,7 +50,7 @@ there_passes p q (k ∷ ks) f = by (there_passes p q ks f) (p k) refl
 -- the texts after the head of a book are those that are picked
 pub later_at : (held : List Operation) (book : List ℕ) (q : KeyParts) → key_below book_head q ≡ true
     → text_at (filled (later_texts held book)) q ≡ picked_at held book q
-later_at held book q behind =
+later_at held book q after =
     filled_at held book (filter (key_below book_head) (exported_keys held book)) q ∙ by (is_empty (picked_at held book q)) refl
   where
     either : (b : Bool) → picked_at held book q ≡ [] → cond b (picked_at held book q) [] ≡ picked_at held book q
@@ -63,7 +63,7 @@ later_at held book q behind =
     by false e =
         let there : is_there q (exported_keys held book) ≡ true =
         (λ i. list_any (λ k. sym (same_key-cmp q k) i) (exported_keys held book)) ∙ picks_are_exported held book q e in
-        cond-true _ _ _ (there_kept (key_below book_head) q (exported_keys held book) behind there)
+        cond-true _ _ _ (there_kept (key_below book_head) q (exported_keys held book) after there)
 
 pub later_none : (held : List Operation) (book : List ℕ) (q : KeyParts) → key_below book_head q ≡ false
     → text_at (filled (later_texts held book)) q ≡ []
@@ -72,10 +72,10 @@ later_none held book q apart =
     ∙ cond-false _ _ _ (there_passes (key_below book_head) q (exported_keys held book) apart)
 
 -- a list after the head of the book has nothing at keys that are not
-behind_none : (ts : List KeyText) (q : KeyParts) → list_all (λ t. key_below book_head t.key) ts ≡ true → key_below book_head q ≡ false
+after_none : (ts : List KeyText) (q : KeyParts) → list_all (λ t. key_below book_head t.key) ts ≡ true → key_below book_head q ≡ false
     → text_at ts q ≡ []
-behind_none [] q h f = refl
-behind_none (t ∷ ts) q h f = by (behind_none ts q p.1 f) (is_eq (key_cmp q t.key)) refl
+after_none [] q h f = refl
+after_none (t ∷ ts) q h f = by (after_none ts q p.1 f) (is_eq (key_cmp q t.key)) refl
   where
     p : (key_below book_head t.key ≡ true) × (list_all (λ t. key_below book_head t.key) ts ≡ true)
     p = and_parts (key_below book_head t.key) (list_all (λ t. key_below book_head t.key) ts) h
@@ -85,9 +85,9 @@ behind_none (t ∷ ts) q h f = by (behind_none ts q p.1 f) (is_eq (key_cmp q t.k
     by rest false e = ap own_text (cond-false _ _ _ e) ∙ rest
 
 -- a text that is after the head of the book is not the head's
-pub behind_head : (head : List ℕ) (ts : List KeyText) (q : KeyParts) → key_below book_head q ≡ true
+pub after_head : (head : List ℕ) (ts : List KeyText) (q : KeyParts) → key_below book_head q ≡ true
     → text_at (at_book_head head ∷ ts) q ≡ text_at ts q
-behind_head head ts q h = by (is_eq (key_cmp q book_head)) refl
+after_head head ts q h = by (is_eq (key_cmp q book_head)) refl
   where
     by : (b : Bool) → is_eq (key_cmp q book_head) ≡ b → own_text (cond b (Some (at_book_head head)) (at_key ts q)) ≡ text_at ts q
     by true e = cc (sym h ∙ ap (key_below book_head) (key_is q book_head e))
@@ -128,8 +128,8 @@ module _ (s : State) (state : IsState s) (book file : List ℕ) (named : book_in
           → text_at (filled (later_texts now book)) q ≡ text_at (imports.joined s state book file named).later q
       at q true e above =
           later_at now book q e ∙ imports.picked_is_piece s state book file named q ∙ imports.piece_text s state book file named q
-          ∙ behind_head (imports.joined s state book file named).head (imports.joined s state book file named).later q e
-      at q false e above = later_none now book q e ∙ sym (behind_none (imports.joined s state book file named).later q above e)
+          ∙ after_head (imports.joined s state book file named).head (imports.joined s state book file named).later q e
+      at q false e above = later_none now book q e ∙ sym (after_none (imports.joined s state book file named).later q above e)
 
   pub export_is_file : export now book ≡ file
   export_is_file =
@@ -155,7 +155,7 @@ imports_are_exported s file book count state named reply =
         → export (imported s (edits_numbered s book (pieces_of file) due)).after.held book ≡ file
     by true e r =
         ap (λ (x : Result (List Operation) ImportFault). export (imported s x).after.held book) (cond-true _ _ _ e)
-        ∙ ap (λ (ops : List Operation). export ops book) (joined_behind s state book (pieces_of file) due)
+        ∙ ap (λ (ops : List Operation). export ops book) (joined_after s state book (pieces_of file) due)
         ∙ export_is_file s state book file named
     by false e r =
         absurd (let full : Imported (Err NumbersUsedUp)

@@ -10,9 +10,9 @@ use Rattle.usfm_ref.specs.Books.{is_book_code}
 use Rattle.usfm_ref.specs.Keys.{KeyParts, key_cmp, book_head, same_key}
 use Rattle.usfm_ref.proofs.Orders.{key_exact, same_key-is}
 use Rattle.verse_cut.specs.Fits.{IsHeaded, Fits, ends_code}
-use Rattle.verse_cut.specs.Pieces.{Part, pieces_of}
+use Rattle.verse_cut.specs.Pieces.{PieceParts, pieces_of}
 use Rattle.verse_cut.specs.Joins.{IsJoinOf}
-use Rattle.verse_cut.specs.Reading.{behind_id, book_at, book_or_bad, leading_book, book_in}
+use Rattle.verse_cut.specs.Reading.{after_id, book_at, book_or_bad, leading_book, book_in}
 use Rattle.verse_cut.proofs.BookLaws.{books_are_joins}
 use Rattle.verse_cut.proofs.FitLaws.{fits_is_read, fits_other}
 use Rattle.verse_cut.proofs.Headings.{book_reads}
@@ -33,7 +33,7 @@ code_leads bytes book h = by (is_book_code (take 3 bytes) && ends_code (drop 3 b
 
 pub book_is_code : (text book : List ℕ) → book_in text ≡ Ok book → is_book_code book ≡ true
 unfolding book_in
-book_is_code text book h = by (behind_id text) h
+book_is_code text book h = by (after_id text) h
   where
     second : (o : Option (List ℕ)) (bytes : List ℕ) → leading_book bytes ≡ o → book_or_bad o ≡ Ok book → is_book_code book ≡ true
     second None bytes e h = absurd (cc)
@@ -49,7 +49,8 @@ book_is_headed text book h = book_reads text (Ok book) (sym h)
 -- ---- the piece of a key
 
 -- a piece that is found is of the key, and what holds of all holds of it
-pub piece_has : (P : Part → Type 0) (key : KeyParts) (pieces : List Part) (p : Part) → All P pieces → piece_of pieces key ≡ Some p
+pub piece_has : (P : PieceParts → Type 0) (key : KeyParts) (pieces : List PieceParts) (p : PieceParts) → All P pieces
+    → piece_of pieces key ≡ Some p
     → P p × (key ≡ p.key)
 piece_has P key [] p all h = absurd (cc)
 piece_has P key (q ∷ pieces) p all h = by (λ e. piece_has P key pieces p (All-tail P q pieces all) e) (is_eq (key_cmp key q.key)) refl h
@@ -58,7 +59,7 @@ piece_has P key (q ∷ pieces) p all h = by (λ e. piece_has P key pieces p (All
         → cond b (Some q) (piece_of pieces key) ≡ Some p → P p × (key ≡ p.key)
     by rest true e h =
         let is : q ≡ p = cc in
-        (subst P is (All-head P q pieces all), key_exact key q.key ((Equal-is _).0 e) ∙ ap (λ (r : Part). r.key) is)
+        (subst P is (All-head P q pieces all), key_exact key q.key ((Equal-is _).0 e) ∙ ap (λ (r : PieceParts). r.key) is)
     by rest false e h = rest h
 
 -- the head of a book has a piece
@@ -77,7 +78,7 @@ piece_fits book text key code headed = by (piece_of (pieces_of text) key) refl
         let here = ap (piece_of (pieces_of text)) (sym (same_key-is key book_head e)) ∙ gone in cc)
     absent false e gone = (fits_is_read book key []).0 (sym (fits_other book key [] e))
 
-    by : (o : Option Part) → piece_of (pieces_of text) key ≡ o → Fits book key (text_in o)
+    by : (o : Option PieceParts) → piece_of (pieces_of text) key ≡ o → Fits book key (text_in o)
     by None e = absent (same_key key book_head) refl e
     by (Some p) e =
         let h = piece_has (λ q. Fits book q.key q.text) key (pieces_of text) p (pieces_fit book text code headed) e in

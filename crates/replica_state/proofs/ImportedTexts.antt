@@ -10,7 +10,7 @@ use Rattle.usfm_ref.specs.Books.{same_bytes}
 use Rattle.usfm_ref.specs.Keys.{KeyParts, chapter_head, head_of, is_head, is_verse_of}
 use Rattle.usfm_ref.specs.Segments.{Segment, segment}
 use Rattle.usfm_ref.proofs.Orders.{same_bytes-is}
-use Rattle.verse_cut.specs.Pieces.{Part, pieces_of}
+use Rattle.verse_cut.specs.Pieces.{PieceParts, pieces_of}
 use Rattle.verse_cut.specs.Joins.{KeyText, HasHead, IsJoinOf, at_book_head, pieces_from}
 use Rattle.verse_cut.specs.Reading.{book_in, is_empty}
 use Rattle.verse_cut.proofs.BookLaws.{books_are_joins}
@@ -54,7 +54,7 @@ pub verse_wants_none : (held : List Operation) (g : Segment) → is_head g.key.p
 verse_wants_none held g h = ap (λ b. b && nat_le 1 g.key.chapter && is_empty (text_of held g) && has_verse_text held g.book g.key.chapter) h
 
 module _ (s : State) (state : IsState s) (book file : List ℕ) (named : book_in file ≡ Ok book) where
-  abbrev pub pieces : List Part
+  abbrev pub pieces : List PieceParts
   pieces = pieces_of file
 
   abbrev pub due : List KeyParts
@@ -202,7 +202,7 @@ module _ (s : State) (state : IsState s) (book file : List ℕ) (named : book_in
           → text_of now (at key) ≡ text_of s.held (at key) → picked_at s.held book key ≡ piece_at pieces key
           → loses_line s.held book pieces key ≡ false → picked_at now book key ≡ piece_at pieces key
 
-      there : (o : Option Part) → is_empty (text_in o) ≡ false → is_some o ≡ true
+      there : (o : Option PieceParts) → is_empty (text_in o) ≡ false → is_some o ≡ true
       there None e = absurd (cc)
       there (Some p) e = refl
 

@@ -11,7 +11,7 @@ use Rattle.usfm_ref.specs.Books.{same_bytes}
 use Rattle.usfm_ref.specs.Keys.{KeyParts}
 use Rattle.usfm_ref.specs.Segments.{segment}
 use Rattle.usfm_ref.proofs.Orders.{same_bytes-is}
-use Rattle.verse_cut.specs.Pieces.{Part}
+use Rattle.verse_cut.specs.Pieces.{PieceParts}
 use Rattle.op_core.specs.Names.{name_cmp}
 use Rattle.op_core.specs.Ids.{Id, id_below}
 use Rattle.op_core.specs.Ops.{Operation}
@@ -27,7 +27,7 @@ use Rattle.replica_state.specs.States.{State, IsState}
 use Rattle.replica_state.specs.Edits.{edit_with}
 use Rattle.replica_state.specs.Imports.{text_in, piece_of, piece_at, has_verse, loses_line, is_due, edits_from}
 
-module _ (s : State) (book : List ℕ) (pieces : List Part) where
+module _ (s : State) (book : List ℕ) (pieces : List PieceParts) where
   -- the edit of a key, with a number
   abbrev pub edit_at : ℕ → KeyParts → Operation
   edit_at n key =
@@ -80,7 +80,7 @@ module _ (s : State) (book : List ℕ) (pieces : List Part) where
 
 -- ---- keys picked as the chapter's own line
 
-module _ (held : List Operation) (book : List ℕ) (pieces : List Part) (key : KeyParts) (chapter : ℕ)
+module _ (held : List Operation) (book : List ℕ) (pieces : List PieceParts) (key : KeyParts) (chapter : ℕ)
     (line : Line chapter ≡ pick held (segment book key)) where
   wants : wants_chapter_line held (segment book key) ≡ true
   wants = by (wants_chapter_line held (segment book key)) (last (shown held (segment book key))) line
@@ -102,6 +102,6 @@ module _ (held : List Operation) (book : List ℕ) (pieces : List Part) (key : K
       ∙ ap (λ b. not b || loses_line held book pieces key) h
       ∙ (λ i. wants i && there (piece_of pieces key) (same_bytes-is (chapter_line chapter) (piece_at pieces key) h) i && not (sym e i)))
     where
-      there : (o : Option Part) → chapter_line chapter ≡ text_in o → is_some o ≡ true
+      there : (o : Option PieceParts) → chapter_line chapter ≡ text_in o → is_some o ≡ true
       there None e = absurd (cc)
       there (Some p) e = refl

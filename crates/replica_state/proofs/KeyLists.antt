@@ -17,7 +17,7 @@ use Rattle.usfm_ref.specs.Rising.{rises_by, rising}
 use Rattle.usfm_ref.proofs.Members.{same_tested, tested_rising}
 use Rattle.usfm_ref.proofs.Orders.{key_total, key_exact, same_key-is, same_key-refl}
 use Rattle.usfm_ref.proofs.Sorted.{rises-rising}
-use Rattle.verse_cut.specs.Views.{part_of, parts_of}
+use Rattle.verse_cut.specs.Views.{piece_view, pieces_view}
 use Rattle.verse_cut.specs.declared.cutter.Piece.{Piece}
 use Rattle.replica_state.specs.Imports.{piece_of, has_verse}
 
@@ -77,31 +77,31 @@ sorted_once cmp eq c e keys sorted once p s f =
 
 -- ---- pieces as parts
 
-pub part_found : (key : KeyParts) (pieces : List Piece)
-    → piece_of (parts_of pieces) key ≡ option_map part_of (find (λ p. is_eq (key_cmp key p.key)) pieces)
-part_found key [] = refl
-part_found key (p ∷ pieces) = by (part_found key pieces) (is_eq (key_cmp key p.key))
+pub piece_found : (key : KeyParts) (pieces : List Piece)
+    → piece_of (pieces_view pieces) key ≡ option_map piece_view (find (λ p. is_eq (key_cmp key p.key)) pieces)
+piece_found key [] = refl
+piece_found key (p ∷ pieces) = by (piece_found key pieces) (is_eq (key_cmp key p.key))
   where
-    by : piece_of (parts_of pieces) key ≡ option_map part_of (find (λ p. is_eq (key_cmp key p.key)) pieces) → (b : Bool)
-        → cond b (Some (part_of p)) (piece_of (parts_of pieces) key)
-        ≡ option_map part_of (cond b (Some p) (find (λ p. is_eq (key_cmp key p.key)) pieces))
+    by : piece_of (pieces_view pieces) key ≡ option_map piece_view (find (λ p. is_eq (key_cmp key p.key)) pieces) → (b : Bool)
+        → cond b (Some (piece_view p)) (piece_of (pieces_view pieces) key)
+        ≡ option_map piece_view (cond b (Some p) (find (λ p. is_eq (key_cmp key p.key)) pieces))
     by rest true = refl
     by rest false = rest
 
-pub part_keys : (pieces : List Piece) → map (λ p. p.key) (parts_of pieces) ≡ map (λ p. p.key) pieces
-part_keys [] = refl
-part_keys (p ∷ pieces) = ap (λ (ks : List KeyParts). p.key ∷ ks) (part_keys pieces)
+pub piece_keys : (pieces : List Piece) → map (λ p. p.key) (pieces_view pieces) ≡ map (λ p. p.key) pieces
+piece_keys [] = refl
+piece_keys (p ∷ pieces) = ap (λ (ks : List KeyParts). p.key ∷ ks) (piece_keys pieces)
 
-pub parts_rise : (pieces : List Piece) → rises_by key_cmp (λ p. p.key) (parts_of pieces) ≡ rises_by key_cmp (λ p. p.key) pieces
-parts_rise [] = refl
-parts_rise (p ∷ pieces) = λ i. above p.key pieces i && parts_rise pieces i
+pub piece_keys_rise : (pieces : List Piece) → rises_by key_cmp (λ p. p.key) (pieces_view pieces) ≡ rises_by key_cmp (λ p. p.key) pieces
+piece_keys_rise [] = refl
+piece_keys_rise (p ∷ pieces) = λ i. above p.key pieces i && piece_keys_rise pieces i
   where
     above : (k : KeyParts) (ps : List Piece)
-        → list_all (λ q. is_lt (key_cmp k q.key)) (parts_of ps) ≡ list_all (λ q. is_lt (key_cmp k q.key)) ps
+        → list_all (λ q. is_lt (key_cmp k q.key)) (pieces_view ps) ≡ list_all (λ q. is_lt (key_cmp k q.key)) ps
     above k [] = refl
     above k (q ∷ ps) = ap (λ b. is_lt (key_cmp k q.key) && b) (above k ps)
 
-pub part_verses : (chapter : ℕ) (pieces : List Piece)
-    → has_verse (parts_of pieces) chapter ≡ list_any (λ p. is_verse_of chapter p.key) pieces
-part_verses chapter [] = refl
-part_verses chapter (p ∷ pieces) = ap (λ b. is_verse_of chapter p.key || b) (part_verses chapter pieces)
+pub piece_verses : (chapter : ℕ) (pieces : List Piece)
+    → has_verse (pieces_view pieces) chapter ≡ list_any (λ p. is_verse_of chapter p.key) pieces
+piece_verses chapter [] = refl
+piece_verses chapter (p ∷ pieces) = ap (λ b. is_verse_of chapter p.key || b) (piece_verses chapter pieces)

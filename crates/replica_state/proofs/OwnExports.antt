@@ -11,7 +11,7 @@ use Rattle.usfm_ref.specs.Segments.{Segment, segment}
 use Rattle.usfm_ref.proofs.Orders.{same_bytes-is, same_bytes-refl, same_key-is}
 use Rattle.verse_cut.specs.Keys.{key_below}
 use Rattle.verse_cut.specs.Fits.{IsHeaded, Fits}
-use Rattle.verse_cut.specs.Pieces.{Part, pieces_of}
+use Rattle.verse_cut.specs.Pieces.{PieceParts, pieces_of}
 use Rattle.verse_cut.specs.Joins.{filled, at_book_head}
 use Rattle.verse_cut.specs.Reading.{book_in, is_empty}
 use Rattle.verse_cut.specs.declared.fault.BookFault.{BookFault}
@@ -36,7 +36,7 @@ use Rattle.replica_state.specs.Imports.{piece_of, piece_at, has_verse, is_due, l
 use Rattle.replica_state.specs.Imports.{walked_keys, due_keys, edits_numbered, import_into}
 use Rattle.replica_state.specs.ImportLaws.{OwnExportsAddNothing}
 use Rattle.replica_state.specs.Steps.{Import, Imported, imported, step}
-use Rattle.replica_state.proofs.Exports.{behind_head, later_at}
+use Rattle.replica_state.proofs.Exports.{after_head, later_at}
 use Rattle.replica_state.proofs.ImportedTexts.{any_found, verse_wants_none}
 use Rattle.replica_state.proofs.KeyTexts.{text_at, text_of_piece}
 use Rattle.replica_state.proofs.Appended.{key_is}
@@ -58,7 +58,8 @@ none_pass p [] f = refl
 none_pass p (k ∷ ks) f = (λ i. cond (f k i) (k ∷ filter p ks) (filter p ks)) ∙ none_pass p ks f
 
 -- a verse with a piece that is not empty is a verse of its chapter's
-verse_there : (pieces : List Part) (chapter : ℕ) (key : KeyParts) → is_verse_of chapter key ≡ true → is_empty (piece_at pieces key) ≡ false
+verse_there : (pieces : List PieceParts) (chapter : ℕ) (key : KeyParts) → is_verse_of chapter key ≡ true
+    → is_empty (piece_at pieces key) ≡ false
     → has_verse pieces chapter ≡ true
 verse_there [] chapter key v h = absurd (cc)
 verse_there (p ∷ pieces) chapter key v h = by (λ g. verse_there pieces chapter key v g) (is_eq (key_cmp key p.key)) refl h
@@ -134,7 +135,7 @@ module _ (s : State) (state : IsState s) (book : List ℕ) (begun : list_any (in
 
       by : (b : Bool) → key_below book_head q ≡ b
           → text_at (at_book_head (picked_at s.held book book_head) ∷ filled (later_texts s.held book)) q ≡ picked_at s.held book q
-      by true e = behind_head (picked_at s.held book book_head) (filled (later_texts s.held book)) q e ∙ later_at s.held book q e
+      by true e = after_head (picked_at s.held book book_head) (filled (later_texts s.held book)) q e ∙ later_at s.held book q e
       by false e =
           subst (λ (k : KeyParts). text_at (at_book_head (picked_at s.held book book_head) ∷ filled (later_texts s.held book)) k
           ≡ picked_at s.held book k) (sym (is_it (same_key q book_head) refl e)) refl

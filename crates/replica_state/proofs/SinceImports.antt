@@ -8,7 +8,7 @@ use Rattle.usfm_ref.specs.Books.{same_bytes}
 use Rattle.usfm_ref.specs.Keys.{KeyParts, is_head, is_verse_of, same_key}
 use Rattle.usfm_ref.specs.Segments.{segment}
 use Rattle.usfm_ref.proofs.Orders.{same_bytes-is, same_bytes-refl}
-use Rattle.verse_cut.specs.Pieces.{Part, pieces_of}
+use Rattle.verse_cut.specs.Pieces.{PieceParts, pieces_of}
 use Rattle.verse_cut.specs.declared.fault.BookFault.{BookFault}
 use Rattle.op_core.specs.Equal.{same_id-refl}
 use Rattle.op_core.specs.Ids.{Id}
@@ -113,7 +113,7 @@ module _ (held base : List Operation) (book : List ℕ) (same : filter (of_book 
   picked_same : (key : KeyParts) → picked_at held book key ≡ picked_at base book key
   picked_same key = λ i. picked_text (cond (wants_same key i) (Line key.chapter) (greatest (last (shown_same key i))))
 
-  pub due_same : (pieces : List Part) (key : KeyParts) → is_due held book pieces key ≡ is_due base book pieces key
+  pub due_same : (pieces : List PieceParts) (key : KeyParts) → is_due held book pieces key ≡ is_due base book pieces key
   due_same pieces key = λ i. not (same_bytes (picked_same key i) (piece_at pieces key))
       || (wants_same key i && is_some (piece_of pieces key) && not (has_verse pieces key.chapter))
 
@@ -139,7 +139,7 @@ module _ (held base : List Operation) (book : List ℕ) (same : filter (of_book 
     none_doubled text [] = refl
     none_doubled text (o ∷ ops) = refl
 
-    pub changed_is_due : (pieces : List Part) (key : KeyParts) → is_changed held base book pieces key ≡ is_due held book pieces key
+    pub changed_is_due : (pieces : List PieceParts) (key : KeyParts) → is_changed held base book pieces key ≡ is_due held book pieces key
     changed_is_due pieces key =
         let g = segment book key in
         (λ i. is_due base book pieces key && not (double i)) ∙ and_true (is_due base book pieces key) ∙ sym (due_same pieces key)
@@ -155,7 +155,7 @@ module _ (held base : List Operation) (book : List ℕ) (same : filter (of_book 
         and_true true = refl
         and_true false = refl
 
-same_edits : (t : State) (base : List Operation) (book : List ℕ) (pieces : List Part)
+same_edits : (t : State) (base : List Operation) (book : List ℕ) (pieces : List PieceParts)
     → ((key : KeyParts) → seen_ids t.held base (segment book key) ≡ shown_ids t.held (segment book key)) → (n : ℕ) (keys : List KeyParts)
     → changes_from n t base book pieces keys ≡ edits_from n t book pieces keys
 same_edits t base book pieces seen n [] = refl
@@ -169,7 +169,7 @@ is_import_where_nothing_came s base file book count state set none named same fe
     t : State
     t = with_ops s base
 
-    pieces : List Part
+    pieces : List PieceParts
     pieces = pieces_of file
 
     due : List KeyParts

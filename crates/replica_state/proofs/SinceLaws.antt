@@ -9,7 +9,7 @@ use Rattle.std.proofs.lemmas.Map.Views.{Contains-from_any}
 use Rattle.usfm_ref.specs.Keys.{KeyParts}
 use Rattle.usfm_ref.specs.Segments.{Segment, segment}
 use Rattle.usfm_ref.proofs.Orders.{same_bytes-is, same_segment-is}
-use Rattle.verse_cut.specs.Pieces.{Part, pieces_of}
+use Rattle.verse_cut.specs.Pieces.{PieceParts, pieces_of}
 use Rattle.verse_cut.specs.declared.fault.BookFault.{BookFault}
 use Rattle.op_core.specs.Ids.{Id, same_id}
 use Rattle.op_core.specs.Ops.{Operation, IsOperation, own_text, in_segment, names}
@@ -26,7 +26,7 @@ use Rattle.replica_state.specs.Imports.{is_due, walked_keys}
 use Rattle.replica_state.specs.Since.{has_greatest_text, stood_ids, seen_ids, changes_from, is_changed, changed_keys, changed, changed_after, changed_in}
 use Rattle.replica_state.specs.SinceLaws.{changes_of, StoodInFile, ReplacesNothingUnseen, UnseenStays, UnchangedFilesAddNothing}
 use Rattle.replica_state.proofs.OwnExports.{named, none_due, none_pass, numbers_left}
-use Rattle.replica_state.proofs.Changes.{change_at, changes_behind}
+use Rattle.replica_state.proofs.Changes.{change_at, changes_after}
 
 -- what a list has is its first or in the rest
 first_or_later : {X : Type 0} (y : X) (ys : List X) (x : X) → Contains (y ∷ ys) x → (y ≡ x) ⊎ Contains ys x
@@ -86,7 +86,8 @@ seen_stood held base g id h =
     let stood = passed (has_greatest_text base g) (shown base g) one.0 one.1.0 in
     record { op = one.0; shown = stood.0; of_id = one.1.1; text = same_bytes-is (own_text one.0) (text_of base g) stood.1 }
 
-names_stood : (n : ℕ) (s : State) (base : List Operation) (book : List ℕ) (pieces : List Part) (keys : List KeyParts) (edit : Operation)
+names_stood : (n : ℕ) (s : State) (base : List Operation) (book : List ℕ) (pieces : List PieceParts) (keys : List KeyParts)
+    (edit : Operation)
     (id : Id)
     → Contains (changes_from n s base book pieces keys) edit → Contains edit.replaced id → StoodInFile base edit.segment id
 names_stood n s base book pieces [] edit id h i = absurd (none_there edit h)
@@ -102,7 +103,7 @@ replaces_nothing_unseen s base book pieces edit id h i = names_stood _ s base bo
 
 -- ---- what did not stand in the file stays
 
-module _ (s : State) (state : IsState s) (base : List Operation) (book : List ℕ) (pieces : List Part) where
+module _ (s : State) (state : IsState s) (base : List Operation) (book : List ℕ) (pieces : List PieceParts) where
   abbrev edits : ℕ → List KeyParts → List Operation
   edits n keys = changes_from n s base book pieces keys
 
@@ -134,7 +135,7 @@ module _ (s : State) (state : IsState s) (base : List Operation) (book : List �
       list_any-append (λ (p : Operation). in_segment g p && names p o.id) s.held new
       ∙ (λ i. not-true (is_replaced s.held g o.id) parts.1 i || unnamed g o.id (next_number s.held) keys unseen i) in
       subst (λ (held : List Operation). Contains (shown held g) o)
-      (sym (changes_behind s base book pieces s.held (next_number s.held) keys state.set.rising (omega arith)))
+      (sym (changes_after s base book pieces s.held (next_number s.held) keys state.set.rising (omega arith)))
       (passes (is_shown (s.held ++ new) g) (s.held ++ new) o (Contains-append_left s.held new o was.0)
       (and_from _ _ parts.0 (ap not still)))
 

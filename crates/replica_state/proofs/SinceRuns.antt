@@ -13,7 +13,7 @@ use Rattle.usfm_ref.specs.Rising.{rises_by}
 use Rattle.usfm_ref.specs.Segments.{Segment, segment}
 use Rattle.usfm_ref.proofs.Orders.{key_total}
 use Rattle.usfm_ref.proofs.Sorted.{is_less, rises_filter, rises-rising}
-use Rattle.verse_cut.specs.Pieces.{Part, pieces_of}
+use Rattle.verse_cut.specs.Pieces.{PieceParts, pieces_of}
 use Rattle.verse_cut.proofs.FitLaws.{fits_is_read}
 use Rattle.verse_cut.specs.Reading.{book_in, text_fits}
 use Rattle.verse_cut.specs.declared.fault.BookFault.{BookFault}
@@ -39,7 +39,7 @@ use Rattle.replica_state.specs.SinceLaws.{changes_of, edits_over, IsReceivingAnd
 use Rattle.replica_state.specs.declared.fault.EditFault.TheVariants.{NotShown}
 use Rattle.replica_state.specs.declared.fault.SinceFault.TheVariants.{NumbersUsedUp}
 use Rattle.replica_state.proofs.Appended.{is_there, key_is, keys_apart}
-use Rattle.replica_state.proofs.Changes.{change_at, changes_behind, changes_count}
+use Rattle.replica_state.proofs.Changes.{change_at, changes_after, changes_count}
 use Rattle.replica_state.proofs.FilePieces.{book_is_code, book_is_headed, piece_fits}
 
 -- ---- ids of which some pass
@@ -90,8 +90,8 @@ none_among g test (o ∷ ops) h =
     or_from _ _ (and_left (in_segment g o) (test o) p.0) (none_among g test ops p.1)
 
 -- a segment shows what it did
-pub shown_behind : (held new : List Operation) (g : Segment) → list_any (in_segment g) new ≡ false → shown (held ++ new) g ≡ shown held g
-shown_behind held new g h =
+pub shown_after : (held new : List Operation) (g : Segment) → list_any (in_segment g) new ≡ false → shown (held ++ new) g ≡ shown held g
+shown_after held new g h =
     filter-append (is_shown (held ++ new) g) held new
     ∙ (λ i. filter (λ o. in_segment g o && not (same o.id i)) held ++ none_in g (λ o. not (is_replaced (held ++ new) g o.id)) new h i)
     ∙ append-nil (shown held g)
@@ -106,10 +106,10 @@ shown_behind held new g h =
         ∙ ap (λ b. is_replaced held g id || b) (none_among g (λ o. names o id) new h) ∙ or_none (is_replaced held g id)
 
 -- the number of one that stands after is the greatest
-greatest_behind : (held : List Operation) (o : Operation) → greatest_number held < o.id.number
+greatest_after : (held : List Operation) (o : Operation) → greatest_number held < o.id.number
     → greatest_number (held ++ o ∷ []) ≡ o.id.number
-greatest_behind [] o l = omega arith
-greatest_behind (p ∷ held) o l = let rest = greatest_behind held o (omega (arith, l)) in omega (arith, l, rest)
+greatest_after [] o l = omega arith
+greatest_after (p ∷ held) o l = let rest = greatest_after held o (omega (arith, l)) in omega (arith, l, rest)
 
 -- ---- keys that rise
 
@@ -120,22 +120,22 @@ not_there key (k ∷ keys) h =
     (λ i. is_eq (is_less (key_cmp key k) p.0 i) || not_there key keys p.1 i)
 
 -- a key that is not the first of rising ones stands apart from it
-pub behind_first : (key : KeyParts) (keys : List KeyParts) → list_all (λ k. is_lt (key_cmp key k)) keys ≡ true → (q : KeyParts)
+pub after_first : (key : KeyParts) (keys : List KeyParts) → list_all (λ k. is_lt (key_cmp key k)) keys ≡ true → (q : KeyParts)
     → is_there q keys ≡ true → is_eq (key_cmp q key) ≡ false
-behind_first key keys above q h = by (is_eq (key_cmp q key)) refl
+after_first key keys above q h = by (is_eq (key_cmp q key)) refl
   where
     by : (b : Bool) → is_eq (key_cmp q key) ≡ b → is_eq (key_cmp q key) ≡ false
     by true e = cc (sym (not_there key keys above) ∙ ap (λ (k : KeyParts). is_there k keys) (sym (key_is q key e)) ∙ h)
     by false e = e
 
 -- the keys that were changed rise
-pub changed_rise : (held base : List Operation) (book : List ℕ) (pieces : List Part)
+pub changed_rise : (held base : List Operation) (book : List ℕ) (pieces : List PieceParts)
     → rises_by key_cmp (λ k. k) (changed_keys held base book pieces) ≡ true
 changed_rise held base book pieces =
     rises_filter key_cmp key_total (λ k. k) (is_changed held base book pieces) (walked_keys held book pieces)
     (rises-rising key_cmp key_total (map head_of (keys_of held book) ++ (keys_of held book ++ map (λ p. p.key) pieces)))
 
-module _ (t : State) (base : List Operation) (book : List ℕ) (pieces : List Part) where
+module _ (t : State) (base : List Operation) (book : List ℕ) (pieces : List PieceParts) where
   abbrev seen : KeyParts → List Id
   seen key = seen_ids t.held base (segment book key)
 
@@ -203,10 +203,10 @@ module _ (t : State) (base : List Operation) (book : List ℕ) (pieces : List Pa
       beyond = omega (arith, next)
 
       at : u.held ≡ s.held ++ change ∷ []
-      at = changes_behind t base book pieces s.held n (key ∷ []) rising beyond
+      at = changes_after t base book pieces s.held n (key ∷ []) rising beyond
 
       greatest : greatest_number u.held ≡ n
-      greatest = ap greatest_number at ∙ greatest_behind s.held change beyond
+      greatest = ap greatest_number at ∙ greatest_after s.held change beyond
 
       number : greatest_number s.held + suc (length keys) ≤ 1000000000000000
       number = leb-true (greatest_number s.held + suc (length keys)) 1000000000000000 room
@@ -226,17 +226,17 @@ module _ (t : State) (base : List Operation) (book : List ℕ) (pieces : List Pa
       others : (q : KeyParts) → is_there q keys ≡ true → shown_ids u.held (segment book q) ≡ shown_ids t.held (segment book q)
       others q h =
           ap (λ (held : List Operation). shown_ids held (segment book q)) at
-          ∙ ap ids_of (shown_behind s.held (change ∷ []) (segment book q)
-          (ap (λ b. b || false) (and_right (same_bytes book book) (same_key key q) (keys_apart q key (behind_first key keys p.0 q h)))))
+          ∙ ap ids_of (shown_after s.held (change ∷ []) (segment book q)
+          (ap (λ b. b || false) (and_right (same_bytes book book) (same_key key q) (keys_apart q key (after_first key keys p.0 q h)))))
           ∙ same q (or_right (is_eq (key_cmp q key)) (is_there q keys) h)
 
       joined : join u.held (changes_from (suc n) t base book pieces keys)
           ≡ join s.held (change ∷ changes_from (suc n) t base book pieces keys)
       joined =
           let rest = changes_from (suc n) t base book pieces keys in
-          changes_behind t base book pieces u.held (suc n) keys (rises-join s.held (change ∷ []) rising) (omega (arith, greatest))
+          changes_after t base book pieces u.held (suc n) keys (rises-join s.held (change ∷ []) rising) (omega (arith, greatest))
           ∙ ap (λ (held : List Operation). held ++ rest) at ∙ append_assoc s.held (change ∷ []) rest
-          ∙ sym (changes_behind t base book pieces s.held n (key ∷ keys) rising beyond)
+          ∙ sym (changes_after t base book pieces s.held n (key ∷ keys) rising beyond)
 
 -- ---- what is received
 

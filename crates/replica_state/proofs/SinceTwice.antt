@@ -10,7 +10,7 @@ use Rattle.usfm_ref.specs.Books.{same_bytes}
 use Rattle.usfm_ref.specs.Keys.{KeyParts, key_cmp, head_of, same_key}
 use Rattle.usfm_ref.specs.Segments.{Segment, segment}
 use Rattle.usfm_ref.proofs.Orders.{same_bytes-refl, same_key-refl}
-use Rattle.verse_cut.specs.Pieces.{Part, pieces_of}
+use Rattle.verse_cut.specs.Pieces.{PieceParts, pieces_of}
 use Rattle.verse_cut.specs.Reading.{book_in}
 use Rattle.verse_cut.specs.declared.fault.BookFault.{BookFault}
 use Rattle.op_core.specs.Ids.{Id, ids_rise}
@@ -38,10 +38,10 @@ use Rattle.replica_state.specs.Since.{SinceStep, has_greatest_text, stood_ids, s
 use Rattle.replica_state.specs.Since.{changed, changed_after, changed_in, imported_since}
 use Rattle.replica_state.specs.SinceLaws.{TwiceIsOnce}
 use Rattle.replica_state.proofs.Appended.{is_there, key_is, keys_apart}
-use Rattle.replica_state.proofs.Changes.{change_at, changes_behind, changes_are_new, changes_rise}
+use Rattle.replica_state.proofs.Changes.{change_at, changes_after, changes_are_new, changes_rise}
 use Rattle.replica_state.proofs.DueKeys.{due_among, walked, heads_map, there_kept}
 use Rattle.replica_state.proofs.OwnExports.{none_pass}
-use Rattle.replica_state.proofs.SinceRuns.{Accepted, accepted, among_passing, any_received, shown_behind}
+use Rattle.replica_state.proofs.SinceRuns.{Accepted, accepted, among_passing, any_received, shown_after}
 use Rattle.replica_state.proofs.World.Held.{at_held, among_is_held, filter_held, not_held}
 
 -- ---- operations of which some are shown
@@ -82,7 +82,7 @@ any_key test (o ∷ ops) book = by (any_key test ops book) (of_book book o)
     by rest true = ap (λ b. test o.segment.key || b) rest
     by rest false = rest
 
-module _ (held base : List Operation) (book : List ℕ) (pieces : List Part) (hh : rises held ≡ true) (hb : rises base ≡ true)
+module _ (held base : List Operation) (book : List ℕ) (pieces : List PieceParts) (hh : rises held ≡ true) (hb : rises base ≡ true)
     (none : clash held base ≡ None) where
   key_received : (test : KeyParts → Bool) → list_any test (keys_of base book) ≡ true → list_any test (keys_of (join held base) book) ≡ true
   key_received test h =
@@ -119,7 +119,7 @@ module _ (held base : List Operation) (book : List ℕ) (pieces : List Part) (hh
 
 -- ---- what a replica shows once its edits are made
 
-module _ (t : State) (base : List Operation) (book : List ℕ) (pieces : List Part) where
+module _ (t : State) (base : List Operation) (book : List ℕ) (pieces : List PieceParts) where
   abbrev new : ℕ → List KeyParts → List Operation
   new n keys = changes_from n t base book pieces keys
 
@@ -254,7 +254,7 @@ module _ (t : State) (base : List Operation) (book : List ℕ) (pieces : List Pa
 
 -- ---- the numbers that were given
 
-greatest_new : (t : State) (base : List Operation) (book : List ℕ) (pieces : List Part) (m : ℕ) (keys : List KeyParts)
+greatest_new : (t : State) (base : List Operation) (book : List ℕ) (pieces : List PieceParts) (m : ℕ) (keys : List KeyParts)
     → greatest_number (changes_from (suc m) t base book pieces keys) ≤ m + length keys
 greatest_new t base book pieces m [] = omega arith
 greatest_new t base book pieces m (k ∷ keys) = let rest = greatest_new t base book pieces (suc m) keys in omega (arith, rest)
@@ -267,7 +267,7 @@ greatest_of_both (o ∷ xs) ys = let rest = greatest_of_both xs ys in omega (ari
 
 module _ (s : State) (base : List Operation) (file book : List ℕ) (count : ℕ) (state : IsState s) (set : IsOpSet base)
     (named : book_in file ≡ Ok book) (answered : (imported_since s base file).answer ≡ Ok count) where
-  abbrev pieces : List Part
+  abbrev pieces : List PieceParts
   pieces = pieces_of file
 
   abbrev t : State
@@ -289,7 +289,7 @@ module _ (s : State) (base : List Operation) (file book : List ℕ) (count : ℕ
   t_set = IsOpSet-join s.held base state.set set
 
   at : u.held ≡ t.held ++ edits
-  at = changes_behind t base book pieces t.held (next_number t.held) keys t_set.rising (omega arith)
+  at = changes_after t base book pieces t.held (next_number t.held) keys t_set.rising (omega arith)
 
   rise : rises edits ≡ true
   rise = changes_rise t base book pieces (next_number t.held) keys
@@ -318,7 +318,7 @@ module _ (s : State) (base : List Operation) (file book : List ℕ) (count : ℕ
           ap (λ (ops : List Operation). is_due base book pieces q
           && not (is_none_seen (filter (is_among (stood_ids base (segment book q))) (ids_of ops))
           && list_any (λ o. same_bytes (own_text o) (piece_at pieces q)) ops))
-          (shown_behind t.held edits (segment book q) (none_of t base book pieces q (next_number t.held) keys e))
+          (shown_after t.held edits (segment book q) (none_of t base book pieces q (next_number t.held) keys e))
           ∙ not_changed s.held base book pieces state.set.rising set.rising taken.none q e
 
   edits_apart : AgreeAtAll edits base

@@ -14,7 +14,7 @@ use Rattle.op_core.proofs.Filters.{rises-filter, filter_within}
 use Rattle.op_core.proofs.Groupings.{delta_joins}
 use Rattle.op_core.proofs.Legal.{delta_legal, skeleton_thin}
 use Rattle.op_core.proofs.Union.{get-join}
-use Rattle.bundle_codec.specs.Summaries.{Known, IsSummaryOf, covers, outside}
+use Rattle.bundle_codec.specs.Summaries.{NameRanges, IsSummaryOf, covers, outside}
 use Rattle.replica_state.specs.States.{State, begun}
 use Rattle.replica_state.specs.Steps.{Command, Receive, Edit, EditOver, Import, Thin, Received, received, step, with_ops}
 use Rattle.replica_state.specs.Runs.{after, IsTaken, NoneRefused}
@@ -108,7 +108,7 @@ module _ (family : Id → Operation) where
     each = λ q o g. h.each q o (filter_within (is_sent held knows) held h.rising q o g);
   }
 
-  pub gives_union : (own other : State) (s : List Known) → IsOf family own.held → IsOf family other.held → IsSummaryOf own.held s
+  pub gives_union : (own other : State) (s : List NameRanges) → IsOf family own.held → IsOf family other.held → IsSummaryOf own.held s
       → GivesUnion own other (outside s other.held)
   gives_union own other s ho ht h =
       let sent = delta_of (covers s) other.held ht in

@@ -16,7 +16,7 @@ use Rattle.op_core.proofs.Alike.{skeleton_answers}
 use Rattle.op_core.proofs.Families.{among_held, family_thins, unions_alike}
 use Rattle.op_core.proofs.Left.{IsOpSet-thin}
 use Rattle.op_core.proofs.Legal.{bare_thinned, skeleton_thin, thin_again, thin_legal}
-use Rattle.bundle_codec.specs.Summaries.{Known, IsSummaryOf}
+use Rattle.bundle_codec.specs.Summaries.{NameRanges, IsSummaryOf}
 use Rattle.replica_state.specs.States.{State, IsState}
 use Rattle.replica_state.specs.Steps.{Thinned, without_replaced_texts}
 use Rattle.replica_state.specs.ThinLaws.{SameButThinned, ThinsUnseen}
@@ -24,7 +24,7 @@ use Rattle.replica_state.specs.ThinLaws.{SameButThinned, ThinsUnseen}
 -- ---- sets of one family with the same ids
 
 -- a summary of one of two sets with the same ids is one of the other
-same_summary : (held other : List Operation) (k : List Known) → ids_of held ≡ ids_of other → IsSummaryOf held k → IsSummaryOf other k
+same_summary : (held other : List Operation) (k : List NameRanges) → ids_of held ≡ ids_of other → IsSummaryOf held k → IsSummaryOf other k
 same_summary held other k ids h = record {
   form = h.form;
   exactly = λ q. h.exactly q ∙ sym (among_held held q) ∙ ap (λ all. is_among all q) ids ∙ among_held other q;

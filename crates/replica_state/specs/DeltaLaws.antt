@@ -3,7 +3,7 @@
 use Rattle.std.specs.Prelude.{◌≡◌, List, [], length, Ok, IsTrue}
 use Rattle.op_core.specs.Sets.{join}
 use Rattle.op_core.specs.Thinned.{all_full}
-use Rattle.bundle_codec.specs.Summaries.{Known, IsSummaryOf, outside}
+use Rattle.bundle_codec.specs.Summaries.{NameRanges, IsSummaryOf, outside}
 use Rattle.replica_state.specs.States.{State, IsState}
 use Rattle.replica_state.specs.Receives.{lacked}
 use Rattle.replica_state.specs.Steps.{Receive, Received, step}
@@ -12,7 +12,7 @@ use Rattle.replica_state.specs.Steps.{Receive, Received, step}
 -- sets, and never refuses it. It counts as new what it lacked.
 abbrev pub DeltasGiveUnion : Type 0
 DeltasGiveUnion =
-    (own other : State) (s : List Known) → IsState own → IsState other →
+    (own other : State) (s : List NameRanges) → IsState own → IsState other →
     IsTrue (all_full other.held) → IsSummaryOf own.held s →
     step own (Receive (outside s other.held)) ≡ record {
       after = record { name = own.name; held = join own.held other.held };
@@ -22,4 +22,5 @@ DeltasGiveUnion =
 -- The delta for one's own summary holds nothing.
 abbrev pub OwnDeltaIsEmpty : Type 0
 OwnDeltaIsEmpty =
-    (own : State) (s : List Known) → IsState own → IsSummaryOf own.held s → outside s own.held ≡ []
+    (own : State) (s : List NameRanges) → IsState own → IsSummaryOf own.held s →
+    outside s own.held ≡ []

@@ -8,7 +8,7 @@ use Rattle.usfm_ref.specs.Books.{same_bytes}
 use Rattle.usfm_ref.specs.Keys.{KeyParts, key_cmp, head_of, is_verse_of}
 use Rattle.usfm_ref.specs.Rising.{rising}
 use Rattle.usfm_ref.specs.Segments.{segment}
-use Rattle.verse_cut.specs.Pieces.{Part, pieces_of}
+use Rattle.verse_cut.specs.Pieces.{PieceParts, pieces_of}
 use Rattle.verse_cut.specs.Reading.{book_in}
 use Rattle.verse_cut.specs.declared.fault.BookFault.{BookFault}
 use Rattle.op_core.specs.Ops.{Operation}
@@ -22,50 +22,50 @@ use Rattle.replica_state.specs.declared.fault.ImportFault.{ImportFault}
 use Rattle.replica_state.specs.declared.fault.ImportFault.TheVariants.{BadFile, NumbersUsedUp}
 
 -- the text of a piece, empty where there is none
-abbrev pub text_in : Option Part → List ℕ
+abbrev pub text_in : Option PieceParts → List ℕ
 text_in None = []
 text_in (Some p) = p.text
 
 -- the piece of a key
-abbrev pub piece_of : List Part → KeyParts → Option Part
+abbrev pub piece_of : List PieceParts → KeyParts → Option PieceParts
 piece_of pieces key = find (λ p. is_eq (key_cmp key p.key)) pieces
 
 -- the text of the piece of a key, empty where there is none
-abbrev pub piece_at : List Part → KeyParts → List ℕ
+abbrev pub piece_at : List PieceParts → KeyParts → List ℕ
 piece_at pieces key = text_in (piece_of pieces key)
 
 -- whether a verse of the chapter has a piece
-abbrev pub has_verse : List Part → ℕ → Bool
+abbrev pub has_verse : List PieceParts → ℕ → Bool
 has_verse pieces chapter = list_any (λ p. is_verse_of chapter p.key) pieces
 
 -- whether the key is picked as its chapter's line, and a file has a piece there and no verse of the chapter: without an
 -- edit the line would be gone with the last verse
-abbrev pub loses_line : List Operation → List ℕ → List Part → KeyParts → Bool
+abbrev pub loses_line : List Operation → List ℕ → List PieceParts → KeyParts → Bool
 loses_line held book pieces key =
     wants_chapter_line held (segment book key)
     && is_some (piece_of pieces key)
     && not (has_verse pieces key.chapter)
 
 -- whether an import edits the key: what is picked differs from the file's piece, or the chapter's line would be gone
-abbrev pub is_due : List Operation → List ℕ → List Part → KeyParts → Bool
+abbrev pub is_due : List Operation → List ℕ → List PieceParts → KeyParts → Bool
 is_due held book pieces key =
     not (same_bytes (picked_at held book key) (piece_at pieces key))
     || loses_line held book pieces key
 
 -- the keys that an import may edit, rising: those with an operation, the heads of their chapters, and those of the
 -- file
-abbrev pub walked_keys : List Operation → List ℕ → List Part → List KeyParts
+abbrev pub walked_keys : List Operation → List ℕ → List PieceParts → List KeyParts
 walked_keys held book pieces =
     rising key_cmp
     (map head_of (keys_of held book) ++ (keys_of held book ++ map (λ p. p.key) pieces))
 
 -- the keys that an import edits, rising
-abbrev pub due_keys : List Operation → List ℕ → List Part → List KeyParts
+abbrev pub due_keys : List Operation → List ℕ → List PieceParts → List KeyParts
 due_keys held book pieces = filter (is_due held book pieces) (walked_keys held book pieces)
 
 -- The edits of some keys of a book to the file's pieces, numbered one after the other. Each names all ids that its segment
 -- shows; no other one of them is of its segment.
-abbrev pub edits_from : ℕ → State → List ℕ → List Part → List KeyParts → List Operation
+abbrev pub edits_from : ℕ → State → List ℕ → List PieceParts → List KeyParts → List Operation
 edits_from number s book pieces [] = []
 edits_from number s book pieces (key ∷ keys) =
     edit_with (record { number = number; name = s.name }) (segment book key)
@@ -73,7 +73,7 @@ edits_from number s book pieces (key ∷ keys) =
     ∷ edits_from (suc number) s book pieces keys
 
 -- the operations of the edits, if numbers are left for them
-abbrev pub edits_numbered : State → List ℕ → List Part → List KeyParts
+abbrev pub edits_numbered : State → List ℕ → List PieceParts → List KeyParts
     → Result (List Operation) ImportFault
 edits_numbered s book pieces keys =
     if has_numbers s.held (length keys)
@@ -81,7 +81,7 @@ edits_numbered s book pieces keys =
     else Err NumbersUsedUp
 
 -- the operations of an import of the book that its file begins with, or that it begins with none
-abbrev pub import_into : State → List Part → Result (List ℕ) BookFault
+abbrev pub import_into : State → List PieceParts → Result (List ℕ) BookFault
     → Result (List Operation) ImportFault
 import_into s pieces (Err fault) = Err (BadFile fault)
 import_into s pieces (Ok book) = edits_numbered s book pieces (due_keys s.held book pieces)

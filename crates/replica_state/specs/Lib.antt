@@ -1,4 +1,5 @@
 pub mod States
+pub mod OneBook
 pub mod Receives
 pub mod Edits
 pub mod Imports
@@ -10,4 +11,5 @@ pub mod ImportLaws
 pub mod SinceLaws
 pub mod DeltaLaws
 pub mod ThinLaws
+pub mod Loops
 pub mod World

@@ -6,7 +6,7 @@ use Rattle.std.specs.List.{list_any}
 use Rattle.usfm_ref.specs.Books.{same_bytes}
 use Rattle.usfm_ref.specs.Keys.{KeyParts}
 use Rattle.usfm_ref.specs.Segments.{Segment, segment}
-use Rattle.verse_cut.specs.Pieces.{Part, pieces_of}
+use Rattle.verse_cut.specs.Pieces.{PieceParts, pieces_of}
 use Rattle.verse_cut.specs.Reading.{book_in}
 use Rattle.verse_cut.specs.declared.fault.BookFault.{BookFault}
 use Rattle.op_core.specs.Ids.{Id}
@@ -53,20 +53,20 @@ is_none_seen (id ∷ ids) = false
 
 -- Whether the key was changed in the file since the base, as an import into the base would see it; but not where nothing is
 -- shown any more of what stood in the file, and the new text is shown already.
-abbrev pub is_changed : List Operation → List Operation → List ℕ → List Part → KeyParts → Bool
+abbrev pub is_changed : List Operation → List Operation → List ℕ → List PieceParts → KeyParts → Bool
 is_changed held base book pieces key =
     is_due base book pieces key
     && not (is_none_seen (seen_ids held base (segment book key))
     && shows_text held (segment book key) (piece_at pieces key))
 
 -- the keys that were changed, rising, of those of the book and of the file
-abbrev pub changed_keys : List Operation → List Operation → List ℕ → List Part → List KeyParts
+abbrev pub changed_keys : List Operation → List Operation → List ℕ → List PieceParts → List KeyParts
 changed_keys held base book pieces =
     filter (is_changed held base book pieces) (walked_keys held book pieces)
 
 -- The edits of some keys of a book to the file's pieces, numbered one after the other. Each names the ids that its segment shows
 -- of those whose text stood in the file.
-abbrev pub changes_from : ℕ → State → List Operation → List ℕ → List Part → List KeyParts
+abbrev pub changes_from : ℕ → State → List Operation → List ℕ → List PieceParts → List KeyParts
     → List Operation
 changes_from number s base book pieces [] = []
 changes_from number s base book pieces (key ∷ keys) =
@@ -85,21 +85,23 @@ with_edits s edits = record { after = with_ops s edits; answer = Ok (length edit
 
 -- The edits of the keys of a replica that has received the base, if numbers are left for them; else the replica is as it was
 -- before.
-abbrev pub changed : State → State → List Operation → List ℕ → List Part → List KeyParts → SinceStep
+abbrev pub changed : State → State → List Operation → List ℕ → List PieceParts → List KeyParts →
+    SinceStep
 changed before s base book pieces keys =
     if has_numbers s.held (length keys)
     then with_edits s (changes_from (next_number s.held) s base book pieces keys)
     else record { after = before; answer = Err NumbersUsedUp }
 
 -- the same where the base is first received, unless it clashes with what is held
-abbrev pub changed_after : State → List Operation → List ℕ → List Part → Option Id → SinceStep
+abbrev pub changed_after : State → List Operation → List ℕ → List PieceParts → Option Id → SinceStep
 changed_after s base book pieces (Some id) = record { after = s; answer = Err (Clash id) }
 changed_after s base book pieces None =
     changed s (with_ops s base) base book pieces
     (changed_keys (with_ops s base).held base book pieces)
 
 -- the same for the book that the file begins with, or that it begins with none
-abbrev pub changed_in : State → List Operation → List Part → Result (List ℕ) BookFault → SinceStep
+abbrev pub changed_in : State → List Operation → List PieceParts → Result (List ℕ) BookFault →
+    SinceStep
 changed_in s base pieces (Err fault) = record { after = s; answer = Err (BadFile fault) }
 changed_in s base pieces (Ok book) = changed_after s base book pieces (clash s.held base)
 

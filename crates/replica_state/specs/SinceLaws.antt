@@ -3,7 +3,7 @@ use Rattle.std.specs.Prelude.{◌≡◌, ◌≤◌, ℕ, true, List, ◌∷◌, 
 use Rattle.std.specs.List.{Contains, list_any}
 use Rattle.usfm_ref.specs.Keys.{KeyParts, book_head}
 use Rattle.usfm_ref.specs.Segments.{Segment, segment}
-use Rattle.verse_cut.specs.Pieces.{Part, pieces_of}
+use Rattle.verse_cut.specs.Pieces.{PieceParts, pieces_of}
 use Rattle.verse_cut.specs.Reading.{book_in}
 use Rattle.op_core.specs.Ids.{Id}
 use Rattle.op_core.specs.Ops.{Operation, in_segment, own_text}
@@ -18,7 +18,7 @@ use Rattle.replica_state.specs.Runs.{after, NoneRefused}
 use Rattle.replica_state.specs.Since.{seen_ids, changed_keys, changes_from, imported_since}
 
 -- the edits that a replica which has received the base makes of the changed keys
-abbrev pub changes_of : State → List Operation → List ℕ → List Part → List Operation
+abbrev pub changes_of : State → List Operation → List ℕ → List PieceParts → List Operation
 changes_of s base book pieces =
     changes_from (next_number s.held) s base book pieces (changed_keys s.held base book pieces)
 
@@ -32,7 +32,8 @@ pub record StoodInFile (base : List Operation) (g : Segment) (id : Id) : Type 0 
 -- It replaces nothing unseen: each id that an edit names stood in the file.
 abbrev pub ReplacesNothingUnseen : Type 0
 ReplacesNothingUnseen =
-    (s : State) (base : List Operation) (book : List ℕ) (pieces : List Part) (edit : Operation)
+    (s : State) (base : List Operation) (book : List ℕ) (pieces : List PieceParts)
+    (edit : Operation)
     (id : Id) →
     Contains (changes_of s base book pieces) edit → Contains edit.replaced id →
     StoodInFile base edit.segment id
@@ -41,7 +42,7 @@ ReplacesNothingUnseen =
 -- stand in the file is shown after the edits.
 abbrev pub UnseenStays : Type 0
 UnseenStays =
-    (s : State) (base : List Operation) (book : List ℕ) (pieces : List Part) (g : Segment)
+    (s : State) (base : List Operation) (book : List ℕ) (pieces : List PieceParts) (g : Segment)
     (o : Operation) →
     IsState s → Contains (shown s.held g) o → (StoodInFile base g o.id → ⊥) →
     Contains (shown (with_ops s (changes_of s base book pieces)).held g) o
@@ -55,14 +56,14 @@ UnchangedFilesAddNothing =
     ≡ record { after = with_ops s b.held; answer = Ok 0 }
 
 -- the edits over given ids of some keys: each gives its segment the file's piece, over what is held and stood in the file
-abbrev pub edits_over : List Operation → List Operation → List ℕ → List Part → List KeyParts
+abbrev pub edits_over : List Operation → List Operation → List ℕ → List PieceParts → List KeyParts
     → List Command
 edits_over held base book pieces keys =
     map (λ key. EditOver (segment book key) (piece_at pieces key)
     (seen_ids held base (segment book key))) keys
 
 -- the commands that an import of a book since a base is: the base is received, and then each changed key is edited
-abbrev pub since_commands : State → List Operation → List ℕ → List Part → List Command
+abbrev pub since_commands : State → List Operation → List ℕ → List PieceParts → List Command
 since_commands s base book pieces =
     Receive base ∷ edits_over (with_ops s base).held base book pieces
     (changed_keys (with_ops s base).held base book pieces)

@@ -10,7 +10,7 @@ use Rattle.op_core.specs.Lists.{is_held}
 use Rattle.op_core.specs.Export.{export}
 use Rattle.op_core.specs.Thinned.{skeleton, IsOf}
 use Rattle.op_core.specs.ThinLaws.{SameButTexts}
-use Rattle.bundle_codec.specs.Summaries.{Known, IsSummaryOf, outside}
+use Rattle.bundle_codec.specs.Summaries.{NameRanges, IsSummaryOf, outside}
 use Rattle.replica_state.specs.States.{State, IsState, begun}
 use Rattle.replica_state.specs.Receives.{lacked}
 use Rattle.replica_state.specs.Steps.{Command, Receive, Edit, EditOver, Import}
@@ -25,7 +25,7 @@ pub record SameButThinned (s t : State) : Type 0 where
   pub picks : (g : Segment) → pick s.held g ≡ pick t.held g
   pub exports : (book : List ℕ) → export s.held book ≡ export t.held book
   pub answers : SameButTexts s.held t.held
-  pub summaries : (k : List Known) → IsSummaryOf s.held k → IsSummaryOf t.held k
+  pub summaries : (k : List NameRanges) → IsSummaryOf s.held k → IsSummaryOf t.held k
 
 -- A thinning leaves a replica that holds the same but for texts left out. A second one leaves out nothing more.
 pub record ThinsUnseen (s : State) : Type 0 where
@@ -84,6 +84,6 @@ pub record GivesUnion (own other : State) (delta : List Operation) : Type 0 wher
 -- the law: so it is of any two replicas of one family, and any summary of what the first holds
 abbrev pub ThinnedDeltasGiveUnion : Type 0
 ThinnedDeltasGiveUnion =
-    (family : Id → Operation) (own other : State) (s : List Known) →
+    (family : Id → Operation) (own other : State) (s : List NameRanges) →
     IsOf family own.held → IsOf family other.held → IsSummaryOf own.held s →
     GivesUnion own other (outside s other.held)

@@ -16,7 +16,7 @@ use Rattle.op_core.specs.Names.{is_name}
 use Rattle.op_core.specs.Ids.{Id}
 use Rattle.op_core.specs.Ops.{Operation, is_segment}
 use Rattle.op_core.specs.Thinned.{is_legal, of_ids}
-use Rattle.bundle_codec.specs.Summaries.{Known, summary_of}
+use Rattle.bundle_codec.specs.Summaries.{NameRanges, summary_of}
 use Rattle.replica_state.specs.States.{State}
 use Rattle.replica_state.specs.Edits.{edit_op, edit_over_op}
 use Rattle.replica_state.specs.Imports.{import_ops}
@@ -27,7 +27,7 @@ use Rattle.replica_state.specs.Steps.{Command, Receive, Edit, EditOver, Import, 
 pub record World : Type 0 where
   pub held : List ℕ → List Operation
   pub bundles : List (List Operation)
-  pub summaries : List (List Known)
+  pub summaries : List (List NameRanges)
 
 -- each replica has begun, and nothing was made
 abbrev pub beginning : World
@@ -72,7 +72,7 @@ received w name None = w
 received w name (Some bundle) = steps w name (Receive bundle)
 
 -- the world with one summary more
-abbrev pub with_summary : World → List Known → World
+abbrev pub with_summary : World → List NameRanges → World
 with_summary w s = record { held = w.held; bundles = w.bundles; summaries = s ∷ w.summaries }
 
 -- the world with one bundle more, if it may be made

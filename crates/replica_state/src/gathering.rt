@@ -1,120 +1,136 @@
-ghost use Rattle.std.specs.Prelude.{◌≡◌, ◌≢◌, [], None, Ok, Err, IfOk, IfErr, IsTrue, OnOk};
+// Bundles whose operations are gathered before a replica holds some of them.
+ghost use Rattle.std.specs.Prelude.{◌≡◌, ◌≢◌, false, [], None, Err};
+ghost use Rattle.std.specs.Prelude.{IsOk, IfOk, IfErr, OnOk, IsTrue};
+ghost use Rattle.std.specs.BTreeMap.{values};
+ghost use Rattle.op_core.specs.OneBook.{ops_of_book};
+ghost use Rattle.op_core.specs.Ops.{IsOperation};
 ghost use Rattle.op_core.specs.Sets as sets;
-ghost use Rattle.op_core.specs.Thinned.{ArePast, is_legal, is_thinned_in, thin_where};
+ghost use Rattle.op_core.specs.Thinned.{is_legal};
+ghost use Rattle.replica_state.specs.Loops.Gathering.{by_id, RefusesOne};
 ghost use Rattle.replica_state.specs.Receives as receives;
 
 use crate::fault::ReceiveFault;
+use crate::one_book::{copy_if_of_book, replica_of};
 use crate::replica::Replica;
-use bundle_codec::Bundle;
-use op_core::{Op, Pile, ReplicaName};
+use bundle_codec::{Bundle, OpView};
+use op_core::{Op, OpId, ReplicaName};
 use std::alloc::{AllocError, Global};
+use std::collections::BTreeMap;
 use std::marker::Model;
+use usfm_ref::Book;
 
-/// The operations of bundles that are taken in one after another, before a replica holds them. What
-/// a bundle costs hangs on what it has, and hardly on what was taken in before it, whatever order
-/// they come in.
+/// The operations of bundles that are taken in one after another, lent from the bundles' bytes. What a
+/// bundle costs hangs on what it has, and hardly on what was taken in before it, whatever order they
+/// come in.
 #[derive(Debug, Drop)]
-pub struct Gathering {
+pub struct Gathering<'a> {
     alloc: Global,
-    pile: Pile,
+    ops: BTreeMap<OpId, OpView<'a>>,
 }
 
-impl Model for Gathering {
-    ghost use Rattle.std.specs.Prelude.{List, IsTrue};
+impl<'a> Model for Gathering<'a> {
+    ghost use Rattle.std.specs.Prelude.{◌≡◌, List, IsTrue};
+    ghost use Rattle.std.specs.BTreeMap.{values};
     ghost use Rattle.op_core.specs.Ops.{Operation};
     ghost use Rattle.op_core.specs.Sets.{IsOpSet};
     ghost use Rattle.op_core.specs.Thinned.{is_legal};
+    ghost use Rattle.replica_state.specs.Loops.Gathering.{by_id};
 
     ghost Value = { List Operation };
 
-    ghost view = { λ s. s.pile };
+    ghost view = { λ s. values s.ops };
 
-    ghost invariant = { λ s. IsOpSet s.pile × IsTrue (is_legal s.pile) };
+    ghost invariant = { λ s. (s.ops.entries ≡ by_id (values s.ops))
+        × IsOpSet (values s.ops) × IsTrue (is_legal (values s.ops)) };
 }
 
-impl Gathering {
+impl<'a> Gathering<'a> {
     /// No operations. It takes no memory.
-    pub fn new(alloc: Global) -> Gathering
+    pub fn new(alloc: Global) -> Gathering<'a>
         ensures { result ≡ [] }
     {
-        let pile = Pile::new(alloc);
-        Gathering { alloc, pile }
+        Gathering {
+            alloc,
+            ops: BTreeMap::new(alloc),
+        }
     }
 
-    /// Takes in the operations of a bundle. Only the new ones are copied; then the text of each that
-    /// was there is left out that the bundle has thinned.
+    /// Takes in the operations of a bundle. Nothing is copied out of its bytes. Of an operation that
+    /// was taken in before and that the bundle has too, the one without its text stays, if either is.
     ///
     /// # Errors
     /// `Clash` with the least id under which it and the bundle have operations that do not agree:
     /// their segments or the ids that they name differ, or both have a text and these differ.
     /// `Memory` where a growth was refused. All operations are then dropped.
-    pub fn receive(self, bundle: &Bundle<'_>) -> Result<Gathering, ReceiveFault>
-        ensures ok { IfOk result (λ after. after ≡ sets.join self bundle.now) }
-        ensures agrees { OnOk result (sets.clash self bundle.now ≡ None) }
-        ensures refused { IfErr result (receives.RefusesReceive (sets.clash self bundle.now)) }
+    pub fn receive(self, bundle: &Bundle<'a>) -> Result<Gathering<'a>, ReceiveFault>
+        ensures ok { IfOk result (λ after. after ≡ sets.join self.entry bundle.now) }
+        ensures agrees { OnOk result (sets.clash self.entry bundle.now ≡ None) }
+        ensures refused { IfErr result
+            (receives.RefusesReceive (sets.clash self.entry bundle.now)) }
         // A clash is not reported as out of memory where nothing new comes before it, nor is anything
         // where nothing is new.
-        ensures clash { let before = receives.before_clash self bundle.now in
-            receives.lacked self before ≡ [] → result ≢ Err ReceiveFault.Memory }
+        ensures clash { let before = receives.before_clash self.entry bundle.now in
+            receives.lacked self.entry before ≡ [] → result ≢ Err ReceiveFault.Memory }
     {
-        let new = self.copy_lacked(bundle)?;
         let alloc = self.alloc;
-        let mut pile = self.pile.add(new)?;
-        leave_texts(&mut pile, bundle);
-        Ok(Gathering { alloc, pile })
-    }
-
-    // The operations of a bundle that are new, copied out of the bundle's bytes, rising. Nothing
-    // grows before the first of them.
-    fn copy_lacked(&self, bundle: &Bundle<'_>) -> Result<Vec<Op>, ReceiveFault>
-        ensures held { sets.IsOpSet self.now }
-        ensures held_legal { IsTrue (is_legal self.now) }
-        ensures set { sets.IsOpSet bundle.now }
-        ensures legal { IsTrue (is_legal bundle.now) }
-        ensures ok { IfOk result (λ new. new.items ≡ receives.lacked self.now bundle.now) }
-        ensures agrees { OnOk result (sets.clash self.now bundle.now ≡ None) }
-        ensures refused { IfErr result (receives.RefusesReceive (sets.clash self.now bundle.now)) }
-        ensures clash { let before = receives.before_clash self.now bundle.now in
-            receives.lacked self.now before ≡ [] → result ≢ Err ReceiveFault.Memory }
-    {
-        let mut new = Vec::new(self.alloc);
+        let mut ops = self.ops;
         for view in bundle.ops() {
-            let id = view.id();
-            match self.pile.find(&id) {
-                None => new.push(view.to_op(self.alloc)?)?,
-                Some(op) if view.agrees_with(op) => {}
-                Some(_) => return Err(ReceiveFault::Clash(id)),
-            }
+            hold(&mut ops, view)?;
         }
-        Ok(new)
+        Ok(Gathering { alloc, ops })
     }
 
-    /// A replica of this name that holds the operations.
+    /// A replica of this name that holds those of the operations which are of one book. Only these are
+    /// copied. Where there is none, it takes no memory.
     ///
     /// # Errors
     /// Out of memory alone.
-    pub fn into_replica(self, name: ReplicaName) -> Result<Replica, AllocError>
-        ensures { IfOk result (λ replica. replica ≡ record { name = name; held = self }) }
+    pub fn of_book(&self, name: ReplicaName, book: Book) -> Result<Replica, AllocError>
+        ensures held { IfOk result (λ replica.
+            replica ≡ record { name = name; held = ops_of_book self.now book }) }
+        ensures none { ops_of_book self.now book ≡ [] → IsOk result }
     {
-        let mut replica = Replica::new(self.alloc, name);
-        let ops = self.pile.into_ops()?;
-        replica.join_new(ops)?;
-        Ok(replica)
+        replica_of(self.alloc, name, self.copy_of_book(book)?)
+    }
+
+    // The operations of a book, copied out of the bundles' bytes, rising. Nothing grows before the
+    // first of them.
+    fn copy_of_book(&self, book: Book) -> Result<Vec<Op>, AllocError>
+        ensures set { sets.IsOpSet self.now }
+        ensures legal { IsTrue (is_legal self.now) }
+        ensures ops { IfOk result (λ ops. ops.items ≡ ops_of_book self.now book) }
+        ensures none { ops_of_book self.now book ≡ [] → IsOk result }
+    {
+        let mut ops = Vec::new(self.alloc);
+        for view in self.ops.values() {
+            copy_if_of_book(self.alloc, &mut ops, view, book)?;
+        }
+        Ok(ops)
     }
 }
 
-// Leaves out the text of each operation that the bundle has thinned. A bundle of full operations is
-// not walked over.
-fn leave_texts(pile: &mut Pile, bundle: &Bundle<'_>)
-    requires past { ArePast (is_thinned_in bundle.now) pile.old }
-    ensures { pile.new ≡ thin_where (is_thinned_in bundle.now) pile.old }
+// Holds an operation too: a new one, or of one that was held and agrees with it the one without its text,
+// if either is.
+fn hold<'a>(ops: &mut BTreeMap<OpId, OpView<'a>>, view: OpView<'a>) -> Result<(), ReceiveFault>
+    requires entries { ops.old.entries ≡ by_id (values ops.old) }
+    requires rising { IsTrue (sets.rises (values ops.old)) }
+    ensures ok { OnOk result (ops.new.entries ≡ by_id (sets.put view.entry (values ops.old))) }
+    ensures valid { IsOperation view.entry }
+    ensures agrees { OnOk result
+        (sets.differs (sets.get (values ops.old) view.entry.id) view.entry ≡ false) }
+    ensures refused { IfErr result (RefusesOne (values ops.old) view.entry) }
 {
-    if bundle.is_full() {
-        return;
-    }
-    for view in bundle.ops() {
-        if view.text().is_none() {
-            pile.leave_text(&view.id());
+    let id = view.id();
+    if let Some(held) = ops.get(&id) {
+        if !held.agrees(&view) {
+            return Err(ReceiveFault::Clash(id));
         }
+        if view.text().is_some() {
+            return Ok(());
+        }
+    }
+    match ops.insert(id, view) {
+        Ok(_) => Ok(()),
+        Err(_) => Err(ReceiveFault::Memory),
     }
 }

@@ -6,7 +6,7 @@ ghost use Rattle.usfm_ref.specs.Rising.{rises_by};
 ghost use Rattle.usfm_ref.specs.Segments.{segment};
 ghost use Rattle.verse_cut.specs.Fits.{Fits};
 ghost use Rattle.verse_cut.specs.Reading.{book_in};
-ghost use Rattle.verse_cut.specs.Views.{parts_of};
+ghost use Rattle.verse_cut.specs.Views.{pieces_view};
 ghost use Rattle.op_core.specs.Lists.{keys_of, shown_ids};
 ghost use Rattle.op_core.specs.NextIds.{greatest_number, next_number};
 ghost use Rattle.replica_state.specs.Edits as edits;
@@ -66,7 +66,7 @@ impl Replica {
     fn due_keys(&self, book: Book, pieces: &[Piece<'_>]) -> Result<Vec<Key>, AllocError>
         requires rising { IsTrue (rises_by key_cmp (λ p. p.key) pieces.now) }
         ensures { IfOk result (λ keys.
-            keys.items ≡ imports.due_keys self.now.held book (parts_of pieces.now)) }
+            keys.items ≡ imports.due_keys self.now.held book (pieces_view pieces.now)) }
     {
         let mut due = Vec::new(self.alloc);
         let keys = self.walked_keys(book, pieces)?;
@@ -85,7 +85,7 @@ impl Replica {
         book: Book,
         pieces: &[Piece<'_>],
     ) -> Result<Vec<Key>, AllocError>
-        ensures { let walked = imports.walked_keys self.now.held book (parts_of pieces.now) in
+        ensures { let walked = imports.walked_keys self.now.held book (pieces_view pieces.now) in
             IfOk result (λ keys. keys.items ≡ walked) }
     {
         let mut keys = self.gathered_keys(book, pieces)?;
@@ -118,7 +118,7 @@ impl Replica {
     // Whether an import edits the key.
     pub(crate) fn is_due(&self, book: Book, pieces: &[Piece<'_>], key: Key) -> bool
         requires rising { IsTrue (rises_by key_cmp (λ p. p.key) pieces.now) }
-        ensures { result ≡ imports.is_due self.now.held book (parts_of pieces.now) key }
+        ensures { result ≡ imports.is_due self.now.held book (pieces_view pieces.now) key }
     {
         let piece = piece_at(pieces, key);
         match self.set.pick(book, key) {
@@ -138,9 +138,9 @@ impl Replica {
         requires rising { IsTrue (rises_by key_cmp (λ p. p.key) pieces.now) }
         requires numbers { IsTrue (edits.has_numbers self.now.held (length due.now)) }
         requires fits { (key : _) →
-            Fits book key (imports.piece_at (parts_of pieces.now) key) }
+            Fits book key (imports.piece_at (pieces_view pieces.now) key) }
         ensures ops { let first = next_number self.now.held in
-            let made = imports.edits_from first self.now book (parts_of pieces.now) due.now in
+            let made = imports.edits_from first self.now book (pieces_view pieces.now) due.now in
             IfOk result (λ ops. ops.items ≡ made) }
         ensures state { IsState self.now }
     {
@@ -168,9 +168,9 @@ impl Replica {
     ) -> Result<Op, AllocError>
         requires rising { IsTrue (rises_by key_cmp (λ p. p.key) pieces.now) }
         requires beyond { greatest_number self.now.held < id.number }
-        requires fits { Fits book key (imports.piece_at (parts_of pieces.now) key) }
+        requires fits { Fits book key (imports.piece_at (pieces_view pieces.now) key) }
         ensures { let shown = shown_ids self.now.held (segment book key) in
-            let text = imports.piece_at (parts_of pieces.now) key in
+            let text = imports.piece_at (pieces_view pieces.now) key in
             IfOk result (λ op. op ≡ edits.edit_with id (segment book key) shown text) }
     {
         let replaced = self.shown_ids(book, key)?;

@@ -7,6 +7,7 @@ mod fault;
 mod gathering;
 mod import;
 pub mod laws;
+mod one_book;
 mod pieces;
 mod receive;
 mod replica;

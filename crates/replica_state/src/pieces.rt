@@ -4,7 +4,7 @@ ghost use Rattle.std.specs.List.{list_any, position_or_len};
 ghost use Rattle.std.specs.Ordering.{is_lt};
 ghost use Rattle.usfm_ref.specs.Keys.{is_verse_of, key_cmp};
 ghost use Rattle.usfm_ref.specs.Rising.{rises_by};
-ghost use Rattle.verse_cut.specs.Views.{parts_of};
+ghost use Rattle.verse_cut.specs.Views.{pieces_view};
 ghost use Rattle.replica_state.specs.Imports as imports;
 
 use std::cmp::Ordering;
@@ -14,7 +14,7 @@ use verse_cut::Piece;
 // The text of the piece of a key, empty if there is none.
 pub(crate) fn piece_at<'a>(pieces: &[Piece<'a>], key: Key) -> &'a str
     requires rising { IsTrue (rises_by key_cmp (λ p. p.key) pieces.now) }
-    ensures { result.now ≡ imports.piece_at (parts_of pieces.now) key }
+    ensures { result.now ≡ imports.piece_at (pieces_view pieces.now) key }
 {
     let at = place_piece(pieces, key);
     if at < pieces.len() {

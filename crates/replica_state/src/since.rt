@@ -7,7 +7,7 @@ ghost use Rattle.usfm_ref.specs.Rising.{rises_by};
 ghost use Rattle.usfm_ref.specs.Segments.{segment};
 ghost use Rattle.verse_cut.specs.Fits.{Fits};
 ghost use Rattle.verse_cut.specs.Reading.{book_in};
-ghost use Rattle.verse_cut.specs.Views.{parts_of};
+ghost use Rattle.verse_cut.specs.Views.{pieces_view};
 ghost use Rattle.op_core.specs.NextIds.{greatest_number, next_number};
 ghost use Rattle.op_core.specs.Ops.{own_text};
 ghost use Rattle.op_core.specs.Shown.{last, text_in};
@@ -138,11 +138,11 @@ impl Replica {
     fn change(&mut self, was: &Replica, book: Book, pieces: &[Piece<'_>]) -> Result<u64, SinceFault>
         requires rising { IsTrue (rises_by key_cmp (λ p. p.key) pieces.now) }
         requires fits { (key : _) →
-            Fits book key (imports.piece_at (parts_of pieces.now) key) }
+            Fits book key (imports.piece_at (pieces_view pieces.now) key) }
         ensures step { let keys = since.changed_keys self.old.held was.now.held book
-            (parts_of pieces.now) in
+            (pieces_view pieces.now) in
             result ≢ Err SinceFault.Memory →
-            since.changed self.old self.old was.now.held book (parts_of pieces.now) keys
+            since.changed self.old self.old was.now.held book (pieces_view pieces.now) keys
             ≡ record { after = self.new; answer = result } }
         ensures err { OnErr result (self.new ≡ self.old) }
     {
@@ -163,7 +163,7 @@ impl Replica {
     ) -> Result<Vec<Key>, AllocError>
         requires rising { IsTrue (rises_by key_cmp (λ p. p.key) pieces.now) }
         ensures { let keys = since.changed_keys self.now.held was.now.held book
-            (parts_of pieces.now) in
+            (pieces_view pieces.now) in
             IfOk result (λ changed. changed.items ≡ keys) }
     {
         let mut changed = Vec::new(self.alloc);
@@ -186,7 +186,7 @@ impl Replica {
     ) -> Result<bool, AllocError>
         requires rising { IsTrue (rises_by key_cmp (λ p. p.key) pieces.now) }
         ensures { IfOk result (λ is.
-            is ≡ since.is_changed self.now.held was.now.held book (parts_of pieces.now) key) }
+            is ≡ since.is_changed self.now.held was.now.held book (pieces_view pieces.now) key) }
     {
         if !was.is_due(book, pieces, key) {
             return Ok(false);
@@ -243,10 +243,10 @@ impl Replica {
         requires rising { IsTrue (rises_by key_cmp (λ p. p.key) pieces.now) }
         requires numbers { IsTrue (edits.has_numbers self.now.held (length keys.now)) }
         requires fits { (key : _) →
-            Fits book key (imports.piece_at (parts_of pieces.now) key) }
+            Fits book key (imports.piece_at (pieces_view pieces.now) key) }
         ensures ops { let first = next_number self.now.held in
             let made = since.changes_from first self.now was.now.held book
-            (parts_of pieces.now) keys.now in
+            (pieces_view pieces.now) keys.now in
             IfOk result (λ ops. ops.items ≡ made) }
         ensures state { IsState self.now }
     {
@@ -275,9 +275,9 @@ impl Replica {
     ) -> Result<Op, AllocError>
         requires rising { IsTrue (rises_by key_cmp (λ p. p.key) pieces.now) }
         requires beyond { greatest_number self.now.held < id.number }
-        requires fits { Fits book key (imports.piece_at (parts_of pieces.now) key) }
+        requires fits { Fits book key (imports.piece_at (pieces_view pieces.now) key) }
         ensures { let seen = since.seen_ids self.now.held was.now.held (segment book key) in
-            let text = imports.piece_at (parts_of pieces.now) key in
+            let text = imports.piece_at (pieces_view pieces.now) key in
             IfOk result (λ op. op ≡ edits.edit_with id (segment book key) seen text) }
     {
         let replaced = self.seen_ids(was, book, key)?;

@@ -3,6 +3,7 @@ mod comparisons;
 mod deltas;
 mod editing;
 mod gathering;
+mod one_book;
 mod player;
 mod receiving;
 mod since;

@@ -13,7 +13,7 @@ use Rattle.usfm_token.proofs.Walk.{each-tokens_of, first_not_empty}
 use Rattle.verse_cut.specs.Keys.{text_after}
 use Rattle.verse_cut.specs.Marks.{Site, sites_from}
 use Rattle.verse_cut.specs.Pieces.{pieces_of}
-use Rattle.segment_check.specs.Scenes.{Scene, scenes_behind, scenes_of}
+use Rattle.segment_check.specs.Scenes.{Scene, scenes_after, scenes_of}
 use Rattle.verse_cut.specs.Places.{key_at}
 use Rattle.segment_check.specs.Findings.{all_codes, holds_of, found_at, spots_of, findings}
 use Rattle.segment_check.specs.Laws.{place_of, IsTokenStart, StartsNeverFall, CodesRise, NoTwoAlike, StartsAreTokens}
@@ -96,7 +96,7 @@ module _ (sheet : List Record) (s : List ℕ) where
       ))
 
   abbrev rest : List Site → ℕ → List Lexeme → List Finding
-  rest before at ts = flat_map found (scenes_behind before (sites_from at ts))
+  rest before at ts = flat_map found (scenes_after before (sites_from at ts))
 
   later : (before : List Site) (at : ℕ) (ts : List Lexeme) → All (λ f. at ≤ f.start) (rest before at ts)
   later before at [] = All-nil (λ f. at ≤ f.start)

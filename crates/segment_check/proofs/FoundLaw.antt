@@ -12,11 +12,11 @@ use Rattle.usfm_tree.specs.Reading.{tree_of}
 use Rattle.usfm_tree.specs.SheetViews.{styles_in}
 use Rattle.usfm_token.proofs.Walk.{each-tokens_of, first_not_empty}
 use Rattle.verse_cut.specs.Keys.{key_below, text_after}
-use Rattle.verse_cut.specs.Marks.{Site, sites_from, chapter_in_force, keyed_behind}
+use Rattle.verse_cut.specs.Marks.{Site, sites_from, chapter_in_force, keyed_after}
 use Rattle.verse_cut.specs.Pieces.{pieces_of}
 use Rattle.verse_cut.proofs.MarkLaws.{IsGreatest}
 use Rattle.segment_check.specs.Spots.{Spot}
-use Rattle.segment_check.specs.Scenes.{Scene, scenes_behind, scenes_of}
+use Rattle.segment_check.specs.Scenes.{Scene, scenes_after, scenes_of}
 use Rattle.verse_cut.specs.Places.{key_at}
 use Rattle.segment_check.specs.TreeConditions.{unknown_marker, stray_close, unclosed_char}
 use Rattle.segment_check.specs.TreeConditions.{unclosed_note, too_deep, not_under}
@@ -24,14 +24,14 @@ use Rattle.segment_check.specs.Findings.{all_codes, stands_at, holds_of, found_a
 use Rattle.segment_check.specs.Findings.{findings}
 use Rattle.segment_check.specs.Laws.{FindingsAreRead}
 use Rattle.segment_check.specs.Reading.{State, key_then, seen_first, seen_rest, unseen, held_at}
-use Rattle.segment_check.specs.Reading.{behind, holds_in, findings_with, found_from, found_in}
+use Rattle.segment_check.specs.Reading.{state_after, holds_in, findings_with, found_from, found_in}
 use Rattle.segment_check.specs.Reading.{start_state, seen_of}
 use Rattle.segment_check.specs.Loops.TreeViews.{seen_in}
 use Rattle.segment_check.specs.declared.code.Code.{Code}
 use Rattle.segment_check.specs.declared.code.Code.TheVariants as code
 use Rattle.segment_check.specs.declared.finding.Finding.{Finding}
 use Rattle.segment_check.specs.declared.seen.Seen.{Seen}
-use Rattle.segment_check.proofs.Threads.{Thread, left_behind, Passes, passes, text_thread}
+use Rattle.segment_check.proofs.Threads.{Thread, left_after, Passes, passes, text_thread}
 use Rattle.segment_check.proofs.Threads.{tree_thread}
 use Rattle.segment_check.proofs.Openings.{mark_key-by, Reaching, force_then, great_then}
 use Rattle.segment_check.proofs.Openings.{reaching_then, not_rising_is, overlap_is}
@@ -51,7 +51,7 @@ module _ (sheet : List Record) (s : List ℕ) where
   -- what a state knows of the marks before, and of those of the tree that are left
   record Knows (before : List Site) (at : ℕ) (st : State) (left : List Spot) (ts : List Lexeme) : Type 0 where
     force : chapter_in_force 0 before ≡ st.key.chapter
-    great : IsGreatest st.key (keyed_behind 0 [] before)
+    great : IsGreatest st.key (keyed_after 0 [] before)
     reaching : Reaching st.key st.reach before
     seen : st.seen ≡ map (seen_of sheet) left
     thread : Thread at (map slice_of ts) left
@@ -82,7 +82,7 @@ module _ (sheet : List Record) (s : List ℕ) where
     scene = record { before = before; here = site }
 
     abbrev on : State
-    on = behind st at m (text_after ts)
+    on = state_after st at m (text_after ts)
 
     some : 0 < length (mark_bytes m)
     some = first_not_empty (mark m) ts each
@@ -95,7 +95,7 @@ module _ (sheet : List Record) (s : List ℕ) where
         let F : Option KeyParts → Type 0 = λ o. Cuts (pieces_of s) (key_then st.key o) at (at + length (mark_bytes m)) ts in
         subst F (mark_key-by st.key.chapter m (text_after ts)) (cuts_then (pieces_of s) st.key at (mark m) ts k.cuts)
 
-    knows_mark : Knows (before ++ site ∷ []) (at + length (mark_bytes m)) on (left_behind at left) ts
+    knows_mark : Knows (before ++ site ∷ []) (at + length (mark_bytes m)) on (left_after at left) ts
     knows_mark = record {
       force = force_then before site st.key k.force k.great;
       great = great_then before site st.key k.force k.great;
@@ -133,17 +133,17 @@ module _ (sheet : List Record) (s : List ℕ) where
         (filter_same (holds_in (held_at st at m (text_after ts))) (holds_of sheet tree scene) holds_is all_codes i)
 
   found_is : (before : List Site) (at : ℕ) (st : State) (left : List Spot) (ts : List Lexeme) → AreLexemes ts → Knows before at st left ts
-      → found_from st at ts ≡ flat_map found (scenes_behind before (sites_from at ts))
+      → found_from st at ts ≡ flat_map found (scenes_after before (sites_from at ts))
   found_is before at st left [] each k = refl
   found_is before at st left (words t ∷ ts) each k =
       found_is before (at + length t) st left ts each.2 (knows_text before at st left t ts each k)
   found_is before at st left (mark m ∷ ts) each k =
       let site : Site = record { at = at; parts = m; after = text_after ts } in
-      let on = behind st at m (text_after ts) in
+      let on = state_after st at m (text_after ts) in
       let next = at + length (mark_bytes m) in
       ap (λ l. l ++ found_from on next ts) (found_here before at st left m ts each k)
       ∙ ap (λ l. found (record { before = before; here = site }) ++ l)
-      (found_is (before ++ site ∷ []) next on (left_behind at left) ts each.2 (knows_mark before at st left m ts each k))
+      (found_is (before ++ site ∷ []) next on (left_after at left) ts each.2 (knows_mark before at st left m ts each k))
 
   and_true : (b : Bool) → b && true ≡ b
   and_true true = refl

@@ -17,12 +17,12 @@ use Rattle.usfm_ref.specs.declared.key.Place.TheVariants.{Head, Verse}
 use Rattle.usfm_ref.specs.declared.number.VerseMark.{VerseMark}
 use Rattle.usfm_token.specs.Tokens.{MarkParts}
 use Rattle.verse_cut.specs.Keys.{key_below, verse_key, mark_key}
-use Rattle.verse_cut.specs.Marks.{Site, Keyed, chapter_number, greater_of, chapter_in_force, key_behind, with_key, keyed_behind, opens}
+use Rattle.verse_cut.specs.Marks.{Site, Keyed, chapter_number, greater_of, chapter_in_force, key_after, with_key, keyed_after, opens}
 use Rattle.verse_cut.proofs.KeyOrder.{below_trans, below_weak, key_below-is, nothing_before_head}
 use Rattle.verse_cut.proofs.MarkLaws.{chapter_after, above_in_force, below_in_force, in_force-snoc, number_step, IsGreatest, greatest-more, both_first, both_second}
-use Rattle.segment_check.specs.Scenes.{Scene, scenes_behind, chapter_of, key_of, opens_piece, verse_behind, opened_verse}
+use Rattle.segment_check.specs.Scenes.{Scene, scenes_after, chapter_of, key_of, opens_piece, mark_verse, opened_verse}
 use Rattle.segment_check.specs.NumberConditions.{is_after, reaches, bridge_reaches, overlaps_from, not_rising, overlap}
-use Rattle.segment_check.specs.Numbers.{chapter_behind, key_by}
+use Rattle.segment_check.specs.Numbers.{mark_chapter, key_by}
 use Rattle.segment_check.specs.Reading.{Last, is_letter_within, is_within, further, any_reaches, is_above, key_then, reach_with}
 
 -- ---- keys
@@ -41,7 +41,7 @@ by_parts c false false true n None h = refl
 by_parts c false false true n (Some v) h = refl
 
 -- the key of a mark, by the chapter and the verse after it
-pub mark_key-by : (c : ℕ) (m : MarkParts) (after : List ℕ) → mark_key c m after ≡ key_by c (chapter_behind m after) (verse_behind m after)
+pub mark_key-by : (c : ℕ) (m : MarkParts) (after : List ℕ) → mark_key c m after ≡ key_by c (mark_chapter m after) (mark_verse m after)
 mark_key-by c m after =
     by_parts c (m.nested || m.closing) (bytes_eq m.name (codes "c")) (bytes_eq m.name (codes "v")) (chapter_in after) (verse_in after)
     (name_differs m.name)
@@ -53,7 +53,7 @@ one_number true f g n v w h is = refl
 one_number false false g n v w h is = refl
 one_number false true g n v w h is = absurd (let none : None ≡ Some w = ap (λ b. cond b v None) (sym (h refl)) ∙ is in cc)
 
-no_chapter : (m : MarkParts) (after : List ℕ) (w : VerseMark) → verse_behind m after ≡ Some w → chapter_behind m after ≡ None
+no_chapter : (m : MarkParts) (after : List ℕ) (w : VerseMark) → mark_verse m after ≡ Some w → mark_chapter m after ≡ None
 no_chapter m after w is =
     one_number (m.nested || m.closing) (bytes_eq m.name (codes "c")) (bytes_eq m.name (codes "v")) (chapter_in after) (verse_in after) w
     (name_differs m.name) is
@@ -86,13 +86,13 @@ greatest_then g before at (Some q) h = by (key_below g q) refl
         let F : Bool → Type 0 = λ b. IsGreatest (cond b q g) (before ++ m ∷ []) in
         subst F (sym e) (λ k. greatest-more g before m k h ∙ both_first (key_below g k) (key_below q k) (λ r. below_weak g q k e r))
 
-keyed-snoc : (c : ℕ) (b0 before : List Site) (s : Site) → keyed_behind c b0 (before ++ s ∷ [])
-    ≡ keyed_behind c b0 before ++ with_key (key_behind c (b0 ++ before) s) s.at []
-keyed-snoc c b0 [] s = ap (λ b. with_key (key_behind c b s) s.at []) (sym (append-nil b0))
+keyed-snoc : (c : ℕ) (b0 before : List Site) (s : Site) → keyed_after c b0 (before ++ s ∷ [])
+    ≡ keyed_after c b0 before ++ with_key (key_after c (b0 ++ before) s) s.at []
+keyed-snoc c b0 [] s = ap (λ b. with_key (key_after c b s) s.at []) (sym (append-nil b0))
 keyed-snoc c b0 (x ∷ before) s =
-    ap (with_key (key_behind c b0 x) x.at) (keyed-snoc c (b0 ++ x ∷ []) before s
-    ∙ ap (λ b. keyed_behind c (b0 ++ x ∷ []) before ++ with_key (key_behind c b s) s.at []) (append_assoc b0 (x ∷ []) before))
-    ∙ with_key-append (key_behind c b0 x) x.at (keyed_behind c (b0 ++ x ∷ []) before) (with_key (key_behind c (b0 ++ x ∷ before) s) s.at [])
+    ap (with_key (key_after c b0 x) x.at) (keyed-snoc c (b0 ++ x ∷ []) before s
+    ∙ ap (λ b. keyed_after c (b0 ++ x ∷ []) before ++ with_key (key_after c b s) s.at []) (append_assoc b0 (x ∷ []) before))
+    ∙ with_key-append (key_after c b0 x) x.at (keyed_after c (b0 ++ x ∷ []) before) (with_key (key_after c (b0 ++ x ∷ before) s) s.at [])
   where
     with_key-append : (k : Option KeyParts) (at : ℕ) (ms ns : List Keyed) → with_key k at (ms ++ ns) ≡ with_key k at ms ++ ns
     with_key-append None at ms ns = refl
@@ -100,12 +100,12 @@ keyed-snoc c b0 (x ∷ before) s =
 
 -- ---- bridges
 
-scenes-snoc : (b0 before : List Site) (s : Site) → scenes_behind b0 (before ++ s ∷ [])
-    ≡ scenes_behind b0 before ++ record { before = b0 ++ before; here = s } ∷ []
+scenes-snoc : (b0 before : List Site) (s : Site) → scenes_after b0 (before ++ s ∷ [])
+    ≡ scenes_after b0 before ++ record { before = b0 ++ before; here = s } ∷ []
 scenes-snoc b0 [] s = ap (λ (b : List Site). record { before = b; here = s } ∷ []) (sym (append-nil b0))
 scenes-snoc b0 (x ∷ before) s =
     ap (λ r. record { before = b0; here = x } ∷ r)
-    (scenes-snoc (b0 ++ x ∷ []) before s ∙ ap (λ (b : List Site). scenes_behind (b0 ++ x ∷ []) before ++ record { before = b; here = s }
+    (scenes-snoc (b0 ++ x ∷ []) before s ∙ ap (λ (b : List Site). scenes_after (b0 ++ x ∷ []) before ++ record { before = b; here = s }
     ∷ []) (append_assoc b0 (x ∷ []) before))
 
 -- what the one that reaches more reaches is what either reaches
@@ -170,7 +170,7 @@ head_later g n h = by (nat_lt g.chapter n) refl
 -- what the bridges of a chapter reach: those of g's chapter that which reach says, and those of later chapters nothing
 abbrev pub Reaching : KeyParts → Option Last → List Site → Type 0
 Reaching g reach before =
-    (c : ℕ) (v : VerseMark) → g.chapter ≤ c → list_any (overlaps_from c v) (scenes_behind [] before)
+    (c : ℕ) (v : VerseMark) → g.chapter ≤ c → list_any (overlaps_from c v) (scenes_after [] before)
     ≡ (g.chapter == c) && any_reaches reach v
 
 -- what the mark adds to what is reached in chapter c
@@ -231,15 +231,15 @@ module _ (g : KeyParts) (reach : Option Last) (c : ℕ) (v : VerseMark) (old : B
   adds (Some n) (Some u) one low = absurd (let no : Some n ≡ None = one u refl in cc)
 
 module _ (before : List Site) (here : Site) (g : KeyParts) (force : chapter_in_force 0 before ≡ g.chapter)
-    (great : IsGreatest g (keyed_behind 0 [] before)) where
+    (great : IsGreatest g (keyed_after 0 [] before)) where
   abbrev pub scene : Scene
   scene = record { before = before; here = here }
 
   abbrev verse : Option VerseMark
-  verse = verse_behind here.parts here.after
+  verse = mark_verse here.parts here.after
 
   abbrev chapter : Option ℕ
-  chapter = chapter_behind here.parts here.after
+  chapter = mark_chapter here.parts here.after
 
   abbrev pub key : Option KeyParts
   key = key_by g.chapter chapter verse
@@ -247,14 +247,14 @@ module _ (before : List Site) (here : Site) (g : KeyParts) (force : chapter_in_f
   key_is : key_of scene ≡ key
   key_is = ap (λ c. mark_key c here.parts here.after) force ∙ mark_key-by g.chapter here.parts here.after
 
-  opens_by : (k : Option KeyParts) → option_map_or (λ x. opens (keyed_behind 0 [] before) (record { key = x; at = here.at })) k false
+  opens_by : (k : Option KeyParts) → option_map_or (λ x. opens (keyed_after 0 [] before) (record { key = x; at = here.at })) k false
       ≡ is_above g k
   opens_by None = refl
   opens_by (Some k) = great k
 
   opens_is : opens_piece scene ≡ is_above g key
   opens_is =
-      ap (λ k. option_map_or (λ x. opens (keyed_behind 0 [] before) (record { key = x; at = here.at })) k false) key_is ∙ opens_by key
+      ap (λ k. option_map_or (λ x. opens (keyed_after 0 [] before) (record { key = x; at = here.at })) k false) key_is ∙ opens_by key
 
   opened_is : opened_verse scene ≡ cond (is_above g key) verse None
   opened_is = ap (λ b. cond b verse None) opens_is
@@ -267,35 +267,35 @@ module _ (before : List Site) (here : Site) (g : KeyParts) (force : chapter_in_f
       ∙ ap (chapter_after g.chapter) (mark_key-by g.chapter here.parts here.after)
       ∙ then_chapter g key
 
-  pub great_then : IsGreatest (key_then g key) (keyed_behind 0 [] (before ++ here ∷ []))
+  pub great_then : IsGreatest (key_then g key) (keyed_after 0 [] (before ++ here ∷ []))
   great_then =
       subst (IsGreatest (key_then g key))
-      (sym (keyed-snoc 0 [] before here ∙ ap (λ k. keyed_behind 0 [] before ++ with_key k here.at []) key_is))
-      (greatest_then g (keyed_behind 0 [] before) here.at key great)
+      (sym (keyed-snoc 0 [] before here ∙ ap (λ k. keyed_after 0 [] before ++ with_key k here.at []) key_is))
+      (greatest_then g (keyed_after 0 [] before) here.at key great)
 
   pub not_rising_is : is_some key && not (is_above g key) ≡ not_rising scene
   not_rising_is = λ i. is_some (sym key_is i) && not (sym opens_is i)
 
   module _ (reach : Option Last) (reaching : Reaching g reach before) where
     overlap_by : (b : Bool) (o : Option VerseMark) → b && option_map_or (any_reaches reach) o false
-        ≡ option_map_or (λ v. list_any (overlaps_from (chapter_of scene) v) (scenes_behind [] before)) (cond b o None) false
+        ≡ option_map_or (λ v. list_any (overlaps_from (chapter_of scene) v) (scenes_after [] before)) (cond b o None) false
     overlap_by false o = refl
     overlap_by true None = refl
     overlap_by true (Some v) =
-        sym (ap (λ c. list_any (overlaps_from c v) (scenes_behind [] before)) force
+        sym (ap (λ c. list_any (overlaps_from c v) (scenes_after [] before)) force
         ∙ reaching g.chapter v (omega arith)
         ∙ ap (λ x. x && any_reaches reach v) (eq-eqb g.chapter g.chapter refl))
 
     pub overlap_is : is_above g key && option_map_or (any_reaches reach) verse false ≡ overlap scene
     overlap_is =
         overlap_by (is_above g key) verse
-        ∙ ap (λ o. option_map_or (λ v. list_any (overlaps_from (chapter_of scene) v) (scenes_behind [] before)) o false) (sym opened_is)
+        ∙ ap (λ o. option_map_or (λ v. list_any (overlaps_from (chapter_of scene) v) (scenes_after [] before)) o false) (sym opened_is)
 
     pub reaching_then : Reaching (key_then g key) (cond (is_above g key) (reach_with reach verse) reach) (before ++ here ∷ [])
     reaching_then c v low =
         ap (list_any (overlaps_from c v)) (scenes-snoc [] before here)
-        ∙ list_any-append (overlaps_from c v) (scenes_behind [] before) (scene ∷ [])
-        ∙ (λ i. list_any (overlaps_from c v) (scenes_behind [] before)
+        ∙ list_any-append (overlaps_from c v) (scenes_after [] before) (scene ∷ [])
+        ∙ (λ i. list_any (overlaps_from c v) (scenes_after [] before)
         || (((force i == c) && option_map_or (λ e. bridge_reaches e v) (opened_is i) false) || false))
-        ∙ adds g reach c v (list_any (overlaps_from c v) (scenes_behind [] before)) (reaching c v) chapter verse
+        ∙ adds g reach c v (list_any (overlaps_from c v) (scenes_after [] before)) (reaching c v) chapter verse
         (λ u is. no_chapter here.parts here.after u is) low

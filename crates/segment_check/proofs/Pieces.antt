@@ -6,7 +6,7 @@ use Rattle.std.proofs.lemmas.Bool.Decides.{nat_tests}
 use Rattle.usfm_ref.specs.Keys.{KeyParts, book_head}
 use Rattle.usfm_token.specs.Tokens.{Lexeme, slice_of, tokens_of}
 use Rattle.verse_cut.specs.Keys.{key_below}
-use Rattle.verse_cut.specs.Pieces.{Part, pieces_of}
+use Rattle.verse_cut.specs.Pieces.{PieceParts, pieces_of}
 use Rattle.verse_cut.specs.Reading.{key_of, goes_on, opens_at, cut_from, pieces_with, cut_of}
 use Rattle.verse_cut.proofs.MarkLaws.{cut_is_read}
 use Rattle.verse_cut.proofs.Quiet.{by_key}
@@ -15,7 +15,7 @@ use Rattle.segment_check.specs.Reading.{key_then}
 
 -- From a place on all pieces are held like the open one and the later ones: at the next token, the open piece has a key, and
 -- begins no later than the place.
-pub record Cuts (all : List Part) (key : KeyParts) (from next : ℕ) (ts : List Lexeme) : Type 0 where
+pub record Cuts (all : List PieceParts) (key : KeyParts) (from next : ℕ) (ts : List Lexeme) : Type 0 where
   pub start : ℕ
   pub sofar : List ℕ
   pub begun : start ≤ from
@@ -34,7 +34,7 @@ cuts_start s = record {
 }
 
 -- what holds of the pieces from a place on holds from each later one on, before the next token
-pub cuts_later : (all : List Part) (key : KeyParts) (from to next : ℕ) (ts : List Lexeme) → from ≤ to → Cuts all key from next ts
+pub cuts_later : (all : List PieceParts) (key : KeyParts) (from to next : ℕ) (ts : List Lexeme) → from ≤ to → Cuts all key from next ts
     → Cuts all key to next ts
 cuts_later all key from to next ts h c = record {
   start = c.start;
@@ -56,7 +56,7 @@ not_held key start p text h = by (nat_le start p)
     by true = far
     by false = refl
 
-module _ (all : List Part) (g : KeyParts) (at : ℕ) (t : Lexeme) (ts : List Lexeme) (c : Cuts all g at at (t ∷ ts)) where
+module _ (all : List PieceParts) (g : KeyParts) (at : ℕ) (t : Lexeme) (ts : List Lexeme) (c : Cuts all g at at (t ∷ ts)) where
   abbrev next : ℕ
   next = at + length (slice_of t)
 
@@ -110,16 +110,16 @@ module _ (all : List Part) (g : KeyParts) (at : ℕ) (t : Lexeme) (ts : List Lex
   cuts_then = by_option (key_of g.chapter t ts) c.finds
 
 -- the open piece holds the token before the next
-pub key_here : (all : List Part) (key : KeyParts) (at next : ℕ) (ts : List Lexeme) → at < next → Cuts all key at next ts
+pub key_here : (all : List PieceParts) (key : KeyParts) (at next : ℕ) (ts : List Lexeme) → at < next → Cuts all key at next ts
     → key_at all at ≡ key
 key_here all key at next ts h c =
     let rest = cut_from key next ts in
-    let held_by : Part = record { key = key; start = c.start; text = c.sofar ++ rest.0 } in
+    let held_by : PieceParts = record { key = key; start = c.start; text = c.sofar ++ rest.0 } in
     let low : nat_le c.start at ≡ true = is_low c.start at c.begun in
     let high : nat_lt at (c.start + length (c.sofar ++ rest.0))
     ≡ true = is_high at (c.start + length (c.sofar ++ rest.0)) (let e = c.here in omega (arith, e, length-append c.sofar rest.0)) in
     let held : holds at held_by ≡ true = ap (λ b. b && nat_lt at (c.start + length (c.sofar ++ rest.0))) low ∙ high in
-    ap (λ o. option_map_or (λ (p : Part). p.key) o book_head)
+    ap (λ o. option_map_or (λ (p : PieceParts). p.key) o book_head)
     (c.finds at (omega arith) ∙ ap (λ b. cond b (Some held_by) (find (holds at) rest.1)) held)
   where
     is_low : (a b : ℕ) → a ≤ b → nat_le a b ≡ true

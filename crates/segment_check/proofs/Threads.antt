@@ -109,9 +109,9 @@ thread_beyond n p (l ∷ ls) (x ∷ xs) test h t =
     (λ b. thread_beyond (n + length l) p ls (x ∷ xs) test (omega arith) b) t
 
 -- the marks after a token: those that the token's place does not take
-abbrev pub left_behind : ℕ → List Spot → List Spot
-left_behind at [] = []
-left_behind at (x ∷ xs) = cond (x.start == at) xs (x ∷ xs)
+abbrev pub left_after : ℕ → List Spot → List Spot
+left_after at [] = []
+left_after at (x ∷ xs) = cond (x.start == at) xs (x ∷ xs)
 
 thread_start : (n : ℕ) (ls : List (List ℕ)) (x : Spot) (xs : List Spot) → Thread n ls (x ∷ xs) → n ≤ x.start
 thread_start n [] x xs t = absurd t
@@ -121,9 +121,9 @@ thread_start n (l ∷ ls) x xs t =
 -- What one leaf does: the marks after it come after it, those at later places are the same, and what is reported in front is reported of
 -- the mark there.
 pub record Passes (sheet : List Record) (at : ℕ) (l : List ℕ) (ls : List (List ℕ)) (xs : List Spot) : Type 0 where
-  pub thread : Thread (at + length l) ls (left_behind at xs)
-  pub later : (p : ℕ) (test : Spot → Bool) → at < p → stands_at xs p test ≡ stands_at (left_behind at xs) p test
-  pub rest : seen_rest at (map (seen_of sheet) xs) ≡ map (seen_of sheet) (left_behind at xs)
+  pub thread : Thread (at + length l) ls (left_after at xs)
+  pub later : (p : ℕ) (test : Spot → Bool) → at < p → stands_at xs p test ≡ stands_at (left_after at xs) p test
+  pub rest : seen_rest at (map (seen_of sheet) xs) ≡ map (seen_of sheet) (left_after at xs)
   pub first : (test : Spot → Bool) (field : Seen → Bool) → ((x : Spot) → field (seen_of sheet x) ≡ test x) → field (unseen at) ≡ false
       → field (seen_first at (map (seen_of sheet) xs)) ≡ stands_at xs at test
 

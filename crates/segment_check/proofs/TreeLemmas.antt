@@ -30,6 +30,7 @@ use Rattle.segment_check.specs.Reading.{seen_of}
 use Rattle.segment_check.specs.Loops.TreeViews.{Tells, seen_in, Surroundings, surroundings_of}
 use Rattle.segment_check.specs.Loops.TreeViews.{entering, allowing, seen_by, kind_here}
 use Rattle.segment_check.specs.declared.seen.Seen.{Seen}
+use Rattle.sty_sheet.proofs.Telling.{is_some_map}
 
 -- ---- what nodes around decide
 
@@ -200,13 +201,9 @@ pub advance : (old new whole e before after : List Seen) → old ++ before ≡ w
 advance old new whole e before after h split more =
     ap (λ l. l ++ after) more ∙ append_assoc old e after ∙ ap (λ l. old ++ l) (sym split) ∙ h
 
-is_some-map : {A B : Type 0} (f : A → B) (o : Option A) → is_some o ≡ is_some (option_map f o)
-is_some-map f None = refl
-is_some-map f (Some x) = refl
-
 -- something has an image exactly where it is there
 pub closed_is : {A B : Type 0} (f : A → B) (o : Option A) (c : Option B) (b : Bool) → b ≡ is_some o → option_map f o ≡ c → b ≡ is_some c
-closed_is f o c b e h = e ∙ is_some-map f o ∙ ap is_some h
+closed_is f o c b e h = e ∙ sym (is_some_map f o) ∙ ap is_some h
 
 -- what is reported of a mark is its entry's
 pub told_more : (sheet : List Record) (around : List Around) (i : Surroundings) (v : Forest) (m : MarkParts) (start : ℕ)

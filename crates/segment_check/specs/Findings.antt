@@ -4,7 +4,7 @@ use Rattle.std.specs.List.{flat_map, list_any}
 use Rattle.sty_sheet.specs.Records.{Record}
 use Rattle.usfm_tree.specs.Reading.{tree_of}
 use Rattle.usfm_tree.specs.SheetViews.{styles_in}
-use Rattle.verse_cut.specs.Pieces.{Part, pieces_of}
+use Rattle.verse_cut.specs.Pieces.{PieceParts, pieces_of}
 use Rattle.segment_check.specs.Spots.{Spot, spots}
 use Rattle.segment_check.specs.Scenes.{Scene, scenes_of}
 use Rattle.verse_cut.specs.Places.{key_at}
@@ -39,7 +39,7 @@ holds_of sheet tree scene code.NotUnder = stands_at tree scene.here.at (not_unde
 
 -- a finding for each code whose condition holds of a mark, with the mark's start and the key of the piece that
 -- holds it
-abbrev pub found_at : List Record → List Spot → List Part → Scene → List Finding
+abbrev pub found_at : List Record → List Spot → List PieceParts → Scene → List Finding
 found_at sheet tree pieces scene =
     map (λ c. record { code = c; start = scene.here.at; key = key_at pieces scene.here.at })
     (filter (holds_of sheet tree scene) all_codes)

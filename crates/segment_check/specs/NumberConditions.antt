@@ -11,13 +11,13 @@ use Rattle.usfm_ref.specs.Numbers.{chapter_in}
 use Rattle.usfm_ref.specs.declared.key.Place.TheVariants.{Verse}
 use Rattle.usfm_ref.specs.declared.number.VerseMark.{VerseMark}
 use Rattle.usfm_token.specs.Tokens.{MarkParts}
-use Rattle.segment_check.specs.Scenes.{Scene, scenes_behind, chapter_of, key_of, opens_piece, is_plain_mark, verse_behind, opened_verse}
+use Rattle.segment_check.specs.Scenes.{Scene, scenes_after, chapter_of, key_of, opens_piece, is_plain_mark, mark_verse, opened_verse}
 
 -- no number comes after a mark `\c` or `\v`
 abbrev pub lacks_number : MarkParts → List ℕ → Bool
 lacks_number m after =
     (is_plain_mark (codes "c") m && not (is_some (chapter_in after)))
-    || (is_plain_mark (codes "v") m && not (is_some (verse_behind m after)))
+    || (is_plain_mark (codes "v") m && not (is_some (mark_verse m after)))
 
 -- `bad-number`: a mark `\c` or `\v`, neither nested nor closing, without a number
 abbrev pub bad_number : Scene → Bool
@@ -38,7 +38,7 @@ fails_bridge after v =
 
 -- a mark `\v` with a verse after it, whose bridge fails
 abbrev pub has_bad_bridge : MarkParts → List ℕ → Bool
-has_bad_bridge m after = option_map_or (fails_bridge after) (verse_behind m after) false
+has_bad_bridge m after = option_map_or (fails_bridge after) (mark_verse m after) false
 
 -- `bad-bridge`: a verse's mark whose bridge fails
 abbrev pub bad_bridge : Scene → Bool
@@ -72,7 +72,7 @@ overlaps_from chapter v earlier =
 -- a mark of its chapter before it opens a piece with such a bridge
 abbrev pub is_reached : Scene → VerseMark → Bool
 is_reached scene v =
-    list_any (overlaps_from (chapter_of scene) v) (scenes_behind [] scene.before)
+    list_any (overlaps_from (chapter_of scene) v) (scenes_after [] scene.before)
 
 -- `overlap`: a verse's mark that opens a piece, after one of its chapter that opens a piece and whose bridge reaches it
 abbrev pub overlap : Scene → Bool

@@ -8,8 +8,8 @@ use Rattle.verse_cut.specs.Keys.{verse_key}
 use Rattle.segment_check.specs.Scenes.{is_plain_mark}
 
 -- the chapter that comes after a mark `\c`
-abbrev pub chapter_behind : MarkParts → List ℕ → Option ℕ
-chapter_behind m after = if is_plain_mark (codes "c") m then chapter_in after else None
+abbrev pub mark_chapter : MarkParts → List ℕ → Option ℕ
+mark_chapter m after = if is_plain_mark (codes "c") m then chapter_in after else None
 
 -- the key of a mark with a chapter or a verse after it
 abbrev pub key_by : ℕ → Option ℕ → Option VerseMark → Option KeyParts

@@ -8,12 +8,12 @@ use Rattle.usfm_ref.specs.declared.number.VerseMark.{VerseMark}
 use Rattle.sty_sheet.specs.Records.{Record}
 use Rattle.usfm_token.specs.Tokens.{MarkParts, Lexeme, mark, words, mark_bytes, tokens_of}
 use Rattle.verse_cut.specs.Keys.{key_below, text_after}
-use Rattle.segment_check.specs.Scenes.{verse_behind}
+use Rattle.segment_check.specs.Scenes.{mark_verse}
 use Rattle.segment_check.specs.Spots.{Spot}
 use Rattle.segment_check.specs.TreeConditions.{unknown_marker, stray_close, unclosed_char}
 use Rattle.segment_check.specs.TreeConditions.{unclosed_note, too_deep, not_under}
 use Rattle.segment_check.specs.NumberConditions.{lacks_number, has_bad_bridge, reaches}
-use Rattle.segment_check.specs.Numbers.{chapter_behind, key_by}
+use Rattle.segment_check.specs.Numbers.{mark_chapter, key_by}
 use Rattle.segment_check.specs.Findings.{all_codes}
 use Rattle.segment_check.specs.declared.code.Code.{Code}
 use Rattle.segment_check.specs.declared.code.Code.TheVariants as code
@@ -106,21 +106,21 @@ reach_with reach (Some v) = further reach v.last
 -- which conditions hold of a mark from a state on: those that the tree says, and those of its number
 abbrev pub held_at : State → ℕ → MarkParts → List ℕ → Held
 held_at st at m after =
-    let key = key_by st.key.chapter (chapter_behind m after) (verse_behind m after) in record {
+    let key = key_by st.key.chapter (mark_chapter m after) (mark_verse m after) in record {
       seen = seen_first at st.seen;
       bad_number = lacks_number m after;
       bad_bridge = has_bad_bridge m after;
       not_rising = is_some key && not (is_above st.key key);
       overlap =
-          is_above st.key key && option_map_or (any_reaches st.reach) (verse_behind m after) false;
+          is_above st.key key && option_map_or (any_reaches st.reach) (mark_verse m after) false;
     }
 
 -- the state after a mark
-abbrev pub behind : State → ℕ → MarkParts → List ℕ → State
-behind st at m after =
-    let key = key_by st.key.chapter (chapter_behind m after) (verse_behind m after) in record {
+abbrev pub state_after : State → ℕ → MarkParts → List ℕ → State
+state_after st at m after =
+    let key = key_by st.key.chapter (mark_chapter m after) (mark_verse m after) in record {
       key = key_then st.key key;
-      reach = if is_above st.key key then reach_with st.reach (verse_behind m after) else st.reach;
+      reach = if is_above st.key key then reach_with st.reach (mark_verse m after) else st.reach;
       seen = seen_rest at st.seen;
     }
 
@@ -149,7 +149,7 @@ finding_if holds c start key =
 
 -- what is found at a mark from a state on
 abbrev pub found_with : State → ℕ → MarkParts → List ℕ → List Finding
-found_with st at m after = findings_with (held_at st at m after) at (behind st at m after).key
+found_with st at m after = findings_with (held_at st at m after) at (state_after st at m after).key
 
 -- what is found from a state on, at tokens from a place on
 abbrev pub found_from : State → ℕ → List Lexeme → List Finding
@@ -157,7 +157,7 @@ found_from st at [] = []
 found_from st at (words t ∷ ts) = found_from st (at + length t) ts
 found_from st at (mark m ∷ ts) =
     found_with st at m (text_after ts)
-    ++ found_from (behind st at m (text_after ts)) (at + length (mark_bytes m)) ts
+    ++ found_from (state_after st at m (text_after ts)) (at + length (mark_bytes m)) ts
 
 -- the state before all marks: the open piece is that of the book head, and no bridge was read
 abbrev pub start_state : List Seen → State

@@ -6,7 +6,7 @@ use Rattle.usfm_ref.specs.Keys.{KeyParts}
 use Rattle.usfm_ref.specs.Numbers.{verse_in}
 use Rattle.usfm_ref.specs.declared.number.VerseMark.{VerseMark}
 use Rattle.usfm_token.specs.Tokens.{MarkParts, tokens_of}
-use Rattle.verse_cut.specs.Marks.{Site, sites_from, chapter_in_force, key_behind, keyed_behind, opens}
+use Rattle.verse_cut.specs.Marks.{Site, sites_from, chapter_in_force, key_after, keyed_after, opens}
 
 -- a mark, and the marks before it
 pub record Scene : Type 0 where
@@ -14,14 +14,14 @@ pub record Scene : Type 0 where
   pub here : Site
 
 -- marks that come after others, each with all before it
-abbrev pub scenes_behind : List Site → List Site → List Scene
-scenes_behind before [] = []
-scenes_behind before (s ∷ ss) =
-    record { before = before; here = s } ∷ scenes_behind (before ++ s ∷ []) ss
+abbrev pub scenes_after : List Site → List Site → List Scene
+scenes_after before [] = []
+scenes_after before (s ∷ ss) =
+    record { before = before; here = s } ∷ scenes_after (before ++ s ∷ []) ss
 
 -- the marks of a text, each with all marks before it
 unfoldable pub scenes_of : List ℕ → List Scene
-scenes_of s = scenes_behind [] (sites_from 0 (tokens_of s))
+scenes_of s = scenes_after [] (sites_from 0 (tokens_of s))
 
 -- the chapter in force before a mark: the greatest number of the chapter marks before it, and 0 where there is none
 abbrev pub chapter_of : Scene → ℕ
@@ -29,12 +29,12 @@ chapter_of scene = chapter_in_force 0 scene.before
 
 -- the key of a mark with all marks before it, if it has one
 abbrev pub key_of : Scene → Option KeyParts
-key_of scene = key_behind 0 scene.before scene.here
+key_of scene = key_after 0 scene.before scene.here
 
 -- whether a mark would open a piece by a key: one greater than the book head and than the key of every mark before
 -- it
 abbrev pub opens_by : Scene → KeyParts → Bool
-opens_by scene k = opens (keyed_behind 0 [] scene.before) (record { key = k; at = scene.here.at })
+opens_by scene k = opens (keyed_after 0 [] scene.before) (record { key = k; at = scene.here.at })
 
 -- whether a mark opens a piece
 abbrev pub opens_piece : Scene → Bool
@@ -45,10 +45,10 @@ abbrev pub is_plain_mark : List ℕ → MarkParts → Bool
 is_plain_mark name m = not (m.nested || m.closing) && bytes_eq m.name name
 
 -- the verse that comes after a mark `\v`
-abbrev pub verse_behind : MarkParts → List ℕ → Option VerseMark
-verse_behind m after = if is_plain_mark (codes "v") m then verse_in after else None
+abbrev pub mark_verse : MarkParts → List ℕ → Option VerseMark
+mark_verse m after = if is_plain_mark (codes "v") m then verse_in after else None
 
 -- the verse of a mark `\v` that opens a piece
 abbrev pub opened_verse : Scene → Option VerseMark
 opened_verse scene =
-    if opens_piece scene then verse_behind scene.here.parts scene.here.after else None
+    if opens_piece scene then mark_verse scene.here.parts scene.here.after else None

@@ -13,7 +13,7 @@ ghost use Rattle.verse_cut.specs.Loops.Walks.{IsFirst};
 use crate::code::Code;
 use crate::finding::Finding;
 use crate::numbers::{
-    chapter_behind, fails_bridge, further, key_of, lacks_number, reaches, verse_behind,
+    fails_bridge, further, key_of, lacks_number, mark_chapter, mark_verse, reaches,
 };
 use crate::seen::Seen;
 use std::alloc::{AllocError, Global};
@@ -54,7 +54,7 @@ fn unseen(start: usize) -> Seen
 }
 
 impl Walk<'_> {
-    ghost use Rattle.segment_check.specs.Reading.{behind, found_with, held_at, seen_first, seen_rest};
+    ghost use Rattle.segment_check.specs.Reading.{state_after, found_with, held_at, seen_first, seen_rest};
     ghost use Rattle.segment_check.specs.Loops.WalkViews.{state_of};
 
     // Takes what the tree says of the mark that begins here.
@@ -76,12 +76,12 @@ impl Walk<'_> {
     fn take(&mut self, start: usize, mark: Mark<'_>, after: &str) -> Held
         ensures held { let st = state_of self.old in
             result ≡ held_at st start (mark_parts mark.entry) after.now }
-        ensures behind { let st = state_of self.old in
-            state_of self.new ≡ behind st start (mark_parts mark.entry) after.now }
+        ensures state_after { let st = state_of self.old in
+            state_of self.new ≡ state_after st start (mark_parts mark.entry) after.now }
     {
         let seen = self.take_seen(start);
-        let verse = verse_behind(mark, after);
-        let key = key_of(self.key.chapter, chapter_behind(mark, after), verse);
+        let verse = mark_verse(mark, after);
+        let key = key_of(self.key.chapter, mark_chapter(mark, after), verse);
         let opens = is_above(self.key, key);
         let held = Held {
             seen,
@@ -108,8 +108,9 @@ impl Walk<'_> {
         ensures found { let st = state_of self.old in
             let found = found_with st start (mark_parts mark.entry) after.now in
             OnOk result (findings.new.items ≡ findings.old.items ++ found) }
-        ensures behind { let st = state_of self.old in
-            OnOk result (state_of self.new ≡ behind st start (mark_parts mark.entry) after.now) }
+        ensures state_after { let st = state_of self.old in
+            OnOk result (state_of self.new
+            ≡ state_after st start (mark_parts mark.entry) after.now) }
     {
         let held = self.take(start, mark, after);
         let key = self.key;

@@ -21,8 +21,8 @@ fn is_plain(mark: Mark<'_>) -> bool
 }
 
 // The verse after a mark `\v`.
-pub(crate) fn verse_behind(mark: Mark<'_>, after: &str) -> Option<VerseMark>
-    ensures value { result ≡ scenes.verse_behind (mark_parts mark.entry) after.now }
+pub(crate) fn mark_verse(mark: Mark<'_>, after: &str) -> Option<VerseMark>
+    ensures value { result ≡ scenes.mark_verse (mark_parts mark.entry) after.now }
     ensures in_range { IfSome result (λ v. IsTrue (is_verse (v.number, v.letter))) }
 {
     if is_plain(mark) && mark.name() == "v" {
@@ -33,8 +33,8 @@ pub(crate) fn verse_behind(mark: Mark<'_>, after: &str) -> Option<VerseMark>
 }
 
 // The chapter after a mark `\c`.
-pub(crate) fn chapter_behind(mark: Mark<'_>, after: &str) -> Option<u16>
-    ensures value { result ≡ numbers.chapter_behind (mark_parts mark.entry) after.now }
+pub(crate) fn mark_chapter(mark: Mark<'_>, after: &str) -> Option<u16>
+    ensures value { result ≡ numbers.mark_chapter (mark_parts mark.entry) after.now }
     ensures in_range { IfSome result (λ number. number ≤ 999) }
 {
     if is_plain(mark) && mark.name() == "c" {

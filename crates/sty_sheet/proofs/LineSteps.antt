@@ -4,14 +4,14 @@ use Rattle.std.specs.Iterator.{AlwaysYields}
 use Rattle.std.specs.Str.Iter.{lines_steps}
 use denote.Ref.{Bor}
 use Rattle.std.specs.declared.str.Lines.{Lines}
-use Rattle.sty_sheet.specs.Lines.{begins, behind_feff}
+use Rattle.sty_sheet.specs.Lines.{begins, after_feff}
 
 feff_by : (bs : List ℕ) (t : Bool) → length (cond t (drop 3 bs) bs) ≤ length bs
 feff_by bs true = omega (arith, length-drop 3 bs)
 feff_by bs false = omega arith
 
 -- without a U+FEFF in front no more bytes are left
-pub feff_le : (bs : List ℕ) → length (behind_feff bs) ≤ length bs
+pub feff_le : (bs : List ℕ) → length (after_feff bs) ≤ length bs
 feff_le bs = feff_by bs (begins (239 ∷ 187 ∷ 191 ∷ []) bs)
 
 -- a line that an iterator gives is the first of those that it has left

@@ -5,7 +5,7 @@
 use Rattle.std.specs.Prelude.{ℕ, ◌==◌, Bool, true, false, List, [], ◌∷◌, map, Option, None, Some, if◌then◌else◌, codes}
 use Rattle.std.specs.Str.{str_eq_ignore_ascii_case}
 use Rattle.std.specs.Str.Lines.{lines}
-use Rattle.sty_sheet.specs.Lines.{body, first_word, behind_word, behind_feff, trimmed}
+use Rattle.sty_sheet.specs.Lines.{body, first_word, after_word, after_feff, trimmed}
 use Rattle.sty_sheet.specs.declared.kind.StyleKind.{StyleKind}
 use Rattle.sty_sheet.specs.declared.kind.StyleKind.TheVariants as kinds
 
@@ -35,13 +35,13 @@ field_named key value =
     else passed
 
 -- the field after a backslash: its name up to a blank, and its value without the blanks around it
-abbrev pub field_behind : List ℕ → Field
-field_behind bs = field_named (first_word bs) (trimmed (behind_word bs))
+abbrev pub field_after : List ℕ → Field
+field_after bs = field_named (first_word bs) (trimmed (after_word bs))
 
 -- a line that does not begin with a backslash (92) is passed over
 abbrev pub field_of_body : List ℕ → Field
 field_of_body [] = passed
-field_of_body (b ∷ bs) = if b == 92 then field_behind bs else passed
+field_of_body (b ∷ bs) = if b == 92 then field_after bs else passed
 
 -- the field of a line, or that the line is passed over
 abbrev pub field_of : List ℕ → Field
@@ -49,7 +49,7 @@ field_of line = field_of_body (body line)
 
 -- the fields of a sheet, one for each line
 abbrev pub fields_of : List ℕ → List Field
-fields_of text = map field_of (lines (behind_feff text))
+fields_of text = map field_of (lines (after_feff text))
 
 -- the style type that a value names, if it is one of the four
 abbrev pub kind_named : List ℕ → Option StyleKind

@@ -2,7 +2,7 @@
 
 ghost use Rattle.std.specs.Prelude.{◌≡◌};
 ghost use Rattle.sty_sheet.specs.Loops.FieldViews.{field_view};
-ghost use Rattle.sty_sheet.specs.Fields.{field_named, field_behind, field_of};
+ghost use Rattle.sty_sheet.specs.Fields.{field_named, field_after, field_of};
 
 use crate::line::body;
 use crate::words::{is_word, split_word, trimmed};
@@ -44,8 +44,8 @@ fn field_named<'s>(key: &str, value: &'s str) -> Field<'s>
 }
 
 // The field after a backslash.
-fn field_behind(text: &str) -> Field<'_>
-    ensures { field_view result ≡ field_behind text.now }
+fn field_after(text: &str) -> Field<'_>
+    ensures { field_view result ≡ field_after text.now }
 {
     let (key, rest) = split_word(text);
     field_named(key, trimmed(rest))
@@ -59,5 +59,5 @@ pub(crate) fn field_of(line: &str) -> Field<'_>
     if counts.is_empty() || counts.as_bytes()[0] != b'\\' {
         return Field::Passed;
     }
-    field_behind(&counts[1..])
+    field_after(&counts[1..])
 }

@@ -1,9 +1,9 @@
 //! What counts of a line.
 
 ghost use Rattle.std.specs.Prelude.{◌≡◌, true};
-ghost use Rattle.sty_sheet.specs.Lines.{comment_at, uncommented, behind_bang, behind_feff, body};
+ghost use Rattle.sty_sheet.specs.Lines.{comment_at, uncommented, after_bang, after_feff, body};
 
-use crate::words::{behind_blanks, is_blank};
+use crate::words::{after_blanks, is_blank};
 
 // How many bytes come before the comment, or the end.
 fn comment_at(bytes: &[u8]) -> usize
@@ -26,18 +26,18 @@ fn uncommented(text: &str) -> &str
 }
 
 // One `#!` at the front is passed over, with the blanks after it.
-fn behind_bang(text: &str) -> &str
-    ensures { result.now ≡ behind_bang text.now }
+fn after_bang(text: &str) -> &str
+    ensures { result.now ≡ after_bang text.now }
 {
     match text.strip_prefix("#!") {
         None => text,
-        Some(rest) => behind_blanks(rest),
+        Some(rest) => after_blanks(rest),
     }
 }
 
 // U+FEFF at the very start is passed over.
-pub(crate) fn behind_feff(text: &str) -> &str
-    ensures { result.now ≡ behind_feff text.now }
+pub(crate) fn after_feff(text: &str) -> &str
+    ensures { result.now ≡ after_feff text.now }
 {
     text.strip_prefix("\u{feff}").unwrap_or(text)
 }
@@ -45,5 +45,5 @@ pub(crate) fn behind_feff(text: &str) -> &str
 pub(crate) fn body(line: &str) -> &str
     ensures { result.now ≡ body line.now }
 {
-    uncommented(behind_bang(behind_blanks(line)))
+    uncommented(after_bang(after_blanks(line)))
 }

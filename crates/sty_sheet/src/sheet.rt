@@ -4,7 +4,7 @@ ghost use Rattle.sty_sheet.specs.Listing.{styles_in};
 
 use crate::fault::SheetFault;
 use crate::field::field_of;
-use crate::line::behind_feff;
+use crate::line::after_feff;
 use crate::listed::Listed;
 use crate::reader::Reader;
 use crate::style::Style;
@@ -51,7 +51,7 @@ impl<'s> Sheet<'s> {
     {
         let mut reader = Reader::new(alloc);
         let mut number = 0;
-        for line in behind_feff(text).lines() {
+        for line in after_feff(text).lines() {
             number += 1;
             reader.take(field_of(line), number)?;
         }

@@ -10,7 +10,7 @@ ghost use Rattle.sty_sheet.specs.Views.{record_of, words_left};
 use crate::field::Field;
 use crate::kind::StyleKind;
 use crate::under::UnderWords;
-use crate::words::{behind_blanks, closing_name, is_word, kind_named, word_at};
+use crate::words::{after_blanks, closing_name, is_word, kind_named, word_at};
 
 /// The record of a marker. Its texts are slices of the sheet's text.
 #[derive(Clone, Copy, Debug)]
@@ -65,7 +65,7 @@ impl<'s> Style<'s> {
     pub fn has_under_words(&self) -> bool
         ensures { result ≡ not (length (record_of self.now).under == 0) }
     {
-        !behind_blanks(self.under).is_empty()
+        !after_blanks(self.under).is_empty()
     }
 
     /// The field StyleType, `None` if there is none.

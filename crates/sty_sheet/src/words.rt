@@ -3,7 +3,7 @@
 ghost use Rattle.std.specs.Prelude.{◌≡◌, ◌≢◌, [], ◌∷◌, MatchOption, length, slice_get, IsUtf8};
 ghost use Rattle.std.specs.List.{prefix_len, suffix_len};
 ghost use Rattle.std.specs.Option.{option_map};
-ghost use Rattle.sty_sheet.specs.Lines.{is_blank, not_blank, behind_blanks, trimmed, first_word, behind_word};
+ghost use Rattle.sty_sheet.specs.Lines.{is_blank, not_blank, after_blanks, trimmed, first_word, after_word};
 ghost use Rattle.sty_sheet.specs.Fields.{is_word, kind_named};
 ghost use Rattle.sty_sheet.specs.Records.{words_of, without_star, closing_name};
 
@@ -37,8 +37,8 @@ fn word_len(bytes: &[u8]) -> usize
 }
 
 // The text without the blanks at its front.
-pub(crate) fn behind_blanks(text: &str) -> &str
-    ensures { result.now ≡ behind_blanks text.now }
+pub(crate) fn after_blanks(text: &str) -> &str
+    ensures { result.now ≡ after_blanks text.now }
 {
     text.split_at(blanks_in_front(text.as_bytes())).1
 }
@@ -47,7 +47,7 @@ pub(crate) fn behind_blanks(text: &str) -> &str
 pub(crate) fn trimmed(text: &str) -> &str
     ensures { result.now ≡ trimmed text.now }
 {
-    let front = behind_blanks(text);
+    let front = after_blanks(text);
     front
         .split_at(front.len() - blanks_at_end(front.as_bytes()))
         .0
@@ -56,7 +56,7 @@ pub(crate) fn trimmed(text: &str) -> &str
 // The text up to the first blank, and what follows.
 pub(crate) fn split_word(text: &str) -> (&str, &str)
     ensures word { result.0.now ≡ first_word text.now }
-    ensures rest { result.1.now ≡ behind_word text.now }
+    ensures rest { result.1.now ≡ after_word text.now }
     ensures utf8 { IsUtf8 result.1.now }
 {
     text.split_at(word_len(text.as_bytes()))
@@ -67,7 +67,7 @@ pub(crate) fn next_word(text: &str) -> Option<(&str, &str)>
     ensures { let words = words_of text.now in
         MatchOption result (words ≡ []) (λ p. words ≡ p.0.now ∷ words_of p.1.now) }
 {
-    let (word, rest) = split_word(behind_blanks(text));
+    let (word, rest) = split_word(after_blanks(text));
     if word.is_empty() {
         None
     } else {

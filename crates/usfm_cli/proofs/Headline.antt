@@ -15,7 +15,7 @@ use Rattle.usfm_cli.specs.Commands.{export_text}
 use Rattle.usfm_cli.specs.Streams.{unless_clash, union_with, HasBundle, book_in}
 use Rattle.usfm_cli.specs.Headline.{Replica, Project, Stream, ProjectHolds, Accepted, book_of}
 use Rattle.usfm_cli.specs.Headline.{SameOperationsSameBytes, SameOperationsSameReport}
-use Rattle.usfm_cli.specs.Executing.{executed, file_after}
+use Rattle.usfm_cli.specs.Projects.{executed, file_after}
 use Rattle.usfm_cli.specs.ExecLaws.{output_of}
 use Rattle.usfm_cli.specs.declared.command.Command.{Command}
 use Rattle.usfm_cli.specs.declared.command.Command.TheVariants.{Report}

@@ -6,7 +6,7 @@ use Rattle.replica_state.specs.States.{State}
 use Rattle.project_file.specs.Projects.{project, project_at}
 use Rattle.project_file.proofs.Files.{project_is}
 use Rattle.usfm_cli.specs.Commands.{Done, outcome, is_late}
-use Rattle.usfm_cli.specs.Executing.{Written, written, of_loaded, executed, file_or, file_after, state_or, state_after}
+use Rattle.usfm_cli.specs.Projects.{Written, written, of_loaded, executed, file_or, file_after, state_or, state_after}
 use Rattle.usfm_cli.specs.Turns.{InTurn, after_one, done_before, in_turn, one_more, written_in_turn, loaded_in_turn, executed_in_turn}
 use Rattle.usfm_cli.specs.Turns.{RefusedFor, RefusedIn, AnswersInTurn, is_memory, is_of_memory}
 use Rattle.usfm_cli.specs.Turns.{written_before, one_after_another, InTurnIsOneAfterAnother, AcceptedIsFileAfter}

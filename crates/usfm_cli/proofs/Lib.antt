@@ -6,9 +6,11 @@ pub mod RefusedStreams
 pub mod StreamLemmas
 pub mod SummariesRead
 pub mod BooksCutBack
+pub mod BooksFolded
 pub mod ReadTheSame
 pub mod ReadAlike
 pub mod Running
+pub mod Seen
 pub mod Searched
 pub mod Headline
 pub mod InTurn
@@ -17,3 +19,4 @@ pub mod ListTests
 pub mod ShownSets
 pub mod ShownByKeys
 pub mod Conflicts
+pub mod Received

@@ -1,7 +1,7 @@
 -- Tests of lists: of those that are filtered, mapped and put together, and tests that pass less or more.
-use Rattle.std.proofs.Common.{◌≡◌, Bool, true, false, cond, ◌&&◌, ◌||◌, List, [], ◌∷◌, map, filter}
+use Rattle.std.proofs.Common.{◌≡◌, Bool, true, false, cond, ◌||◌, List, [], ◌∷◌, map, filter}
 use Rattle.std.proofs.Common.{refl, sym, ap, ◌∙◌}
-use Rattle.std.specs.List.{list_any, flat_map, AllByRecursion}
+use Rattle.std.specs.List.{list_any, flat_map}
 use Rattle.std.specs.declared.cmp.Ordering.{Ordering}
 use Rattle.std.specs.declared.cmp.Ordering.TheVariants.{Less, Equal, Greater}
 use Rattle.std.specs.Ordering.{is_eq}
@@ -9,26 +9,6 @@ use Rattle.std.proofs.lemmas.Bool.{false≢true}
 use Rattle.std.proofs.lemmas.List.Folds.{list_any-append}
 use Rattle.usfm_ref.specs.Keys.{KeyParts, key_cmp}
 use Rattle.usfm_ref.proofs.Orders.{key_exact}
-
--- to filter by one test and then by another is to filter by both
-pub filter_both : {X : Type 0} (p q r : X → Bool) → ((x : X) → (q x && p x) ≡ r x) → (xs : List X) → filter p (filter q xs) ≡ filter r xs
-filter_both p q r f [] = refl
-filter_both {X} p q r f (x ∷ xs) = by (filter_both p q r f xs) (q x) (r x) (f x)
-  where
-    by : filter p (filter q xs) ≡ filter r xs → (b c : Bool) → (b && p x) ≡ c
-        → filter p (cond b (x ∷ filter q xs) (filter q xs)) ≡ cond c (x ∷ filter r xs) (filter r xs)
-    by rest true c f = (λ i. cond (f i) (x ∷ rest i) (rest i))
-    by rest false c f = rest ∙ ap (λ (d : Bool). cond d (x ∷ filter r xs) (filter r xs)) f
-
--- a test passes in a filtered list where both tests pass in the list
-pub any_filter : {X : Type 0} (p q : X → Bool) (xs : List X) → list_any p (filter q xs) ≡ list_any (λ x. q x && p x) xs
-any_filter p q [] = refl
-any_filter {X} p q (x ∷ xs) = by (any_filter p q xs) (q x)
-  where
-    by : list_any p (filter q xs) ≡ list_any (λ y. q y && p y) xs → (b : Bool)
-        → list_any p (cond b (x ∷ filter q xs) (filter q xs)) ≡ ((b && p x) || list_any (λ y. q y && p y) xs)
-    by rest true = ap (λ b. p x || b) rest
-    by rest false = rest
 
 -- a test passes in a mapped list where it passes of an image
 pub any_map : {X Y : Type 0} (p : Y → Bool) (f : X → Y) (xs : List X) → list_any p (map f xs) ≡ list_any (λ x. p (f x)) xs
@@ -93,12 +73,3 @@ pub same_tests : (a b : Bool) → (a ≡ true → b ≡ true) → (b ≡ true �
 same_tests true b f g = sym (f refl)
 same_tests false true f g = g refl
 same_tests false false f g = refl
-
--- what holds of all of a list holds of all that is left of it
-pub kept_each : {X : Type 0} (P : X → Type 0) (p : X → Bool) (xs : List X) → AllByRecursion P xs → AllByRecursion P (filter p xs)
-kept_each P p [] all = tt
-kept_each {X} P p (x ∷ xs) all = by (kept_each P p xs all.1) (p x)
-  where
-    by : AllByRecursion P (filter p xs) → (b : Bool) → AllByRecursion P (cond b (x ∷ filter p xs) (filter p xs))
-    by rest true = (all.0, rest)
-    by rest false = rest

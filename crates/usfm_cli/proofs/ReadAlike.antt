@@ -24,7 +24,7 @@ use Rattle.usfm_cli.specs.Commands.{export_text}
 use Rattle.usfm_cli.specs.Streams.{unless_clash, union_in, union_with, AreSpelled, book_in}
 use Rattle.usfm_cli.specs.Streams.{book_of_stream}
 use Rattle.usfm_cli.specs.StreamLaws.{one_holds, FoldAlike}
-use Rattle.usfm_cli.specs.Executing.{executed}
+use Rattle.usfm_cli.specs.Projects.{executed}
 use Rattle.usfm_cli.specs.ExecLaws.{output_of, ReadTheSame}
 use Rattle.usfm_cli.specs.declared.command.Command.TheVariants.{Export}
 use Rattle.usfm_cli.specs.declared.fault.Fault.TheVariants.{NoBook}

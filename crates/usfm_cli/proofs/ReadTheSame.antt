@@ -12,7 +12,7 @@ use Rattle.replica_state.specs.States.{State, IsState}
 use Rattle.project_file.specs.Projects.{project_at}
 use Rattle.conflict_report.specs.Reports.{report}
 use Rattle.usfm_cli.specs.Commands.{done_if, export_text}
-use Rattle.usfm_cli.specs.Executing.{written, of_loaded, executed}
+use Rattle.usfm_cli.specs.Projects.{written, of_loaded, executed}
 use Rattle.usfm_cli.specs.ExecLaws.{output_of, HoldTheSame, ReadTheSame}
 use Rattle.usfm_cli.specs.declared.command.Command.TheVariants.{Export, Report}
 use Rattle.usfm_cli.specs.declared.fault.Fault.{Fault}

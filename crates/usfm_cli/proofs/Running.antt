@@ -3,7 +3,7 @@ use Rattle.std.proofs.Common.{◌≡◌, ℕ, List, ◌∷◌, Result, Ok, Err, 
 use Rattle.replica_state.specs.States.{State}
 use Rattle.project_file.specs.Projects.{project_at}
 use Rattle.usfm_cli.specs.Commands.{Done, outcome}
-use Rattle.usfm_cli.specs.Executing.{written, of_loaded, executed, file_or, file_after, state_or, state_after}
+use Rattle.usfm_cli.specs.Projects.{written, of_loaded, executed, file_or, file_after, state_or, state_after}
 use Rattle.usfm_cli.specs.declared.command.Command.{Command}
 use Rattle.usfm_cli.specs.declared.fault.Fault.{Fault}
 

@@ -28,8 +28,8 @@ use Rattle.op_core.proofs.Union.{met_none, get-put, rises-put, put_held, held_it
 use Rattle.usfm_cli.specs.Standing.{is_shown_in_book, shown_set}
 use Rattle.usfm_cli.proofs.Puts.{put_all}
 use Rattle.replica_state.proofs.ImportedTexts.{any_found}
-use Rattle.usfm_cli.proofs.ListTests.{any_filter, any_map, any_flat, any_of_more, key_passes}
-use Rattle.usfm_cli.proofs.ListTests.{same_tests}
+use Rattle.op_core.proofs.FilteredLists.{any_filter}
+use Rattle.usfm_cli.proofs.ListTests.{any_map, any_flat, any_of_more, key_passes, same_tests}
 use Rattle.usfm_cli.proofs.ShownSets.{passes_both, shown_is_full, shown_is_set}
 
 -- ---- operations put into a set

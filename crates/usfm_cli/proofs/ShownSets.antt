@@ -20,6 +20,7 @@ use Rattle.op_core.specs.Shown.{is_replaced, is_shown, shown, last, text_in, tex
 use Rattle.op_core.specs.Shown.{is_verse_with_text, has_verse_text, greatest, pick, picked_text}
 use Rattle.op_core.specs.Shown.{Line}
 use Rattle.op_core.specs.Export.{of_book, has_book, keys_in, exported_keys, export}
+use Rattle.op_core.proofs.FilteredLists.{filter_both, any_filter, kept_each}
 use Rattle.op_core.proofs.Filters.{rises-filter, filter_within, filter_kept, all_of_filter}
 use Rattle.op_core.proofs.Gets.{AnyHeld, any_held, any_from}
 use Rattle.op_core.proofs.Shows.{shows_one}
@@ -27,8 +28,7 @@ use Rattle.bundle_codec.specs.Spelling.{bundle}
 use Rattle.bundle_codec.proofs.Wholes.{whole_reads}
 use Rattle.usfm_cli.specs.Folders.{is_export, makes}
 use Rattle.usfm_cli.specs.Standing.{is_shown_in_book, shown_set}
-use Rattle.usfm_cli.proofs.ListTests.{filter_both, any_filter, any_map, any_flat, none_of_less}
-use Rattle.usfm_cli.proofs.ListTests.{filter_none, same_tests, kept_each}
+use Rattle.usfm_cli.proofs.ListTests.{any_map, any_flat, none_of_less, filter_none, same_tests}
 
 module _ (held : List Operation) (book : List ℕ) (set : IsOpSet held) where
   -- ---- what a segment of the book shows

@@ -19,7 +19,7 @@ use Rattle.replica_state.specs.States.{State, IsState}
 use Rattle.replica_state.proofs.DeltasJoined.{delta_joined}
 use Rattle.project_file.specs.Projects.{project, project_at}
 use Rattle.usfm_cli.specs.Commands.{line_of, delta_for, done, done_if, with_bundle}
-use Rattle.usfm_cli.specs.Executing.{executed, of_loaded, written}
+use Rattle.usfm_cli.specs.Projects.{executed, of_loaded, written}
 use Rattle.usfm_cli.specs.ExecLaws.{output_of}
 use Rattle.usfm_cli.specs.declared.command.Command.TheVariants.{Receive, Summary, Delta}
 

@@ -24,11 +24,11 @@ use Rattle.replica_state.specs.Steps as steps
 use Rattle.replica_state.specs.Since.{SinceStep, imported_since}
 use Rattle.replica_state.specs.declared.fault.SinceFault.{SinceFault}
 use Rattle.replica_state.specs.Steps.{Step, Reply, Received, Edited, Imported, Thinned, step}
-use Rattle.bundle_codec.specs.Summaries.{Known, summary, summary_of, outside}
+use Rattle.bundle_codec.specs.Summaries.{NameRanges, summary, summary_of, outside}
 use Rattle.bundle_codec.specs.SummaryReading.{read_summary}
 use Rattle.conflict_report.specs.Reports.{report}
 use Rattle.usfm_cli.specs.Faults.{of_receiving, of_edit, of_import, of_since, of_whole, of_book}
-use Rattle.usfm_cli.specs.Looking.{checked, searched, listed, is_after_sheet}
+use Rattle.usfm_cli.specs.SheetReports.{checked, searched, listed, is_after_sheet}
 use Rattle.usfm_cli.specs.declared.command.Command.{Command}
 use Rattle.usfm_cli.specs.declared.command.Command.TheVariants.{Import, ImportSince, ImportNew}
 use Rattle.usfm_cli.specs.declared.command.Command.TheVariants.{Edit, EditOver, Receive}
@@ -143,7 +143,7 @@ abbrev pub export_text : List Operation → List ℕ → Result (List ℕ) Fault
 export_text held book = if has_book held book then Ok (export held book) else Err NoBook
 
 -- the bundle of what lies outside a summary, or that there is no summary
-abbrev pub delta_for : List Operation → Option (List Known) → Result (List ℕ) Fault
+abbrev pub delta_for : List Operation → Option (List NameRanges) → Result (List ℕ) Fault
 delta_for held (Some known) = Ok (bundle (outside known held))
 delta_for held None = Err BadSummary
 

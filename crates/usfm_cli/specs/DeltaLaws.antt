@@ -12,7 +12,7 @@ use Rattle.replica_state.specs.States.{State, IsState}
 use Rattle.replica_state.specs.Receives.{lacked}
 use Rattle.project_file.specs.Projects.{project, project_at}
 use Rattle.usfm_cli.specs.Commands.{line_of}
-use Rattle.usfm_cli.specs.Executing.{executed}
+use Rattle.usfm_cli.specs.Projects.{executed}
 use Rattle.usfm_cli.specs.ExecLaws.{output_of}
 use Rattle.usfm_cli.specs.declared.command.Command.TheVariants.{Receive, Summary, Delta}
 

@@ -11,7 +11,7 @@ use Rattle.replica_state.specs.States.{State, IsState}
 use Rattle.project_file.specs.Projects.{project_at}
 use Rattle.usfm_cli.specs.Streams.{AreSpelled, union_in, book_of_stream}
 use Rattle.usfm_cli.specs.StreamLaws.{one_holds}
-use Rattle.usfm_cli.specs.Executing.{Written, executed, file_after}
+use Rattle.usfm_cli.specs.Projects.{Written, executed, file_after}
 use Rattle.usfm_cli.specs.declared.command.Command.{Command}
 use Rattle.usfm_cli.specs.declared.command.Command.TheVariants.{Export, Report}
 use Rattle.usfm_cli.specs.declared.fault.Fault.{Fault}

@@ -14,6 +14,8 @@ use Rattle.bundle_codec.specs.declared.fault.BundleFault.{BundleFault}
 use Rattle.bundle_codec.specs.declared.fault.BundleFault.TheVariants as bundle
 use Rattle.bundle_codec.specs.declared.fault.WholeFault.{WholeFault}
 use Rattle.bundle_codec.specs.declared.fault.WholeFault.TheVariants as whole
+use Rattle.bundle_codec.specs.declared.fault.JoinFault.{JoinFault}
+use Rattle.bundle_codec.specs.declared.fault.JoinFault.TheVariants as joining
 use Rattle.replica_state.specs.declared.fault.ReceiveFault.{ReceiveFault}
 use Rattle.replica_state.specs.declared.fault.ReceiveFault.TheVariants as receiving
 use Rattle.replica_state.specs.declared.fault.EditFault.{EditFault}
@@ -60,6 +62,12 @@ of_bundle fault = Bundle fault
 abbrev pub of_whole : WholeFault → Fault
 of_whole (whole.Bundle fault) = of_bundle fault
 of_whole whole.Trailing = Trailing
+
+-- the fault of two bundles that are not joined
+abbrev pub of_joining : JoinFault → Fault
+of_joining joining.Memory = Memory
+of_joining (joining.Bundle fault) = of_whole fault
+of_joining (joining.Clash id) = Clash id
 
 -- the fault of a bundle that is not received
 abbrev pub of_receiving : ReceiveFault → Fault

@@ -8,7 +8,7 @@ use Rattle.bundle_codec.specs.Reading.{AreBytes}
 use Rattle.replica_state.specs.States.{State}
 use Rattle.project_file.specs.Projects.{project_at}
 use Rattle.usfm_cli.specs.Streams.{union_in, book_of_stream}
-use Rattle.usfm_cli.specs.Executing.{executed, file_after}
+use Rattle.usfm_cli.specs.Projects.{executed, file_after}
 use Rattle.usfm_cli.specs.ExecLaws.{output_of}
 use Rattle.usfm_cli.specs.declared.command.Command.{Command}
 use Rattle.usfm_cli.specs.declared.command.Command.TheVariants.{Export, Report}

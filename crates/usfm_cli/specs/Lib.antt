@@ -1,9 +1,10 @@
 pub mod Reading
 pub mod Faults
 pub mod Lines
-pub mod Looking
+pub mod SheetReports
 pub mod Commands
-pub mod Executing
+pub mod Seen
+pub mod Projects
 pub mod Turns
 pub mod Folders
 pub mod Standing
@@ -15,3 +16,4 @@ pub mod StreamLaws
 pub mod Headline
 pub mod Books
 pub mod TreeLaws
+pub mod Loops

@@ -11,7 +11,6 @@ use Rattle.op_core.specs.Export.{has_book, export}
 use Rattle.bundle_codec.specs.declared.fault.BundleFault.{BundleFault}
 use Rattle.bundle_codec.specs.Spelling.{bundle, AreCounted}
 use Rattle.bundle_codec.specs.Reading.{bundle_at, TakesMemory}
-use Rattle.replica_state.specs.States.{State}
 use Rattle.usfm_cli.specs.declared.fault.Fault.{Fault}
 use Rattle.usfm_cli.specs.declared.fault.Fault.TheVariants.{Memory, Clash, Bundle, NoBook}
 
@@ -77,10 +76,10 @@ pub data ReceivesOne : List Operation → List ℕ → Type 0 where
       bundle_at bytes ≡ Ok (set, rest) → clash held set ≡ None →
       ReceivesOne (join held set) rest → ReceivesOne held bytes
 
--- what a call that makes the union answers: a replica that holds it, a bundle's fault, a clash, or out of memory, where it
--- received a bundle or judged one with memory
-abbrev pub UnionAnswers : List ℕ → Result State Fault → Type 0
-UnionAnswers input (Ok replica) = union_in [] input ≡ Ok replica.held
+-- what a call that makes the union answers: the union, a bundle's fault, a clash, or out of memory, where it received a
+-- bundle or judged one with memory
+abbrev pub UnionAnswers : List ℕ → Result (List Operation) Fault → Type 0
+UnionAnswers input (Ok union) = union_in [] input ≡ Ok union
 UnionAnswers input (Err Memory) = ReceivesOne [] input
 UnionAnswers input (Err (Clash id)) = union_in [] input ≡ Err (Clash id)
 UnionAnswers input (Err (Bundle fault)) = union_in [] input ≡ Err (Bundle fault)

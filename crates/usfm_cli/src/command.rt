@@ -1,6 +1,7 @@
 // The commands of a project.
 ghost use Rattle.std.specs.Prelude.{◌≡◌};
 ghost use Rattle.usfm_cli.specs.Commands.{only_tells};
+ghost use Rattle.usfm_cli.specs.Seen.{looked_at};
 
 use op_core::OpId;
 use usfm_ref::{Book, Key};
@@ -81,6 +82,30 @@ impl Command<'_> {
             | Command::Check(_, _)
             | Command::Find(_, _, _)
             | Command::Words(_, _) => true,
+        }
+    }
+
+    // The one book that it looks at, if it does not look at all of a project.
+    pub(crate) fn looked_at(&self) -> Option<Book>
+        ensures { result ≡ looked_at self.now }
+    {
+        match *self {
+            Command::Import(_)
+            | Command::ImportSince { .. }
+            | Command::ImportNew(_)
+            | Command::Edit { .. }
+            | Command::EditOver { .. }
+            | Command::Receive(_)
+            | Command::Thin
+            | Command::Send
+            | Command::Summary
+            | Command::Delta(_)
+            | Command::Report => None,
+            Command::Shown(book, _)
+            | Command::Export(book)
+            | Command::Check(book, _)
+            | Command::Find(book, _, _)
+            | Command::Words(book, _) => Some(book),
         }
     }
 }

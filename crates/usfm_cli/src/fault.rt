@@ -4,7 +4,7 @@ ghost use Rattle.usfm_cli.specs.declared.fault.Fault.TheVariants.{Memory, Refere
 ghost use Rattle.usfm_cli.specs.declared.fault.Fault.TheVariants.{Naming, WriteFailed};
 
 use crate::ReadFault;
-use bundle_codec::{BundleFault, SummaryFault, WholeFault};
+use bundle_codec::{BundleFault, JoinFault, SummaryFault, WholeFault};
 use concordance::FindFault;
 use op_core::{IdFault, OpId};
 use project_file::{CreateFault, LoadFault};
@@ -174,6 +174,18 @@ impl From<WholeFault> for Fault {
         match fault {
             WholeFault::Bundle(fault) => Fault::from(fault),
             WholeFault::Trailing => Fault::Trailing,
+        }
+    }
+}
+
+impl From<JoinFault> for Fault {
+    ghost from_gives = { λ from fault. fault ≡ faults.of_joining from };
+
+    fn from(fault: JoinFault) -> Self {
+        match fault {
+            JoinFault::Memory => Fault::Memory,
+            JoinFault::Bundle(fault) => Fault::from(fault),
+            JoinFault::Clash(id) => Fault::Clash(id),
         }
     }
 }

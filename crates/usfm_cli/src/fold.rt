@@ -1,13 +1,15 @@
 // From a stream of bundles to a book.
-ghost use Rattle.std.specs.Prelude.{◌≡◌, OnOk};
+ghost use Rattle.std.specs.Prelude.{◌≡◌, Ok, Err, IfOk, IfErr, OnOk};
+ghost use Rattle.op_core.specs.Sets.{IsOpSet};
+ghost use Rattle.usfm_cli.specs.Loops.Gathered.{held_in};
 ghost use Rattle.usfm_cli.specs.Streams.{UnionAnswers};
 ghost use Rattle.usfm_cli.specs.Books.{WritesBook};
 ghost use Rattle.usfm_cli.specs.Folding.{FoldsStream, source_failures, sink_failures};
 
+use crate::gathered::Gathered;
 use crate::{ByteSource, Fault, read_to_end};
 use bundle_codec::decode;
 use op_core::ReplicaName;
-use replica_state::{Gathering, Replica};
 use std::alloc::Global;
 use usfm_export::{ByteSink, write_book};
 use usfm_ref::Book;
@@ -43,27 +45,26 @@ pub fn fold_stream<R: ByteSource, W: ByteSink>(
     ensures write_failed { W.failures sink.new ≡ sink_failures result (W.failures sink.old) }
 {
     let input = read_to_end(alloc, source)?;
-    let fold = receive_all(alloc, &input)?;
-    write_book(&fold, book, sink)?;
-    Ok(())
+    let gathered = gather_all(alloc, &input)?;
+    // The replica makes no operation, so its name is never seen.
+    let name = ReplicaName::read("fold").unwrap();
+    let fold = gathered.of_book(alloc, name, book)?;
+    Ok(write_book(&fold, book, sink)?)
 }
 
-// A replica that received the bundles that the bytes spell, each before the next is read. It makes no
-// operation, so its name is never seen.
-fn receive_all(alloc: Global, input: &[u8]) -> Result<Replica, Fault>
-    ensures { UnionAnswers input.now result }
+// The operations of the bundles that the bytes spell, each bundle taken in before the next is read.
+fn gather_all(alloc: Global, input: &[u8]) -> Result<Gathered<'_>, Fault>
+    ensures ok { IfOk result (λ gathered. UnionAnswers input.now (Ok (held_in gathered))) }
+    ensures set { IfOk result (λ gathered. IsOpSet (held_in gathered)) }
+    ensures refused { IfErr result (λ fault. UnionAnswers input.now (Err fault)) }
 {
-    let name = ReplicaName::read("fold").unwrap();
-    if input.is_empty() {
-        return Ok(Replica::new(alloc, name));
-    }
-    let mut gathered = Gathering::new(alloc);
+    let mut gathered = Gathered::Nothing;
     let mut rest = input;
     'bundles: while !rest.is_empty() {
         let (bundle, length) = decode(alloc, rest)?;
-        gathered = gathered.receive(&bundle)?;
+        gathered = gathered.receive(alloc, bundle)?;
         let (_, left) = rest.split_at(length);
         rest = left;
     }
-    Ok(gathered.into_replica(name)?)
+    Ok(gathered)
 }

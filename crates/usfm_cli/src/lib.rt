@@ -6,32 +6,33 @@
 #![tactic(auto)]
 
 mod command;
-mod doing;
-mod executing;
 mod fault;
+mod fault_lines;
 mod fold;
 mod folder;
+mod gathered;
 mod given;
 pub mod laws;
-mod looking;
+mod projects;
 mod reading;
+mod sheet_reports;
 mod source;
 mod standing;
-mod telling;
+mod steps;
 mod turns;
 mod usage;
 mod words;
 
 pub use command::Command;
-pub use executing::{Outcome, exec, exec_each};
 pub use fault::Fault;
+pub use fault_lines::fault_line;
 pub use fold::fold_stream;
 pub use folder::{book_begun, makes, may_be_book, written_from};
 pub use project_file::create;
+pub use projects::{Outcome, exec, exec_each};
 pub use reading::{MOST_BYTES, ReadFault, read_to_end};
 pub use source::{ByteSource, StdSource};
 pub use standing::{Standing, StandingBook, project_standing};
-pub use telling::fault_line;
 pub use turns::{Outcomes, TurnFault, exec_in_turn, stand_in_turn};
 pub use usage::VERSION;
 pub use usfm_export::{

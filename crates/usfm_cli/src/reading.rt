@@ -62,7 +62,7 @@ fn read_up_to<R: ByteSource>(
         ≡ failures_after_reading result (R.failures source.old) }
 {
     let mut bytes = Vec::new(alloc);
-    let mut buffer = [0u8; 4096];
+    let mut buffer = [0u8; 65536];
     loop {
         let room = (limit + 1 - bytes.len()).min(buffer.len());
         let piece = &mut buffer[..room];

@@ -9,7 +9,7 @@ ghost use Rattle.op_core.specs.Sets.{put};
 ghost use Rattle.op_core.specs.Shown.{last, shown, text_in};
 ghost use Rattle.project_file.specs.Projects.{project_at};
 ghost use Rattle.replica_state.specs.States.{State};
-ghost use Rattle.usfm_cli.specs.Executing.{RefusesFile};
+ghost use Rattle.usfm_cli.specs.Projects.{RefusesFile};
 ghost use Rattle.usfm_cli.specs.Faults.{of_loading};
 ghost use Rattle.usfm_cli.specs.Standing as standing;
 

@@ -3,7 +3,7 @@ ghost use Rattle.std.specs.Prelude.{◌≡◌, false, [], Ok, Err, IsOk, IfOk, I
 ghost use Rattle.replica_state.specs.States.{State};
 ghost use Rattle.project_file.specs.Projects.{project_at};
 ghost use Rattle.usfm_cli.specs.Commands as commands;
-ghost use Rattle.usfm_cli.specs.Executing.{state_after};
+ghost use Rattle.usfm_cli.specs.Projects.{state_after};
 ghost use Rattle.usfm_cli.specs.Faults.{of_loading};
 ghost use Rattle.usfm_cli.specs.Standing.{project_parts};
 ghost use Rattle.usfm_cli.specs.Turns as turns;
@@ -11,20 +11,22 @@ ghost use Rattle.usfm_cli.specs.declared.fault.Fault.TheVariants.{Memory};
 ghost use Rattle.usfm_cli.specs.declared.turns.TurnFault.TheVariants as refusals;
 
 use crate::command::Command;
-use crate::doing::obey;
 use crate::fault::Fault;
 use crate::standing::{Standing, standing_of};
+use crate::steps::obey;
 use project_file::{LoadFault, load, save};
 use replica_state::Replica;
 use std::alloc::{AllocError, AllocFailed, Global};
 use std::marker::Model;
 use thiserror::Error;
 
-/// What commands in turn made: the project's file after the last, and what each writes.
+/// What commands in turn made: the project's file after the last, and what each writes. It also keeps
+/// the replica, as `Outcome` does.
 #[derive(Debug, Drop)]
 pub struct Outcomes {
     project: Vec<u8>,
     outputs: Vec<Vec<u8>>,
+    replica: Replica,
 }
 
 impl Model for Outcomes {
@@ -136,7 +138,11 @@ pub fn exec_in_turn(
     let mut replica = load(alloc, project)?;
     let outputs = obey_in_turn(alloc, &mut replica, commands)?;
     let project = save(alloc, &replica)?;
-    Ok(Outcomes { project, outputs })
+    Ok(Outcomes {
+        project,
+        outputs,
+        replica,
+    })
 }
 
 /// Does commands in turn on a project as `exec_in_turn` does, and says besides how the books stand
@@ -172,7 +178,12 @@ pub fn stand_in_turn(
     let outputs = obey_in_turn(alloc, &mut loaded, commands)?;
     let project = save(alloc, &loaded)?;
     let stands = standing_of(alloc, &loaded)?;
-    Ok((Outcomes { project, outputs }, stands))
+    let outcomes = Outcomes {
+        project,
+        outputs,
+        replica: loaded,
+    };
+    Ok((outcomes, stands))
 }
 
 // Does what commands say, in turn, and answers what they write, or the first that is refused.

@@ -14,14 +14,14 @@ use Rattle.usfm_export.proofs.Heads.{heads_are}
 use Rattle.usfm_export.proofs.Pieces.{TakesAll-nil, TakesAll-append, TakesFront-append}
 
 -- the text of a key goes out after that of its chapter's head
-pub front_behind_head : (held : List Operation) (book : List ℕ) (before : Option KeyParts) (key : KeyParts) (head_text text : List ℕ)
+pub front_after_head : (held : List Operation) (book : List ℕ) (before : Option KeyParts) (key : KeyParts) (head_text text : List ℕ)
     (a b c : Option (List ℕ)) (gone middle : ℕ) (r : Result ℕ WriteFault)
     → lacks_head before key ≡ true → head_text ≡ picked_at held book (head_of key) → text ≡ picked_at held book key
     → TakesAll a b head_text gone middle
     → IfErr r (λ fault. TakesFront b c text middle fault.gone)
     → IfErr r (λ fault. TakesFront a c (texts_at held book (with_head before key)) gone fault.gone)
-front_behind_head held book before key head_text text a b c gone middle (Ok total) lacks h t all front = tt
-front_behind_head held book before key head_text text a b c gone middle (Err fault) lacks h t all front =
+front_after_head held book before key head_text text a b c gone middle (Ok total) lacks h t all front = tt
+front_after_head held book before key head_text text a b c gone middle (Err fault) lacks h t all front =
     let both : head_text ++ (text ++ []) ≡ texts_at held book (with_head before key) = (λ i. h i ++ (t i ++ []))
     ∙ ap (λ (l : Bool). texts_at held book (cond l (head_of key ∷ key ∷ []) (key ∷ []))) (sym lacks) in
     subst (λ (bytes : List ℕ). TakesFront a c bytes gone fault.gone) both

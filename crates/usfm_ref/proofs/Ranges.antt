@@ -34,15 +34,15 @@ chapter_small text (Some n) e = let read = chapter_in-some text n (sym e) in num
 
 -- a verse that is read is within its ranges
 pub mark_is_verse : (text : List ℕ) (mark : VerseMark) → ReadsVerse text mark → is_verse (mark.number, mark.letter) ≡ true
-mark_is_verse text mark h = number_is_verse h.bytes (mark.number, mark.letter) h.behind h.number_is
+mark_is_verse text mark h = number_is_verse h.bytes (mark.number, mark.letter) h.after h.number_is
 
 bridge_is_verse : (bytes : List ℕ) (last : Option (ℕ × Option ℕ)) (rest : List ℕ) → BridgesTo bytes last rest → is_last last ≡ true
 bridge_is_verse bytes None rest h = refl
-bridge_is_verse bytes (Some last) rest h = number_is_verse h.behind last rest h.last_is
+bridge_is_verse bytes (Some last) rest h = number_is_verse h.after last rest h.last_is
 
 -- the last verse of a bridge that is read is within its ranges
 pub mark_is_last : (text : List ℕ) (mark : VerseMark) → ReadsVerse text mark → is_last mark.last ≡ true
-mark_is_last text mark h = bridge_is_verse h.behind mark.last h.rest h.last_is
+mark_is_last text mark h = bridge_is_verse h.after mark.last h.rest h.last_is
 
 -- ---- what is read is ASCII, and so ends between two characters
 
@@ -92,9 +92,9 @@ number_before bytes number letter rest h = record {
 bridge_before : (bytes : List ℕ) (last : Option (ℕ × Option ℕ)) (rest : List ℕ) → BridgesTo bytes last rest → IsAsciiBefore bytes rest
 bridge_before bytes None rest h = record { front = []; text_is = sym h.0; ascii = IsAscii-nil }
 bridge_before bytes (Some last) rest h =
-    before_both bytes h.behind rest
+    before_both bytes h.after rest
     record { front = 45 ∷ []; text_is = h.bytes_are; ascii = IsAscii-cons 45 [] (omega arith) IsAscii-nil }
-    (number_before h.behind last.0 last.1 rest h.last_is)
+    (number_before h.after last.0 last.1 rest h.last_is)
 
 blanks_before : (text bytes blanks : List ℕ) → text ≡ blanks ++ bytes → are_blanks blanks ≡ true → IsAsciiBefore text bytes
 blanks_before text bytes blanks e h = record {
@@ -107,8 +107,8 @@ blanks_before text bytes blanks e h = record {
 pub read_is_ascii : (text : List ℕ) (mark : VerseMark) (h : ReadsVerse text mark) → IsAsciiBefore text h.rest
 read_is_ascii text mark h =
     before_both text h.bytes h.rest (blanks_before text h.bytes h.blanks h.text_is h.are_blanks)
-    (before_both h.bytes h.behind h.rest (number_before h.bytes mark.number mark.letter h.behind h.number_is)
-    (bridge_before h.behind mark.last h.rest h.last_is))
+    (before_both h.bytes h.after h.rest (number_before h.bytes mark.number mark.letter h.after h.number_is)
+    (bridge_before h.after mark.last h.rest h.last_is))
 
 -- a text may be cut after what is read
 pub read_ends_between : (text : List ℕ) (mark : VerseMark) → IsUtf8 text → ReadsVerse text mark → IsCharBoundary text mark.length

@@ -120,14 +120,14 @@ verse_at-some bytes v h = option_and_then_some (λ (n : ℕ × List ℕ). letter
     parts : (n : ℕ × List ℕ) → number_at bytes ≡ Some n → lettered n.0 n.1 ≡ Some v → StartsWithNumber bytes v.0.0 v.0.1 v.1
     parts n e l =
         let run = number_at-some bytes n e in
-        let behind = lettered-some n.0 n.1 v l in
+        let letter = lettered-some n.0 n.1 v l in
         record {
           digits = run.digits;
-          bytes_are = run.bytes_are ∙ ap (λ (r : List ℕ). run.digits ++ r) behind.bytes_are;
+          bytes_are = run.bytes_are ∙ ap (λ (r : List ℕ). run.digits ++ r) letter.bytes_are;
           are_digits = run.are_digits;
-          number_is = behind.number_is ∙ run.number_is;
-          is_letter = behind.is_letter;
-          ends = behind.ends;
+          number_is = letter.number_is ∙ run.number_is;
+          is_letter = letter.is_letter;
+          ends = letter.ends;
         }
 
 pub chapter_at-of : (bytes : List ℕ) (n : ℕ) (rest : List ℕ) → StartsWithNumber bytes n None rest → chapter_at bytes ≡ Some (n, rest)
@@ -143,14 +143,14 @@ chapter_at-some bytes r h = option_and_then_some (λ (n : ℕ × List ℕ). ende
     parts : (n : ℕ × List ℕ) → number_at bytes ≡ Some n → ended n.0 n.1 ≡ Some r → StartsWithNumber bytes r.0 None r.1
     parts n e l =
         let run = number_at-some bytes n e in
-        let behind = ended-some n.0 n.1 r l in
+        let ended = ended-some n.0 n.1 r l in
         record {
           digits = run.digits;
-          bytes_are = run.bytes_are ∙ ap (λ (r : List ℕ). run.digits ++ r) behind.2;
+          bytes_are = run.bytes_are ∙ ap (λ (r : List ℕ). run.digits ++ r) ended.2;
           are_digits = run.are_digits;
-          number_is = sym behind.1 ∙ run.number_is;
+          number_is = sym ended.1 ∙ run.number_is;
           is_letter = refl;
-          ends = rw (← behind.2) behind.0;
+          ends = rw (← ended.2) ended.0;
         }
 
 -- ---- bridges
@@ -158,15 +158,15 @@ chapter_at-some bytes r h = option_and_then_some (λ (n : ℕ × List ℕ). ende
 pub bridge_at-of : (bytes : List ℕ) (last : ℕ × Option ℕ) (rest : List ℕ) → StartsWithBridge bytes last rest
     → bridge_at bytes ≡ Some (last, rest)
 unfolding bridge_at
-bridge_at-of bytes last rest h = rw h.bytes_are (verse_at-of h.behind last rest h.last_is)
+bridge_at-of bytes last rest h = rw h.bytes_are (verse_at-of h.after last rest h.last_is)
 
 pub bridge_at-some : (bytes : List ℕ) (b : (ℕ × Option ℕ) × List ℕ) → bridge_at bytes ≡ Some b → StartsWithBridge bytes b.0 b.1
 unfolding bridge_at
 bridge_at-some [] b h = cc
-bridge_at-some (x ∷ behind) b h = by_hyphen (x == 45) refl h
+bridge_at-some (x ∷ after) b h = by_hyphen (x == 45) refl h
   where
-    by_hyphen : (e : Bool) → (x == 45) ≡ e → cond e (verse_at behind) None ≡ Some b → StartsWithBridge (x ∷ behind) b.0 b.1
-    by_hyphen true e h = record { behind = behind; bytes_are = ap (λ y. y ∷ behind) (eqb-true x 45 e); last_is = verse_at-some behind b h }
+    by_hyphen : (e : Bool) → (x == 45) ≡ e → cond e (verse_at after) None ≡ Some b → StartsWithBridge (x ∷ after) b.0 b.1
+    by_hyphen true e h = record { after = after; bytes_are = ap (λ y. y ∷ after) (eqb-true x 45 e); last_is = verse_at-some after b h }
     by_hyphen false e h = cc
 
 -- ---- blanks
@@ -242,62 +242,62 @@ chapter_in-some text n h = option_map_some (λ (c : ℕ × List ℕ). c.0) (opti
 abbrev mark_of : ℕ × Option ℕ → Option (ℕ × Option ℕ) → ℕ → VerseMark
 mark_of verse last length = record { number = verse.0; letter = verse.1; last = last; length = length }
 
-no_bridge : (behind : List ℕ) → ((last : ℕ × Option ℕ) (after : List ℕ) → StartsWithBridge behind last after → ⊥)
-    → (b : Option ((ℕ × Option ℕ) × List ℕ)) → bridge_at behind ≡ b → b ≡ None
-no_bridge behind none None e = refl
-no_bridge behind none (Some b) e = absurd (none b.0 b.1 (bridge_at-some behind b e))
+no_bridge : (after : List ℕ) → ((last : ℕ × Option ℕ) (rest : List ℕ) → StartsWithBridge after last rest → ⊥)
+    → (b : Option ((ℕ × Option ℕ) × List ℕ)) → bridge_at after ≡ b → b ≡ None
+no_bridge after none None e = refl
+no_bridge after none (Some b) e = absurd (none b.0 b.1 (bridge_at-some after b e))
 
-bridged-of : (text : List ℕ) (verse : ℕ × Option ℕ) (behind : List ℕ) (last : Option (ℕ × Option ℕ)) (rest : List ℕ) (n : ℕ)
-    → BridgesTo behind last rest → n + length rest ≡ length text → bridged text verse behind (bridge_at behind) ≡ mark_of verse last n
-bridged-of text verse behind None rest n h long =
-    let whole : length text - length behind ≡ n = omega (arith, ap length h.0) in
-    rw (no_bridge behind h.1 (bridge_at behind) refl, whole) refl
-bridged-of text verse behind (Some last) rest n h long =
+bridged-of : (text : List ℕ) (verse : ℕ × Option ℕ) (after : List ℕ) (last : Option (ℕ × Option ℕ)) (rest : List ℕ) (n : ℕ)
+    → BridgesTo after last rest → n + length rest ≡ length text → bridged text verse after (bridge_at after) ≡ mark_of verse last n
+bridged-of text verse after None rest n h long =
+    let whole : length text - length after ≡ n = omega (arith, ap length h.0) in
+    rw (no_bridge after h.1 (bridge_at after) refl, whole) refl
+bridged-of text verse after (Some last) rest n h long =
     let part : length text - length rest ≡ n = omega arith in
-    rw (bridge_at-of behind last rest h, part) refl
+    rw (bridge_at-of after last rest h, part) refl
 
 pub verse_in-of : (text : List ℕ) (m : VerseMark) → ReadsVerse text m → verse_in text ≡ Some m
 unfolding verse_in
 verse_in-of text m h =
-    let clear = number_is_no_blank h.bytes m.number m.letter h.behind h.number_is in
+    let clear = number_is_no_blank h.bytes m.number m.letter h.after h.number_is in
     let front : blanks_at text ≡ Some h.bytes = rw h.text_is (blanks_at-run h.blanks h.bytes h.are_blanks clear) in
     rw (
       front,
-      verse_at-of h.bytes (m.number, m.letter) h.behind h.number_is,
-      bridged-of text (m.number, m.letter) h.behind m.last h.rest m.length h.last_is h.length_is,
+      verse_at-of h.bytes (m.number, m.letter) h.after h.number_is,
+      bridged-of text (m.number, m.letter) h.after m.last h.rest m.length h.last_is h.length_is,
     ) refl
 
 -- a mark whose blanks and number were read
-starts : (text bytes behind : List ℕ) (verse : ℕ × Option ℕ) → AreBlanks text bytes → StartsWithNumber bytes verse.0 verse.1 behind
-    → length behind ≤ length text
-starts text bytes behind verse front number =
-    let parts = length-append number.digits (option_to_list verse.1 ++ behind) in
-    let letter = length-append (option_to_list verse.1) behind in
+starts : (text bytes after : List ℕ) (verse : ℕ × Option ℕ) → AreBlanks text bytes → StartsWithNumber bytes verse.0 verse.1 after
+    → length after ≤ length text
+starts text bytes after verse front number =
+    let parts = length-append number.digits (option_to_list verse.1 ++ after) in
+    let letter = length-append (option_to_list verse.1) after in
     omega (arith, ap length front.text_is, length-append front.blanks bytes, ap length number.bytes_are, parts, letter)
 
-bridged_is : (text bytes behind : List ℕ) (verse : ℕ × Option ℕ) → AreBlanks text bytes → StartsWithNumber bytes verse.0 verse.1 behind
-    → (b : Option ((ℕ × Option ℕ) × List ℕ)) → bridge_at behind ≡ b → ReadsVerse text (bridged text verse behind b)
-bridged_is text bytes behind verse front number None e =
-    let within : length behind ≤ length text = starts text bytes behind verse front number in
+bridged_is : (text bytes after : List ℕ) (verse : ℕ × Option ℕ) → AreBlanks text bytes → StartsWithNumber bytes verse.0 verse.1 after
+    → (b : Option ((ℕ × Option ℕ) × List ℕ)) → bridge_at after ≡ b → ReadsVerse text (bridged text verse after b)
+bridged_is text bytes after verse front number None e =
+    let within : length after ≤ length text = starts text bytes after verse front number in
     record {
       blanks = front.blanks;
       bytes = bytes;
-      behind = behind;
-      rest = behind;
+      after = after;
+      rest = after;
       text_is = front.text_is;
       are_blanks = front.are_blanks;
       number_is = number;
-      last_is = (refl, λ last after bridge. let found = bridge_at-of behind last after bridge in cc);
+      last_is = (refl, λ last left bridge. let found = bridge_at-of after last left bridge in cc);
       length_is = omega arith;
     }
-bridged_is text bytes behind verse front number (Some b) e =
-    let bridge = bridge_at-some behind b e in
-    let within : length behind ≤ length text = starts text bytes behind verse front number in
+bridged_is text bytes after verse front number (Some b) e =
+    let bridge = bridge_at-some after b e in
+    let within : length after ≤ length text = starts text bytes after verse front number in
     let last = bridge.last_is in
     record {
       blanks = front.blanks;
       bytes = bytes;
-      behind = behind;
+      after = after;
       rest = b.1;
       text_is = front.text_is;
       are_blanks = front.are_blanks;
@@ -373,16 +373,16 @@ pub verse_in-no_verse : (text bytes : List ℕ) → blanks_at text ≡ Some byte
 unfolding verse_in
 verse_in-no_verse text bytes b v = rw (b, v) refl
 
-pub verse_in-verse : (text bytes : List ℕ) (verse : ℕ × Option ℕ) (behind : List ℕ) → blanks_at text ≡ Some bytes
-    → verse_at bytes ≡ Some (verse, behind) → verse_in text ≡ Some (bridged text verse behind (bridge_at behind))
+pub verse_in-verse : (text bytes : List ℕ) (verse : ℕ × Option ℕ) (after : List ℕ) → blanks_at text ≡ Some bytes
+    → verse_at bytes ≡ Some (verse, after) → verse_in text ≡ Some (bridged text verse after (bridge_at after))
 unfolding verse_in
-verse_in-verse text bytes verse behind b v = rw (b, v) refl
+verse_in-verse text bytes verse after b v = rw (b, v) refl
 
 -- the bytes after a verse and its bridge are a part of the text
-pub within_text : (text bytes : List ℕ) (verse : ℕ × Option ℕ) (behind : List ℕ) → blanks_at text ≡ Some bytes
-    → verse_at bytes ≡ Some (verse, behind) → length behind ≤ length text
-within_text text bytes verse behind b v =
-    starts text bytes behind verse (blanks_at-some text bytes b) (verse_at-some bytes (verse, behind) v)
+pub within_text : (text bytes : List ℕ) (verse : ℕ × Option ℕ) (after : List ℕ) → blanks_at text ≡ Some bytes
+    → verse_at bytes ≡ Some (verse, after) → length after ≤ length text
+within_text text bytes verse after b v =
+    starts text bytes after verse (blanks_at-some text bytes b) (verse_at-some bytes (verse, after) v)
 
 pub within_bridge : (bytes : List ℕ) (last : ℕ × Option ℕ) (rest : List ℕ) → bridge_at bytes ≡ Some (last, rest)
     → length rest ≤ length bytes

@@ -12,8 +12,8 @@ use Rattle.std.specs.Result.{IfOk}
 use Rattle.std.specs.Char.{is_ascii_digit, is_ascii_lowercase}
 use Rattle.usfm_ref.specs.Books.{is_book_code}
 use Rattle.usfm_ref.specs.Keys.{KeyParts, is_key, is_letter, is_place}
-use Rattle.usfm_ref.specs.Numbers.{are_blanks, are_digits, number_behind, number_of, ends_number, StartsWithNumber, number_at, chapter_in}
-use Rattle.usfm_ref.specs.References.{place_text, key_text, ref_text, is_zero_led, plain_at, verse_to_end, place_in, key_at, key_in, key_behind, ref_to, ref_in, IsRefTo, ReadsWhatIsWritten, WritesWhatIsRead}
+use Rattle.usfm_ref.specs.Numbers.{are_blanks, are_digits, number_after, number_of, ends_number, StartsWithNumber, number_at, chapter_in}
+use Rattle.usfm_ref.specs.References.{place_text, key_text, ref_text, is_zero_led, plain_at, verse_to_end, place_in, key_at, key_in, key_after, ref_to, ref_in, IsRefTo, ReadsWhatIsWritten, WritesWhatIsRead}
 use Rattle.usfm_ref.specs.declared.fault.RefFault.{RefFault}
 use Rattle.usfm_ref.specs.declared.fault.RefFault.TheVariants.{BadBook}
 use Rattle.usfm_ref.specs.declared.key.Place.{Place}
@@ -26,7 +26,7 @@ use Rattle.usfm_ref.proofs.Readings.{number_at-run, number_at-some, chapter_in-o
 -- std's words on digits are ours
 -- the numbers of digits are those of numerals
 pub numerals : IsNumeralModel (λ ds. list_all is_ascii_digit ds ≡ true) number_of
-numerals = numerals_by_fold _ (search rules) number_behind (search rules)
+numerals = numerals_by_fold _ (search rules) number_after (search rules)
 
 all_digits : (digits : List ℕ) → are_digits digits ≡ true → list_all is_ascii_digit digits ≡ true
 all_digits digits h = (and_parts (nat_le 1 (length digits) && nat_le (length digits) 3) (list_all is_ascii_digit digits) h).1
@@ -165,8 +165,8 @@ pub record IsWritten (bytes : List ℕ) (place : Place) : Type 0 where
   pub bytes_are : bytes ≡ place_text place
   pub is_place : is_place place ≡ true
 
-verse_written : (rest : List ℕ) (number : ℕ) (behind : List ℕ) (place : Place) → IsPlain rest number behind
-    → verse_to_end number behind ≡ Some place → IsWritten (58 ∷ rest) place
+verse_written : (rest : List ℕ) (number : ℕ) (after : List ℕ) (place : Place) → IsPlain rest number after
+    → verse_to_end number after ≡ Some place → IsWritten (58 ∷ rest) place
 verse_written rest number [] place plain h =
     let is : Verse number None ≡ place = same_Some _ _ h in
     rw (← is) record {
@@ -184,7 +184,7 @@ verse_written rest number (b ∷ []) place plain h = by_letter (is_ascii_lowerca
           is_place = and_from _ _ (le-leb number 999 plain.small) e;
         }
     by_letter false e h = cc
-verse_written rest number (b ∷ c ∷ behind) place plain h = cc
+verse_written rest number (b ∷ c ∷ after) place plain h = cc
 
 -- what is read as a place is written so
 pub place_in-some : (bytes : List ℕ) (place : Place) → place_in bytes ≡ Some place → IsWritten bytes place
@@ -242,11 +242,11 @@ key_in-some bytes key h = option_and_then_some (λ (n : ℕ × List ℕ). key_at
 
 -- ---- references
 
-key_behind-some : (bytes : List ℕ) (key : KeyParts) → key_behind bytes ≡ Some key
+key_after-some : (bytes : List ℕ) (key : KeyParts) → key_after bytes ≡ Some key
     → (bytes ≡ codes " " ++ key_text key) × (is_key key.chapter key.place ≡ true)
-unfolding key_behind
-key_behind-some [] key h = cc
-key_behind-some (b ∷ rest) key h = by_space (b == 32) refl h
+unfolding key_after
+key_after-some [] key h = cc
+key_after-some (b ∷ rest) key h = by_space (b == 32) refl h
   where
     by_space : (e : Bool) → (b == 32) ≡ e → cond e (key_in rest) None ≡ Some key
         → (b ∷ rest ≡ codes " " ++ key_text key) × (is_key key.chapter key.place ≡ true)
@@ -257,7 +257,7 @@ key_behind-some (b ∷ rest) key h = by_space (b == 32) refl h
 
 -- a reference as it is written is read
 pub ref_in-of : ReadsWhatIsWritten
-unfolding ref_in key_behind
+unfolding ref_in key_after
 ref_in-of [] key b k = cc
 ref_in-of (x ∷ []) key b k = cc
 ref_in-of (x ∷ y ∷ []) key b k = cc
@@ -272,11 +272,11 @@ pub ref_in-some : WritesWhatIsRead
 unfolding ref_in
 ref_in-some text book key h = by_code (is_book_code (take 3 text)) refl h
   where
-    by_key : is_book_code (take 3 text) ≡ true → (k : Option KeyParts) → key_behind (drop 3 text) ≡ k
+    by_key : is_book_code (take 3 text) ≡ true → (k : Option KeyParts) → key_after (drop 3 text) ≡ k
         → ref_to (take 3 text) k ≡ Ok (book, key) → IsRefTo text book key
     by_key code None e h = cc
     by_key code (Some k) e h =
-        let written = key_behind-some (drop 3 text) k e in
+        let written = key_after-some (drop 3 text) k e in
         let is : ◌≡◌ {A = List ℕ × KeyParts} (take 3 text, k) (book, key) = same_Ok _ _ h in
         let book_is : take 3 text ≡ book = ap (λ (p : List ℕ × KeyParts). p.0) is in
         let key_is : k ≡ key = ap (λ (p : List ℕ × KeyParts). p.1) is in
@@ -284,8 +284,8 @@ ref_in-some text book key h = by_code (is_book_code (take 3 text)) refl h
         record { is_book = rw (← book_is) code; is_key = rw (← key_is) written.1; text_is = rw (← book_is, ← key_is) whole }
 
     by_code : (e : Bool) → is_book_code (take 3 text) ≡ e
-        → cond e (ref_to (take 3 text) (key_behind (drop 3 text))) (Err BadBook) ≡ Ok (book, key) → IsRefTo text book key
-    by_code true e h = by_key e (key_behind (drop 3 text)) refl h
+        → cond e (ref_to (take 3 text) (key_after (drop 3 text))) (Err BadBook) ≡ Ok (book, key) → IsRefTo text book key
+    by_code true e h = by_key e (key_after (drop 3 text)) refl h
     by_code false e h = cc
 
 -- ---- what the steps of a call read
@@ -306,10 +306,10 @@ unfolding ref_in
 ref_in-no_code text h = rw h refl
 
 -- one that begins with a code is a reference where a key follows
-pub ref_in-code : (text code behind : List ℕ) (key : Option KeyParts) → code ≡ take 3 text → behind ≡ drop 3 text
-    → is_book_code code ≡ true → key ≡ key_behind behind → ref_in text ≡ ref_to code key
+pub ref_in-code : (text code after : List ℕ) (key : Option KeyParts) → code ≡ take 3 text → after ≡ drop 3 text
+    → is_book_code code ≡ true → key ≡ key_after after → ref_in text ≡ ref_to code key
 unfolding ref_in
-ref_in-code text code behind key c b h k = rw (← c, ← b, h, ← k) refl
+ref_in-code text code after key c b h k = rw (← c, ← b, h, ← k) refl
 
 -- fewer than three bytes are no code
 pub short_no_code : (text : List ℕ) → length text < 3 → is_book_code (take 3 text) ≡ false

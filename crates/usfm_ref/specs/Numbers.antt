@@ -24,13 +24,13 @@ are_digits bytes =
     nat_le 1 (length bytes) && nat_le (length bytes) 3 && list_all is_ascii_digit bytes
 
 -- the number that digits write after those of another
-abbrev pub number_behind : ℕ → List ℕ → ℕ
-number_behind n [] = n
-number_behind n (d ∷ ds) = number_behind (n * 10 + (d - 48)) ds
+abbrev pub number_after : ℕ → List ℕ → ℕ
+number_after n [] = n
+number_after n (d ∷ ds) = number_after (n * 10 + (d - 48)) ds
 
 -- the number that digits write, in base ten
 abbrev pub number_of : List ℕ → ℕ
-number_of digits = number_behind 0 digits
+number_of digits = number_after 0 digits
 
 -- a number ends at the end, and before a byte that is no ASCII letter or digit
 abbrev pub ends_number : List ℕ → Bool
@@ -50,9 +50,9 @@ pub record StartsWithNumber (bytes : List ℕ) (number : ℕ) (letter : Option �
 
 -- Bytes are a hyphen (45) and a bridge's last verse, which is a number that ends.
 pub record StartsWithBridge (bytes : List ℕ) (last : ℕ × Option ℕ) (rest : List ℕ) : Type 0 where
-  pub behind : List ℕ
-  pub bytes_are : bytes ≡ 45 ∷ behind
-  pub last_is : StartsWithNumber behind last.0 last.1 rest
+  pub after : List ℕ
+  pub bytes_are : bytes ≡ 45 ∷ after
+  pub last_is : StartsWithNumber after last.0 last.1 rest
 
 -- What comes after a verse's number: the bridge to its last verse and a rest, or no bridge and all of it is the
 -- rest. A bridge is read wherever there is one.
@@ -75,12 +75,12 @@ pub record ReadsChapter (text : List ℕ) (number : ℕ) : Type 0 where
 pub record ReadsVerse (text : List ℕ) (mark : VerseMark) : Type 0 where
   pub blanks : List ℕ
   pub bytes : List ℕ
-  pub behind : List ℕ
+  pub after : List ℕ
   pub rest : List ℕ
   pub text_is : text ≡ blanks ++ bytes
   pub are_blanks : IsTrue (are_blanks blanks)
-  pub number_is : StartsWithNumber bytes mark.number mark.letter behind
-  pub last_is : BridgesTo behind mark.last rest
+  pub number_is : StartsWithNumber bytes mark.number mark.letter after
+  pub last_is : BridgesTo after mark.last rest
   pub length_is : mark.length + length rest ≡ length text
 
 -- ---- ranges
@@ -136,9 +136,9 @@ chapter_in text = option_map (λ c. c.0) (option_and_then chapter_at (blanks_at 
 
 -- a verse's mark with a bridge, if there is one
 abbrev pub bridged : List ℕ → ℕ × Option ℕ → List ℕ → Option ((ℕ × Option ℕ) × List ℕ) → VerseMark
-bridged text verse behind None =
-    record { number = verse.0; letter = verse.1; last = None; length = length text - length behind }
-bridged text verse behind (Some b) =
+bridged text verse after None =
+    record { number = verse.0; letter = verse.1; last = None; length = length text - length after }
+bridged text verse after (Some b) =
     record {
       number = verse.0;
       letter = verse.1;

@@ -77,9 +77,9 @@ abbrev pub key_of : List ℕ → Result KeyParts RefFault
 key_of text = key_or_bad (key_in text)
 
 -- the key that all of the bytes are but a space (32) in front
-unfoldable pub key_behind : List ℕ → Option KeyParts
-key_behind [] = None
-key_behind (b ∷ rest) = if b == 32 then key_in rest else None
+unfoldable pub key_after : List ℕ → Option KeyParts
+key_after [] = None
+key_after (b ∷ rest) = if b == 32 then key_in rest else None
 
 -- the reference to a book, if there is its key
 abbrev pub ref_to : List ℕ → Option KeyParts → Result (List ℕ × KeyParts) RefFault
@@ -90,7 +90,7 @@ ref_to book (Some key) = Ok (book, key)
 -- follows is not a space and a key
 unfoldable pub ref_in : List ℕ → Result (List ℕ × KeyParts) RefFault
 ref_in text = if is_book_code (take 3 text)
-    then ref_to (take 3 text) (key_behind (drop 3 text)) else Err BadBook
+    then ref_to (take 3 text) (key_after (drop 3 text)) else Err BadBook
 
 -- ---- the laws
 

@@ -36,7 +36,7 @@ impl Model for Book {
 }
 
 // The codes of the canon by their bytes, each with its place in the canon, so that a code is found by halves.
-const BY_CODE: [([u8; 3], u8); 66] = [
+static BY_CODE: [([u8; 3], u8); 66] = [
     (*b"1CH", 12),
     (*b"1CO", 45),
     (*b"1JN", 61),
@@ -180,8 +180,7 @@ fn is_code_byte(byte: u8) -> bool
 fn rank(code: &[u8; 3]) -> u8
     ensures { result ≡ rank_of code.now }
 {
-    let known = BY_CODE;
-    rank_among(&known, code)
+    rank_among(&BY_CODE, code)
 }
 
 // The place of a code in the canon, or 66, by a list of the canon's codes that rises.

@@ -52,10 +52,10 @@ pub fn verse_after(text: &str) -> Option<VerseMark>
     ensures boundary { IfSome result (λ mark. IsCharBoundary text.now mark.length) }
 {
     let bytes = blanks_at(text.as_bytes())?;
-    let ((number, letter), behind) = verse_at(bytes)?;
-    let (last, rest) = match bridge_at(behind) {
+    let ((number, letter), after) = verse_at(bytes)?;
+    let (last, rest) = match bridge_at(after) {
         Some((last, rest)) => (Some(last), rest),
-        None => (None, behind),
+        None => (None, after),
     };
     Some(VerseMark {
         number,

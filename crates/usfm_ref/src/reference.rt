@@ -25,13 +25,13 @@ pub fn read_ref(text: &str) -> Result<(Book, Key), RefFault>
     ensures bad_book { (result ≡ Err RefFault.BadBook) ↔ (is_book_code (take 3 text.now) ≡ false) }
     ensures value { result ≡ references.ref_in text.now }
 {
-    let Some((code, behind)) = text.as_bytes().split_first_chunk::<3>() else {
+    let Some((code, after)) = text.as_bytes().split_first_chunk::<3>() else {
         return Err(RefFault::BadBook);
     };
     let Some(book) = Book::of_code(*code) else {
         return Err(RefFault::BadBook);
     };
-    match key_behind(behind) {
+    match key_after(after) {
         Some(key) => Ok((book, key)),
         None => Err(RefFault::BadRef),
     }
@@ -94,8 +94,8 @@ fn place_in(bytes: &[u8]) -> Option<Place>
 fn key_in(bytes: &[u8]) -> Option<Key>
     ensures { result ≡ references.key_in bytes.now }
 {
-    let (chapter, behind) = plain_at(bytes)?;
-    let place = place_in(behind)?;
+    let (chapter, after) = plain_at(bytes)?;
+    let place = place_in(after)?;
     Some(Key { chapter, place })
 }
 
@@ -111,9 +111,9 @@ impl FromStr for Key {
 }
 
 // The key after one space.
-#[tactic(auto, unfolding(crate::specs::References::key_behind))]
-fn key_behind(bytes: &[u8]) -> Option<Key>
-    ensures { result ≡ references.key_behind bytes.now }
+#[tactic(auto, unfolding(crate::specs::References::key_after))]
+fn key_after(bytes: &[u8]) -> Option<Key>
+    ensures { result ≡ references.key_after bytes.now }
 {
     match bytes {
         [b' ', key @ ..] => key_in(key),

@@ -14,9 +14,9 @@ use crate::files::read_file;
 use crate::project::{begin_project, lock_project};
 use crate::sync::{export_into, sync};
 use crate::turns::{Refusal, import, receive};
-use std::io;
 use std::io::{ErrorKind, IsTerminal, Write};
 use std::process::ExitCode;
+use std::{io, mem};
 use usfm_cli::{
     Command, Fault, Line, LineFault, StdSink, StdSource, create, exec, fault_line, fold_stream,
     read_to_end, read_words, write_all,
@@ -162,10 +162,13 @@ fn ask(rt: &HostRuntime, project: &str, command: &Command<'_>) -> Result<(), Ref
     answer(rt, &read_file(rt, project)?, command)
 }
 
-// Does a command that changes nothing on the bytes of a project's file.
+// Does a command that changes nothing on the bytes of a project's file. What it made is not freed, since
+// the program ends.
 fn answer(rt: &HostRuntime, bytes: &[u8], command: &Command<'_>) -> Result<(), Refusal> {
     let outcome = exec(rt.alloc(), bytes, command)?;
-    Ok(write_output(rt, outcome.output())?)
+    let written = write_output(rt, outcome.output());
+    mem::forget(outcome);
+    Ok(written?)
 }
 
 // Does a command on a project's file while no other command changes it. The file is replaced where its bytes are
@@ -178,7 +181,9 @@ fn change(rt: &HostRuntime, path: &str, command: &Command<'_>) -> Result<(), Ref
         project.replace(rt, outcome.project())?;
     }
     drop(project);
-    Ok(write_output(rt, outcome.output())?)
+    let written = write_output(rt, outcome.output());
+    mem::forget(outcome);
+    Ok(written?)
 }
 
 // Folds the bundles of standard input into a book.

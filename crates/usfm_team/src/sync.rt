@@ -6,6 +6,7 @@ use crate::project::lock_project;
 use crate::turns::{Refusal, read_files, refusal_in};
 use crate::write_output;
 use std::io::Write;
+use std::mem;
 use usfm_cli::{
     Command, Fault, Outcomes, Standing, StandingBook, TurnFault, exec_in_turn, makes,
     project_standing, stand_in_turn, written_from,
@@ -14,7 +15,8 @@ use usfm_ref::Book;
 
 // Takes in what was changed in a folder, and then bundles, and writes the books into the folder.
 //
-// The project is locked until it is replaced, and the folder until its files are.
+// The project is locked until it is replaced, and the folder until its files are. What was taken in is
+// not freed, since the program ends.
 pub(crate) fn sync(
     rt: &HostRuntime,
     project: &str,
@@ -41,7 +43,9 @@ pub(crate) fn sync(
     place(rt, folder, &files, &mut staged)?;
     keep_left(rt, folder, &before, &files, &staged)?;
     let told = told(rt, &files, &outcomes, &staged, &stands)?;
-    Ok(write_output(rt, &told)?)
+    let written = write_output(rt, &told);
+    mem::forget(outcomes);
+    Ok(written?)
 }
 
 // Writes books into a folder, all where none is named. A file of theirs that was changed is refused.

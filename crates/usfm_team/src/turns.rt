@@ -1,7 +1,8 @@
 // Files taken in one after another, all or none of them.
+use crate::change;
 use crate::files::read_file;
 use crate::project::lock_project;
-use std::io;
+use std::{io, mem};
 use usfm_cli::{Command, Fault, StdSink, TurnFault, exec_in_turn, write_more};
 
 // Why a line was refused: the fault, and the file that it is of where the line names several.
@@ -44,12 +45,15 @@ pub(crate) fn import(
     }
 }
 
-// Takes in bundles.
+// Takes in bundles: one by itself, and several in turn.
 pub(crate) fn receive(
     rt: &HostRuntime,
     project: &str,
     bundles: Vec<String>,
 ) -> Result<(), Refusal> {
+    if let [bundle] = bundles.as_slice() {
+        return receive_one(rt, project, bundle);
+    }
     match receive_all(rt, project, &bundles) {
         Ok(()) => Ok(()),
         Err(fault) => Err(refusal_of(fault, bundles)),
@@ -82,6 +86,12 @@ fn import_since(
     change_in_turn(rt, project, &commands)
 }
 
+fn receive_one(rt: &HostRuntime, project: &str, name: &str) -> Result<(), Refusal> {
+    read_file(rt, project)?;
+    let bundle = read_file(rt, name)?;
+    change(rt, project, &Command::Receive(&bundle))
+}
+
 fn receive_all(rt: &HostRuntime, project: &str, names: &[String]) -> Result<(), TurnFault> {
     read_file(rt, project)?;
     let bundles = read_files(rt, names)?;
@@ -104,8 +114,9 @@ pub(crate) fn read_files(rt: &HostRuntime, names: &[String]) -> Result<Vec<Vec<u
     Ok(files)
 }
 
-// Does commands in turn on a project's file while no other command changes it. The file is replaced where its bytes are
-// others, and only then, when others may go on, what each command writes is written.
+// Does commands in turn on a project's file while no other command changes it. The file is replaced where
+// its bytes are others, and only then, when others may go on, what each command writes is written. What
+// they made is not freed, since the program ends.
 fn change_in_turn(rt: &HostRuntime, path: &str, commands: &[Command<'_>]) -> Result<(), TurnFault> {
     let project = lock_project(rt, path)?;
     let bytes = project.read(rt)?;
@@ -114,7 +125,9 @@ fn change_in_turn(rt: &HostRuntime, path: &str, commands: &[Command<'_>]) -> Res
         project.replace(rt, outcomes.project())?;
     }
     drop(project);
-    Ok(write_outputs(rt, outcomes.outputs())?)
+    let written = write_outputs(rt, outcomes.outputs());
+    mem::forget(outcomes);
+    Ok(written?)
 }
 
 // Writes outputs to standard output, one after another. It takes no memory.

@@ -5,7 +5,7 @@ use Rattle.std.proofs.str.Laws.{order}
 use Rattle.std.proofs.lemmas.List.{get_or_append_left, get_or_at, take-append-le, drop-append-le}
 use Rattle.std.proofs.lemmas.List.Folds.{length-prefix_len}
 use Rattle.std.proofs.lemmas.List.Sums.{prefix_len_is, prefix_len_passes, prefix_len_stops, prefix_len-le-length}
-use Rattle.usfm_token.specs.Tokens.{Lexeme, mark, words, is_name_byte, is_backslash, mark_bytes, slice_of, joined, BeginsWithNoText, AreLexemes, behind_plus, mark_behind, first_lexeme, tokens_of, BeginsMark, TokensJoin, TokensPart, TokensRest}
+use Rattle.usfm_token.specs.Tokens.{Lexeme, mark, words, is_name_byte, is_backslash, mark_bytes, slice_of, joined, BeginsWithNoText, AreLexemes, after_plus, mark_after, first_lexeme, tokens_of, BeginsMark, TokensJoin, TokensPart, TokensRest}
 use Rattle.usfm_token.proofs.TokenLemmas.{tokens_of-nil, tokens_of-cons, first_positive}
 use Rattle.usfm_token.proofs.TokenLaws.{first_front, one_cut, one_reading}
 
@@ -33,7 +33,7 @@ head_join c apart none (x ∷ xs) b h = refl
 head_join c apart none [] [] h = refl
 head_join c apart none [] (y ∷ b) h = ap (λ z. z == c) (h (omega arith)) ∙ apart ∙ sym none
 
-plus_join : (bs b : List ℕ) → BeginsMark b → behind_plus (bs ++ b) ≡ behind_plus bs ++ b
+plus_join : (bs b : List ℕ) → BeginsMark b → after_plus (bs ++ b) ≡ after_plus bs ++ b
 plus_join [] b h = ap (λ e. cond e (drop 1 b) b) (head_join 43 refl refl [] b h)
 plus_join (x ∷ bs) b h = by (x == 43)
   where
@@ -41,18 +41,18 @@ plus_join (x ∷ bs) b h = by (x == 43)
     by true = refl
     by false = refl
 
-mark_join : (bs b : List ℕ) → BeginsMark b → mark_behind (bs ++ b) ≡ mark_behind bs
+mark_join : (bs b : List ℕ) → BeginsMark b → mark_after (bs ++ b) ≡ mark_after bs
 mark_join bs b h =
-    let on = behind_plus bs in
+    let on = after_plus bs in
     let n = prefix_len is_name_byte on in
     let low : prefix_len is_name_byte on ≤ length on = prefix_len-le-length is_name_byte on in
     let on_is = plus_join bs b h in
-    let run : prefix_len is_name_byte (behind_plus bs ++ b)
-    ≡ prefix_len is_name_byte (behind_plus bs) = run_join is_name_byte refl on b h in
-    let name_is : take (prefix_len is_name_byte (behind_plus (bs ++ b))) (behind_plus (bs ++ b)) ≡ take n on =
+    let run : prefix_len is_name_byte (after_plus bs ++ b)
+    ≡ prefix_len is_name_byte (after_plus bs) = run_join is_name_byte refl on b h in
+    let name_is : take (prefix_len is_name_byte (after_plus (bs ++ b))) (after_plus (bs ++ b)) ≡ take n on =
     ap (λ l. take (prefix_len is_name_byte l) l) on_is ∙ ap (λ k. take k (on ++ b)) run ∙ take-append-le n on b low in
     let len : length (take n on) ≡ n = length-prefix_len is_name_byte on in
-    let rest_is : drop (length (take (prefix_len is_name_byte (behind_plus (bs ++ b))) (behind_plus (bs ++ b)))) (behind_plus (bs ++ b))
+    let rest_is : drop (length (take (prefix_len is_name_byte (after_plus (bs ++ b))) (after_plus (bs ++ b)))) (after_plus (bs ++ b))
     ≡ drop (length (take n on)) on ++ b =
     (λ i. drop (length (name_is i)) (on_is i)) ∙ drop-append-le (length (take n on)) on b (omega arith) in
     λ i. record {

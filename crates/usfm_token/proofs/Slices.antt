@@ -11,9 +11,9 @@ tokens_lie s before t after h =
     let place = length (joined before) in
     let parts : s ≡ joined before ++ (slice_of t ++ joined after) =
     sym (joined-tokens_of s) ∙ ap joined h ∙ joined-append before (t ∷ after) in
-    let behind : drop place s ≡ slice_of t ++ joined after = ap (drop place) parts
+    let dropped : drop place s ≡ slice_of t ++ joined after = ap (drop place) parts
     ∙ drop_at (joined before) (slice_of t ++ joined after) _ refl in
-    ap (λ l. take (place + length (slice_of t) - place) l) behind ∙ take_at (slice_of t) (joined after) _ (omega arith)
+    ap (λ l. take (place + length (slice_of t) - place) l) dropped ∙ take_at (slice_of t) (joined after) _ (omega arith)
 
 -- a mark alone is what its bytes are cut into
 alone : (m : MarkParts) → IsMark m → mark m ∷ [] ≡ tokens_of (mark_bytes m)

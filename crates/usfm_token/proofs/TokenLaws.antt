@@ -7,8 +7,8 @@ use Rattle.std.proofs.lemmas.Bool.Decides.{nat_tests}
 use Rattle.std.proofs.lemmas.List.{drop_at, take_at, get_or_append_left, get_or_at, get_or-take, get_or-drop}
 use Rattle.std.proofs.lemmas.List.Folds.{length-prefix_len}
 use Rattle.std.proofs.lemmas.List.Sums.{prefix_len_is, position_or_len_is, prefix_len_passes, prefix_len_stops, fails_before_first, passes_at_first}
-use Rattle.usfm_token.specs.Tokens.{MarkParts, Lexeme, mark, words, is_name_byte, is_backslash, optional_byte, spelling, mark_bytes, slice_of, joined, IsMark, IsLongest, IsText, BeginsWithNoText, AreLexemes, behind_plus, mark_behind, first_lexeme, tokens_of, AreTokensOf, OneCut}
-use Rattle.usfm_token.proofs.TokenLemmas.{not_true, behind_plus_is, split_mark-join, split_mark-parts, tokens_of-nil, tokens_of-cons, tokens_of-mark, tokens_of-text, first_positive, text_positive, front_named}
+use Rattle.usfm_token.specs.Tokens.{MarkParts, Lexeme, mark, words, is_name_byte, is_backslash, optional_byte, spelling, mark_bytes, slice_of, joined, IsMark, IsLongest, IsText, BeginsWithNoText, AreLexemes, after_plus, mark_after, first_lexeme, tokens_of, AreTokensOf, OneCut}
+use Rattle.usfm_token.proofs.TokenLemmas.{not_true, after_plus_is, split_mark-join, split_mark-parts, tokens_of-nil, tokens_of-cons, tokens_of-mark, tokens_of-text, first_positive, text_positive, front_named}
 
 -- A mark from its bytes.
 
@@ -26,19 +26,19 @@ optional_front [] b some = optional_nil b (0 == b) some refl
 optional_front (x ∷ xs) b some = optional_cons x xs b (x == b) refl
 
 abbrev after_name : List ℕ → List ℕ
-after_name bs = drop (length (mark_behind bs).name) (behind_plus bs)
+after_name bs = drop (length (mark_after bs).name) (after_plus bs)
 
 abbrev after_mark : List ℕ → List ℕ
 after_mark bs = cond (get_or (after_name bs) 0 0 == 42) (drop 1 (after_name bs)) (after_name bs)
 
-mark_front : (bs : List ℕ) → 92 ∷ bs ≡ mark_bytes (mark_behind bs) ++ after_mark bs
-mark_front bs = split_mark-join {text = 92 ∷ bs} {name_on = behind_plus bs} {name = (mark_behind bs).name} {after_name = after_name bs}
-    {after = after_mark bs} {nested = (mark_behind bs).nested} {closing = (mark_behind bs).closing} (record {
+mark_front : (bs : List ℕ) → 92 ∷ bs ≡ mark_bytes (mark_after bs) ++ after_mark bs
+mark_front bs = split_mark-join {text = 92 ∷ bs} {name_on = after_plus bs} {name = (mark_after bs).name} {after_name = after_name bs}
+    {after = after_mark bs} {nested = (mark_after bs).nested} {closing = (mark_after bs).closing} (record {
       backslash = refl;
       nested_is = refl;
       plus = optional_front bs 43 (omega arith);
       name_is = refl;
-      after_name_is = ap (λ n. drop n (behind_plus bs)) (length-prefix_len is_name_byte (behind_plus bs));
+      after_name_is = ap (λ n. drop n (after_plus bs)) (length-prefix_len is_name_byte (after_plus bs));
       closing_is = refl;
       star = optional_front (after_name bs) 42 (omega arith);
     })
@@ -48,10 +48,10 @@ rest_by_drop xs p q h = h ∙ ap (λ r. p ++ r) (sym (ap (drop (length p)) h ∙
 
 -- the first token of some bytes is a front of them
 pub first_front : (b : ℕ) (bs : List ℕ) (e : Bool) → (b == 92) ≡ e
-    → b ∷ bs ≡ slice_of (cond e (mark (mark_behind bs)) (words (before_first is_backslash (b ∷ bs))))
-    ++ drop (length (slice_of (cond e (mark (mark_behind bs)) (words (before_first is_backslash (b ∷ bs)))))) (b ∷ bs)
+    → b ∷ bs ≡ slice_of (cond e (mark (mark_after bs)) (words (before_first is_backslash (b ∷ bs))))
+    ++ drop (length (slice_of (cond e (mark (mark_after bs)) (words (before_first is_backslash (b ∷ bs)))))) (b ∷ bs)
 first_front b bs true h =
-    rest_by_drop (b ∷ bs) (mark_bytes (mark_behind bs)) (after_mark bs) (ap (λ x. x ∷ bs) (eqb-true b 92 h) ∙ mark_front bs)
+    rest_by_drop (b ∷ bs) (mark_bytes (mark_after bs)) (after_mark bs) (ap (λ x. x ∷ bs) (eqb-true b 92 h) ∙ mark_front bs)
 first_front b bs false h = rest_by_drop (b ∷ bs) (before_first is_backslash (b ∷ bs))
     (drop (position_or_len is_backslash (b ∷ bs)) (b ∷ bs)) (sym (take-append-drop (position_or_len is_backslash (b ∷ bs)) (b ∷ bs)))
 
@@ -163,7 +163,7 @@ closing_read n false w rest is longest = sym (not_true (get_or rest 0 0 == 42) (
 
 longest_read : (n c : Bool) (w rest : List ℕ) → IsMark (record { nested = n; name = w; closing = c })
     → IsLongest (record { nested = n; name = w; closing = c }) rest
-    → mark_behind (optional_byte n 43 ++ (w ++ (optional_byte c 42 ++ rest))) ≡ record { nested = n; name = w; closing = c }
+    → mark_after (optional_byte n 43 ++ (w ++ (optional_byte c 42 ++ rest))) ≡ record { nested = n; name = w; closing = c }
 longest_read n c w rest is longest =
     let on = w ++ (optional_byte c 42 ++ rest) in
     let all = optional_byte n 43 ++ on in
@@ -208,7 +208,7 @@ one_reading [] each = sym tokens_of-nil
 one_reading (mark m ∷ ts) each =
     ap (λ r. mark m ∷ r) (one_reading ts each.2)
     ∙ sym (tokens_of-mark (mark_bytes m ++ joined ts) (joined ts) m refl refl
-    (sym (ap mark_behind (append_assoc (optional_byte m.nested 43) (m.name ++ optional_byte m.closing 42) (joined ts)
+    (sym (ap mark_after (append_assoc (optional_byte m.nested 43) (m.name ++ optional_byte m.closing 42) (joined ts)
     ∙ ap (λ l. optional_byte m.nested 43 ++ l) (append_assoc m.name (optional_byte m.closing 42) (joined ts)))
     ∙ longest_read m.nested m.closing m.name (joined ts) each.0 each.1)))
 one_reading (words t ∷ ts) each =
@@ -220,8 +220,8 @@ one_reading (words t ∷ ts) each =
 -- Existence.
 
 -- the name of the mark that is read has name bytes alone
-read_is_mark : (bs : List ℕ) → IsMark (mark_behind bs)
-read_is_mark bs = front_named (behind_plus bs)
+read_is_mark : (bs : List ℕ) → IsMark (mark_after bs)
+read_is_mark bs = front_named (after_plus bs)
 
 -- of what is read after a backslash and perhaps '+', a name and perhaps '*' take no more than the longest name and '*'
 abbrev tail_len : List ℕ → ℕ
@@ -272,7 +272,7 @@ tail_longest w after c on is names =
     starred true rest = omega (arith, ap (λ l. length (optional_byte (get_or l 0 0 == 42) 42)) rest)
 
 -- the mark that is read is the longest
-read_is_longest : (bs : List ℕ) → (rest : List ℕ) → 92 ∷ bs ≡ mark_bytes (mark_behind bs) ++ rest → IsLongest (mark_behind bs) rest
+read_is_longest : (bs : List ℕ) → (rest : List ℕ) → 92 ∷ bs ≡ mark_bytes (mark_after bs) ++ rest → IsLongest (mark_after bs) rest
 read_is_longest bs rest front other after is same =
     longest_by other.nested other.closing other.name (get_or bs 0 0 == 43) refl is (tail_of (front ∙ same))
   where
@@ -281,17 +281,17 @@ read_is_longest bs rest front other after is same =
     tail_of e = ap (drop 1) e ∙ append_assoc (optional_byte other.nested 43) (other.name ++ optional_byte other.closing 42) after
         ∙ ap (λ l. optional_byte other.nested 43 ++ l) (append_assoc other.name (optional_byte other.closing 42) after)
 
-    read_len : length (mark_bytes (mark_behind bs)) ≡ 1 + length (optional_byte (get_or bs 0 0 == 43) 43) + tail_len (behind_plus bs)
+    read_len : length (mark_bytes (mark_after bs)) ≡ 1 + length (optional_byte (get_or bs 0 0 == 43) 43) + tail_len (after_plus bs)
     read_len =
-        let on = behind_plus bs in
+        let on = after_plus bs in
         let n = length-prefix_len is_name_byte on in
         omega (
           arith,
           n,
           length-append (optional_byte (get_or bs 0 0 == 43) 43)
-              ((mark_behind bs).name ++ optional_byte (mark_behind bs).closing 42),
-          length-append (mark_behind bs).name
-              (optional_byte (mark_behind bs).closing 42),
+              ((mark_after bs).name ++ optional_byte (mark_after bs).closing 42),
+          length-append (mark_after bs).name
+              (optional_byte (mark_after bs).closing 42),
           ap (λ k. length (optional_byte (get_or (drop k on) 0 0 == 42) 42)) n,
         )
 
@@ -308,20 +308,20 @@ read_is_longest bs rest front other after is same =
     alone_len false [] e names = refl
 
     longest_by : (n c : Bool) (w : List ℕ) (p : Bool) → (get_or bs 0 0 == 43) ≡ p → EachIndex w (λ k. is_name_byte (get_or w k 0) ≡ true)
-        → bs ≡ optional_byte n 43 ++ (w ++ (optional_byte c 42 ++ after)) → length (spelling n w c) ≤ length (mark_bytes (mark_behind bs))
+        → bs ≡ optional_byte n 43 ++ (w ++ (optional_byte c 42 ++ after)) → length (spelling n w c) ≤ length (mark_bytes (mark_after bs))
     longest_by true c w p plus names e =
-        let on : behind_plus bs ≡ w
-        ++ (optional_byte c 42 ++ after) = behind_plus_is true bs (w ++ (optional_byte c 42 ++ after))
+        let on : after_plus bs ≡ w
+        ++ (optional_byte c 42 ++ after) = after_plus_is true bs (w ++ (optional_byte c 42 ++ after))
         (ap (λ l. true) e ∙ sym (ap (λ l. get_or l 0 0 == 43) e)) e in
         let starts : length (optional_byte (get_or bs 0 0 == 43) 43) ≡ 1 = ap (λ l. length (optional_byte (get_or l 0 0 == 43) 43)) e in
-        omega (arith, read_len, other_len true c w, tail_longest w after c (behind_plus bs) on names, starts)
+        omega (arith, read_len, other_len true c w, tail_longest w after c (after_plus bs) on names, starts)
     longest_by false c w true plus names e =
         let first : get_or (w ++ (optional_byte c 42 ++ after)) 0 0 ≡ 43 = ap (λ l. get_or l 0 0) (sym e) ∙ eqb-true _ _ plus in
         omega (arith, read_len, other_len false c w, alone_len c w first names)
     longest_by false c w false plus names e =
-        let on : behind_plus bs ≡ w
-        ++ (optional_byte c 42 ++ after) = behind_plus_is false bs (w ++ (optional_byte c 42 ++ after)) (sym plus) e in
-        omega (arith, read_len, other_len false c w, tail_longest w after c (behind_plus bs) on names)
+        let on : after_plus bs ≡ w
+        ++ (optional_byte c 42 ++ after) = after_plus_is false bs (w ++ (optional_byte c 42 ++ after)) (sym plus) e in
+        omega (arith, read_len, other_len false c w, tail_longest w after c (after_plus bs) on names)
 
 text_is : (b : ℕ) (bs : List ℕ) → (b == 92) ≡ false → IsText (before_first is_backslash (b ∷ bs))
 text_is b bs plain = (
@@ -341,7 +341,7 @@ after_text (b ∷ bs) h =
     subst BeginsWithNoText (sym (tokens_of-cons b bs))
     (let is : (b == 92) ≡ true = eq-eqb _ _ (h (omega arith)) in
     subst (λ e. BeginsWithNoText
-    (cond e (mark (mark_behind bs)) (words (before_first is_backslash (b ∷ bs))) ∷ tokens_of
+    (cond e (mark (mark_after bs)) (words (before_first is_backslash (b ∷ bs))) ∷ tokens_of
     (drop (length (slice_of (first_lexeme b bs))) (b ∷ bs)))) (sym is) tt)
 
 -- what a text is cut into are tokens
@@ -352,13 +352,13 @@ each_in (suc n) (b ∷ bs) h =
     subst AreLexemes (sym (tokens_of-cons b bs)) (by_first (λ k fits. each_in n (drop k (b ∷ bs)) fits) (b == 92) refl)
   where
     by_first : ((k : ℕ) → length (drop k (b ∷ bs)) ≤ n → AreLexemes (tokens_of (drop k (b ∷ bs)))) → (e : Bool) → (b == 92) ≡ e
-        → AreLexemes (cond e (mark (mark_behind bs)) (words (before_first is_backslash (b ∷ bs))) ∷ tokens_of
-        (drop (length (slice_of (cond e (mark (mark_behind bs)) (words (before_first is_backslash (b ∷ bs)))))) (b ∷ bs)))
+        → AreLexemes (cond e (mark (mark_after bs)) (words (before_first is_backslash (b ∷ bs))) ∷ tokens_of
+        (drop (length (slice_of (cond e (mark (mark_after bs)) (words (before_first is_backslash (b ∷ bs)))))) (b ∷ bs)))
     by_first go true is =
-        let k = length (mark_bytes (mark_behind bs)) in
+        let k = length (mark_bytes (mark_after bs)) in
         let rest = drop k (b ∷ bs) in (
           read_is_mark bs,
-          subst (IsLongest (mark_behind bs)) (sym (joined-tokens_of rest))
+          subst (IsLongest (mark_after bs)) (sym (joined-tokens_of rest))
               (read_is_longest bs rest (ap (λ x. x ∷ bs) (sym (eqb-true b 92 is)) ∙ first_front b bs true is)),
           go k (omega (arith, length-drop k (b ∷ bs))),
         )

@@ -9,7 +9,7 @@ use Rattle.std.proofs.str.Laws.{order}
 use Rattle.memchr.specs.Find.{IsFirstByte, is_byte}
 use Rattle.std.proofs.lemmas.List.{drop_at, take_at, get_or-take}
 use Rattle.std.proofs.lemmas.List.Folds.{length-prefix_len}
-use Rattle.usfm_token.specs.Tokens.{MarkParts, Lexeme, mark, words, is_name_byte, is_backslash, optional_byte, spelling, behind_plus, slice_of, mark_bytes, mark_behind, first_lexeme, tokens_in, tokens_of, AreNameBytes}
+use Rattle.usfm_token.specs.Tokens.{MarkParts, Lexeme, mark, words, is_name_byte, is_backslash, optional_byte, spelling, after_plus, slice_of, mark_bytes, mark_after, first_lexeme, tokens_in, tokens_of, AreNameBytes}
 
 -- what cannot be true is false
 pub not_true : (b : Bool) → (b ≡ true → ⊥) → b ≡ false
@@ -59,7 +59,7 @@ text_positive b bs h = rw (length-prefix_len (λ x. not (is_backslash x)) (b ∷
 
 -- no token is empty
 pub first_positive : (b : ℕ) (bs : List ℕ) (e : Bool) → (b == 92) ≡ e
-    → 0 < length (slice_of (if e then mark (mark_behind bs) else words (before_first is_backslash (b ∷ bs))))
+    → 0 < length (slice_of (if e then mark (mark_after bs) else words (before_first is_backslash (b ∷ bs))))
 first_positive b bs true h = omega arith
 first_positive b bs false h = text_positive b bs h
 
@@ -136,10 +136,10 @@ pub record SplitsMark (text name_on name after_name after : List ℕ) (nested cl
   pub star : after_name ≡ optional_byte closing 42 ++ after
 
 -- after a plus, if there is one, comes the mark's name
-pub behind_plus_is : (n : Bool) (behind name_on : List ℕ) → n ≡ (get_or behind 0 0 == 43) → behind ≡ optional_byte n 43 ++ name_on
-    → behind_plus behind ≡ name_on
-behind_plus_is true behind name_on h e = rw (← h) (ap (drop 1) e)
-behind_plus_is false behind name_on h e = rw (← h) e
+pub after_plus_is : (n : Bool) (after name_on : List ℕ) → n ≡ (get_or after 0 0 == 43) → after ≡ optional_byte n 43 ++ name_on
+    → after_plus after ≡ name_on
+after_plus_is true after name_on h e = rw (← h) (ap (drop 1) e)
+after_plus_is false after name_on h e = rw (← h) e
 
 module _ {text name_on name after_name after : List ℕ} {nested closing : Bool}
     (splits : SplitsMark text name_on name after_name after nested closing) where
@@ -173,14 +173,14 @@ module _ {text name_on name after_name after : List ℕ} {nested closing : Bool}
   split_mark-named = subst AreNameBytes (sym splits.name_is) (front_named name_on)
 
   -- and its parts are those that a reading from the left gives
-  pub split_mark-parts : mark_behind (drop 1 text) ≡ record { nested = nested; name = name; closing = closing }
+  pub split_mark-parts : mark_after (drop 1 text) ≡ record { nested = nested; name = name; closing = closing }
   split_mark-parts =
-      let on : behind_plus (drop 1 text) ≡ name_on = behind_plus_is nested (drop 1 text) name_on splits.nested_is splits.plus in
-      let name_here : take (prefix_len is_name_byte (behind_plus (drop 1 text))) (behind_plus (drop 1 text))
+      let on : after_plus (drop 1 text) ≡ name_on = after_plus_is nested (drop 1 text) name_on splits.nested_is splits.plus in
+      let name_here : take (prefix_len is_name_byte (after_plus (drop 1 text))) (after_plus (drop 1 text))
       ≡ name = ap (λ l. take (prefix_len is_name_byte l) l) on ∙ sym splits.name_is in
       let name_len : length name ≡ prefix_len is_name_byte name_on = ap length splits.name_is ∙ length-prefix_len is_name_byte name_on in
-      let after_here : drop (length (take (prefix_len is_name_byte (behind_plus (drop 1 text))) (behind_plus (drop 1 text))))
-      (behind_plus (drop 1 text)) ≡ after_name =
+      let after_here : drop (length (take (prefix_len is_name_byte (after_plus (drop 1 text))) (after_plus (drop 1 text))))
+      (after_plus (drop 1 text)) ≡ after_name =
       (λ i. drop (length (name_here i)) (on i)) ∙ ap (λ n. drop n name_on) name_len ∙ sym splits.after_name_is
       in
       λ i. record {
@@ -190,7 +190,7 @@ module _ {text name_on name after_name after : List ℕ} {nested closing : Bool}
       }
 
 -- bytes that begin with a backslash begin with a mark
-pub tokens_of-mark : (s rest : List ℕ) (m : MarkParts) → mark_bytes m ++ rest ≡ s → get_or s 0 0 ≡ 92 → m ≡ mark_behind (drop 1 s)
+pub tokens_of-mark : (s rest : List ℕ) (m : MarkParts) → mark_bytes m ++ rest ≡ s → get_or s 0 0 ≡ 92 → m ≡ mark_after (drop 1 s)
     → tokens_of s ≡ mark m ∷ tokens_of rest
 tokens_of-mark s rest m join read is =
     tokens_of-step s rest (mark m) join (some_from_read s 92 (omega arith) read)
@@ -203,7 +203,7 @@ tokens_of-text [] rest t join some read is = absurd (omega arith)
 tokens_of-text (b ∷ bs) rest t join some read is =
     tokens_of-step (b ∷ bs) rest (words t) join some
     (let no : (b == 92) ≡ false = not_true (b == 92) (λ e. read (eqb-true _ _ e)) in ap
-    (λ e. cond e (mark (mark_behind bs)) (words (before_first is_backslash (b ∷ bs)))) no ∙ ap words (sym is))
+    (λ e. cond e (mark (mark_after bs)) (words (before_first is_backslash (b ∷ bs)))) no ∙ ap words (sym is))
 
 -- an empty text has no tokens
 pub tokens_of_empty : (s : List ℕ) → length s ≡ 0 → tokens_of s ≡ []

@@ -85,13 +85,13 @@ pub record AreTokensOf (ts : List Lexeme) (s : List ℕ) : Type 0 where
 -- The same, as a reading from the left.
 
 -- what comes after a '+' (43) at the front, and all where none is there
-abbrev pub behind_plus : List ℕ → List ℕ
-behind_plus bs = if slice_index bs 0 == 43 then drop 1 bs else bs
+abbrev pub after_plus : List ℕ → List ℕ
+after_plus bs = if slice_index bs 0 == 43 then drop 1 bs else bs
 
 -- the mark whose backslash comes before bs
-abbrev pub mark_behind : List ℕ → MarkParts
-mark_behind bs =
-    let name_on = behind_plus bs in
+abbrev pub mark_after : List ℕ → MarkParts
+mark_after bs =
+    let name_on = after_plus bs in
     let name = take_while is_name_byte name_on in
     record {
       nested = slice_index bs 0 == 43;
@@ -102,7 +102,7 @@ mark_behind bs =
 -- the mark or text that begins with the byte b and then bs
 abbrev pub first_lexeme : ℕ → List ℕ → Lexeme
 first_lexeme b bs =
-    if b == 92 then mark (mark_behind bs) else words (before_first is_backslash (b ∷ bs))
+    if b == 92 then mark (mark_after bs) else words (before_first is_backslash (b ∷ bs))
 
 -- at most n marks and texts from the left
 unfoldable pub tokens_in : ℕ → List ℕ → List Lexeme

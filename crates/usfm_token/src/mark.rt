@@ -16,7 +16,7 @@ pub struct Mark<'a> {
 
 impl<'a> Mark<'a> {
     ghost use Rattle.std.specs.Prelude.{◌++◌, drop, slice_index};
-    ghost use Rattle.usfm_token.specs.Tokens.{IsMark, mark_behind, mark_bytes};
+    ghost use Rattle.usfm_token.specs.Tokens.{IsMark, mark_after, mark_bytes};
     ghost use Rattle.usfm_token.specs.View.{mark_parts};
 
     /// The mark's bytes in the text that it was read from.
@@ -51,7 +51,7 @@ impl<'a> Mark<'a> {
     // The mark at the front, and what follows it.
     pub(crate) fn split_front(text: &'a str) -> (Mark<'a>, &'a str)
         requires { slice_index text.now 0 ≡ 92 }
-        ensures mark { mark_parts result.0 ≡ mark_behind (drop 1 text.now) }
+        ensures mark { mark_parts result.0 ≡ mark_after (drop 1 text.now) }
         ensures after { mark_bytes (mark_parts result.0) ++ result.1.now ≡ text.now }
     {
         let (nested, name_on) = strip_byte(&text[1..], b'+');

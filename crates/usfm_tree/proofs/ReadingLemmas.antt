@@ -216,11 +216,6 @@ resumes_by_end r sofar new_sofar (f ∷ fs) new_fs count close counted some is e
     ∙ ap (λ (c : Closed). resume styles (ended_node f sofar c.0) fs c.1) closed
     ∙ (λ i. resume styles (sym ends.1 i) (sym ends.0 i) (cond (is_some close) l (t ∷ l)))
 
--- an image is there exactly where something is
-pub is_some-option_map : {A B : Type 0} (f : A → B) (o : Option A) → is_some (option_map f o) ≡ is_some o
-is_some-option_map f None = refl
-is_some-option_map f (Some x) = refl
-
 -- A token that ends nothing.
 
 -- a token that ends nothing is entered

@@ -53,10 +53,10 @@ pub bare_none : (n : ℕ) (after : List ℕ) (whole : List Placed) (k : Forest) 
 bare_none n after whole k h = ap (λ l. take_bare whole k (placed (n - length after) l)) h
 
 -- of tokens the first is taken where it is a bare closing mark
-pub bare_front : (n : ℕ) (after behind : List ℕ) (t : Lexeme) (whole : List Placed) (k : Forest) → tokens_of after ≡ t ∷ tokens_of behind
+pub bare_front : (n : ℕ) (after later : List ℕ) (t : Lexeme) (whole : List Placed) (k : Forest) → tokens_of after ≡ t ∷ tokens_of later
     → length after ≤ n → take_bare whole k (left_of n after)
-    ≡ cond (is_bare_close t) (record { kids = k; close = Some bare; rest = left_of n behind }) (Taken_none whole)
-bare_front n after behind t whole k h within = ap (take_bare whole k) (left_front n after behind t h within).0
+    ≡ cond (is_bare_close t) (record { kids = k; close = Some bare; rest = left_of n later }) (Taken_none whole)
+bare_front n after later t whole k h within = ap (take_bare whole k) (left_front n after later t h within).0
 
 -- a list that another begins with is no longer
 pub shorter : (rest after : List ℕ) (t : Lexeme) → tokens_of rest ≡ t ∷ tokens_of after
@@ -117,12 +117,12 @@ outcome_text_end rest after t h none n within = (
 )
 
 -- nor one before another token than a bare closing mark
-pub outcome_text_other : (rest after behind t : List ℕ) (x : Lexeme) → tokens_of rest ≡ words t ∷ tokens_of after
-    → tokens_of after ≡ x ∷ tokens_of behind → is_bare_close x ≡ false → Outcome rest None None rest
-outcome_text_other rest after behind t x h h2 other n within = (
+pub outcome_text_other : (rest after later t : List ℕ) (x : Lexeme) → tokens_of rest ≡ words t ∷ tokens_of after
+    → tokens_of after ≡ x ∷ tokens_of later → is_bare_close x ≡ false → Outcome rest None None rest
+outcome_text_other rest after later t x h h2 other n within = (
   takes_text n rest after t h within
-      ∙ bare_front n after behind x (left_of n rest) (text (n - length rest) t nothing) h2 (left_front n rest after (words t) h within).1
-      ∙ ap (λ b. cond b (record { kids = text (n - length rest) t nothing; close = Some bare; rest = left_of n behind })
+      ∙ bare_front n after later x (left_of n rest) (text (n - length rest) t nothing) h2 (left_front n rest after (words t) h within).1
+      ∙ ap (λ b. cond b (record { kids = text (n - length rest) t nothing; close = Some bare; rest = left_of n later })
       (Taken_none (left_of n rest))) other,
   refl,
   omega arith,
@@ -130,19 +130,19 @@ outcome_text_other rest after behind t x h h2 other n within = (
 )
 
 -- it takes a text and the bare closing mark after it
-pub outcome_text_bare : (rest after behind t : List ℕ) (m : MarkParts) → tokens_of rest ≡ words t ∷ tokens_of after
-    → tokens_of after ≡ mark m ∷ tokens_of behind → is_bare_close (mark m) ≡ true → Outcome rest (Some t) (Some m) behind
-outcome_text_bare rest after behind t m h h2 is n within =
+pub outcome_text_bare : (rest after later t : List ℕ) (m : MarkParts) → tokens_of rest ≡ words t ∷ tokens_of after
+    → tokens_of after ≡ mark m ∷ tokens_of later → is_bare_close (mark m) ≡ true → Outcome rest (Some t) (Some m) later
+outcome_text_bare rest after later t m h h2 is n within =
     let s = shorter rest after (words t) h in
-    let s2 = shorter after behind (mark m) h2 in (
+    let s2 = shorter after later (mark m) h2 in (
       takes_text n rest after t h within
-          ∙ bare_front n after behind (mark m) (left_of n rest) (text (n - length rest) t nothing) h2
+          ∙ bare_front n after later (mark m) (left_of n rest) (text (n - length rest) t nothing) h2
           (left_front n rest after (words t) h within).1
-          ∙ ap (λ b. cond b (record { kids = text (n - length rest) t nothing; close = Some bare; rest = left_of n behind })
+          ∙ ap (λ b. cond b (record { kids = text (n - length rest) t nothing; close = Some bare; rest = left_of n later })
           (Taken_none (left_of n rest))) is
-          ∙ ap (λ c. made (Some t) (Some c) n rest behind) (sym (bare_is m is)),
-      token_front rest after (words t) h ∙ ap (λ x. t ++ x) (token_front after behind (mark m) h2)
-          ∙ ap (λ x. x ++ (mark_bytes m ++ behind)) (sym (bytes_text 0 t)),
+          ∙ ap (λ c. made (Some t) (Some c) n rest later) (sym (bare_is m is)),
+      token_front rest after (words t) h ∙ ap (λ x. t ++ x) (token_front after later (mark m) h2)
+          ∙ ap (λ x. x ++ (mark_bytes m ++ later)) (sym (bytes_text 0 t)),
       omega (arith, s.0, s2.0),
       omega (arith, s.1, s2.1),
     )

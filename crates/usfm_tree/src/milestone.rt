@@ -27,7 +27,7 @@ fn takes_nothing<'a>(rest: &'a str) -> Taken<'a>
 
 // What is taken where a text is in front.
 #[tactic(auto, using(crate::proofs::TakenLemmas::outcome_text_end, crate::proofs::TakenLemmas::outcome_text_other, crate::proofs::TakenLemmas::outcome_text_bare))]
-fn takes_behind<'a>(rest: &'a str, text: &'a str, after_text: &'a str) -> Taken<'a>
+fn takes_after<'a>(rest: &'a str, text: &'a str, after_text: &'a str) -> Taken<'a>
     requires { tokens_of rest.now ≡ words text.now ∷ tokens_of after_text.now }
     ensures { TakesOf rest.now result }
 {
@@ -57,7 +57,7 @@ pub(crate) fn takes<'a>(rest: &'a str) -> Taken<'a>
     let mut tokens = TokenIter::new(rest);
     match tokens.next() {
         None => takes_nothing(rest),
-        Some(Token::Text(text)) => takes_behind(rest, text, tokens.rest()),
+        Some(Token::Text(text)) => takes_after(rest, text, tokens.rest()),
         Some(Token::Mark(close)) => {
             if is_bare(close) {
                 Taken {

@@ -22,12 +22,12 @@ use usfm_token::TokenIter;
 pub(crate) fn part_in<'t, 'a>(nodes: &'t [Node<'a>], path: &[usize]) -> Option<&'t Node<'a>>
     ensures { option_map (λ n. view n.now) result ≡ part_at path.now (forest_of nodes.now) }
 {
-    let (place, behind) = path.split_first()?;
+    let (place, rest) = path.split_first()?;
     let node = nodes.get(*place)?;
-    if behind.is_empty() {
+    if rest.is_empty() {
         return Some(node);
     }
-    part_in(node.kids(), behind)
+    part_in(node.kids(), rest)
 }
 
 impl<'a> Tree<'a> {

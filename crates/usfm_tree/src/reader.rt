@@ -49,7 +49,7 @@ fn cut_off<'a>(from: &'a str, rest: &str) -> &'a str
 }
 
 // What is left after a token that gives the innermost node this closing mark, or none.
-fn left_behind<'a>(role: Role<'a, '_>, count: usize, at: &'a str, rest: &'a str) -> &'a str
+fn left_after<'a>(role: Role<'a, '_>, count: usize, at: &'a str, rest: &'a str) -> &'a str
     requires token { at.now ≡ reading.role_bytes (role_view role) ++ rest.now }
     ensures value { result.now
         ≡ (if is_some (closing_mark (role_view role.entry) count) then rest.entry.now
@@ -177,7 +177,7 @@ impl<'a, 's> Reader<'a, 's> {
         ensures shorter { OnOk result (length (frames_of self.new) < length (frames_of self.old)) }
     {
         let close = closing(role, count);
-        self.end(close, left_behind(role, count, at, rest))?;
+        self.end(close, left_after(role, count, at, rest))?;
         Ok(close.is_some())
     }
 

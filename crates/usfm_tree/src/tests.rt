@@ -44,16 +44,16 @@ const SHEET: &str = "# sheet of the worked rows
 
 // That there are this many leaves, and that they join to the text.
 fn check_leaves(rt: &impl Abort, tree: &Tree<'_>, text: &str, want: u64) {
-    let mut behind = text.as_bytes();
+    let mut left = text.as_bytes();
     let mut count: u64 = 0;
     for leaf in tree.leaves() {
-        match behind.strip_prefix(leaf.as_bytes()) {
+        match left.strip_prefix(leaf.as_bytes()) {
             None => panic!(rt; "{leaf} does not come next in {text}"),
-            Some(rest) => behind = rest,
+            Some(rest) => left = rest,
         }
         count = count.saturating_add(1);
     }
-    assert!(rt; behind.is_empty());
+    assert!(rt; left.is_empty());
     assert_eq!(rt; count, want);
 }
 
@@ -177,7 +177,11 @@ fn walks_over_a_tree(rt: HostRuntime) -> Result<(), SheetFault> {
         let Ok(step) = walk.next_step() else {
             return Err(SheetFault::Memory);
         };
-        assert_eq!(rt; step.map(|step| met(step)), wanted);
+        let step = match step {
+            None => None,
+            Some(step) => Some(met(step)),
+        };
+        assert_eq!(rt; step, wanted);
     }
     Ok(())
 }

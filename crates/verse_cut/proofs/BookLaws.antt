@@ -14,14 +14,14 @@ use Rattle.usfm_token.specs.Tokens.{BeginsMark, Lexeme, mark, words, slice_of, j
 use Rattle.usfm_token.proofs.TokenLaws.{joined-tokens_of}
 use Rattle.usfm_token.proofs.Walk.{each-tokens_of, each_tail, first_not_empty}
 use Rattle.verse_cut.specs.Keys.{key_below, verse_key, text_after}
-use Rattle.verse_cut.specs.Pieces.{Part, pieces_of}
+use Rattle.verse_cut.specs.Pieces.{PieceParts, pieces_of}
 use Rattle.verse_cut.specs.Fits.{byte_order_mark, ends_code, Fits}
 use Rattle.verse_cut.specs.Reading.{key_of, Later, goes_on, opens_at, cut_from, cut_of, is_empty}
 use Rattle.verse_cut.specs.Joins.{KeyText, texts_joined, TextsFit, TextsRise, HasHead, at_book_head, pieces_from, BooksAreJoins, JoinsKeepTheirBook}
 use Rattle.verse_cut.proofs.KeyOrder.{below_trans, below_chapter}
 use Rattle.verse_cut.proofs.MarkLaws.{cut_is_read}
 use Rattle.verse_cut.proofs.Quiet.{by_key}
-use Rattle.verse_cut.proofs.JoinLaws.{Rise, rise_behind, rise_all, fit_keys, begins_mark}
+use Rattle.verse_cut.proofs.JoinLaws.{Rise, rise_after, rise_all, fit_keys, begins_mark}
 use Rattle.verse_cut.proofs.PieceLaws.{pieces_fit}
 
 -- a verse has the chapter in force, and any other key is a head
@@ -186,7 +186,7 @@ texts_rise head ts r =
 fit_texts : (book : List ℕ) (at : ℕ) (ts : List KeyText) → All (λ p. Fits book p.key p.text) (pieces_from at ts) → TextsFit book ts
 fit_texts book at [] h = All-nil (λ t. Fits book t.key t.text)
 fit_texts book at (t ∷ ts) h =
-    let piece : Part = record { key = t.key; start = at; text = t.text } in
+    let piece : PieceParts = record { key = t.key; start = at; text = t.text } in
     let more = pieces_from (at + length t.text) ts in
     All-cons (λ t. Fits book t.key t.text) t ts
     (All-head (λ p. Fits book p.key p.text) piece more h)
@@ -218,7 +218,7 @@ ends_join (x ∷ s) r e b = e
 -- a join begins with the code of its head
 pub joins_keep_their_book : JoinsKeepTheirBook
 joins_keep_their_book book head ts h fit rises =
-    let begins = begins_mark ts (fit_keys book ts (rise_behind head ts rises) fit) in
+    let begins = begins_mark ts (fit_keys book ts (rise_after head ts rises) fit) in
     record {
       rest = h.rest ++ texts_joined ts;
       begins = record {

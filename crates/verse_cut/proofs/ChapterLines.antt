@@ -12,7 +12,7 @@ use Rattle.usfm_ref.specs.Keys.{chapter_head, book_head, same_key}
 use Rattle.usfm_ref.specs.Numbers.{number_of}
 use Rattle.usfm_ref.proofs.Runs.{prefix_len-run}
 use Rattle.usfm_ref.proofs.Spellings.{chapter_in-decimal, numerals}
-use Rattle.usfm_token.specs.Tokens.{mark, words, mark_behind, is_backslash, tokens_of}
+use Rattle.usfm_token.specs.Tokens.{mark, words, mark_after, is_backslash, tokens_of}
 use Rattle.usfm_token.proofs.TokenLemmas.{tokens_of-nil, tokens_of-cons, tokens_of-text}
 use Rattle.verse_cut.specs.Fits.{FitsBy}
 use Rattle.verse_cut.specs.Reading.{leads}
@@ -47,16 +47,16 @@ number_plain n h =
     ∙ and_from (list_all (λ x. not (is_backslash x)) (decimal n)) true
     (digits_plain (decimal n) (digits_decimal numerals n (omega arith))) refl
 
-line_tokens : (n : ℕ) → n ≤ 999 → tokens_of (chapter_line n) ≡ mark (mark_behind (99 ∷ number_text n)) ∷ words (number_text n) ∷ []
+line_tokens : (n : ℕ) → n ≤ 999 → tokens_of (chapter_line n) ≡ mark (mark_after (99 ∷ number_text n)) ∷ words (number_text n) ∷ []
 line_tokens n h =
     tokens_of-cons 92 (99 ∷ number_text n)
-    ∙ ap (λ ts. mark (mark_behind (99 ∷ number_text n)) ∷ ts)
+    ∙ ap (λ ts. mark (mark_after (99 ∷ number_text n)) ∷ ts)
     (one_text 32 (decimal n ++ 10 ∷ []) (number_plain n h) (λ e. absurd (omega arith)))
 
 line_leads : (n : ℕ) → n ≤ 999 → leads (chapter_head n) (tokens_of (chapter_line n)) ≡ true
 line_leads n h =
     ap (leads (chapter_head n)) (line_tokens n h)
-    ∙ leads_from (chapter_head n) (mark (mark_behind (99 ∷ number_text n))) (words (number_text n) ∷ [])
+    ∙ leads_from (chapter_head n) (mark (mark_after (99 ∷ number_text n))) (words (number_text n) ∷ [])
     (ap (option_map chapter_head) (chapter_in-decimal (32 ∷ []) n (10 ∷ []) refl h refl)) refl
 
 not_nought : (n : ℕ) → 1 ≤ n → same_key (chapter_head n) book_head ≡ false

@@ -7,7 +7,7 @@ use Rattle.usfm_ref.specs.Keys.{KeyParts, key_cmp, book_head}
 use Rattle.usfm_ref.specs.Rising.{rises_by}
 use Rattle.verse_cut.specs.Keys.{key_below}
 use Rattle.verse_cut.specs.Marks.{Keyed, keyed_marks, opening}
-use Rattle.verse_cut.specs.Pieces.{Part, pieces_between, pieces_of, pieces_joined, AreNeighbours, opened, IsCutOf, OneCut, KeysRise, PiecesRise, LieIn, PiecesLie}
+use Rattle.verse_cut.specs.Pieces.{PieceParts, pieces_between, pieces_of, pieces_joined, AreNeighbours, opened, IsCutOf, OneCut, KeysRise, PiecesRise, LieIn, PiecesLie}
 use Rattle.verse_cut.specs.Joins.{KeyText, texts_joined, at_book_head, pieces_from}
 use Rattle.verse_cut.proofs.BookLaws.{parted, texts_rise}
 
@@ -72,7 +72,8 @@ is_cut s =
       opened = opened_of s;
     }
 
-unique : (s pre : List ℕ) (k : KeyParts) (at : ℕ) (ms : List Keyed) (ps : List Part) → map opened ps ≡ record { key = k; at = at } ∷ ms
+unique : (s pre : List ℕ) (k : KeyParts) (at : ℕ) (ms : List Keyed) (ps : List PieceParts)
+    → map opened ps ≡ record { key = k; at = at } ∷ ms
     → AreNeighbours at ps → s ≡ pre ++ pieces_joined ps → length pre ≡ at → ps ≡ pieces_between s k at ms
 unique s pre k at ms [] o n whole here = absurd (cc)
 unique s pre k at [] (p ∷ []) o n whole here =

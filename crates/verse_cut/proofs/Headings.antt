@@ -7,31 +7,31 @@ use Rattle.usfm_ref.specs.Books.{is_book_code, same_bytes}
 use Rattle.usfm_ref.specs.Numbers.{is_blank}
 use Rattle.usfm_ref.proofs.Orders.{same_bytes-is, same_bytes-refl}
 use Rattle.verse_cut.specs.Fits.{byte_order_mark, BeginsWithId, ends_code, IsHeaded}
-use Rattle.verse_cut.specs.Reading.{behind_bom, begins_blank, id_at, behind_id, code_leads, code_behind, is_headed, leading_book, book_or_bad, book_at, book_in}
+use Rattle.verse_cut.specs.Reading.{after_bom, begins_blank, id_at, after_id, code_leads, code_after, is_headed, leading_book, book_or_bad, book_at, book_in}
 use Rattle.verse_cut.specs.declared.fault.BookFault.{BookFault}
 use Rattle.verse_cut.specs.declared.fault.BookFault.TheVariants.{NoId}
 
 -- `\id`, a blank, and what comes after
-record IsId (bytes behind : List ℕ) : Type 0 where
+record IsId (bytes after : List ℕ) : Type 0 where
   blank : ℕ
   is_blank : is_blank blank ≡ true
-  bytes_are : bytes ≡ codes "\\id" ++ blank ∷ behind
+  bytes_are : bytes ≡ codes "\\id" ++ blank ∷ after
 
-id_at-some : (bytes behind : List ℕ) → id_at bytes ≡ Some behind → IsId bytes behind
-id_at-some bytes behind h = by (same_bytes (take 3 bytes) (codes "\\id") && begins_blank (drop 3 bytes)) refl h
+id_at-some : (bytes after : List ℕ) → id_at bytes ≡ Some after → IsId bytes after
+id_at-some bytes after h = by (same_bytes (take 3 bytes) (codes "\\id") && begins_blank (drop 3 bytes)) refl h
   where
     parts : (rest : List ℕ) → drop 3 bytes ≡ rest → same_bytes (take 3 bytes) (codes "\\id") ≡ true → begins_blank rest ≡ true
-        → drop 4 bytes ≡ behind → IsId bytes behind
+        → drop 4 bytes ≡ after → IsId bytes after
     parts [] r e b d = absurd (cc)
     parts (x ∷ rest) r e b d = record {
       blank = x;
       is_blank = b;
       bytes_are = sym (take-append-drop 3 bytes)
-          ∙ (λ i. same_bytes-is (take 3 bytes) (codes "\\id") e i ++ (r ∙ ap (λ l. x ∷ l) (behind_is ∙ d)) i);
+          ∙ (λ i. same_bytes-is (take 3 bytes) (codes "\\id") e i ++ (r ∙ ap (λ l. x ∷ l) (after_is ∙ d)) i);
     }
       where
-        behind_is : rest ≡ drop 4 bytes
-        behind_is = ap (drop 1) (sym r) ∙ drop_more bytes
+        after_is : rest ≡ drop 4 bytes
+        after_is = ap (drop 1) (sym r) ∙ drop_more bytes
           where
             drop_more : (l : List ℕ) → drop 1 (drop 3 l) ≡ drop 4 l
             drop_more [] = refl
@@ -40,24 +40,24 @@ id_at-some bytes behind h = by (same_bytes (take 3 bytes) (codes "\\id") && begi
             drop_more (a ∷ b ∷ c ∷ l) = refl
 
     by : (e : Bool) → same_bytes (take 3 bytes) (codes "\\id") && begins_blank (drop 3 bytes) ≡ e
-        → cond e (Some (drop 4 bytes)) None ≡ Some behind → IsId bytes behind
+        → cond e (Some (drop 4 bytes)) None ≡ Some after → IsId bytes after
     by true e h =
         let p = and_parts (same_bytes (take 3 bytes) (codes "\\id")) (begins_blank (drop 3 bytes)) e in
         parts (drop 3 bytes) refl p.0 p.1 cc
     by false e h = absurd (cc)
 
-id_at-of : (blank : ℕ) (behind : List ℕ) → is_blank blank ≡ true → id_at (codes "\\id" ++ blank ∷ behind) ≡ Some behind
-id_at-of blank behind h = cond-true _ _ _ h
+id_at-of : (blank : ℕ) (after : List ℕ) → is_blank blank ≡ true → id_at (codes "\\id" ++ blank ∷ after) ≡ Some after
+id_at-of blank after h = cond-true _ _ _ h
 
 -- what is read after an `\id` comes after one
-pub behind_id-some : (text behind : List ℕ) → behind_id text ≡ Some behind → BeginsWithId text behind
-unfolding behind_id
-behind_id-some text behind h = by (same_bytes (take 3 text) byte_order_mark) refl h
+pub after_id-some : (text after : List ℕ) → after_id text ≡ Some after → BeginsWithId text after
+unfolding after_id
+after_id-some text after h = by (same_bytes (take 3 text) byte_order_mark) refl h
   where
-    by : (e : Bool) → same_bytes (take 3 text) byte_order_mark ≡ e → id_at (cond e (drop 3 text) text) ≡ Some behind
-        → BeginsWithId text behind
+    by : (e : Bool) → same_bytes (take 3 text) byte_order_mark ≡ e → id_at (cond e (drop 3 text) text) ≡ Some after
+        → BeginsWithId text after
     by true e h =
-        let id = id_at-some (drop 3 text) behind h in
+        let id = id_at-some (drop 3 text) after h in
         record {
           marked = true;
           blank = id.blank;
@@ -65,16 +65,16 @@ behind_id-some text behind h = by (same_bytes (take 3 text) byte_order_mark) ref
           text_is = sym (take-append-drop 3 text) ∙ (λ i. same_bytes-is (take 3 text) byte_order_mark e i ++ id.bytes_are i);
         }
     by false e h =
-        let id = id_at-some text behind h in record { marked = false; blank = id.blank; is_blank = id.is_blank; text_is = id.bytes_are }
+        let id = id_at-some text after h in record { marked = false; blank = id.blank; is_blank = id.is_blank; text_is = id.bytes_are }
 
 -- what comes after an `\id` is read
-pub behind_id-of : (text behind : List ℕ) → BeginsWithId text behind → behind_id text ≡ Some behind
-unfolding behind_id
-behind_id-of text behind h = ap (λ t. id_at (behind_bom t)) h.text_is ∙ by h.marked
+pub after_id-of : (text after : List ℕ) → BeginsWithId text after → after_id text ≡ Some after
+unfolding after_id
+after_id-of text after h = ap (λ t. id_at (after_bom t)) h.text_is ∙ by h.marked
   where
-    by : (marked : Bool) → id_at (behind_bom (cond marked byte_order_mark [] ++ (codes "\\id" ++ h.blank ∷ behind))) ≡ Some behind
-    by true = id_at-of h.blank behind h.is_blank
-    by false = id_at-of h.blank behind h.is_blank
+    by : (marked : Bool) → id_at (after_bom (cond marked byte_order_mark [] ++ (codes "\\id" ++ h.blank ∷ after))) ≡ Some after
+    by true = id_at-of h.blank after h.is_blank
+    by false = id_at-of h.blank after h.is_blank
 
 -- ---- the code of a book
 
@@ -95,21 +95,21 @@ code_leads-of code rest h =
 
 -- a text that is read as headed by a book is
 pub is_headed-is : (book text : List ℕ) → is_headed book text ≡ true → IsHeaded book text
-is_headed-is book text h = by (behind_id text) refl h
+is_headed-is book text h = by (after_id text) refl h
   where
-    by : (o : Option (List ℕ)) → behind_id text ≡ o → code_behind book o ≡ true → IsHeaded book text
+    by : (o : Option (List ℕ)) → after_id text ≡ o → code_after book o ≡ true → IsHeaded book text
     by None e h = absurd (cc)
     by (Some bytes) e h =
         let p = code_leads-is book bytes h in
         record {
           rest = drop (length book) bytes;
-          begins = behind_id-some text (book ++ drop (length book) bytes) (e ∙ ap Some p.0);
+          begins = after_id-some text (book ++ drop (length book) bytes) (e ∙ ap Some p.0);
           ends = p.1;
         }
 
 -- a text that is headed by a book is read so
 pub is_headed-of : (book text : List ℕ) → IsHeaded book text → is_headed book text ≡ true
-is_headed-of book text h = ap (code_behind book) (behind_id-of text (book ++ h.rest) h.begins) ∙ code_leads-of book h.rest h.ends
+is_headed-of book text h = ap (code_after book) (after_id-of text (book ++ h.rest) h.begins) ∙ code_leads-of book h.rest h.ends
 
 leading_book-some : (text bytes book : List ℕ) → BeginsWithId text bytes → leading_book bytes ≡ Some book → IsHeaded book text
 leading_book-some text bytes book begins h = by (is_book_code (take 3 bytes) && ends_code (drop 3 bytes)) refl h
@@ -138,11 +138,11 @@ never_no_id (Some b) h = absurd (cc)
 -- a book that is read is headed so
 pub book_reads : (text : List ℕ) (r : Result (List ℕ) BookFault) → r ≡ book_in text → IfOk r (λ book. IsHeaded book text)
 unfolding book_in
-book_reads text (Ok book) e = by (behind_id text) refl (sym e)
+book_reads text (Ok book) e = by (after_id text) refl (sym e)
   where
-    by : (o : Option (List ℕ)) → behind_id text ≡ o → book_at o ≡ Ok book → IsHeaded book text
+    by : (o : Option (List ℕ)) → after_id text ≡ o → book_at o ≡ Ok book → IsHeaded book text
     by None b h = absurd (cc)
-    by (Some bytes) b h = leading_book-some text bytes book (behind_id-some text bytes b) (book_or_bad-ok (leading_book bytes) book h)
+    by (Some bytes) b h = leading_book-some text bytes book (after_id-some text bytes b) (book_or_bad-ok (leading_book bytes) book h)
 book_reads text (Err fault) e = tt
 
 -- a text that is headed so is read as that book
@@ -154,28 +154,28 @@ book_only text r e book code h =
     let front : take 3 (book ++ h.rest) ≡ book = take_at book h.rest 3 three in
     let test = and_from (is_book_code (take 3 (book ++ h.rest))) (ends_code (drop 3 (book ++ h.rest))) (ap is_book_code front ∙ code)
     (ap ends_code (drop_at book h.rest 3 three) ∙ h.ends) in
-    e ∙ ap book_at (behind_id-of text (book ++ h.rest) h.begins) ∙ ap book_or_bad (cond-true _ _ _ test ∙ ap Some front)
+    e ∙ ap book_at (after_id-of text (book ++ h.rest) h.begins) ∙ ap book_or_bad (cond-true _ _ _ test ∙ ap Some front)
 
 -- that there is no `\id` is answered exactly where the text begins with none
 pub book_no_id : (text : List ℕ) (r : Result (List ℕ) BookFault) → r ≡ book_in text
-    → (r ≡ Err NoId) ↔ ((behind : List ℕ) → BeginsWithId text behind → ⊥)
+    → (r ≡ Err NoId) ↔ ((after : List ℕ) → BeginsWithId text after → ⊥)
 unfolding book_in
 book_no_id text r e = (
-  λ h behind begins. let there : book_at (Some behind) ≡ Err NoId = ap book_at (sym (behind_id-of text behind begins)) ∙ sym e ∙ h in
-      never_no_id (leading_book behind) there,
-  λ none. e ∙ by (behind_id text) refl none,
+  λ h after begins. let there : book_at (Some after) ≡ Err NoId = ap book_at (sym (after_id-of text after begins)) ∙ sym e ∙ h in
+      never_no_id (leading_book after) there,
+  λ none. e ∙ by (after_id text) refl none,
 )
   where
-    by : (o : Option (List ℕ)) → behind_id text ≡ o → ((behind : List ℕ) → BeginsWithId text behind → ⊥) → book_at o ≡ Err NoId
+    by : (o : Option (List ℕ)) → after_id text ≡ o → ((after : List ℕ) → BeginsWithId text after → ⊥) → book_at o ≡ Err NoId
     by None b none = refl
-    by (Some bytes) b none = absurd (none bytes (behind_id-some text bytes b))
+    by (Some bytes) b none = absurd (none bytes (after_id-some text bytes b))
 
 -- no book is read where no `\id` is
-pub book_in-none : (text : List ℕ) → behind_id text ≡ None → Err NoId ≡ book_in text
+pub book_in-none : (text : List ℕ) → after_id text ≡ None → Err NoId ≡ book_in text
 unfolding book_in
 book_in-none text h = ap book_at (sym h)
 
 -- after an `\id` the book is read that leads what follows, or that none does
-pub book_in-some : (text bytes : List ℕ) → behind_id text ≡ Some bytes → book_or_bad (leading_book bytes) ≡ book_in text
+pub book_in-some : (text bytes : List ℕ) → after_id text ≡ Some bytes → book_or_bad (leading_book bytes) ≡ book_in text
 unfolding book_in
 book_in-some text bytes h = ap book_at (sym h)

@@ -37,8 +37,8 @@ rise_from k (t ∷ ts) above rises =
     (a.0, rise_from t.key ts r.0 r.1)
 
 -- texts after the head of a book
-pub rise_behind : (head : List ℕ) (ts : List KeyText) → TextsRise (at_book_head head ∷ ts) → Rise book_head ts
-rise_behind head ts h =
+pub rise_after : (head : List ℕ) (ts : List KeyText) → TextsRise (at_book_head head ∷ ts) → Rise book_head ts
+rise_after head ts h =
     let r = and_parts (list_all (λ u. key_below book_head u.key) ts) (rises_by key_cmp (λ u. u.key) ts) h in
     rise_from book_head ts r.0 r.1
 
@@ -216,7 +216,7 @@ unfolding cut_of
 fitting_texts_cut_back book head ts fits_head fits rises heads =
     let rest = texts_joined ts in
     let us = tokens_of (texts_joined ts) in
-    let rise = rise_behind head ts rises in
+    let rise = rise_after head ts rises in
     let keys = fit_keys book ts rise fits in
     let begins = begins_mark ts keys in
     let quiet : is_quiet book_head (tokens_of head) ≡ true =

@@ -8,7 +8,7 @@ use Rattle.usfm_ref.specs.declared.number.VerseMark.{VerseMark}
 use Rattle.usfm_token.specs.Tokens.{Lexeme, mark, words, mark_bytes, slice_of, joined, tokens_of}
 use Rattle.usfm_token.proofs.TokenLaws.{joined-tokens_of}
 use Rattle.verse_cut.specs.Keys.{key_below, verse_key, mark_key, text_after}
-use Rattle.verse_cut.specs.Marks.{Site, Keyed, sites_from, chapter_number, greater_of, chapter_in_force, with_key, keyed_behind, keyed_marks, is_above_all, opening_behind, opening}
+use Rattle.verse_cut.specs.Marks.{Site, Keyed, sites_from, chapter_number, greater_of, chapter_in_force, with_key, keyed_after, keyed_marks, is_above_all, opening_after, opening}
 use Rattle.verse_cut.specs.Pieces.{pieces_between, pieces_of}
 use Rattle.verse_cut.specs.Reading.{key_of, goes_on, opens_at, cut_from, pieces_with, cut_of, CutIsRead}
 use Rattle.verse_cut.proofs.KeyOrder.{below_trans, below_weak, below_chapter, not_below_chapter}
@@ -50,7 +50,7 @@ number_step c false false true n None = refl
 number_step c false false true n (Some v) = omega arith
 
 keyed_is : (c : ℕ) (before : List Site) (at : ℕ) (ts : List Lexeme)
-    → keyed_behind c before (sites_from at ts) ≡ keyed_from (chapter_in_force c before) at ts
+    → keyed_after c before (sites_from at ts) ≡ keyed_from (chapter_in_force c before) at ts
 keyed_is c before at [] = refl
 keyed_is c before at (words t ∷ ts) = keyed_is c before (at + length t) ts
 keyed_is c before at (mark m ∷ ts) =
@@ -120,15 +120,15 @@ pub both_first : (x y : Bool) → (x ≡ true → y ≡ true) → x && y ≡ x
 both_first true y h = h refl
 both_first false y h = refl
 
-opening_is : (g : KeyParts) (before ms : List Keyed) → IsGreatest g before → opening_behind before ms ≡ rising g ms
+opening_is : (g : KeyParts) (before ms : List Keyed) → IsGreatest g before → opening_after before ms ≡ rising g ms
 opening_is g before [] h = refl
 opening_is g before (m ∷ ms) h =
-    ap (λ b. cond b (m ∷ opening_behind (before ++ m ∷ []) ms) (opening_behind (before ++ m ∷ []) ms)) (h m.key)
+    ap (λ b. cond b (m ∷ opening_after (before ++ m ∷ []) ms) (opening_after (before ++ m ∷ []) ms)) (h m.key)
     ∙ by (λ g' h'. opening_is g' (before ++ m ∷ []) ms h') (key_below g m.key) refl
   where
-    by : ((g' : KeyParts) → IsGreatest g' (before ++ m ∷ []) → opening_behind (before ++ m ∷ []) ms ≡ rising g' ms) → (e : Bool)
+    by : ((g' : KeyParts) → IsGreatest g' (before ++ m ∷ []) → opening_after (before ++ m ∷ []) ms ≡ rising g' ms) → (e : Bool)
         → key_below g m.key ≡ e
-        → cond e (m ∷ opening_behind (before ++ m ∷ []) ms) (opening_behind (before ++ m ∷ []) ms)
+        → cond e (m ∷ opening_after (before ++ m ∷ []) ms) (opening_after (before ++ m ∷ []) ms)
         ≡ cond e (m ∷ rising m.key ms) (rising g ms)
     by go true is = ap (λ r. m ∷ r)
         (go m.key (λ k. greatest-more g before m k h ∙ both_second (key_below g k) (key_below m.key k) (λ q. below_trans g m.key k is q)))

@@ -11,13 +11,13 @@ use Rattle.usfm_ref.specs.Books.{is_code_char, is_book_code}
 use Rattle.usfm_ref.specs.Keys.{KeyParts, book_head, chapter_head}
 use Rattle.usfm_ref.specs.Numbers.{is_blank, chapter_in, verse_in}
 use Rattle.usfm_ref.specs.declared.number.VerseMark.{VerseMark}
-use Rattle.usfm_token.specs.Tokens.{Lexeme, mark, words, mark_bytes, slice_of, joined, tokens_of, is_name_byte, mark_behind, BeginsWithNoText, AreLexemes}
+use Rattle.usfm_token.specs.Tokens.{Lexeme, mark, words, mark_bytes, slice_of, joined, tokens_of, is_name_byte, mark_after, BeginsWithNoText, AreLexemes}
 use Rattle.usfm_token.proofs.TokenLemmas.{tokens_of-cons}
 use Rattle.usfm_token.proofs.TokenLaws.{joined-tokens_of, one_reading}
 use Rattle.usfm_token.proofs.Seam.{joined-append, each_part, each_rest}
 use Rattle.usfm_token.proofs.Walk.{each-tokens_of, each_tail}
 use Rattle.verse_cut.specs.Keys.{key_below, verse_key, text_after}
-use Rattle.verse_cut.specs.Pieces.{Part}
+use Rattle.verse_cut.specs.Pieces.{PieceParts}
 use Rattle.verse_cut.specs.Fits.{byte_order_mark, ends_code, IsHeaded, FitsKey, FitsBy, Fits, PiecesFit}
 use Rattle.verse_cut.specs.Reading.{key_of, Later, goes_on, opens_at, cut_from, cut_of, not_above, is_quiet, leads}
 use Rattle.verse_cut.proofs.KeyOrder.{below_trans, not_book_head}
@@ -52,7 +52,7 @@ opens_no_text g [] h = tt
 opens_no_text g (mark m ∷ ts) h = tt
 opens_no_text g (words w ∷ ts) (q, h) = absurd (cc)
 
-abbrev FitsLater : KeyParts → Part → Type 0
+abbrev FitsLater : KeyParts → PieceParts → Type 0
 FitsLater g p = FitsKey p.key p.text × (key_below g p.key ≡ true)
 
 -- what a reading gives: tokens that go to the open piece, and pieces that fit
@@ -146,14 +146,14 @@ cut_off (b ∷ x) y (c ∷ p) r none e =
 
 -- `\id` before a blank is a mark without a key
 id_has_no_key : (c : ℕ) (blank : ℕ) (bs : List ℕ) (ts : List Lexeme) → is_blank blank ≡ true
-    → key_of c (mark (mark_behind (105 ∷ 100 ∷ blank ∷ bs))) ts ≡ None
-id_has_no_key c blank bs ts h = by (mark_behind (105 ∷ 100 ∷ blank ∷ bs)).closing (mark_behind (105 ∷ 100 ∷ blank ∷ bs)).name name_is
+    → key_of c (mark (mark_after (105 ∷ 100 ∷ blank ∷ bs))) ts ≡ None
+id_has_no_key c blank bs ts h = by (mark_after (105 ∷ 100 ∷ blank ∷ bs)).closing (mark_after (105 ∷ 100 ∷ blank ∷ bs)).name name_is
     (chapter_in (text_after ts)) (verse_in (text_after ts))
   where
     no_name : is_name_byte blank ≡ false
     no_name = grind (arith, nat_tests)
 
-    name_is : (mark_behind (105 ∷ 100 ∷ blank ∷ bs)).name ≡ 105 ∷ 100 ∷ []
+    name_is : (mark_after (105 ∷ 100 ∷ blank ∷ bs)).name ≡ 105 ∷ 100 ∷ []
     name_is = ap (λ e. take (1 + (1 + cond e (1 + prefix_len is_name_byte bs) 0)) (105 ∷ 100 ∷ blank ∷ bs)) no_name
 
     by : (e : Bool) (name : List ℕ) → name ≡ 105 ∷ 100 ∷ [] → (n : Option ℕ) (v : Option VerseMark)
@@ -205,7 +205,7 @@ heading_part : (g : KeyParts) (code front : List ℕ) (rest : List Lexeme) (s : 
 heading_part g code front [] s each begins plain split h = subst (IsHeaded code) (split ∙ append-nil front) h
 heading_part g code front (words w ∷ us) s each (q, is) plain split h = absurd (cc)
 heading_part g code front (mark m ∷ us) s each (q, is) plain split h =
-    behind (cut_off (cond h.begins.marked byte_order_mark []) (92 ∷ 105 ∷ 100 ∷ h.begins.blank ∷ (code ++ h.rest)) front after
+    by_front (cut_off (cond h.begins.marked byte_order_mark []) (92 ∷ 105 ∷ 100 ∷ h.begins.blank ∷ (code ++ h.rest)) front after
     (mark_plain h.begins.marked) (sym h.begins.text_is ∙ split))
   where
     after : List ℕ
@@ -214,11 +214,11 @@ heading_part g code front (mark m ∷ us) s each (q, is) plain split h =
     no_id : 92 ∷ 105 ∷ 100 ∷ h.begins.blank ∷ (code ++ h.rest) ≡ joined (mark m ∷ us) → ⊥
     no_id e =
         let reading : mark m ∷ us
-        ≡ mark (mark_behind (105 ∷ 100 ∷ h.begins.blank ∷ (code ++ h.rest))) ∷ tokens_of
-        (drop (length (mark_bytes (mark_behind (105 ∷ 100 ∷ h.begins.blank ∷ (code ++ h.rest)))))
+        ≡ mark (mark_after (105 ∷ 100 ∷ h.begins.blank ∷ (code ++ h.rest))) ∷ tokens_of
+        (drop (length (mark_bytes (mark_after (105 ∷ 100 ∷ h.begins.blank ∷ (code ++ h.rest)))))
         (92 ∷ 105 ∷ 100 ∷ h.begins.blank ∷ (code ++ h.rest))) =
         one_reading (mark m ∷ us) each ∙ ap tokens_of (sym e) ∙ tokens_of-cons 92 (105 ∷ 100 ∷ h.begins.blank ∷ (code ++ h.rest)) in
-        let first : mark m ≡ mark (mark_behind (105 ∷ 100 ∷ h.begins.blank ∷ (code ++ h.rest))) = cc in
+        let first : mark m ≡ mark (mark_after (105 ∷ 100 ∷ h.begins.blank ∷ (code ++ h.rest))) = cc in
         let none : key_of g.chapter (mark m) us ≡ None = ap (λ t. key_of g.chapter t us) first
         ∙ id_has_no_key g.chapter h.begins.blank (code ++ h.rest) us h.begins.is_blank in
         cc
@@ -236,16 +236,16 @@ heading_part g code front (mark m ∷ us) s each (q, is) plain split h =
       ends = ends_part p' (92 ∷ after) (ap ends_code (sym rest_is) ∙ h.ends);
     }
 
-    behind : (p : List ℕ) × (front ≡ cond h.begins.marked byte_order_mark [] ++ p)
+    by_front : (p : List ℕ) × (front ≡ cond h.begins.marked byte_order_mark [] ++ p)
         × (92 ∷ 105 ∷ 100 ∷ h.begins.blank ∷ (code ++ h.rest) ≡ p ++ (92 ∷ after)) → IsHeaded code front
-    behind ([], is, e) = absurd (no_id e)
-    behind (c ∷ p, is, e) =
+    by_front ([], is, e) = absurd (no_id e)
+    by_front (c ∷ p, is, e) =
         let c_is : c ≡ 92 = cc in
         let more : 105 ∷ 100 ∷ h.begins.blank ∷ (code ++ h.rest) ≡ p ++ (92 ∷ after) = cc in
         found p (is ∙ ap (λ x. cond h.begins.marked byte_order_mark [] ++ (x ∷ p)) c_is)
         (cut_off (105 ∷ 100 ∷ h.begins.blank ∷ code) h.rest p after (id_plain h.begins.blank code h.begins.is_blank plain) more)
 
-fits_at : (code : List ℕ) (p : Part) → FitsLater book_head p → Fits code p.key p.text
+fits_at : (code : List ℕ) (p : PieceParts) → FitsLater book_head p → Fits code p.key p.text
 fits_at code p f = subst (FitsBy code p.key p.text) (sym (not_book_head p.key f.1)) f.0
 
 -- the pieces of a book fit their keys

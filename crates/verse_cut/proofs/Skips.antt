@@ -9,7 +9,7 @@ use Rattle.std.specs.List.{position_or_len, before_first, take_while}
 use Rattle.std.specs.Str.{bytes_eq}
 use Rattle.usfm_ref.specs.Keys.{KeyParts, chapter_head}
 use Rattle.usfm_ref.specs.Numbers.{chapter_in, verse_in}
-use Rattle.usfm_token.specs.Tokens.{Lexeme, mark, words, is_backslash, is_name_byte, mark_behind, mark_bytes, behind_plus, slice_of, first_lexeme, tokens_of, BeginsWithNoText, BeginsMark}
+use Rattle.usfm_token.specs.Tokens.{Lexeme, mark, words, is_backslash, is_name_byte, mark_after, mark_bytes, after_plus, slice_of, first_lexeme, tokens_of, BeginsWithNoText, BeginsMark}
 use Rattle.usfm_token.proofs.Seam.{tokens_join}
 use Rattle.usfm_token.proofs.TokenLaws.{joined-tokens_of}
 use Rattle.usfm_token.proofs.TokenLemmas.{tokens_of-nil, tokens_of-cons, tokens_of-text}
@@ -46,21 +46,21 @@ none_of c after false true g p q = absurd (cc)
 none_of c after false false true p q = absurd (cc)
 
 -- a mark has no key where neither `c` (99) nor `v` (118) follows the backslash
-no_key : (c : ℕ) (t after : List ℕ) → (get_or t 0 0 == 99 || get_or t 0 0 == 118) ≡ false → mark_key c (mark_behind t) after ≡ None
+no_key : (c : ℕ) (t after : List ℕ) → (get_or t 0 0 == 99 || get_or t 0 0 == 118) ≡ false → mark_key c (mark_after t) after ≡ None
 no_key c t after h = by (get_or t 0 0 == 43) refl
   where
     parts : ((get_or t 0 0 == 99) ≡ false) × ((get_or t 0 0 == 118) ≡ false)
     parts = or_parts (get_or t 0 0 == 99) (get_or t 0 0 == 118) h
 
-    by : (e : Bool) → (get_or t 0 0 == 43) ≡ e → mark_key c (mark_behind t) after ≡ None
-    by true is = ap (λ e. cond (e || (mark_behind t).closing) None
-        (cond (bytes_eq (mark_behind t).name (codes "c")) (option_map chapter_head (chapter_in after))
-        (cond (bytes_eq (mark_behind t).name (codes "v")) (option_map (verse_key c) (verse_in after)) None))) is
+    by : (e : Bool) → (get_or t 0 0 == 43) ≡ e → mark_key c (mark_after t) after ≡ None
+    by true is = ap (λ e. cond (e || (mark_after t).closing) None
+        (cond (bytes_eq (mark_after t).name (codes "c")) (option_map chapter_head (chapter_in after))
+        (cond (bytes_eq (mark_after t).name (codes "v")) (option_map (verse_key c) (verse_in after)) None))) is
     by false is =
-        let on : behind_plus t ≡ t = ap (λ e. cond e (drop 1 t) t) is in
-        let name : (mark_behind t).name ≡ take_while is_name_byte t = ap (take_while is_name_byte) on in
-        none_of c after ((mark_behind t).nested || (mark_behind t).closing) (bytes_eq (mark_behind t).name (codes "c"))
-        (bytes_eq (mark_behind t).name (codes "v"))
+        let on : after_plus t ≡ t = ap (λ e. cond e (drop 1 t) t) is in
+        let name : (mark_after t).name ≡ take_while is_name_byte t = ap (take_while is_name_byte) on in
+        none_of c after ((mark_after t).nested || (mark_after t).closing) (bytes_eq (mark_after t).name (codes "c"))
+        (bytes_eq (mark_after t).name (codes "v"))
         (ap (λ n. bytes_eq n (codes "c")) name ∙ differs t 99 parts.0)
         (ap (λ n. bytes_eq n (codes "v")) name ∙ differs t 118 parts.1)
 
@@ -89,10 +89,10 @@ no_mark_later t n none i lt = ap is_backslash (get_or-drop n t i 0) ∙ none (n 
 quiet_mark : (k : KeyParts) (t : List ℕ) → (get_or t 0 0 == 99 || get_or t 0 0 == 118) ≡ false → HasNoMark t
     → is_quiet k (tokens_of (92 ∷ t)) ≡ true
 quiet_mark k t other none =
-    let later = drop (length (drop 1 (mark_bytes (mark_behind t)))) t in
+    let later = drop (length (drop 1 (mark_bytes (mark_after t)))) t in
     ap (is_quiet k) (tokens_of-cons 92 t)
     ∙ ap (λ o. not_above k o && is_quiet k (tokens_of later)) (no_key k.chapter t (text_after (tokens_of later)) other)
-    ∙ quiet_text k later (no_mark_later t (length (drop 1 (mark_bytes (mark_behind t)))) none)
+    ∙ quiet_text k later (no_mark_later t (length (drop 1 (mark_bytes (mark_after t)))) none)
 
 -- ---- passing over
 
@@ -111,30 +111,30 @@ begins_no_text (b ∷ bs) h = subst BeginsWithNoText (sym (tokens_of-cons b bs))
     rest : List Lexeme
     rest = tokens_of (drop (length (slice_of (first_lexeme b bs))) (b ∷ bs))
 
-    by : (e : Bool) → e ≡ true → BeginsWithNoText (cond e (mark (mark_behind bs)) (words (before_first is_backslash (b ∷ bs))) ∷ rest)
+    by : (e : Bool) → e ≡ true → BeginsWithNoText (cond e (mark (mark_after bs)) (words (before_first is_backslash (b ∷ bs))) ∷ rest)
     by true is = tt
     by false is = absurd (cc)
 
 -- a part without a key goes to the open piece
-goes_over : (key : KeyParts) (text here part behind : List ℕ) → Goes key text here → here ≡ part ++ behind → BeginsMark behind
-    → is_quiet key (tokens_of part) ≡ true → Goes key text behind
-goes_over key text here part behind on here_is begins quiet =
+goes_over : (key : KeyParts) (text here part after : List ℕ) → Goes key text here → here ≡ part ++ after → BeginsMark after
+    → is_quiet key (tokens_of part) ≡ true → Goes key text after
+goes_over key text here part after on here_is begins quiet =
     let sofar = read_of text here in
-    let tokens : tokens_of here ≡ tokens_of part ++ tokens_of behind = ap tokens_of here_is ∙ tokens_join part behind begins in
-    let no_text = begins_no_text behind begins in
-    let more : text ≡ (read_of text here ++ part) ++ behind = sym on.join ∙ ap (λ r. read_of text here ++ r) here_is
-    ∙ sym (append_assoc (read_of text here) part behind) in
-    let sofar_more : read_of text behind ≡ read_of text here ++ part = read_more text (read_of text here ++ part) behind more in
+    let tokens : tokens_of here ≡ tokens_of part ++ tokens_of after = ap tokens_of here_is ∙ tokens_join part after begins in
+    let no_text = begins_no_text after begins in
+    let more : text ≡ (read_of text here ++ part) ++ after = sym on.join ∙ ap (λ r. read_of text here ++ r) here_is
+    ∙ sym (append_assoc (read_of text here) part after) in
+    let sofar_more : read_of text after ≡ read_of text here ++ part = read_more text (read_of text here ++ part) after more in
     record {
-      join = ap (λ r. r ++ behind) sofar_more ∙ sym more;
-      quiet = on.quiet ∙ ap (is_quiet key) tokens ∙ is_quiet-append key (tokens_of part) (tokens_of behind) no_text quiet;
+      join = ap (λ r. r ++ after) sofar_more ∙ sym more;
+      quiet = on.quiet ∙ ap (is_quiet key) tokens ∙ is_quiet-append key (tokens_of part) (tokens_of after) no_text quiet;
       cuts = λ at.
           let place : at + length (read_of text here) + length part
           ≡ at + length (read_of text here ++ part) = omega (arith, length-append (read_of text here) part) in
-          let far : ℕ → Later = λ a. cut_from key a (tokens_of behind) in
+          let far : ℕ → Later = λ a. cut_from key a (tokens_of after) in
           on.cuts at
           ∙ ap (λ ts. goes_on sofar (cut_from key (at + length sofar) ts)) tokens
-          ∙ ap (goes_on sofar) (quiet_goes_on key (tokens_of part) (tokens_of behind) (at + length sofar) no_text quiet)
+          ∙ ap (goes_on sofar) (quiet_goes_on key (tokens_of part) (tokens_of after) (at + length sofar) no_text quiet)
           ∙ ap (λ p. goes_on sofar (goes_on p (far (at + length sofar + length p)))) (joined-tokens_of part)
           ∙ (λ i. (sym (append_assoc sofar part (far (place i)).0) i, (far (place i)).1))
           ∙ ap (λ r. goes_on r (far (at + length r))) (sym sofar_more);

@@ -13,11 +13,11 @@ abbrev pub byte_order_mark : List ℕ
 byte_order_mark = 239 ∷ 187 ∷ 191 ∷ []
 
 -- The text is at most one U+FEFF, `\id`, one blank, and then what comes after.
-pub record BeginsWithId (text behind : List ℕ) : Type 0 where
+pub record BeginsWithId (text after : List ℕ) : Type 0 where
   pub marked : Bool
   pub blank : ℕ
   pub is_blank : IsTrue (is_blank blank)
-  pub text_is : text ≡ (if marked then byte_order_mark else []) ++ (codes "\\id" ++ blank ∷ behind)
+  pub text_is : text ≡ (if marked then byte_order_mark else []) ++ (codes "\\id" ++ blank ∷ after)
 
 -- a code ends at the end, and before a blank or a backslash (92)
 abbrev pub ends_code : List ℕ → Bool

@@ -5,7 +5,7 @@ use Rattle.std.specs.List.{All, Contains, flat_map, filter}
 use Rattle.usfm_ref.specs.Books.{is_book_code}
 use Rattle.usfm_ref.specs.Keys.{KeyParts, key_cmp, book_head, chapter_head, head_of, is_head}
 use Rattle.usfm_ref.specs.Rising.{rises_by}
-use Rattle.verse_cut.specs.Pieces.{Part, pieces_of}
+use Rattle.verse_cut.specs.Pieces.{PieceParts, pieces_of}
 use Rattle.verse_cut.specs.Fits.{IsHeaded, Fits}
 use Rattle.verse_cut.specs.Reading.{is_empty}
 
@@ -45,7 +45,7 @@ abbrev pub at_book_head : List ℕ → KeyText
 at_book_head text = record { key = book_head; text = text }
 
 -- the texts as pieces, one after the other from a place on
-abbrev pub pieces_from : ℕ → List KeyText → List Part
+abbrev pub pieces_from : ℕ → List KeyText → List PieceParts
 pieces_from at [] = []
 pieces_from at (t ∷ ts) =
     record { key = t.key; start = at; text = t.text } ∷ pieces_from (at + length t.text) ts

@@ -43,8 +43,8 @@ chapter_in_force chapter [] = chapter
 chapter_in_force chapter (s ∷ ss) = greater_of (chapter_number s) (chapter_in_force chapter ss)
 
 -- the key of a mark that comes after others, if it has one
-abbrev pub key_behind : ℕ → List Site → Site → Option KeyParts
-key_behind chapter before s = mark_key (chapter_in_force chapter before) s.parts s.after
+abbrev pub key_after : ℕ → List Site → Site → Option KeyParts
+key_after chapter before s = mark_key (chapter_in_force chapter before) s.parts s.after
 
 -- marks with one more at their front, which starts at a place, if that one has a key
 abbrev pub with_key : Option KeyParts → ℕ → List Keyed → List Keyed
@@ -52,14 +52,14 @@ with_key None at ms = ms
 with_key (Some k) at ms = record { key = k; at = at } ∷ ms
 
 -- the marks that have a key, of those that come after others
-abbrev pub keyed_behind : ℕ → List Site → List Site → List Keyed
-keyed_behind chapter before [] = []
-keyed_behind chapter before (s ∷ ss) =
-    with_key (key_behind chapter before s) s.at (keyed_behind chapter (before ++ s ∷ []) ss)
+abbrev pub keyed_after : ℕ → List Site → List Site → List Keyed
+keyed_after chapter before [] = []
+keyed_after chapter before (s ∷ ss) =
+    with_key (key_after chapter before s) s.at (keyed_after chapter (before ++ s ∷ []) ss)
 
 -- the marks of a text that have a key, in order, where a verse before all chapter marks is in the chapter
 unfoldable pub keyed_marks : ℕ → List ℕ → List Keyed
-keyed_marks chapter s = keyed_behind chapter [] (sites_from 0 (tokens_of s))
+keyed_marks chapter s = keyed_after chapter [] (sites_from 0 (tokens_of s))
 
 -- a key greater than those of all marks before
 abbrev pub is_above_all : KeyParts → List Keyed → Bool
@@ -71,12 +71,12 @@ abbrev pub opens : List Keyed → Keyed → Bool
 opens before m = key_below book_head m.key && is_above_all m.key before
 
 -- of marks that come after others, those that open a piece
-abbrev pub opening_behind : List Keyed → List Keyed → List Keyed
-opening_behind before [] = []
-opening_behind before (m ∷ ms) =
-    if opens before m then m ∷ opening_behind (before ++ m ∷ []) ms
-    else opening_behind (before ++ m ∷ []) ms
+abbrev pub opening_after : List Keyed → List Keyed → List Keyed
+opening_after before [] = []
+opening_after before (m ∷ ms) =
+    if opens before m then m ∷ opening_after (before ++ m ∷ []) ms
+    else opening_after (before ++ m ∷ []) ms
 
 -- the marks that open a piece
 abbrev pub opening : List Keyed → List Keyed
-opening ms = opening_behind [] ms
+opening ms = opening_after [] ms

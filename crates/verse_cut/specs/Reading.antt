@@ -6,7 +6,7 @@ use Rattle.usfm_ref.specs.Keys.{KeyParts, book_head, same_key}
 use Rattle.usfm_ref.specs.Numbers.{is_blank}
 use Rattle.usfm_token.specs.Tokens.{Lexeme, mark, words, slice_of, tokens_of}
 use Rattle.verse_cut.specs.Keys.{key_below, mark_key, text_after}
-use Rattle.verse_cut.specs.Pieces.{Part, pieces_of}
+use Rattle.verse_cut.specs.Pieces.{PieceParts, pieces_of}
 use Rattle.verse_cut.specs.Fits.{byte_order_mark, ends_code, Fits}
 use Rattle.verse_cut.specs.declared.fault.BookFault.{BookFault}
 use Rattle.verse_cut.specs.declared.fault.BookFault.TheVariants.{NoId, BadBook}
@@ -20,7 +20,7 @@ key_of chapter (mark m) ts = mark_key chapter m (text_after ts)
 
 -- what goes to the piece that is open, and the later pieces
 abbrev pub Later : Type 0
-Later = List ℕ × List Part
+Later = List ℕ × List PieceParts
 
 -- bytes that go to the open piece, before what later tokens give to it
 abbrev pub goes_on : List ℕ → Later → Later
@@ -44,12 +44,12 @@ cut_from greatest at (t ∷ ts) =
     ]
 
 -- the open piece, with what goes to it, and the later ones
-abbrev pub pieces_with : KeyParts → ℕ → List ℕ → Later → List Part
+abbrev pub pieces_with : KeyParts → ℕ → List ℕ → Later → List PieceParts
 pieces_with k start sofar later =
     record { key = k; start = start; text = sofar ++ later.0 } ∷ later.1
 
 -- the pieces of a text, as they are read from the left
-unfoldable pub cut_of : List ℕ → List Part
+unfoldable pub cut_of : List ℕ → List PieceParts
 cut_of s = pieces_with book_head 0 [] (cut_from book_head 0 (tokens_of s))
 
 -- the reading from the left gives the pieces of a text
@@ -59,8 +59,8 @@ CutIsRead = (s : List ℕ) → cut_of s ≡ pieces_of s
 -- ---- headings
 
 -- what comes after a U+FEFF, if one is at the front, and else all
-abbrev pub behind_bom : List ℕ → List ℕ
-behind_bom text = if same_bytes (take 3 text) byte_order_mark then drop 3 text else text
+abbrev pub after_bom : List ℕ → List ℕ
+after_bom text = if same_bytes (take 3 text) byte_order_mark then drop 3 text else text
 
 -- whether the first byte is a blank
 abbrev pub begins_blank : List ℕ → Bool
@@ -73,8 +73,8 @@ id_at bytes = if same_bytes (take 3 bytes) (codes "\\id") && begins_blank (drop 
     then Some (drop 4 bytes) else None
 
 -- what comes after at most one U+FEFF, `\id` and one blank, if they are at the front
-unfoldable pub behind_id : List ℕ → Option (List ℕ)
-behind_id text = id_at (behind_bom text)
+unfoldable pub after_id : List ℕ → Option (List ℕ)
+after_id text = id_at (after_bom text)
 
 -- whether a code is at the front and ends
 abbrev pub code_leads : List ℕ → List ℕ → Bool
@@ -82,13 +82,13 @@ code_leads code bytes =
     same_bytes (take (length code) bytes) code && ends_code (drop (length code) bytes)
 
 -- whether there are bytes, and a code is at their front and ends
-abbrev pub code_behind : List ℕ → Option (List ℕ) → Bool
-code_behind code None = false
-code_behind code (Some bytes) = code_leads code bytes
+abbrev pub code_after : List ℕ → Option (List ℕ) → Bool
+code_after code None = false
+code_after code (Some bytes) = code_leads code bytes
 
 -- whether a text begins with `\id` and the book's code, which ends
 abbrev pub is_headed : List ℕ → List ℕ → Bool
-is_headed book text = code_behind book (behind_id text)
+is_headed book text = code_after book (after_id text)
 
 -- the code at the front, if it is a book's and ends
 abbrev pub leading_book : List ℕ → Option (List ℕ)
@@ -108,7 +108,7 @@ book_at (Some bytes) = book_or_bad (leading_book bytes)
 -- the book that a text begins with; else that it does not begin with `\id` and a blank, or else that no book's code
 -- follows
 unfoldable pub book_in : List ℕ → Result (List ℕ) BookFault
-book_in text = book_at (behind_id text)
+book_in text = book_at (after_id text)
 
 -- ---- fitting
 

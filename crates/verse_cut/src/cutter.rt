@@ -1,6 +1,6 @@
 ghost use Rattle.std.specs.Prelude.{◌≡◌, ◌+◌, ◌^◌, ◌<◌, ◌++◌, length, IfOk};
 ghost use Rattle.verse_cut.specs.Pieces.{IsCutOf, KeysRise, LieIn, pieces_of};
-ghost use Rattle.verse_cut.specs.Views.{parts_of};
+ghost use Rattle.verse_cut.specs.Views.{pieces_view};
 ghost use Rattle.verse_cut.specs.Loops.Walks.{read_of};
 
 use crate::walk::Walk;
@@ -32,10 +32,10 @@ struct Pieces<'a> {
 }
 
 impl<'a> Pieces<'a> {
-    ghost use Rattle.verse_cut.specs.Loops.Left.{parts_left};
+    ghost use Rattle.verse_cut.specs.Loops.Left.{pieces_left};
 
     fn new(text: &'a str) -> Self
-        ensures { parts_left result ≡ pieces_of text.now }
+        ensures { pieces_left result ≡ pieces_of text.now }
     {
         Pieces {
             key: Key::chapter_head(0),
@@ -49,14 +49,14 @@ impl<'a> Pieces<'a> {
 
 impl<'a> Iterator for Pieces<'a> {
     ghost use Rattle.std.specs.Iterator.{YieldsFirstBy, item_count};
-    ghost use Rattle.verse_cut.specs.Loops.Left.{parts_left};
-    ghost use Rattle.verse_cut.specs.Views.{part_of};
+    ghost use Rattle.verse_cut.specs.Loops.Left.{pieces_left};
+    ghost use Rattle.verse_cut.specs.Views.{piece_view};
 
     type Item = Piece<'a>;
 
-    ghost next_gives = { YieldsFirstBy part_of parts_left };
+    ghost next_gives = { YieldsFirstBy piece_view pieces_left };
 
-    ghost remaining = { item_count parts_left };
+    ghost remaining = { item_count pieces_left };
 
     fn next(&mut self) -> Option<Piece<'a>> {
         if self.is_done {
@@ -75,7 +75,7 @@ impl<'a> Iterator for Pieces<'a> {
                 self.key = opening.key;
                 self.start = start + text.len();
                 self.from = opening.here;
-                self.rest = opening.behind;
+                self.rest = opening.after;
                 Some(Piece { key, text, start })
             }
         }
@@ -102,10 +102,10 @@ fn before<'a>(from: &'a str, rest: &'a str) -> &'a str
 /// # Errors
 /// `AllocError` where there is no memory for the list.
 pub fn cut(alloc: Global, text: &str) -> Result<Vec<Piece<'_>>, AllocError>
-    ensures value { IfOk result (λ list. parts_of list.items ≡ pieces_of text.now) }
-    ensures cut { IfOk result (λ list. IsCutOf (parts_of list.items) text.now) }
-    ensures lie { IfOk result (λ list. LieIn text.now (parts_of list.items)) }
-    ensures rise { IfOk result (λ list. KeysRise (parts_of list.items)) }
+    ensures value { IfOk result (λ list. pieces_view list.items ≡ pieces_of text.now) }
+    ensures cut { IfOk result (λ list. IsCutOf (pieces_view list.items) text.now) }
+    ensures lie { IfOk result (λ list. LieIn text.now (pieces_view list.items)) }
+    ensures rise { IfOk result (λ list. KeysRise (pieces_view list.items)) }
 {
     Pieces::new(text).collect(alloc)
 }

@@ -18,12 +18,12 @@ pub fn book_of(text: &str) -> Result<Book, BookFault>
     ensures only { (book : List ℕ) → IsTrue (is_book_code book)
         → IsHeaded book text.now → result ≡ Ok book }
     ensures no_id { (result ≡ Err BookFault.NoId)
-        ↔ ((behind : List ℕ) → BeginsWithId text.now behind → ⊥) }
+        ↔ ((after : List ℕ) → BeginsWithId text.now after → ⊥) }
     ensures value { result ≡ reading.book_in text.now }
 {
-    match behind_id(text.as_bytes()) {
+    match after_id(text.as_bytes()) {
         None => Err(BookFault::NoId),
-        Some(behind) => match leading_book(behind) {
+        Some(after) => match leading_book(after) {
             None => Err(BookFault::BadBook),
             Some(book) => Ok(book),
         },
@@ -34,20 +34,20 @@ pub fn book_of(text: &str) -> Result<Book, BookFault>
 pub(crate) fn is_headed(book: Book, text: &str) -> bool
     ensures { result ≡ reading.is_headed book text.now }
 {
-    let Some(behind) = behind_id(text.as_bytes()) else {
+    let Some(after) = after_id(text.as_bytes()) else {
         return false;
     };
-    match behind.split_first_chunk::<3>() {
+    match after.split_first_chunk::<3>() {
         Some((code, rest)) => *code == book.code() && ends_code(rest),
         None => false,
     }
 }
 
 // What comes after `\id` and one blank at the front, or after U+FEFF at the front.
-#[tactic(auto, unfolding(crate::specs::Reading::behind_id))]
-fn behind_id(text: &[u8]) -> Option<&[u8]>
-    ensures { MatchOption result (reading.behind_id text.now ≡ None)
-        (λ behind. reading.behind_id text.now ≡ Some behind.now) }
+#[tactic(auto, unfolding(crate::specs::Reading::after_id))]
+fn after_id(text: &[u8]) -> Option<&[u8]>
+    ensures { MatchOption result (reading.after_id text.now ≡ None)
+        (λ after. reading.after_id text.now ≡ Some after.now) }
 {
     match text {
         [0xEF, 0xBB, 0xBF, bytes @ ..] => id_at(bytes),
@@ -57,10 +57,10 @@ fn behind_id(text: &[u8]) -> Option<&[u8]>
 
 fn id_at(bytes: &[u8]) -> Option<&[u8]>
     ensures { MatchOption result (reading.id_at bytes.now ≡ None)
-        (λ behind. reading.id_at bytes.now ≡ Some behind.now) }
+        (λ after. reading.id_at bytes.now ≡ Some after.now) }
 {
     match bytes {
-        [b'\\', b'i', b'd', blank, behind @ ..] if is_blank(*blank) => Some(behind),
+        [b'\\', b'i', b'd', blank, after @ ..] if is_blank(*blank) => Some(after),
         _ => None,
     }
 }

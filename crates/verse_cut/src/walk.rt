@@ -15,7 +15,7 @@ use usfm_token::{Token, TokenIter};
 pub(crate) struct Opening<'a> {
     pub(crate) here: &'a str,
     pub(crate) key: Key,
-    pub(crate) behind: &'a str,
+    pub(crate) after: &'a str,
 }
 
 // What is left of a text. A token is read only where a mark may have a key: few marks do, and
@@ -59,7 +59,7 @@ impl<'a> Walk<'a> {
     // The next mark whose key is above this one, whose chapter is the greatest so far.
     pub(crate) fn next_above(&mut self, key: Key) -> Option<Opening<'a>>
         ensures { MatchOption result (GoesToEnd key self.old.here.now)
-            (λ o. OpensAt key self.old.here.now o.here.now o.behind.now o.key) }
+            (λ o. OpensAt key self.old.here.now o.here.now o.after.now o.key) }
     {
         let chapter = key.chapter;
         loop {
@@ -76,7 +76,7 @@ impl<'a> Walk<'a> {
                     return Some(Opening {
                         here,
                         key: found,
-                        behind: self.here,
+                        after: self.here,
                     });
                 }
             }

@@ -9,7 +9,7 @@ use Rattle.op_core.specs.Ids.{Id}
 use Rattle.op_core.specs.Ops.{Operation}
 use Rattle.op_core.specs.Sets.{get}
 use Rattle.bundle_codec.specs.declared.summaries.range.NumberRange.{NumberRange}
-use Rattle.bundle_codec.specs.Summaries.{Known, is_range, are_apart, has_number}
+use Rattle.bundle_codec.specs.Summaries.{NameRanges, is_range, are_apart, has_number}
 
 -- the ranges with one number more, which is greater than theirs
 abbrev pub with_last : List NumberRange → ℕ → List NumberRange
@@ -75,5 +75,5 @@ pub record HoldsRanges {A : Type 0} (held : List Operation)
   pub names : (q : List ℕ) → AreUnder held q (under m q)
 
 -- the names of a map with their ranges
-abbrev pub listed : {A : Type 0} → BTreeMap (List ℕ) (Vec NumberRange A) → List Known
+abbrev pub listed : {A : Type 0} → BTreeMap (List ℕ) (Vec NumberRange A) → List NameRanges
 listed m = map (λ e. record { name = e.0; ranges = e.1.items }) m.entries

@@ -21,9 +21,9 @@ pub(crate) struct Coverage<'a> {
 
 impl<'a> Model for Coverage<'a> {
     ghost use Rattle.std.specs.Prelude.{◌≡◌, List, length};
-    ghost use Rattle.bundle_codec.specs.Summaries.{Known, IsSummary};
+    ghost use Rattle.bundle_codec.specs.Summaries.{NameRanges, IsSummary};
 
-    ghost Value = { List Known };
+    ghost Value = { List NameRanges };
 
     ghost view = { λ c. c.names.now };
 
@@ -49,11 +49,11 @@ impl<'a> Coverage<'a> {
         ensures same { self.new ≡ self.old }
     {
         let name = id.name.text().as_bytes();
-        let Some((near, known)) = find_name(self.names, name, self.near) else {
+        let Some((near, name_ranges)) = find_name(self.names, name, self.near) else {
             return false;
         };
         self.near = near;
-        let Some(range) = find_range(known.ranges(), id.number, self.ranges[near]) else {
+        let Some(range) = find_range(name_ranges.ranges(), id.number, self.ranges[near]) else {
             return false;
         };
         self.ranges[near] = range;

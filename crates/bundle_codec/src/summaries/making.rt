@@ -6,7 +6,7 @@ ghost use Rattle.std.specs.Option.{option_copied};
 ghost use Rattle.usfm_ref.specs.Books.{same_bytes};
 ghost use Rattle.op_core.specs.Sets.{IsOpSet};
 ghost use Rattle.bundle_codec.specs.Loops.Merging.{at_hand};
-ghost use Rattle.bundle_codec.specs.Summaries.{IsKnown};
+ghost use Rattle.bundle_codec.specs.Summaries.{AreNameRanges};
 ghost use Rattle.bundle_codec.specs.Loops.SummaryMaking as making;
 
 use super::name_ranges::NameRanges;
@@ -108,7 +108,7 @@ pub(crate) fn listed(
 ) -> Result<Vec<NameRanges>, AllocError>
     requires { AllByRecursion (λ e. making.AreRanges e.1.items) held.entries }
     ensures names { IfOk result (λ names. names.items ≡ making.listed held) }
-    ensures valid { IfOk result (λ names. AllByRecursion IsKnown names.items) }
+    ensures valid { IfOk result (λ names. AllByRecursion AreNameRanges names.items) }
 {
     let mut names = Vec::new(alloc);
     for (name, ranges) in held {

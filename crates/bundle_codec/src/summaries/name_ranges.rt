@@ -4,7 +4,7 @@ ghost use Rattle.std.specs.List.{list_all, find};
 ghost use Rattle.std.specs.Ordering.{is_eq};
 ghost use Rattle.usfm_ref.specs.Rising.{rises_by};
 ghost use Rattle.op_core.specs.Names.{name_cmp};
-ghost use Rattle.bundle_codec.specs.Summaries.{IsKnown, is_range, are_apart};
+ghost use Rattle.bundle_codec.specs.Summaries.{AreNameRanges, is_range, are_apart};
 
 use super::range::{NumberRange, look};
 use op_core::ReplicaName;
@@ -18,13 +18,13 @@ pub(crate) struct NameRanges {
 }
 
 impl Model for NameRanges {
-    ghost use Rattle.bundle_codec.specs.Summaries.{Known, IsKnown};
+    ghost use Rattle.bundle_codec.specs.Summaries.{NameRanges, AreNameRanges};
 
-    ghost Value = { Known };
+    ghost Value = { NameRanges };
 
     ghost view = { λ k. record { name = k.name; ranges = k.ranges.items } };
 
-    ghost invariant = { λ k. IsKnown (record { name = k.name; ranges = k.ranges.items }) };
+    ghost invariant = { λ k. AreNameRanges (record { name = k.name; ranges = k.ranges.items }) };
 }
 
 impl NameRanges {
@@ -33,7 +33,7 @@ impl NameRanges {
         requires each { IsTrue (list_all is_range ranges.items) }
         requires apart { IsTrue (are_apart ranges.items) }
         ensures parts { result ≡ record { name = name; ranges = ranges.items } }
-        ensures valid { IsKnown result }
+        ensures valid { AreNameRanges result }
     {
         // The name's text shows that it is within its rules.
         let _ = name.text();
@@ -49,7 +49,7 @@ impl NameRanges {
 
     pub(crate) fn name(&self) -> ReplicaName
         ensures name { result ≡ self.now.name }
-        ensures valid { IsKnown self.now }
+        ensures valid { AreNameRanges self.now }
     {
         self.name
     }
@@ -63,7 +63,7 @@ impl NameRanges {
 
     pub(crate) fn ranges(&self) -> &[NumberRange]
         ensures ranges { result.now ≡ self.now.ranges }
-        ensures valid { IsKnown self.now }
+        ensures valid { AreNameRanges self.now }
     {
         &self.ranges
     }
@@ -85,10 +85,10 @@ pub(crate) fn find_name<'a>(
     let mut high = names.len();
     'halves: while low < high {
         let middle = look(low, high, near);
-        let known = &names[middle];
-        match known.order(name) {
+        let name_ranges = &names[middle];
+        match name_ranges.order(name) {
             Ordering::Less => low = middle + 1,
-            Ordering::Equal => return Some((middle, known)),
+            Ordering::Equal => return Some((middle, name_ranges)),
             Ordering::Greater => high = middle,
         }
     }

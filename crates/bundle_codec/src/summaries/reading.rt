@@ -93,15 +93,15 @@ fn comes_after(before: Option<&[u8]>, name: &[u8]) -> bool
 }
 
 // The name at the front with its ranges, if memory was there for them, and the bytes after them.
-#[tactic(auto, unfolding(crate::specs::SummaryReading::known_at))]
-fn known_of<'a>(
+#[tactic(auto, unfolding(crate::specs::SummaryReading::name_ranges_at))]
+fn name_ranges_of<'a>(
     alloc: Global,
     before: Option<&[u8]>,
     bytes: &'a [u8],
 ) -> Result<(&'a [u8], Option<NameRanges>, &'a [u8]), BundleFault>
-    ensures rest { let read = reading.known_at (option_copied before.entry) bytes.now in
+    ensures rest { let read = reading.name_ranges_at (option_copied before.entry) bytes.now in
         Gives (λ x. (x.0.now, x.2.now)) result (reading.name_read read) }
-    ensures kept { let read = reading.known_at (option_copied before.entry) bytes.now in
+    ensures kept { let read = reading.name_ranges_at (option_copied before.entry) bytes.now in
         IfOk result (λ x. IfSome x.1 (λ k. read ≡ Ok (k, x.2.now))) }
 {
     let (name, rest) = name_of(before, bytes)?;
@@ -110,20 +110,23 @@ fn known_of<'a>(
         return Err(BundleFault::Truncated);
     }
     let (ranges, rest) = ranges_of(alloc, count, rest)?;
-    let known = match ranges {
+    let name_ranges = match ranges {
         None => None,
         Some(ranges) => Some(NameRanges::new(made_name(name), ranges)),
     };
-    Ok((name, known, rest))
+    Ok((name, name_ranges, rest))
 }
 
 // The names with one more after them, if both were kept and a growth is not refused.
-fn with_known(kept: Option<Vec<NameRanges>>, known: Option<NameRanges>) -> Option<Vec<NameRanges>>
+fn with_name_ranges(
+    kept: Option<Vec<NameRanges>>,
+    name_ranges: Option<NameRanges>,
+) -> Option<Vec<NameRanges>>
     ensures { IfSome result (λ new.
-        IsSomeAnd kept (λ old. IsSomeAnd known (λ k. new.items ≡ old.items ++ k ∷ []))) }
+        IsSomeAnd kept (λ old. IsSomeAnd name_ranges (λ k. new.items ≡ old.items ++ k ∷ []))) }
 {
     let mut names = kept?;
-    names.push(known?).ok()?;
+    names.push(name_ranges?).ok()?;
     Some(names)
 }
 
@@ -154,8 +157,8 @@ fn names_of(
     let mut before = None;
     let mut rest = bytes;
     for _ in 0..count {
-        let (name, known, left) = known_of(alloc, before, rest)?;
-        kept = with_known(kept, known);
+        let (name, name_ranges, left) = name_ranges_of(alloc, before, rest)?;
+        kept = with_name_ranges(kept, name_ranges);
         before = Some(name);
         rest = left;
     }

@@ -26,14 +26,18 @@ fn push_number(bytes: &mut Vec<u8>, number: u64) -> Result<(), AllocError>
 }
 
 // Appends a name with its ranges.
-pub(crate) fn push_known(bytes: &mut Vec<u8>, known: &NameRanges) -> Result<(), AllocError>
-    ensures { IfOk result (λ _. bytes.new.items ≡ bytes.old.items ++ sums.known known.now) }
+pub(crate) fn push_name_ranges(
+    bytes: &mut Vec<u8>,
+    name_ranges: &NameRanges,
+) -> Result<(), AllocError>
+    ensures { IfOk result (λ _. bytes.new.items
+        ≡ bytes.old.items ++ sums.name_ranges name_ranges.now) }
 {
-    let name = known.name();
+    let name = name_ranges.name();
     let name = name.text().as_bytes();
     bytes.extend_from_slice(&[name.len() as u8])?;
     bytes.extend_from_slice(name)?;
-    push_ranges(bytes, known.ranges())
+    push_ranges(bytes, name_ranges.ranges())
 }
 
 // Appends how many ranges there are, and each of them.

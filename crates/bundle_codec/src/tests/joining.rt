@@ -72,6 +72,21 @@ fn bundles_are_joined(rt: HostRuntime) -> Result<(), Fail> {
     Ok(())
 }
 
+#[test]
+fn bundles_are_joined_after_bytes(rt: HostRuntime) -> Result<(), Fail> {
+    let alloc = rt.alloc();
+    let (left, right) = (decode_whole(alloc, B1)?, decode_whole(alloc, Y)?);
+    let (bytes, count) = left.join_after(&right, b"front".to_vec(alloc)?)?;
+    assert_eq!(rt; count, 3);
+    let mut wanted = b"front".to_vec(alloc)?;
+    wanted.extend_from_slice(&b1_and_y(alloc)?)?;
+    assert!(rt; bytes == wanted);
+    let clashing = decode_whole(alloc, CLASHING)?;
+    let clash = Some(JoinFault::Clash(OpId::read("2:ana")?));
+    assert!(rt; left.join_after(&clashing, bytes).err() == clash);
+    Ok(())
+}
+
 fn fault_of(alloc: Global, first: &[u8], second: &[u8]) -> Option<JoinFault> {
     join_bundles(alloc, first, second).err()
 }

@@ -90,7 +90,11 @@ fn join_to(alloc: Global, first: &[u8], second: &[u8], want: &[u8]) -> Result<bo
 #[test]
 fn full_and_thinned_are_joined(rt: HostRuntime) -> Result<(), Fail> {
     let alloc = rt.alloc();
-    let both = joined(alloc, &[&V2[..15], &[3], &B1[16..62], &V2[16..]])?;
+    let (full, thinned) = (B1.as_slice(), V2.as_slice());
+    let both = joined(
+        alloc,
+        &[&thinned[..15], &[3], &full[16..62], &thinned[16..]],
+    )?;
     assert_eq!(rt; both.len(), 150);
     assert!(rt; join_to(alloc, B1, V2, &both)?);
     assert!(rt; join_to(alloc, V2, V2, V2)?);
@@ -111,15 +115,16 @@ fn thinned_clashes_at_another_key(rt: HostRuntime) -> Result<(), Fail> {
 
 // The project of B1, Y and Z, thinned: 1 ana, 2 ana without its text, 3 ana and 3 ben.
 fn of_three_texts(alloc: Global) -> Result<Vec<u8>, AllocError> {
+    let (full, thinned, last) = (B1.as_slice(), V2.as_slice(), Z.as_slice());
     joined(
         alloc,
         &[
-            &V2[..15],
+            &thinned[..15],
             &[4],
-            &B1[16..62],
-            &V2[16..46],
-            &Z[16..],
-            &V2[46..],
+            &full[16..62],
+            &thinned[16..46],
+            &last[16..],
+            &thinned[46..],
         ],
     )
 }
@@ -136,7 +141,15 @@ fn is_outside(alloc: Global, summary: &[u8], want: &[u8]) -> Result<bool, Fail> 
 fn thinned_lie_outside(rt: HostRuntime) -> Result<(), Fail> {
     let alloc = rt.alloc();
     assert_eq!(rt; of_three_texts(alloc)?.len(), 208);
-    let segment = joined(alloc, &[&V2[..15], &[3], &V2[16..46], &Z[16..], &V2[46..]])?;
+    let (thinned, last) = (V2.as_slice(), Z.as_slice());
+    let parts: &[&[u8]] = &[
+        &thinned[..15],
+        &[3],
+        &thinned[16..46],
+        &last[16..],
+        &thinned[46..],
+    ];
+    let segment = joined(alloc, parts)?;
     assert_eq!(rt; segment.len(), 162);
     assert!(rt; is_outside(alloc, WITHOUT_2_ANA, &segment)?);
     assert!(rt; is_outside(alloc, S1, Y)?);

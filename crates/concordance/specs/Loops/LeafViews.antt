@@ -5,8 +5,8 @@ use Rattle.usfm_token.specs.Tokens.{MarkParts}
 use Rattle.usfm_token.specs.View.{mark_parts}
 use Rattle.sty_sheet.specs.Records.{Record}
 use Rattle.usfm_tree.specs.Events.{Event}
-use Rattle.verse_cut.specs.Pieces.{Part}
-use Rattle.verse_cut.specs.Views.{parts_of}
+use Rattle.verse_cut.specs.Pieces.{PieceParts}
+use Rattle.verse_cut.specs.Views.{pieces_view}
 use Rattle.concordance.specs.Loops.Gathered.{gathered}
 use Rattle.concordance.specs.Passages as passages
 use Rattle.concordance.specs.declared.plain.Enclosure.{Enclosure}
@@ -41,5 +41,5 @@ leaves_with sheet g events =
     (waiting_of g) events
 
 -- the pieces from the one on that holds the place last asked for
-abbrev pub pieces_left : Places → List Part
-pieces_left p = parts_of p.pieces.now
+abbrev pub pieces_left : Places → List PieceParts
+pieces_left p = pieces_view p.pieces.now

@@ -8,7 +8,7 @@ use Rattle.usfm_token.specs.Tokens.{MarkParts}
 use Rattle.usfm_tree.specs.Around.{Around}
 use Rattle.usfm_tree.specs.Forest.{Forest, nothing, text, leaf, node}
 use Rattle.usfm_tree.specs.Reading.{is_character_kind}
-use Rattle.verse_cut.specs.Pieces.{Part, pieces_joined}
+use Rattle.verse_cut.specs.Pieces.{PieceParts, pieces_joined}
 use Rattle.concordance.specs.Passages.{Passage}
 use Rattle.concordance.specs.Plain.{is_verse_text, is_aside, in_closed_character, is_nothing}
 use Rattle.concordance.specs.Plain.{node_end, mark_at_end, number_length, without_attributes}
@@ -73,16 +73,16 @@ TextsFit (node k s b m ks c f) = TextsFit ks × TextsFit f
 -- ---- pieces
 
 -- where pieces begin
-abbrev pub begin_of : List Part → ℕ
+abbrev pub begin_of : List PieceParts → ℕ
 begin_of [] = 0
 begin_of (p ∷ ps) = p.start
 
 -- where pieces end
-abbrev pub end_of : List Part → ℕ
+abbrev pub end_of : List PieceParts → ℕ
 end_of ps = begin_of ps + length (pieces_joined ps)
 
 -- each piece begins where the one before it ends, the first at a place
-abbrev pub are_neighbours : ℕ → List Part → Bool
+abbrev pub are_neighbours : ℕ → List PieceParts → Bool
 are_neighbours at [] = true
 are_neighbours at (p ∷ ps) = (p.start == at) && are_neighbours (at + length p.text) ps
 
@@ -93,7 +93,7 @@ rise_between low end (p ∷ ps) =
     nat_le low p.start && (nat_lt p.start end && rise_between p.start end ps)
 
 -- pieces reach from the first of some passages to after the last
-abbrev pub hold_all : List Part → List Passage → Bool
+abbrev pub hold_all : List PieceParts → List Passage → Bool
 hold_all ps passages =
     are_neighbours (begin_of ps) ps && rise_between (begin_of ps) (end_of ps) passages
 

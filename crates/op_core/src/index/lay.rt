@@ -13,7 +13,7 @@ ghost use Rattle.op_core.specs.Loops.Index.{Lays, LaysKeys, Readies};
 use super::put_in;
 use super::turns::Turn;
 use crate::chapter::Chapter;
-use crate::merge::move_behind;
+use crate::merge::move_after;
 use crate::place::{Near, head_of, place_chapter, place_register, register_at, registers_of};
 use crate::register::Register;
 use std::alloc::{AllocError, Global};
@@ -191,7 +191,7 @@ fn merge_chapters(
         let head = head_of(spot.key);
         let mut near = chapters.len();
         let at = place_chapter(chapters, spot.book, head, &mut near, compared);
-        move_behind(chapters, at, &mut tail);
+        move_after(chapters, at, &mut tail);
         let len = chapters.len() + tail.len();
         if len < chapters.capacity()
             && len < tail.capacity()
@@ -207,7 +207,7 @@ fn merge_chapters(
         }
         rest = before;
     }
-    move_behind(&mut tail, 0, chapters);
+    move_after(&mut tail, 0, chapters);
 }
 
 // Whether a chapter is before the last of these, if there is one.
@@ -303,7 +303,7 @@ fn merge_registers(
     'laying: while let Some((spot, before)) = rest.split_last() {
         let mut near = registers.len();
         let at = place_register(registers, spot.key, &mut near, compared);
-        move_behind(registers, at, &mut tail);
+        move_after(registers, at, &mut tail);
         let len = registers.len() + tail.len();
         if len < registers.capacity()
             && len < tail.capacity()
@@ -314,7 +314,7 @@ fn merge_registers(
         }
         rest = before;
     }
-    move_behind(&mut tail, 0, registers);
+    move_after(&mut tail, 0, registers);
 }
 
 // Whether a key is of the chapter that has this head.

@@ -8,7 +8,7 @@ use Rattle.usfm_ref.specs.Keys.{KeyParts, key_cmp, head_of, book_head, same_key}
 use Rattle.usfm_ref.specs.Rising.{rising}
 use Rattle.usfm_ref.specs.Segments.{Segment, segment}
 use Rattle.verse_cut.specs.declared.fault.BookFault.{BookFault}
-use Rattle.verse_cut.specs.Pieces.{Part, pieces_of}
+use Rattle.verse_cut.specs.Pieces.{PieceParts, pieces_of}
 use Rattle.verse_cut.specs.Reading.{book_in, text_fits}
 use Rattle.op_core.specs.Names.{name_cmp}
 use Rattle.op_core.specs.Ids.{Id}
@@ -90,7 +90,7 @@ module _ (name : List ℕ) (s u : List Operation) (h : StandsFor s u) where
       by false true x y e = absurd (never x (sym e))
       by false false x y e = refl
 
-  due_same : (book : List ℕ) (pieces : List Part) → due_keys s book pieces ≡ due_keys u book pieces
+  due_same : (book : List ℕ) (pieces : List PieceParts) → due_keys s book pieces ≡ due_keys u book pieces
   due_same book pieces i =
       let keys = answers.keys book i in
       filter
@@ -98,14 +98,14 @@ module _ (name : List ℕ) (s u : List Operation) (h : StandsFor s u) where
       || (line_same (segment book key) i && is_some (piece_of pieces key) && not (has_verse pieces key.chapter)))
       (rising key_cmp (map head_of keys ++ (keys ++ map (λ p. p.key) pieces)))
 
-  edits_same : (book : List ℕ) (pieces : List Part) (n : ℕ) (keys : List KeyParts)
+  edits_same : (book : List ℕ) (pieces : List PieceParts) (n : ℕ) (keys : List KeyParts)
       → edits_from n (at name s) book pieces keys ≡ edits_from n (at name u) book pieces keys
   edits_same book pieces n [] = refl
   edits_same book pieces n (key ∷ keys) = λ i.
       edit_with (record { number = n; name = name }) (segment book key) (answers.shown_ids (segment book key) i) (piece_at pieces key)
       ∷ edits_same book pieces (suc n) keys i
 
-  numbered_same : (book : List ℕ) (pieces : List Part) (keys : List KeyParts)
+  numbered_same : (book : List ℕ) (pieces : List PieceParts) (keys : List KeyParts)
       → edits_numbered (at name s) book pieces keys ≡ edits_numbered (at name u) book pieces keys
   numbered_same book pieces keys =
       let count = length keys in
@@ -113,7 +113,8 @@ module _ (name : List ℕ) (s u : List Operation) (h : StandsFor s u) where
       number_same
       ∙ ap (λ ops. cond (has_numbers u count) (Ok ops) (Err import.NumbersUsedUp)) (edits_same book pieces (next_number u) keys)
 
-  into_same : (pieces : List Part) (r : Result (List ℕ) BookFault) → import_into (at name s) pieces r ≡ import_into (at name u) pieces r
+  into_same : (pieces : List PieceParts) (r : Result (List ℕ) BookFault)
+      → import_into (at name s) pieces r ≡ import_into (at name u) pieces r
   into_same pieces (Err fault) = refl
   into_same pieces (Ok book) =
       ap (edits_numbered (at name s) book pieces) (due_same book pieces) ∙ numbered_same book pieces (due_keys u book pieces)

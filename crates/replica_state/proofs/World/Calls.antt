@@ -9,7 +9,7 @@ use Rattle.op_core.specs.Lists.{is_held}
 use Rattle.op_core.specs.Thinned.{is_legal, is_sent, of_ids}
 use Rattle.op_core.proofs.Legal.{delta_legal}
 use Rattle.bundle_codec.specs.Spelling.{bundle}
-use Rattle.bundle_codec.specs.Summaries.{Known, covers, outside}
+use Rattle.bundle_codec.specs.Summaries.{NameRanges, covers, outside}
 use Rattle.replica_state.specs.declared.fault.ReceiveFault.{ReceiveFault}
 use Rattle.replica_state.specs.declared.fault.ReceiveFault.TheVariants.{Memory, Clash}
 use Rattle.replica_state.specs.Receives.{RefusesReceive}
@@ -35,10 +35,10 @@ others_stay w e s h is = ap (of_name s.name) (apart w s.name e (not_there s.name
     of_name name ops = record { name = name; held = ops }
 
 -- the ids of what a summary lacks give it, and it is legal
-pub lacking_ids : (ops : List Operation) (s : List Known) → rises ops ≡ true → of_ids (is_held (outside s ops)) ops ≡ outside s ops
+pub lacking_ids : (ops : List Operation) (s : List NameRanges) → rises ops ≡ true → of_ids (is_held (outside s ops)) ops ≡ outside s ops
 lacking_ids ops s h = of_its_ids (is_sent ops (covers s)) ops h
 
-pub lacking_legal : (ops : List Operation) (s : List Known) → rises ops ≡ true → is_legal ops ≡ true → is_legal (outside s ops) ≡ true
+pub lacking_legal : (ops : List Operation) (s : List NameRanges) → rises ops ≡ true → is_legal ops ≡ true → is_legal (outside s ops) ≡ true
 lacking_legal ops s h legal = delta_legal ops (covers s) h legal
 
 -- ---- what is said of an answer

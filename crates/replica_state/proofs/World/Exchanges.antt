@@ -22,7 +22,7 @@ use Rattle.bundle_codec.proofs.Told.{covers_its_ids}
 use Rattle.replica_state.specs.World.{Event, Bundles, Receives, after, replica_of, is_apart}
 use Rattle.replica_state.specs.World.Schedules.{Holds, Where, At, Within, found, in_bundle, IsMade, IsOrThinned}
 use Rattle.replica_state.specs.World.Exchanges.{HoldUnion, Request, Whole, Lacking, Hearing}
-use Rattle.replica_state.specs.World.Exchanges.{told, wanted, IsAsked, Hears, heard, IsRelay}
+use Rattle.replica_state.specs.World.Exchanges.{bundled, wanted, IsAsked, Hears, heard, IsRelay}
 use Rattle.replica_state.specs.World.Agreement.{HoldsAll, EndsInRelays}
 use Rattle.replica_state.proofs.World.Flights.{apart, all_apart, all_both, all_parts, bundles_stay}
 use Rattle.op_core.proofs.Awaited.{held-get}
@@ -143,28 +143,28 @@ module _ (last between first past : List Event) (a b : List ℕ) (k n : ℕ) (di
 -- ---- what a delta gives
 
 -- what is sent is legal, and its ids give it
-told_legal : (events : List Event) (teller hearer : List ℕ) (request : Request)
-    → is_legal (told hearer request ((after events).held teller)) ≡ true
-told_legal events teller hearer Whole = (stands events teller).legal
-told_legal events teller hearer (Lacking asked) =
+bundled_legal : (events : List Event) (teller hearer : List ℕ) (request : Request)
+    → is_legal (bundled hearer request ((after events).held teller)) ≡ true
+bundled_legal events teller hearer Whole = (stands events teller).legal
+bundled_legal events teller hearer (Lacking asked) =
     delta_legal ((after events).held teller) (covers (summary_of ((after asked).held hearer))) (stands events teller).rising
     (stands events teller).legal
 
-told_by_ids : (events : List Event) (teller hearer : List ℕ) (request : Request)
+bundled_by_ids : (events : List Event) (teller hearer : List ℕ) (request : Request)
     → of_ids (wanted hearer request ((after events).held teller)) ((after events).held teller)
-    ≡ told hearer request ((after events).held teller)
-told_by_ids events teller hearer Whole = all_ids ((after events).held teller) (stands events teller).rising
-told_by_ids events teller hearer (Lacking asked) =
+    ≡ bundled hearer request ((after events).held teller)
+bundled_by_ids events teller hearer Whole = all_ids ((after events).held teller) (stands events teller).rising
+bundled_by_ids events teller hearer (Lacking asked) =
     of_its_ids (is_sent ((after events).held teller) (covers (summary_of ((after asked).held hearer)))) ((after events).held teller)
     (stands events teller).rising
 
 pub can_be_heard : (later sent : List Event) (teller hearer : List ℕ) (request : Request)
     → (k : ℕ) × (slice_get (after (later ++ Bundles teller (wanted hearer request ((after sent).held teller)) ∷ sent)).bundles k
-    ≡ Some (told hearer request ((after sent).held teller)))
+    ≡ Some (bundled hearer request ((after sent).held teller)))
 can_be_heard later sent teller hearer request =
-    let e = told_by_ids sent teller hearer request in
+    let e = bundled_by_ids sent teller hearer request in
     let r = bundles_stay later sent teller (wanted hearer request ((after sent).held teller))
-    (ap is_legal e ∙ told_legal sent teller hearer request) in
+    (ap is_legal e ∙ bundled_legal sent teller hearer request) in
     (r.0, r.1 ∙ ap Some e)
 
 -- ---- hearings
@@ -190,7 +190,7 @@ hears : (a : List ℕ) (h : Hearing) → Hears a h → (q : Id) (o : Operation) 
 hears a h r q o g = ap (λ xs. get xs q) now ∙ held (get ((whole h.got).held h.hearer) q) refl
   where
     b : List Operation
-    b = told h.hearer h.request ((after h.sent).held a)
+    b = bundled h.hearer h.request ((after h.sent).held a)
 
     s : Sound (whole h.got)
     s = (twins h.got).sound
@@ -216,7 +216,7 @@ hears a h r q o g = ap (λ xs. get xs q) now ∙ held (get ((whole h.got).held h
 
     -- what the teller holds of it here
     here : (x : Operation) → get ((after h.sent).held a) q ≡ Some x → (request : Request) → IsAsked request h.sent
-        → get ((whole h.got).held h.hearer) q ≡ None → get (told h.hearer request ((after h.sent).held a)) q ≡ Some x
+        → get ((whole h.got).held h.hearer) q ≡ None → get (bundled h.hearer request ((after h.sent).held a)) q ≡ Some x
     here x f Whole asked n = f
     here x f (Lacking asked) before n =
         delta_holds ((after h.sent).held a) (covers (summary_of ((after asked).held h.hearer))) q x f

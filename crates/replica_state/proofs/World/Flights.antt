@@ -7,7 +7,7 @@ use Rattle.usfm_ref.specs.Books.{same_bytes}
 use Rattle.op_core.specs.Ids.{Id}
 use Rattle.op_core.specs.Ops.{Operation}
 use Rattle.op_core.specs.Thinned.{is_legal, of_ids}
-use Rattle.bundle_codec.specs.Summaries.{Known, summary_of}
+use Rattle.bundle_codec.specs.Summaries.{NameRanges, summary_of}
 use Rattle.replica_state.specs.World.{World, Event, Edits, EditsOver, Imports, Thins, Summarizes, Bundles, Receives}
 use Rattle.replica_state.specs.World.{ReceivesCut, FindsNoMemory, after, happens, received, with_held, with_bundle, is_apart, replica_of}
 
@@ -97,7 +97,7 @@ bundles_stay [] past name kept legal =
 bundles_stay (e ∷ later) past name kept legal =
     in_flight (after (later ++ Bundles name kept ∷ past)) e _ (bundles_stay later past name kept legal)
 
-asked_for : (w : World) (e : Event) (s : List Known) → (k : ℕ) × (slice_get w.summaries k ≡ Some s)
+asked_for : (w : World) (e : Event) (s : List NameRanges) → (k : ℕ) × (slice_get w.summaries k ≡ Some s)
     → (k : ℕ) × (slice_get (happens w e).summaries k ≡ Some s)
 asked_for w (Edits name g text) s r = r
 asked_for w (EditsOver name g text given) s r = r

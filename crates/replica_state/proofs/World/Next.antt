@@ -6,7 +6,7 @@ use Rattle.std.proofs.lemmas.Bool.Decides.{nat_tests}
 use Rattle.usfm_ref.specs.Keys.{KeyParts}
 use Rattle.usfm_ref.specs.Segments.{Segment, segment}
 use Rattle.verse_cut.specs.declared.fault.BookFault.{BookFault}
-use Rattle.verse_cut.specs.Pieces.{Part, pieces_of}
+use Rattle.verse_cut.specs.Pieces.{PieceParts, pieces_of}
 use Rattle.verse_cut.specs.Reading.{book_in}
 use Rattle.op_core.specs.Ids.{Id, same_id, is_number, names_fall}
 use Rattle.op_core.specs.Ops.{Operation, is_full, in_segment, names}
@@ -86,7 +86,7 @@ some_among p (x ∷ ids) q h = by (some_among p ids q) (p x) (same_id q x) refl 
 
 -- ---- an import
 
-module _ (s : State) (book : List ℕ) (pieces : List Part) where
+module _ (s : State) (book : List ℕ) (pieces : List PieceParts) where
   each_next : (n : ℕ) (keys : List KeyParts) → greatest_number s.held < n → n + length keys ≤ 1000000000000001
       → (q : Id) (o : Operation) → get (edits_from n s book pieces keys) q ≡ Some o → IsNext s o
   each_next n [] l m q o g = cc g
@@ -122,7 +122,7 @@ module _ (s : State) (book : List ℕ) (pieces : List Part) where
       }
       by false e = none_next s
 
-import_next : (s : State) (pieces : List Part) (r : Result (List ℕ) BookFault) → AreNext s (edits_made (import_into s pieces r))
+import_next : (s : State) (pieces : List PieceParts) (r : Result (List ℕ) BookFault) → AreNext s (edits_made (import_into s pieces r))
 import_next s pieces (Ok book) = numbered_next s book pieces (due_keys s.held book pieces)
 import_next s pieces (Err fault) = none_next s
 

@@ -20,10 +20,10 @@ use Rattle.usfm_token.specs.Tokens.{Lexeme, mark, words, MarkParts, slice_of, to
 use Rattle.verse_cut.specs.Fits.{IsHeaded, FitsKey}
 use Rattle.verse_cut.specs.Joins.{KeyText, texts_joined, at_book_head, pieces_from}
 use Rattle.verse_cut.specs.Keys.{key_below, verse_key, mark_key, text_after}
-use Rattle.verse_cut.specs.Pieces.{Part, pieces_of}
+use Rattle.verse_cut.specs.Pieces.{PieceParts, pieces_of}
 use Rattle.verse_cut.specs.Reading.{key_of, goes_on, opens_at, cut_from, cut_of}
 use Rattle.verse_cut.proofs.BookLaws.{books_are_joins}
-use Rattle.verse_cut.proofs.JoinLaws.{FitKeys, fit_keys, begins_mark, rise_behind}
+use Rattle.verse_cut.proofs.JoinLaws.{FitKeys, fit_keys, begins_mark, rise_after}
 use Rattle.verse_cut.proofs.MarkLaws.{cut_is_read}
 use Rattle.verse_cut.proofs.Quiet.{by_key}
 
@@ -51,18 +51,18 @@ each_text (t ∷ ts) h u =
     let p = parted t.text (texts_joined ts) u (begins_mark ts rest) in
     (p.0, each_text ts rest p.1)
 
-texts_from : (at : ℕ) (ts : List KeyText) → AreTexts ts → AllByRecursion (λ (p : Part). IsUtf8 p.text) (pieces_from at ts)
+texts_from : (at : ℕ) (ts : List KeyText) → AreTexts ts → AllByRecursion (λ (p : PieceParts). IsUtf8 p.text) (pieces_from at ts)
 texts_from at [] h = tt
 texts_from at (t ∷ ts) h = (h.0, texts_from (at + length t.text) ts h.1)
 
 -- each piece of a book that is UTF-8 is UTF-8
 pub pieces_are_text : (book text : List ℕ) → is_book_code book ≡ true → IsHeaded book text → IsUtf8 text
-    → AllByRecursion (λ (p : Part). IsUtf8 p.text) (pieces_of text)
+    → AllByRecursion (λ (p : PieceParts). IsUtf8 p.text) (pieces_of text)
 pieces_are_text book text code headed u =
     let j = books_are_joins book text code headed in
-    let fit = fit_keys book j.later (rise_behind j.head j.later j.rise) j.fit in
+    let fit = fit_keys book j.later (rise_after j.head j.later j.rise) j.fit in
     let p = parted j.head (texts_joined j.later) (subst IsUtf8 j.join u) (begins_mark j.later fit) in
-    subst (AllByRecursion (λ (p : Part). IsUtf8 p.text)) (sym j.pieces)
+    subst (AllByRecursion (λ (p : PieceParts). IsUtf8 p.text)) (sym j.pieces)
     (texts_from 0 (at_book_head j.head ∷ j.later) (p.0, each_text j.later fit p.1))
 
 -- ---- keys
@@ -98,8 +98,8 @@ token_has_key : (c : ℕ) (t : Lexeme) (ts : List Lexeme) (k : KeyParts) → nat
 token_has_key c (words t) ts k small e = cc e
 token_has_key c (mark m) ts k small e = mark_has_key c m (text_after ts) k small e
 
-abbrev HaveKeys : List Part → Type 0
-HaveKeys ps = AllByRecursion (λ (p : Part). IsKey p.key) ps
+abbrev HaveKeys : List PieceParts → Type 0
+HaveKeys ps = AllByRecursion (λ (p : PieceParts). IsKey p.key) ps
 
 small : (g : KeyParts) → IsKey g → nat_le g.chapter 999 ≡ true
 small g h = (and_parts (nat_le g.chapter 999) _ h).0
@@ -121,6 +121,6 @@ later_keys g at (t ∷ ts) h =
         turn true = (is k refl, other k (is k refl))
         turn false = same
 
-pub pieces_have_keys : (text : List ℕ) → AllByRecursion (λ (p : Part). IsKey p.key) (pieces_of text)
+pub pieces_have_keys : (text : List ℕ) → AllByRecursion (λ (p : PieceParts). IsKey p.key) (pieces_of text)
 unfolding cut_of
 pieces_have_keys text = subst HaveKeys (cut_is_read text) (refl, later_keys book_head 0 (tokens_of text) refl)

@@ -15,7 +15,7 @@ use Rattle.usfm_ref.specs.Rising.{rising, with_item}
 use Rattle.usfm_ref.specs.Segments.{Segment, segment}
 use Rattle.verse_cut.specs.declared.fault.BookFault.{BookFault}
 use Rattle.verse_cut.specs.Fits.{IsHeaded}
-use Rattle.verse_cut.specs.Pieces.{Part, pieces_of}
+use Rattle.verse_cut.specs.Pieces.{PieceParts, pieces_of}
 use Rattle.verse_cut.proofs.FitLaws.{fits_is_read}
 use Rattle.verse_cut.specs.Reading.{book_in, text_fits}
 use Rattle.replica_state.proofs.World.PieceRanges.{IsKey, pieces_are_text, pieces_have_keys}
@@ -100,9 +100,9 @@ due_are_keys held book file h =
     all_filter IsKey (is_due held book (pieces_of file)) (walked_keys held book (pieces_of file))
     (keys_rising _ (all_append IsKey (map head_of (keys_of held book)) _ (all_map IsKey IsKey head_of head_key (keys_of held book) keys)
     (all_append IsKey (keys_of held book) _ keys
-    (all_map (λ (p : Part). IsKey p.key) IsKey (λ p. p.key) (λ p is. is) (pieces_of file) (pieces_have_keys file)))))
+    (all_map (λ (p : PieceParts). IsKey p.key) IsKey (λ p. p.key) (λ p is. is) (pieces_of file) (pieces_have_keys file)))))
 
-text_at : (ps : List Part) (key : KeyParts) → AllByRecursion (λ (p : Part). IsUtf8 p.text) ps → IsUtf8 (piece_at ps key)
+text_at : (ps : List PieceParts) (key : KeyParts) → AllByRecursion (λ (p : PieceParts). IsUtf8 p.text) ps → IsUtf8 (piece_at ps key)
 text_at [] key h = IsUtf8-nil
 text_at (p ∷ ps) key h = by (is_eq (key_cmp key p.key)) (text_at ps key h.1)
   where

@@ -2,7 +2,7 @@
 use Rattle.std.proofs.Common.{◌≡◌, ◌≢◌, ℕ, List, [], ◌∷◌, Option, Some, None, Result, Ok, Err, refl, sym, ap, subst, ◌∙◌, OnOk}
 use Rattle.usfm_ref.specs.Keys.{KeyParts}
 use Rattle.usfm_ref.specs.Segments.{segment}
-use Rattle.verse_cut.specs.Pieces.{Part, pieces_of}
+use Rattle.verse_cut.specs.Pieces.{PieceParts, pieces_of}
 use Rattle.op_core.specs.Ids.{Id}
 use Rattle.op_core.specs.Ops.{Operation}
 use Rattle.op_core.specs.Sets.{IsOpSet, clash}
@@ -39,7 +39,7 @@ stands w s c named is =
     ap (with_held w s.name ops).held named ∙ held_same w s.name ops ∙ ap (λ (x : State). (step x c).after.held) is in
     λ i. record { name = (step s c).after.name; held = held i }
 
-module _ (held base : List Operation) (book : List ℕ) (pieces : List Part) where
+module _ (held base : List Operation) (book : List ℕ) (pieces : List PieceParts) where
   edits_happen : (keys : List KeyParts) (w : World) (s : State) → IsIn w s
       → IsIn (all_happen w (edits_since s.name held base book pieces keys)) (after s (edits_over held base book pieces keys))
   edits_happen [] w s is = is

@@ -5,7 +5,7 @@ use Rattle.std.specs.List.{AllByRecursion}
 use Rattle.usfm_ref.specs.Books.{same_bytes}
 use Rattle.usfm_ref.specs.Keys.{KeyParts}
 use Rattle.usfm_ref.specs.Segments.{segment}
-use Rattle.verse_cut.specs.Pieces.{Part, pieces_of}
+use Rattle.verse_cut.specs.Pieces.{PieceParts, pieces_of}
 use Rattle.verse_cut.specs.Reading.{book_in}
 use Rattle.op_core.specs.Export.{has_book}
 use Rattle.op_core.specs.Ids.{Id}
@@ -55,7 +55,7 @@ pub record IsReceiving (bundle : List Operation) (s t : State) (r : Reply) : Typ
       reply w (Receives s.name k) ≡ Some r
 
 -- the edits over given ids that an import since a base is, of some keys
-abbrev pub edits_since : List ℕ → List Operation → List Operation → List ℕ → List Part
+abbrev pub edits_since : List ℕ → List Operation → List Operation → List ℕ → List PieceParts
     → List KeyParts → List Event
 edits_since name held base book pieces keys =
     map (λ key. EditsOver name (segment book key) (piece_at pieces key)
@@ -63,7 +63,7 @@ edits_since name held base book pieces keys =
 
 -- the events of an import since a base, which is named by its place among the bundles that were made: its receiving, and then an
 -- edit over given ids for each key that was changed
-abbrev pub since_events : State → ℕ → List Operation → List ℕ → List Part → List Event
+abbrev pub since_events : State → ℕ → List Operation → List ℕ → List PieceParts → List Event
 since_events s k base book pieces =
     Receives s.name k ∷ edits_since s.name (with_ops s base).held base book pieces
     (changed_keys (with_ops s base).held base book pieces)

@@ -77,13 +77,13 @@ pub record Hearing : Type 0 where
   pub got : List Event
 
 -- what the bundle is to hold, of what is held
-abbrev pub told : List ℕ → Request → List Operation → List Operation
-told hearer Whole held = held
-told hearer (Lacking asked) held = outside (summary_of ((after asked).held hearer)) held
+abbrev pub bundled : List ℕ → Request → List Operation → List Operation
+bundled hearer Whole held = held
+bundled hearer (Lacking asked) held = outside (summary_of ((after asked).held hearer)) held
 
 -- the ids of what the bundle is to hold
 abbrev pub wanted : List ℕ → Request → List Operation → Id → Bool
-wanted hearer request held id = is_held (told hearer request held) id
+wanted hearer request held id = is_held (bundled hearer request held) id
 
 -- the summary that is asked with is that of a moment before the bundle is made
 abbrev pub IsAsked : Request → List Event → Type 0
@@ -96,7 +96,7 @@ pub record Hears (teller : List ℕ) (h : Hearing) : Type 0 where
   pub sends : let held = (after h.sent).held teller in
       IsBefore (Bundles teller (wanted h.hearer h.request held) ∷ h.sent) h.got
   pub is : let held = (after h.sent).held teller in
-      slice_get (after h.got).bundles h.bundle ≡ Some (told h.hearer h.request held)
+      slice_get (after h.got).bundles h.bundle ≡ Some (bundled h.hearer h.request held)
 
 -- At every moment such a bundle is made, and there to be received from then on.
 abbrev pub CanBeHeard : Type 0
@@ -105,7 +105,7 @@ CanBeHeard =
     let held = (after sent).held teller in
     (k : ℕ)
     × (slice_get (after (later ++ Bundles teller (wanted hearer request held) ∷ sent)).bundles k
-    ≡ Some (told hearer request held))
+    ≡ Some (bundled hearer request held))
 
 -- the moment after the hearing
 abbrev pub heard : Hearing → List Event

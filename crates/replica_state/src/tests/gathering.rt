@@ -6,8 +6,13 @@ use bundle_codec::decode;
 use op_core::{OpId, ReplicaName};
 use std::alloc::Global;
 use std::test::Fail;
+use usfm_ref::Book;
 
-fn received(alloc: Global, gathered: Gathering, bytes: &[u8]) -> Result<Gathering, Fail> {
+fn received<'a>(
+    alloc: Global,
+    gathered: Gathering<'a>,
+    bytes: &'a [u8],
+) -> Result<Gathering<'a>, Fail> {
     let (bundle, _) = decode(alloc, bytes)?;
     Ok(gathered.receive(&bundle)?)
 }
@@ -23,7 +28,7 @@ fn gathered_in_any_order(rt: HostRuntime) -> Result<(), Fail> {
         for bytes in order {
             gathered = received(alloc, gathered, *bytes)?;
         }
-        let replica = gathered.into_replica(ReplicaName::read("fold")?)?;
+        let replica = gathered.of_book(ReplicaName::read("fold")?, Book::read("MAT")?)?;
         assert!(rt; replica.bundle(alloc)?.as_slice() == WITHOUT_3_ANA);
     }
     Ok(())

@@ -4,7 +4,7 @@ use Rattle.std.proofs.lemmas.List.{nil_from_length}
 use Rattle.std.proofs.lemmas.Iterator.Consumers.{YieldsList-from_first, map_from_collect}
 use Rattle.sty_sheet.specs.Views.{records_of}
 use Rattle.verse_cut.specs.Pieces.{pieces_of}
-use Rattle.verse_cut.specs.Views.{parts_of}
+use Rattle.verse_cut.specs.Views.{pieces_view}
 use Rattle.concordance.specs.Hits.{keyed, occurrences, hits_of}
 use Rattle.concordance.specs.Loops.KeyedViews.{hits_left}
 use Rattle.concordance.specs.Plain.{plain_leaves}
@@ -32,8 +32,8 @@ found c =
 pub new-requires-2 : goal.new-requires-2
 new-requires-2 c =
     let sheet = records_of c.args.sheet.now in
-    (λ i. hold_all (parts_of (c.deref-3.ensures.value i)) (found c i))
-    ∙ pieces_hold c.args.text.now (parts_of c.in_ok-pieces.pieces.items) _ c.in_ok-pieces.ensures.cut
+    (λ i. hold_all (pieces_view (c.deref-3.ensures.value i)) (found c i))
+    ∙ pieces_hold c.args.text.now (pieces_view c.in_ok-pieces.pieces.items) _ c.in_ok-pieces.ensures.cut
     (found_apart sheet c.args.text.now c.args.needle.now c.requires.some)
     (found_filled sheet c.args.text.now c.args.needle.now c.requires.some)
 
@@ -56,5 +56,5 @@ pub returns-clause-hits : goal.returns-clause-hits
 unfolding hits_of
 returns-clause-hits c =
     map_from_collect _ c.collect.ensures.ran (YieldsList-from_first hit_view hits_left _ (c.new-2.ensures
-    ∙ (λ i. map (keyed ((ap parts_of c.deref-3.ensures.value ∙ c.in_ok-pieces.ensures.value) i))
+    ∙ (λ i. map (keyed ((ap pieces_view c.deref-3.ensures.value ∙ c.in_ok-pieces.ensures.value) i))
     (found (goal.at.returns-clause-hits c).After-deref-3 i))))

@@ -3,7 +3,7 @@ use Rattle.std.specs.List.{flat_map}
 use Rattle.std.specs.Prelude.{IfOk}
 use Rattle.sty_sheet.specs.Views.{records_of}
 use Rattle.verse_cut.specs.Pieces.{pieces_of}
-use Rattle.verse_cut.specs.Views.{parts_of}
+use Rattle.verse_cut.specs.Views.{pieces_view}
 use Rattle.concordance.specs.Loops.Groups.{all_spellings, composed}
 use Rattle.concordance.specs.Loops.KeyedViews.{hits_left, spelled}
 use Rattle.concordance.specs.Plain.{plain_leaves}
@@ -33,8 +33,8 @@ found c = ap passages_view c.deref-2.ensures.value ∙ c.in_ok-runs.ensures.runs
 pub new-requires : goal.new-requires
 new-requires c =
     let sheet = records_of c.args.sheet.now in
-    (λ i. hold_all (parts_of (c.deref-3.ensures.value i)) (found c i))
-    ∙ pieces_hold c.args.text.now (parts_of c.in_ok-pieces.pieces.items) _ c.in_ok-pieces.ensures.cut
+    (λ i. hold_all (pieces_view (c.deref-3.ensures.value i)) (found c i))
+    ∙ pieces_hold c.args.text.now (pieces_view c.in_ok-pieces.pieces.items) _ c.in_ok-pieces.ensures.cut
     (all_runs_apart sheet c.args.text.now (subst (All IsText) (leaves c) c.in_ok-runs.ensures.text))
     (all_runs_filled (plain_leaves sheet c.args.text.now))
 
@@ -47,8 +47,8 @@ returns c =
     let hits = map spelled (hits_left c.new.result) in
     let spelled_all : map composed hits ≡ map (spelling_at (pieces_of text)) (flat_map runs_in (plain_leaves sheet text)) =
     ap (λ h. map composed (map spelled h)) c.new.ensures
-    ∙ runs_spelled (parts_of c.deref-3.result.now) (passages_view c.deref-2.result.now)
-    ∙ (λ i. map (spelling_at ((ap parts_of c.deref-3.ensures.value ∙ c.in_ok-pieces.ensures.value) i)) (found at i)) in
+    ∙ runs_spelled (pieces_view c.deref-3.result.now) (passages_view c.deref-2.result.now)
+    ∙ (λ i. map (spelling_at ((ap pieces_view c.deref-3.ensures.value ∙ c.in_ok-pieces.ensures.value) i)) (found at i)) in
     let all : words_in (all_spellings c.in_ok-sorted.sorted.entries) ≡ words_of sheet text =
     sym (words_same (map composed hits) (all_spellings c.in_ok-sorted.sorted.entries)
     (λ s. composed_same hits (all_spellings c.in_ok-noted.noted.entries) c.in_ok-noted.ensures.spells s

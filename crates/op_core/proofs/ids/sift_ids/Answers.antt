@@ -10,14 +10,14 @@ loop-i-preserved c =
       | then-not-has_id w ↦ rw (w.ids-is, w.kept-is) (record {
         filters = FiltersInPlace-more_swap {x = c.index.result.now} h.filters (omega arith)
             (ap not (sym c.has_id.ensures ∙ w.if-not-has_id.true)) c.index.ensures w.swap.ensures.by_index;
-        behind = omega (arith, h.behind);
+        within = omega (arith, h.within);
         capacity = w.swap.ensures.capacity ∙ h.capacity;
         len = w.swap.ensures.len ∙ h.len;
       })
       | else-not-has_id w ↦ rw (w.ids-is, w.kept-is) (record {
         filters = FiltersInPlace-more_no {x = c.index.result.now} h.filters (omega arith)
             (ap not (sym c.has_id.ensures ∙ w.if-not-has_id.false)) c.index.ensures;
-        behind = omega (arith, h.behind);
+        within = omega (arith, h.within);
         capacity = h.capacity;
         len = h.len;
       })

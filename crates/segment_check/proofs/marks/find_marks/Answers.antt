@@ -36,7 +36,7 @@ loop-next-preserved-in-Continue-1 c =
           here (c.text_of.ensures (tokens_of rest) (first_is c.next-next-in-Some.result (tokens_of rest)
           (tokens_of (rest_of c.next-next-in-Some.new.self)) (ahead d)))
           (next_place (length c.args.text.now) at rest (mark (mark_parts c.in-Mark.mark)) here c.loop-next.invariant.within)
-          c.in_ok-find.ensures.behind c.in_ok-find.ensures.found c.loop-next.invariant.found;
+          c.in_ok-find.ensures.state_after c.in_ok-find.ensures.found c.loop-next.invariant.found;
       within = still_within (length c.args.text.now) at rest (mark (mark_parts c.in-Mark.mark)) here c.loop-next.invariant.within;
     }
 

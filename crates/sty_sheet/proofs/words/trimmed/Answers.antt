@@ -12,11 +12,11 @@ overflow_sub-front c =
       arith,
       c.blanks_at_end.ensures ∙ ap (suffix_len is_blank) c.as_bytes.ensures.value,
       suffix_len-le-length is_blank
-          c.behind_blanks-front.result.now,
+          c.after_blanks-front.result.now,
     )
 
 pub split_at-requires : goal.split_at-requires
 split_at-requires c =
-    let f = c.behind_blanks-front.result.now in
+    let f = c.after_blanks-front.result.now in
     subst (IsCharBoundary f) (ap (λ n. length f - n) (sym (c.blanks_at_end.ensures ∙ ap (suffix_len is_blank) c.as_bytes.ensures.value)))
     (boundary_before_end f)

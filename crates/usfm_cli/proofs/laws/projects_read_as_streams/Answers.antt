@@ -1,5 +1,5 @@
 use Rattle.usfm_cli.proofs.ReadTheSame.{read_as_stream}
-use Rattle.usfm_cli.specs.Executing.{file_after}
+use Rattle.usfm_cli.specs.Projects.{file_after}
 use Rattle.usfm_cli.proofs.laws.projects_read_as_streams.Goals as goal
 
 pub returns : goal.returns

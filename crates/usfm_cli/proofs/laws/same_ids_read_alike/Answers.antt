@@ -1,5 +1,5 @@
 use Rattle.usfm_cli.proofs.ReadAlike.{ids_read}
-use Rattle.usfm_cli.specs.Executing.{file_after}
+use Rattle.usfm_cli.specs.Projects.{file_after}
 use Rattle.usfm_cli.proofs.laws.same_ids_read_alike.Goals as goal
 
 pub returns : goal.returns

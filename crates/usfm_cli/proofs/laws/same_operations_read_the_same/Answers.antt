@@ -1,5 +1,5 @@
 use Rattle.usfm_cli.proofs.ReadTheSame.{same_operations}
-use Rattle.usfm_cli.specs.Executing.{file_after}
+use Rattle.usfm_cli.specs.Projects.{file_after}
 use Rattle.usfm_cli.proofs.laws.same_operations_read_the_same.Goals as goal
 
 pub returns : goal.returns

@@ -1,5 +1,5 @@
 use Rattle.usfm_cli.proofs.ReadAlike.{skeletons_read}
-use Rattle.usfm_cli.specs.Executing.{file_after}
+use Rattle.usfm_cli.specs.Projects.{file_after}
 use Rattle.usfm_cli.proofs.laws.skeletons_read_the_same.Goals as goal
 
 pub returns : goal.returns

@@ -2,7 +2,7 @@ use Rattle.std.proofs.Common.{◌≡◌, Global, Ok, Err, sym, ap, ◌∙◌}
 use Rattle.std.proofs.lemmas.Result.{err_from_is_err_and}
 use Rattle.std.specs.Result.{is_ok}
 use Rattle.replica_state.specs.States.{State}
-use Rattle.usfm_cli.specs.Executing.{state_after}
+use Rattle.usfm_cli.specs.Projects.{state_after}
 use Rattle.usfm_cli.specs.Turns.{in_turn}
 use Rattle.usfm_cli.proofs.InTurn.{file_refused, after_steps, in_its_turn}
 use Rattle.usfm_cli.proofs.Loading.{loads_or_wants}

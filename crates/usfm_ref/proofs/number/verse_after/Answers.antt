@@ -21,7 +21,7 @@ returns-in_err-number-clause-only c = λ mark h. returns-in_err-number-clause-va
 
 pub overflow_sub-result : goal.overflow_sub-result
 overflow_sub-result c =
-    let within : length c.in_ok-number.behind.now ≤ length c.args.text.now = within_text _ _ _ _
+    let within : length c.in_ok-number.after.now ≤ length c.args.text.now = within_text _ _ _ _
     (rw (← c.as_bytes.ensures.value) c.in_ok-bytes.ensures) c.in_ok-number.ensures in
     elim c.match-bridge_at.branch [
       | in-Some w ↦ rw w.last-is
@@ -32,12 +32,12 @@ overflow_sub-result c =
 pub returns-clause-value : goal.returns-clause-value
 returns-clause-value c =
     let verse : ℕ × Option ℕ = (c.in_ok-number.number, c.in_ok-number.letter) in
-    let behind = c.in_ok-number.behind.now in
+    let after = c.in_ok-number.after.now in
     let blanks : blanks_at c.args.text.now ≡ Some c.in_ok-bytes.bytes.now = rw (← c.as_bytes.ensures.value) c.in_ok-bytes.ensures in
-    let read = verse_in-verse c.args.text.now c.in_ok-bytes.bytes.now verse behind blanks c.in_ok-number.ensures in
+    let read = verse_in-verse c.args.text.now c.in_ok-bytes.bytes.now verse after blanks c.in_ok-number.ensures in
     elim c.match-bridge_at.branch [
-      | in-Some w ↦ rw w.last-is (sym (read ∙ ap (λ b. Some (bridged c.args.text.now verse behind b)) w.in-Some.ensures))
-      | in-None w ↦ rw w.last-is (sym (read ∙ ap (λ b. Some (bridged c.args.text.now verse behind b)) w.in-None.ensures))
+      | in-Some w ↦ rw w.last-is (sym (read ∙ ap (λ b. Some (bridged c.args.text.now verse after b)) w.in-Some.ensures))
+      | in-None w ↦ rw w.last-is (sym (read ∙ ap (λ b. Some (bridged c.args.text.now verse after b)) w.in-None.ensures))
     ]
 
 pub returns-clause-reads : goal.returns-clause-reads

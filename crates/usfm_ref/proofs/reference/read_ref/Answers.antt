@@ -16,24 +16,24 @@ returns-in_default-of_code-clause-value c =
     ≡ false = false_from_ne_true _ (λ is. false≢true (c.in_default-of_code.ensures.accepts.1 is)) in
     sym (ref_in-no_code c.args.text.now (ap is_book_code (sym code) ∙ none))
 
-pub returns-in-Some-key_behind-clause-value : goal.returns-in-Some-key_behind-clause-value
-returns-in-Some-key_behind-clause-value c =
+pub returns-in-Some-key_after-clause-value : goal.returns-in-Some-key_after-clause-value
+returns-in-Some-key_after-clause-value c =
     let code : c.in-Some.code.now ≡ take 3 c.args.text.now = c.in-Some.ensures.cases.0 ∙ ap (take 3) c.as_bytes.ensures.value in
-    let behind : c.in-Some.behind.now ≡ drop 3 c.args.text.now = c.in-Some.ensures.cases.1 ∙ ap (drop 3) c.as_bytes.ensures.value in
+    let after : c.in-Some.after.now ≡ drop 3 c.args.text.now = c.in-Some.ensures.cases.1 ∙ ap (drop 3) c.as_bytes.ensures.value in
     rw c.in-Some-of_code.ensures.book
-    (sym (ref_in-code c.args.text.now _ _ _ code behind (c.in-Some-of_code.ensures.accepts.0 refl) c.in-Some-key_behind.ensures))
+    (sym (ref_in-code c.args.text.now _ _ _ code after (c.in-Some-of_code.ensures.accepts.0 refl) c.in-Some-key_after.ensures))
 
-pub returns-in-Some-key_behind-clause-reads : goal.returns-in-Some-key_behind-clause-reads
-returns-in-Some-key_behind-clause-reads c = ref_reads _ _ (returns-in-Some-key_behind-clause-value c)
+pub returns-in-Some-key_after-clause-reads : goal.returns-in-Some-key_after-clause-reads
+returns-in-Some-key_after-clause-reads c = ref_reads _ _ (returns-in-Some-key_after-clause-value c)
 
-pub returns-in-Some-key_behind-clause-only : goal.returns-in-Some-key_behind-clause-only
-returns-in-Some-key_behind-clause-only c = ref_only _ _ (returns-in-Some-key_behind-clause-value c)
+pub returns-in-Some-key_after-clause-only : goal.returns-in-Some-key_after-clause-only
+returns-in-Some-key_after-clause-only c = ref_only _ _ (returns-in-Some-key_after-clause-value c)
 
 pub returns-in-None-clause-value : goal.returns-in-None-clause-value
 returns-in-None-clause-value c =
     let code : c.in-Some.code.now ≡ take 3 c.args.text.now = c.in-Some.ensures.cases.0 ∙ ap (take 3) c.as_bytes.ensures.value in
-    let behind : c.in-Some.behind.now ≡ drop 3 c.args.text.now = c.in-Some.ensures.cases.1 ∙ ap (drop 3) c.as_bytes.ensures.value in
-    sym (ref_in-code c.args.text.now _ _ _ code behind (c.in-Some-of_code.ensures.accepts.0 refl) c.in-None.ensures)
+    let after : c.in-Some.after.now ≡ drop 3 c.args.text.now = c.in-Some.ensures.cases.1 ∙ ap (drop 3) c.as_bytes.ensures.value in
+    sym (ref_in-code c.args.text.now _ _ _ code after (c.in-Some-of_code.ensures.accepts.0 refl) c.in-None.ensures)
 
 pub returns-in-None-clause-only : goal.returns-in-None-clause-only
 returns-in-None-clause-only c = ref_only _ _ (returns-in-None-clause-value c)

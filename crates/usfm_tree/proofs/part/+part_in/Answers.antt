@@ -14,19 +14,19 @@ found c = let b = c.in_ok-node.ensures.lookup in
 pub returns-in_err-node : goal.returns-in_err-node
 returns-in_err-node t c =
     ap (option_map (λ n. view n.now)) c.from_residual-in_err-node.ensures
-    ∙ sym (part_none c.args.path.now c.in_ok-place.behind.now c.in_ok-place.place.now
+    ∙ sym (part_none c.args.path.now c.in_ok-place.rest.now c.in_ok-place.place.now
     (forest_of c.args.nodes.now) c.in_ok-place.ensures.cases.0
     (entry_past c.args.nodes.now c.in_ok-place.place.now c.in_err-node.ensures.lookup.3))
 
 pub returns-then-is_empty : goal.returns-then-is_empty
 returns-then-is_empty t c =
-    sym (part_one c.args.path.now c.in_ok-place.behind.now c.in_ok-place.place.now
+    sym (part_one c.args.path.now c.in_ok-place.rest.now c.in_ok-place.place.now
     (forest_of c.args.nodes.now) c.in_ok-place.ensures.cases.0 (eqb-true _ _ (sym c.if-is_empty.ensures))
     ∙ found (goal.at.returns-then-is_empty t c).In_ok-node)
 
 pub returns : goal.returns
 returns t c =
-    c.part_in.ensures ∙ ap (part_at c.in_ok-place.behind.now) c.kids.ensures
-    ∙ sym (part_more c.args.path.now c.in_ok-place.behind.now c.in_ok-place.place.now
+    c.part_in.ensures ∙ ap (part_at c.in_ok-place.rest.now) c.kids.ensures
+    ∙ sym (part_more c.args.path.now c.in_ok-place.rest.now c.in_ok-place.place.now
     (forest_of c.args.nodes.now) c.in_ok-place.ensures.cases.0 (omega (arith, false-eqb _ 0 c.if-is_empty.ensures))
-    ∙ ap (option_and_then (λ g. part_at c.in_ok-place.behind.now (kids_of g))) (found (goal.at.returns t c).In_ok-node))
+    ∙ ap (option_and_then (λ g. part_at c.in_ok-place.rest.now (kids_of g))) (found (goal.at.returns t c).In_ok-node))

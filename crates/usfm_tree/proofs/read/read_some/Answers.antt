@@ -80,7 +80,7 @@ loop-token-preserved c =
     let S = styles_of c.args.sheet.now in
     let n = length c.args.source.now in
     let t : reading.Placed = record { start = n - length (rest_of c.loop-token.tokens); token = lexeme c.in-Some.token } in
-    let behind = rest_of c.next.new.self in
+    let after = rest_of c.next.new.self in
     record {
       adjoins = adjoins_at (spans_of c.take.new.self) (sofar_of c.take.new.self) c.in_ok-after.after.now
           (rest_of c.new-tokens-in-loop-token.result) c.in_ok-after.ensures.adjoins (sym c.new-tokens-in-loop-token.ensures);
@@ -97,7 +97,7 @@ loop-token-preserved c =
           ∙ sym (c.in_ok-after.ensures.enters S t (sym c.role_of-role.ensures.role) (ap (λ l. n - length l) (sym c.rest-at.ensures)))
           ∙ ap (λ l. resume S (sofar_of c.unwind.new.self) (frames_of c.unwind.new.self) (t ∷ left_of n l)) c.rest-in-loop-token.ensures
           ∙ ap (λ b. resume S (sofar_of c.unwind.new.self) (frames_of c.unwind.new.self)
-          (cond b (left_of n behind) (t ∷ left_of n behind))) (sym c.if-branch.false)
+          (cond b (left_of n after) (t ∷ left_of n after))) (sym c.if-branch.false)
           ∙ unwound d;
     }
 
@@ -130,11 +130,11 @@ returns-then-not-is_empty-clause-nodes c =
     let d = (goal.at.returns-then-not-is_empty-clause-nodes c).In_ok-unwind in
     let S = styles_of c.args.sheet.now in
     let n = length c.args.source.now in
-    let behind = left_of n (rest_of c.next.new.self) in
+    let after = left_of n (rest_of c.next.new.self) in
     let t : reading.Placed = record { start = n - length (rest_of c.loop-token.tokens); token = lexeme c.in-Some.token } in
     let sofar = sofar_of c.unwind.new.self in
     let frames = frames_of c.unwind.new.self in
-    sym (ap (λ b. resume S sofar frames (cond b behind (t ∷ behind))) (sym c.if-branch.false) ∙ unwound d)
+    sym (ap (λ b. resume S sofar frames (cond b after (t ∷ after))) (sym c.if-branch.false) ∙ unwound d)
     ∙ ap (resume S sofar frames) (sym (here d).0)
     ∙ ap (λ l. resume S sofar frames (left_of n l)) (sym c.rest-at.ensures)
     ∙ ap (λ fs. resume S sofar fs (left_of n c.rest-at.result.now))

@@ -2,17 +2,17 @@ use Rattle.std.proofs.Common.{◌≡◌, sym, subst}
 use Rattle.std.proofs.lemmas.Iterator.Consumers.{YieldsList-from_first, map_from_collect}
 use Rattle.std.proofs.lemmas.Result.{IfOk-weaker}
 use Rattle.std.specs.Prelude.{IfOk}
-use Rattle.verse_cut.specs.Loops.Left.{parts_left}
+use Rattle.verse_cut.specs.Loops.Left.{pieces_left}
 use Rattle.verse_cut.specs.Pieces.{pieces_of, KeysRise, LieIn}
-use Rattle.verse_cut.specs.Views.{part_of, parts_of}
+use Rattle.verse_cut.specs.Views.{piece_view, pieces_view}
 use Rattle.verse_cut.proofs.CutLaws.{one_cut, pieces_lie, pieces_rise}
 use Rattle.verse_cut.proofs.cutter.cut.Goals as goal
 
-value : (c : goal.After-collect) → IfOk c.collect.result (λ list. parts_of list.items ≡ pieces_of c.args.text.now)
-value c = map_from_collect _ c.collect.ensures.ran (YieldsList-from_first part_of parts_left _ c.new.ensures)
+value : (c : goal.After-collect) → IfOk c.collect.result (λ list. pieces_view list.items ≡ pieces_of c.args.text.now)
+value c = map_from_collect _ c.collect.ensures.ran (YieldsList-from_first piece_view pieces_left _ c.new.ensures)
 
 pub returns-clause-cut : goal.returns-clause-cut
-returns-clause-cut c = IfOk-weaker c.collect.result _ _ (λ list is. (one_cut (parts_of list.items) c.args.text.now).1 is) (value c)
+returns-clause-cut c = IfOk-weaker c.collect.result _ _ (λ list is. (one_cut (pieces_view list.items) c.args.text.now).1 is) (value c)
 
 pub returns-clause-lie : goal.returns-clause-lie
 returns-clause-lie c =

@@ -1,22 +1,22 @@
 use Rattle.std.proofs.Common.{◌≡◌, ◌∙◌, List, ℕ, Ok, Err, Result, sym, ap}
-use Rattle.verse_cut.specs.Reading.{behind_id, book_or_bad, book_in}
+use Rattle.verse_cut.specs.Reading.{after_id, book_or_bad, book_in}
 use Rattle.verse_cut.specs.declared.fault.BookFault.{BookFault}
 use Rattle.verse_cut.specs.declared.fault.BookFault.TheVariants.{NoId, BadBook}
 use Rattle.verse_cut.proofs.Headings.{book_reads, book_only, book_no_id, book_in-none, book_in-some}
 use Rattle.verse_cut.proofs.heading.book_of.Goals as goal
 
 none : (c : goal.In-None) → ◌≡◌ {A = Result (List ℕ) BookFault} (Err NoId) (book_in c.args.text.now)
-none c = book_in-none c.args.text.now (ap behind_id (sym c.as_bytes.ensures.value) ∙ c.in-None.ensures)
+none c = book_in-none c.args.text.now (ap after_id (sym c.as_bytes.ensures.value) ∙ c.in-None.ensures)
 
 bad : (c : goal.In-None-leading_book) → ◌≡◌ {A = Result (List ℕ) BookFault} (Err BadBook) (book_in c.args.text.now)
 bad c =
     ap book_or_bad (sym c.in-None-leading_book.is ∙ c.leading_book.ensures)
-    ∙ book_in-some c.args.text.now c.in-Some.behind.now (ap behind_id (sym c.as_bytes.ensures.value) ∙ c.in-Some.ensures)
+    ∙ book_in-some c.args.text.now c.in-Some.after.now (ap after_id (sym c.as_bytes.ensures.value) ∙ c.in-Some.ensures)
 
 good : (c : goal.In-Some-leading_book) → ◌≡◌ {A = Result (List ℕ) BookFault} (Ok c.in-Some-leading_book.book) (book_in c.args.text.now)
 good c =
     ap book_or_bad (sym c.in-Some-leading_book.is ∙ c.leading_book.ensures)
-    ∙ book_in-some c.args.text.now c.in-Some.behind.now (ap behind_id (sym c.as_bytes.ensures.value) ∙ c.in-Some.ensures)
+    ∙ book_in-some c.args.text.now c.in-Some.after.now (ap after_id (sym c.as_bytes.ensures.value) ∙ c.in-Some.ensures)
 
 pub returns-in-None-clause-only : goal.returns-in-None-clause-only
 returns-in-None-clause-only c = book_only c.args.text.now (Err NoId) (none c)

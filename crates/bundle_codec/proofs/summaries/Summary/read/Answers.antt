@@ -1,5 +1,5 @@
 use Rattle.std.proofs.Common.{◌≡◌, Ok, Vec, Global, arith}
-use Rattle.bundle_codec.specs.Summaries.{Known}
+use Rattle.bundle_codec.specs.Summaries.{NameRanges}
 use Rattle.bundle_codec.specs.SummaryReading.{summary_at}
 use Rattle.bundle_codec.proofs.SummaryLoops.{some_is}
 use Rattle.bundle_codec.proofs.SummaryWholes.{is_nil, not_nil, read_is, some_names, none_refused, none_followed, read_fails, read_goes_on, read_ends, read_gives}
@@ -16,7 +16,7 @@ pub invariant_of-result : goal.invariant_of-result
 invariant_of-result c =
     (read_is c.args.bytes.now (λ i. omega (arith, c.type_inv.bytes i)) c.in-Some.names.items c.in-Ok.rest.now
     (is_nil c.in-Ok.rest.now c.if-not-is_empty.ensures)
-    (some_is (λ (v : Vec Known Global). summary_at c.args.bytes.now ≡ Ok (v.items, c.in-Ok.rest.now)) c.in-Ok.names c.in-Some.names
+    (some_is (λ (v : Vec NameRanges Global). summary_at c.args.bytes.now ≡ Ok (v.items, c.in-Ok.rest.now)) c.in-Ok.names c.in-Some.names
     c.in-Some.is c.in-Ok.ensures.kept)).0
 
 pub returns-in-None-clause-refused : goal.returns-in-None-clause-refused
@@ -27,14 +27,14 @@ pub returns-in-Some-clause-form : goal.returns-in-Some-clause-form
 returns-in-Some-clause-form c =
     (read_is c.args.bytes.now (λ i. omega (arith, c.type_inv.bytes i)) c.in-Some.names.items c.in-Ok.rest.now
     (is_nil c.in-Ok.rest.now c.if-not-is_empty.ensures)
-    (some_is (λ (v : Vec Known Global). summary_at c.args.bytes.now ≡ Ok (v.items, c.in-Ok.rest.now)) c.in-Ok.names c.in-Some.names
+    (some_is (λ (v : Vec NameRanges Global). summary_at c.args.bytes.now ≡ Ok (v.items, c.in-Ok.rest.now)) c.in-Ok.names c.in-Some.names
     c.in-Some.is c.in-Ok.ensures.kept)).0
 
 pub returns-in-Some-clause-spelled : goal.returns-in-Some-clause-spelled
 returns-in-Some-clause-spelled c =
     (read_is c.args.bytes.now (λ i. omega (arith, c.type_inv.bytes i)) c.in-Some.names.items c.in-Ok.rest.now
     (is_nil c.in-Ok.rest.now c.if-not-is_empty.ensures)
-    (some_is (λ (v : Vec Known Global). summary_at c.args.bytes.now ≡ Ok (v.items, c.in-Ok.rest.now)) c.in-Ok.names c.in-Some.names
+    (some_is (λ (v : Vec NameRanges Global). summary_at c.args.bytes.now ≡ Ok (v.items, c.in-Ok.rest.now)) c.in-Ok.names c.in-Some.names
     c.in-Some.is c.in-Ok.ensures.kept)).1
 
 pub returns-in_default-clause-none : goal.returns-in_default-clause-none
@@ -51,5 +51,5 @@ returns-in-None-clause-none c =
 pub returns-in-Some-clause-exact : goal.returns-in-Some-clause-exact
 returns-in-Some-clause-exact c =
     read_gives (summary_at c.args.bytes.now) c.in-Some.names.items c.in-Ok.rest.now (is_nil c.in-Ok.rest.now c.if-not-is_empty.ensures)
-    (some_is (λ (v : Vec Known Global). summary_at c.args.bytes.now ≡ Ok (v.items, c.in-Ok.rest.now)) c.in-Ok.names c.in-Some.names
+    (some_is (λ (v : Vec NameRanges Global). summary_at c.args.bytes.now ≡ Ok (v.items, c.in-Ok.rest.now)) c.in-Ok.names c.in-Some.names
     c.in-Some.is c.in-Ok.ensures.kept)

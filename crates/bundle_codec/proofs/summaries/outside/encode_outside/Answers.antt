@@ -3,7 +3,7 @@ use Rattle.usfm_ref.specs.Segments.{Segment}
 use Rattle.op_core.specs.Ops.{Operation}
 use Rattle.op_core.specs.Thinned.{is_sent, lacks_thinned}
 use Rattle.op_core.proofs.Legal.{delta_legal}
-use Rattle.bundle_codec.specs.Summaries.{Known, covers, outside, has_segment}
+use Rattle.bundle_codec.specs.Summaries.{NameRanges, covers, outside, has_segment}
 use Rattle.bundle_codec.proofs.Refronted.{has_front}
 use Rattle.bundle_codec.proofs.Wholes.{whole_reads}
 use Rattle.bundle_codec.proofs.LackedSegments.{Segments}
@@ -11,7 +11,7 @@ use Rattle.bundle_codec.proofs.Outside.{outside_set, counted_some, goes_past, wr
 use Rattle.bundle_codec.proofs.summaries.outside.encode_outside.Goals as goal
 
 -- whether an operation is sent, as it is tested
-asked : (set : List Operation) (summary coverage : List Known) (whole : Segments) (o : Operation) (r : Bool) → coverage ≡ summary
+asked : (set : List Operation) (summary coverage : List NameRanges) (whole : Segments) (o : Operation) (r : Bool) → coverage ≡ summary
     → ((g : Segment) → has_segment whole g ≡ lacks_thinned set (covers summary) g)
     → r ≡ (not (covers coverage o.id) || has_segment whole o.segment) → is_sent set (covers summary) o ≡ r
 asked set summary coverage whole o r same lacks e = sym (e ∙ (λ i. not (covers (same i) o.id) || lacks o.segment i))

@@ -4,7 +4,7 @@ use Rattle.bundle_codec.specs.declared.summaries.range.NumberRange.{NumberRange}
 use Rattle.bundle_codec.specs.Reading.{many_at, after}
 use Rattle.bundle_codec.specs.SummaryReading.{range_at, after_range, ranges_at}
 use Rattle.bundle_codec.proofs.Loops.{goes_on, fails, is_done}
-use Rattle.bundle_codec.proofs.SummaryLoops.{behind, kept_on, kept_done, if_some, kept_more}
+use Rattle.bundle_codec.proofs.SummaryLoops.{after_kept, kept_on, kept_done, if_some, kept_more}
 use Rattle.bundle_codec.proofs.summaries.reading.ranges_of.Goals as goal
 
 pub returns-in_err-range-clause-rest : goal.returns-in_err-range-clause-rest
@@ -19,9 +19,9 @@ loop-preserved c = (
       (after (ranges_at c.args.count c.args.bytes.now)) c.loop-test.true c.in_ok-range.ensures c.loop.invariant.0,
   kept_more
       (λ (v : Vec NumberRange Global). ranges_at c.args.count c.args.bytes.now
-      ≡ behind v.items (many_at range_at after_range (c.args.count - c.loop.counter) c.loop.before c.loop.rest.now))
+      ≡ after_kept v.items (many_at range_at after_range (c.args.count - c.loop.counter) c.loop.before c.loop.rest.now))
       (λ (v : Vec NumberRange Global). ranges_at c.args.count c.args.bytes.now
-      ≡ behind v.items (many_at range_at after_range (c.args.count - (c.loop.counter + 1))
+      ≡ after_kept v.items (many_at range_at after_range (c.args.count - (c.loop.counter + 1))
       (Some c.in_ok-range.range.last) c.in_ok-range.left.now))
       (λ (old : Vec NumberRange Global) (new : Vec NumberRange Global). new.items ≡ old.items ++ c.in_ok-range.range ∷ [])
       c.loop.kept c.with_range-kept.result
@@ -37,7 +37,7 @@ returns-clause-rest c = is_done range_at after_range c.args.count c.loop.counter
 pub returns-clause-kept : goal.returns-clause-kept
 returns-clause-kept c = if_some
     (λ (v : Vec NumberRange Global). ranges_at c.args.count c.args.bytes.now
-    ≡ behind v.items (many_at range_at after_range (c.args.count - c.loop.counter) c.loop.before c.loop.rest.now))
+    ≡ after_kept v.items (many_at range_at after_range (c.args.count - c.loop.counter) c.loop.before c.loop.rest.now))
     (λ (v : Vec NumberRange Global). ranges_at c.args.count c.args.bytes.now ≡ Ok (v.items, c.loop.rest.now))
     c.loop.kept
     (λ v p. kept_done range_at after_range c.args.count c.loop.counter c.loop.before c.loop.rest.now v.items

@@ -13,12 +13,12 @@ loop-i-preserved c =
       | then-not-is_in w ↦ rw (w.ids-is, w.kept-is) (record {
         filters = FiltersInPlace-more_swap {x = c.index.result.now} h.filters (omega arith)
             (ap not (sym c.is_in.ensures ∙ w.if-not-is_in.true)) c.index.ensures w.swap.ensures.by_index;
-        behind = omega (arith, h.behind);
+        within = omega (arith, h.within);
       })
       | else-not-is_in w ↦ rw (w.ids-is, w.kept-is) (record {
         filters = FiltersInPlace-more_no {x = c.index.result.now} h.filters (omega arith)
             (ap not (sym c.is_in.ensures ∙ w.if-not-is_in.false)) c.index.ensures;
-        behind = omega (arith, h.behind);
+        within = omega (arith, h.within);
       })
     ]
 

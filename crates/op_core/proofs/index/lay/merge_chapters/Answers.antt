@@ -18,33 +18,33 @@ place_chapter-at-requires c = record {
 pub laying-preserved-then-is_under : goal.laying-preserved-then-is_under
 laying-preserved-then-is_under c =
     let h = c.laying.invariant in
-    let m = c.move_behind.ensures in
+    let m = c.move_after.ensures in
     let g : Segment = segment c.in-Some.spot.now.book c.in-Some.spot.now.key in
     let n = c.place_chapter-at.result in
     let at : n ≡ place segment_cmp segment_total place_of (chapter_of g) c.laying.chapters.items = c.place_chapter-at.ensures.place
     ∙ (λ i. place segment_cmp segment_total place_of (segment g.book (c.head_of-head.ensures i)) (c.deref.ensures.value i)) in
     let within : n ≤ length c.laying.chapters.items = omega (arith, c.place_chapter-at.ensures.within, c.deref.ensures.len) in
     let y : Chapter = record { book = g.book; head = c.head_of-head.result; registers = c.new-registers.result } in
-    let under : begins_above segment_cmp place_of (chapter_of g) (reverse c.move_behind.new.to.items) ≡ true =
+    let under : begins_above segment_cmp place_of (chapter_of g) (reverse c.move_after.new.to.items) ≡ true =
     (λ i. begins_above segment_cmp place_of (segment g.book (sym c.head_of-head.ensures i))
     (reverse (sym c.deref-then-len-capacity-2.ensures.value i))) ∙ sym c.is_under.ensures ∙ c.if-is_under.true in
     let went : is_ok c.push.result ≡ true = ap is_ok c.unwrap.ensures in
     let pushed = c.push.ensures.len ∙ cond-true _ _ _ went in
     record {
       lays = chapter_more g c.args.chapters.now.items c.laying.chapters.items c.laying.tail.items
-          c.move_behind.new.list.items c.move_behind.new.to.items c.push.new.self.items n y within at m.left m.moved under
+          c.move_after.new.list.items c.move_after.new.to.items c.push.new.self.items n y within at m.left m.moved under
           (ap (segment g.book) c.head_of-head.ensures) c.new-registers.ensures.items (c.push.ensures.items ∙ cond-true _ _ _ went) h.lays;
       room = omega (arith, h.room, m.left_len, m.moved_len, m.left_room, pushed, c.if-len-capacity.true);
-      behind = omega (arith, h.behind, m.left_len, m.moved_len, m.moved_room, pushed, c.push.ensures.capacity, c.if-len-capacity-2.true);
+      spare = omega (arith, h.spare, m.left_len, m.moved_len, m.moved_room, pushed, c.push.ensures.capacity, c.if-len-capacity-2.true);
     }
 
 pub laying-preserved : goal.laying-preserved
 laying-preserved c =
     let h = c.laying.invariant in
-    let m = c.move_behind.ensures in
+    let m = c.move_after.ensures in
     record {
-      lays = chapters_moved c.args.chapters.now.items c.laying.chapters.items c.laying.tail.items c.move_behind.new.list.items
-          c.move_behind.new.to.items c.place_chapter-at.result m.left m.moved h.lays;
+      lays = chapters_moved c.args.chapters.now.items c.laying.chapters.items c.laying.tail.items c.move_after.new.list.items
+          c.move_after.new.to.items c.place_chapter-at.result m.left m.moved h.lays;
       room = omega (arith, h.room, m.left_len, m.moved_len, m.left_room);
-      behind = omega (arith, h.behind, m.left_len, m.moved_len, m.moved_room);
+      spare = omega (arith, h.spare, m.left_len, m.moved_len, m.moved_room);
     }

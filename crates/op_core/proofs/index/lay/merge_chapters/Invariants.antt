@@ -6,7 +6,7 @@ abbrev pub invariant-laying : goal.invariant-laying
 invariant-laying l = record {
   lays : Lays l.initial.chapters.items (l.chapters.items ++ reverse l.tail.items);
   room : vec_len l.chapters + vec_len l.tail ≤ vec_capacity l.chapters;
-  behind : vec_len l.chapters + vec_len l.tail ≤ vec_capacity l.tail;
+  spare : vec_len l.chapters + vec_len l.tail ≤ vec_capacity l.tail;
 }
 
 abbrev pub decreases-laying : goal.decreases-laying

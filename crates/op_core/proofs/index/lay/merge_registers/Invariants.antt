@@ -6,7 +6,7 @@ abbrev pub invariant-laying : goal.invariant-laying
 invariant-laying l = record {
   lays : LaysKeys l.head l.initial.registers.items (l.registers.items ++ reverse l.tail.items);
   room : vec_len l.registers + vec_len l.tail ≤ vec_capacity l.registers;
-  behind : vec_len l.registers + vec_len l.tail ≤ vec_capacity l.tail;
+  spare : vec_len l.registers + vec_len l.tail ≤ vec_capacity l.tail;
 }
 
 abbrev pub decreases-laying : goal.decreases-laying

@@ -1,47 +1,34 @@
-use Rattle.std.proofs.Common.{ap, sym, ◌∙◌}
-use Rattle.std.proofs.lemmas.Bool.{false≢true}
-use Rattle.op_core.proofs.Fresh.{fresh_rises, fresh_apart}
+use Rattle.std.proofs.Common.{◌≡◌, true, List, sym, ap, subst, ◌∙◌}
+use Rattle.std.specs.BTreeMap.{values}
+use Rattle.std.specs.Map.{values_of}
 use Rattle.op_core.specs.Ops.{Operation}
-use Rattle.op_core.specs.Sets.{join}
-use Rattle.std.proofs.Common.{List}
-use Rattle.replica_state.specs.Receives.{lacked}
-use Rattle.replica_state.proofs.Lacking.{all_before}
-use Rattle.replica_state.proofs.Gathered.{added_past, gathered, gathered_set, gathered_legal}
+use Rattle.op_core.specs.Sets.{IsOpSet, put}
+use Rattle.op_core.specs.Thinned.{is_legal}
+use Rattle.replica_state.specs.Loops.Gathering.{by_id}
+use Rattle.replica_state.proofs.Gathered.{IsGathering, goes_on, gathered, without_clash, gathered_legal, unpaired}
 use Rattle.replica_state.proofs.gathering.Gathering.receive.Goals as goal
 
-pub add-requires-clause-rising : goal.add-requires-clause-rising
-add-requires-clause-rising c =
-    rw c.in_ok-new.ensures.ok (fresh_rises c.args.self c.args.bundle.now c.in_ok-new.ensures.set.rising)
-
-pub add-requires-clause-apart : goal.add-requires-clause-apart
-add-requires-clause-apart c = rw (c.in_ok-new.ensures.ok, c.self.view_is) (fresh_apart c.args.self c.args.bundle.now)
-
-pub returns-in_err-pile-clause-clash : goal.returns-in_err-pile-clause-clash
-returns-in_err-pile-clause-clash c = λ none.
-    let before = all_before c.args.self c.args.bundle.now c.in_ok-new.ensures.agrees in
-    absurd (false≢true (c.in_err-pile.ensures.none (c.in_ok-new.ensures.ok ∙ ap (lacked c.args.self) (sym before) ∙ none)))
-
-pub leave_texts-requires : goal.leave_texts-requires
-leave_texts-requires c =
-    let is = c.in_ok-pile.ensures.ok ∙ ap (λ (held : List Operation). join held c.in_ok-new.new.items) c.self.view_is in
-    record {
-      past = added_past c.args.self c.args.bundle.now c.in_ok-new.new.items c.in_ok-pile.pile c.in_ok-new.ensures.held
-          c.in_ok-new.ensures.set c.in_ok-new.ensures.agrees c.in_ok-new.ensures.ok is c.in_ok-new.ensures.held_legal
-          c.in_ok-new.ensures.legal;
-    }
+pub loop-view-preserved : goal.loop-view-preserved
+loop-view-preserved c =
+    let now = values c.loop-view.ops in
+    let entries = c.in_ok-hold.ensures.ok in
+    let is = ap values_of entries ∙ unpaired (put c.in-Some.view now) in (
+      entries ∙ ap by_id (sym is),
+      subst (λ (ops : List Operation). IsGathering c.args.self c.args.bundle.now ops c.next.new.self) (sym is)
+          (goes_on c.args.self c.args.bundle.now now c.loop-view.view-iterator c.next.new.self c.in-Some.view c.loop-view.invariant.1
+          c.in-Some.ensures.steps c.in_ok-hold.ensures.valid c.in_ok-hold.ensures.agrees),
+    )
 
 pub invariant_of-result : goal.invariant_of-result
 invariant_of-result c =
-    let is = c.in_ok-pile.ensures.ok ∙ ap (λ (held : List Operation). join held c.in_ok-new.new.items) c.self.view_is in (
-      gathered_set c.args.self c.args.bundle.now c.in_ok-new.new.items c.in_ok-pile.pile c.in_ok-new.ensures.held
-          c.in_ok-new.ensures.set c.in_ok-new.ensures.agrees c.in_ok-new.ensures.ok is c.leave_texts.new.pile c.leave_texts.ensures,
-      gathered_legal c.args.self c.args.bundle.now c.in_ok-new.new.items c.in_ok-pile.pile c.in_ok-new.ensures.held
-          c.in_ok-new.ensures.set c.in_ok-new.ensures.agrees c.in_ok-new.ensures.ok is c.leave_texts.new.pile c.leave_texts.ensures
-          c.in_ok-new.ensures.held_legal c.in_ok-new.ensures.legal,
+    let now = values c.loop-view.ops in
+    let walk = c.loop-view.view-iterator in
+    let k = c.loop-view.invariant.1 in
+    let set : IsOpSet c.args.self = subst IsOpSet c.self.view_is c.self.invariant.1 in
+    let legal : is_legal c.args.self ≡ true = subst (λ (ops : List Operation). is_legal ops ≡ true) c.self.view_is c.self.invariant.2 in
+    let none = without_clash c.args.self c.args.bundle.now now walk k c.in-None.ensures.steps.0 in (
+      c.loop-view.invariant.0,
+      k.set,
+      ap is_legal (gathered c.args.self c.args.bundle.now now walk k c.in-None.ensures.steps.0)
+          ∙ gathered_legal c.args.self c.args.bundle.now set c.ops-view-items.ensures.set none legal c.ops-view-items.ensures.legal,
     )
-
-pub returns-clause-ok : goal.returns-clause-ok
-returns-clause-ok c =
-    let is = c.in_ok-pile.ensures.ok ∙ ap (λ (held : List Operation). join held c.in_ok-new.new.items) c.self.view_is in
-    gathered c.args.self c.args.bundle.now c.in_ok-new.new.items c.in_ok-pile.pile c.in_ok-new.ensures.held
-    c.in_ok-new.ensures.set c.in_ok-new.ensures.agrees c.in_ok-new.ensures.ok is c.leave_texts.new.pile c.leave_texts.ensures

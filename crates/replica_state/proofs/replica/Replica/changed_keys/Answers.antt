@@ -1,6 +1,6 @@
 use Rattle.std.proofs.Common.{Bool, List, [], ◌∷◌, ◌++◌, sym, ap, ◌∙◌}
 use Rattle.usfm_ref.specs.Keys.{KeyParts}
-use Rattle.verse_cut.specs.Views.{parts_of}
+use Rattle.verse_cut.specs.Views.{pieces_view}
 use Rattle.op_core.proofs.Walk.{kept_yes, kept_no}
 use Rattle.replica_state.specs.Since.{is_changed}
 use Rattle.replica_state.proofs.replica.Replica.changed_keys.Goals.{then-branch+in_ok-push, else-branch}
@@ -8,7 +8,7 @@ use Rattle.replica_state.proofs.replica.Replica.changed_keys.Goals as goal
 
 pub loop-key-preserved : goal.loop-key-preserved
 loop-key-preserved c =
-    let p : KeyParts → Bool = λ key. is_changed c.args.self.now.held c.args.was.now.held c.args.book (parts_of c.args.pieces.now) key in
+    let p : KeyParts → Bool = λ key. is_changed c.args.self.now.held c.args.was.now.held c.args.book (pieces_view c.args.pieces.now) key in
     elim c.if-branch.branch [
       | then-branch+in_ok-push w ↦ rw w.changed-is (w.in_ok-push.ensures.items
           ∙ ap (λ (keys : List KeyParts). keys ++ c.key-item.result ∷ []) c.loop-key.invariant

@@ -1,7 +1,7 @@
 use Rattle.std.proofs.Common.{◌≡◌, ◌+◌, ◌++◌, ◌∷◌, [], ap, arith, ◌∙◌}
 use Rattle.std.proofs.lemmas.List.{length-take-le}
 use Rattle.usfm_ref.specs.Segments.{segment}
-use Rattle.verse_cut.specs.Views.{parts_of}
+use Rattle.verse_cut.specs.Views.{pieces_view}
 use Rattle.op_core.specs.NextIds.{next_number}
 use Rattle.replica_state.specs.Edits.{edit_with}
 use Rattle.replica_state.specs.Imports.{piece_at}
@@ -16,13 +16,13 @@ loop-key-preserved c =
     let base = c.args.was.now.held in
     let key = c.key-item.result in
     let numbered : c.loop-key.number + 1 ≡ next_number s.held + c.loop-key.key-index = omega (arith, c.loop-key.invariant.counted) in
-    let made : c.in_ok-edit.edit ≡ change_at s base c.args.book (parts_of c.args.pieces.now) (c.loop-key.number + 1) key =
+    let made : c.in_ok-edit.edit ≡ change_at s base c.args.book (pieces_view c.args.pieces.now) (c.loop-key.number + 1) key =
     c.in_ok-edit.ensures ∙ ap (λ (t : State). edit_with (record { number = c.loop-key.number + 1; name = t.name }) (segment c.args.book key)
-    (seen_ids s.held base (segment c.args.book key)) (piece_at (parts_of c.args.pieces.now) key)) c.self.view_is in
+    (seen_ids s.held base (segment c.args.book key)) (piece_at (pieces_view c.args.pieces.now) key)) c.self.view_is in
     record {
       counted = omega (arith, c.loop-key.invariant.counted);
       made = c.in_ok-push.ensures.items ∙ (λ i. c.loop-key.invariant.made i ++ made i ∷ [])
-          ∙ changes_more s base c.args.book (parts_of c.args.pieces.now) (next_number s.held)
+          ∙ changes_more s base c.args.book (pieces_view c.args.pieces.now) (next_number s.held)
           (c.loop-key.number + 1) c.args.keys.now c.loop-key.key-index key c.loop-key-test.true c.key-item.is
           (length-take-le c.loop-key.key-index c.args.keys.now (omega arith)) numbered;
     }

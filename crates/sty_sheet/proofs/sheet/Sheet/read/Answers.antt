@@ -6,7 +6,7 @@ use Rattle.std.proofs.lemmas.Iterator.Splits.{YieldsList-from_lines}
 use Rattle.std.proofs.lemmas.Result.{err_from_is_err_and}
 use Rattle.sty_sheet.specs.Loops.FieldViews.{field_view}
 use Rattle.sty_sheet.specs.Fields.{field_of}
-use Rattle.sty_sheet.specs.Lines.{behind_feff}
+use Rattle.sty_sheet.specs.Lines.{after_feff}
 use Rattle.sty_sheet.specs.Memory.{begun_before_fault}
 use Rattle.sty_sheet.specs.Sheets.{field_fault, sheet_of}
 use Rattle.sty_sheet.specs.Loops.Steps.{Reading, reading_of, Tells}
@@ -21,11 +21,11 @@ use Rattle.sty_sheet.proofs.sheet.Sheet.read.Goals as goal
 pub loop-line-init : goal.loop-line-init
 loop-line-init c =
     let text = c.args.text.now in
-    let lines_are = c.lines-line-items.ensures.rest ∙ c.behind_feff.ensures in
+    let lines_are = c.lines-line-items.ensures.rest ∙ c.after_feff.ensures in
     let rest = ap lines_rest c.into_iter-line-iterator.ensures.into_iter_gives ∙ lines_are in
-    let fs = map field_of (lines (behind_feff text)) in (
-      lines (behind_feff text),
-      (YieldsList-from_lines (behind_feff text) rest).runs,
+    let fs = map field_of (lines (after_feff text)) in (
+      lines (after_feff text),
+      (YieldsList-from_lines (after_feff text) rest).runs,
       omega (arith, ap length rest, feff_le text),
       ap (λ s. resume s 0 fs) c.new-reader.ensures ∙ starts text,
       subst (λ (r : Reading). begun_ahead (is_some r.begun) 1 fs ≤ begun_before_fault text) (sym c.new-reader.ensures)

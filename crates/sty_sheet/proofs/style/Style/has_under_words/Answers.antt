@@ -4,4 +4,4 @@ use Rattle.sty_sheet.proofs.style.Style.has_under_words.Goals as goal
 
 pub returns : goal.returns
 returns c =
-    ap not (c.is_empty.ensures ∙ ap (λ bs. length bs == 0) c.behind_blanks.ensures ∙ no_words c.args.self.now.under.now)
+    ap not (c.is_empty.ensures ∙ ap (λ bs. length bs == 0) c.after_blanks.ensures ∙ no_words c.args.self.now.under.now)

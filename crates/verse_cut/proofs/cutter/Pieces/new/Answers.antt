@@ -1,5 +1,5 @@
-use Rattle.verse_cut.proofs.Steps.{parts_start}
+use Rattle.verse_cut.proofs.Steps.{pieces_start}
 use Rattle.verse_cut.proofs.cutter.Pieces.new.Goals as goal
 
 pub returns : goal.returns
-returns c = rw c.chapter_head.ensures (parts_start c.args.text.now)
+returns c = rw c.chapter_head.ensures (pieces_start c.args.text.now)

@@ -14,7 +14,7 @@ use Rattle.verse_cut.proofs.walk.Walk.next_above.Goals as goal
 pub returns-in_err-found : goal.returns-in_err-found
 returns-in_err-found c =
     subst (λ r. MatchOption r (GoesToEnd c.args.key c.args.self.now.here.now)
-    (λ o. OpensAt c.args.key c.args.self.now.here.now o.here.now o.behind.now o.key)) (sym c.from_residual.ensures)
+    (λ o. OpensAt c.args.key c.args.self.now.here.now o.here.now o.after.now o.key)) (sym c.from_residual.ensures)
     (goes_end c.args.key c.args.self.now.here.now c.loop-here.self.here.now c.loop-here.invariant c.in_err-found.ensures)
 
 pub returns-then-is_empty : goal.returns-then-is_empty
@@ -25,11 +25,11 @@ returns-then-is_empty c =
 pub returns-then-is_below : goal.returns-then-is_below
 returns-then-is_below c =
     let takes = c.in_ok-found.ensures in
-    let behind = c.step.new.self.here.now in
-    let is : key_of c.args.key.chapter takes.token (tokens_of behind) ≡ Some c.in-Some.found =
-    ap (λ k. key_of k.chapter takes.token (tokens_of behind)) (sym c.key.view_is) ∙ sym takes.key_is ∙ c.in-Some.is in
+    let after = c.step.new.self.here.now in
+    let is : key_of c.args.key.chapter takes.token (tokens_of after) ≡ Some c.in-Some.found =
+    ap (λ k. key_of k.chapter takes.token (tokens_of after)) (sym c.key.view_is) ∙ sym takes.key_is ∙ c.in-Some.is in
     let above : key_below c.args.key c.in-Some.found ≡ true = sym c.is_below.ensures ∙ c.if-is_below.true in
-    goes_open c.args.key c.in-Some.found c.args.self.now.here.now c.loop-here.self.here.now behind takes.token c.loop-here.invariant
+    goes_open c.args.key c.in-Some.found c.args.self.now.here.now c.loop-here.self.here.now after takes.token c.loop-here.invariant
     takes.front is above
 
 pub loop-here-preserved-then-not-may_have_key : goal.loop-here-preserved-then-not-may_have_key
@@ -47,11 +47,11 @@ loop-here-smaller-then-not-may_have_key c =
 pub loop-here-preserved-else-is_below : goal.loop-here-preserved-else-is_below
 loop-here-preserved-else-is_below c =
     let takes = c.in_ok-found.ensures in
-    let behind = c.step.new.self.here.now in
-    let is : key_of c.args.key.chapter takes.token (tokens_of behind) ≡ Some c.in-Some.found =
-    ap (λ k. key_of k.chapter takes.token (tokens_of behind)) (sym c.key.view_is) ∙ sym takes.key_is ∙ c.in-Some.is in
+    let after = c.step.new.self.here.now in
+    let is : key_of c.args.key.chapter takes.token (tokens_of after) ≡ Some c.in-Some.found =
+    ap (λ k. key_of k.chapter takes.token (tokens_of after)) (sym c.key.view_is) ∙ sym takes.key_is ∙ c.in-Some.is in
     let low : key_below c.args.key c.in-Some.found ≡ false = sym c.is_below.ensures ∙ c.if-is_below.false in
-    goes_step c.args.key c.args.self.now.here.now c.loop-here.self.here.now behind takes.token c.loop-here.invariant takes.front
+    goes_step c.args.key c.args.self.now.here.now c.loop-here.self.here.now after takes.token c.loop-here.invariant takes.front
     (ap (not_above c.args.key) is ∙ ap not low)
 
 pub loop-here-smaller-else-is_below : goal.loop-here-smaller-else-is_below
@@ -61,10 +61,10 @@ loop-here-smaller-else-is_below c =
 pub loop-here-preserved : goal.loop-here-preserved
 loop-here-preserved c =
     let takes = c.in_ok-found.ensures in
-    let behind = c.step.new.self.here.now in
-    let none : key_of c.args.key.chapter takes.token (tokens_of behind) ≡ None =
-    ap (λ k. key_of k.chapter takes.token (tokens_of behind)) (sym c.key.view_is) ∙ sym takes.key_is ∙ c.in_default.is in
-    goes_step c.args.key c.args.self.now.here.now c.loop-here.self.here.now behind takes.token c.loop-here.invariant takes.front
+    let after = c.step.new.self.here.now in
+    let none : key_of c.args.key.chapter takes.token (tokens_of after) ≡ None =
+    ap (λ k. key_of k.chapter takes.token (tokens_of after)) (sym c.key.view_is) ∙ sym takes.key_is ∙ c.in_default.is in
+    goes_step c.args.key c.args.self.now.here.now c.loop-here.self.here.now after takes.token c.loop-here.invariant takes.front
     (ap (not_above c.args.key) none)
 
 pub loop-here-smaller : goal.loop-here-smaller

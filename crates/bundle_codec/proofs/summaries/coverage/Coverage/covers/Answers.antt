@@ -14,7 +14,7 @@ returns-in_default-find_range-clause-answer c =
     c.in_default-find_range.ensures
     ∙ ap (λ (rs : List NumberRange). has_number rs c.id.inside.number) c.ranges-2.ensures.ranges
     ∙ sym (covered_is c.args.id.now c.as_bytes-name.result.now c.id.inside.number c.args.self.now c.self.inside.names.now
-    (Some c.in-Some.known.now) c.self.invariant.0.rising c.self.view_is
+    (Some c.in-Some.name_ranges.now) c.self.invariant.0.rising c.self.view_is
     (named (c.as_bytes-name.ensures.value ∙ c.text.ensures.text) c.id.view_is) c.in-Some.ensures.found)
 
 pub returns-clause-answer : goal.returns-clause-answer
@@ -22,5 +22,5 @@ returns-clause-answer c =
     c.in-Some-find_range.ensures
     ∙ ap (λ (rs : List NumberRange). has_number rs c.id.inside.number) c.ranges-2.ensures.ranges
     ∙ sym (covered_is c.args.id.now c.as_bytes-name.result.now c.id.inside.number c.args.self.now c.self.inside.names.now
-    (Some c.in-Some.known.now) c.self.invariant.0.rising c.self.view_is
+    (Some c.in-Some.name_ranges.now) c.self.invariant.0.rising c.self.view_is
     (named (c.as_bytes-name.ensures.value ∙ c.text.ensures.text) c.id.view_is) c.in-Some.ensures.found)

@@ -1,0 +1,8 @@
+-- Replicas of one book (this project's own rule): what a command that looks at one book needs of a replica.
+use Rattle.std.specs.Prelude.{ℕ, List}
+use Rattle.op_core.specs.OneBook.{ops_of_book}
+use Rattle.replica_state.specs.States.{State}
+
+-- the replica with the operations of the book alone
+abbrev pub of_one_book : State → List ℕ → State
+of_one_book s book = record { name = s.name; held = ops_of_book s.held book }

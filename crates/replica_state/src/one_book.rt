@@ -1,0 +1,79 @@
+// Replicas of one book.
+ghost use Rattle.std.specs.Prelude.{◌≡◌, ◌++◌, ◌∷◌, [], IsOk, IfOk, OnOk, IsTrue};
+ghost use Rattle.op_core.specs.OneBook.{ops_of_book};
+ghost use Rattle.op_core.specs.Sets.{IsOpSet};
+ghost use Rattle.op_core.specs.Thinned.{is_legal};
+
+use crate::replica::Replica;
+use bundle_codec::{Bundle, OpView};
+use op_core::{Op, ReplicaName};
+use std::alloc::{AllocError, Global};
+use usfm_ref::Book;
+
+impl Replica {
+    /// A replica of this name that holds those operations of a bundle which are of one book. Only
+    /// these are copied. Where there is none, it takes no memory.
+    ///
+    /// # Errors
+    /// Out of memory alone.
+    pub fn of_book(
+        alloc: Global,
+        name: ReplicaName,
+        bundle: &Bundle<'_>,
+        book: Book,
+    ) -> Result<Replica, AllocError>
+        ensures held { IfOk result (λ replica.
+            replica ≡ record { name = name; held = ops_of_book bundle.now book }) }
+        ensures none { ops_of_book bundle.now book ≡ [] → IsOk result }
+    {
+        replica_of(alloc, name, copy_of_book(alloc, bundle, book)?)
+    }
+}
+
+// A replica of this name that holds the operations. Where there is none, it takes no memory.
+pub(crate) fn replica_of(
+    alloc: Global,
+    name: ReplicaName,
+    ops: Vec<Op>,
+) -> Result<Replica, AllocError>
+    requires set { IsOpSet ops.items }
+    requires legal { IsTrue (is_legal ops.items) }
+    ensures held { IfOk result (λ replica. replica ≡ record { name = name; held = ops.items }) }
+    ensures none { ops.items ≡ [] → IsOk result }
+{
+    let mut replica = Replica::new(alloc, name);
+    replica.join_new(ops)?;
+    Ok(replica)
+}
+
+// The operations of a bundle that are of a book, copied out of the bundle's bytes, rising. Nothing
+// grows before the first of them.
+fn copy_of_book(alloc: Global, bundle: &Bundle<'_>, book: Book) -> Result<Vec<Op>, AllocError>
+    ensures set { IsOpSet bundle.now }
+    ensures legal { IsTrue (is_legal bundle.now) }
+    ensures ops { IfOk result (λ ops. ops.items ≡ ops_of_book bundle.now book) }
+    ensures none { ops_of_book bundle.now book ≡ [] → IsOk result }
+{
+    let mut ops = Vec::new(alloc);
+    for view in bundle.ops() {
+        copy_if_of_book(alloc, &mut ops, &view, book)?;
+    }
+    Ok(ops)
+}
+
+// Appends a copy of the operation if it is of the book.
+pub(crate) fn copy_if_of_book(
+    alloc: Global,
+    ops: &mut Vec<Op>,
+    view: &OpView<'_>,
+    book: Book,
+) -> Result<(), AllocError>
+    ensures ops { OnOk result
+        (ops.new.items ≡ ops.old.items ++ ops_of_book (view.now ∷ []) book) }
+    ensures none { ops_of_book (view.now ∷ []) book ≡ [] → IsOk result }
+{
+    if view.is_of_book(book) {
+        ops.push(view.to_op(alloc)?)?;
+    }
+    Ok(())
+}

@@ -1,0 +1,60 @@
+-- What is folded is written of the operations of one book alone, and is the same as of all.
+use Rattle.std.proofs.Common.{◌≡◌, true, ℕ, ◌<◌, ◌≤◌, List, [], ◌∷◌, length, Option, Result, Ok, Err, refl, sym, ap, subst, ◌∙◌, arith}
+use Rattle.std.proofs.lemmas.Bool.{cond-true, cond-false}
+use Rattle.std.specs.Io.KnownBytes.{IsAtEnd, Appends}
+use Rattle.op_core.specs.Ops.{Operation}
+use Rattle.op_core.specs.Export.{has_book, export}
+use Rattle.op_core.specs.OneBook.{ops_of_book}
+use Rattle.op_core.proofs.OneBook.{export_same, has_book_same}
+use Rattle.usfm_export.specs.Books as exports
+use Rattle.usfm_export.specs.Books.{AnswersBook}
+use Rattle.usfm_export.specs.Writing.{TakesFront}
+use Rattle.usfm_export.specs.declared.fault.ExportFault.{ExportFault}
+use Rattle.usfm_export.specs.declared.fault.ExportFault.TheVariants as writing
+use Rattle.usfm_cli.specs.Faults.{of_export}
+use Rattle.usfm_cli.specs.Folding.{AnswersStream, sink_failures}
+use Rattle.usfm_cli.specs.Reading.{most_bytes}
+use Rattle.usfm_cli.specs.Streams.{union_within, union_in, book_in, book_of_stream}
+use Rattle.usfm_cli.specs.declared.fault.Fault.TheVariants.{Memory, NoBook}
+
+-- what is answered of the book's operations, is answered of all
+pub answers_same : (union : List Operation) (book : List ℕ) (before after : Option (List ℕ)) (r : Result (Unit {0}) ExportFault)
+    → AnswersBook (ops_of_book union book) book before after r → AnswersBook union book before after r
+answers_same union book before after (Ok done) h =
+    (sym (has_book_same union book) ∙ h.0, subst (Appends before after) (export_same union book) h.1)
+answers_same union book before after (Err writing.NoBook) h = (sym (has_book_same union book) ∙ h.0, h.1)
+answers_same union book before after (Err (writing.WriteFailed gone)) h = (
+  sym (has_book_same union book) ∙ h.0,
+  subst (λ (text : List ℕ). TakesFront before after text 0 gone) (export_same union book) h.1,
+)
+
+-- the failures of a sink are counted alike
+pub failed_same : (fault : ExportFault) (failures : ℕ) → sink_failures (Err (of_export fault)) failures
+    ≡ exports.sink_failures (Err fault) failures
+failed_same writing.NoBook failures = refl
+failed_same (writing.WriteFailed gone) failures = refl
+
+-- a union that has operations is one of bytes
+some_given : (bytes : List ℕ) (union : List Operation) → union_in [] bytes ≡ Ok union → (union ≡ [] → ⊥) → 0 < length bytes
+unfolding union_within
+some_given [] union e some = let none : [] ≡ union = cc e in absurd (some (sym none))
+some_given (b ∷ bytes) union e some = omega arith
+
+-- a stream was read whole, and its bundles have this union
+module _ (book given : List ℕ) (left before after : Option (List ℕ)) (union : List Operation) (within : length given ≤ most_bytes)
+    (whole : IsAtEnd left) (is : union_in [] given ≡ Ok union) where
+  text_is : has_book union book ≡ true → book_of_stream book given ≡ Ok (export union book)
+  text_is has = ap (book_in book) is ∙ cond-true (has_book union book) (Ok (export union book)) (Err NoBook) has
+
+  pub written_all : (done : Unit {0}) → AnswersBook union book before after (Ok done) → AnswersStream book given left before after (Ok done)
+  written_all done h = (within, whole, (export union book, text_is h.0, h.1))
+
+  pub not_written : (fault : ExportFault) → AnswersBook union book before after (Err fault)
+      → AnswersStream book given left before after (Err (of_export fault))
+  not_written writing.NoBook h =
+      (within, whole, (ap (book_in book) is ∙ cond-false (has_book union book) (Ok (export union book)) (Err NoBook) h.0, h.1))
+  not_written (writing.WriteFailed gone) h = (within, whole, (export union book, text_is h.0, h.1))
+
+  -- out of memory is answered only where the book has operations, and so where bytes were given
+  pub not_copied : (ops_of_book union book ≡ [] → ⊥) → AnswersStream book given left before before (Err Memory)
+  not_copied some = (some_given given union is (λ none. some (ap (λ (ops : List Operation). ops_of_book ops book) none)), within, refl)

@@ -1,0 +1,77 @@
+use Rattle.std.proofs.Common.{◌≡◌, Global, Ok, Err, IfOk, subst, sym, ap, ◌∙◌, arith, rules}
+use Rattle.std.proofs.lemmas.Result.{err_from_is_err_and}
+use Rattle.project_file.specs.Projects.{project, project_at}
+use Rattle.replica_state.specs.States.{State}
+use Rattle.usfm_cli.specs.Commands.{is_late, outcome, MayWantMemory}
+use Rattle.usfm_cli.specs.Projects.{executed, state_or}
+use Rattle.usfm_cli.specs.declared.command.Command.{Command}
+use Rattle.usfm_cli.proofs.Received.{received_is}
+use Rattle.usfm_cli.proofs.Loading.{loads_or_wants, refused_wants, refused_for}
+use Rattle.usfm_cli.proofs.Seen.{refused_all, seen_wants, told_all, changed_all, told_state, changed_state}
+use Rattle.usfm_cli.proofs.projects.exec.Goals as goal
+use Rattle.usfm_cli.proofs.projects.exec.Goals.{then-only_tells+in_ok-project, else-only_tells+in_ok-project-2}
+
+pub returns-in-Receive-clause-answer : goal.returns-in-Receive-clause-answer
+returns-in-Receive-clause-answer c = λ e.
+    ap (executed c.args.project.now) c.in-Receive.is ∙ received_is (project_at c.args.project.now) c.in-Receive.bytes
+    ∙ c.receive_into.ensures.answer e
+
+pub returns-in-Receive-clause-memory : goal.returns-in-Receive-clause-memory
+returns-in-Receive-clause-memory c = λ e s loads none.
+    subst (λ (k : Command). MayWantMemory (is_late k) (outcome s k)) (sym c.in-Receive.is) (c.receive_into.ensures.memory e s loads none)
+
+pub returns-in-Receive-clause-after : goal.returns-in-Receive-clause-after
+returns-in-Receive-clause-after c =
+    subst (λ (k : Command). IfOk c.receive_into.result (λ made. (s : State) → project_at c.args.project.now ≡ Ok s
+    → project_at made.project ≡ Ok (state_or s (outcome s k)))) (sym c.in-Receive.is) c.receive_into.ensures.after
+
+pub returns-in_err-replica-clause-memory : goal.returns-in_err-replica-clause-memory
+returns-in_err-replica-clause-memory c = λ e s loads none.
+    absurd (loads_or_wants c.args.project.now s c.in_err-replica.field-0.0 loads c.in_err-replica.ensures.refused
+    (λ m. c.in_err-replica.ensures.nothing_held s loads none (ap Err m)))
+
+pub returns-in_err-output-clause-answer : goal.returns-in_err-output-clause-answer
+returns-in_err-output-clause-answer c =
+    let from = err_from_is_err_and c.from_residual-in_err-output.result c.from_residual-in_err-output.ensures.1 in
+    rw (from.1, from.2) (λ e. refused_all c.args.project.now c.args.command.now c.in_ok-replica.replica c.in_ok-replica.ensures.seen
+    c.in_err-output.field-0.0
+    (refused_for Global (is_late c.args.command.now) (outcome c.in_ok-replica.replica c.args.command.now) c.obey.new.replica
+    c.in_err-output.field-0.0 c.in_err-output.ensures (λ m. e (ap Err m))))
+
+pub returns-in_err-output-clause-memory : goal.returns-in_err-output-clause-memory
+returns-in_err-output-clause-memory c =
+    let from = err_from_is_err_and c.from_residual-in_err-output.result c.from_residual-in_err-output.ensures.1 in
+    rw (from.1, from.2) (λ e s loads none.
+    seen_wants c.args.project.now c.args.command.now c.in_ok-replica.replica c.in_ok-replica.ensures.seen (is_late c.args.command.now)
+    s loads
+    (refused_wants Global (is_late c.args.command.now) (outcome c.in_ok-replica.replica c.args.command.now) c.obey.new.replica
+    c.in_err-output.field-0.0 c.in_err-output.ensures (cc e)))
+
+pub returns-clause-answer : goal.returns-clause-answer
+returns-clause-answer c = λ _. elim c.if-only_tells.branch [
+  | then-only_tells+in_ok-project w ↦
+      let same : c.if-only_tells.project.items ≡ c.args.project.now = search rules in
+      told_all c.args.project.now c.args.command.now c.in_ok-replica.replica c.in_ok-replica.ensures.seen c.obey.new.replica
+      c.in_ok-output.output.items c.in_ok-output.ensures (λ i. omega (arith, c.type_inv.project i))
+      (sym c.only_tells.ensures ∙ w.if-only_tells.true)
+      ∙ (λ i. Ok (record { project = sym same i; output = c.in_ok-output.output.items }))
+  | else-only_tells+in_ok-project-2 w ↦
+      let spelled : c.if-only_tells.project.items ≡ project c.obey.new.replica = search rules in
+      changed_all c.args.project.now c.args.command.now c.in_ok-replica.replica c.in_ok-replica.ensures.seen c.obey.new.replica
+      c.in_ok-output.output.items c.in_ok-output.ensures c.if-only_tells.project.items
+      (sym c.only_tells.ensures ∙ w.if-only_tells.false) spelled
+]
+
+pub returns-clause-after : goal.returns-clause-after
+returns-clause-after c = λ s loads. elim c.if-only_tells.branch [
+  | then-only_tells+in_ok-project w ↦
+      let same : c.if-only_tells.project.items ≡ c.args.project.now = search rules in
+      ap project_at same
+      ∙ told_state c.args.project.now c.args.command.now c.in_ok-replica.replica c.in_ok-replica.ensures.seen c.obey.new.replica
+      c.in_ok-output.output.items c.in_ok-output.ensures s (sym c.only_tells.ensures ∙ w.if-only_tells.true) loads
+  | else-only_tells+in_ok-project-2 w ↦
+      let again : project_at c.if-only_tells.project.items ≡ Ok c.obey.new.replica = search rules in
+      again
+      ∙ ap Ok (changed_state c.args.project.now c.args.command.now c.in_ok-replica.replica c.in_ok-replica.ensures.seen
+      c.obey.new.replica c.in_ok-output.output.items c.in_ok-output.ensures s (sym c.only_tells.ensures ∙ w.if-only_tells.false) loads)
+]

@@ -1,0 +1,40 @@
+-- What a command sees of a project (this project's own rule): of one book what it holds, or all.
+use Rattle.std.specs.Prelude.{◌≡◌, ℕ, List, Option, None, Some, Ok}
+use Rattle.replica_state.specs.OneBook.{of_one_book}
+use Rattle.replica_state.specs.States.{State}
+use Rattle.project_file.specs.Projects.{project_at}
+use Rattle.usfm_cli.specs.declared.command.Command.{Command}
+use Rattle.usfm_cli.specs.declared.command.Command.TheVariants.{Import, ImportSince, ImportNew}
+use Rattle.usfm_cli.specs.declared.command.Command.TheVariants.{Edit, EditOver, Receive}
+use Rattle.usfm_cli.specs.declared.command.Command.TheVariants.{Thin, Shown, Send, Export, Summary}
+use Rattle.usfm_cli.specs.declared.command.Command.TheVariants.{Delta, Report, Check, Find, Words}
+
+-- the one book that a command looks at, if it does not look at all of a project
+abbrev pub looked_at : Command → Option (List ℕ)
+looked_at (Import file) = None
+looked_at (ImportSince file base) = None
+looked_at (ImportNew file) = None
+looked_at (Edit book key text) = None
+looked_at (EditOver book key text ids) = None
+looked_at (Receive bytes) = None
+looked_at Thin = None
+looked_at (Shown book key) = Some book
+looked_at Send = None
+looked_at (Export book) = Some book
+looked_at Summary = None
+looked_at (Delta summary) = None
+looked_at Report = None
+looked_at (Check book sheet) = Some book
+looked_at (Find book sheet needle) = Some book
+looked_at (Words book sheet) = Some book
+
+-- all of a replica, or what it holds of one book
+abbrev pub seen_of : Option (List ℕ) → State → State
+seen_of None s = s
+seen_of (Some book) s = of_one_book s book
+
+-- bytes are a project file, and a replica is what a command sees of its replica
+pub record IsSeen (bytes : List ℕ) (command : Command) (seen : State) : Type 0 where
+  pub whole : State
+  pub loads : project_at bytes ≡ Ok whole
+  pub seen_is : seen ≡ seen_of (looked_at command) whole

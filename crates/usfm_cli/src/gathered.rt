@@ -1,0 +1,80 @@
+// The bundles of a stream, before the one book that is written is made of them.
+ghost use Rattle.std.specs.Prelude.{◌≡◌, [], None, IsOk, IfOk, IfErr, OnOk};
+ghost use Rattle.op_core.specs.OneBook.{ops_of_book};
+ghost use Rattle.op_core.specs.Sets as sets;
+ghost use Rattle.replica_state.specs.Receives.{RefusesReceive};
+ghost use Rattle.usfm_cli.specs.Loops.Gathered.{held_in};
+
+use bundle_codec::Bundle;
+use op_core::ReplicaName;
+use replica_state::{Gathering, ReceiveFault, Replica};
+use std::alloc::{AllocError, Global};
+use usfm_ref::Book;
+
+// The operations of the bundles that were read so far. One bundle is a set as it is, so they are gathered
+// only when a second one comes.
+#[derive(Debug, Drop)]
+pub(crate) enum Gathered<'a> {
+    Nothing,
+    One(Bundle<'a>),
+    Many(Gathering<'a>),
+}
+
+impl<'a> Gathered<'a> {
+    // Takes in the operations of a bundle.
+    pub(crate) fn receive(
+        self,
+        alloc: Global,
+        bundle: Bundle<'a>,
+    ) -> Result<Gathered<'a>, ReceiveFault>
+        requires held { sets.IsOpSet (held_in self) }
+        ensures ok { IfOk result (λ after.
+            held_in after ≡ sets.join (held_in self.entry) bundle.entry) }
+        ensures set { IfOk result (λ after. sets.IsOpSet (held_in after)) }
+        ensures agrees { OnOk result (sets.clash (held_in self.entry) bundle.entry ≡ None) }
+        ensures refused { IfErr result
+            (RefusesReceive (sets.clash (held_in self.entry) bundle.entry)) }
+    {
+        // The bundle's operations show that they rise.
+        let _ = bundle.ops();
+        match self {
+            Gathered::Nothing => Ok(Gathered::One(bundle)),
+            Gathered::One(first) => {
+                let gathered = gather(alloc, &first)?;
+                Ok(Gathered::Many(gathered.receive(&bundle)?))
+            }
+            Gathered::Many(gathered) => Ok(Gathered::Many(gathered.receive(&bundle)?)),
+        }
+    }
+
+    // A replica of this name that holds those of the operations which are of one book. Where there is
+    // none, it takes no memory.
+    pub(crate) fn of_book(
+        &self,
+        alloc: Global,
+        name: ReplicaName,
+        book: Book,
+    ) -> Result<Replica, AllocError>
+        ensures held { IfOk result (λ replica.
+            replica ≡ record { name = name; held = ops_of_book (held_in self.now) book }) }
+        ensures none { ops_of_book (held_in self.now) book ≡ [] → IsOk result }
+    {
+        match self {
+            Gathered::Nothing => Ok(Replica::new(alloc, name)),
+            Gathered::One(bundle) => Replica::of_book(alloc, name, bundle, book),
+            Gathered::Many(gathered) => gathered.of_book(name, book),
+        }
+    }
+}
+
+// The operations of a first bundle, gathered.
+fn gather<'a>(alloc: Global, first: &Bundle<'a>) -> Result<Gathering<'a>, AllocError>
+    ensures { IfOk result (λ gathered. gathered ≡ first.now) }
+{
+    // The bundle's operations show that they rise.
+    let _ = first.ops();
+    match Gathering::new(alloc).receive(first) {
+        Ok(gathered) => Ok(gathered),
+        Err(_) => Err(AllocError),
+    }
+}

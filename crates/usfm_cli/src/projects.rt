@@ -1,0 +1,196 @@
+// Commands over a project's file.
+ghost use Rattle.std.specs.Prelude.{◌≡◌, ◌≢◌, [], Ok, Err, IsTrue, IfOk, IfErr};
+ghost use Rattle.replica_state.specs.States.{State};
+ghost use Rattle.project_file.specs.Answers.{RefusesLoad};
+ghost use Rattle.project_file.specs.Projects.{project_at};
+ghost use Rattle.bundle_codec.specs.Joining.{whole_at};
+ghost use Rattle.usfm_cli.specs.Commands.{outcome, only_tells, is_late, MayWantMemory};
+ghost use Rattle.usfm_cli.specs.Commands.{is_late_in, with_bundle};
+ghost use Rattle.usfm_cli.specs.Faults.{of_loading};
+ghost use Rattle.usfm_cli.specs.Projects.{RefusesFile, executed, received};
+ghost use Rattle.usfm_cli.specs.Seen.{IsSeen};
+ghost use Rattle.usfm_cli.specs.Projects.{file_or, file_after, state_or, state_after};
+
+use crate::command::Command;
+use crate::fault::Fault;
+use crate::steps::{count_line, obey};
+use bundle_codec::decode_whole;
+use project_file::{LoadFault, judge, load, load_book, save};
+use replica_state::Replica;
+use std::alloc::{AllocError, Global};
+use std::marker::Model;
+
+/// What a command made: the project's file after it, and what it writes. It also keeps the replica, if
+/// one was read, which nothing shows: a program that ends after it need not free so much, and forgets it.
+#[derive(Debug, Drop)]
+pub struct Outcome {
+    project: Vec<u8>,
+    output: Vec<u8>,
+    replica: Option<Replica>,
+}
+
+impl Model for Outcome {
+    ghost use Rattle.usfm_cli.specs.Projects.{Written};
+
+    ghost Value = { Written };
+
+    ghost view = { λ o. record { project = o.project.items; output = o.output.items } };
+}
+
+impl Outcome {
+    /// The project's file after the command.
+    pub fn project(&self) -> &[u8]
+        ensures { result.now ≡ self.now.project }
+    {
+        &self.project
+    }
+
+    /// What the command writes.
+    pub fn output(&self) -> &[u8]
+        ensures { result.now ≡ self.now.output }
+    {
+        &self.output
+    }
+}
+
+/// Does a command on a project, given as the bytes of its file: reads the project, does the command's
+/// step, and answers the file of the project after it and what the command writes. A command that
+/// only reports gives the project's bytes back as they are. All of the file is judged; of what it
+/// holds, a command that looks at one book copies what is of that book, and a receive nothing but the
+/// bytes that stay.
+///
+/// # Errors
+/// First those of the project: `BadProject` (110) where the bytes do not begin as a project does, and
+/// then those of its bundle, `Bundle` (60 to 69) and `Trailing` (70). Then those of the command, in
+/// this order:
+/// - `Import`: `NotText` (10), `NoId` (30), `Reference` (20), `NumbersUsedUp` (81).
+/// - `ImportSince`: `NotText` (10), `Bundle` (60 to 69), `Trailing` (70), `NoId` (30), `Reference` (20),
+///   `Clash` (51), `NumbersUsedUp` (81).
+/// - `ImportNew`: `NotText` (10), `NoId` (30), `Reference` (20), `FileChanged` (131) where the project
+///   has the book and the file is not its export, `NumbersUsedUp` (81).
+/// - `Edit`: `NotText` (10), `BadSegment` (80), `NoBook` (82), `NumbersUsedUp` (81).
+/// - `EditOver`: the same, with `NotShown` (83) before `NumbersUsedUp`.
+/// - `Receive`: `Bundle` (60 to 69), `Trailing` (70), `Clash` (51).
+/// - `Export`: `NoBook` (82).
+/// - `Delta`: `BadSummary` (71).
+/// - `Check` and `Words`: `NotText` (10) of the sheet, `FieldBeforeMarker` (40), `EmptyMarker` (41) or
+///   `BadStyleType` (42), whichever its first faulty line has, `NoBook` (82).
+/// - `Find`: the same, and then `EmptyNeedle` (100).
+///
+/// `Thin`, `Shown`, `Send`, `Summary` and `Report` refuse nothing.
+///
+/// `Memory` (1) where a growth was refused; of bytes that are no project only where an operation of
+/// their bundle is thinned, since the other refusals take no memory. Nor do those of the command once
+/// the project was read, but for `NumbersUsedUp` and `FileChanged` of an import, `Clash`, 69 and 70 of
+/// a bundle with a thinned operation, and what is found after records of a sheet were kept. The project
+/// is the bytes that were given, so that a refused command leaves it as it is.
+pub fn exec(alloc: Global, project: &[u8], command: &Command<'_>) -> Result<Outcome, Fault>
+    ensures answer { result ≢ Err Fault.Memory → executed project.now command.now ≡ result }
+    // A file that is no project is refused for that, whatever memory there is; but for its bundle, where
+    // an operation of it is thinned.
+    ensures no_project { IfErr (project_at project.now) (λ fault.
+        RefusesFile project.now (of_loading fault) result) }
+    // Reading a project that holds nothing takes no memory: then out of memory is answered only where
+    // the command may want some, and so in the place of no refusal that needs none.
+    ensures memory { result ≡ Err Fault.Memory → (s : State) → project_at project.now ≡ Ok s
+        → s.held ≡ [] → MayWantMemory (is_late command.now) (outcome s command.now) }
+    // A command that only reports gives the file back as it is.
+    ensures unchanged { IfOk result (λ made.
+        IsTrue (only_tells command.now) → made.project ≡ project.now) }
+    // The file after it is that of the replica after the command's step.
+    ensures after { IfOk result (λ made. (s : State) → project_at project.now ≡ Ok s
+        → project_at made.project ≡ Ok (state_or s (outcome s command.now))) }
+{
+    if let Command::Receive(bytes) = *command {
+        return receive_into(alloc, project, bytes);
+    }
+    let mut replica = load_seen(alloc, project, command)?;
+    let output = obey(alloc, &mut replica, command)?;
+    let project = if command.only_tells() {
+        project.to_vec(alloc)?
+    } else {
+        save(alloc, &replica)?
+    };
+    Ok(Outcome {
+        project,
+        output,
+        replica: Some(replica),
+    })
+}
+
+// Takes a bundle in on the bytes of a project's file: both are judged, and the file of the union is
+// written out of them.
+fn receive_into(alloc: Global, project: &[u8], bytes: &[u8]) -> Result<Outcome, Fault>
+    ensures answer { result ≢ Err Fault.Memory →
+        received (project_at project.now) (whole_at bytes.now) ≡ result }
+    ensures no_project { IfErr (project_at project.now) (λ fault.
+        RefusesFile project.now (of_loading fault) result) }
+    ensures memory { result ≡ Err Fault.Memory → (s : State) → project_at project.now ≡ Ok s
+        → s.held ≡ [] → MayWantMemory (is_late_in bytes.now) (with_bundle s (whole_at bytes.now)) }
+    ensures after { IfOk result (λ made. (s : State) → project_at project.now ≡ Ok s
+        → project_at made.project ≡ Ok (state_or s (with_bundle s (whole_at bytes.now)))) }
+{
+    let given = judge(alloc, project)?;
+    let bundle = decode_whole(alloc, bytes)?;
+    let (project, new) = given.receive(alloc, &bundle)?;
+    let output = count_line(alloc, "new", new)?;
+    Ok(Outcome {
+        project,
+        output,
+        replica: None,
+    })
+}
+
+// What a command sees of the replica of a project's file: all of it, or what it holds of one book.
+fn load_seen(alloc: Global, project: &[u8], command: &Command<'_>) -> Result<Replica, LoadFault>
+    ensures seen { IfOk result (IsSeen project.now command.now) }
+    ensures refused { IfErr result (RefusesLoad project.now) }
+    ensures nothing_held { (s : State) → project_at project.now ≡ Ok s → s.held ≡ []
+        → result ≢ Err LoadFault.Memory }
+{
+    match command.looked_at() {
+        None => load(alloc, project),
+        Some(book) => load_book(alloc, project, book),
+    }
+}
+
+/// Does commands one after another on a project, as this many calls of `exec` do, and answers the
+/// project's file after them. A command that is refused leaves the project as it is.
+///
+/// So the file is that of the replica that the steps of the commands make, one after another.
+///
+/// # Errors
+/// `Memory` (1) alone, where a growth was refused.
+pub fn exec_each(
+    alloc: Global,
+    project: &[u8],
+    commands: &[Command<'_>],
+) -> Result<Vec<u8>, AllocError>
+    ensures file { IfOk result (λ file. file.items ≡ file_after project.now commands.now) }
+    ensures run { IfOk result (λ file. (s : State) → project_at project.now ≡ Ok s
+        → project_at file.items ≡ Ok (state_after s commands.now)) }
+{
+    let mut file = project.to_vec(alloc)?;
+    for command in commands {
+        file = file_after(alloc, file, command)?;
+    }
+    Ok(file)
+}
+
+// A project's file after a command, the same where the command is refused.
+fn file_after(alloc: Global, file: Vec<u8>, command: &Command<'_>) -> Result<Vec<u8>, AllocError>
+    ensures file { IfOk result (λ next.
+        next.items ≡ file_or file.items (executed file.items command.now)) }
+    ensures run { IfOk result (λ next. (s : State) → project_at file.items ≡ Ok s
+        → project_at next.items ≡ Ok (state_or s (outcome s command.now))) }
+{
+    match exec(alloc, &file, command) {
+        Ok(outcome) => Ok(outcome.project),
+        Err(fault) => {
+            if fault == Fault::Memory {
+                return Err(AllocError);
+            }
+            Ok(file)
+        }
+    }
+}
