@@ -5,7 +5,7 @@ ghost use Rattle.std.specs.Iterator.{YieldsFirst, item_count};
 ghost use Rattle.op_core.specs.Names.{is_name, is_name_char};
 ghost use Rattle.std.specs.Cmp.Lexicographic.{pointwise};
 ghost use Rattle.op_core.specs.Ids.{id_cmp, is_id, same_id};
-ghost use Rattle.bundle_codec.specs.Reading.{Gives, id_at, comes_after, named_at, after_id, many_at, replaced_at, after};
+ghost use Rattle.bundle_codec.specs.Reading.{Gives, id_at, comes_after, named_at, after_id, many_at, replaced_at, ahead};
 ghost use Rattle.bundle_codec.specs.Views.{id_view, each_id_at, ids_at, ids_view};
 
 use crate::fault::BundleFault;
@@ -192,7 +192,7 @@ fn after_ids<'a>(
     bytes: &'a [u8],
 ) -> Result<&'a [u8], BundleFault>
     ensures { Gives (λ r. r.now) result
-        (after (many_at (named_at bad (id_view own.now)) after_id count None bytes.now)) }
+        (ahead (many_at (named_at bad (id_view own.now)) after_id count None bytes.now)) }
 {
     let mut before = None;
     let mut rest = bytes;
@@ -235,7 +235,7 @@ pub(crate) fn replaced_of<'a>(
 // The bytes after this many ids that were judged.
 fn after_ids_in(count: u64, bytes: &[u8]) -> &[u8]
     requires { IsOk (each_id_at count bytes.now) }
-    ensures { after (each_id_at count bytes.now) ≡ Ok result.now }
+    ensures { ahead (each_id_at count bytes.now) ≡ Ok result.now }
 {
     let mut rest = bytes;
     for _ in 0..count {

@@ -36,7 +36,7 @@ pub(crate) fn is_book_code(bytes: &[u8]) -> bool
 
 // Judges the place at the front, field by field. What is a key is said by usfm_ref.
 #[tactic(auto, unfolding(crate::specs::Reading::place_at))]
-fn place_of(bad: BundleFault, bytes: &[u8]) -> Result<(Place, &[u8]), BundleFault>
+fn place_at(bad: BundleFault, bytes: &[u8]) -> Result<(Place, &[u8]), BundleFault>
     ensures reads { Gives (λ x. (x.0, x.1.now)) result (place_at bad bytes.now) }
     ensures right { IfOk result (λ x. IsTrue (is_place x.0)) }
 {
@@ -70,7 +70,7 @@ pub(crate) fn key_of(bad: BundleFault, bytes: &[u8]) -> Result<(KeyView, &[u8]),
     if chapter > 999 {
         return Err(bad);
     }
-    let (place, rest) = place_of(bad, rest)?;
+    let (place, rest) = place_at(bad, rest)?;
     Ok((KeyView { chapter, place }, rest))
 }
 

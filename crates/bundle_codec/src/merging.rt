@@ -63,7 +63,7 @@ fn pass_least<'a>(
 ) -> Result<Option<OpView<'a>>, JoinFault>
     requires left { IsTrue (sets.rises left.old) }
     requires right { IsTrue (sets.rises right.old) }
-    ensures next { IfOk result (merging.Steps left.old right.old left.new right.new) }
+    ensures next { IfOk result (merging.TakesFirst left.old right.old left.new right.new) }
     ensures refused { IfErr result (merging.RefusesUnion (sets.clash left.old right.old)) }
 {
     match (left.first(), right.first()) {

@@ -2,7 +2,8 @@
 ghost use Rattle.std.specs.Prelude.{◌≡◌, None, false, Ok, Err, IfOk, IsOk, IsTrue, option_map};
 ghost use Rattle.usfm_ref.specs.Books.{is_book_code};
 ghost use Rattle.usfm_ref.specs.Keys.{is_key};
-ghost use Rattle.bundle_codec.specs.Reading.{Gives, is_tag, counted_text_at, text_after, body_at, judge_text, may_fit, operation_at, operations_at, after};
+ghost use Rattle.bundle_codec.specs.Reading.{Gives, is_tag, counted_text_at, text_after, body_at, judge_text};
+ghost use Rattle.bundle_codec.specs.Reading.{may_fit, operation_at, operations_at, ahead};
 ghost use Rattle.bundle_codec.specs.Views.{id_view, key_view, op_view, lent};
 
 use crate::fault::BundleFault;
@@ -149,7 +150,7 @@ fn fields_of<'a>(
 
 // Judges this many operations of a bundle of the format, and gives the bytes after them.
 pub(crate) fn after_operations(full: bool, count: u64, bytes: &[u8]) -> Result<&[u8], BundleFault>
-    ensures { Gives (λ r. r.now) result (after (operations_at full count (1, None) bytes.now)) }
+    ensures { Gives (λ r. r.now) result (ahead (operations_at full count (1, None) bytes.now)) }
 {
     let mut before = None;
     let mut rest = bytes;

@@ -10,7 +10,7 @@ ghost use Rattle.usfm_ref.specs.Rising.{rises_by};
 ghost use Rattle.op_core.specs.Ids.{id_below, same_id};
 ghost use Rattle.op_core.specs.Thinned as thinned;
 ghost use Rattle.op_core.specs.Sets as sets;
-ghost use Rattle.op_core.specs.Loops.Index.{place_of, register_at, register_of, registers_of, shown_in, is_in};
+ghost use Rattle.op_core.specs.Loops.Index.{home_of, register_at, register_of, registers_of, shown_in, is_in};
 ghost use Rattle.op_core.specs.Loops.Index.{IsOrderly, Counts};
 
 use crate::chapter::Chapter;
@@ -128,16 +128,16 @@ pub(crate) fn place_chapter(
     near: &mut usize,
     compared: &mut u64,
 ) -> usize
-    requires rising { IsTrue (rises_by segment_cmp place_of chapters.now) }
+    requires rising { IsTrue (rises_by segment_cmp home_of chapters.now) }
     ensures place { result ≡ position_or_len
-        (λ c. not (is_lt (segment_cmp (place_of c) (segment book head)))) chapters.now }
+        (λ c. not (is_lt (segment_cmp (home_of c) (segment book head)))) chapters.now }
     ensures within { result ≤ length chapters.now }
     ensures counted { Counts (length chapters.now) compared.old compared.new }
 {
     let at = place_by(
         chapters,
         |chapter| -> bool
-            ensures { result ≡ is_lt (segment_cmp (place_of chapter.now) (segment book head)) }
+            ensures { result ≡ is_lt (segment_cmp (home_of chapter.now) (segment book head)) }
         { chapter.order(book, head).is_lt() },
         Steps::beside(*near, chapters.len()),
         compared,
@@ -178,7 +178,7 @@ pub(crate) fn registers_of<'a>(
     near: &mut usize,
     compared: &mut u64,
 ) -> &'a [Register]
-    requires rising { IsTrue (rises_by segment_cmp place_of chapters.now) }
+    requires rising { IsTrue (rises_by segment_cmp home_of chapters.now) }
     ensures { result.now ≡ registers_of (segment book key) chapters.now }
 {
     let head = head_of(key);

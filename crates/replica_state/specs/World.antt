@@ -96,9 +96,9 @@ happens w (ReceivesCut name k length) = w
 happens w (FindsNoMemory name) = w
 
 -- the world after some events, of which the last comes first
-abbrev pub after : List Event → World
-after [] = beginning
-after (e ∷ past) = happens (after past) e
+abbrev pub world : List Event → World
+world [] = beginning
+world (e ∷ past) = happens (world past) e
 
 -- ---- what an event makes of operations
 

@@ -14,7 +14,7 @@ use Rattle.op_core.specs.Ids.{Id, id_cmp}
 use Rattle.op_core.specs.Lists.{awaited, books_of, keys_of}
 use Rattle.op_core.specs.Ops.{Operation, own_text}
 use Rattle.op_core.specs.Sets.{IsOpSet}
-use Rattle.op_core.specs.Shown.{is_shown, last, shown, text_in}
+use Rattle.op_core.specs.Shown.{is_shown, last, shown, text_if_any}
 use Rattle.op_core.proofs.Rising.{id_total}
 use Rattle.conflict_report.specs.Reports.{is_repeated, distinct_texts, conflict_line, text_lines, conflict_lines, awaited_line}
 use Rattle.conflict_report.specs.Reports.{conflict_at, report}
@@ -74,7 +74,7 @@ two_kept (o ∷ p ∷ ops) =
     by (two_kept (p ∷ ops)) (differ (p ∷ ops)) refl (same_bytes (own_text o) text) refl (has_text (own_text o) (p ∷ ops)) refl
   where
     text : List ℕ
-    text = text_in (last (p ∷ ops))
+    text = text_if_any (last (p ∷ ops))
 
     rest : List Operation
     rest = latest (p ∷ ops)

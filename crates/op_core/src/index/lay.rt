@@ -7,7 +7,7 @@ ghost use Rattle.usfm_ref.specs.Keys as keys;
 ghost use Rattle.usfm_ref.specs.Keys.{key_cmp, same_key};
 ghost use Rattle.usfm_ref.specs.Segments.{segment, segment_cmp};
 ghost use Rattle.usfm_ref.specs.Rising.{rises_by};
-ghost use Rattle.op_core.specs.Loops.Index.{place_of, is_there, IsOrderly, begins_above};
+ghost use Rattle.op_core.specs.Loops.Index.{home_of, is_there, IsOrderly, begins_above};
 ghost use Rattle.op_core.specs.Loops.Index.{Lays, LaysKeys, Readies};
 
 use super::put_in;
@@ -213,7 +213,7 @@ fn merge_chapters(
 // Whether a chapter is before the last of these, if there is one.
 fn is_under(chapters: &[Chapter], book: Book, head: Key, compared: &mut u64) -> bool
     ensures { result
-        ≡ begins_above segment_cmp place_of (segment book head) (reverse chapters.now) }
+        ≡ begins_above segment_cmp home_of (segment book head) (reverse chapters.now) }
 {
     let Some((last, _)) = chapters.split_last() else {
         return true;

@@ -1,6 +1,6 @@
 use Rattle.std.proofs.Common.{◌&&◌, subst, sym, ap, ◌∙◌}
 use Rattle.op_core.specs.Ops.{is_full}
-use Rattle.bundle_codec.specs.Loops.Merging.{Steps}
+use Rattle.bundle_codec.specs.Loops.Merging.{TakesFirst}
 use Rattle.bundle_codec.proofs.Merges.{lent_some, begins, goes_on}
 use Rattle.bundle_codec.proofs.merging.push_union.Goals.{then-full, else-full}
 use Rattle.bundle_codec.proofs.merging.push_union.Goals as goal
@@ -12,7 +12,7 @@ union-init c =
 pub union-preserved : goal.union-preserved
 union-preserved c =
     let step =
-    subst (Steps c.union.left c.union.right c.pass_least.new.left c.pass_least.new.right) c.in-Some.is c.in_ok-op.ensures.next in
+    subst (TakesFirst c.union.left c.union.right c.pass_least.new.left c.pass_least.new.right) c.in-Some.is c.in_ok-op.ensures.next in
     rw c.in_ok-extend_from_slice.ensures.items
     (goes_on c.args.left c.args.right c.args.bytes.now.items c.union.bytes.items c.spelled.result.now c.union.full c.if-full.full
     c.union.count c.union.left c.union.right c.pass_least.new.left c.pass_least.new.right c.in-Some.op c.union.invariant step

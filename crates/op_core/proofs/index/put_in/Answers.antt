@@ -7,7 +7,7 @@ use Rattle.usfm_ref.specs.Segments.{segment, segment_cmp}
 use Rattle.usfm_ref.proofs.Orders.{segment_total}
 use Rattle.usfm_ref.proofs.Sorted.{found, place, found_not, found_end, tied_back}
 use Rattle.usfm_ref.proofs.Placed.{set_same}
-use Rattle.op_core.specs.Loops.Index.{place_of, chapter_of, registers_in, registers_of, register_at, ChangesKey, Same}
+use Rattle.op_core.specs.Loops.Index.{home_of, chapter_of, registers_in, registers_of, register_at, ChangesKey, Same}
 use Rattle.op_core.specs.declared.register.Register.{Register}
 use Rattle.op_core.specs.declared.chapter.Chapter.{Chapter}
 use Rattle.op_core.proofs.Registers.{rise, map_ok, map_err, on_err}
@@ -21,9 +21,9 @@ put_register-requires-clause-rising c =
     ≡ c.index_mut-chapter.result.now.registers.items = were_there
     (segment c.args.book c.args.register.key) c.args.chapters.now.items c.place_chapter-at.result c.requires.orderly.rising
     (rw (← c.deref.ensures.value) c.place_chapter-at.ensures.place
-    ∙ ap (λ (k : KeyParts). place segment_cmp segment_total place_of (segment c.args.book k) c.args.chapters.now.items)
+    ∙ ap (λ (k : KeyParts). place segment_cmp segment_total home_of (segment c.args.book k) c.args.chapters.now.items)
     c.head_of-head.ensures) c.index_mut-chapter.result.now (omega arith) c.index_mut-chapter.ensures.value
-    (ap (λ (k : KeyParts). is_eq (segment_cmp (place_of c.index_mut-chapter.result.now) (segment c.args.book k)))
+    (ap (λ (k : KeyParts). is_eq (segment_cmp (home_of c.index_mut-chapter.result.now) (segment c.args.book k)))
     (sym c.head_of-head.ensures) ∙ sym (c.is_eq.ensures ∙ ap is_eq c.order.ensures) ∙ c.if-is_eq.true) in
     ap rise (sym there) ∙ c.requires.orderly.registers (segment c.args.book c.args.register.key)
 
@@ -33,9 +33,9 @@ put_register-requires-clause-absent c =
     ≡ c.index_mut-chapter.result.now.registers.items = were_there
     (segment c.args.book c.args.register.key) c.args.chapters.now.items c.place_chapter-at.result c.requires.orderly.rising
     (rw (← c.deref.ensures.value) c.place_chapter-at.ensures.place
-    ∙ ap (λ (k : KeyParts). place segment_cmp segment_total place_of (segment c.args.book k) c.args.chapters.now.items)
+    ∙ ap (λ (k : KeyParts). place segment_cmp segment_total home_of (segment c.args.book k) c.args.chapters.now.items)
     c.head_of-head.ensures) c.index_mut-chapter.result.now (omega arith) c.index_mut-chapter.ensures.value
-    (ap (λ (k : KeyParts). is_eq (segment_cmp (place_of c.index_mut-chapter.result.now) (segment c.args.book k)))
+    (ap (λ (k : KeyParts). is_eq (segment_cmp (home_of c.index_mut-chapter.result.now) (segment c.args.book k)))
     (sym c.head_of-head.ensures) ∙ sym (c.is_eq.ensures ∙ ap is_eq c.order.ensures) ∙ c.if-is_eq.true) in
     ap (register_at c.args.register.key) (sym there) ∙ c.requires.absent
 
@@ -45,15 +45,15 @@ returns-then-is_eq-clause-ok c =
     ≡ c.index_mut-chapter.result.now.registers.items = were_there
     (segment c.args.book c.args.register.key) c.args.chapters.now.items c.place_chapter-at.result c.requires.orderly.rising
     (rw (← c.deref.ensures.value) c.place_chapter-at.ensures.place
-    ∙ ap (λ (k : KeyParts). place segment_cmp segment_total place_of (segment c.args.book k) c.args.chapters.now.items)
+    ∙ ap (λ (k : KeyParts). place segment_cmp segment_total home_of (segment c.args.book k) c.args.chapters.now.items)
     c.head_of-head.ensures) c.index_mut-chapter.result.now (omega arith) c.index_mut-chapter.ensures.value
-    (ap (λ (k : KeyParts). is_eq (segment_cmp (place_of c.index_mut-chapter.result.now) (segment c.args.book k)))
+    (ap (λ (k : KeyParts). is_eq (segment_cmp (home_of c.index_mut-chapter.result.now) (segment c.args.book k)))
     (sym c.head_of-head.ensures) ∙ sym (c.is_eq.ensures ∙ ap is_eq c.order.ensures) ∙ c.if-is_eq.true) in
     let changes = set_chapter (segment c.args.book c.args.register.key) c.args.chapters.now.items c.place_chapter-at.result
     c.requires.orderly.rising (rw (← c.deref.ensures.value) c.place_chapter-at.ensures.place
-    ∙ ap (λ (k : KeyParts). place segment_cmp segment_total place_of (segment c.args.book k) c.args.chapters.now.items)
+    ∙ ap (λ (k : KeyParts). place segment_cmp segment_total home_of (segment c.args.book k) c.args.chapters.now.items)
     c.head_of-head.ensures) c.index_mut-chapter.result.now (omega arith) c.index_mut-chapter.ensures.value
-    (ap (λ (k : KeyParts). is_eq (segment_cmp (place_of c.index_mut-chapter.result.now) (segment c.args.book k)))
+    (ap (λ (k : KeyParts). is_eq (segment_cmp (home_of c.index_mut-chapter.result.now) (segment c.args.book k)))
     (sym c.head_of-head.ensures) ∙ sym (c.is_eq.ensures ∙ ap is_eq c.order.ensures) ∙ c.if-is_eq.true)
     (record {
       book = c.index_mut-chapter.result.now.book;
@@ -73,15 +73,15 @@ returns-then-is_eq-clause-err c =
     ≡ c.index_mut-chapter.result.now.registers.items = were_there
     (segment c.args.book c.args.register.key) c.args.chapters.now.items c.place_chapter-at.result c.requires.orderly.rising
     (rw (← c.deref.ensures.value) c.place_chapter-at.ensures.place
-    ∙ ap (λ (k : KeyParts). place segment_cmp segment_total place_of (segment c.args.book k) c.args.chapters.now.items)
+    ∙ ap (λ (k : KeyParts). place segment_cmp segment_total home_of (segment c.args.book k) c.args.chapters.now.items)
     c.head_of-head.ensures) c.index_mut-chapter.result.now (omega arith) c.index_mut-chapter.ensures.value
-    (ap (λ (k : KeyParts). is_eq (segment_cmp (place_of c.index_mut-chapter.result.now) (segment c.args.book k)))
+    (ap (λ (k : KeyParts). is_eq (segment_cmp (home_of c.index_mut-chapter.result.now) (segment c.args.book k)))
     (sym c.head_of-head.ensures) ∙ sym (c.is_eq.ensures ∙ ap is_eq c.order.ensures) ∙ c.if-is_eq.true) in
     let changes = set_chapter (segment c.args.book c.args.register.key) c.args.chapters.now.items c.place_chapter-at.result
     c.requires.orderly.rising (rw (← c.deref.ensures.value) c.place_chapter-at.ensures.place
-    ∙ ap (λ (k : KeyParts). place segment_cmp segment_total place_of (segment c.args.book k) c.args.chapters.now.items)
+    ∙ ap (λ (k : KeyParts). place segment_cmp segment_total home_of (segment c.args.book k) c.args.chapters.now.items)
     c.head_of-head.ensures) c.index_mut-chapter.result.now (omega arith) c.index_mut-chapter.ensures.value
-    (ap (λ (k : KeyParts). is_eq (segment_cmp (place_of c.index_mut-chapter.result.now) (segment c.args.book k)))
+    (ap (λ (k : KeyParts). is_eq (segment_cmp (home_of c.index_mut-chapter.result.now) (segment c.args.book k)))
     (sym c.head_of-head.ensures) ∙ sym (c.is_eq.ensures ∙ ap is_eq c.order.ensures) ∙ c.if-is_eq.true)
     (record {
       book = c.index_mut-chapter.result.now.book;
@@ -128,19 +128,19 @@ returns-clause-ok c =
           w.index_mut-chapter.ensures.value))
       | else-at-len w ↦ rw w.chapters-is refl
     ] in
-    let none' : found segment_cmp segment_total place_of (segment c.args.book c.head_of-head.result) c.args.chapters.now.items ≡ None =
+    let none' : found segment_cmp segment_total home_of (segment c.args.book c.head_of-head.result) c.args.chapters.now.items ≡ None =
     elim c.if-at-len.branch [
-      | then-at-len+else-is_eq w ↦ found_not segment_cmp segment_total place_of (segment c.args.book c.head_of-head.result)
+      | then-at-len+else-is_eq w ↦ found_not segment_cmp segment_total home_of (segment c.args.book c.head_of-head.result)
           c.args.chapters.now.items c.place_chapter-at.result w.index_mut-chapter.result.now c.requires.orderly.rising
           (rw (← c.deref.ensures.value) c.place_chapter-at.ensures.place) w.index_mut-chapter.ensures.value
-          (tied_back segment_cmp segment_total (place_of w.index_mut-chapter.result.now) (segment c.args.book c.head_of-head.result) _
+          (tied_back segment_cmp segment_total (home_of w.index_mut-chapter.result.now) (segment c.args.book c.head_of-head.result) _
           (sym (w.is_eq.ensures ∙ ap is_eq w.order.ensures) ∙ w.if-is_eq.false))
-      | else-at-len w ↦ found_end segment_cmp segment_total place_of (segment c.args.book c.head_of-head.result)
+      | else-at-len w ↦ found_end segment_cmp segment_total home_of (segment c.args.book c.head_of-head.result)
           c.args.chapters.now.items c.place_chapter-at.result c.requires.orderly.rising
           (rw (← c.deref.ensures.value) c.place_chapter-at.ensures.place) (omega arith)
     ] in
-    let none : found segment_cmp segment_total place_of (chapter_of (segment c.args.book c.args.register.key)) c.args.chapters.now.items
-    ≡ None = ap (λ (k : KeyParts). found segment_cmp segment_total place_of (segment c.args.book k) c.args.chapters.now.items)
+    let none : found segment_cmp segment_total home_of (chapter_of (segment c.args.book c.args.register.key)) c.args.chapters.now.items
+    ≡ None = ap (λ (k : KeyParts). found segment_cmp segment_total home_of (segment c.args.book k) c.args.chapters.now.items)
     (sym c.head_of-head.ensures) ∙ none' in
     let y : Chapter = record { book = c.args.book; head = c.head_of-head.result; registers = c.put_register-2.new.registers } in
     let went : is_ok c.insert.result ≡ true = ap is_ok c.unwrap.ensures in
@@ -148,7 +148,7 @@ returns-clause-ok c =
     ∙ cond-true _ _ _ went ∙ ap (λ (cs : List Chapter). insert cs c.place_chapter-at.result y) (c.in_ok-reserve.ensures.items ∙ same) in
     let changes = insert_chapter (segment c.args.book c.args.register.key) c.args.chapters.now.items c.place_chapter-at.result
     c.requires.orderly.rising (rw (← c.deref.ensures.value) c.place_chapter-at.ensures.place
-    ∙ ap (λ (k : KeyParts). place segment_cmp segment_total place_of (segment c.args.book k) c.args.chapters.now.items)
+    ∙ ap (λ (k : KeyParts). place segment_cmp segment_total home_of (segment c.args.book k) c.args.chapters.now.items)
     c.head_of-head.ensures) y none (ap (segment c.args.book) c.head_of-head.ensures) in
     let empty : c.new-registers.result.items ≡ registers_of (segment c.args.book c.args.register.key) c.args.chapters.now.items =
     c.new-registers.ensures.items ∙ sym (ap registers_in none) in

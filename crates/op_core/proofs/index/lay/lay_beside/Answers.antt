@@ -4,7 +4,7 @@ use Rattle.usfm_ref.specs.Keys.{KeyParts, head_of}
 use Rattle.usfm_ref.specs.Segments.{segment, segment_cmp}
 use Rattle.usfm_ref.proofs.Orders.{segment_total}
 use Rattle.usfm_ref.proofs.Sorted.{place}
-use Rattle.op_core.specs.Loops.Index.{place_of, registers_of, LaysKeys}
+use Rattle.op_core.specs.Loops.Index.{home_of, registers_of, LaysKeys}
 use Rattle.op_core.specs.declared.register.Register.{Register}
 use Rattle.op_core.proofs.Registers.{rise}
 use Rattle.op_core.proofs.Chapters.{were_there, set_chapter, lays_in}
@@ -15,9 +15,9 @@ lay_keys-requires c =
     let there : registers_of (segment c.args.spot.book c.args.spot.key) c.args.chapters.now.items
     ≡ c.index_mut-chapter.result.now.registers.items = were_there (segment c.args.spot.book c.args.spot.key) c.args.chapters.now.items
     c.place_chapter-at.result c.requires.rising (rw (← c.deref.ensures.value) c.place_chapter-at.ensures.place
-    ∙ ap (λ (k : KeyParts). place segment_cmp segment_total place_of (segment c.args.spot.book k) c.args.chapters.now.items)
+    ∙ ap (λ (k : KeyParts). place segment_cmp segment_total home_of (segment c.args.spot.book k) c.args.chapters.now.items)
     c.head_of-head.ensures) c.index_mut-chapter.result.now (omega arith) c.index_mut-chapter.ensures.value
-    (ap (λ (k : KeyParts). is_eq (segment_cmp (place_of c.index_mut-chapter.result.now) (segment c.args.spot.book k)))
+    (ap (λ (k : KeyParts). is_eq (segment_cmp (home_of c.index_mut-chapter.result.now) (segment c.args.spot.book k)))
     (sym c.head_of-head.ensures) ∙ sym (c.is_eq.ensures ∙ ap is_eq c.order.ensures) ∙ c.if-is_eq.true) in
     record { rising = ap rise (sym there) ∙ c.requires.registers (segment c.args.spot.book c.args.spot.key) }
 
@@ -26,15 +26,15 @@ returns-then-is_eq c =
     let there : registers_of (segment c.args.spot.book c.args.spot.key) c.args.chapters.now.items
     ≡ c.index_mut-chapter.result.now.registers.items = were_there (segment c.args.spot.book c.args.spot.key) c.args.chapters.now.items
     c.place_chapter-at.result c.requires.rising (rw (← c.deref.ensures.value) c.place_chapter-at.ensures.place
-    ∙ ap (λ (k : KeyParts). place segment_cmp segment_total place_of (segment c.args.spot.book k) c.args.chapters.now.items)
+    ∙ ap (λ (k : KeyParts). place segment_cmp segment_total home_of (segment c.args.spot.book k) c.args.chapters.now.items)
     c.head_of-head.ensures) c.index_mut-chapter.result.now (omega arith) c.index_mut-chapter.ensures.value
-    (ap (λ (k : KeyParts). is_eq (segment_cmp (place_of c.index_mut-chapter.result.now) (segment c.args.spot.book k)))
+    (ap (λ (k : KeyParts). is_eq (segment_cmp (home_of c.index_mut-chapter.result.now) (segment c.args.spot.book k)))
     (sym c.head_of-head.ensures) ∙ sym (c.is_eq.ensures ∙ ap is_eq c.order.ensures) ∙ c.if-is_eq.true) in
     let changes = set_chapter (segment c.args.spot.book c.args.spot.key) c.args.chapters.now.items
     c.place_chapter-at.result c.requires.rising (rw (← c.deref.ensures.value) c.place_chapter-at.ensures.place
-    ∙ ap (λ (k : KeyParts). place segment_cmp segment_total place_of (segment c.args.spot.book k) c.args.chapters.now.items)
+    ∙ ap (λ (k : KeyParts). place segment_cmp segment_total home_of (segment c.args.spot.book k) c.args.chapters.now.items)
     c.head_of-head.ensures) c.index_mut-chapter.result.now (omega arith) c.index_mut-chapter.ensures.value
-    (ap (λ (k : KeyParts). is_eq (segment_cmp (place_of c.index_mut-chapter.result.now) (segment c.args.spot.book k)))
+    (ap (λ (k : KeyParts). is_eq (segment_cmp (home_of c.index_mut-chapter.result.now) (segment c.args.spot.book k)))
     (sym c.head_of-head.ensures) ∙ sym (c.is_eq.ensures ∙ ap is_eq c.order.ensures) ∙ c.if-is_eq.true) (record {
       book =
           c.index_mut-chapter.result.now.book;

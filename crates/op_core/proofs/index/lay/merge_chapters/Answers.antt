@@ -3,7 +3,7 @@ use Rattle.std.proofs.lemmas.Bool.{cond-true}
 use Rattle.usfm_ref.specs.Segments.{Segment, segment, segment_cmp}
 use Rattle.usfm_ref.proofs.Orders.{segment_total}
 use Rattle.usfm_ref.proofs.Sorted.{place}
-use Rattle.op_core.specs.Loops.Index.{place_of, chapter_of, begins_above}
+use Rattle.op_core.specs.Loops.Index.{home_of, chapter_of, begins_above}
 use Rattle.op_core.specs.declared.chapter.Chapter.{Chapter}
 use Rattle.op_core.proofs.Between.{rises_front}
 use Rattle.op_core.proofs.Laid.{chapters_moved, chapter_more}
@@ -11,7 +11,7 @@ use Rattle.op_core.proofs.index.lay.merge_chapters.Goals as goal
 
 pub place_chapter-at-requires : goal.place_chapter-at-requires
 place_chapter-at-requires c = record {
-  rising = rw c.deref.ensures.value (rises_front segment_cmp segment_total place_of
+  rising = rw c.deref.ensures.value (rises_front segment_cmp segment_total home_of
       c.laying.chapters.items (reverse c.laying.tail.items) c.laying.invariant.lays.orderly.rising);
 }
 
@@ -21,12 +21,12 @@ laying-preserved-then-is_under c =
     let m = c.move_after.ensures in
     let g : Segment = segment c.in-Some.spot.now.book c.in-Some.spot.now.key in
     let n = c.place_chapter-at.result in
-    let at : n ≡ place segment_cmp segment_total place_of (chapter_of g) c.laying.chapters.items = c.place_chapter-at.ensures.place
-    ∙ (λ i. place segment_cmp segment_total place_of (segment g.book (c.head_of-head.ensures i)) (c.deref.ensures.value i)) in
+    let at : n ≡ place segment_cmp segment_total home_of (chapter_of g) c.laying.chapters.items = c.place_chapter-at.ensures.place
+    ∙ (λ i. place segment_cmp segment_total home_of (segment g.book (c.head_of-head.ensures i)) (c.deref.ensures.value i)) in
     let within : n ≤ length c.laying.chapters.items = omega (arith, c.place_chapter-at.ensures.within, c.deref.ensures.len) in
     let y : Chapter = record { book = g.book; head = c.head_of-head.result; registers = c.new-registers.result } in
-    let under : begins_above segment_cmp place_of (chapter_of g) (reverse c.move_after.new.to.items) ≡ true =
-    (λ i. begins_above segment_cmp place_of (segment g.book (sym c.head_of-head.ensures i))
+    let under : begins_above segment_cmp home_of (chapter_of g) (reverse c.move_after.new.to.items) ≡ true =
+    (λ i. begins_above segment_cmp home_of (segment g.book (sym c.head_of-head.ensures i))
     (reverse (sym c.deref-then-len-capacity-2.ensures.value i))) ∙ sym c.is_under.ensures ∙ c.if-is_under.true in
     let went : is_ok c.push.result ≡ true = ap is_ok c.unwrap.ensures in
     let pushed = c.push.ensures.len ∙ cond-true _ _ _ went in

@@ -4,7 +4,7 @@ use Rattle.usfm_ref.specs.Segments.{segment, segment_cmp}
 use Rattle.usfm_ref.proofs.Orders.{segment_total}
 use Rattle.usfm_ref.proofs.Sorted.{place}
 use Rattle.op_core.specs.Ids.{ids_rise}
-use Rattle.op_core.specs.Loops.Index.{place_of, register_at, shown_in, missing_in, among, HasRoomIn, IsAtKey, IsSameBut, IsChangeOf}
+use Rattle.op_core.specs.Loops.Index.{home_of, register_at, shown_in, missing_in, among, HasRoomIn, IsAtKey, IsSameBut, IsChangeOf}
 use Rattle.op_core.specs.declared.register.Register.{Register}
 use Rattle.op_core.proofs.Registers.{rise}
 use Rattle.op_core.proofs.Chapters.{chapter_there, chapter_was, chapter_changes, now_in, is_at}
@@ -15,7 +15,7 @@ pub index_mut-requires : goal.index_mut-requires
 index_mut-requires c =
     let l = chapter_there (segment c.args.book c.args.key) c.args.chapters.now.items c.place_chapter-at.result c.requires.orderly.rising
     (rw (← c.deref.ensures.value) c.place_chapter-at.ensures.place
-    ∙ (λ i. place segment_cmp segment_total place_of (segment c.args.book (c.head_of.ensures i)) c.args.chapters.now.items))
+    ∙ (λ i. place segment_cmp segment_total home_of (segment c.args.book (c.head_of.ensures i)) c.args.chapters.now.items))
     c.requires.there in
     omega (arith, l, c.args.chapters.now.ok.0)
 
@@ -23,7 +23,7 @@ pub ready_at_key-requires-clause-rising : goal.ready_at_key-requires-clause-risi
 ready_at_key-requires-clause-rising c =
     let was = chapter_was (segment c.args.book c.args.key) c.args.chapters.now.items c.place_chapter-at.result c.requires.orderly.rising
     (rw (← c.deref.ensures.value) c.place_chapter-at.ensures.place
-    ∙ (λ i. place segment_cmp segment_total place_of (segment c.args.book (c.head_of.ensures i)) c.args.chapters.now.items))
+    ∙ (λ i. place segment_cmp segment_total home_of (segment c.args.book (c.head_of.ensures i)) c.args.chapters.now.items))
     c.index_mut.result.now c.index_mut.ensures.value c.requires.there in
     subst (λ (rs : List Register). IsTrue (rise rs)) was (c.requires.orderly.registers (segment c.args.book c.args.key))
 
@@ -31,7 +31,7 @@ pub ready_at_key-requires-clause-there : goal.ready_at_key-requires-clause-there
 ready_at_key-requires-clause-there c =
     let was = chapter_was (segment c.args.book c.args.key) c.args.chapters.now.items c.place_chapter-at.result c.requires.orderly.rising
     (rw (← c.deref.ensures.value) c.place_chapter-at.ensures.place
-    ∙ (λ i. place segment_cmp segment_total place_of (segment c.args.book (c.head_of.ensures i)) c.args.chapters.now.items))
+    ∙ (λ i. place segment_cmp segment_total home_of (segment c.args.book (c.head_of.ensures i)) c.args.chapters.now.items))
     c.index_mut.result.now c.index_mut.ensures.value c.requires.there in
     subst (λ (rs : List Register). IsTrue (is_some (register_at c.args.key rs))) was c.requires.there
 
@@ -39,7 +39,7 @@ pub ready_at_key-requires-clause-shown : goal.ready_at_key-requires-clause-shown
 ready_at_key-requires-clause-shown c =
     let was = chapter_was (segment c.args.book c.args.key) c.args.chapters.now.items c.place_chapter-at.result c.requires.orderly.rising
     (rw (← c.deref.ensures.value) c.place_chapter-at.ensures.place
-    ∙ (λ i. place segment_cmp segment_total place_of (segment c.args.book (c.head_of.ensures i)) c.args.chapters.now.items))
+    ∙ (λ i. place segment_cmp segment_total home_of (segment c.args.book (c.head_of.ensures i)) c.args.chapters.now.items))
     c.index_mut.result.now c.index_mut.ensures.value c.requires.there in
     subst (λ (rs : List Register). IsTrue (ids_rise (shown_in (register_at c.args.key rs)))) was c.requires.shown
 
@@ -47,7 +47,7 @@ pub ready_at_key-requires-clause-missing : goal.ready_at_key-requires-clause-mis
 ready_at_key-requires-clause-missing c =
     let was = chapter_was (segment c.args.book c.args.key) c.args.chapters.now.items c.place_chapter-at.result c.requires.orderly.rising
     (rw (← c.deref.ensures.value) c.place_chapter-at.ensures.place
-    ∙ (λ i. place segment_cmp segment_total place_of (segment c.args.book (c.head_of.ensures i)) c.args.chapters.now.items))
+    ∙ (λ i. place segment_cmp segment_total home_of (segment c.args.book (c.head_of.ensures i)) c.args.chapters.now.items))
     c.index_mut.result.now c.index_mut.ensures.value c.requires.there in
     subst (λ (rs : List Register). IsTrue (ids_rise (missing_in (register_at c.args.key rs)))) was c.requires.missing
 
@@ -56,11 +56,11 @@ returns-clause-same c =
     let x = c.index_mut.result.now in
     let was = chapter_was (segment c.args.book c.args.key) c.args.chapters.now.items c.place_chapter-at.result c.requires.orderly.rising
     (rw (← c.deref.ensures.value) c.place_chapter-at.ensures.place
-    ∙ (λ i. place segment_cmp segment_total place_of (segment c.args.book (c.head_of.ensures i)) c.args.chapters.now.items)) x
+    ∙ (λ i. place segment_cmp segment_total home_of (segment c.args.book (c.head_of.ensures i)) c.args.chapters.now.items)) x
     c.index_mut.ensures.value c.requires.there in
     let changes = chapter_changes (segment c.args.book c.args.key) c.args.chapters.now.items c.place_chapter-at.result
     c.requires.orderly.rising (rw (← c.deref.ensures.value) c.place_chapter-at.ensures.place
-    ∙ (λ i. place segment_cmp segment_total place_of (segment c.args.book (c.head_of.ensures i)) c.args.chapters.now.items)) x
+    ∙ (λ i. place segment_cmp segment_total home_of (segment c.args.book (c.head_of.ensures i)) c.args.chapters.now.items)) x
     c.index_mut.ensures.value c.requires.there (record { book = x.book; head = x.head; registers = c.ready_at_key.new.registers }) refl
     in
     let at = is_at IsSameBut (segment c.args.book c.args.key) c.ready_at_key.new.registers.items c.args.chapters.now.items _ changes
@@ -73,7 +73,7 @@ returns-clause-change c =
     let x = c.index_mut.result.now in
     let was = chapter_was (segment c.args.book c.args.key) c.args.chapters.now.items c.place_chapter-at.result c.requires.orderly.rising
     (rw (← c.deref.ensures.value) c.place_chapter-at.ensures.place
-    ∙ (λ i. place segment_cmp segment_total place_of (segment c.args.book (c.head_of.ensures i)) c.args.chapters.now.items)) x
+    ∙ (λ i. place segment_cmp segment_total home_of (segment c.args.book (c.head_of.ensures i)) c.args.chapters.now.items)) x
     c.index_mut.ensures.value c.requires.there in
     if_ok c.ready_at_key.result
     (λ ch k. subst (λ (rs : List Register). IsChangeOf c.args.held.now (segment c.args.book c.args.key)
@@ -85,11 +85,11 @@ returns-clause-room c =
     let x = c.index_mut.result.now in
     let was = chapter_was (segment c.args.book c.args.key) c.args.chapters.now.items c.place_chapter-at.result c.requires.orderly.rising
     (rw (← c.deref.ensures.value) c.place_chapter-at.ensures.place
-    ∙ (λ i. place segment_cmp segment_total place_of (segment c.args.book (c.head_of.ensures i)) c.args.chapters.now.items)) x
+    ∙ (λ i. place segment_cmp segment_total home_of (segment c.args.book (c.head_of.ensures i)) c.args.chapters.now.items)) x
     c.index_mut.ensures.value c.requires.there in
     let changes = chapter_changes (segment c.args.book c.args.key) c.args.chapters.now.items c.place_chapter-at.result
     c.requires.orderly.rising (rw (← c.deref.ensures.value) c.place_chapter-at.ensures.place
-    ∙ (λ i. place segment_cmp segment_total place_of (segment c.args.book (c.head_of.ensures i)) c.args.chapters.now.items)) x
+    ∙ (λ i. place segment_cmp segment_total home_of (segment c.args.book (c.head_of.ensures i)) c.args.chapters.now.items)) x
     c.index_mut.ensures.value c.requires.there (record { book = x.book; head = x.head; registers = c.ready_at_key.new.registers }) refl
     in
     if_ok c.ready_at_key.result

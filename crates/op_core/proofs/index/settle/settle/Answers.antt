@@ -3,7 +3,7 @@ use Rattle.usfm_ref.specs.Segments.{segment, segment_cmp}
 use Rattle.usfm_ref.proofs.Orders.{segment_total}
 use Rattle.usfm_ref.proofs.Sorted.{place}
 use Rattle.op_core.specs.Ids.{ids_rise}
-use Rattle.op_core.specs.Loops.Index.{place_of, register_at, register_of, shown_in, missing_in, HasRoomIn, IsAtKey, Takes}
+use Rattle.op_core.specs.Loops.Index.{home_of, register_at, register_of, shown_in, missing_in, HasRoomIn, IsAtKey, Takes}
 use Rattle.op_core.specs.declared.register.Register.{Register}
 use Rattle.op_core.proofs.Registers.{rise}
 use Rattle.op_core.proofs.Chapters.{chapter_there, chapter_was, chapter_changes, is_at}
@@ -14,7 +14,7 @@ pub index_mut-requires : goal.index_mut-requires
 index_mut-requires c =
     let l = chapter_there (segment c.args.change.book c.args.change.key) c.args.chapters.now.items c.place_chapter-at.result
     c.requires.orderly.rising (rw (← c.deref.ensures.value) c.place_chapter-at.ensures.place
-    ∙ (λ i. place segment_cmp segment_total place_of (segment c.args.change.book (c.head_of.ensures i)) c.args.chapters.now.items))
+    ∙ (λ i. place segment_cmp segment_total home_of (segment c.args.change.book (c.head_of.ensures i)) c.args.chapters.now.items))
     (has_there c.args.change (register_of (segment c.args.change.book c.args.change.key) c.args.chapters.now.items) c.requires.room) in
     omega (arith, l, c.args.chapters.now.ok.0)
 
@@ -22,7 +22,7 @@ pub take_at_key-requires-clause-rising : goal.take_at_key-requires-clause-rising
 take_at_key-requires-clause-rising c =
     let was = chapter_was (segment c.args.change.book c.args.change.key) c.args.chapters.now.items c.place_chapter-at.result
     c.requires.orderly.rising (rw (← c.deref.ensures.value) c.place_chapter-at.ensures.place
-    ∙ (λ i. place segment_cmp segment_total place_of (segment c.args.change.book (c.head_of.ensures i)) c.args.chapters.now.items))
+    ∙ (λ i. place segment_cmp segment_total home_of (segment c.args.change.book (c.head_of.ensures i)) c.args.chapters.now.items))
     c.index_mut.result.now c.index_mut.ensures.value
     (has_there c.args.change (register_of (segment c.args.change.book c.args.change.key) c.args.chapters.now.items) c.requires.room) in
     subst (λ (rs : List Register). IsTrue (rise rs)) was (c.requires.orderly.registers (segment c.args.change.book c.args.change.key))
@@ -31,7 +31,7 @@ pub take_at_key-requires-clause-shown : goal.take_at_key-requires-clause-shown
 take_at_key-requires-clause-shown c =
     let was = chapter_was (segment c.args.change.book c.args.change.key) c.args.chapters.now.items c.place_chapter-at.result
     c.requires.orderly.rising (rw (← c.deref.ensures.value) c.place_chapter-at.ensures.place
-    ∙ (λ i. place segment_cmp segment_total place_of (segment c.args.change.book (c.head_of.ensures i)) c.args.chapters.now.items))
+    ∙ (λ i. place segment_cmp segment_total home_of (segment c.args.change.book (c.head_of.ensures i)) c.args.chapters.now.items))
     c.index_mut.result.now c.index_mut.ensures.value
     (has_there c.args.change (register_of (segment c.args.change.book c.args.change.key) c.args.chapters.now.items) c.requires.room) in
     subst (λ (rs : List Register). IsTrue (ids_rise (shown_in (register_at c.args.change.key rs)))) was c.requires.shown
@@ -40,7 +40,7 @@ pub take_at_key-requires-clause-missing : goal.take_at_key-requires-clause-missi
 take_at_key-requires-clause-missing c =
     let was = chapter_was (segment c.args.change.book c.args.change.key) c.args.chapters.now.items c.place_chapter-at.result
     c.requires.orderly.rising (rw (← c.deref.ensures.value) c.place_chapter-at.ensures.place
-    ∙ (λ i. place segment_cmp segment_total place_of (segment c.args.change.book (c.head_of.ensures i)) c.args.chapters.now.items))
+    ∙ (λ i. place segment_cmp segment_total home_of (segment c.args.change.book (c.head_of.ensures i)) c.args.chapters.now.items))
     c.index_mut.result.now c.index_mut.ensures.value
     (has_there c.args.change (register_of (segment c.args.change.book c.args.change.key) c.args.chapters.now.items) c.requires.room) in
     subst (λ (rs : List Register). IsTrue (ids_rise (missing_in (register_at c.args.change.key rs)))) was c.requires.missing
@@ -49,7 +49,7 @@ pub take_at_key-requires-clause-room : goal.take_at_key-requires-clause-room
 take_at_key-requires-clause-room c =
     let was = chapter_was (segment c.args.change.book c.args.change.key) c.args.chapters.now.items c.place_chapter-at.result
     c.requires.orderly.rising (rw (← c.deref.ensures.value) c.place_chapter-at.ensures.place
-    ∙ (λ i. place segment_cmp segment_total place_of (segment c.args.change.book (c.head_of.ensures i)) c.args.chapters.now.items))
+    ∙ (λ i. place segment_cmp segment_total home_of (segment c.args.change.book (c.head_of.ensures i)) c.args.chapters.now.items))
     c.index_mut.result.now c.index_mut.ensures.value
     (has_there c.args.change (register_of (segment c.args.change.book c.args.change.key) c.args.chapters.now.items) c.requires.room) in
     subst (λ (rs : List Register). HasRoomIn c.args.change (register_at c.args.change.key rs)) was c.requires.room
@@ -59,12 +59,12 @@ returns c =
     let x = c.index_mut.result.now in
     let was = chapter_was (segment c.args.change.book c.args.change.key) c.args.chapters.now.items c.place_chapter-at.result
     c.requires.orderly.rising (rw (← c.deref.ensures.value) c.place_chapter-at.ensures.place
-    ∙ (λ i. place segment_cmp segment_total place_of (segment c.args.change.book (c.head_of.ensures i)) c.args.chapters.now.items)) x
+    ∙ (λ i. place segment_cmp segment_total home_of (segment c.args.change.book (c.head_of.ensures i)) c.args.chapters.now.items)) x
     c.index_mut.ensures.value (has_there c.args.change
     (register_of (segment c.args.change.book c.args.change.key) c.args.chapters.now.items) c.requires.room) in
     let changes = chapter_changes (segment c.args.change.book c.args.change.key) c.args.chapters.now.items c.place_chapter-at.result
     c.requires.orderly.rising (rw (← c.deref.ensures.value) c.place_chapter-at.ensures.place
-    ∙ (λ i. place segment_cmp segment_total place_of (segment c.args.change.book (c.head_of.ensures i)) c.args.chapters.now.items)) x
+    ∙ (λ i. place segment_cmp segment_total home_of (segment c.args.change.book (c.head_of.ensures i)) c.args.chapters.now.items)) x
     c.index_mut.ensures.value (has_there c.args.change
     (register_of (segment c.args.change.book c.args.change.key) c.args.chapters.now.items) c.requires.room)
     (record { book = x.book; head = x.head; registers = c.take_at_key.new.registers }) refl in
