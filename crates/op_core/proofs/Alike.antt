@@ -53,7 +53,7 @@ module _ (s u : List Operation) (e : skeleton s ≡ skeleton u) (shows : (seg : 
       let same = shows seg in
       let has = has_alike seg.book seg.key.chapter in
       λ i. cond (is_head seg.key.place && nat_le 1 seg.key.chapter && is_empty (text_if_any (last (same i))) && has i)
-          (Line seg.key.chapter)
+      (Line seg.key.chapter)
       (greatest (last (same i)))
 
   keys_alike : (book : List ℕ) → keys_in s book ≡ keys_in u book

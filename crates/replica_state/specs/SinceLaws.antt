@@ -77,7 +77,7 @@ IsReceivingAndEdits =
     (imported_since s base file).answer ≡ Ok count →
     NoneRefused s (since_commands s base book (pieces_of file))
     × (after_all s (since_commands s base book (pieces_of file))
-        ≡ (imported_since s base file).after)
+    ≡ (imported_since s base file).after)
 
 -- Twice is once: the same base and file again add nothing.
 abbrev pub TwiceIsOnce : Type 0
