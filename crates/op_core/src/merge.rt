@@ -9,11 +9,12 @@ ghost use Rattle.op_core.specs.Loops.Index.{AreApart, IsBefore};
 use crate::op::Op;
 use crate::op_id::OpId;
 use crate::place::{find_near, place_last};
+use crate::search::Search;
 use std::alloc::{AllocError, Global};
 use std::cmp::Ordering;
 
 // The least id under which two rising lists have operations that do not agree.
-pub(crate) fn clash(held: &[Op], other: &[Op], compared: &mut u64) -> Option<OpId>
+pub(crate) fn clash(held: &[Op], other: &[Op], search: &mut Search) -> Option<OpId>
     requires held { IsTrue (sets.rises held.now) }
     requires other { IsTrue (sets.rises other.now) }
     ensures { result ≡ sets.clash held.now other.now }
@@ -24,7 +25,7 @@ pub(crate) fn clash(held: &[Op], other: &[Op], compared: &mut u64) -> Option<OpI
         let Some((y, others)) = right.split_first() else {
             return None;
         };
-        *compared = compared.saturating_add(1);
+        search.count();
         match x.id().cmp(&y.id()) {
             Ordering::Less => left = later,
             Ordering::Greater => right = others,
@@ -41,13 +42,12 @@ pub(crate) fn clash(held: &[Op], other: &[Op], compared: &mut u64) -> Option<OpI
 }
 
 // Whether one of the operations has an id that is not held.
-pub(crate) fn has_new(held: &[Op], new: &[Op], compared: &mut u64) -> bool
+pub(crate) fn has_new(held: &[Op], new: &[Op], search: &mut Search) -> bool
     requires { IsTrue (sets.rises held.now) }
     ensures { result ≡ list_any (λ o. is_none (sets.get held.now o.id)) new.now }
 {
-    let mut near = 0;
     for op in new {
-        if find_near(held, op.id(), &mut near, compared).is_none() {
+        if find_near(held, op.id(), search).is_none() {
             return true;
         }
     }
@@ -55,14 +55,13 @@ pub(crate) fn has_new(held: &[Op], new: &[Op], compared: &mut u64) -> bool
 }
 
 // Takes out of a rising list the operations whose ids are held.
-pub(crate) fn leave_held(new: &mut Vec<Op>, held: &[Op], compared: &mut u64)
+pub(crate) fn leave_held(new: &mut Vec<Op>, held: &[Op], search: &mut Search)
     requires { IsTrue (sets.rises held.now) }
     ensures { new.new.items ≡ filter (λ o. is_none (sets.get held.now o.id)) new.old.items }
 {
     let mut kept = 0;
-    let mut near = 0;
     for i in 0..new.len() {
-        if find_near(held, new[i].id(), &mut near, compared).is_none() {
+        if find_near(held, new[i].id(), search).is_none() {
             new.swap(kept, i);
             kept += 1;
         }
@@ -71,7 +70,7 @@ pub(crate) fn leave_held(new: &mut Vec<Op>, held: &[Op], compared: &mut u64)
 }
 
 // How many held operations are before the first of the new ones.
-pub(crate) fn place_first(held: &[Op], new: &[Op], compared: &mut u64) -> usize
+pub(crate) fn place_first(held: &[Op], new: &[Op], search: &mut Search) -> usize
     requires held { IsTrue (sets.rises held.now) }
     requires new { IsTrue (sets.rises new.now) }
     ensures within { result ≤ length held.now }
@@ -79,7 +78,7 @@ pub(crate) fn place_first(held: &[Op], new: &[Op], compared: &mut u64) -> usize
 {
     match new.split_first() {
         None => held.len(),
-        Some((op, _)) => place_last(held, op.id(), compared),
+        Some((op, _)) => place_last(held, op.id(), search),
     }
 }
 
@@ -130,7 +129,7 @@ pub(crate) fn merge(
     mut new: Vec<Op>,
     tail: Vec<Op>,
     from: usize,
-    compared: &mut u64,
+    search: &mut Search,
 )
     requires ops { IsTrue (sets.rises ops.old.items) }
     requires new { IsTrue (sets.rises new.items) }
@@ -147,7 +146,7 @@ pub(crate) fn merge(
     } else if from >= ops.len() {
         ops.append(&mut new).unwrap();
     } else {
-        interleave(ops, new, tail, from, compared);
+        interleave(ops, new, tail, from, search);
     }
 }
 
@@ -158,7 +157,7 @@ fn interleave(
     mut new: Vec<Op>,
     mut tail: Vec<Op>,
     from: usize,
-    compared: &mut u64,
+    search: &mut Search,
 )
     requires ops { IsTrue (sets.rises ops.old.items) }
     requires new { IsTrue (sets.rises new.items) }
@@ -170,7 +169,7 @@ fn interleave(
     ensures { ops.new.items ≡ sets.join ops.old.items new.items }
 {
     'merging: while let Some(op) = new.pop() {
-        let at = place_last(ops, op.id(), compared);
+        let at = place_last(ops, op.id(), search);
         move_after(ops, at, &mut tail);
         tail.push(op).unwrap();
     }

@@ -11,22 +11,24 @@ ghost use Rattle.op_core.specs.Ids.{id_below, same_id};
 ghost use Rattle.op_core.specs.Thinned as thinned;
 ghost use Rattle.op_core.specs.Sets as sets;
 ghost use Rattle.op_core.specs.Loops.Index.{home_of, register_at, register_of, registers_of, shown_in, is_in};
-ghost use Rattle.op_core.specs.Loops.Index.{IsOrderly, Counts};
+ghost use Rattle.op_core.specs.Loops.Index.{IsOrderly};
+ghost use Rattle.op_core.specs.Loops.Searches.{Counted};
 
 use crate::chapter::Chapter;
 use crate::ids::is_below;
 use crate::op::Op;
 use crate::op_id::OpId;
 use crate::register::Register;
+use crate::search::Search;
 use crate::steps::{Steps, place_by};
 use usfm_ref::{Book, Key, Place};
 
 // How many operations at the front have an id below this one.
-fn place_op(ops: &[Op], id: OpId, steps: Steps, compared: &mut u64) -> usize
+fn place_op(ops: &[Op], id: OpId, steps: Steps, search: &mut Search) -> usize
     requires rising { IsTrue (sets.rises ops.now) }
     ensures place { result ≡ position_or_len (λ o. not (id_below o.id id)) ops.now }
     ensures within { result ≤ length ops.now }
-    ensures counted { Counts (length ops.now) compared.old compared.new }
+    ensures counted { Counted (length ops.now) search.old search.new }
 {
     place_by(
         ops,
@@ -34,52 +36,51 @@ fn place_op(ops: &[Op], id: OpId, steps: Steps, compared: &mut u64) -> usize
             ensures { result ≡ id_below o.now.id id }
         { is_below(o.id(), id) },
         steps,
-        compared,
+        search,
     )
 }
 
 // The same, where the place is likely to be the end or near it.
-pub(crate) fn place_last(ops: &[Op], id: OpId, compared: &mut u64) -> usize
+pub(crate) fn place_last(ops: &[Op], id: OpId, search: &mut Search) -> usize
     requires rising { IsTrue (sets.rises ops.now) }
     ensures place { result ≡ position_or_len (λ o. not (id_below o.id id)) ops.now }
     ensures within { result ≤ length ops.now }
-    ensures counted { Counts (length ops.now) compared.old compared.new }
+    ensures counted { Counted (length ops.now) search.old search.new }
 {
-    place_op(ops, id, Steps::near(ops.len(), ops.len()), compared)
+    place_op(ops, id, Steps::near(ops.len(), ops.len()), search)
 }
 
 // The operation of an id.
-pub(crate) fn find_op<'a>(ops: &'a [Op], id: OpId, compared: &mut u64) -> Option<&'a Op>
+pub(crate) fn find_op<'a>(ops: &'a [Op], id: OpId, search: &mut Search) -> Option<&'a Op>
     requires rising { IsTrue (sets.rises ops.now) }
-    ensures { option_copied result ≡ sets.get ops.now id }
+    ensures found { option_copied result ≡ sets.get ops.now id }
+    ensures counted { Counted (length ops.now) search.old search.new }
 {
-    let at = place_op(ops, id, Steps::halves(ops.len()), compared);
-    op_at(ops, at, id)
+    let at = place_op(ops, id, Steps::halves(ops.len()), search);
+    op_at(ops, at, id, search)
 }
 
 // The same, begun where the last search ended.
-pub(crate) fn find_near<'a>(
-    ops: &'a [Op],
-    id: OpId,
-    near: &mut usize,
-    compared: &mut u64,
-) -> Option<&'a Op>
+pub(crate) fn find_near<'a>(ops: &'a [Op], id: OpId, search: &mut Search) -> Option<&'a Op>
     requires rising { IsTrue (sets.rises ops.now) }
-    ensures { option_copied result ≡ sets.get ops.now id }
+    ensures found { option_copied result ≡ sets.get ops.now id }
+    ensures counted { Counted (length ops.now) search.old search.new }
 {
-    let at = place_op(ops, id, Steps::near(*near, ops.len()), compared);
-    *near = at;
-    op_at(ops, at, id)
+    let at = place_op(ops, id, Steps::near(search.op, ops.len()), search);
+    search.op = at;
+    op_at(ops, at, id, search)
 }
 
 // The operation of an id, by how many at the front have an id below it.
-pub(crate) fn op_at<'a>(ops: &'a [Op], at: usize, id: OpId) -> Option<&'a Op>
+pub(crate) fn op_at<'a>(ops: &'a [Op], at: usize, id: OpId, search: &mut Search) -> Option<&'a Op>
     requires rising { IsTrue (sets.rises ops.now) }
     requires place { at ≡ position_or_len (λ o. not (id_below o.id id)) ops.now }
-    ensures { option_copied result ≡ sets.get ops.now id }
+    ensures found { option_copied result ≡ sets.get ops.now id }
+    ensures counted { Counted 0 search.old search.new }
 {
     if at < ops.len() {
         let op = &ops[at];
+        search.count();
         if op.id() == id {
             return Some(op);
         }
@@ -88,13 +89,14 @@ pub(crate) fn op_at<'a>(ops: &'a [Op], at: usize, id: OpId) -> Option<&'a Op>
 }
 
 // Leaves out the text of the operation of an id, if there is one, and says whether it had one.
-pub(crate) fn leave_text_at(ops: &mut [Op], at: usize, id: OpId) -> bool
+pub(crate) fn leave_text_at(ops: &mut [Op], at: usize, id: OpId, search: &mut Search) -> bool
     requires rising { IsTrue (sets.rises ops.old) }
     requires place { at ≡ position_or_len (λ o. not (id_below o.id id)) ops.old }
     ensures thin { ops.new ≡ thinned.thin_where (same_id id) ops.old }
     ensures was { result ≡ thinned.has_text (sets.get ops.old id) }
 {
     if at < ops.len() {
+        search.count();
         if ops[at].id() == id {
             return ops[at].leave_text();
         }
@@ -103,21 +105,18 @@ pub(crate) fn leave_text_at(ops: &mut [Op], at: usize, id: OpId) -> bool
 }
 
 // Whether an operation of the segment has the id.
-pub(crate) fn is_in(ops: &[Op], book: Book, key: Key, id: OpId, compared: &mut u64) -> bool
+pub(crate) fn is_in(ops: &[Op], book: Book, key: Key, id: OpId, search: &mut Search) -> bool
     requires rising { IsTrue (sets.rises ops.now) }
-    ensures { result ≡ is_in ops.now (segment book key) id }
+    ensures found { result ≡ is_in ops.now (segment book key) id }
+    ensures counted { Counted (length ops.now) search.old search.new }
 {
-    match find_op(ops, id, compared) {
+    match find_op(ops, id, search) {
         None => false,
-        Some(op) => op.in_segment(book, key),
+        Some(op) => {
+            search.count();
+            op.in_segment(book, key)
+        }
     }
-}
-
-/// Where the last searches for a segment ended, among the chapters and among the registers of its chapter.
-#[derive(Clone, Copy, Debug, Default)]
-pub(crate) struct Near {
-    pub(crate) chapter: usize,
-    pub(crate) register: usize,
 }
 
 // How many chapters at the front are before this one. The search begins where the last one ended.
@@ -125,48 +124,42 @@ pub(crate) fn place_chapter(
     chapters: &[Chapter],
     book: Book,
     head: Key,
-    near: &mut usize,
-    compared: &mut u64,
+    search: &mut Search,
 ) -> usize
     requires rising { IsTrue (rises_by segment_cmp home_of chapters.now) }
     ensures place { result ≡ position_or_len
         (λ c. not (is_lt (segment_cmp (home_of c) (segment book head)))) chapters.now }
     ensures within { result ≤ length chapters.now }
-    ensures counted { Counts (length chapters.now) compared.old compared.new }
+    ensures counted { Counted (length chapters.now) search.old search.new }
 {
     let at = place_by(
         chapters,
         |chapter| -> bool
             ensures { result ≡ is_lt (segment_cmp (home_of chapter.now) (segment book head)) }
         { chapter.order(book, head).is_lt() },
-        Steps::beside(*near, chapters.len()),
-        compared,
+        Steps::beside(search.chapter, chapters.len()),
+        search,
     );
-    *near = at;
+    search.chapter = at;
     at
 }
 
 // How many registers at the front are before this key. The search begins where the last one ended.
-pub(crate) fn place_register(
-    registers: &[Register],
-    key: Key,
-    near: &mut usize,
-    compared: &mut u64,
-) -> usize
+pub(crate) fn place_register(registers: &[Register], key: Key, search: &mut Search) -> usize
     requires rising { IsTrue (rises_by key_cmp (λ r. r.key) registers.now) }
     ensures place { result ≡ position_or_len (λ r. not (is_lt (key_cmp r.key key))) registers.now }
     ensures within { result ≤ length registers.now }
-    ensures counted { Counts (length registers.now) compared.old compared.new }
+    ensures counted { Counted (length registers.now) search.old search.new }
 {
     let at = place_by(
         registers,
         |register| -> bool
             ensures { result ≡ is_lt (key_cmp register.now.key key) }
         { register.order(key).is_lt() },
-        Steps::beside(*near, registers.len()),
-        compared,
+        Steps::beside(search.register, registers.len()),
+        search,
     );
-    *near = at;
+    search.register = at;
     at
 }
 
@@ -175,16 +168,17 @@ pub(crate) fn registers_of<'a>(
     chapters: &'a [Chapter],
     book: Book,
     key: Key,
-    near: &mut usize,
-    compared: &mut u64,
+    search: &mut Search,
 ) -> &'a [Register]
     requires rising { IsTrue (rises_by segment_cmp home_of chapters.now) }
-    ensures { result.now ≡ registers_of (segment book key) chapters.now }
+    ensures found { result.now ≡ registers_of (segment book key) chapters.now }
+    ensures counted { Counted (length chapters.now) search.old search.new }
 {
     let head = head_of(key);
-    let at = place_chapter(chapters, book, head, near, compared);
+    let at = place_chapter(chapters, book, head, search);
     if at < chapters.len() {
         let chapter = &chapters[at];
+        search.count();
         if chapter.order(book, head).is_eq() {
             return &chapter.registers;
         }
@@ -196,15 +190,16 @@ pub(crate) fn registers_of<'a>(
 pub(crate) fn register_at<'a>(
     registers: &'a [Register],
     key: Key,
-    near: &mut usize,
-    compared: &mut u64,
+    search: &mut Search,
 ) -> Option<&'a Register>
     requires rising { IsTrue (rises_by key_cmp (λ r. r.key) registers.now) }
-    ensures { option_copied result ≡ register_at key registers.now }
+    ensures found { option_copied result ≡ register_at key registers.now }
+    ensures counted { Counted (length registers.now) search.old search.new }
 {
-    let at = place_register(registers, key, near, compared);
+    let at = place_register(registers, key, search);
     if at < registers.len() {
         let register = &registers[at];
+        search.count();
         if register.order(key).is_eq() {
             return Some(register);
         }
@@ -217,14 +212,14 @@ pub(crate) fn shown_of<'a>(
     chapters: &'a [Chapter],
     book: Book,
     key: Key,
-    near: &mut Near,
-    compared: &mut u64,
+    search: &mut Search,
 ) -> &'a [OpId]
     requires { IsOrderly chapters.now }
-    ensures { result.now ≡ shown_in (register_of (segment book key) chapters.now) }
+    ensures found { result.now ≡ shown_in (register_of (segment book key) chapters.now) }
+    ensures counted { Counted (length chapters.now) search.old search.new }
 {
-    let registers = registers_of(chapters, book, key, &mut near.chapter, compared);
-    match register_at(registers, key, &mut near.register, compared) {
+    let registers = registers_of(chapters, book, key, search);
+    match register_at(registers, key, search) {
         None => &[],
         Some(register) => &register.shown,
     }

@@ -28,8 +28,9 @@ use crate::op::Op;
 use crate::op_id::OpId;
 use crate::ops::Ops;
 use crate::picked::Picked;
-use crate::place::{Near, find_op, op_at, place_last, registers_of, shown_of};
+use crate::place::{find_op, op_at, place_last, registers_of, shown_of};
 use crate::register::Register;
+use crate::search::Search;
 use std::alloc::{AllocError, Global};
 use std::marker::Model;
 use std::slice;
@@ -40,8 +41,7 @@ use usfm_ref::{Book, Key, Place};
 pub struct OpSet {
     ops: Vec<Op>,
     chapters: Vec<Chapter>,
-    near: Near,
-    compared: u64,
+    search: Search,
 }
 
 impl Model for OpSet {
@@ -68,8 +68,7 @@ impl OpSet {
         OpSet {
             ops: Vec::new(alloc),
             chapters: Vec::new(alloc),
-            near: Near::default(),
-            compared: 0,
+            search: Search::default(),
         }
     }
 
@@ -110,7 +109,7 @@ impl OpSet {
     pub fn get(&self, id: &OpId) -> Option<&Op>
         ensures { option_copied result ≡ sets.get self.now id.now }
     {
-        find_op(&self.ops, *id, &mut 0)
+        find_op(&self.ops, *id, &mut Search::default())
     }
 
     /// What finds held operations by their ids, and fastest by ids that rise. It takes no memory.
@@ -136,8 +135,8 @@ impl OpSet {
         ensures err { OnErr result (self.new ≡ self.old) }
     {
         let id = op.id();
-        let at = place_last(&self.ops, id, &mut self.compared);
-        if let Some(held) = op_at(&self.ops, at, id) {
+        let at = place_last(&self.ops, id, &mut self.search);
+        if let Some(held) = op_at(&self.ops, at, id, &mut self.search) {
             return if held.agrees(&op) {
                 Ok(false)
             } else {
@@ -147,14 +146,7 @@ impl OpSet {
         self.ops.reserve(1)?;
         let alloc = *self.ops.allocator();
         let new = slice::from_ref(&op);
-        enroll(
-            &mut self.chapters,
-            alloc,
-            &self.ops,
-            new,
-            &mut self.near,
-            &mut self.compared,
-        )?;
+        enroll(&mut self.chapters, alloc, &self.ops, new, &mut self.search)?;
         self.ops.insert(at, op).unwrap();
         Ok(true)
     }
@@ -173,16 +165,16 @@ impl OpSet {
         ensures held { sets.AreHeld self.old other → result ≢ Err SetFault.Memory }
         ensures err { OnErr result (self.new ≡ self.old) }
     {
-        if let Some(id) = clash(&self.ops, &other.ops, &mut self.compared) {
+        if let Some(id) = clash(&self.ops, &other.ops, &mut self.search) {
             return Err(SetFault::Clash(id));
         }
-        if !has_new(&self.ops, &other.ops, &mut self.compared) {
+        if !has_new(&self.ops, &other.ops, &mut self.search) {
             self.leave_thinned(&other.ops);
             return Ok(0);
         }
         let mut new = other.ops;
         let thinned = thinning::ids(*self.ops.allocator(), &new)?;
-        leave_held(&mut new, &self.ops, &mut self.compared);
+        leave_held(&mut new, &self.ops, &mut self.search);
         let count = self.join_rising(new)?;
         self.leave_texts(&thinned);
         Ok(count)
@@ -208,19 +200,12 @@ impl OpSet {
         }
         look_at_each(&new);
         let count = new.len();
-        let from = place_first(&self.ops, &new, &mut self.compared);
+        let from = place_first(&self.ops, &new, &mut self.search);
         let alloc = *self.ops.allocator();
         let tail = tail_of(alloc, self.ops.len(), from, count)?;
         reserve_ops(&mut self.ops, count)?;
-        enroll(
-            &mut self.chapters,
-            alloc,
-            &self.ops,
-            &new,
-            &mut self.near,
-            &mut self.compared,
-        )?;
-        merge(&mut self.ops, new, tail, from, &mut self.compared);
+        enroll(&mut self.chapters, alloc, &self.ops, &new, &mut self.search)?;
+        merge(&mut self.ops, new, tail, from, &mut self.search);
         Ok(count as u64)
     }
 
@@ -229,7 +214,7 @@ impl OpSet {
     pub fn shown_ids(&self, book: Book, key: Key) -> &[OpId]
         ensures { result.now ≡ lists.shown_ids self.now (segment book key) }
     {
-        shown_of(&self.chapters, book, key, &mut Near::default(), &mut 0)
+        shown_of(&self.chapters, book, key, &mut Search::default())
     }
 
     /// The books with an operation, in the order of books. The walk takes no memory.
@@ -268,7 +253,7 @@ impl OpSet {
     /// How many comparisons the calls made that change the set: each of two ids or of two segments
     /// adds one, up to `u64::MAX`. It is no part of the set, and may rise in a refused call.
     pub fn compared(&self) -> u64 {
-        self.compared
+        self.search.compared
     }
 
     /// What the segment shows: the operations of it whose ids no operation of it names as replaced,
@@ -376,7 +361,7 @@ impl OpSet {
         ensures { result ≡ texts.has_verse_text self.now book key.chapter }
     {
         let _ = &self.ops;
-        let registers = registers_of(&self.chapters, book, key, &mut 0, &mut 0);
+        let registers = registers_of(&self.chapters, book, key, &mut Search::default());
         self.has_text_among(registers, book, key)
     }
 

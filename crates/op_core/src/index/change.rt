@@ -11,6 +11,7 @@ use crate::op::Op;
 use crate::op_id::OpId;
 use crate::place::is_in;
 use crate::register::Register;
+use crate::search::Search;
 use std::alloc::{AllocError, Global};
 use usfm_ref::{Book, Key};
 
@@ -57,7 +58,7 @@ pub(crate) fn change_of(
     book: Book,
     register: &Register,
     aside: &mut Aside,
-    compared: &mut u64,
+    search: &mut Search,
 ) -> Result<Change, AllocError>
     requires held { IsTrue (sets.rises held.now) }
     requires shown { IsTrue (ids_rise register.now.shown.items) }
@@ -69,19 +70,19 @@ pub(crate) fn change_of(
         register.now.shown.items register.now.missing.items c) }
     ensures rising { IfOk result IsRisingChange }
 {
-    let leaving = common_ids(alloc, &aside.named, &register.shown, compared)?;
-    let found = common_ids(alloc, &aside.arrived, &register.missing, compared)?;
+    let leaving = common_ids(alloc, &aside.named, &register.shown, search)?;
+    let found = common_ids(alloc, &aside.arrived, &register.missing, search)?;
     part_ids(
         &mut aside.fresh,
         &mut aside.absent,
         &aside.arrived,
         &aside.named,
-        compared,
+        search,
     )?;
-    leave_ids(&mut aside.fresh, &found, compared);
-    leave_ids(&mut aside.absent, &leaving, compared);
-    leave_ids(&mut aside.absent, &register.missing, compared);
-    leave_held(&mut aside.absent, held, book, register.key, compared);
+    leave_ids(&mut aside.fresh, &found, search);
+    leave_ids(&mut aside.absent, &leaving, search);
+    leave_ids(&mut aside.absent, &register.missing, search);
+    leave_held(&mut aside.absent, held, book, register.key, search);
     let arrived = Vec::from_slice(alloc, &aside.fresh)?;
     let lacking = Vec::from_slice(alloc, &aside.absent)?;
     Ok(Change {
@@ -95,7 +96,7 @@ pub(crate) fn change_of(
 }
 
 // Takes out of a list the ids of operations of a segment.
-fn leave_held(ids: &mut Vec<OpId>, held: &[Op], book: Book, key: Key, compared: &mut u64)
+fn leave_held(ids: &mut Vec<OpId>, held: &[Op], book: Book, key: Key, search: &mut Search)
     requires held { IsTrue (sets.rises held.now) }
     requires rising { IsTrue (ids_rise ids.old.items) }
     ensures rising { IsTrue (ids_rise ids.new.items) }
@@ -104,7 +105,7 @@ fn leave_held(ids: &mut Vec<OpId>, held: &[Op], book: Book, key: Key, compared: 
 {
     let mut kept = 0;
     for i in 0..ids.len() {
-        if !is_in(held, book, key, ids[i], compared) {
+        if !is_in(held, book, key, ids[i], search) {
             ids.swap(kept, i);
             kept += 1;
         }

@@ -14,8 +14,9 @@ use super::put_in;
 use super::turns::Turn;
 use crate::chapter::Chapter;
 use crate::merge::move_after;
-use crate::place::{Near, head_of, place_chapter, place_register, register_at, registers_of};
+use crate::place::{head_of, place_chapter, place_register, register_at, registers_of};
 use crate::register::Register;
+use crate::search::Search;
 use std::alloc::{AllocError, Global};
 use usfm_ref::{Book, Key};
 
@@ -43,8 +44,7 @@ pub(crate) fn lay_out(
     chapters: &mut Vec<Chapter>,
     alloc: Global,
     turns: &[Turn],
-    near: &mut Near,
-    compared: &mut u64,
+    search: &mut Search,
 ) -> Result<(), AllocError>
     requires { IsOrderly chapters.old.items }
     ensures { Lays chapters.old.items chapters.new.items }
@@ -52,12 +52,12 @@ pub(crate) fn lay_out(
     if turns.len() < FEW {
         return Ok(());
     }
-    let spots = spots_of(chapters, alloc, turns, near, compared)?;
+    let spots = spots_of(chapters, alloc, turns, search)?;
     if spots.len() < FEW {
         return Ok(());
     }
-    lay_chapters(chapters, alloc, &spots, compared)?;
-    lay_registers(chapters, alloc, &spots, compared)
+    lay_chapters(chapters, alloc, &spots, search)?;
+    lay_registers(chapters, alloc, &spots, search)
 }
 
 // The segments of the turns that have no register, in the turns' order, each once.
@@ -65,15 +65,14 @@ fn spots_of(
     chapters: &[Chapter],
     alloc: Global,
     turns: &[Turn],
-    near: &mut Near,
-    compared: &mut u64,
+    search: &mut Search,
 ) -> Result<Vec<Spot>, AllocError>
     requires { IsOrderly chapters.now }
 {
     let mut spots = Vec::new(alloc);
     for at in 0..turns.len() {
         let (book, key) = (turns[at].book, turns[at].key);
-        if !is_again(turns, at, compared) && !is_laid(chapters, book, key, near, compared) {
+        if !is_again(turns, at, search) && !is_laid(chapters, book, key, search) {
             spots.push(Spot { book, key })?;
         }
     }
@@ -81,23 +80,23 @@ fn spots_of(
 }
 
 // Whether a turn is of the segment of the one before it.
-fn is_again(turns: &[Turn], at: usize, compared: &mut u64) -> bool
+fn is_again(turns: &[Turn], at: usize, search: &mut Search) -> bool
     requires { at < length turns.now }
 {
     if at == 0 {
         return false;
     }
-    *compared = compared.saturating_add(1);
+    search.count();
     turns[at].order(&turns[at - 1]).is_eq()
 }
 
 // Whether a segment has a register.
-fn is_laid(chapters: &[Chapter], book: Book, key: Key, near: &mut Near, compared: &mut u64) -> bool
+fn is_laid(chapters: &[Chapter], book: Book, key: Key, search: &mut Search) -> bool
     requires { IsOrderly chapters.now }
     ensures { result ≡ is_there (segment book key) chapters.now }
 {
-    let registers = registers_of(chapters, book, key, &mut near.chapter, compared);
-    register_at(registers, key, &mut near.register, compared).is_some()
+    let registers = registers_of(chapters, book, key, search);
+    register_at(registers, key, search).is_some()
 }
 
 // Puts in a register at a segment that has none.
@@ -106,18 +105,17 @@ pub(crate) fn lay(
     alloc: Global,
     book: Book,
     key: Key,
-    near: &mut Near,
-    compared: &mut u64,
+    search: &mut Search,
 ) -> Result<(), AllocError>
     requires { IsOrderly chapters.old.items }
     ensures same { Readies chapters.old.items chapters.new.items }
     ensures there { OnOk result (is_there (segment book key) chapters.new.items ≡ true) }
 {
-    if is_laid(chapters, book, key, near, compared) {
+    if is_laid(chapters, book, key, search) {
         return Ok(());
     }
     let register = Register::new(alloc, key);
-    put_in(chapters, alloc, book, register, near, compared)
+    put_in(chapters, alloc, book, register, search)
 }
 
 // Puts in the chapters of the segments that are not there.
@@ -126,45 +124,54 @@ fn lay_chapters(
     chapters: &mut Vec<Chapter>,
     alloc: Global,
     spots: &[Spot],
-    compared: &mut u64,
+    search: &mut Search,
 ) -> Result<(), AllocError>
     requires { IsOrderly chapters.old.items }
     ensures { Lays chapters.old.items chapters.new.items }
 {
-    let fresh = count_chapters(chapters, spots, compared);
+    let fresh = count_chapters(chapters, spots, search);
     if fresh == 0 {
         return Ok(());
     }
     chapters.reserve(fresh)?;
     let tail = Vec::with_capacity(alloc, chapters.capacity())?;
-    merge_chapters(chapters, alloc, spots, tail, compared);
+    merge_chapters(chapters, alloc, spots, tail, search);
     Ok(())
 }
 
 // Of how many chapters that are not there the segments are.
-fn count_chapters(chapters: &[Chapter], spots: &[Spot], compared: &mut u64) -> usize
+fn count_chapters(chapters: &[Chapter], spots: &[Spot], search: &mut Search) -> usize
     requires { IsOrderly chapters.now }
 {
     let mut fresh: usize = 0;
-    let mut near = 0;
     let mut rest = spots;
     'groups: while let Some((spot, _)) = rest.split_first() {
         let head = head_of(spot.key);
-        let at = place_chapter(chapters, spot.book, head, &mut near, compared);
-        if at >= chapters.len() || !chapters[at].order(spot.book, head).is_eq() {
+        let at = place_chapter(chapters, spot.book, head, search);
+        if !is_at(chapters, at, spot.book, head, search) {
             fresh = fresh.saturating_add(1);
         }
-        rest = &rest[chapter_len(rest)..];
+        rest = &rest[chapter_len(rest, search)..];
     }
     fresh
 }
 
+// Whether the chapter of this head is at this place.
+fn is_at(chapters: &[Chapter], at: usize, book: Book, head: Key, search: &mut Search) -> bool {
+    if at >= chapters.len() {
+        return false;
+    }
+    search.count();
+    chapters[at].order(book, head).is_eq()
+}
+
 // How many segments at the front are of the first one's chapter.
-fn chapter_len(spots: &[Spot]) -> usize
+fn chapter_len(spots: &[Spot], search: &mut Search) -> usize
     ensures some { 0 < length spots.now → 0 < result }
     ensures within { result ≤ length spots.now }
 {
     for at in 1..spots.len() {
+        search.count();
         if !spots[at].is_beside(&spots[0]) {
             return at;
         }
@@ -179,7 +186,7 @@ fn merge_chapters(
     alloc: Global,
     spots: &[Spot],
     mut tail: Vec<Chapter>,
-    compared: &mut u64,
+    search: &mut Search,
 )
     requires orderly { IsOrderly chapters.old.items }
     requires tail { tail.items ≡ [] }
@@ -189,13 +196,13 @@ fn merge_chapters(
     let mut rest = spots;
     'laying: while let Some((spot, before)) = rest.split_last() {
         let head = head_of(spot.key);
-        let mut near = chapters.len();
-        let at = place_chapter(chapters, spot.book, head, &mut near, compared);
+        search.chapter = chapters.len();
+        let at = place_chapter(chapters, spot.book, head, search);
         move_after(chapters, at, &mut tail);
         let len = chapters.len() + tail.len();
         if len < chapters.capacity()
             && len < tail.capacity()
-            && is_under(&tail, spot.book, head, compared)
+            && is_under(&tail, spot.book, head, search)
         {
             let registers = Vec::new(alloc);
             let chapter = Chapter {
@@ -211,14 +218,14 @@ fn merge_chapters(
 }
 
 // Whether a chapter is before the last of these, if there is one.
-fn is_under(chapters: &[Chapter], book: Book, head: Key, compared: &mut u64) -> bool
+fn is_under(chapters: &[Chapter], book: Book, head: Key, search: &mut Search) -> bool
     ensures { result
         ≡ begins_above segment_cmp home_of (segment book head) (reverse chapters.now) }
 {
     let Some((last, _)) = chapters.split_last() else {
         return true;
     };
-    *compared = compared.saturating_add(1);
+    search.count();
     last.order(book, head).is_gt()
 }
 
@@ -228,16 +235,15 @@ fn lay_registers(
     chapters: &mut Vec<Chapter>,
     alloc: Global,
     spots: &[Spot],
-    compared: &mut u64,
+    search: &mut Search,
 ) -> Result<(), AllocError>
     requires { IsOrderly chapters.old.items }
     ensures { Lays chapters.old.items chapters.new.items }
 {
-    let mut near = 0;
     let mut rest = spots;
     'groups: while let Some((spot, _)) = rest.split_first() {
-        let (own, later) = rest.split_at(chapter_len(rest));
-        lay_beside(chapters, alloc, *spot, own, &mut near, compared)?;
+        let (own, later) = rest.split_at(chapter_len(rest, search));
+        lay_beside(chapters, alloc, *spot, own, search)?;
         rest = later;
     }
     Ok(())
@@ -250,18 +256,18 @@ fn lay_beside(
     alloc: Global,
     spot: Spot,
     own: &[Spot],
-    near: &mut usize,
-    compared: &mut u64,
+    search: &mut Search,
 ) -> Result<(), AllocError>
     requires { IsOrderly chapters.old.items }
     ensures { Lays chapters.old.items chapters.new.items }
 {
     let head = head_of(spot.key);
-    let at = place_chapter(chapters, spot.book, head, near, compared);
+    let at = place_chapter(chapters, spot.book, head, search);
     if at < chapters.len() {
         let chapter = &mut chapters[at];
+        search.count();
         if chapter.order(spot.book, head).is_eq() {
-            return lay_keys(&mut chapter.registers, alloc, head, own, compared);
+            return lay_keys(&mut chapter.registers, alloc, head, own, search);
         }
     }
     Ok(())
@@ -274,14 +280,14 @@ fn lay_keys(
     alloc: Global,
     head: Key,
     own: &[Spot],
-    compared: &mut u64,
+    search: &mut Search,
 ) -> Result<(), AllocError>
     requires rising { IsTrue (rises_by key_cmp (λ r. r.key) registers.old.items) }
     ensures { LaysKeys head registers.old.items registers.new.items }
 {
     registers.reserve_exact(own.len())?;
     let tail = Vec::with_capacity(alloc, registers.capacity())?;
-    merge_registers(registers, alloc, head, own, tail, compared);
+    merge_registers(registers, alloc, head, own, tail, search);
     Ok(())
 }
 
@@ -292,7 +298,7 @@ fn merge_registers(
     head: Key,
     own: &[Spot],
     mut tail: Vec<Register>,
-    compared: &mut u64,
+    search: &mut Search,
 )
     requires rising { IsTrue (rises_by key_cmp (λ r. r.key) registers.old.items) }
     requires tail { tail.items ≡ [] }
@@ -301,14 +307,14 @@ fn merge_registers(
 {
     let mut rest = own;
     'laying: while let Some((spot, before)) = rest.split_last() {
-        let mut near = registers.len();
-        let at = place_register(registers, spot.key, &mut near, compared);
+        search.register = registers.len();
+        let at = place_register(registers, spot.key, search);
         move_after(registers, at, &mut tail);
         let len = registers.len() + tail.len();
         if len < registers.capacity()
             && len < tail.capacity()
             && is_of(spot.key, head)
-            && is_key_under(&tail, spot.key, compared)
+            && is_key_under(&tail, spot.key, search)
         {
             tail.push(Register::new(alloc, spot.key)).unwrap();
         }
@@ -325,12 +331,12 @@ fn is_of(key: Key, head: Key) -> bool
 }
 
 // Whether a key is before the last of these registers, if there is one.
-fn is_key_under(registers: &[Register], key: Key, compared: &mut u64) -> bool
+fn is_key_under(registers: &[Register], key: Key, search: &mut Search) -> bool
     ensures { result ≡ begins_above key_cmp (λ r. r.key) key (reverse registers.now) }
 {
     let Some((last, _)) = registers.split_last() else {
         return true;
     };
-    *compared = compared.saturating_add(1);
+    search.count();
     last.order(key).is_gt()
 }

@@ -14,7 +14,8 @@ use super::lay::lay;
 use super::turns::{Turn, gather_arrived, gather_named, run_len};
 use crate::chapter::{Chapter, ready_at_key};
 use crate::op::Op;
-use crate::place::{Near, head_of, place_chapter};
+use crate::place::{head_of, place_chapter};
+use crate::search::Search;
 use std::alloc::{AllocError, Global};
 use usfm_ref::{Book, Key};
 
@@ -25,8 +26,7 @@ pub(crate) fn ready_all(
     held: &[Op],
     new: &[Op],
     turns: &[Turn],
-    near: &mut Near,
-    compared: &mut u64,
+    search: &mut Search,
 ) -> Result<Vec<Change>, AllocError>
     requires held { IsTrue (sets.rises held.now) }
     requires index { IsIndex held.now chapters.old.items }
@@ -40,11 +40,9 @@ pub(crate) fn ready_all(
     let mut aside = Aside::new(alloc);
     let mut rest = turns;
     'runs: while let Some((first, others)) = rest.split_first() {
-        let len = 1 + run_len(first, others, compared);
+        let len = 1 + run_len(first, others, search);
         let (own, later) = rest.split_at(len);
-        let change = ready_run(
-            chapters, alloc, held, new, *first, own, &mut aside, near, compared,
-        )?;
+        let change = ready_run(chapters, alloc, held, new, *first, own, &mut aside, search)?;
         changes.push(change)?;
         rest = later;
     }
@@ -60,8 +58,7 @@ fn ready_run(
     first: Turn,
     own: &[Turn],
     aside: &mut Aside,
-    near: &mut Near,
-    compared: &mut u64,
+    search: &mut Search,
 ) -> Result<Change, AllocError>
     requires held { IsTrue (sets.rises held.now) }
     requires index { IsIndex held.now chapters.old.items }
@@ -74,10 +71,10 @@ fn ready_run(
     ensures room { IfOk result (λ c. HasRoomIn c (register_of (turn_at first) chapters.new.items)) }
 {
     let (book, key) = (first.book, first.key);
-    lay(chapters, alloc, book, key, near, compared)?;
-    gather_arrived(&mut aside.arrived, new, own, compared)?;
-    gather_named(&mut aside.named, new, own, compared)?;
-    ready(chapters, alloc, held, book, key, aside, near, compared)
+    lay(chapters, alloc, book, key, search)?;
+    gather_arrived(&mut aside.arrived, new, own, search)?;
+    gather_named(&mut aside.named, new, own, search)?;
+    ready(chapters, alloc, held, book, key, aside, search)
 }
 
 // What changes at a segment, which has a register, as these ids arrive there, and the room for that.
@@ -88,8 +85,7 @@ fn ready(
     book: Book,
     key: Key,
     aside: &mut Aside,
-    near: &mut Near,
-    compared: &mut u64,
+    search: &mut Search,
 ) -> Result<Change, AllocError>
     requires held { IsTrue (sets.rises held.now) }
     requires orderly { IsOrderly chapters.old.items }
@@ -109,7 +105,7 @@ fn ready(
     ensures room { IfOk result
         (λ c. HasRoomIn c (register_of (segment book key) chapters.new.items)) }
 {
-    let at = place_chapter(chapters, book, head_of(key), &mut near.chapter, compared);
+    let at = place_chapter(chapters, book, head_of(key), search);
     ready_at_key(
         &mut chapters[at].registers,
         alloc,
@@ -117,7 +113,6 @@ fn ready(
         book,
         key,
         aside,
-        &mut near.register,
-        compared,
+        search,
     )
 }

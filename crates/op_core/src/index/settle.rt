@@ -10,15 +10,11 @@ ghost use Rattle.op_core.specs.Loops.Changes.{AllHaveRoom, Settles};
 
 use super::change::Change;
 use crate::chapter::{Chapter, take_at_key};
-use crate::place::{Near, head_of, place_chapter};
+use crate::place::{head_of, place_chapter};
+use crate::search::Search;
 
 // Makes each of the changes, which rise by their segments.
-pub(crate) fn settle_all(
-    chapters: &mut Vec<Chapter>,
-    mut changes: Vec<Change>,
-    near: &mut Near,
-    compared: &mut u64,
-)
+pub(crate) fn settle_all(chapters: &mut Vec<Chapter>, mut changes: Vec<Change>, search: &mut Search)
     requires orderly { IsOrderly chapters.old.items }
     requires shown { (g : Segment) →
         IsTrue (ids_rise (shown_in (register_of g chapters.old.items))) }
@@ -30,12 +26,12 @@ pub(crate) fn settle_all(
     ensures { Settles changes.items chapters.old.items chapters.new.items }
 {
     'changes: while let Some(change) = changes.pop() {
-        settle(chapters, change, near, compared);
+        settle(chapters, change, search);
     }
 }
 
 // Makes one change.
-fn settle(chapters: &mut Vec<Chapter>, change: Change, near: &mut Near, compared: &mut u64)
+fn settle(chapters: &mut Vec<Chapter>, change: Change, search: &mut Search)
     requires orderly { IsOrderly chapters.old.items }
     requires shown { IsTrue
         (ids_rise (shown_in (register_of (change_at change) chapters.old.items))) }
@@ -45,17 +41,6 @@ fn settle(chapters: &mut Vec<Chapter>, change: Change, near: &mut Near, compared
     requires room { HasRoomIn change (register_of (change_at change) chapters.old.items) }
     ensures { IsAt (Takes change) (change_at change) chapters.old.items chapters.new.items }
 {
-    let at = place_chapter(
-        chapters,
-        change.book,
-        head_of(change.key),
-        &mut near.chapter,
-        compared,
-    );
-    take_at_key(
-        &mut chapters[at].registers,
-        change,
-        &mut near.register,
-        compared,
-    );
+    let at = place_chapter(chapters, change.book, head_of(change.key), search);
+    take_at_key(&mut chapters[at].registers, change, search);
 }

@@ -10,6 +10,7 @@ ghost use Rattle.op_core.specs.Loops.Turns.{turn_at, never_fall, comes, is_calle
 use crate::ids::sort_ids;
 use crate::op::Op;
 use crate::op_id::OpId;
+use crate::search::Search;
 use std::alloc::{AllocError, Global};
 use std::cmp::Ordering;
 use usfm_ref::{Book, Key};
@@ -38,7 +39,7 @@ impl Turn {
 pub(crate) fn turns_of(
     alloc: Global,
     new: &[Op],
-    compared: &mut u64,
+    search: &mut Search,
 ) -> Result<Vec<Turn>, AllocError>
     ensures { IfOk result (λ turns. AreTurnsOf new.now turns.items) }
 {
@@ -48,14 +49,14 @@ pub(crate) fn turns_of(
         turns.push(Turn { book, key, at })?;
     }
     turns.sort_by(|a, b| {
-        *compared = compared.saturating_add(1);
+        search.count();
         a.order(b)
     })?;
     Ok(turns)
 }
 
 // How many turns at the front are of the segment of the one before them.
-pub(crate) fn run_len(first: &Turn, turns: &[Turn], compared: &mut u64) -> usize
+pub(crate) fn run_len(first: &Turn, turns: &[Turn], search: &mut Search) -> usize
     requires { IsTrue (never_fall (first.now ∷ turns.now)) }
     ensures within { result ≤ length turns.now }
     ensures own { AllByRecursion (λ t. turn_at t ≡ turn_at first.now) (take result turns.now) }
@@ -63,7 +64,7 @@ pub(crate) fn run_len(first: &Turn, turns: &[Turn], compared: &mut u64) -> usize
         (drop result turns.now)) }
 {
     for at in 0..turns.len() {
-        *compared = compared.saturating_add(1);
+        search.count();
         if !turns[at].order(first).is_eq() {
             return at;
         }
@@ -76,7 +77,7 @@ pub(crate) fn gather_arrived(
     ids: &mut Vec<OpId>,
     new: &[Op],
     own: &[Turn],
-    compared: &mut u64,
+    search: &mut Search,
 ) -> Result<(), AllocError>
     ensures rising { OnOk result (IsTrue (ids_rise ids.new.items)) }
     ensures members { OnOk result ((q : Id) → among ids.new.items q ≡ comes new.now own.now q) }
@@ -87,7 +88,7 @@ pub(crate) fn gather_arrived(
             ids.push(op.id())?;
         }
     }
-    sort_ids(ids, compared);
+    sort_ids(ids, search);
     Ok(())
 }
 
@@ -96,7 +97,7 @@ pub(crate) fn gather_named(
     ids: &mut Vec<OpId>,
     new: &[Op],
     own: &[Turn],
-    compared: &mut u64,
+    search: &mut Search,
 ) -> Result<(), AllocError>
     ensures rising { OnOk result (IsTrue (ids_rise ids.new.items)) }
     ensures members { OnOk result ((q : Id) → among ids.new.items q ≡ is_called new.now own.now q) }
@@ -107,6 +108,6 @@ pub(crate) fn gather_named(
             ids.extend_from_slice(op.replaced())?;
         }
     }
-    sort_ids(ids, compared);
+    sort_ids(ids, search);
     Ok(())
 }

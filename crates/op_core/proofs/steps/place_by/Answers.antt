@@ -17,8 +17,8 @@ halves-preserved-then-holds g c = record {
   within = c.halves.invariant.within;
   narrowed = λ p h d. narrowed_low p c.args.items.now _ _ _ c.index-items-middle.result d (c.halves.invariant.narrowed p h d)
       c.look-middle.ensures.below c.index-items-middle.is (sym (h _ _ c.holds.ensures) ∙ c.if-holds.true);
-  grows = omega (arith, c.halves.invariant.grows, c.saturating_add.ensures);
-  counts = λ _. omega (arith, c.halves.invariant.grows, c.saturating_add.ensures);
+  grows = omega (arith, c.halves.invariant.grows, c.count.ensures.grows, c.count.ensures.one (omega arith));
+  counts = λ _. omega (arith, c.halves.invariant.grows, c.count.ensures.grows, c.count.ensures.one (omega arith));
 }
 
 pub halves-preserved : goal.halves-preserved
@@ -27,8 +27,8 @@ halves-preserved g c = record {
   within = omega (arith, c.halves.invariant.within, c.look-middle.ensures.below);
   narrowed = λ p h d. narrowed_high p c.args.items.now _ _ _ c.index-items-middle.result d (c.halves.invariant.narrowed p h d)
       c.look-middle.ensures.at_least c.look-middle.ensures.below c.index-items-middle.is (sym (h _ _ c.holds.ensures) ∙ c.if-holds.false);
-  grows = omega (arith, c.halves.invariant.grows, c.saturating_add.ensures);
-  counts = λ _. omega (arith, c.halves.invariant.grows, c.saturating_add.ensures);
+  grows = omega (arith, c.halves.invariant.grows, c.count.ensures.grows, c.count.ensures.one (omega arith));
+  counts = λ _. omega (arith, c.halves.invariant.grows, c.count.ensures.grows, c.count.ensures.one (omega arith));
 }
 
 pub returns-clause-place : goal.returns-clause-place

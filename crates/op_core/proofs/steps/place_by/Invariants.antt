@@ -1,7 +1,7 @@
 use Rattle.std.proofs.Common.{◌-◌, ◌+◌, ◌<◌, ◌≤◌, Bool, min, length}
 use Rattle.std.specs.List.Sorted.{IsPartitionedBy}
 use Rattle.usfm_ref.proofs.Placed.{IsNarrowed}
-use Rattle.op_core.specs.Searches.{AnswersAs}
+use Rattle.op_core.specs.Loops.Searches.{AnswersAs}
 use Rattle.op_core.proofs.steps.place_by.Given as goal
 
 abbrev pub invariant-halves : goal.invariant-halves
@@ -10,8 +10,8 @@ invariant-halves g l = record {
   within : l.high ≤ length l.items;
   narrowed : (p : g.row.T.Denot → Bool) → AnswersAs g.P.Fn p l.holds → IsPartitionedBy p l.items
       → IsNarrowed p l.items l.low l.high;
-  grows : l.initial.compared ≤ l.compared;
-  counts : l.high < length l.items + l.low → min (l.initial.compared + 1) 18446744073709551615 ≤ l.compared;
+  grows : l.initial.search.compared ≤ l.search.compared;
+  counts : l.high < length l.items + l.low → min (l.initial.search.compared + 1) 18446744073709551615 ≤ l.search.compared;
 }
 
 abbrev pub decreases-halves : goal.decreases-halves
