@@ -61,12 +61,8 @@ impl Op {
           text = Some (string_bytes text);
         } }
     {
-        // Each part is looked at, which shows that it is within its ranges.
-        let _ = &id.number;
-        let _ = book.code();
-        let _ = &key.chapter;
+        look_at_parts(&id, &book, &key, &replaced);
         let _ = text.as_str();
-        look_at_each(&replaced);
         Op {
             id,
             book,
@@ -87,10 +83,7 @@ impl Op {
           text = None;
         } }
     {
-        let _ = &id.number;
-        let _ = book.code();
-        let _ = &key.chapter;
-        look_at_each(&replaced);
+        look_at_parts(&id, &book, &key, &replaced);
         let text = None;
         Op {
             id,
@@ -225,7 +218,20 @@ fn same_ids(left: &[OpId], right: &[OpId]) -> bool
     left == right
 }
 
-// Looks at each id, which shows that it is within its ranges. Nothing of it is left in the program.
+// Looks at the parts of an operation: a proof knows that a value is within its ranges once it was looked at.
+// Nothing of it is left in the program.
+fn look_at_parts(id: &OpId, book: &Book, key: &Key, replaced: &[OpId])
+    ensures id { IsTrue (ids.is_id id.now) }
+    ensures segment { IsTrue (ops.is_segment (segment book.now key.now)) }
+    ensures replaced { IsTrue (list_all ids.is_id replaced.now) }
+{
+    let _ = &id.number;
+    let _ = book.code();
+    let _ = &key.chapter;
+    look_at_each(replaced);
+}
+
+// The same of each of these ids.
 fn look_at_each(replaced: &[OpId])
     ensures { IsTrue (list_all ids.is_id replaced.now) }
 {

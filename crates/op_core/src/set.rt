@@ -8,7 +8,7 @@ ghost use Rattle.op_core.specs.Sets as sets;
 ghost use Rattle.op_core.specs.Thinned as thinned;
 ghost use Rattle.op_core.specs.Shown as texts;
 ghost use Rattle.op_core.specs.Lists as lists;
-ghost use Rattle.op_core.specs.Loops.Index.{is_missed, is_missed_in};
+ghost use Rattle.op_core.specs.Loops.Index.{is_missed, is_missed_in, IsIndex};
 ghost use Rattle.op_core.specs.NextIds as next_ids;
 ghost use Rattle.std.specs.List.{AllByRecursion, list_any};
 ghost use Rattle.usfm_ref.specs.Keys.{is_verse_of};
@@ -214,23 +214,21 @@ impl OpSet {
     pub fn shown_ids(&self, book: Book, key: Key) -> &[OpId]
         ensures { result.now ≡ lists.shown_ids self.now (segment book key) }
     {
-        shown_of(&self.chapters, book, key, &mut Search::default())
+        shown_of(self.index(), book, key, &mut Search::default())
     }
 
     /// The books with an operation, in the order of books. The walk takes no memory.
     pub fn books(&self) -> Books<'_>
         ensures { result ≡ lists.books_of self.now }
     {
-        let _ = &self.ops;
-        Books::new(&self.chapters)
+        Books::new(self.index())
     }
 
     /// The keys of a book with an operation, rising. The walk takes no memory.
     pub fn keys(&self, book: Book) -> Keys<'_>
         ensures { result ≡ lists.keys_of self.now book }
     {
-        let _ = &self.ops;
-        Keys::new(book, &self.chapters)
+        Keys::new(book, self.index())
     }
 
     /// The ids that a held operation names and none has, rising, each once. Where there is none, it
@@ -242,9 +240,8 @@ impl OpSet {
         ensures ids { IfOk result (λ ids. ids.items ≡ lists.awaited self.now) }
         ensures none { lists.awaited self.now ≡ [] → IsOk result }
     {
-        let _ = &self.ops;
         let mut ids = Vec::new(alloc);
-        self.push_awaited(&self.chapters, &mut ids)?;
+        self.push_awaited(self.index(), &mut ids)?;
         ids.sort_unstable();
         ids.dedup();
         Ok(ids)
@@ -266,8 +263,7 @@ impl OpSet {
             (λ v. map (λ op. op.now) v.items ≡ texts.shown self.now (segment book key)) }
         ensures none { texts.shown self.now (segment book key) ≡ [] → IsOk result }
     {
-        let _ = &self.ops;
-        let ids = self.shown_ids(book, key);
+        let ids = shown_of(self.index(), book, key, &mut Search::default());
         let mut shown = Vec::with_capacity(alloc, ids.len())?;
         for id in ids {
             if let Some(op) = self.get(id) {
@@ -294,6 +290,14 @@ impl OpSet {
             None => Picked::Nothing,
             Some(op) => Picked::Held(op),
         }
+    }
+
+    // The index, chapter by chapter. What holds of it, and of the operations, is known to those who read it.
+    fn index(&self) -> &[Chapter]
+        ensures set { sets.IsOpSet self.now }
+        ensures index { IsIndex self.now result.now }
+    {
+        &self.chapters
     }
 
     // Adds what the chapters' registers miss and no operation has. Where that fails, there is one.
@@ -342,8 +346,7 @@ impl OpSet {
     fn greatest(&self, book: Book, key: Key) -> Option<&Op>
         ensures { option_copied result ≡ texts.last (texts.shown self.now (segment book key)) }
     {
-        let _ = &self.ops;
-        let id = self.shown_ids(book, key).last()?;
+        let id = shown_of(self.index(), book, key, &mut Search::default()).last()?;
         self.get(id)
     }
 
@@ -360,8 +363,7 @@ impl OpSet {
     fn has_verse_text(&self, book: Book, key: Key) -> bool
         ensures { result ≡ texts.has_verse_text self.now book key.chapter }
     {
-        let _ = &self.ops;
-        let registers = registers_of(&self.chapters, book, key, &mut Search::default());
+        let registers = registers_of(self.index(), book, key, &mut Search::default());
         self.has_text_among(registers, book, key)
     }
 
