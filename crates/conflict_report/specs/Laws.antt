@@ -1,7 +1,7 @@
 -- Laws of reports.
 use Rattle.std.specs.Prelude.{◌≡◌, ℕ, List, [], None, ◌↔◌, map, IsTrue}
 use Rattle.std.specs.List.{Contains, AllByRecursion}
-use Rattle.usfm_ref.specs.Segments.{Segment}
+use Rattle.usfm_ref.specs.declared.segment.Segment.{Segment}
 use Rattle.op_core.specs.Ids.{Id}
 use Rattle.op_core.specs.Ops.{Operation, own_text}
 use Rattle.op_core.specs.Sets.{IsOpSet, rises, clash}

@@ -11,7 +11,7 @@ use Rattle.op_core.specs.Thinned.{skeleton, StandsFor}
 use Rattle.op_core.specs.ThinLaws.{AnswersSame, SameButTexts}
 use Rattle.op_core.proofs.Bare.{any_same, ids_same, number_same, awaited_same, is_shown_same}
 use Rattle.op_core.proofs.StandIns.{shows_same, full_stands, join_stands}
-use Rattle.usfm_ref.specs.Segments.{Segment}
+use Rattle.usfm_ref.specs.declared.segment.Segment.{Segment}
 use Rattle.std.specs.List.{flat_map}
 use Rattle.std.proofs.Common.{map, sym}
 use Rattle.usfm_ref.specs.Books.{book_cmp}

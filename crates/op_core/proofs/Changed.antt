@@ -4,7 +4,8 @@ use Rattle.std.specs.Ordering.{is_eq}
 use Rattle.std.specs.List.{list_any, AllByRecursion}
 use Rattle.std.specs.Cmp.{Equal-is}
 use Rattle.std.proofs.lemmas.Bool.{true≢false}
-use Rattle.usfm_ref.specs.Segments.{Segment, segment_cmp, same_segment}
+use Rattle.usfm_ref.specs.Segments.{segment_cmp, same_segment}
+use Rattle.usfm_ref.specs.declared.segment.Segment.{Segment}
 use Rattle.usfm_ref.proofs.Orders.{segment_exact}
 use Rattle.op_core.specs.Ids.{Id, same_id, ids_rise}
 use Rattle.op_core.specs.Ops.{Operation, in_segment, names}

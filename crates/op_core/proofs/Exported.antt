@@ -14,7 +14,8 @@ use Rattle.std.specs.Prelude.{◌⊎◌}
 use Rattle.usfm_ref.specs.Books.{same_bytes, is_book_code}
 use Rattle.usfm_ref.specs.Keys.{KeyParts, key_cmp, chapter_head, head_of, is_head, is_key, is_place, is_verse_of, same_key}
 use Rattle.usfm_ref.specs.Rising.{with_item, rising}
-use Rattle.usfm_ref.specs.Segments.{Segment, segment}
+use Rattle.usfm_ref.specs.Segments.{segment}
+use Rattle.usfm_ref.specs.declared.segment.Segment.{Segment}
 use Rattle.usfm_ref.specs.declared.key.Place.{Place}
 use Rattle.usfm_ref.specs.declared.key.Place.TheVariants.{Head, Verse}
 use Rattle.usfm_ref.proofs.Orders.{key_exact, same_bytes-is, same_bytes-refl, same_key-refl, same_segment-is}

@@ -5,7 +5,8 @@ use Rattle.std.specs.Ordering.{is_eq, is_lt}
 use Rattle.std.specs.List.{list_any, list_all}
 use Rattle.std.specs.FinMap.Entries.{by_order}
 use Rattle.std.proofs.lemmas.Bool.{cond-true, cond-false}
-use Rattle.usfm_ref.specs.Segments.{Segment, segment_cmp}
+use Rattle.usfm_ref.specs.Segments.{segment_cmp}
+use Rattle.usfm_ref.specs.declared.segment.Segment.{Segment}
 use Rattle.usfm_ref.proofs.Orders.{segment_total, same_segment-cmp}
 use Rattle.usfm_ref.proofs.Sorted.{rises_filter, tied_back}
 use Rattle.op_core.specs.Ids.{Id, id_cmp, same_id, ids_rise}

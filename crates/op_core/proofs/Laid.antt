@@ -3,7 +3,8 @@ use Rattle.std.proofs.Common.{◌≡◌, inl, inr, ℕ, ◌≤◌, true, List, [
 use Rattle.std.proofs.Common.{length, take, drop, reverse, append_assoc, refl, sym, ap, subst, ◌∙◌}
 use Rattle.std.proofs.lemmas.List.{take-append-drop, reverse-append, reverse-reverse}
 use Rattle.usfm_ref.specs.Keys.{KeyParts, key_cmp, head_of}
-use Rattle.usfm_ref.specs.Segments.{Segment, segment_cmp}
+use Rattle.usfm_ref.specs.Segments.{segment_cmp}
+use Rattle.usfm_ref.specs.declared.segment.Segment.{Segment}
 use Rattle.usfm_ref.proofs.Orders.{key_total, segment_total}
 use Rattle.usfm_ref.proofs.Sorted.{place}
 use Rattle.op_core.specs.Loops.Index.{home_of, chapter_of, registers_in}

@@ -6,7 +6,7 @@ use Rattle.op_core.proofs.Enrolled.{more_items, apart_at}
 use Rattle.std.proofs.Common.{◌+◌, zero, ◌<◌, get_or, option_map, arith, suc, length, take, drop, ◌≡◌, ℕ, Bool, true, false, not, cond, ◌&&◌, ◌||◌, List, [], ◌∷◌, ◌++◌, Option, Some, None, map, filter, refl, sym, ap, ◌∙◌}
 use Rattle.std.specs.List.{list_any, AllByRecursion}
 use Rattle.std.specs.Cmp.{both_ways}
-use Rattle.usfm_ref.specs.Segments.{Segment}
+use Rattle.usfm_ref.specs.declared.segment.Segment.{Segment}
 use Rattle.op_core.specs.Ids.{Id, same_id}
 use Rattle.op_core.specs.Equal.{id_from_same, same_id-refl}
 use Rattle.op_core.specs.Ops.{Operation, IsOperation, is_thinned, bare, in_segment}

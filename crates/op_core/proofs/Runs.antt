@@ -6,7 +6,8 @@ use Rattle.std.specs.Option.{option_or}
 use Rattle.std.proofs.lemmas.Bool.{and_parts}
 use Rattle.std.proofs.lemmas.List.{take-append-drop}
 use Rattle.std.proofs.lemmas.List.Folds.{find-append}
-use Rattle.usfm_ref.specs.Segments.{Segment, segment_cmp, same_segment}
+use Rattle.usfm_ref.specs.Segments.{segment_cmp, same_segment}
+use Rattle.usfm_ref.specs.declared.segment.Segment.{Segment}
 use Rattle.usfm_ref.proofs.Orders.{segment_total, same_segment-cmp}
 use Rattle.usfm_ref.proofs.Sorted.{tied_back}
 use Rattle.op_core.specs.Ids.{same_id}

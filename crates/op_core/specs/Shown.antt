@@ -4,7 +4,7 @@
 use Rattle.std.specs.Prelude.{ℕ, nat_le, Bool, not, ◌&&◌, cond, List, [], ◌∷◌, Option, Some, None, filter, option_map}
 use Rattle.std.specs.List.{list_any}
 use Rattle.usfm_ref.specs.Keys.{is_head}
-use Rattle.usfm_ref.specs.Segments.{Segment}
+use Rattle.usfm_ref.specs.declared.segment.Segment.{Segment}
 pub use Rattle.verse_cut.specs.Reading.{is_empty}
 pub use Rattle.verse_cut.specs.Joins.{chapter_line}
 use Rattle.op_core.specs.declared.picked.Picked.{Picked}

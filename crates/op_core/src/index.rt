@@ -23,11 +23,11 @@ use self::turns::turns_of;
 use crate::chapter::{Chapter, put_register};
 use crate::ids::has_id;
 use crate::op::Op;
-use crate::place::{head_of, place_chapter, shown_of};
+use crate::place::{place_chapter, shown_of};
 use crate::register::Register;
 use crate::search::Search;
 use std::alloc::{AllocError, Global};
-use usfm_ref::Book;
+use usfm_ref::{Book, Segment};
 
 // Takes in operations that rise and of which none is held. What they change at each segment is reckoned
 // aside, with the room for it, before the first change is made. Where nothing is held, the whole index is
@@ -71,23 +71,21 @@ pub(crate) fn put_in(
         (Changes (segment book register.key) register chapters.old.items chapters.new.items) }
     ensures err { OnErr result (Same chapters.old.items chapters.new.items) }
 {
-    let head = head_of(register.key);
-    let at = place_chapter(chapters, book, head, search);
+    let segment = Segment {
+        book,
+        key: register.key,
+    };
+    let at = place_chapter(chapters, segment, search);
     if at < chapters.len() {
         let chapter = &mut chapters[at];
         search.count();
-        if chapter.order(book, head).is_eq() {
+        if chapter.order(segment).is_eq() {
             return put_register(&mut chapter.registers, register, search);
         }
     }
     chapters.reserve(1)?;
-    let mut registers = Vec::new(alloc);
-    put_register(&mut registers, register, search)?;
-    let chapter = Chapter {
-        book,
-        head,
-        registers,
-    };
+    let mut chapter = Chapter::new(alloc, segment);
+    put_register(&mut chapter.registers, register, search)?;
     chapters.insert(at, chapter).unwrap();
     Ok(())
 }
@@ -115,6 +113,6 @@ fn is_past(chapters: &[Chapter], op: &Op, search: &mut Search) -> bool
     ensures { result
         ≡ not (list_any (same_id op.now.id) (shown_in (register_of op.now.segment chapters.now))) }
 {
-    let shown = shown_of(chapters, op.book(), op.key(), search);
+    let shown = shown_of(chapters, op.segment(), search);
     !has_id(shown, op.id(), search)
 }

@@ -10,29 +10,27 @@ ghost use Rattle.op_core.specs.Ops as ops;
 
 use crate::op_id::OpId;
 use std::marker::Model;
-use usfm_ref::{Book, Key};
+use usfm_ref::{Book, Key, Segment};
 
 /// The text that a replica gave to a segment, a book's key, and the ids of the operations that it
 /// replaces there. The text fits the book and the key.
 #[derive(Debug, Drop)]
 pub struct Op {
     id: OpId,
-    book: Book,
-    key: Key,
+    segment: Segment,
     replaced: Vec<OpId>,
     text: Option<String>,
 }
 
 impl Model for Op {
     ghost use Rattle.std.specs.Prelude.{string_bytes, option_map};
-    ghost use Rattle.usfm_ref.specs.Segments.{segment};
     ghost use Rattle.op_core.specs.Ops.{Operation, IsOperation};
 
     ghost Value = { Operation };
 
     ghost view = { λ a. record {
       id = a.id;
-      segment = segment a.book a.key;
+      segment = a.segment;
       replaced = a.replaced.items;
       text = option_map (λ t. string_bytes t) a.text;
     } };
@@ -40,7 +38,7 @@ impl Model for Op {
     ghost invariant = { λ a. IsOperation
         (record {
           id = a.id;
-          segment = segment a.book a.key;
+          segment = a.segment;
           replaced = a.replaced.items;
           text =
               option_map (λ t. string_bytes t) a.text;
@@ -65,8 +63,7 @@ impl Op {
         let _ = text.as_str();
         Op {
             id,
-            book,
-            key,
+            segment: Segment { book, key },
             replaced,
             text: Some(text),
         }
@@ -87,8 +84,7 @@ impl Op {
         let text = None;
         Op {
             id,
-            book,
-            key,
+            segment: Segment { book, key },
             replaced,
             text,
         }
@@ -106,14 +102,21 @@ impl Op {
     pub fn book(&self) -> Book
         ensures { result ≡ self.now.segment.book }
     {
-        self.book
+        self.segment.book
     }
 
     /// The key of its segment.
     pub fn key(&self) -> Key
         ensures { result ≡ self.now.segment.key }
     {
-        self.key
+        self.segment.key
+    }
+
+    // The segment.
+    pub(crate) fn segment(&self) -> Segment
+        ensures { result ≡ self.now.segment }
+    {
+        self.segment
     }
 
     /// The ids that it names as replaced, rising, lent from it.
@@ -165,15 +168,15 @@ impl Op {
         ensures { result ≡ same_bare self.now other.now }
     {
         self.id == other.id
-            && other.in_segment(self.book, self.key)
+            && other.in_segment(self.segment)
             && same_ids(&self.replaced, &other.replaced)
     }
 
     // Whether the operation is of the segment.
-    pub(crate) fn in_segment(&self, book: Book, key: Key) -> bool
-        ensures { result ≡ in_segment (segment book key) self.now }
+    pub(crate) fn in_segment(&self, segment: Segment) -> bool
+        ensures { result ≡ in_segment segment self.now }
     {
-        self.book == book && self.key == key
+        self.segment == segment
     }
 }
 

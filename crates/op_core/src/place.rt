@@ -3,14 +3,14 @@ ghost use Rattle.std.specs.Prelude.{◌≡◌, ◌≤◌, ◌||◌, length, not,
 ghost use Rattle.std.specs.List.{position_or_len};
 ghost use Rattle.std.specs.Ordering.{is_lt};
 ghost use Rattle.std.specs.Option.{option_copied};
-ghost use Rattle.usfm_ref.specs.Keys as keys;
 ghost use Rattle.usfm_ref.specs.Keys.{key_cmp};
-ghost use Rattle.usfm_ref.specs.Segments.{segment, segment_cmp};
+ghost use Rattle.usfm_ref.specs.Segments.{segment_cmp};
 ghost use Rattle.usfm_ref.specs.Rising.{rises_by};
 ghost use Rattle.op_core.specs.Ids.{id_below, same_id};
 ghost use Rattle.op_core.specs.Thinned as thinned;
 ghost use Rattle.op_core.specs.Sets as sets;
-ghost use Rattle.op_core.specs.Loops.Index.{home_of, register_at, register_of, registers_of, shown_in, is_in};
+ghost use Rattle.op_core.specs.Loops.Index.{home_of, chapter_of, register_at, register_of};
+ghost use Rattle.op_core.specs.Loops.Index.{registers_of, shown_in, is_in};
 ghost use Rattle.op_core.specs.Loops.Index.{IsOrderly};
 ghost use Rattle.op_core.specs.Loops.Searches.{Counted};
 
@@ -21,7 +21,7 @@ use crate::op_id::OpId;
 use crate::register::Register;
 use crate::search::Search;
 use crate::steps::{Steps, place_by};
-use usfm_ref::{Book, Key, Place};
+use usfm_ref::{Key, Segment};
 
 // How many operations at the front have an id below this one.
 fn place_op(ops: &[Op], id: OpId, steps: Steps, search: &mut Search) -> usize
@@ -105,38 +105,33 @@ pub(crate) fn leave_text_at(ops: &mut [Op], at: usize, id: OpId, search: &mut Se
 }
 
 // Whether an operation of the segment has the id.
-pub(crate) fn is_in(ops: &[Op], book: Book, key: Key, id: OpId, search: &mut Search) -> bool
+pub(crate) fn is_in(ops: &[Op], segment: Segment, id: OpId, search: &mut Search) -> bool
     requires rising { IsTrue (sets.rises ops.now) }
-    ensures found { result ≡ is_in ops.now (segment book key) id }
+    ensures found { result ≡ is_in ops.now segment id }
     ensures counted { Counted (length ops.now) search.old search.new }
 {
     match find_op(ops, id, search) {
         None => false,
         Some(op) => {
             search.count();
-            op.in_segment(book, key)
+            op.in_segment(segment)
         }
     }
 }
 
-// How many chapters at the front are before this one. The search begins where the last one ended.
-pub(crate) fn place_chapter(
-    chapters: &[Chapter],
-    book: Book,
-    head: Key,
-    search: &mut Search,
-) -> usize
+// How many chapters at the front are before the one of a segment. The search begins where the last one ended.
+pub(crate) fn place_chapter(chapters: &[Chapter], segment: Segment, search: &mut Search) -> usize
     requires rising { IsTrue (rises_by segment_cmp home_of chapters.now) }
     ensures place { result ≡ position_or_len
-        (λ c. not (is_lt (segment_cmp (home_of c) (segment book head)))) chapters.now }
+        (λ c. not (is_lt (segment_cmp (home_of c) (chapter_of segment)))) chapters.now }
     ensures within { result ≤ length chapters.now }
     ensures counted { Counted (length chapters.now) search.old search.new }
 {
     let at = place_by(
         chapters,
         |chapter| -> bool
-            ensures { result ≡ is_lt (segment_cmp (home_of chapter.now) (segment book head)) }
-        { chapter.order(book, head).is_lt() },
+            ensures { result ≡ is_lt (segment_cmp (home_of chapter.now) (chapter_of segment)) }
+        { chapter.order(segment).is_lt() },
         Steps::beside(search.chapter, chapters.len()),
         search,
     );
@@ -166,20 +161,18 @@ pub(crate) fn place_register(registers: &[Register], key: Key, search: &mut Sear
 // The registers of a segment's chapter.
 pub(crate) fn registers_of<'a>(
     chapters: &'a [Chapter],
-    book: Book,
-    key: Key,
+    segment: Segment,
     search: &mut Search,
 ) -> &'a [Register]
     requires rising { IsTrue (rises_by segment_cmp home_of chapters.now) }
-    ensures found { result.now ≡ registers_of (segment book key) chapters.now }
+    ensures found { result.now ≡ registers_of segment chapters.now }
     ensures counted { Counted (length chapters.now) search.old search.new }
 {
-    let head = head_of(key);
-    let at = place_chapter(chapters, book, head, search);
+    let at = place_chapter(chapters, segment, search);
     if at < chapters.len() {
         let chapter = &chapters[at];
         search.count();
-        if chapter.order(book, head).is_eq() {
+        if chapter.order(segment).is_eq() {
             return &chapter.registers;
         }
     }
@@ -210,27 +203,16 @@ pub(crate) fn register_at<'a>(
 // The ids that a segment shows.
 pub(crate) fn shown_of<'a>(
     chapters: &'a [Chapter],
-    book: Book,
-    key: Key,
+    segment: Segment,
     search: &mut Search,
 ) -> &'a [OpId]
     requires { IsOrderly chapters.now }
-    ensures found { result.now ≡ shown_in (register_of (segment book key) chapters.now) }
+    ensures found { result.now ≡ shown_in (register_of segment chapters.now) }
     ensures counted { Counted (length chapters.now) search.old search.new }
 {
-    let registers = registers_of(chapters, book, key, search);
-    match register_at(registers, key, search) {
+    let registers = registers_of(chapters, segment, search);
+    match register_at(registers, segment.key, search) {
         None => &[],
         Some(register) => &register.shown,
-    }
-}
-
-// The head of the chapter that a key is in.
-pub(crate) fn head_of(key: Key) -> Key
-    ensures { result ≡ keys.head_of key }
-{
-    Key {
-        chapter: key.chapter,
-        place: Place::Head,
     }
 }

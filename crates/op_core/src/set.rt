@@ -34,7 +34,7 @@ use crate::search::Search;
 use std::alloc::{AllocError, Global};
 use std::marker::Model;
 use std::slice;
-use usfm_ref::{Book, Key, Place};
+use usfm_ref::{Book, Key, Place, Segment};
 
 /// A set of operations, of which no two have one id. It keeps the allocator that it was made with.
 #[derive(Debug, Drop)]
@@ -214,7 +214,8 @@ impl OpSet {
     pub fn shown_ids(&self, book: Book, key: Key) -> &[OpId]
         ensures { result.now ≡ lists.shown_ids self.now (segment book key) }
     {
-        shown_of(self.index(), book, key, &mut Search::default())
+        let segment = Segment { book, key };
+        shown_of(self.index(), segment, &mut Search::default())
     }
 
     /// The books with an operation, in the order of books. The walk takes no memory.
@@ -263,7 +264,8 @@ impl OpSet {
             (λ v. map (λ op. op.now) v.items ≡ texts.shown self.now (segment book key)) }
         ensures none { texts.shown self.now (segment book key) ≡ [] → IsOk result }
     {
-        let ids = shown_of(self.index(), book, key, &mut Search::default());
+        let segment = Segment { book, key };
+        let ids = shown_of(self.index(), segment, &mut Search::default());
         let mut shown = Vec::with_capacity(alloc, ids.len())?;
         for id in ids {
             if let Some(op) = self.get(id) {
@@ -279,14 +281,15 @@ impl OpSet {
     pub fn pick(&self, book: Book, key: Key) -> Picked<'_>
         ensures { texts.picked result ≡ texts.pick self.now (segment book key) }
     {
+        let segment = Segment { book, key };
         if key.place == Place::Head
             && key.chapter >= 1
-            && self.is_text_empty(book, key)
-            && self.has_verse_text(book, key)
+            && self.is_text_empty(segment)
+            && self.has_verse_text(segment)
         {
             return Picked::ChapterLine(key.chapter);
         }
-        match self.greatest(book, key) {
+        match self.greatest(segment) {
             None => Picked::Nothing,
             Some(op) => Picked::Held(op),
         }
@@ -343,38 +346,39 @@ impl OpSet {
     }
 
     // The shown operation with the greatest id.
-    fn greatest(&self, book: Book, key: Key) -> Option<&Op>
-        ensures { option_copied result ≡ texts.last (texts.shown self.now (segment book key)) }
+    fn greatest(&self, segment: Segment) -> Option<&Op>
+        ensures { option_copied result ≡ texts.last (texts.shown self.now segment) }
     {
-        let id = shown_of(self.index(), book, key, &mut Search::default()).last()?;
+        let id = shown_of(self.index(), segment, &mut Search::default()).last()?;
         self.get(id)
     }
 
-    fn is_text_empty(&self, book: Book, key: Key) -> bool
-        ensures { result ≡ texts.is_empty (texts.text_of self.now (segment book key)) }
+    fn is_text_empty(&self, segment: Segment) -> bool
+        ensures { result ≡ texts.is_empty (texts.text_of self.now segment) }
     {
-        match self.greatest(book, key) {
+        match self.greatest(segment) {
             None => true,
             Some(op) => op.text_or_empty().is_empty(),
         }
     }
 
     // Whether some verse of the chapter has a text that is not empty.
-    fn has_verse_text(&self, book: Book, key: Key) -> bool
-        ensures { result ≡ texts.has_verse_text self.now book key.chapter }
+    fn has_verse_text(&self, segment: Segment) -> bool
+        ensures { result ≡ texts.has_verse_text self.now segment.book segment.key.chapter }
     {
-        let registers = registers_of(self.index(), book, key, &mut Search::default());
-        self.has_text_among(registers, book, key)
+        let registers = registers_of(self.index(), segment, &mut Search::default());
+        self.has_text_among(registers, segment)
     }
 
-    // Whether one of the registers is of a verse of the key's chapter with a text that is not empty.
-    fn has_text_among(&self, registers: &[Register], book: Book, key: Key) -> bool
+    // Whether one of the registers is of a verse of the segment's chapter with a text that is not empty.
+    fn has_text_among(&self, registers: &[Register], other: Segment) -> bool
         ensures { result ≡ list_any
-            (λ r. is_verse_of key.chapter r.key
-            && not (texts.is_empty (texts.text_of self.now (segment book r.key)))) registers.now }
+            (λ r. is_verse_of other.key.chapter r.key
+            && not (texts.is_empty (texts.text_of self.now (segment other.book r.key)))) registers.now }
     {
         registers.iter().any(|register| {
-            is_verse_beside(key, register.key) && !self.is_text_empty(book, register.key)
+            let (book, key) = (other.book, register.key);
+            is_verse_beside(other.key, key) && !self.is_text_empty(Segment { book, key })
         })
     }
 }

@@ -11,7 +11,8 @@ use Rattle.std.proofs.lemmas.List.Folds.{list_any-append, list_all-append, find-
 use Rattle.usfm_ref.specs.Books.{same_bytes}
 use Rattle.usfm_ref.specs.Keys.{KeyParts, key_cmp, same_key}
 use Rattle.usfm_ref.specs.Rising.{rises_by}
-use Rattle.usfm_ref.specs.Segments.{Segment, segment}
+use Rattle.usfm_ref.specs.Segments.{segment}
+use Rattle.usfm_ref.specs.declared.segment.Segment.{Segment}
 use Rattle.usfm_ref.proofs.Orders.{key_total, key_exact, same_bytes-refl, same_key-is, same_key-refl}
 use Rattle.usfm_ref.proofs.Sorted.{is_less}
 use Rattle.verse_cut.specs.Pieces.{PieceParts}

@@ -7,7 +7,8 @@ use Rattle.std.specs.Option.{is_some}
 use Rattle.std.proofs.lemmas.Bool.{and_parts, cond-true, leb-true, le-leb, not-true}
 use Rattle.usfm_ref.specs.Books.{is_book_code, same_bytes}
 use Rattle.usfm_ref.specs.Keys.{KeyParts, key_cmp, book_head, is_head, is_key, is_verse_of, same_key}
-use Rattle.usfm_ref.specs.Segments.{Segment, segment}
+use Rattle.usfm_ref.specs.Segments.{segment}
+use Rattle.usfm_ref.specs.declared.segment.Segment.{Segment}
 use Rattle.usfm_ref.proofs.Orders.{same_bytes-is, same_bytes-refl, same_key-is}
 use Rattle.verse_cut.specs.Keys.{key_below}
 use Rattle.verse_cut.specs.Fits.{IsHeaded, Fits}

@@ -10,7 +10,8 @@ use Rattle.std.proofs.lemmas.List.Folds.{list_any-append}
 use Rattle.usfm_ref.specs.Books.{same_bytes}
 use Rattle.usfm_ref.specs.Keys.{KeyParts, key_cmp, head_of, book_head, same_key}
 use Rattle.usfm_ref.specs.Rising.{rises_by}
-use Rattle.usfm_ref.specs.Segments.{Segment, segment}
+use Rattle.usfm_ref.specs.Segments.{segment}
+use Rattle.usfm_ref.specs.declared.segment.Segment.{Segment}
 use Rattle.usfm_ref.proofs.Orders.{key_total}
 use Rattle.usfm_ref.proofs.Sorted.{is_less, rises_filter, rises-rising}
 use Rattle.verse_cut.specs.Pieces.{PieceParts, pieces_of}

@@ -2,7 +2,7 @@
 -- so that sets are the same here where they are equal but for texts left out.
 use Rattle.std.specs.Prelude.{◌≡◌, ℕ, Bool, List, [], length, Ok}
 use Rattle.std.specs.List.{list_any, AllByRecursion}
-use Rattle.usfm_ref.specs.Segments.{Segment}
+use Rattle.usfm_ref.specs.declared.segment.Segment.{Segment}
 use Rattle.op_core.specs.Ids.{Id}
 use Rattle.op_core.specs.Ops.{Operation}
 use Rattle.op_core.specs.Shown.{shown, pick}

@@ -11,7 +11,7 @@ use Rattle.std.specs.Prelude.{ℕ, Bool, true, false, not, List, [], ◌∷◌, 
 use Rattle.std.specs.Prelude.{None, Result, Ok, Err, IsTrue, slice_get, if◌then◌else◌}
 use Rattle.std.specs.Str.{IsUtf8}
 use Rattle.usfm_ref.specs.Books.{same_bytes}
-use Rattle.usfm_ref.specs.Segments.{Segment}
+use Rattle.usfm_ref.specs.declared.segment.Segment.{Segment}
 use Rattle.op_core.specs.Names.{is_name}
 use Rattle.op_core.specs.Ids.{Id}
 use Rattle.op_core.specs.Ops.{Operation, is_segment}

@@ -7,7 +7,8 @@ use Rattle.std.proofs.Math.Bool.{and-false}
 use Rattle.std.proofs.lemmas.Bool.{and_parts, and_from, not-true, or_cases, false≢true}
 use Rattle.usfm_ref.specs.Books.{same_bytes}
 use Rattle.usfm_ref.specs.Keys.{KeyParts, key_cmp, head_of, is_head, is_verse_of}
-use Rattle.usfm_ref.specs.Segments.{Segment, segment, same_segment}
+use Rattle.usfm_ref.specs.Segments.{segment, same_segment}
+use Rattle.usfm_ref.specs.declared.segment.Segment.{Segment}
 use Rattle.usfm_ref.proofs.Members.{same_tested, tested_rising}
 use Rattle.usfm_ref.proofs.Sorted.{rises-rising}
 use Rattle.usfm_ref.proofs.Orders.{key_total, key_exact, same_bytes-is, same_bytes-refl}

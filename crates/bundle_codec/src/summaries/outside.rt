@@ -1,6 +1,6 @@
 // What a summary lacks of a set, written as a bundle.
 ghost use Rattle.std.specs.Prelude.{◌≡◌, ◌&&◌, ◌||◌, not, Ok, IfOk};
-ghost use Rattle.usfm_ref.specs.Segments.{Segment};
+ghost use Rattle.usfm_ref.specs.declared.segment.Segment.{Segment};
 ghost use Rattle.op_core.specs.Ops.{is_thinned};
 ghost use Rattle.op_core.specs.Thinned.{is_lacked, lacks_thinned};
 ghost use Rattle.bundle_codec.specs.Spelling as spelled;

@@ -34,8 +34,8 @@ pub(crate) fn begin_index(
     'runs: while let Some((first, others)) = rest.split_first() {
         let len = 1 + run_len(first, others, search);
         let (own, later) = rest.split_at(len);
-        let register = begin_register(alloc, new, first.key, own, &mut aside, search)?;
-        put_in(&mut chapters, alloc, first.book, register, search)?;
+        let register = begin_register(alloc, new, first.segment.key, own, &mut aside, search)?;
+        put_in(&mut chapters, alloc, first.segment.book, register, search)?;
         rest = later;
     }
     Ok(chapters)

@@ -13,14 +13,13 @@ use crate::place::is_in;
 use crate::register::Register;
 use crate::search::Search;
 use std::alloc::{AllocError, Global};
-use usfm_ref::{Book, Key};
+use usfm_ref::{Book, Segment};
 
 /// What changes at a segment: which ids it comes to show and no longer shows, and which it comes to
 /// miss and no longer misses. Each list rises.
 #[derive(Debug, Drop)]
 pub(crate) struct Change {
-    pub(crate) book: Book,
-    pub(crate) key: Key,
+    pub(crate) segment: Segment,
     pub(crate) arrived: Vec<OpId>,
     pub(crate) leaving: Vec<OpId>,
     pub(crate) lacking: Vec<OpId>,
@@ -70,6 +69,10 @@ pub(crate) fn change_of(
         register.now.shown.items register.now.missing.items c) }
     ensures rising { IfOk result IsRisingChange }
 {
+    let segment = Segment {
+        book,
+        key: register.key,
+    };
     let leaving = common_ids(alloc, &aside.named, &register.shown, search)?;
     let found = common_ids(alloc, &aside.arrived, &register.missing, search)?;
     part_ids(
@@ -82,12 +85,11 @@ pub(crate) fn change_of(
     leave_ids(&mut aside.fresh, &found, search);
     leave_ids(&mut aside.absent, &leaving, search);
     leave_ids(&mut aside.absent, &register.missing, search);
-    leave_held(&mut aside.absent, held, book, register.key, search);
+    leave_held(&mut aside.absent, held, segment, search);
     let arrived = Vec::from_slice(alloc, &aside.fresh)?;
     let lacking = Vec::from_slice(alloc, &aside.absent)?;
     Ok(Change {
-        book,
-        key: register.key,
+        segment,
         arrived,
         leaving,
         lacking,
@@ -96,16 +98,16 @@ pub(crate) fn change_of(
 }
 
 // Takes out of a list the ids of operations of a segment.
-fn leave_held(ids: &mut Vec<OpId>, held: &[Op], book: Book, key: Key, search: &mut Search)
+fn leave_held(ids: &mut Vec<OpId>, held: &[Op], segment: Segment, search: &mut Search)
     requires held { IsTrue (sets.rises held.now) }
     requires rising { IsTrue (ids_rise ids.old.items) }
     ensures rising { IsTrue (ids_rise ids.new.items) }
     ensures members { (q : Id) → among ids.new.items q
-        ≡ (among ids.old.items q && not (is_in held.now (segment book key) q)) }
+        ≡ (among ids.old.items q && not (is_in held.now segment q)) }
 {
     let mut kept = 0;
     for i in 0..ids.len() {
-        if !is_in(held, book, key, ids[i], search) {
+        if !is_in(held, segment, ids[i], search) {
             ids.swap(kept, i);
             kept += 1;
         }

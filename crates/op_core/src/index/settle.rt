@@ -1,7 +1,8 @@
 // Changes made in the index, for which there is room. It takes no memory.
 ghost use Rattle.std.specs.Prelude.{◌≡◌, IsTrue};
 ghost use Rattle.std.specs.List.{AllByRecursion};
-ghost use Rattle.usfm_ref.specs.Segments.{Segment, segment_cmp};
+ghost use Rattle.usfm_ref.specs.Segments.{segment_cmp};
+ghost use Rattle.usfm_ref.specs.declared.segment.Segment.{Segment};
 ghost use Rattle.usfm_ref.specs.Rising.{rises_by};
 ghost use Rattle.op_core.specs.Ids.{ids_rise};
 ghost use Rattle.op_core.specs.Loops.Index.{register_of, shown_in, missing_in, change_at, IsOrderly, IsAt, Takes};
@@ -10,7 +11,7 @@ ghost use Rattle.op_core.specs.Loops.Changes.{AllHaveRoom, Settles};
 
 use super::change::Change;
 use crate::chapter::{Chapter, take_at_key};
-use crate::place::{head_of, place_chapter};
+use crate::place::place_chapter;
 use crate::search::Search;
 
 // Makes each of the changes, which rise by their segments.
@@ -41,6 +42,6 @@ fn settle(chapters: &mut Vec<Chapter>, change: Change, search: &mut Search)
     requires room { HasRoomIn change (register_of (change_at change) chapters.old.items) }
     ensures { IsAt (Takes change) (change_at change) chapters.old.items chapters.new.items }
 {
-    let at = place_chapter(chapters, change.book, head_of(change.key), search);
+    let at = place_chapter(chapters, change.segment, search);
     take_at_key(&mut chapters[at].registers, change, search);
 }

@@ -13,13 +13,12 @@ use crate::op_id::OpId;
 use crate::search::Search;
 use std::alloc::{AllocError, Global};
 use std::cmp::Ordering;
-use usfm_ref::{Book, Key};
+use usfm_ref::Segment;
 
 /// The segment of a new operation, and where among the new ones it is.
 #[derive(Clone, Copy, Debug)]
 pub(crate) struct Turn {
-    pub(crate) book: Book,
-    pub(crate) key: Key,
+    pub(crate) segment: Segment,
     pub(crate) at: usize,
 }
 
@@ -28,10 +27,7 @@ impl Turn {
     pub(crate) fn order(&self, other: &Turn) -> Ordering
         ensures { result ≡ segment_cmp (turn_at self.now) (turn_at other.now) }
     {
-        match self.book.cmp(&other.book) {
-            Ordering::Equal => self.key.cmp(&other.key),
-            unequal => unequal,
-        }
+        self.segment.cmp(&other.segment)
     }
 }
 
@@ -45,8 +41,8 @@ pub(crate) fn turns_of(
 {
     let mut turns = Vec::with_capacity(alloc, new.len())?;
     for at in 0..new.len() {
-        let (book, key) = (new[at].book(), new[at].key());
-        turns.push(Turn { book, key, at })?;
+        let segment = new[at].segment();
+        turns.push(Turn { segment, at })?;
     }
     turns.sort_by(|a, b| {
         search.count();

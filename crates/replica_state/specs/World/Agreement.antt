@@ -2,7 +2,7 @@
 use Rattle.std.specs.Prelude.{◌≡◌, ℕ, Bool, true, false, List, [], ◌++◌, Some}
 use Rattle.std.specs.List.{list_all}
 use Rattle.usfm_ref.specs.Books.{same_bytes}
-use Rattle.usfm_ref.specs.Segments.{Segment}
+use Rattle.usfm_ref.specs.declared.segment.Segment.{Segment}
 use Rattle.op_core.specs.Ids.{Id}
 use Rattle.op_core.specs.Ops.{Operation, names}
 use Rattle.op_core.specs.Sets.{get}

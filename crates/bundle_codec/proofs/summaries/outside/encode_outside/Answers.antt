@@ -1,5 +1,5 @@
 use Rattle.std.proofs.Common.{◌≡◌, Bool, not, ◌||◌, List, sym, ◌∙◌, arith}
-use Rattle.usfm_ref.specs.Segments.{Segment}
+use Rattle.usfm_ref.specs.declared.segment.Segment.{Segment}
 use Rattle.op_core.specs.Ops.{Operation}
 use Rattle.op_core.specs.Thinned.{is_sent, lacks_thinned}
 use Rattle.op_core.proofs.Legal.{delta_legal}

@@ -6,6 +6,6 @@ use Rattle.op_core.proofs.index.change.leave_held.Given as goal
 
 abbrev pub invariant-loop-i : goal.invariant-loop-i
 invariant-loop-i l = record {
-  filters : FiltersInPlace (λ i. not (is_in l.held (segment l.book l.key) i)) l.initial.ids.items l.ids.items l.kept l.i;
+  filters : FiltersInPlace (λ i. not (is_in l.held l.segment i)) l.initial.ids.items l.ids.items l.kept l.i;
   within : l.kept ≤ l.i;
 }

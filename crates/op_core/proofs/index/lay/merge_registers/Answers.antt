@@ -19,7 +19,7 @@ pub laying-preserved-then-is_key_under : goal.laying-preserved-then-is_key_under
 laying-preserved-then-is_key_under c =
     let h = c.laying.invariant in
     let m = c.move_after.ensures in
-    let key = c.in-Some.spot.now.key in
+    let key = c.in-Some.segment.now.key in
     let n = c.place_register-at.result in
     let y : Register = c.new.result in
     let is : y.key ≡ key = c.new.ensures.key in
