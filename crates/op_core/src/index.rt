@@ -75,16 +75,16 @@ pub(crate) fn put_in(
         book,
         key: register.key,
     };
-    let at = place_chapter(chapters, segment, search);
+    let at = place_chapter(chapters, &segment, search);
     if at < chapters.len() {
         let chapter = &mut chapters[at];
         search.count();
-        if chapter.order(segment).is_eq() {
+        if chapter.order(&segment).is_eq() {
             return put_register(&mut chapter.registers, register, search);
         }
     }
     chapters.reserve(1)?;
-    let mut chapter = Chapter::new(alloc, segment);
+    let mut chapter = Chapter::new(alloc, &segment);
     put_register(&mut chapter.registers, register, search)?;
     chapters.insert(at, chapter).unwrap();
     Ok(())
@@ -113,6 +113,6 @@ fn is_past(chapters: &[Chapter], op: &Op, search: &mut Search) -> bool
     ensures { result
         ≡ not (list_any (same_id op.now.id) (shown_in (register_of op.now.segment chapters.now))) }
 {
-    let shown = shown_of(chapters, op.segment(), search);
+    let shown = shown_of(chapters, &op.segment(), search);
     !has_id(shown, op.id(), search)
 }

@@ -168,15 +168,15 @@ impl Op {
         ensures { result ≡ same_bare self.now other.now }
     {
         self.id == other.id
-            && other.in_segment(self.segment)
+            && other.in_segment(&self.segment)
             && same_ids(&self.replaced, &other.replaced)
     }
 
     // Whether the operation is of the segment.
-    pub(crate) fn in_segment(&self, segment: Segment) -> bool
-        ensures { result ≡ in_segment segment self.now }
+    pub(crate) fn in_segment(&self, segment: &Segment) -> bool
+        ensures { result ≡ in_segment segment.now self.now }
     {
-        self.segment == segment
+        self.segment == *segment
     }
 }
 

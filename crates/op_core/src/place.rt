@@ -105,9 +105,9 @@ pub(crate) fn leave_text_at(ops: &mut [Op], at: usize, id: OpId, search: &mut Se
 }
 
 // Whether an operation of the segment has the id.
-pub(crate) fn is_in(ops: &[Op], segment: Segment, id: OpId, search: &mut Search) -> bool
+pub(crate) fn is_in(ops: &[Op], segment: &Segment, id: OpId, search: &mut Search) -> bool
     requires rising { IsTrue (sets.rises ops.now) }
-    ensures found { result ≡ is_in ops.now segment id }
+    ensures found { result ≡ is_in ops.now segment.now id }
     ensures counted { Counted (length ops.now) search.old search.new }
 {
     match find_op(ops, id, search) {
@@ -120,17 +120,17 @@ pub(crate) fn is_in(ops: &[Op], segment: Segment, id: OpId, search: &mut Search)
 }
 
 // How many chapters at the front are before the one of a segment. The search begins where the last one ended.
-pub(crate) fn place_chapter(chapters: &[Chapter], segment: Segment, search: &mut Search) -> usize
+pub(crate) fn place_chapter(chapters: &[Chapter], segment: &Segment, search: &mut Search) -> usize
     requires rising { IsTrue (rises_by segment_cmp home_of chapters.now) }
     ensures place { result ≡ position_or_len
-        (λ c. not (is_lt (segment_cmp (home_of c) (chapter_of segment)))) chapters.now }
+        (λ c. not (is_lt (segment_cmp (home_of c) (chapter_of segment.now)))) chapters.now }
     ensures within { result ≤ length chapters.now }
     ensures counted { Counted (length chapters.now) search.old search.new }
 {
     let at = place_by(
         chapters,
         |chapter| -> bool
-            ensures { result ≡ is_lt (segment_cmp (home_of chapter.now) (chapter_of segment)) }
+            ensures { result ≡ is_lt (segment_cmp (home_of chapter.now) (chapter_of segment.entry.now)) }
         { chapter.order(segment).is_lt() },
         Steps::beside(search.chapter, chapters.len()),
         search,
@@ -161,11 +161,11 @@ pub(crate) fn place_register(registers: &[Register], key: Key, search: &mut Sear
 // The registers of a segment's chapter.
 pub(crate) fn registers_of<'a>(
     chapters: &'a [Chapter],
-    segment: Segment,
+    segment: &Segment,
     search: &mut Search,
 ) -> &'a [Register]
     requires rising { IsTrue (rises_by segment_cmp home_of chapters.now) }
-    ensures found { result.now ≡ registers_of segment chapters.now }
+    ensures found { result.now ≡ registers_of segment.now chapters.now }
     ensures counted { Counted (length chapters.now) search.old search.new }
 {
     let at = place_chapter(chapters, segment, search);
@@ -203,11 +203,11 @@ pub(crate) fn register_at<'a>(
 // The ids that a segment shows.
 pub(crate) fn shown_of<'a>(
     chapters: &'a [Chapter],
-    segment: Segment,
+    segment: &Segment,
     search: &mut Search,
 ) -> &'a [OpId]
     requires { IsOrderly chapters.now }
-    ensures found { result.now ≡ shown_in (register_of segment chapters.now) }
+    ensures found { result.now ≡ shown_in (register_of segment.now chapters.now) }
     ensures counted { Counted (length chapters.now) search.old search.new }
 {
     let registers = registers_of(chapters, segment, search);

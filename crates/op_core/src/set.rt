@@ -215,7 +215,7 @@ impl OpSet {
         ensures { result.now ≡ lists.shown_ids self.now (segment book key) }
     {
         let segment = Segment { book, key };
-        shown_of(self.index(), segment, &mut Search::default())
+        shown_of(self.index(), &segment, &mut Search::default())
     }
 
     /// The books with an operation, in the order of books. The walk takes no memory.
@@ -265,7 +265,7 @@ impl OpSet {
         ensures none { texts.shown self.now (segment book key) ≡ [] → IsOk result }
     {
         let segment = Segment { book, key };
-        let ids = shown_of(self.index(), segment, &mut Search::default());
+        let ids = shown_of(self.index(), &segment, &mut Search::default());
         let mut shown = Vec::with_capacity(alloc, ids.len())?;
         for id in ids {
             if let Some(op) = self.get(id) {
@@ -284,12 +284,12 @@ impl OpSet {
         let segment = Segment { book, key };
         if key.place == Place::Head
             && key.chapter >= 1
-            && self.is_text_empty(segment)
-            && self.has_verse_text(segment)
+            && self.is_text_empty(&segment)
+            && self.has_verse_text(&segment)
         {
             return Picked::ChapterLine(key.chapter);
         }
-        match self.greatest(segment) {
+        match self.greatest(&segment) {
             None => Picked::Nothing,
             Some(op) => Picked::Held(op),
         }
@@ -346,15 +346,15 @@ impl OpSet {
     }
 
     // The shown operation with the greatest id.
-    fn greatest(&self, segment: Segment) -> Option<&Op>
-        ensures { option_copied result ≡ texts.last (texts.shown self.now segment) }
+    fn greatest(&self, segment: &Segment) -> Option<&Op>
+        ensures { option_copied result ≡ texts.last (texts.shown self.now segment.now) }
     {
         let id = shown_of(self.index(), segment, &mut Search::default()).last()?;
         self.get(id)
     }
 
-    fn is_text_empty(&self, segment: Segment) -> bool
-        ensures { result ≡ texts.is_empty (texts.text_of self.now segment) }
+    fn is_text_empty(&self, segment: &Segment) -> bool
+        ensures { result ≡ texts.is_empty (texts.text_of self.now segment.now) }
     {
         match self.greatest(segment) {
             None => true,
@@ -363,22 +363,22 @@ impl OpSet {
     }
 
     // Whether some verse of the chapter has a text that is not empty.
-    fn has_verse_text(&self, segment: Segment) -> bool
-        ensures { result ≡ texts.has_verse_text self.now segment.book segment.key.chapter }
+    fn has_verse_text(&self, segment: &Segment) -> bool
+        ensures { result ≡ texts.has_verse_text self.now segment.now.book segment.now.key.chapter }
     {
         let registers = registers_of(self.index(), segment, &mut Search::default());
         self.has_text_among(registers, segment)
     }
 
     // Whether one of the registers is of a verse of the segment's chapter with a text that is not empty.
-    fn has_text_among(&self, registers: &[Register], other: Segment) -> bool
+    fn has_text_among(&self, registers: &[Register], other: &Segment) -> bool
         ensures { result ≡ list_any
-            (λ r. is_verse_of other.key.chapter r.key
-            && not (texts.is_empty (texts.text_of self.now (segment other.book r.key)))) registers.now }
+            (λ r. is_verse_of other.now.key.chapter r.key
+            && not (texts.is_empty (texts.text_of self.now (segment other.now.book r.key)))) registers.now }
     {
         registers.iter().any(|register| {
             let (book, key) = (other.book, register.key);
-            is_verse_beside(other.key, key) && !self.is_text_empty(Segment { book, key })
+            is_verse_beside(other.key, key) && !self.is_text_empty(&Segment { book, key })
         })
     }
 }

@@ -13,13 +13,14 @@ use crate::place::is_in;
 use crate::register::Register;
 use crate::search::Search;
 use std::alloc::{AllocError, Global};
-use usfm_ref::{Book, Segment};
+use usfm_ref::{Book, Key, Segment};
 
 /// What changes at a segment: which ids it comes to show and no longer shows, and which it comes to
 /// miss and no longer misses. Each list rises.
 #[derive(Debug, Drop)]
 pub(crate) struct Change {
-    pub(crate) segment: Segment,
+    pub(crate) book: Book,
+    pub(crate) key: Key,
     pub(crate) arrived: Vec<OpId>,
     pub(crate) leaving: Vec<OpId>,
     pub(crate) lacking: Vec<OpId>,
@@ -85,11 +86,12 @@ pub(crate) fn change_of(
     leave_ids(&mut aside.fresh, &found, search);
     leave_ids(&mut aside.absent, &leaving, search);
     leave_ids(&mut aside.absent, &register.missing, search);
-    leave_held(&mut aside.absent, held, segment, search);
+    leave_held(&mut aside.absent, held, &segment, search);
     let arrived = Vec::from_slice(alloc, &aside.fresh)?;
     let lacking = Vec::from_slice(alloc, &aside.absent)?;
     Ok(Change {
-        segment,
+        book,
+        key: register.key,
         arrived,
         leaving,
         lacking,
@@ -98,12 +100,12 @@ pub(crate) fn change_of(
 }
 
 // Takes out of a list the ids of operations of a segment.
-fn leave_held(ids: &mut Vec<OpId>, held: &[Op], segment: Segment, search: &mut Search)
+fn leave_held(ids: &mut Vec<OpId>, held: &[Op], segment: &Segment, search: &mut Search)
     requires held { IsTrue (sets.rises held.now) }
     requires rising { IsTrue (ids_rise ids.old.items) }
     ensures rising { IsTrue (ids_rise ids.new.items) }
     ensures members { (q : Id) → among ids.new.items q
-        ≡ (among ids.old.items q && not (is_in held.now segment q)) }
+        ≡ (among ids.old.items q && not (is_in held.now segment.now q)) }
 {
     let mut kept = 0;
     for i in 0..ids.len() {

@@ -59,7 +59,7 @@ fn segments_of(
     let mut segments = Vec::new(alloc);
     for at in 0..turns.len() {
         let segment = turns[at].segment;
-        if !is_again(turns, at, search) && !is_laid(chapters, segment, search) {
+        if !is_again(turns, at, search) && !is_laid(chapters, &segment, search) {
             segments.push(segment)?;
         }
     }
@@ -78,9 +78,9 @@ fn is_again(turns: &[Turn], at: usize, search: &mut Search) -> bool
 }
 
 // Whether a segment has a register.
-fn is_laid(chapters: &[Chapter], segment: Segment, search: &mut Search) -> bool
+fn is_laid(chapters: &[Chapter], segment: &Segment, search: &mut Search) -> bool
     requires { IsOrderly chapters.now }
-    ensures { result ≡ is_there segment chapters.now }
+    ensures { result ≡ is_there segment.now chapters.now }
 {
     let registers = registers_of(chapters, segment, search);
     register_at(registers, segment.key, search).is_some()
@@ -90,12 +90,12 @@ fn is_laid(chapters: &[Chapter], segment: Segment, search: &mut Search) -> bool
 pub(crate) fn lay(
     chapters: &mut Vec<Chapter>,
     alloc: Global,
-    segment: Segment,
+    segment: &Segment,
     search: &mut Search,
 ) -> Result<(), AllocError>
     requires { IsOrderly chapters.old.items }
     ensures same { Readies chapters.old.items chapters.new.items }
-    ensures there { OnOk result (is_there segment chapters.new.items ≡ true) }
+    ensures there { OnOk result (is_there segment.now chapters.new.items ≡ true) }
 {
     if is_laid(chapters, segment, search) {
         return Ok(());
@@ -132,8 +132,8 @@ fn count_chapters(chapters: &[Chapter], segments: &[Segment], search: &mut Searc
     let mut fresh: usize = 0;
     let mut rest = segments;
     'groups: while let Some((segment, _)) = rest.split_first() {
-        let at = place_chapter(chapters, *segment, search);
-        if !is_at(chapters, at, *segment, search) {
+        let at = place_chapter(chapters, segment, search);
+        if !is_at(chapters, at, segment, search) {
             fresh = fresh.saturating_add(1);
         }
         rest = &rest[chapter_len(rest, search)..];
@@ -142,7 +142,7 @@ fn count_chapters(chapters: &[Chapter], segments: &[Segment], search: &mut Searc
 }
 
 // Whether the chapter of a segment is at this place.
-fn is_at(chapters: &[Chapter], at: usize, segment: Segment, search: &mut Search) -> bool {
+fn is_at(chapters: &[Chapter], at: usize, segment: &Segment, search: &mut Search) -> bool {
     if at >= chapters.len() {
         return false;
     }
@@ -151,7 +151,7 @@ fn is_at(chapters: &[Chapter], at: usize, segment: Segment, search: &mut Search)
 }
 
 // Whether both segments are of one chapter.
-fn is_beside(segment: Segment, other: Segment) -> bool {
+fn is_beside(segment: &Segment, other: &Segment) -> bool {
     segment.key.chapter == other.key.chapter && segment.book == other.book
 }
 
@@ -162,7 +162,7 @@ fn chapter_len(segments: &[Segment], search: &mut Search) -> usize
 {
     for at in 1..segments.len() {
         search.count();
-        if !is_beside(segments[at], segments[0]) {
+        if !is_beside(&segments[at], &segments[0]) {
             return at;
         }
     }
@@ -186,11 +186,11 @@ fn merge_chapters(
     let mut rest = segments;
     'laying: while let Some((segment, before)) = rest.split_last() {
         search.chapter = chapters.len();
-        let at = place_chapter(chapters, *segment, search);
+        let at = place_chapter(chapters, segment, search);
         move_after(chapters, at, &mut tail);
         let len = chapters.len() + tail.len();
-        if len < chapters.capacity() && len < tail.capacity() && is_under(&tail, *segment, search) {
-            tail.push(Chapter::new(alloc, *segment)).unwrap();
+        if len < chapters.capacity() && len < tail.capacity() && is_under(&tail, segment, search) {
+            tail.push(Chapter::new(alloc, segment)).unwrap();
         }
         rest = before;
     }
@@ -198,9 +198,9 @@ fn merge_chapters(
 }
 
 // Whether the chapter of a segment is before the last of these, if there is one.
-fn is_under(chapters: &[Chapter], segment: Segment, search: &mut Search) -> bool
+fn is_under(chapters: &[Chapter], segment: &Segment, search: &mut Search) -> bool
     ensures { result
-        ≡ begins_above segment_cmp home_of (chapter_of segment) (reverse chapters.now) }
+        ≡ begins_above segment_cmp home_of (chapter_of segment.now) (reverse chapters.now) }
 {
     let Some((last, _)) = chapters.split_last() else {
         return true;
@@ -223,7 +223,7 @@ fn lay_registers(
     let mut rest = segments;
     'groups: while let Some((segment, _)) = rest.split_first() {
         let (own, later) = rest.split_at(chapter_len(rest, search));
-        lay_beside(chapters, alloc, *segment, own, search)?;
+        lay_beside(chapters, alloc, segment, own, search)?;
         rest = later;
     }
     Ok(())
@@ -234,7 +234,7 @@ fn lay_registers(
 fn lay_beside(
     chapters: &mut Vec<Chapter>,
     alloc: Global,
-    segment: Segment,
+    segment: &Segment,
     own: &[Segment],
     search: &mut Search,
 ) -> Result<(), AllocError>

@@ -46,7 +46,7 @@ pub(crate) fn ready_all(
             alloc,
             held,
             new,
-            first.segment,
+            &first.segment,
             own,
             &mut aside,
             search,
@@ -63,7 +63,7 @@ fn ready_run(
     alloc: Global,
     held: &[Op],
     new: &[Op],
-    segment: Segment,
+    segment: &Segment,
     own: &[Turn],
     aside: &mut Aside,
     search: &mut Search,
@@ -71,12 +71,12 @@ fn ready_run(
     requires held { IsTrue (sets.rises held.now) }
     requires index { IsIndex held.now chapters.old.items }
     ensures same { Readies chapters.old.items chapters.new.items }
-    ensures change { IfOk result (λ c. IsChangeOf held.now segment
+    ensures change { IfOk result (λ c. IsChangeOf held.now segment.now
         (comes new.now own.now) (is_called new.now own.now)
-        (shown_in (register_of segment chapters.new.items))
-        (missing_in (register_of segment chapters.new.items)) c) }
+        (shown_in (register_of segment.now chapters.new.items))
+        (missing_in (register_of segment.now chapters.new.items)) c) }
     ensures rising { IfOk result IsRisingChange }
-    ensures room { IfOk result (λ c. HasRoomIn c (register_of segment chapters.new.items)) }
+    ensures room { IfOk result (λ c. HasRoomIn c (register_of segment.now chapters.new.items)) }
 {
     lay(chapters, alloc, segment, search)?;
     gather_arrived(&mut aside.arrived, new, own, search)?;
@@ -89,27 +89,27 @@ fn ready(
     chapters: &mut Vec<Chapter>,
     alloc: Global,
     held: &[Op],
-    segment: Segment,
+    segment: &Segment,
     aside: &mut Aside,
     search: &mut Search,
 ) -> Result<Change, AllocError>
     requires held { IsTrue (sets.rises held.now) }
     requires orderly { IsOrderly chapters.old.items }
-    requires there { IsTrue (is_there segment chapters.old.items) }
+    requires there { IsTrue (is_there segment.now chapters.old.items) }
     requires shown { IsTrue
-        (ids_rise (shown_in (register_of segment chapters.old.items))) }
+        (ids_rise (shown_in (register_of segment.now chapters.old.items))) }
     requires missing { IsTrue
-        (ids_rise (missing_in (register_of segment chapters.old.items))) }
+        (ids_rise (missing_in (register_of segment.now chapters.old.items))) }
     requires arrived { IsTrue (ids_rise aside.old.arrived.items) }
     requires named { IsTrue (ids_rise aside.old.named.items) }
-    ensures same { IsAt IsSameBut segment chapters.old.items chapters.new.items }
-    ensures change { IfOk result (λ c. IsChangeOf held.now segment
+    ensures same { IsAt IsSameBut segment.now chapters.old.items chapters.new.items }
+    ensures change { IfOk result (λ c. IsChangeOf held.now segment.now
         (among aside.old.arrived.items) (among aside.old.named.items)
-        (shown_in (register_of segment chapters.old.items))
-        (missing_in (register_of segment chapters.old.items)) c) }
+        (shown_in (register_of segment.now chapters.old.items))
+        (missing_in (register_of segment.now chapters.old.items)) c) }
     ensures rising { IfOk result IsRisingChange }
     ensures room { IfOk result
-        (λ c. HasRoomIn c (register_of segment chapters.new.items)) }
+        (λ c. HasRoomIn c (register_of segment.now chapters.new.items)) }
 {
     let at = place_chapter(chapters, segment, search);
     ready_at_key(

@@ -13,6 +13,7 @@ use super::change::Change;
 use crate::chapter::{Chapter, take_at_key};
 use crate::place::place_chapter;
 use crate::search::Search;
+use usfm_ref::Segment;
 
 // Makes each of the changes, which rise by their segments.
 pub(crate) fn settle_all(chapters: &mut Vec<Chapter>, mut changes: Vec<Change>, search: &mut Search)
@@ -42,6 +43,10 @@ fn settle(chapters: &mut Vec<Chapter>, change: Change, search: &mut Search)
     requires room { HasRoomIn change (register_of (change_at change) chapters.old.items) }
     ensures { IsAt (Takes change) (change_at change) chapters.old.items chapters.new.items }
 {
-    let at = place_chapter(chapters, change.segment, search);
+    let segment = Segment {
+        book: change.book,
+        key: change.key,
+    };
+    let at = place_chapter(chapters, &segment, search);
     take_at_key(&mut chapters[at].registers, change, search);
 }

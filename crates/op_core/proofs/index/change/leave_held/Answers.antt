@@ -25,11 +25,11 @@ loop-i-preserved c =
 pub returns-clause-rising : goal.returns-clause-rising
 returns-clause-rising c =
     let whole = c.truncate.ensures.items ∙ FiltersInPlace-all c.loop-i.invariant.filters (omega arith) in
-    filter_rises (λ i. not (is_in c.args.held.now c.args.segment i)) c.args.ids.now.items c.truncate.new.self.items whole
+    filter_rises (λ i. not (is_in c.args.held.now c.args.segment.now i)) c.args.ids.now.items c.truncate.new.self.items whole
     c.requires.rising
 
 pub returns-clause-members : goal.returns-clause-members
 returns-clause-members c =
     let whole = c.truncate.ensures.items ∙ FiltersInPlace-all c.loop-i.invariant.filters (omega arith) in
-    filter_members (λ i. not (is_in c.args.held.now c.args.segment i)) c.args.ids.now.items c.truncate.new.self.items
+    filter_members (λ i. not (is_in c.args.held.now c.args.segment.now i)) c.args.ids.now.items c.truncate.new.self.items
     whole

@@ -12,19 +12,19 @@ ready-requires-clause-orderly c = c.lay.ensures.same.orderly
 
 pub ready-requires-clause-shown : goal.ready-requires-clause-shown
 ready-requires-clause-shown c = ready_shown c.args.held.now c.args.chapters.now.items c.lay.new.chapters.items c.requires.held
-    c.requires.index c.lay.ensures.same c.args.segment
+    c.requires.index c.lay.ensures.same c.args.segment.now
 
 pub ready-requires-clause-missing : goal.ready-requires-clause-missing
 ready-requires-clause-missing c = ready_missing c.args.held.now c.args.chapters.now.items c.lay.new.chapters.items c.requires.index
-    c.lay.ensures.same c.args.segment
+    c.lay.ensures.same c.args.segment.now
 
 pub returns-clause-same : goal.returns-clause-same
 returns-clause-same c = readies_more c.args.chapters.now.items c.lay.new.chapters.items c.ready.new.chapters.items c.lay.ensures.same
-    (readies_at c.args.segment c.lay.new.chapters.items c.ready.new.chapters.items c.ready.ensures.same)
+    (readies_at c.args.segment.now c.lay.new.chapters.items c.ready.new.chapters.items c.ready.ensures.same)
 
 pub returns-clause-change : goal.returns-clause-change
 returns-clause-change c =
-    let g = c.args.segment in
+    let g = c.args.segment.now in
     let r = readies_at g c.lay.new.chapters.items c.ready.new.chapters.items c.ready.ensures.same in
     if_ok c.ready.result
     (λ ch k. change_told c.args.held.now g g (among c.gather_arrived.new.ids.items) (comes c.args.new.now c.args.own.now)
