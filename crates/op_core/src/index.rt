@@ -8,6 +8,7 @@ ghost use Rattle.op_core.specs.Sets as sets;
 ghost use Rattle.op_core.specs.Sets.{IsOpSet};
 ghost use Rattle.op_core.specs.Loops.Index.{register_of, shown_in, IsOrderly, IsIndex, AreApart, Changes, Same};
 
+mod awaited;
 mod begin;
 pub(crate) mod change;
 mod lay;
@@ -15,6 +16,7 @@ mod ready;
 mod settle;
 mod turns;
 
+pub(crate) use self::awaited::push_awaited;
 use self::begin::begin_index;
 use self::lay::lay_out;
 use self::ready::ready_all;

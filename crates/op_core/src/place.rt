@@ -1,9 +1,9 @@
 // Searches in what rises. Each comparison of two ids or two segments is counted.
-ghost use Rattle.std.specs.Prelude.{◌≡◌, ◌≤◌, ◌||◌, length, not, IsTrue};
-ghost use Rattle.std.specs.List.{position_or_len};
+ghost use Rattle.std.specs.Prelude.{◌≡◌, ◌≤◌, ◌||◌, Bool, length, not, IsTrue};
+ghost use Rattle.std.specs.List.{list_any, position_or_len};
 ghost use Rattle.std.specs.Ordering.{is_lt};
 ghost use Rattle.std.specs.Option.{option_copied};
-ghost use Rattle.usfm_ref.specs.Keys.{key_cmp};
+ghost use Rattle.usfm_ref.specs.Keys.{KeyParts, key_cmp};
 ghost use Rattle.usfm_ref.specs.Segments.{segment_cmp};
 ghost use Rattle.usfm_ref.specs.Rising.{rises_by};
 ghost use Rattle.op_core.specs.Ids.{id_below, same_id};
@@ -12,7 +12,7 @@ ghost use Rattle.op_core.specs.Sets as sets;
 ghost use Rattle.op_core.specs.Loops.Index.{home_of, chapter_of, register_at, register_of};
 ghost use Rattle.op_core.specs.Loops.Index.{registers_of, shown_in, is_in};
 ghost use Rattle.op_core.specs.Loops.Index.{IsOrderly};
-ghost use Rattle.op_core.specs.Loops.Searches.{Counted};
+ghost use Rattle.op_core.specs.Loops.Searches.{AnswersAs, Counted};
 
 use crate::chapter::Chapter;
 use crate::ids::is_below;
@@ -177,6 +177,26 @@ pub(crate) fn registers_of<'a>(
         }
     }
     &[]
+}
+
+// Whether a test holds of one of the keys that have a register in a segment's chapter.
+pub(crate) fn any_key_beside<P: Fn(&Key) -> bool>(
+    chapters: &[Chapter],
+    segment: &Segment,
+    holds: P,
+) -> bool
+    requires rising { IsTrue (rises_by segment_cmp home_of chapters.now) }
+    requires callable { P.IsAlwaysCallable holds }
+    ensures { (p : KeyParts → Bool) → AnswersAs P.Fn p holds
+        → result ≡ list_any (λ r. p r.key) (registers_of segment.now chapters.now) }
+{
+    let registers = registers_of(chapters, segment, &mut Search::default());
+    for register in registers {
+        if holds(&register.key) {
+            return true;
+        }
+    }
+    false
 }
 
 // The register of a key.

@@ -2,15 +2,15 @@ ghost use Rattle.std.specs.Prelude.{◌≡◌, ◌≢◌, ◌&&◌, ◌||◌, �
 ghost use Rattle.std.specs.Prelude.{None, IsTrue, IsOk, IfOk, IfErr, OnOk, OnErr};
 ghost use Rattle.std.specs.Option.{option_copied};
 ghost use Rattle.usfm_ref.specs.Segments.{segment};
-ghost use Rattle.op_core.specs.Ids.{Id, same_id};
+ghost use Rattle.usfm_ref.specs.Segments as segments;
 ghost use Rattle.op_core.specs.Ops as ops;
 ghost use Rattle.op_core.specs.Sets as sets;
 ghost use Rattle.op_core.specs.Thinned as thinned;
 ghost use Rattle.op_core.specs.Shown as texts;
 ghost use Rattle.op_core.specs.Lists as lists;
-ghost use Rattle.op_core.specs.Loops.Index.{is_missed, is_missed_in, IsIndex};
+ghost use Rattle.op_core.specs.Loops.Index.{IsIndex};
 ghost use Rattle.op_core.specs.NextIds as next_ids;
-ghost use Rattle.std.specs.List.{AllByRecursion, list_any};
+ghost use Rattle.std.specs.List.{AllByRecursion};
 ghost use Rattle.usfm_ref.specs.Keys.{is_verse_of};
 
 mod thinning;
@@ -19,7 +19,7 @@ use crate::books::Books;
 use crate::chapter::Chapter;
 use crate::fault::SetFault;
 use crate::finder::Finder;
-use crate::index::enroll;
+use crate::index::{enroll, push_awaited};
 use crate::keys::Keys;
 use crate::merge::{
     clash, has_new, leave_held, look_at_each, merge, place_first, reserve_ops, tail_of,
@@ -28,8 +28,7 @@ use crate::op::Op;
 use crate::op_id::OpId;
 use crate::ops::Ops;
 use crate::picked::Picked;
-use crate::place::{find_op, op_at, place_last, registers_of, shown_of};
-use crate::register::Register;
+use crate::place::{any_key_beside, find_op, op_at, place_last, shown_of};
 use crate::search::Search;
 use std::alloc::{AllocError, Global};
 use std::marker::Model;
@@ -242,7 +241,7 @@ impl OpSet {
         ensures none { lists.awaited self.now ≡ [] → IsOk result }
     {
         let mut ids = Vec::new(alloc);
-        self.push_awaited(self.index(), &mut ids)?;
+        push_awaited(self.index(), self.ops(), &mut ids)?;
         ids.sort_unstable();
         ids.dedup();
         Ok(ids)
@@ -303,46 +302,12 @@ impl OpSet {
         &self.chapters
     }
 
-    // Adds what the chapters' registers miss and no operation has. Where that fails, there is one.
-    fn push_awaited(&self, chapters: &[Chapter], ids: &mut Vec<OpId>) -> Result<(), AllocError>
-        ensures ids { OnOk result ((q : Id) → list_any (same_id q) ids.new.items
-            ≡ (list_any (same_id q) ids.old.items
-            || (is_missed_in chapters.now q && not (lists.is_held self.now q)))) }
-        ensures one { OnErr result ((q : Id)
-            × IsTrue (is_missed_in chapters.now q && not (lists.is_held self.now q))) }
+    // The operations, rising by id.
+    fn ops(&self) -> &[Op]
+        ensures ops { result.now ≡ self.now }
+        ensures rising { IsTrue (sets.rises result.now) }
     {
-        for chapter in chapters {
-            self.push_missing_in(&chapter.registers, ids)?;
-        }
-        Ok(())
-    }
-
-    fn push_missing_in(&self, registers: &[Register], ids: &mut Vec<OpId>) -> Result<(), AllocError>
-        ensures ids { OnOk result ((q : Id) → list_any (same_id q) ids.new.items
-            ≡ (list_any (same_id q) ids.old.items
-            || (is_missed registers.now q && not (lists.is_held self.now q)))) }
-        ensures one { OnErr result ((q : Id)
-            × IsTrue (is_missed registers.now q && not (lists.is_held self.now q))) }
-    {
-        for register in registers {
-            self.push_unheld(&register.missing, ids)?;
-        }
-        Ok(())
-    }
-
-    fn push_unheld(&self, missing: &[OpId], ids: &mut Vec<OpId>) -> Result<(), AllocError>
-        ensures ids { OnOk result ((q : Id) → list_any (same_id q) ids.new.items
-            ≡ (list_any (same_id q) ids.old.items
-            || (list_any (same_id q) missing.now && not (lists.is_held self.now q)))) }
-        ensures one { OnErr result ((q : Id)
-            × IsTrue (list_any (same_id q) missing.now && not (lists.is_held self.now q))) }
-    {
-        for id in missing {
-            if self.get(id).is_none() {
-                ids.push(*id)?;
-            }
-        }
-        Ok(())
+        &self.ops
     }
 
     // The shown operation with the greatest id.
@@ -366,20 +331,21 @@ impl OpSet {
     fn has_verse_text(&self, segment: &Segment) -> bool
         ensures { result ≡ texts.has_verse_text self.now segment.now.book segment.now.key.chapter }
     {
-        let registers = registers_of(self.index(), segment, &mut Search::default());
-        self.has_text_among(registers, segment)
-    }
-
-    // Whether one of the registers is of a verse of the segment's chapter with a text that is not empty.
-    fn has_text_among(&self, registers: &[Register], other: &Segment) -> bool
-        ensures { result ≡ list_any
-            (λ r. is_verse_of other.now.key.chapter r.key
-            && not (texts.is_empty (texts.text_of self.now (segment other.now.book r.key)))) registers.now }
-    {
-        registers.iter().any(|register| {
-            let (book, key) = (other.book, register.key);
-            is_verse_beside(other.key, key) && !self.is_text_empty(&Segment { book, key })
-        })
+        any_key_beside(
+            self.index(),
+            segment,
+            |key| -> bool
+                ensures { result ≡ (is_verse_of segment.entry.now.key.chapter key.now
+                    && not (texts.is_empty
+                    (texts.text_of self.entry.now (segments.segment segment.entry.now.book key.now)))) }
+            {
+                let own = Segment {
+                    book: segment.book,
+                    key: *key,
+                };
+                is_verse_beside(segment.key, *key) && !self.is_text_empty(&own)
+            },
+        )
     }
 }
 

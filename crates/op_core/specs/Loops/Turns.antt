@@ -2,7 +2,7 @@
 use Rattle.std.specs.Prelude.{◌≡◌, ℕ, Bool, true, not, ◌&&◌, List, [], ◌∷◌, IsTrue, take, drop}
 use Rattle.std.specs.List.{list_any, list_all}
 use Rattle.std.specs.Ordering.{is_lt}
-use Rattle.usfm_ref.specs.Segments.{segment, segment_cmp, same_segment}
+use Rattle.usfm_ref.specs.Segments.{segment_cmp, same_segment}
 use Rattle.usfm_ref.specs.declared.segment.Segment.{Segment}
 use Rattle.op_core.specs.Ids.{Id, same_id}
 use Rattle.op_core.specs.Ops.{Operation, names}

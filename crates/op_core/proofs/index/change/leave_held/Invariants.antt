@@ -1,6 +1,5 @@
 use Rattle.std.proofs.Common.{◌≤◌, not}
 use Rattle.std.proofs.lemmas.List.Filters.{FiltersInPlace}
-use Rattle.usfm_ref.specs.Segments.{segment}
 use Rattle.op_core.specs.Loops.Index.{is_in}
 use Rattle.op_core.proofs.index.change.leave_held.Given as goal
 

@@ -1,10 +1,7 @@
 use Rattle.std.proofs.Common.{sym, ap, subst, refl, ◌∙◌, ◌≡◌, arith, List}
 use Rattle.std.specs.Ordering.{is_eq}
 use Rattle.usfm_ref.specs.Keys.{KeyParts, head_of}
-use Rattle.usfm_ref.specs.Segments.{segment_cmp}
-use Rattle.usfm_ref.proofs.Orders.{segment_total}
-use Rattle.usfm_ref.proofs.Sorted.{place}
-use Rattle.op_core.specs.Loops.Index.{home_of, registers_of, LaysKeys}
+use Rattle.op_core.specs.Loops.Index.{registers_of, LaysKeys}
 use Rattle.op_core.specs.declared.register.Register.{Register}
 use Rattle.op_core.proofs.Registers.{rise}
 use Rattle.op_core.proofs.Chapters.{were_there, set_chapter, lays_in}

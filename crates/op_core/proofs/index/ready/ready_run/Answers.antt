@@ -1,5 +1,4 @@
 use Rattle.std.proofs.Common.{refl, sym}
-use Rattle.usfm_ref.specs.Segments.{segment}
 use Rattle.op_core.specs.Loops.Index.{among, register_of, shown_in, missing_in}
 use Rattle.op_core.specs.Loops.Turns.{comes, is_called}
 use Rattle.op_core.proofs.IdSets.{if_ok}
