@@ -15,8 +15,8 @@ use Rattle.op_core.specs.Lists.{shown_ids}
 use Rattle.op_core.specs.Loops.Index.{is_in, among, register_of, shown_in, missing_in, change_at, AreApart, IsIndex}
 use Rattle.op_core.specs.Loops.Turns.{AreTurnsOf}
 use Rattle.op_core.specs.Loops.Changes.{change_for, IsChangeAt, AreChanges, TakesIn, Taken, Settles}
-use Rattle.op_core.specs.declared.register.Register.{Register}
-use Rattle.op_core.specs.declared.chapter.Chapter.{Chapter}
+use Rattle.op_core.specs.declared.index.register.Register.{Register}
+use Rattle.op_core.specs.declared.index.chapter.Chapter.{Chapter}
 use Rattle.op_core.specs.declared.index.change.Change.{Change}
 use Rattle.op_core.specs.declared.index.turns.Turn.{Turn}
 use Rattle.op_core.proofs.Union.{rises-join}

@@ -16,7 +16,7 @@ use Rattle.op_core.specs.Sets.{rises, get, meet, met, put, join}
 use Rattle.op_core.specs.Shown.{is_replaced, shown}
 use Rattle.op_core.specs.Lists.{ids_of, shown_ids}
 use Rattle.op_core.specs.Loops.Index.{is_in, IsIndex, Lays, AreApart}
-use Rattle.op_core.specs.declared.chapter.Chapter.{Chapter}
+use Rattle.op_core.specs.declared.index.chapter.Chapter.{Chapter}
 use Rattle.op_core.proofs.Rising.{id_total, same_id-cmp}
 use Rattle.op_core.proofs.Union.{rises_parts, get_above, get-join}
 

@@ -9,8 +9,8 @@ use Rattle.usfm_ref.proofs.Orders.{key_total, segment_total}
 use Rattle.usfm_ref.proofs.Sorted.{place}
 use Rattle.op_core.specs.Loops.Index.{home_of, chapter_of, registers_in}
 use Rattle.op_core.specs.Loops.Index.{begins_above, IsOrderly, LaysKeys, Lays}
-use Rattle.op_core.specs.declared.register.Register.{Register}
-use Rattle.op_core.specs.declared.chapter.Chapter.{Chapter}
+use Rattle.op_core.specs.declared.index.register.Register.{Register}
+use Rattle.op_core.specs.declared.index.chapter.Chapter.{Chapter}
 use Rattle.op_core.proofs.Registers.{rise, insert_changes, lays_at}
 use Rattle.op_core.proofs.Chapters.{insert_chapter, lays_in}
 use Rattle.op_core.proofs.Between.{place_between, none_between, put_between}

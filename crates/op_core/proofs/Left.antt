@@ -16,7 +16,7 @@ use Rattle.op_core.specs.Lists.{shown_ids}
 use Rattle.op_core.specs.NextIds.{is_among}
 use Rattle.op_core.specs.Loops.Index.{is_missing, IsIndex, AreApart}
 use Rattle.op_core.specs.Thinned.{is_past, is_legal, bare_where, thin_where, is_thinned_in, ArePast, thinned_in, thin, skeleton, all_full}
-use Rattle.op_core.specs.declared.chapter.Chapter.{Chapter}
+use Rattle.op_core.specs.declared.index.chapter.Chapter.{Chapter}
 use Rattle.op_core.proofs.Held.{same_turned}
 use Rattle.op_core.proofs.Bare.{any_same, rises_same, told_same, is_shown_same, replaced_same}
 use Rattle.op_core.proofs.TwoSteps.{skeleton_where, rises_where, get_where, past_where}

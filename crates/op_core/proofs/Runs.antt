@@ -15,7 +15,7 @@ use Rattle.op_core.specs.Ops.{Operation, names}
 use Rattle.op_core.specs.Loops.Index.{change_at, shown_in, missing_in, register_of, IsOrderly, IsChangeOf, IsRisingChange, HasRoomIn, Readies}
 use Rattle.op_core.specs.Loops.Turns.{turn_at, is_at, never_fall, comes, is_called, arrives, is_named}
 use Rattle.op_core.specs.Loops.Changes.{change_for, IsChangeAt, AreChanges, AllHaveRoom}
-use Rattle.op_core.specs.declared.chapter.Chapter.{Chapter}
+use Rattle.op_core.specs.declared.index.chapter.Chapter.{Chapter}
 use Rattle.op_core.specs.declared.index.change.Change.{Change}
 use Rattle.op_core.specs.declared.index.turns.Turn.{Turn}
 use Rattle.op_core.proofs.There.{readies_same, readies_more}

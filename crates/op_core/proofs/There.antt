@@ -12,8 +12,8 @@ use Rattle.op_core.specs.Ids.{Id, same_id, ids_rise}
 use Rattle.op_core.specs.Ops.{Operation}
 use Rattle.op_core.specs.Loops.Index.{register_of, shown_in, missing_in, is_there, IsOrderly, IsIndex, Changes, Same, IsAt, IsSameBut, Readies, HasRoomIn}
 use Rattle.op_core.specs.Sets.{rises}
-use Rattle.op_core.specs.declared.register.Register.{Register}
-use Rattle.op_core.specs.declared.chapter.Chapter.{Chapter}
+use Rattle.op_core.specs.declared.index.register.Register.{Register}
+use Rattle.op_core.specs.declared.index.chapter.Chapter.{Chapter}
 use Rattle.op_core.specs.declared.index.change.Change.{Change}
 use Rattle.op_core.proofs.Kept.{shown_ids_rise}
 

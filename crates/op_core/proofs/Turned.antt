@@ -21,7 +21,7 @@ use Rattle.op_core.specs.Ops.{Operation}
 use Rattle.op_core.specs.Loops.Index.{is_in, change_at, shown_in, missing_in, register_of, IsChangeOf, Readies}
 use Rattle.op_core.specs.Loops.Turns.{turn_at, is_at, never_fall, arrives, is_named, AreTurnsOf}
 use Rattle.op_core.specs.Loops.Changes.{change_for, IsChangeAt}
-use Rattle.op_core.specs.declared.chapter.Chapter.{Chapter}
+use Rattle.op_core.specs.declared.index.chapter.Chapter.{Chapter}
 use Rattle.op_core.specs.declared.index.change.Change.{Change}
 use Rattle.op_core.specs.declared.index.turns.Turn.{Turn}
 

@@ -7,8 +7,8 @@ use Rattle.usfm_ref.specs.Keys.{is_head}
 use Rattle.usfm_ref.specs.declared.segment.Segment.{Segment}
 pub use Rattle.verse_cut.specs.Reading.{is_empty}
 pub use Rattle.verse_cut.specs.Joins.{chapter_line}
-use Rattle.op_core.specs.declared.picked.Picked.{Picked}
-use Rattle.op_core.specs.declared.picked.Picked.TheVariants.{Nothing, Held, ChapterLine}
+use Rattle.op_core.specs.declared.operations.picked.Picked.{Picked}
+use Rattle.op_core.specs.declared.operations.picked.Picked.TheVariants.{Nothing, Held, ChapterLine}
 use Rattle.op_core.specs.Ids.{Id}
 use Rattle.op_core.specs.Ops.{Operation, in_segment, is_verse_in, names, own_text}
 

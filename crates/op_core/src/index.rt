@@ -10,24 +10,29 @@ ghost use Rattle.op_core.specs.Loops.Index.{register_of, shown_in, IsOrderly, Is
 
 mod awaited;
 mod begin;
-pub(crate) mod change;
+pub(crate) mod books;
+mod change;
+pub(crate) mod chapter;
+pub(crate) mod keys;
 mod lay;
+pub(crate) mod place;
 mod ready;
+mod register;
 mod settle;
 mod turns;
 
 pub(crate) use self::awaited::push_awaited;
 use self::begin::begin_index;
+use self::chapter::{Chapter, put_register};
 use self::lay::lay_out;
+use self::place::{place_chapter, shown_of};
 use self::ready::ready_all;
+use self::register::Register;
 use self::settle::settle_all;
 use self::turns::turns_of;
-use crate::chapter::{Chapter, put_register};
 use crate::ids::has_id;
-use crate::op::Op;
-use crate::place::{place_chapter, shown_of};
-use crate::register::Register;
-use crate::search::Search;
+use crate::ids::search::Search;
+use crate::operations::op::Op;
 use std::alloc::{AllocError, Global};
 use usfm_ref::{Book, Segment};
 

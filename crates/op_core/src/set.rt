@@ -15,21 +15,22 @@ ghost use Rattle.usfm_ref.specs.Keys.{is_verse_of};
 
 mod thinning;
 
-use crate::books::Books;
-use crate::chapter::Chapter;
 use crate::fault::SetFault;
-use crate::finder::Finder;
+use crate::ids::op_id::OpId;
+use crate::ids::search::Search;
+use crate::index::books::Books;
+use crate::index::chapter::Chapter;
+use crate::index::keys::Keys;
+use crate::index::place::{any_key_beside, shown_of};
 use crate::index::{enroll, push_awaited};
-use crate::keys::Keys;
-use crate::merge::{
+use crate::lists::finder::Finder;
+use crate::lists::merge::{
     clash, has_new, leave_held, look_at_each, merge, place_first, reserve_ops, tail_of,
 };
-use crate::op::Op;
-use crate::op_id::OpId;
-use crate::ops::Ops;
-use crate::picked::Picked;
-use crate::place::{any_key_beside, find_op, op_at, place_last, shown_of};
-use crate::search::Search;
+use crate::lists::place::{find_op, op_at, place_last};
+use crate::operations::op::Op;
+use crate::operations::ops::Ops;
+use crate::operations::picked::Picked;
 use std::alloc::{AllocError, Global};
 use std::marker::Model;
 use std::slice;

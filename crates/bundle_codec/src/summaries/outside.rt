@@ -11,7 +11,7 @@ ghost use Rattle.bundle_codec.specs.Summaries.{covers, outside, has_segment};
 use super::Summary;
 use super::coverage::Coverage;
 use crate::bundle::Bundle;
-use crate::view::OpView;
+use crate::views::view::OpView;
 use crate::writing::{push_front, push_operation, set_front};
 use op_core::{Op, OpId, OpSet};
 use std::alloc::{AllocError, Global};

@@ -10,8 +10,8 @@ use super::name_ranges::NameRanges;
 use super::range::{NumberRange, begins_after, is_range};
 use super::writing::MAGIC;
 use crate::fault::BundleFault;
-use crate::fields::{block_of, exactly_of, u8_at, u64_at};
-use crate::ids::{is_name, made_name};
+use crate::judging::fields::{block_of, exactly_of, u8_at, u64_at};
+use crate::judging::ids::{is_name, made_name};
 use std::alloc::Global;
 
 // The bytes after the magic.

@@ -2,7 +2,7 @@
 use Rattle.std.specs.Prelude.{◌≡◌, ℕ, ◌<◌, ◌≤◌, ◌+◌, min, Bool}
 use Rattle.std.specs.Borrow.{Bor}
 use Rattle.std.specs.Fn.{Shared}
-use Rattle.op_core.specs.declared.search.Search.{Search}
+use Rattle.op_core.specs.declared.ids.search.Search.{Search}
 
 -- each call of the test at a reference answers what p gives
 abbrev pub AnswersAs : {F X : Type 0} → Shared F (Bor X × Unit {0}) Bool → (X → Bool) → F → Type 0

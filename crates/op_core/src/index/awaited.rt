@@ -6,12 +6,12 @@ ghost use Rattle.op_core.specs.Sets as sets;
 ghost use Rattle.op_core.specs.Lists as lists;
 ghost use Rattle.op_core.specs.Loops.Index.{is_missed, is_missed_in};
 
-use crate::chapter::Chapter;
-use crate::op::Op;
-use crate::op_id::OpId;
-use crate::place::find_op;
-use crate::register::Register;
-use crate::search::Search;
+use super::chapter::Chapter;
+use super::register::Register;
+use crate::ids::op_id::OpId;
+use crate::ids::search::Search;
+use crate::lists::place::find_op;
+use crate::operations::op::Op;
 use std::alloc::AllocError;
 
 // Adds what the chapters' registers miss and no operation has. Where that fails, there is one.

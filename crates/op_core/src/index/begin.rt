@@ -7,13 +7,13 @@ ghost use Rattle.op_core.specs.Loops.Turns.{AreTurnsOf, comes, is_called};
 ghost use Rattle.op_core.specs.Loops.Changes.{IsBegun};
 
 use super::change::Aside;
+use super::chapter::Chapter;
 use super::put_in;
+use super::register::Register;
 use super::turns::{Turn, gather_arrived, gather_named, run_len};
-use crate::chapter::Chapter;
 use crate::ids::part_ids;
-use crate::op::Op;
-use crate::register::Register;
-use crate::search::Search;
+use crate::ids::search::Search;
+use crate::operations::op::Op;
 use std::alloc::{AllocError, Global};
 use usfm_ref::Key;
 

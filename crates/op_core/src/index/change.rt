@@ -6,12 +6,12 @@ ghost use Rattle.op_core.specs.Ids.{Id, ids_rise};
 ghost use Rattle.op_core.specs.Sets as sets;
 ghost use Rattle.op_core.specs.Loops.Index.{IsChangeOf, IsRisingChange, among, is_in};
 
+use super::register::Register;
+use crate::ids::op_id::OpId;
+use crate::ids::search::Search;
 use crate::ids::{common_ids, leave_ids, part_ids};
-use crate::op::Op;
-use crate::op_id::OpId;
-use crate::place::is_in;
-use crate::register::Register;
-use crate::search::Search;
+use crate::lists::place::is_in;
+use crate::operations::op::Op;
 use std::alloc::{AllocError, Global};
 use usfm_ref::{Book, Key, Segment};
 

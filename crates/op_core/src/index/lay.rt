@@ -11,13 +11,13 @@ ghost use Rattle.op_core.specs.Loops.Index.{home_of, chapter_of, is_there};
 ghost use Rattle.op_core.specs.Loops.Index.{IsOrderly, begins_above};
 ghost use Rattle.op_core.specs.Loops.Index.{Lays, LaysKeys, Readies};
 
+use super::chapter::Chapter;
+use super::place::{place_chapter, place_register, register_at, registers_of};
 use super::put_in;
+use super::register::Register;
 use super::turns::Turn;
-use crate::chapter::Chapter;
-use crate::merge::move_after;
-use crate::place::{place_chapter, place_register, register_at, registers_of};
-use crate::register::Register;
-use crate::search::Search;
+use crate::ids::search::Search;
+use crate::lists::merge::move_after;
 use std::alloc::{AllocError, Global};
 use usfm_ref::{Key, Segment};
 

@@ -9,12 +9,12 @@ ghost use Rattle.op_core.specs.Loops.Turns.{never_fall, comes, is_called};
 ghost use Rattle.op_core.specs.Loops.Changes.{AreChanges, AllHaveRoom};
 
 use super::change::{Aside, Change};
+use super::chapter::{Chapter, ready_at_key};
 use super::lay::lay;
+use super::place::place_chapter;
 use super::turns::{Turn, gather_arrived, gather_named, run_len};
-use crate::chapter::{Chapter, ready_at_key};
-use crate::op::Op;
-use crate::place::place_chapter;
-use crate::search::Search;
+use crate::ids::search::Search;
+use crate::operations::op::Op;
 use std::alloc::{AllocError, Global};
 use usfm_ref::Segment;
 

@@ -10,9 +10,9 @@ ghost use Rattle.op_core.specs.Loops.Index.{HasRoomIn, IsRisingChange};
 ghost use Rattle.op_core.specs.Loops.Changes.{AllHaveRoom, Settles};
 
 use super::change::Change;
-use crate::chapter::{Chapter, take_at_key};
-use crate::place::place_chapter;
-use crate::search::Search;
+use super::chapter::{Chapter, take_at_key};
+use super::place::place_chapter;
+use crate::ids::search::Search;
 use usfm_ref::Segment;
 
 // Makes each of the changes, which rise by their segments.

@@ -7,10 +7,10 @@ ghost use Rattle.op_core.specs.Ids.{Id, ids_rise};
 ghost use Rattle.op_core.specs.Loops.Index.{among};
 ghost use Rattle.op_core.specs.Loops.Turns.{turn_at, never_fall, comes, is_called, AreTurnsOf};
 
+use crate::ids::op_id::OpId;
+use crate::ids::search::Search;
 use crate::ids::sort_ids;
-use crate::op::Op;
-use crate::op_id::OpId;
-use crate::search::Search;
+use crate::operations::op::Op;
 use std::alloc::{AllocError, Global};
 use std::cmp::Ordering;
 use usfm_ref::Segment;

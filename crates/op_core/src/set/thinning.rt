@@ -6,10 +6,10 @@ ghost use Rattle.op_core.specs.Thinned as thinned;
 ghost use Rattle.op_core.specs.NextIds as next_ids;
 
 use super::OpSet;
+use crate::ids::op_id::OpId;
 use crate::index::leave_past;
-use crate::op::Op;
-use crate::op_id::OpId;
-use crate::place::{leave_text_at, place_last};
+use crate::lists::place::{leave_text_at, place_last};
+use crate::operations::op::Op;
 use std::alloc::{AllocError, Global};
 
 impl OpSet {

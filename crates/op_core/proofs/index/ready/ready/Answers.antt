@@ -2,7 +2,7 @@ use Rattle.std.proofs.Common.{arith, subst, refl, sym, IsTrue, List}
 use Rattle.std.specs.Option.{is_some}
 use Rattle.op_core.specs.Ids.{ids_rise}
 use Rattle.op_core.specs.Loops.Index.{register_at, shown_in, missing_in, among, HasRoomIn, IsAtKey, IsSameBut, IsChangeOf}
-use Rattle.op_core.specs.declared.register.Register.{Register}
+use Rattle.op_core.specs.declared.index.register.Register.{Register}
 use Rattle.op_core.proofs.Registers.{rise}
 use Rattle.op_core.proofs.Chapters.{chapter_there, chapter_was, chapter_changes, now_in, is_at}
 use Rattle.op_core.proofs.IdSets.{if_ok}

@@ -2,7 +2,7 @@ use Rattle.std.proofs.Common.{arith, subst, refl, sym, IsTrue, List}
 use Rattle.usfm_ref.specs.Segments.{segment}
 use Rattle.op_core.specs.Ids.{ids_rise}
 use Rattle.op_core.specs.Loops.Index.{register_at, register_of, shown_in, missing_in, HasRoomIn, IsAtKey, Takes}
-use Rattle.op_core.specs.declared.register.Register.{Register}
+use Rattle.op_core.specs.declared.index.register.Register.{Register}
 use Rattle.op_core.proofs.Registers.{rise}
 use Rattle.op_core.proofs.Chapters.{chapter_there, chapter_was, chapter_changes, is_at}
 use Rattle.op_core.proofs.There.{has_there}
