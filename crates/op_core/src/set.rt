@@ -337,8 +337,8 @@ impl OpSet {
             segment,
             |key| -> bool
                 ensures { result ≡ (is_verse_of segment.entry.now.key.chapter key.now
-                    && not (texts.is_empty
-                    (texts.text_of self.entry.now (segments.segment segment.entry.now.book key.now)))) }
+                    && not (texts.is_empty (texts.text_of self.entry.now
+                    (segments.segment segment.entry.now.book key.now)))) }
             {
                 let own = Segment {
                     book: segment.book,

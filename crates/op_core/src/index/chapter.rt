@@ -91,8 +91,10 @@ pub(crate) fn ready_at_key(
     requires held { IsTrue (sets.rises held.now) }
     requires rising { IsTrue (rises_by key_cmp (λ r. r.key) registers.old.items) }
     requires there { IsTrue (is_some (register_at segment.now.key registers.old.items)) }
-    requires shown { IsTrue (ids_rise (shown_in (register_at segment.now.key registers.old.items))) }
-    requires missing { IsTrue (ids_rise (missing_in (register_at segment.now.key registers.old.items))) }
+    requires shown { IsTrue
+        (ids_rise (shown_in (register_at segment.now.key registers.old.items))) }
+    requires missing { IsTrue
+        (ids_rise (missing_in (register_at segment.now.key registers.old.items))) }
     requires arrived { IsTrue (ids_rise aside.old.arrived.items) }
     requires named { IsTrue (ids_rise aside.old.named.items) }
     ensures same { IsAtKey IsSameBut segment.now.key registers.old.items registers.new.items }
@@ -101,7 +103,8 @@ pub(crate) fn ready_at_key(
         (shown_in (register_at segment.now.key registers.old.items))
         (missing_in (register_at segment.now.key registers.old.items)) c) }
     ensures rising { IfOk result IsRisingChange }
-    ensures room { IfOk result (λ c. HasRoomIn c (register_at segment.now.key registers.new.items)) }
+    ensures room { IfOk result
+        (λ c. HasRoomIn c (register_at segment.now.key registers.new.items)) }
 {
     let at = place_register(registers, segment.key, search);
     registers[at].ready(alloc, held, segment.book, aside, search)

@@ -29,7 +29,8 @@ pub(crate) fn place_chapter(chapters: &[Chapter], segment: &Segment, search: &mu
     let at = place_by(
         chapters,
         |chapter| -> bool
-            ensures { result ≡ is_lt (segment_cmp (home_of chapter.now) (chapter_of segment.entry.now)) }
+            ensures { result
+                ≡ is_lt (segment_cmp (home_of chapter.now) (chapter_of segment.entry.now)) }
         { chapter.order(segment).is_lt() },
         Steps::beside(search.chapter, chapters.len()),
         search,

@@ -36,5 +36,6 @@ pub returns-clause-there : goal.returns-clause-there
 returns-clause-there c =
     let r = c.new-register.result in
     map_ok c.put_in.result
-    (λ p. subst (λ (n : KeyParts). is_there (segment c.args.segment.now.book n) c.put_in.new.chapters.items ≡ true) c.new-register.ensures.key
+    (λ p. subst (λ (n : KeyParts). is_there (segment c.args.segment.now.book n) c.put_in.new.chapters.items ≡ true)
+    c.new-register.ensures.key
     (there_itself (segment c.args.segment.now.book r.key) r c.args.chapters.now.items _ p)) c.put_in.ensures.ok

@@ -11,7 +11,8 @@ pub lay_keys-requires : goal.lay_keys-requires
 lay_keys-requires c =
     let there : registers_of c.args.segment.now c.args.chapters.now.items
     ≡ c.index_mut-chapter.result.now.registers.items = were_there c.args.segment.now c.args.chapters.now.items
-    c.place_chapter-at.result c.requires.rising (rw (← c.deref.ensures.value) c.place_chapter-at.ensures.place) c.index_mut-chapter.result.now (omega arith) c.index_mut-chapter.ensures.value
+    c.place_chapter-at.result c.requires.rising (rw (← c.deref.ensures.value) c.place_chapter-at.ensures.place)
+    c.index_mut-chapter.result.now (omega arith) c.index_mut-chapter.ensures.value
     (sym (c.is_eq.ensures ∙ ap is_eq c.order.ensures) ∙ c.if-is_eq.true) in
     record { rising = ap rise (sym there) ∙ c.requires.registers c.args.segment.now }
 
@@ -19,10 +20,12 @@ pub returns-then-is_eq : goal.returns-then-is_eq
 returns-then-is_eq c =
     let there : registers_of c.args.segment.now c.args.chapters.now.items
     ≡ c.index_mut-chapter.result.now.registers.items = were_there c.args.segment.now c.args.chapters.now.items
-    c.place_chapter-at.result c.requires.rising (rw (← c.deref.ensures.value) c.place_chapter-at.ensures.place) c.index_mut-chapter.result.now (omega arith) c.index_mut-chapter.ensures.value
+    c.place_chapter-at.result c.requires.rising (rw (← c.deref.ensures.value) c.place_chapter-at.ensures.place)
+    c.index_mut-chapter.result.now (omega arith) c.index_mut-chapter.ensures.value
     (sym (c.is_eq.ensures ∙ ap is_eq c.order.ensures) ∙ c.if-is_eq.true) in
     let changes = set_chapter c.args.segment.now c.args.chapters.now.items
-    c.place_chapter-at.result c.requires.rising (rw (← c.deref.ensures.value) c.place_chapter-at.ensures.place) c.index_mut-chapter.result.now (omega arith) c.index_mut-chapter.ensures.value
+    c.place_chapter-at.result c.requires.rising (rw (← c.deref.ensures.value) c.place_chapter-at.ensures.place)
+    c.index_mut-chapter.result.now (omega arith) c.index_mut-chapter.ensures.value
     (sym (c.is_eq.ensures ∙ ap is_eq c.order.ensures) ∙ c.if-is_eq.true) (record {
       book =
           c.index_mut-chapter.result.now.book;

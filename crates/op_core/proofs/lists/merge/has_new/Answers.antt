@@ -10,7 +10,8 @@ pub loop-op-preserved : goal.loop-op-preserved
 loop-op-preserved c =
     let held = c.args.held.now in
     let o = c.op-item.result in
-    let told = looked_up held o c.id.result c.find_near.result c.is_none.result c.id.ensures.id c.find_near.ensures.found c.is_none.ensures in
+    let told = looked_up held o c.id.result c.find_near.result c.is_none.result c.id.ensures.id c.find_near.ensures.found
+    c.is_none.ensures in
     none_more (λ p. is_none (get held p.id)) c.args.new.now c.loop-op.op-index o c.loop-op-test.true c.op-item.is
     (told ∙ c.if-is_none.false) c.loop-op.invariant
 
@@ -18,7 +19,8 @@ pub returns-then-is_none : goal.returns-then-is_none
 returns-then-is_none c =
     let held = c.args.held.now in
     let o = c.op-item.result in
-    let told = looked_up held o c.id.result c.find_near.result c.is_none.result c.id.ensures.id c.find_near.ensures.found c.is_none.ensures in
+    let told = looked_up held o c.id.result c.find_near.result c.is_none.result c.id.ensures.id c.find_near.ensures.found
+    c.is_none.ensures in
     sym (list_any_at (λ p. is_none (get held p.id)) c.args.new.now c.loop-op.op-index o c.loop-op-test.true
     (ap (λ (p : Operation). is_none (get held p.id)) (sym c.op-item.is) ∙ told ∙ c.if-is_none.true))
 
