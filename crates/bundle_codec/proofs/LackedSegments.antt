@@ -1,5 +1,5 @@
 -- The segments of which a thinned operation is lacked, gathered by one walk.
-use Rattle.std.proofs.Common.{◌≡◌, ℕ, Bool, true, false, cond, ◌&&◌, ◌||◌, List, [], ◌∷◌, rules, refl, sym, ap, ◌∙◌}
+use Rattle.std.proofs.Common.{◌≡◌, ℕ, Bool, true, false, cond, not, ◌&&◌, ◌||◌, List, [], ◌∷◌, rules, refl, sym, ap, ◌∙◌}
 use Rattle.std.specs.List.{list_any}
 use Rattle.std.proofs.Math.Bool.{or-false}
 use Rattle.std.specs.declared.cmp.Ordering.{Ordering}
@@ -8,14 +8,15 @@ use Rattle.std.specs.BTreeSet.{BTreeSet, contains}
 use Rattle.std.specs.BTreeMap.{is_at}
 use Rattle.usfm_ref.specs.Books.{book_cmp}
 use Rattle.usfm_ref.specs.Keys.{KeyParts, key_cmp}
-use Rattle.usfm_ref.specs.Segments.{Segment}
+use Rattle.usfm_ref.specs.Segments.{segment}
+use Rattle.usfm_ref.specs.declared.segment.Segment.{Segment}
 use Rattle.usfm_ref.specs.contracts.book.BookOrd.TheImpl as books
 use Rattle.usfm_ref.specs.contracts.key.KeyOrd.TheImpl as keys
 use Rattle.usfm_ref.proofs.Orders.{same_segment-cmp}
 use Rattle.op_core.specs.Ids.{Id}
 use Rattle.op_core.specs.Ops.{Operation, in_segment, is_thinned}
-use Rattle.op_core.specs.Thinned.{is_lacked, lacks_thinned}
-use Rattle.bundle_codec.specs.Summaries.{has_segment}
+use Rattle.op_core.specs.Thinned.{is_lacked, lacks_thinned, is_sent}
+use Rattle.bundle_codec.specs.Summaries.{NameRanges, covers, has_segment}
 
 -- the order of books with keys
 abbrev pub pair_cmp : List ℕ × KeyParts → List ℕ × KeyParts → Ordering
@@ -88,3 +89,12 @@ all_gathered knows all it segments end so_far g =
     sym (or-false (has_segment segments g))
     ∙ ap (λ (ops : List Operation). has_segment segments g || lacks_thinned ops knows g) (sym end)
     ∙ so_far g
+
+-- whether an operation of this id and segment is sent, as it is tested
+pub asked : (all : List Operation) (summary coverage : List NameRanges) (whole : Segments) (o : Operation) (sent : Bool) (id : Id)
+    {book : List ℕ} {key : KeyParts} → id ≡ o.id → book ≡ o.segment.book → key ≡ o.segment.key → coverage ≡ summary
+    → ((g : Segment) → has_segment whole g ≡ lacks_thinned all (covers summary) g)
+    → sent ≡ (not (covers coverage id) || has_segment whole (segment book key)) → is_sent all (covers summary) o ≡ sent
+asked all summary coverage whole o sent id of_id of_book of_key same lacks e =
+    sym (e ∙ (λ i. not (covers (same i) (of_id i)) || has_segment whole (segment (of_book i) (of_key i)))
+    ∙ ap (λ b. not (covers summary o.id) || b) (lacks o.segment))

@@ -4,39 +4,39 @@ use Rattle.std.proofs.lemmas.List.{drop_more, drop_all}
 use Rattle.std.proofs.lemmas.Bool.{eq-eqb, ne_eqb}
 use Rattle.bundle_codec.specs.declared.fault.BundleFault.{BundleFault}
 use Rattle.bundle_codec.specs.declared.fault.BundleFault.TheVariants.{Truncated}
-use Rattle.bundle_codec.specs.Reading.{◌>>=◌, any, byte_at, exactly_at, many_at, after}
+use Rattle.bundle_codec.specs.Reading.{◌>>=◌, any, byte_at, exactly_at, many_at, ahead}
 use Rattle.bundle_codec.proofs.Readers.{Reader, ok_is}
 
-after_cons : {A : Type 0} (x : A) (r : Result (List A × List ℕ) BundleFault) → after (r >>= λ o. Ok (x ∷ o.0, o.1)) ≡ after r
+after_cons : {A : Type 0} (x : A) (r : Result (List A × List ℕ) BundleFault) → ahead (r >>= λ o. Ok (x ∷ o.0, o.1)) ≡ ahead r
 after_cons x (Ok o) = refl
 after_cons x (Err f) = refl
 
 pub goes_on : {A S : Type 0} (one : S → Reader A) (next : S → A → S) (n i : ℕ) (s : S) (bytes : List ℕ) (x : A) (left : List ℕ)
     (total : Result (List ℕ) BundleFault) → i < n → one s bytes ≡ Ok (x, left)
-    → after (many_at one next (n - i) s bytes) ≡ total → after (many_at one next (n - (i + 1)) (next s x) left) ≡ total
+    → ahead (many_at one next (n - i) s bytes) ≡ total → ahead (many_at one next (n - (i + 1)) (next s x) left) ≡ total
 unfolding many_at
 goes_on one next n i s bytes x left total lt h so_far =
     let k : n - i ≡ suc (n - (i + 1)) = omega arith in
-    let at : after (many_at one next (n - i) s bytes) ≡ after (many_at one next (n - (i + 1)) (next s x) left) =
+    let at : ahead (many_at one next (n - i) s bytes) ≡ ahead (many_at one next (n - (i + 1)) (next s x) left) =
     rw (k, h) (after_cons x (many_at one next (n - (i + 1)) (next s x) left)) in
     sym at ∙ so_far
 
 pub fails : {A S : Type 0} (one : S → Reader A) (next : S → A → S) (n i : ℕ) (s : S) (bytes : List ℕ) (f : BundleFault)
     (total : Result (List ℕ) BundleFault) → i < n → one s bytes ≡ Err f
-    → after (many_at one next (n - i) s bytes) ≡ total → total ≡ Err f
+    → ahead (many_at one next (n - i) s bytes) ≡ total → total ≡ Err f
 unfolding many_at
 fails one next n i s bytes f total lt h so_far =
     let k : n - i ≡ suc (n - (i + 1)) = omega arith in
-    let at : after (many_at one next (n - i) s bytes) ≡ Err f = rw (k, h) refl in
+    let at : ahead (many_at one next (n - i) s bytes) ≡ Err f = rw (k, h) refl in
     sym so_far ∙ at
 
 pub is_done : {A S : Type 0} (one : S → Reader A) (next : S → A → S) (n i : ℕ) (s : S) (bytes : List ℕ)
     (total : Result (List ℕ) BundleFault) → n ≤ i
-    → after (many_at one next (n - i) s bytes) ≡ total → total ≡ Ok bytes
+    → ahead (many_at one next (n - i) s bytes) ≡ total → total ≡ Ok bytes
 unfolding many_at
 is_done one next n i s bytes total le so_far =
     let k : n - i ≡ 0 = omega arith in
-    let at : after (many_at one next (n - i) s bytes) ≡ Ok bytes = rw k refl in
+    let at : ahead (many_at one next (n - i) s bytes) ≡ Ok bytes = rw k refl in
     sym so_far ∙ at
 
 -- ---- given bytes, one by one

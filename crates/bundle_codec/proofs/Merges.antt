@@ -16,7 +16,7 @@ use Rattle.op_core.proofs.SideBySide.{clash_none, clash_less, clash_greater, cla
 use Rattle.op_core.proofs.Fronts.{join_none, join_less, join_greater, join_tied}
 use Rattle.bundle_codec.specs.Spelling.{operation}
 use Rattle.bundle_codec.specs.Views.{lent}
-use Rattle.bundle_codec.specs.Loops.Merging.{GoesPast, Meets, Leaves, Steps}
+use Rattle.bundle_codec.specs.Loops.Merging.{GoesPast, Meets, Leaves, TakesFirst}
 use Rattle.bundle_codec.proofs.OneSpelling.{takes_bytes}
 
 -- the rest of a list, by its two parts in two words
@@ -34,7 +34,7 @@ module _ (ops rest : List Operation) (x : Operation) (xs : List Operation) (e : 
 
 -- where the walk on the other side is at its end
 pub steps_alone : (xs ys xs' : List Operation) (r : Option Operation) → ys ≡ [] → rises xs ≡ true → rises ys ≡ true → GoesPast xs xs' r
-    → Steps xs ys xs' ys r
+    → TakesFirst xs ys xs' ys r
 steps_alone xs ys xs' None e hx hy g = (g.0, e)
 steps_alone xs ys xs' (Some o) e hx hy g = record {
   union = (λ i. join (g i) (e i)) ∙ ap (λ (zs : List Operation). o ∷ join xs' zs) (sym e);
@@ -45,7 +45,7 @@ steps_alone xs ys xs' (Some o) e hx hy g = record {
 }
 
 pub steps_other : (xs ys ys' : List Operation) (r : Option Operation) → xs ≡ [] → rises xs ≡ true → rises ys ≡ true → GoesPast ys ys' r
-    → Steps xs ys xs ys' r
+    → TakesFirst xs ys xs ys' r
 steps_other xs ys ys' None e hx hy g = (e, g.0)
 steps_other xs ys ys' (Some o) e hx hy g =
     let h : rises (o ∷ ys') ≡ true = ap rises (sym g) ∙ hy in
@@ -93,8 +93,8 @@ module _ (xs ys ps qs : List Operation) (x y : Operation) (ex : xs ≡ x ∷ ps)
   ry : rises (y ∷ qs) ≡ true
   ry = ap rises (sym ey) ∙ hy
 
-  pub steps_less : (xs' : List Operation) (r : Option Operation) → id_cmp x.id y.id ≡ Less → GoesPast xs xs' r → Steps xs ys xs' ys r
-  steps_less xs' r e g = passed xs xs' x ps ex r (Steps xs ys xs' ys) g (λ f. record {
+  pub steps_less : (xs' : List Operation) (r : Option Operation) → id_cmp x.id y.id ≡ Less → GoesPast xs xs' r → TakesFirst xs ys xs' ys r
+  steps_less xs' r e g = passed xs xs' x ps ex r (TakesFirst xs ys xs' ys) g (λ f. record {
     union = (λ i. join (ex i) (ey i)) ∙ join_less x y ps qs rx ry e ∙ (λ i. x ∷ join (sym f i) (sym ey i));
     same_clash = (λ i. clash (f i) (ey i)) ∙ clash_less x y ps qs rx ry e ∙ (λ i. clash (sym ex i) (sym ey i));
     left = ap rises f ∙ (rises_parts x ps rx).1;
@@ -102,8 +102,9 @@ module _ (xs ys ps qs : List Operation) (x y : Operation) (ex : xs ≡ x ∷ ps)
     fewer = omega (arith, ap length ex, ap length f);
   })
 
-  pub steps_greater : (ys' : List Operation) (r : Option Operation) → id_cmp x.id y.id ≡ Greater → GoesPast ys ys' r → Steps xs ys xs ys' r
-  steps_greater ys' r e g = passed ys ys' y qs ey r (Steps xs ys xs ys') g (λ f. record {
+  pub steps_greater : (ys' : List Operation) (r : Option Operation) → id_cmp x.id y.id ≡ Greater → GoesPast ys ys' r
+      → TakesFirst xs ys xs ys' r
+  steps_greater ys' r e g = passed ys ys' y qs ey r (TakesFirst xs ys xs ys') g (λ f. record {
     union = (λ i. join (ex i) (ey i)) ∙ join_greater x y ps qs rx ry e ∙ (λ i. y ∷ join (sym ex i) (sym f i));
     same_clash = (λ i. clash (ex i) (f i)) ∙ clash_greater x y ps qs rx ry e ∙ (λ i. clash (sym ex i) (sym ey i));
     left = hx;
@@ -112,7 +113,7 @@ module _ (xs ys ps qs : List Operation) (x y : Operation) (ex : xs ≡ x ∷ ps)
   })
 
   pub steps_tied : (xs' ys' : List Operation) (r : Option Operation) → id_cmp x.id y.id ≡ Equal → agree x y ≡ true → Meets xs ys xs' ys' r
-      → Steps xs ys xs' ys' r
+      → TakesFirst xs ys xs' ys' r
   steps_tied xs' ys' None e same (inl h) = absurd (not_at_end x ps xs ex h)
   steps_tied xs' ys' None e same (inr h) = absurd (not_at_end y qs ys ey h)
   steps_tied xs' ys' (Some both) e same m =

@@ -1,12 +1,12 @@
 -- The operations of a set that lie outside a summary, and those that go with them.
 use Rattle.std.proofs.Common.{◌≡◌, ℕ, suc, ◌+◌, ◌-◌, ◌≤◌, Bool, true, false, cond, ◌&&◌, List, [], ◌∷◌, ◌++◌, length, filter, drop, sym, ap, ◌∙◌, arith}
-use Rattle.std.proofs.Math.Bool.{and-true}
+use Rattle.std.proofs.Math.Bool.{and-true, and_assoc}
 use Rattle.std.specs.Int.{w64, to_be_bytes}
 use Rattle.std.specs.List.{AllByRecursion, flat_map}
-use Rattle.std.proofs.lemmas.List.{append-nil}
+use Rattle.std.proofs.lemmas.List.{append-nil, append_assoc}
 use Rattle.usfm_ref.proofs.Sorted.{rises_filter}
 use Rattle.op_core.specs.Ids.{id_cmp}
-use Rattle.op_core.specs.Ops.{Operation}
+use Rattle.op_core.specs.Ops.{Operation, is_full}
 use Rattle.op_core.specs.Sets.{IsOpSet}
 use Rattle.op_core.specs.Thinned.{all_full, is_sent}
 use Rattle.op_core.proofs.Rising.{id_total}
@@ -52,6 +52,23 @@ module _ (p : Operation → Bool) (all it rest : List Operation) (o : Operation)
       written = ap (λ (ops : List Operation). bytes ++ flat_map operation ops) (sym same) ∙ w.written;
       format = ap (λ (ops : List Operation). full && all_full ops) (sym same) ∙ w.format;
       counted = omega (arith, ap length same, longer, w.counted, counted_some);
+    }
+
+  module _ (on : p o ≡ true) where
+    with_it : filter p it ≡ o ∷ filter p rest
+    with_it = ap (filter p) next ∙ ap (λ b. cond b (o ∷ filter p rest) (filter p rest)) on
+
+    pub writes_on : (now : List ℕ) (still : Bool) → now ≡ bytes ++ operation o → still ≡ (full && is_full o)
+        → Written p all rest now still count
+    writes_on now still e f = record {
+      written =
+          ap (λ (b : List ℕ). b ++ flat_map operation (filter p rest)) e
+          ∙ append_assoc bytes (operation o) (flat_map operation (filter p rest))
+          ∙ ap (λ (ops : List Operation). bytes ++ flat_map operation ops) (sym with_it) ∙ w.written;
+      format =
+          ap (λ b. b && all_full (filter p rest)) f ∙ and_assoc full (is_full o) (all_full (filter p rest))
+          ∙ ap (λ (ops : List Operation). full && all_full ops) (sym with_it) ∙ w.format;
+      counted = omega (arith, ap length with_it, longer, w.counted);
     }
 
 -- at the end all that pass are written

@@ -10,7 +10,7 @@ use Rattle.op_core.specs.Thinned.{is_legal, all_full}
 use Rattle.bundle_codec.specs.declared.fault.BundleFault.{BundleFault}
 use Rattle.bundle_codec.specs.declared.fault.BundleFault.TheVariants.{Memory, Magic, Truncated, NotRising, BadId, BadKey, BadReplaced, BadTag, NotUtf8, BadText, Unsupported}
 use Rattle.bundle_codec.specs.Spelling.{id, operation, bundle}
-use Rattle.bundle_codec.specs.Reading.{AreBytes, ◌>>=◌, any, number_at, many_at, id_at, named_at, after_id, operation_at, after_operation, operations_at, counted_operations_at, fields_at, judge_thinned, bundle_at, RefusesBundle, after}
+use Rattle.bundle_codec.specs.Reading.{AreBytes, ◌>>=◌, any, number_at, many_at, id_at, named_at, after_id, operation_at, after_operation, operations_at, counted_operations_at, fields_at, judge_thinned, bundle_at, RefusesBundle, ahead}
 use Rattle.bundle_codec.specs.Views.{each_at, found, each_id_at, each_operation_at, operations_in, SpellsSet, Spells}
 use Rattle.bundle_codec.proofs.Readers.{Each, Reader, Reads, many_reads, bind_ok, ok_is}
 use Rattle.bundle_codec.proofs.FieldReaders.{number_reads, wide64}
@@ -59,7 +59,7 @@ module _ {A S : Type 0} (one : S → Reader A) (next : S → A → S) (other : R
       let t = (many_reads one next spell Fits reads n s).takes bytes xs rest fits e in
       ap (each_at other n) t.0.parts ∙ each_again n s xs rest t.1.0 t.1.1
 
-after_ok : {A : Type 0} (r : Result (A × List ℕ) BundleFault) (rest : List ℕ) → after r ≡ Ok rest → (x : A) × (r ≡ Ok (x, rest))
+after_ok : {A : Type 0} (r : Result (A × List ℕ) BundleFault) (rest : List ℕ) → ahead r ≡ Ok rest → (x : A) × (r ≡ Ok (x, rest))
 after_ok r rest e =
     let b = bind_ok r (λ x. Ok x.1) rest e in
     let is : b.0.1 ≡ rest = ok_is b.0.1 rest b.2 in
@@ -72,7 +72,7 @@ found_is r xs rest e = ap found e
 -- ---- replaced ids
 
 pub replaced_seen : (bad : BundleFault) (own : Id) (n : ℕ) (bytes rest : List ℕ) → AreBytes bytes
-    → after (many_at (named_at bad own) after_id n None bytes) ≡ Ok rest
+    → ahead (many_at (named_at bad own) after_id n None bytes) ≡ Ok rest
     → many_at (named_at bad own) after_id n None bytes ≡ Ok (found (each_id_at n bytes), rest)
 replaced_seen bad own n bytes rest fits e =
     let r = after_ok (many_at (named_at bad own) after_id n None bytes) rest e in
@@ -91,7 +91,7 @@ pub record Parts (full : Bool) (bytes : List ℕ) (n : ℕ) (operations left : L
   pub set : IsSpelledIn full ops
 
 pub counted_parts : (full : Bool) (bytes : List ℕ) (n : ℕ) (operations left : List ℕ) → AreBytes bytes
-    → number_at w64 any Truncated bytes ≡ Ok (n, operations) → after (operations_at full n (1, None) operations) ≡ Ok left
+    → number_at w64 any Truncated bytes ≡ Ok (n, operations) → ahead (operations_at full n (1, None) operations) ≡ Ok left
     → Parts full bytes n operations left
 unfolding counted_operations_at
 counted_parts full bytes n operations left fits first second =

@@ -14,7 +14,7 @@ use Rattle.op_core.specs.Ops.{Operation}
 use Rattle.bundle_codec.specs.declared.fault.BundleFault.{BundleFault}
 use Rattle.bundle_codec.specs.declared.fault.BundleFault.TheVariants.{Truncated, BadKey}
 use Rattle.bundle_codec.specs.Spelling.{id, key, ids, body, operation}
-use Rattle.bundle_codec.specs.Reading.{AreBytes, ◌>>=◌, any, byte_at, block_at, number_at, many_at, id_at, key_at, body_at, may_be_utf8, operation_at, after}
+use Rattle.bundle_codec.specs.Reading.{AreBytes, ◌>>=◌, any, byte_at, block_at, number_at, many_at, id_at, key_at, body_at, may_be_utf8, operation_at, ahead}
 use Rattle.bundle_codec.specs.Views.{each_at, found, each_id_at, ids_at}
 use Rattle.bundle_codec.proofs.Readers.{Each, Reader, Reads, step, reads_as, many_reads, ok_is}
 use Rattle.bundle_codec.proofs.FieldReaders.{block_reads, number_reads, wide64}
@@ -108,15 +108,15 @@ module _ (bytes : List ℕ) (fine : AreBytes bytes) (h : IsOk (id_at Truncated b
 
 -- ---- several values, each as if it stood alone
 
-ok_after : {A : Type 0} (r : Result (A × List ℕ) BundleFault) → IsOk (after r) → IsOk r
+ok_after : {A : Type 0} (r : Result (A × List ℕ) BundleFault) → IsOk (ahead r) → IsOk r
 ok_after (Ok x) h = refl
 ok_after (Err e) h = absurd cc
 
-pub after_is_ok : {A : Type 0} (r : Result (A × List ℕ) BundleFault) → IsOk r → IsOk (after r)
+pub after_is_ok : {A : Type 0} (r : Result (A × List ℕ) BundleFault) → IsOk r → IsOk (ahead r)
 after_is_ok (Ok x) h = refl
 after_is_ok (Err e) h = absurd cc
 
-pub found_after : {A : Type 0} (r : Result (List A × List ℕ) BundleFault) (left : List ℕ) → after r ≡ Ok left → r ≡ Ok (found r, left)
+pub found_after : {A : Type 0} (r : Result (List A × List ℕ) BundleFault) (left : List ℕ) → ahead r ≡ Ok left → r ≡ Ok (found r, left)
 found_after (Ok x) left e = ap (λ (w : List ℕ). Ok (x.0, w)) (ok_is x.1 left e)
 found_after (Err f) left e = cc
 
@@ -161,7 +161,7 @@ module _ {A : Type 0} (one : Reader A) where
 
   -- a loop over some values, after i of them
   pub loop_one : (n i : ℕ) (bytes : List ℕ) (total : Result (List ℕ) BundleFault) → i < n → IsOk total
-      → after (each_at one (n - i) bytes) ≡ total → IsOk (one bytes)
+      → ahead (each_at one (n - i) bytes) ≡ total → IsOk (one bytes)
   loop_one n i bytes total lt h so_far =
       each_one (n - i) bytes (omega arith) (ok_after (each_at one (n - i) bytes) (subst IsOk (sym so_far) h))
 
@@ -177,7 +177,7 @@ module _ (bytes : List ℕ) (h : IsOk (ids_at bytes)) where
     unfolding ids_at
     ids_ok = subst (λ (r : Result _ BundleFault). IsOk (r >>= λ count. each_id_at count.0 count.1)) e h
 
-    pub ids_are : (left : List ℕ) → after (each_id_at n rest) ≡ Ok left → ids_at bytes ≡ Ok (found (each_id_at n rest), left)
+    pub ids_are : (left : List ℕ) → ahead (each_id_at n rest) ≡ Ok left → ids_at bytes ≡ Ok (found (each_id_at n rest), left)
     unfolding ids_at
     ids_are left a = ap (λ r. r >>= λ count. each_id_at count.0 count.1) e ∙ found_after (each_id_at n rest) left a
 

@@ -7,7 +7,7 @@ use Rattle.std.proofs.lemmas.Bool.{eqb-true, false≢true}
 use Rattle.std.proofs.lemmas.List.{append-nil, length-append, drop_more}
 use Rattle.bundle_codec.specs.declared.fault.BundleFault.{BundleFault}
 use Rattle.bundle_codec.specs.declared.summaries.range.NumberRange.{NumberRange}
-use Rattle.bundle_codec.specs.Reading.{AreBytes, after}
+use Rattle.bundle_codec.specs.Reading.{AreBytes, ahead}
 use Rattle.bundle_codec.specs.Summaries.{NameRanges, IsSummary, SpellsSummary, summary_magic, range, name_ranges, summary}
 use Rattle.bundle_codec.specs.SummaryReading.{summary_at, names_alone, read_whole}
 use Rattle.bundle_codec.proofs.Readers.{ok_is}
@@ -71,27 +71,27 @@ read_is bytes fits s rest none e =
     (t.1.0, t.0.parts ∙ ap (λ (w : List ℕ). summary s ++ w) none ∙ append-nil (summary s))
 
 -- a reading that is at its end
-pub some_names : (bytes : List ℕ) → AreBytes bytes → (rest : List ℕ) → rest ≡ [] → after (summary_at bytes) ≡ Ok rest → SpellsSummary bytes
+pub some_names : (bytes : List ℕ) → AreBytes bytes → (rest : List ℕ) → rest ≡ [] → ahead (summary_at bytes) ≡ Ok rest → SpellsSummary bytes
 some_names bytes fits rest none e = by (summary_at bytes) refl e
   where
-    by : (r : Result (List NameRanges × List ℕ) BundleFault) → summary_at bytes ≡ r → after r ≡ Ok rest → SpellsSummary bytes
+    by : (r : Result (List NameRanges × List ℕ) BundleFault) → summary_at bytes ≡ r → ahead r ≡ Ok rest → SpellsSummary bytes
     by (Ok x) h a =
         let t = read_is bytes fits x.0 x.1 (ok_is x.1 rest a ∙ none) h in
         record { names = x.0; form = t.0; spelled = t.1 }
     by (Err f) h a = absurd cc
 
 -- bytes that are refused are no summary
-pub none_refused : (bytes : List ℕ) → length bytes < 2 ^ 64 → (f : BundleFault) → after (summary_at bytes) ≡ Err f → SpellsSummary bytes → ⊥
-none_refused bytes short f e h = let read = ap after (spelled_read bytes short h) in absurd cc
+pub none_refused : (bytes : List ℕ) → length bytes < 2 ^ 64 → (f : BundleFault) → ahead (summary_at bytes) ≡ Err f → SpellsSummary bytes → ⊥
+none_refused bytes short f e h = let read = ap ahead (spelled_read bytes short h) in absurd cc
 
 -- nor are those that go on
-pub none_followed : (bytes : List ℕ) → length bytes < 2 ^ 64 → (rest : List ℕ) → after (summary_at bytes) ≡ Ok rest → rest ≢ []
+pub none_followed : (bytes : List ℕ) → length bytes < 2 ^ 64 → (rest : List ℕ) → ahead (summary_at bytes) ≡ Ok rest → rest ≢ []
     → SpellsSummary bytes → ⊥
-none_followed bytes short rest e some h = some (ok_is rest [] (sym e ∙ ap after (spelled_read bytes short h)))
+none_followed bytes short rest e some h = some (ok_is rest [] (sym e ∙ ap ahead (spelled_read bytes short h)))
 
 -- ---- as a whole reading says it
 
-pub read_fails : (r : Result (List NameRanges × List ℕ) BundleFault) (f : BundleFault) → after r ≡ Err f → read_whole r ≡ None
+pub read_fails : (r : Result (List NameRanges × List ℕ) BundleFault) (f : BundleFault) → ahead r ≡ Err f → read_whole r ≡ None
 read_fails (Ok x) f e = absurd cc
 read_fails (Err g) f e = refl
 
@@ -99,11 +99,11 @@ alone_none : (names : List NameRanges) (rest : List ℕ) → rest ≢ [] → nam
 alone_none names [] some = absurd (some refl)
 alone_none names (b ∷ rest) some = refl
 
-pub read_goes_on : (r : Result (List NameRanges × List ℕ) BundleFault) (rest : List ℕ) → after r ≡ Ok rest → rest ≢ [] → read_whole r ≡ None
+pub read_goes_on : (r : Result (List NameRanges × List ℕ) BundleFault) (rest : List ℕ) → ahead r ≡ Ok rest → rest ≢ [] → read_whole r ≡ None
 read_goes_on (Ok x) rest e some = alone_none x.0 x.1 (λ none. some (sym (ok_is x.1 rest e) ∙ none))
 read_goes_on (Err g) rest e some = refl
 
-pub read_ends : (r : Result (List NameRanges × List ℕ) BundleFault) (rest : List ℕ) → after r ≡ Ok rest → rest ≡ [] → IsSome (read_whole r)
+pub read_ends : (r : Result (List NameRanges × List ℕ) BundleFault) (rest : List ℕ) → ahead r ≡ Ok rest → rest ≡ [] → IsSome (read_whole r)
 read_ends (Ok x) rest e none = ap (λ (w : List ℕ). is_some (names_alone x.0 w)) (ok_is x.1 rest e ∙ none)
 read_ends (Err g) rest e none = absurd cc
 

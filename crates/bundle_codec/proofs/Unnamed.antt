@@ -28,12 +28,12 @@ cond_same false x = refl
 
 -- ---- the thinned operations, one by one
 
-abbrev place_of : Operation → Place
-place_of o = (o.segment.book, o.segment.key)
+abbrev segment_at : Operation → Place
+segment_at o = (o.segment.book, o.segment.key)
 
 -- what an id has after one operation more
 abbrev with_op : Operation → Id → Option Place → Option Place
-with_op o q v = cond (same_id q o.id && not (is_full o)) (Some (place_of o)) v
+with_op o q v = cond (same_id q o.id && not (is_full o)) (Some (segment_at o)) v
 
 -- what an id has after operations more
 abbrev pub with_ops : List Operation → Id → Option Place → Option Place
@@ -47,13 +47,13 @@ with_none (o ∷ ops) q v e = by (same_id q o.id) refl e (λ w g. with_none ops 
     by : (b : Bool) → same_id q o.id ≡ b → cond b (Some o) (get ops q) ≡ None
         → ((w : Option Place) → get ops q ≡ None → with_ops ops q w ≡ w) → with_ops ops q (with_op o q v) ≡ v
     by true h g on = absurd cc
-    by false h g on = on (with_op o q v) g ∙ ap (λ b. cond (b && not (is_full o)) (Some (place_of o)) v) h
+    by false h g on = on (with_op o q v) g ∙ ap (λ b. cond (b && not (is_full o)) (Some (segment_at o)) v) h
 
 with_held : (ops : List Operation) (q : Id) → rises ops ≡ true → with_ops ops q None ≡ thinned_place (get ops q)
 with_held [] q h = refl
 with_held (o ∷ ops) q h = by (same_id q o.id) refl (with_held ops q (rises_parts o ops h).1)
   where
-    one : (b : Bool) → is_full o ≡ b → cond (not b) (Some (place_of o)) None ≡ cond b None (Some (place_of o))
+    one : (b : Bool) → is_full o ≡ b → cond (not b) (Some (segment_at o)) None ≡ cond b None (Some (segment_at o))
     one true e = refl
     one false e = refl
 
@@ -62,8 +62,8 @@ with_held (o ∷ ops) q h = by (same_id q o.id) refl (with_held ops q (rises_par
     by true e on =
         with_none ops q (with_op o q None)
         (ap (get ops) (id_from_same q o.id e) ∙ get_above o.id ops (rises_parts o ops h).0)
-        ∙ ap (λ b. cond (b && not (is_full o)) (Some (place_of o)) None) e ∙ one (is_full o) refl
-    by false e on = ap (λ b. with_ops ops q (cond (b && not (is_full o)) (Some (place_of o)) None)) e ∙ on
+        ∙ ap (λ b. cond (b && not (is_full o)) (Some (segment_at o)) None) e ∙ one (is_full o) refl
+    by false e on = ap (λ b. with_ops ops q (cond (b && not (is_full o)) (Some (segment_at o)) None)) e ∙ on
 
 -- So far a map has the thinned ones of those that were passed; of full operations full ones are left.
 pub record SoFarThinned (ops rest : List Operation) (m : Places) : Type 0 where
@@ -81,8 +81,8 @@ module _ (ops it rest : List Operation) (o : Operation) (m : Places) (next : it 
   passes_full f = record {
     values = λ q.
         ap (with_ops rest q)
-        (sym (ap (λ b. cond (same_id q o.id && not b) (Some (place_of o)) (value_at id_cmp m q)) f
-        ∙ ap (λ b. cond b (Some (place_of o)) (value_at id_cmp m q)) (and-false (same_id q o.id))))
+        (sym (ap (λ b. cond (same_id q o.id && not b) (Some (segment_at o)) (value_at id_cmp m q)) f
+        ∙ ap (λ b. cond b (Some (segment_at o)) (value_at id_cmp m q)) (and-false (same_id q o.id))))
         ∙ values_on q;
     fulls = λ h. (fulls_on h).1;
   }
@@ -96,12 +96,12 @@ module _ (ops it rest : List Operation) (o : Operation) (m : Places) (next : it 
         by true e = sym (fulls_on e).0 ∙ f
 
     pub passes_thinned : (n : Places)
-        → ((q : Id) → value_at id_cmp n q ≡ cond (is_at (id_cmp o.id) q) (Some (place_of o)) (value_at id_cmp m q))
+        → ((q : Id) → value_at id_cmp n q ≡ cond (is_at (id_cmp o.id) q) (Some (segment_at o)) (value_at id_cmp m q))
         → SoFarThinned ops rest n
     passes_thinned n new = record {
       values = λ q.
           ap (with_ops rest q)
-          (new q ∙ ap (λ b. cond b (Some (place_of o)) (value_at id_cmp m q)) (same_key q o.id ∙ thinned_too (same_id q o.id)))
+          (new q ∙ ap (λ b. cond b (Some (segment_at o)) (value_at id_cmp m q)) (same_key q o.id ∙ thinned_too (same_id q o.id)))
           ∙ values_on q;
       fulls = λ h. (fulls_on h).1;
     }
@@ -135,7 +135,7 @@ no_value m e q = nothing m.entries e
 thinned_full : (o : Operation) → thinned_place (Some o) ≡ None → is_full o ≡ true
 thinned_full o e = by (is_full o) refl e
   where
-    by : (b : Bool) → is_full o ≡ b → cond b None (Some (place_of o)) ≡ None → b ≡ true
+    by : (b : Bool) → is_full o ≡ b → cond b None (Some (segment_at o)) ≡ None → b ≡ true
     by true f g = refl
     by false f g = absurd cc
 
@@ -157,7 +157,7 @@ module _ (ops : List Operation) (m : Places) (h : rises ops ≡ true) (holds : H
         where
           on : (b : Bool) → (is_full o ≡ true) × (all_full xs ≡ true) → (all_full xs ≡ true → thinned_place (get xs q) ≡ None)
               → thinned_place (cond b (Some o) (get xs q)) ≡ None
-          on true p rest = ap (λ b. cond b None (Some (place_of o))) p.0
+          on true p rest = ap (λ b. cond b None (Some (segment_at o))) p.0
           on false p rest = rest p.1
 
   pub some_thinned : (length m.entries ≡ 0 → ⊥) → all_full ops ≡ false
@@ -252,12 +252,12 @@ module _ (ops : List Operation) (m n : Places) (h : rises ops ≡ true) (holds :
   is_left : (o : Operation) → get ops o.id ≡ Some o → is_some (value_at id_cmp n o.id) ≡ not (is_full o || is_past ops o)
   is_left o g = ap is_some (leaves o.id ∙ ap (left_of ops o.id) (holds o.id ∙ ap thinned_place g)) ∙ by (is_full o) refl
     where
-      left : (b : Bool) → is_some (cond b None (Some (place_of o))) ≡ not b
+      left : (b : Bool) → is_some (cond b None (Some (segment_at o))) ≡ not b
       left true = refl
       left false = refl
 
       by : (b : Bool) → is_full o ≡ b
-          → is_some (left_of ops o.id (cond b None (Some (place_of o)))) ≡ not (b || is_past ops o)
+          → is_some (left_of ops o.id (cond b None (Some (segment_at o)))) ≡ not (b || is_past ops o)
       by true e = ap is_some (cond_same (list_any (is_naming o.id None) ops) None)
       by false e = left (is_past ops o)
 

@@ -280,5 +280,5 @@ RefusesBundle bytes Memory = TakesMemory bytes
 RefusesBundle bytes fault = bundle_at bytes ≡ Err fault
 
 -- the bytes after what was read
-abbrev pub after : {A : Type 0} → Result (A × List ℕ) BundleFault → Result (List ℕ) BundleFault
-after read = read >>= λ x. Ok x.1
+abbrev pub ahead : {A : Type 0} → Result (A × List ℕ) BundleFault → Result (List ℕ) BundleFault
+ahead read = read >>= λ x. Ok x.1

@@ -7,7 +7,7 @@ use Rattle.std.specs.Ordering.{ordering_then}
 use Rattle.std.specs.BTreeSet.{BTreeSet, contains}
 use Rattle.usfm_ref.specs.Books.{same_bytes, book_cmp}
 use Rattle.usfm_ref.specs.Keys.{KeyParts, key_cmp}
-use Rattle.usfm_ref.specs.Segments.{Segment}
+use Rattle.usfm_ref.specs.declared.segment.Segment.{Segment}
 use Rattle.usfm_ref.specs.Rising.{rises_by, rising}
 use Rattle.op_core.specs.Names.{is_name, name_cmp}
 use Rattle.op_core.specs.Ids.{Id, last_number}

@@ -9,10 +9,10 @@ use Rattle.op_core.specs.Sets.{IsOpSet}
 use Rattle.op_core.specs.Thinned.{is_legal, all_full}
 use Rattle.bundle_codec.specs.declared.fault.BundleFault.{BundleFault}
 use Rattle.bundle_codec.specs.declared.fault.BundleFault.TheVariants.{Truncated}
-use Rattle.bundle_codec.specs.declared.ids.IdView.{IdView}
-use Rattle.bundle_codec.specs.declared.ids.IdList.{IdList}
-use Rattle.bundle_codec.specs.declared.keys.KeyView.{KeyView}
-use Rattle.bundle_codec.specs.declared.operation.OpFields.{OpFields}
+use Rattle.bundle_codec.specs.declared.judging.ids.IdView.{IdView}
+use Rattle.bundle_codec.specs.declared.judging.ids.IdList.{IdList}
+use Rattle.bundle_codec.specs.declared.judging.keys.KeyView.{KeyView}
+use Rattle.bundle_codec.specs.declared.judging.operation.OpFields.{OpFields}
 use Rattle.usfm_ref.specs.Keys.{KeyParts}
 use Rattle.bundle_codec.specs.Spelling.{operation}
 use Rattle.bundle_codec.specs.Reading.{◌>>=◌, any, number_at, many_at, id_at, operation_at}

@@ -1,3 +1,4 @@
+// Bundles: whole sets of operations, judged and read where they are in the bytes.
 ghost use Rattle.std.specs.Prelude.{◌≡◌, ℕ, false, List, [], ◌++◌, take, drop, length, Ok, Err, IfOk, MatchResult, IsTrue, ◌↔◌};
 ghost use Rattle.op_core.specs.Ops.{Operation};
 ghost use Rattle.op_core.specs.Sets.{IsOpSet};
@@ -6,11 +7,14 @@ ghost use Rattle.bundle_codec.specs.Spelling.{bundle};
 ghost use Rattle.bundle_codec.specs.Reading.{Gives, is_digit, magic_at, counted_operations_at, fields_at, bundle_at, RefusesBundle};
 ghost use Rattle.bundle_codec.specs.Views.{operations_in, SpellsSet};
 
+mod thinning;
+pub(crate) mod whole;
+
+use self::thinning::judge_thinned;
 use crate::fault::BundleFault;
-use crate::fields::{exactly_of, u8_at, u64_at};
-use crate::operation::after_operations;
-use crate::thinning::judge_thinned;
-use crate::walk::BundleOps;
+use crate::judging::fields::{exactly_of, u8_at, u64_at};
+use crate::judging::operation::after_operations;
+use crate::views::walk::BundleOps;
 use op_core::OpSet;
 use std::alloc::{AllocError, Global};
 use std::marker::Model;

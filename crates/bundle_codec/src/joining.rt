@@ -6,10 +6,12 @@ ghost use Rattle.bundle_codec.specs.Joining as joining;
 ghost use Rattle.bundle_codec.specs.Loops.Merging.{RefusesUnion};
 ghost use Rattle.bundle_codec.specs.Spelling as spelled;
 
+mod merging;
+
+use self::merging::push_union;
 use crate::bundle::Bundle;
+use crate::bundle::whole::decode_whole;
 use crate::fault::JoinFault;
-use crate::merging::push_union;
-use crate::whole::decode_whole;
 use crate::writing::{push_front, set_front_at};
 use std::alloc::Global;
 

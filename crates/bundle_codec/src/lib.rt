@@ -3,28 +3,21 @@
 
 mod bundle;
 mod fault;
-mod fields;
-mod ids;
 mod joining;
-mod keys;
+mod judging;
 pub mod laws;
-mod merging;
-mod operation;
 mod summaries;
-mod thinning;
-mod view;
-mod walk;
-mod whole;
+mod views;
 mod writing;
 
+pub use bundle::whole::decode_whole;
 pub use bundle::{Bundle, decode};
 pub use fault::{BundleFault, JoinFault, SummaryFault, WholeFault};
-pub use ids::ReplacedIds;
 pub use joining::join_bundles;
+pub use judging::ids::ReplacedIds;
 pub use summaries::{Summary, encode_outside};
-pub use view::OpView;
-pub use walk::BundleOps;
-pub use whole::decode_whole;
+pub use views::view::OpView;
+pub use views::walk::BundleOps;
 pub use writing::{encode, encode_after};
 
 #[cfg(test)]

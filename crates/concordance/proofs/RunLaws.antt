@@ -12,7 +12,7 @@ use Rattle.std.proofs.lemmas.List.Sums.{sum_by-cons, AllPass-from_list_all}
 use Rattle.std.proofs.lemmas.Str.{encodes-append}
 use Rattle.concordance.specs.Laws.{IsLongestRun, RunsAreLongest, WordCharactersAreInOneRun, lies_in}
 use Rattle.concordance.specs.Passages.{Passage}
-use Rattle.concordance.specs.Loops.RunReading.{is_like, after, front_bytes}
+use Rattle.concordance.specs.Loops.RunReading.{is_like, rest_after, front_bytes}
 use Rattle.concordance.specs.Words.{is_word_char, runs_from}
 use Rattle.concordance.proofs.RunLemmas.{runs_then, front_more, front_none, after_more, after_none}
 use Rattle.concordance.proofs.RunLemmas.{bytes_more, bytes_none, char_some}
@@ -26,12 +26,12 @@ front cs = take_while (is_like true) cs
 abbrev run_of : ℕ → List ℕ → Passage
 run_of n cs = record { start = n; text = front_bytes true cs }
 
-front_and_after : (cs : List ℕ) → cs ≡ front cs ++ after true cs
+front_and_after : (cs : List ℕ) → cs ≡ front cs ++ rest_after true cs
 front_and_after [] = refl
 front_and_after (c ∷ cs) = by (front_and_after cs) (is_word_char c) refl
   where
-    by : cs ≡ front cs ++ after true cs → (b : Bool) → is_word_char c ≡ b
-        → c ∷ cs ≡ front (c ∷ cs) ++ after true (c ∷ cs)
+    by : cs ≡ front cs ++ rest_after true cs → (b : Bool) → is_word_char c ≡ b
+        → c ∷ cs ≡ front (c ∷ cs) ++ rest_after true (c ∷ cs)
     by rest true e =
         ap (λ l. c ∷ l) rest ∙ (λ i. sym (front_more true c cs e) i ++ sym (after_more true c cs e) i)
     by rest false e = λ i. sym (front_none true c cs e) i ++ sym (after_none true c cs e) i
@@ -48,11 +48,11 @@ front_words (c ∷ cs) = by (front_words cs) (is_word_char c) refl
 front_some : (c : ℕ) (cs : List ℕ) → is_word_char c ≡ true → 0 < length (front (c ∷ cs))
 front_some c cs e = let l = ap length (front_more true c cs e) in omega arith
 
-first_after : (cs : List ℕ) (c : ℕ) (rest : List ℕ) → after true cs ≡ c ∷ rest → is_word_char c ≡ false
+first_after : (cs : List ℕ) (c : ℕ) (rest : List ℕ) → rest_after true cs ≡ c ∷ rest → is_word_char c ≡ false
 first_after [] c rest h = absurd (let l = ap length h in omega arith)
 first_after (d ∷ ds) c rest h = by (first_after ds c rest) (is_word_char d) refl
   where
-    by : (after true ds ≡ c ∷ rest → is_word_char c ≡ false) → (b : Bool) → is_word_char d ≡ b
+    by : (rest_after true ds ≡ c ∷ rest → is_word_char c ≡ false) → (b : Bool) → is_word_char d ≡ b
         → is_word_char c ≡ false
     by go true e = go (sym (after_more true d ds e) ∙ h)
     by go false e =
@@ -97,7 +97,7 @@ module _ (p : Passage) where
       longest none e = record {
         before = before;
         own = front (c ∷ cs);
-        after = after true (c ∷ cs);
+        after = rest_after true (c ∷ cs);
         characters = is ∙ ap (λ l. before ++ l) (front_and_after (c ∷ cs));
         start = at;
         bytes = refl;

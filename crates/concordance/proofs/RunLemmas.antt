@@ -9,7 +9,7 @@ use Rattle.std.proofs.Math.Seq.{take-append_seam}
 use Rattle.std.specs.Prelude.{chars, take_while, encode_utf8, encode_utf8_all}
 use Rattle.concordance.specs.Passages.{Passage}
 use Rattle.concordance.specs.Words.{is_word_char, runs_from}
-use Rattle.concordance.specs.Loops.RunReading.{is_like, after, front_bytes}
+use Rattle.concordance.specs.Loops.RunReading.{is_like, rest_after, front_bytes}
 
 -- the runs after a character, which is one of a word or not
 abbrev pub runs_then : Bool → ℕ → ℕ → List ℕ → List Passage
@@ -38,12 +38,12 @@ pub front_none : (w : Bool) (c : ℕ) (cs : List ℕ) → is_like w c ≡ false 
 front_none w c cs e = ap (λ (b : Bool). take (cond b (1 + prefix_len (is_like w) cs) 0) (c ∷ cs)) e
 
 -- what follows them is what follows without the first
-pub after_more : (w : Bool) (c : ℕ) (cs : List ℕ) → is_like w c ≡ true → after w (c ∷ cs) ≡ after w cs
-after_more w c cs e = ap (λ (b : Bool). cond b (after w cs) (c ∷ cs)) e
+pub after_more : (w : Bool) (c : ℕ) (cs : List ℕ) → is_like w c ≡ true → rest_after w (c ∷ cs) ≡ rest_after w cs
+after_more w c cs e = ap (λ (b : Bool). cond b (rest_after w cs) (c ∷ cs)) e
 
 -- all follows where the first one is of the other kind
-pub after_none : (w : Bool) (c : ℕ) (cs : List ℕ) → is_like w c ≡ false → after w (c ∷ cs) ≡ c ∷ cs
-after_none w c cs e = ap (λ (b : Bool). cond b (after w cs) (c ∷ cs)) e
+pub after_none : (w : Bool) (c : ℕ) (cs : List ℕ) → is_like w c ≡ false → rest_after w (c ∷ cs) ≡ c ∷ cs
+after_none w c cs e = ap (λ (b : Bool). cond b (rest_after w cs) (c ∷ cs)) e
 
 -- the bytes of the characters of one kind at the front, with those of one more
 pub bytes_more : (w : Bool) (c : ℕ) (cs : List ℕ) → is_like w c ≡ true → front_bytes w (c ∷ cs) ≡ encode_utf8 c ++ front_bytes w cs
@@ -55,8 +55,8 @@ bytes_none w c cs e = ap encode_utf8_all (front_none w c cs e)
 
 -- one character more at the front
 more : (w : Bool) (n c : ℕ) (cs : List ℕ) → is_like w c ≡ true
-    → runs_from false (n + length (encode_utf8 c) + length (front_bytes w cs)) (after w cs)
-    ≡ runs_from false (n + length (front_bytes w (c ∷ cs))) (after w (c ∷ cs))
+    → runs_from false (n + length (encode_utf8 c) + length (front_bytes w cs)) (rest_after w cs)
+    ≡ runs_from false (n + length (front_bytes w (c ∷ cs))) (rest_after w (c ∷ cs))
 more w n c cs e =
     let l = length-append (encode_utf8 c) (front_bytes w cs) in
     let m = ap length (bytes_more w c cs e) in
@@ -64,58 +64,58 @@ more w n c cs e =
     λ i. runs_from false (k i) (sym (after_more w c cs e) i)
 
 none : (w : Bool) (n c : ℕ) (cs : List ℕ) → is_like w c ≡ false
-    → runs_from false n (c ∷ cs) ≡ runs_from false (n + length (front_bytes w (c ∷ cs))) (after w (c ∷ cs))
+    → runs_from false n (c ∷ cs) ≡ runs_from false (n + length (front_bytes w (c ∷ cs))) (rest_after w (c ∷ cs))
 none w n c cs e =
     let m = ap length (bytes_none w c cs e) in
     let k : n ≡ n + length (front_bytes w (c ∷ cs)) = omega arith in
     λ i. runs_from false (k i) (sym (after_none w c cs e) i)
 
 -- past the other characters at the front
-pub past_gap : (n : ℕ) (cs : List ℕ) → runs_from false n cs ≡ runs_from false (n + length (front_bytes false cs)) (after false cs)
+pub past_gap : (n : ℕ) (cs : List ℕ) → runs_from false n cs ≡ runs_from false (n + length (front_bytes false cs)) (rest_after false cs)
 past_gap n [] = refl
 past_gap n (c ∷ cs) = by (past_gap (n + length (encode_utf8 c)) cs) (is_word_char c) refl
   where
-    by : runs_then false n c cs ≡ runs_from false (n + length (encode_utf8 c) + length (front_bytes false cs)) (after false cs)
+    by : runs_then false n c cs ≡ runs_from false (n + length (encode_utf8 c) + length (front_bytes false cs)) (rest_after false cs)
         → (b : Bool) → is_word_char c ≡ b
-        → runs_from false n (c ∷ cs) ≡ runs_from false (n + length (front_bytes false (c ∷ cs))) (after false (c ∷ cs))
+        → runs_from false n (c ∷ cs) ≡ runs_from false (n + length (front_bytes false (c ∷ cs))) (rest_after false (c ∷ cs))
     by rest true e = none false n c cs (ap not e)
     by rest false e = one_step false n c cs false e ∙ rest ∙ more false n c cs (ap not e)
 
 -- past the rest of a run
-pub past_run : (n : ℕ) (cs : List ℕ) → runs_from true n cs ≡ runs_from false (n + length (front_bytes true cs)) (after true cs)
+pub past_run : (n : ℕ) (cs : List ℕ) → runs_from true n cs ≡ runs_from false (n + length (front_bytes true cs)) (rest_after true cs)
 past_run n [] = refl
 past_run n (c ∷ cs) = by (past_run (n + length (encode_utf8 c)) cs) (is_word_char c) refl
   where
-    by : runs_then true n c cs ≡ runs_from false (n + length (encode_utf8 c) + length (front_bytes true cs)) (after true cs) → (b : Bool)
-        → is_word_char c ≡ b
-        → runs_from true n (c ∷ cs) ≡ runs_from false (n + length (front_bytes true (c ∷ cs))) (after true (c ∷ cs))
+    by : runs_then true n c cs ≡ runs_from false (n + length (encode_utf8 c) + length (front_bytes true cs)) (rest_after true cs)
+        → (b : Bool) → is_word_char c ≡ b
+        → runs_from true n (c ∷ cs) ≡ runs_from false (n + length (front_bytes true (c ∷ cs))) (rest_after true (c ∷ cs))
     by rest true e = one_step true n c cs true e ∙ rest ∙ more true n c cs e
     by rest false e = one_step true n c cs false e ∙ sym (one_step false n c cs false e) ∙ none true n c cs e
 
 -- after the others comes nothing, or a run
-pub run_at : (n : ℕ) (cs ds : List ℕ) → after false cs ≡ ds → 0 < length ds → runs_from false n ds
+pub run_at : (n : ℕ) (cs ds : List ℕ) → rest_after false cs ≡ ds → 0 < length ds → runs_from false n ds
     ≡ (let run : Passage = record { start = n; text = front_bytes true ds } in run)
-    ∷ runs_from false (n + length (front_bytes true ds)) (after true ds)
+    ∷ runs_from false (n + length (front_bytes true ds)) (rest_after true ds)
 run_at n [] ds e h = absurd (let l = ap length e in omega arith)
 run_at n (c ∷ cs) ds e h = by (run_at n cs ds) (is_word_char c) refl e
   where
     begins : (d : ℕ) (rest : List ℕ) → is_word_char d ≡ true → runs_from false n (d ∷ rest)
         ≡ (let run : Passage = record { start = n; text = front_bytes true (d ∷ rest) } in run)
-        ∷ runs_from false (n + length (front_bytes true (d ∷ rest))) (after true (d ∷ rest))
+        ∷ runs_from false (n + length (front_bytes true (d ∷ rest))) (rest_after true (d ∷ rest))
     begins d rest w =
         one_step false n d rest true w
         ∙ ap (λ l. (let run : Passage = record { start = n; text = front_bytes true (d ∷ rest) } in run) ∷ l)
         (sym (one_step true n d rest true w) ∙ past_run n (d ∷ rest))
 
-    by : (after false cs ≡ ds → 0 < length ds → runs_from false n ds
+    by : (rest_after false cs ≡ ds → 0 < length ds → runs_from false n ds
         ≡ (let run : Passage = record { start = n; text = front_bytes true ds } in run)
-        ∷ runs_from false (n + length (front_bytes true ds)) (after true ds))
-        → (b : Bool) → is_word_char c ≡ b → cond (not b) (after false cs) (c ∷ cs) ≡ ds → runs_from false n ds
+        ∷ runs_from false (n + length (front_bytes true ds)) (rest_after true ds))
+        → (b : Bool) → is_word_char c ≡ b → cond (not b) (rest_after false cs) (c ∷ cs) ≡ ds → runs_from false n ds
         ≡ (let run : Passage = record { start = n; text = front_bytes true ds } in run)
-        ∷ runs_from false (n + length (front_bytes true ds)) (after true ds)
+        ∷ runs_from false (n + length (front_bytes true ds)) (rest_after true ds)
     by go true w e =
         subst (λ (l : List ℕ). runs_from false n l ≡ (let run : Passage = record { start = n; text = front_bytes true l } in run)
-        ∷ runs_from false (n + length (front_bytes true l)) (after true l)) e (begins c cs w)
+        ∷ runs_from false (n + length (front_bytes true l)) (rest_after true l)) e (begins c cs w)
     by go false w e = go e h
 
 -- ---- a step over the characters of a text
@@ -151,8 +151,8 @@ unlike_test false false c e h = absurd (cc)
 -- ---- a step over the runs of a passage
 
 -- the others at the front and then the word characters are passed
-pub run_more : (n : ℕ) (rest at later : List ℕ) → rest ≡ front_bytes false (chars rest) ++ at → chars at ≡ after false (chars rest)
-    → at ≡ front_bytes true (chars at) ++ later → chars later ≡ after true (chars at) → 0 < length (chars at)
+pub run_more : (n : ℕ) (rest at later : List ℕ) → rest ≡ front_bytes false (chars rest) ++ at → chars at ≡ rest_after false (chars rest)
+    → at ≡ front_bytes true (chars at) ++ later → chars later ≡ rest_after true (chars at) → 0 < length (chars at)
     → runs_from false n (chars rest)
     ≡ (let run : Passage = record { start = n + length (front_bytes false (chars rest)); text = front_bytes true (chars at) } in run)
     ∷ runs_from false (n + length (front_bytes false (chars rest)) + length (front_bytes true (chars at))) (chars later)
@@ -164,7 +164,7 @@ run_more n rest at later gap at_is run later_is some =
     ∷ runs_from false (m + length (front_bytes true (chars at))) l) (sym later_is)
 
 -- where nothing follows what is no word there are no runs
-pub no_more : (n : ℕ) (rest at : List ℕ) → chars at ≡ after false (chars rest) → at ≡ [] → runs_from false n (chars rest) ≡ []
+pub no_more : (n : ℕ) (rest at : List ℕ) → chars at ≡ rest_after false (chars rest) → at ≡ [] → runs_from false n (chars rest) ≡ []
 no_more n rest at at_is e =
     past_gap n (chars rest) ∙ ap (runs_from false (n + length (front_bytes false (chars rest)))) (sym at_is ∙ ap chars e ∙ chars-nil)
 
@@ -173,7 +173,7 @@ pub char_some : (c : ℕ) → 0 < length (encode_utf8 c)
 char_some c = let e = length-encode c in let b = (len_utf8_bounds c).0 in omega arith
 
 -- a run has a byte where a character follows what is no word
-pub run_some : (cs ds : List ℕ) → after false cs ≡ ds → 0 < length ds → 0 < length (front_bytes true ds)
+pub run_some : (cs ds : List ℕ) → rest_after false cs ≡ ds → 0 < length ds → 0 < length (front_bytes true ds)
 run_some [] ds e h = absurd (let l = ap length e in omega arith)
 run_some (c ∷ cs) ds e h = by (run_some cs ds) (is_word_char c) refl e
   where
@@ -184,8 +184,8 @@ run_some (c ∷ cs) ds e h = by (run_some cs ds) (is_word_char c) refl e
         let s = char_some d in
         omega arith
 
-    by : (after false cs ≡ ds → 0 < length ds → 0 < length (front_bytes true ds)) → (b : Bool) → is_word_char c ≡ b
-        → cond (not b) (after false cs) (c ∷ cs) ≡ ds → 0 < length (front_bytes true ds)
+    by : (rest_after false cs ≡ ds → 0 < length ds → 0 < length (front_bytes true ds)) → (b : Bool) → is_word_char c ≡ b
+        → cond (not b) (rest_after false cs) (c ∷ cs) ≡ ds → 0 < length (front_bytes true ds)
     by go true w e = subst (λ (l : List ℕ). 0 < length (front_bytes true l)) e (begins c cs w)
     by go false w e = go e h
 
@@ -199,7 +199,7 @@ chars_some bs u h = by (chars bs) refl
 
 -- one run of a text that begins at a place, where so much of the text is left
 pub next_run : (s t : ℕ) (rest at later : List ℕ) → length rest ≤ t → rest ≡ front_bytes false (chars rest) ++ at
-    → chars at ≡ after false (chars rest) → at ≡ front_bytes true (chars at) ++ later → chars later ≡ after true (chars at)
+    → chars at ≡ rest_after false (chars rest) → at ≡ front_bytes true (chars at) ++ later → chars later ≡ rest_after true (chars at)
     → 0 < length (chars at)
     → runs_from false (s + (t - length rest)) (chars rest)
     ≡ (let run : Passage = record { start = s + (t - length at); text = take (length at - length later) at } in run)

@@ -12,7 +12,7 @@ use Rattle.concordance.specs.Hits.{keyed}
 use Rattle.concordance.specs.Passages.{Passage}
 use Rattle.concordance.specs.Plain.{plain_leaves}
 use Rattle.concordance.specs.Loops.Reading.{IsText}
-use Rattle.concordance.specs.Loops.RunReading.{is_like, after, front_bytes}
+use Rattle.concordance.specs.Loops.RunReading.{is_like, rest_after, front_bytes}
 use Rattle.concordance.specs.Loops.Groups.{composed}
 use Rattle.concordance.specs.Loops.KeyedViews.{spelled}
 use Rattle.concordance.specs.Words.{is_word_char, runs_from, runs_in, spelling_at}
@@ -26,14 +26,14 @@ abbrev bytes_at : ℕ → List ℕ → Passage
 bytes_at n bytes = record { start = n; text = bytes }
 
 -- the characters at the front, and those after them
-front_rest : (w : Bool) (cs : List ℕ) → encode_utf8_all cs ≡ front_bytes w cs ++ encode_utf8_all (after w cs)
+front_rest : (w : Bool) (cs : List ℕ) → encode_utf8_all cs ≡ front_bytes w cs ++ encode_utf8_all (rest_after w cs)
 front_rest w [] = refl
 front_rest w (c ∷ cs) = by (front_rest w cs) (is_like w c) refl
   where
-    by : encode_utf8_all cs ≡ front_bytes w cs ++ encode_utf8_all (after w cs) → (b : Bool) → is_like w c ≡ b
-        → encode_utf8_all (c ∷ cs) ≡ front_bytes w (c ∷ cs) ++ encode_utf8_all (after w (c ∷ cs))
+    by : encode_utf8_all cs ≡ front_bytes w cs ++ encode_utf8_all (rest_after w cs) → (b : Bool) → is_like w c ≡ b
+        → encode_utf8_all (c ∷ cs) ≡ front_bytes w (c ∷ cs) ++ encode_utf8_all (rest_after w (c ∷ cs))
     by rest true e =
-        ap (λ l. encode_utf8 c ++ l) rest ∙ sym (append_assoc (encode_utf8 c) (front_bytes w cs) (encode_utf8_all (after w cs)))
+        ap (λ l. encode_utf8 c ++ l) rest ∙ sym (append_assoc (encode_utf8 c) (front_bytes w cs) (encode_utf8_all (rest_after w cs)))
         ∙ (λ i. sym (bytes_more w c cs e) i ++ encode_utf8_all (sym (after_more w c cs e) i))
     by rest false e = λ i. sym (bytes_none w c cs e) i ++ encode_utf8_all (sym (after_none w c cs e) i)
 
@@ -76,7 +76,7 @@ apart_after s w n (c ∷ cs) h =
         → Apart s (first_place w n (c ∷ cs)) (n + length (encode_utf8_all (c ∷ cs))) (runs_from w n (c ∷ cs))
     by false inside outside true e =
         let run = front_bytes true (c ∷ cs) in
-        let rest = encode_utf8_all (after true (c ∷ cs)) in
+        let rest = encode_utf8_all (rest_after true (c ∷ cs)) in
         let l = front_is e in
         let m : length (encode_utf8_all (c ∷ cs)) ≡ length run + length rest =
         ap length (front_rest true (c ∷ cs)) ∙ length-append run rest in

@@ -3,7 +3,7 @@
 ghost use Rattle.std.specs.Prelude.{◌≡◌, ◌<◌, ◌+◌, ◌^◌, ◌++◌, length, chars, IsUtf8, OnOk, IfOk};
 ghost use Rattle.std.specs.List.{flat_map, All};
 ghost use Rattle.concordance.specs.Loops.Reading.{EndsWithin, IsText};
-ghost use Rattle.concordance.specs.Loops.RunReading.{after, front_bytes};
+ghost use Rattle.concordance.specs.Loops.RunReading.{rest_after, front_bytes};
 ghost use Rattle.concordance.specs.Loops.LeafViews.{passage_view, passages_view};
 ghost use Rattle.concordance.specs.Words as words;
 
@@ -36,7 +36,7 @@ fn is_combining(category: GeneralCategory) -> bool
 // What comes after the word characters at the front of a text, or after the others.
 fn after_front(text: &str, is_word: bool) -> &str
     ensures front { text.now ≡ front_bytes is_word (chars text.now) ++ result.now }
-    ensures rest { chars result.now ≡ after is_word (chars text.now) }
+    ensures rest { chars result.now ≡ rest_after is_word (chars text.now) }
 {
     let mut chars = text.chars();
     loop {

@@ -9,7 +9,8 @@ use Rattle.std.proofs.lemmas.Bool.Decides.{nat_tests}
 use Rattle.std.proofs.lemmas.Map.Views.{list_any-from_Contains}
 use Rattle.usfm_ref.specs.Books.{same_bytes, book_cmp}
 use Rattle.usfm_ref.specs.Keys.{key_cmp}
-use Rattle.usfm_ref.specs.Segments.{Segment, segment}
+use Rattle.usfm_ref.specs.Segments.{segment}
+use Rattle.usfm_ref.specs.declared.segment.Segment.{Segment}
 use Rattle.usfm_ref.proofs.Orders.{book_total, book_exact, key_total, key_exact, same_bytes-is, same_bytes-refl, same_segment-is}
 use Rattle.usfm_ref.proofs.Members.{tested_rising}
 use Rattle.usfm_ref.proofs.Sorted.{rises_filter}

@@ -1,7 +1,8 @@
 -- Sets that are equal but for texts left out give the same report.
 use Rattle.std.proofs.Common.{◌≡◌, ℕ, not, List, ◌++◌, filter, reverse}
 use Rattle.std.specs.List.{flat_map}
-use Rattle.usfm_ref.specs.Segments.{Segment, segment}
+use Rattle.usfm_ref.specs.Segments.{segment}
+use Rattle.usfm_ref.specs.declared.segment.Segment.{Segment}
 use Rattle.op_core.specs.Ops.{Operation}
 use Rattle.op_core.specs.Shown.{shown}
 use Rattle.op_core.specs.Thinned.{skeleton}

@@ -1,7 +1,7 @@
 -- Laws of reports.
 use Rattle.std.specs.Prelude.{◌≡◌, ℕ, List, [], None, ◌↔◌, map, IsTrue}
 use Rattle.std.specs.List.{Contains, AllByRecursion}
-use Rattle.usfm_ref.specs.Segments.{Segment}
+use Rattle.usfm_ref.specs.declared.segment.Segment.{Segment}
 use Rattle.op_core.specs.Ids.{Id}
 use Rattle.op_core.specs.Ops.{Operation, own_text}
 use Rattle.op_core.specs.Sets.{IsOpSet, rises, clash}
@@ -11,7 +11,7 @@ use Rattle.op_core.specs.Laws.{SameTogether}
 use Rattle.op_core.specs.Thinned.{is_legal, skeleton}
 use Rattle.replica_state.specs.States.{begun}
 use Rattle.replica_state.specs.Steps.{Command, Receive}
-use Rattle.replica_state.specs.Runs.{after, NoneRefused}
+use Rattle.replica_state.specs.Runs.{after_all, NoneRefused}
 use Rattle.replica_state.specs.ThinLaws.{TakesFrom, is_brought}
 use Rattle.conflict_report.specs.Reports.{report}
 
@@ -34,8 +34,8 @@ SameBundlesSameReports =
     AllByRecursion IsOpSet bundles → AllByRecursion IsOpSet others → SameTogether bundles others →
     NoneRefused (begun name) (map Receive bundles) → NoneRefused (begun other) (map Receive others)
     →
-    report (after (begun name) (map Receive bundles)).held
-    ≡ report (after (begun other) (map Receive others)).held
+    report (after_all (begun name) (map Receive bundles)).held
+    ≡ report (after_all (begun other) (map Receive others)).held
 
 -- Two sets that are equal but for texts left out, and in which no id has two operations, give the same report.
 abbrev pub SkeletonReports : Type 0
@@ -51,4 +51,4 @@ ThinnedBundlesSameReports =
     (family : Id → Operation) (name other : List ℕ) (commands others : List Command) →
     AllByRecursion (TakesFrom family) commands → AllByRecursion (TakesFrom family) others →
     ((id : Id) → is_brought commands id ≡ is_brought others id) →
-    report (after (begun name) commands).held ≡ report (after (begun other) others).held
+    report (after_all (begun name) commands).held ≡ report (after_all (begun other) others).held

@@ -4,7 +4,7 @@ use Rattle.std.specs.List.{flat_map}
 use Rattle.op_core.specs.Ops.{Operation}
 use Rattle.op_core.specs.Lists.{books_of}
 use Rattle.op_core.specs.Thinned.{skeleton, StandsFor}
-use Rattle.replica_state.specs.World.{Event, after}
+use Rattle.replica_state.specs.World.{Event, world}
 use Rattle.replica_state.specs.World.Twin.{twin}
 use Rattle.replica_state.specs.World.Agreement.{EndsInRelays}
 use Rattle.conflict_report.specs.Reports.{report, conflicts_in}
@@ -17,14 +17,14 @@ StandInsReportSame = (s u : List Operation) → StandsFor s u → report s ≡ r
 abbrev pub ThinningReportsNothing : Type 0
 ThinningReportsNothing =
     (events : List Event) (name : List ℕ) →
-    report ((after events).held name) ≡ report ((after (twin events)).held name)
+    report ((world events).held name) ≡ report ((world (twin events)).held name)
 
 -- Replicas that hold one set but for texts left out give the same report.
 abbrev pub SameSkeletonsReportSame : Type 0
 SameSkeletonsReportSame =
     (events : List Event) (a b : List ℕ) →
-    skeleton ((after events).held a) ≡ skeleton ((after events).held b) →
-    report ((after events).held a) ≡ report ((after events).held b)
+    skeleton ((world events).held a) ≡ skeleton ((world events).held b) →
+    report ((world events).held a) ≡ report ((world events).held b)
 
 -- two sets give the same report, which has no `awaited` line
 pub record ReportAlike (s t : List Operation) : Type 0 where
@@ -37,4 +37,4 @@ abbrev pub AllReportTheSame : Type 0
 AllReportTheSame =
     (is_there : List ℕ → Bool) (later past : List Event) → EndsInRelays is_there later past →
     (a b : List ℕ) → is_there a ≡ true → is_there b ≡ true →
-    ReportAlike ((after (later ++ past)).held a) ((after (later ++ past)).held b)
+    ReportAlike ((world (later ++ past)).held a) ((world (later ++ past)).held b)

@@ -5,13 +5,13 @@ use Rattle.std.proofs.lemmas.Bool.{and_from}
 use Rattle.op_core.specs.Ops.{Operation, is_full}
 use Rattle.op_core.specs.Sets.{get, put, clash, differs}
 use Rattle.op_core.specs.Lists.{ids_of}
-use Rattle.op_core.specs.Shown.{is_shown, shown, last, text_in, text_of, is_empty, has_verse_text, greatest, pick}
+use Rattle.op_core.specs.Shown.{is_shown, shown, last, text_if_any, text_of, is_empty, has_verse_text, greatest, pick}
 use Rattle.op_core.specs.Shown.Pick.{Line}
 use Rattle.op_core.specs.Thinned.{skeleton, StandsFor}
 use Rattle.op_core.specs.ThinLaws.{AnswersSame, SameButTexts}
 use Rattle.op_core.proofs.Bare.{any_same, ids_same, number_same, awaited_same, is_shown_same}
 use Rattle.op_core.proofs.StandIns.{shows_same, full_stands, join_stands}
-use Rattle.usfm_ref.specs.Segments.{Segment}
+use Rattle.usfm_ref.specs.declared.segment.Segment.{Segment}
 use Rattle.std.specs.List.{flat_map}
 use Rattle.std.proofs.Common.{map, sym}
 use Rattle.usfm_ref.specs.Books.{book_cmp}
@@ -45,14 +45,15 @@ skeleton_answers s u e = record {
 module _ (s u : List Operation) (e : skeleton s ≡ skeleton u) (shows : (seg : Segment) → shown s seg ≡ shown u seg) where
   has_alike : (book : List ℕ) (chapter : ℕ) → has_verse_text s book chapter ≡ has_verse_text u book chapter
   has_alike book chapter =
-      (λ i. list_any (λ o. is_verse_in book chapter o && not (is_empty (text_in (last (shows o.segment i))))) s)
+      (λ i. list_any (λ o. is_verse_in book chapter o && not (is_empty (text_if_any (last (shows o.segment i))))) s)
       ∙ any_same s u e (λ o. is_verse_in book chapter o && not (is_empty (text_of u o.segment)))
 
   pub picks_alike : (seg : Segment) → pick s seg ≡ pick u seg
   picks_alike seg =
       let same = shows seg in
       let has = has_alike seg.book seg.key.chapter in
-      λ i. cond (is_head seg.key.place && nat_le 1 seg.key.chapter && is_empty (text_in (last (same i))) && has i) (Line seg.key.chapter)
+      λ i. cond (is_head seg.key.place && nat_le 1 seg.key.chapter && is_empty (text_if_any (last (same i))) && has i)
+      (Line seg.key.chapter)
       (greatest (last (same i)))
 
   keys_alike : (book : List ℕ) → keys_in s book ≡ keys_in u book
@@ -68,7 +69,7 @@ module _ (s u : List Operation) (e : skeleton s ≡ skeleton u) (shows : (seg : 
   answers_alike =
       let bares = skeleton_answers s u e in
       record {
-        texts = λ seg. ap (λ ops. text_in (last ops)) (shows seg);
+        texts = λ seg. ap (λ ops. text_if_any (last ops)) (shows seg);
         shown_ids = bares.shown_ids;
         ids = bares.ids;
         number = bares.number;

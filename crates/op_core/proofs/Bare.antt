@@ -9,7 +9,7 @@ use Rattle.op_core.specs.Lists.{ids_of, is_held, awaited}
 use Rattle.op_core.specs.NextIds.{greatest_number}
 use Rattle.op_core.specs.Shown.{is_replaced, is_shown}
 use Rattle.op_core.specs.Thinned.{skeleton, is_past}
-use Rattle.usfm_ref.specs.Segments.{Segment}
+use Rattle.usfm_ref.specs.declared.segment.Segment.{Segment}
 
 -- ---- one set and its skeleton
 

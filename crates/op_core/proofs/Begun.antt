@@ -5,7 +5,8 @@ use Rattle.std.specs.List.{list_all, list_any, AllByRecursion}
 use Rattle.std.specs.Cmp.{Equal-is, tied_itself}
 use Rattle.std.proofs.lemmas.Bool.{and_parts}
 use Rattle.std.proofs.lemmas.List.{take-append-drop}
-use Rattle.usfm_ref.specs.Segments.{Segment, segment_cmp, same_segment}
+use Rattle.usfm_ref.specs.Segments.{segment_cmp, same_segment}
+use Rattle.usfm_ref.specs.declared.segment.Segment.{Segment}
 use Rattle.usfm_ref.proofs.Orders.{segment_total, segment_exact, same_segment-cmp}
 use Rattle.usfm_ref.proofs.Sorted.{tied_back}
 use Rattle.op_core.specs.Ids.{Id, same_id}
@@ -16,8 +17,8 @@ use Rattle.op_core.specs.Lists.{shown_ids}
 use Rattle.op_core.specs.Loops.Index.{register_of, shown_in, is_in, IsOrderly, IsIndex, Changes}
 use Rattle.op_core.specs.Loops.Turns.{turn_at, is_at, never_fall, comes, is_called, arrives, is_named, AreTurnsOf}
 use Rattle.op_core.specs.Loops.Changes.{IsBegun}
-use Rattle.op_core.specs.declared.register.Register.{Register}
-use Rattle.op_core.specs.declared.chapter.Chapter.{Chapter}
+use Rattle.op_core.specs.declared.index.register.Register.{Register}
+use Rattle.op_core.specs.declared.index.chapter.Chapter.{Chapter}
 use Rattle.op_core.specs.declared.index.turns.Turn.{Turn}
 use Rattle.op_core.proofs.IdLists.{same_members}
 use Rattle.op_core.proofs.Kept.{any_shown, shown_ids_rise}

@@ -4,7 +4,8 @@ use Rattle.std.specs.Ordering.{is_eq}
 use Rattle.std.specs.List.{list_any, AllByRecursion}
 use Rattle.std.specs.Cmp.{Equal-is}
 use Rattle.std.proofs.lemmas.Bool.{true≢false}
-use Rattle.usfm_ref.specs.Segments.{Segment, segment_cmp, same_segment}
+use Rattle.usfm_ref.specs.Segments.{segment_cmp, same_segment}
+use Rattle.usfm_ref.specs.declared.segment.Segment.{Segment}
 use Rattle.usfm_ref.proofs.Orders.{segment_exact}
 use Rattle.op_core.specs.Ids.{Id, same_id, ids_rise}
 use Rattle.op_core.specs.Ops.{Operation, in_segment, names}
@@ -14,8 +15,8 @@ use Rattle.op_core.specs.Lists.{shown_ids}
 use Rattle.op_core.specs.Loops.Index.{is_in, among, register_of, shown_in, missing_in, change_at, AreApart, IsIndex}
 use Rattle.op_core.specs.Loops.Turns.{AreTurnsOf}
 use Rattle.op_core.specs.Loops.Changes.{change_for, IsChangeAt, AreChanges, TakesIn, Taken, Settles}
-use Rattle.op_core.specs.declared.register.Register.{Register}
-use Rattle.op_core.specs.declared.chapter.Chapter.{Chapter}
+use Rattle.op_core.specs.declared.index.register.Register.{Register}
+use Rattle.op_core.specs.declared.index.chapter.Chapter.{Chapter}
 use Rattle.op_core.specs.declared.index.change.Change.{Change}
 use Rattle.op_core.specs.declared.index.turns.Turn.{Turn}
 use Rattle.op_core.proofs.Union.{rises-join}

@@ -14,7 +14,8 @@ use Rattle.std.specs.Prelude.{◌⊎◌}
 use Rattle.usfm_ref.specs.Books.{same_bytes, is_book_code}
 use Rattle.usfm_ref.specs.Keys.{KeyParts, key_cmp, chapter_head, head_of, is_head, is_key, is_place, is_verse_of, same_key}
 use Rattle.usfm_ref.specs.Rising.{with_item, rising}
-use Rattle.usfm_ref.specs.Segments.{Segment, segment}
+use Rattle.usfm_ref.specs.Segments.{segment}
+use Rattle.usfm_ref.specs.declared.segment.Segment.{Segment}
 use Rattle.usfm_ref.specs.declared.key.Place.{Place}
 use Rattle.usfm_ref.specs.declared.key.Place.TheVariants.{Head, Verse}
 use Rattle.usfm_ref.proofs.Orders.{key_exact, same_bytes-is, same_bytes-refl, same_key-refl, same_segment-is}
@@ -24,7 +25,7 @@ use Rattle.verse_cut.specs.Joins.{chapter_line}
 use Rattle.verse_cut.proofs.ChapterLines.{chapter_lines_fit}
 use Rattle.op_core.specs.Ops.{Operation, IsOperation, in_segment, is_verse_in, MayBeText, or_empty}
 use Rattle.op_core.specs.Sets.{IsOpSet}
-use Rattle.op_core.specs.Shown.{is_replaced, is_shown, shown, last, text_in, text_of, is_verse_with_text, has_verse_text, wants_chapter_line, greatest, pick, picked_text}
+use Rattle.op_core.specs.Shown.{is_replaced, is_shown, shown, last, text_if_any, text_of, is_verse_with_text, has_verse_text, wants_chapter_line, greatest, pick, picked_text}
 use Rattle.op_core.specs.Export.{of_book, keys_in, exported_keys}
 use Rattle.op_core.specs.CutsBack.{picked_at, PicksAreExported}
 
@@ -108,7 +109,7 @@ last_held held g o h = by (list_any (in_segment g) held) refl
 
 -- ---- what is picked
 
-picked_text-greatest : (o : Option Operation) → picked_text (greatest o) ≡ text_in o
+picked_text-greatest : (o : Option Operation) → picked_text (greatest o) ≡ text_if_any o
 picked_text-greatest None = refl
 picked_text-greatest (Some o) = refl
 
@@ -172,7 +173,7 @@ pick_cases held book key P set line own none = by (wants_chapter_line held (segm
         (and_parts (is_verse_in book key.chapter o.0) (not (is_empty (text_of held o.0.segment))) o.2).0 in
         subst (λ n. n ≤ 999) v.1 (is_small o.0 o.1)
 
-    shown_text : (l : Option Operation) → last (shown held (segment book key)) ≡ l → P (text_in l)
+    shown_text : (l : Option Operation) → last (shown held (segment book key)) ≡ l → P (text_if_any l)
     shown_text None e = none
     shown_text (Some o) e = own o (shown_last held (segment book key) o set e)
 
@@ -283,7 +284,7 @@ gives_head held book chapter o h =
 pub text_held : (held : List Operation) (g : Segment) → is_empty (text_of held g) ≡ false → list_any (in_segment g) held ≡ true
 text_held held g h = by (last (shown held g)) refl h
   where
-    by : (l : Option Operation) → last (shown held g) ≡ l → is_empty (text_in l) ≡ false → list_any (in_segment g) held ≡ true
+    by : (l : Option Operation) → last (shown held g) ≡ l → is_empty (text_if_any l) ≡ false → list_any (in_segment g) held ≡ true
     by None e h = absurd (cc)
     by (Some o) e h = last_held held g o e
 

@@ -19,7 +19,7 @@ use Rattle.op_core.proofs.Filters.{rises-filter, filter_within, filter_kept, all
 use Rattle.op_core.proofs.Legal.{shown_full}
 use Rattle.op_core.proofs.Alike.{picks_alike, exports_alike}
 use Rattle.op_core.specs.Export.{export}
-use Rattle.usfm_ref.specs.Segments.{Segment}
+use Rattle.usfm_ref.specs.declared.segment.Segment.{Segment}
 
 meet_text_agrees : (a b c : Option (List ℕ)) → texts_agree a c ≡ true → texts_agree (meet_text a b) c ≡ true
 meet_text_agrees None b c h = refl

@@ -5,7 +5,8 @@ use Rattle.std.specs.Ordering.{is_eq, is_lt}
 use Rattle.std.specs.List.{list_any, list_all}
 use Rattle.std.specs.FinMap.Entries.{by_order}
 use Rattle.std.proofs.lemmas.Bool.{cond-true, cond-false}
-use Rattle.usfm_ref.specs.Segments.{Segment, segment_cmp}
+use Rattle.usfm_ref.specs.Segments.{segment_cmp}
+use Rattle.usfm_ref.specs.declared.segment.Segment.{Segment}
 use Rattle.usfm_ref.proofs.Orders.{segment_total, same_segment-cmp}
 use Rattle.usfm_ref.proofs.Sorted.{rises_filter, tied_back}
 use Rattle.op_core.specs.Ids.{Id, id_cmp, same_id, ids_rise}
@@ -15,7 +16,7 @@ use Rattle.op_core.specs.Sets.{rises, get, meet, met, put, join}
 use Rattle.op_core.specs.Shown.{is_replaced, shown}
 use Rattle.op_core.specs.Lists.{ids_of, shown_ids}
 use Rattle.op_core.specs.Loops.Index.{is_in, IsIndex, Lays, AreApart}
-use Rattle.op_core.specs.declared.chapter.Chapter.{Chapter}
+use Rattle.op_core.specs.declared.index.chapter.Chapter.{Chapter}
 use Rattle.op_core.proofs.Rising.{id_total, same_id-cmp}
 use Rattle.op_core.proofs.Union.{rises_parts, get_above, get-join}
 

@@ -3,13 +3,14 @@ use Rattle.std.proofs.Common.{◌≡◌, inl, inr, ℕ, ◌≤◌, true, List, [
 use Rattle.std.proofs.Common.{length, take, drop, reverse, append_assoc, refl, sym, ap, subst, ◌∙◌}
 use Rattle.std.proofs.lemmas.List.{take-append-drop, reverse-append, reverse-reverse}
 use Rattle.usfm_ref.specs.Keys.{KeyParts, key_cmp, head_of}
-use Rattle.usfm_ref.specs.Segments.{Segment, segment_cmp}
+use Rattle.usfm_ref.specs.Segments.{segment_cmp}
+use Rattle.usfm_ref.specs.declared.segment.Segment.{Segment}
 use Rattle.usfm_ref.proofs.Orders.{key_total, segment_total}
 use Rattle.usfm_ref.proofs.Sorted.{place}
-use Rattle.op_core.specs.Loops.Index.{place_of, chapter_of, registers_in}
+use Rattle.op_core.specs.Loops.Index.{home_of, chapter_of, registers_in}
 use Rattle.op_core.specs.Loops.Index.{begins_above, IsOrderly, LaysKeys, Lays}
-use Rattle.op_core.specs.declared.register.Register.{Register}
-use Rattle.op_core.specs.declared.chapter.Chapter.{Chapter}
+use Rattle.op_core.specs.declared.index.register.Register.{Register}
+use Rattle.op_core.specs.declared.index.chapter.Chapter.{Chapter}
 use Rattle.op_core.proofs.Registers.{rise, insert_changes, lays_at}
 use Rattle.op_core.proofs.Chapters.{insert_chapter, lays_in}
 use Rattle.op_core.proofs.Between.{place_between, none_between, put_between}
@@ -78,12 +79,12 @@ none_laid : (head : KeyParts) (a b : List Register) → a ≡ [] → b ≡ [] �
 none_laid head a b e f = rw (e, f) (keys_same head [] refl)
 
 pub chapter_laid : (g : Segment) (cs zs before : List Chapter) (n : ℕ) (y : Chapter) → n ≤ length cs →
-    n ≡ place segment_cmp segment_total place_of (chapter_of g) cs → begins_above segment_cmp place_of (chapter_of g) zs ≡ true →
-    place_of y ≡ chapter_of g → y.registers.items ≡ [] → Lays before (take n cs ++ zs) → Lays before (take n cs ++ y ∷ zs)
+    n ≡ place segment_cmp segment_total home_of (chapter_of g) cs → begins_above segment_cmp home_of (chapter_of g) zs ≡ true →
+    home_of y ≡ chapter_of g → y.registers.items ≡ [] → Lays before (take n cs ++ zs) → Lays before (take n cs ++ y ∷ zs)
 chapter_laid g cs zs before n y l e b same none h =
     let full = take n cs ++ zs in
-    let at = place_between segment_cmp segment_total place_of (chapter_of g) cs zs n e b in
-    let gone = none_between segment_cmp segment_total place_of (chapter_of g) cs zs n e h.orderly.rising b in
+    let at = place_between segment_cmp segment_total home_of (chapter_of g) cs zs n e b in
+    let gone = none_between segment_cmp segment_total home_of (chapter_of g) cs zs n e h.orderly.rising b in
     let changes = insert_chapter g full n h.orderly.rising at y gone same in
     subst (Lays before) (put_between cs zs n y l) (lays_more before full _ h
     (lays_in g y.registers.items full _ changes h.orderly (none_laid (head_of g.key) _ _ (ap registers_in gone) none)))
@@ -95,8 +96,8 @@ chapters_moved before cs ts cs' ts' n e f h = rw (e, f, moved_whole cs ts n) h
 
 -- and then the chapter came there
 pub chapter_more : (g : Segment) (before cs ts cs' ts' ts'' : List Chapter) (n : ℕ) (y : Chapter) → n ≤ length cs →
-    n ≡ place segment_cmp segment_total place_of (chapter_of g) cs → cs' ≡ take n cs → ts' ≡ ts ++ reverse (drop n cs) →
-    begins_above segment_cmp place_of (chapter_of g) (reverse ts') ≡ true → place_of y ≡ chapter_of g → y.registers.items ≡ [] →
+    n ≡ place segment_cmp segment_total home_of (chapter_of g) cs → cs' ≡ take n cs → ts' ≡ ts ++ reverse (drop n cs) →
+    begins_above segment_cmp home_of (chapter_of g) (reverse ts') ≡ true → home_of y ≡ chapter_of g → y.registers.items ≡ [] →
     ts'' ≡ ts' ++ y ∷ [] → Lays before (cs ++ reverse ts) → Lays before (cs' ++ reverse ts'')
 chapter_more g before cs ts cs' ts' ts'' n y l at e f b same none more h =
     rw (e, last_first ts' ts'' y more)

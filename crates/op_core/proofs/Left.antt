@@ -6,7 +6,7 @@ use Rattle.op_core.proofs.Enrolled.{more_items, apart_at}
 use Rattle.std.proofs.Common.{◌+◌, zero, ◌<◌, get_or, option_map, arith, suc, length, take, drop, ◌≡◌, ℕ, Bool, true, false, not, cond, ◌&&◌, ◌||◌, List, [], ◌∷◌, ◌++◌, Option, Some, None, map, filter, refl, sym, ap, ◌∙◌}
 use Rattle.std.specs.List.{list_any, AllByRecursion}
 use Rattle.std.specs.Cmp.{both_ways}
-use Rattle.usfm_ref.specs.Segments.{Segment}
+use Rattle.usfm_ref.specs.declared.segment.Segment.{Segment}
 use Rattle.op_core.specs.Ids.{Id, same_id}
 use Rattle.op_core.specs.Equal.{id_from_same, same_id-refl}
 use Rattle.op_core.specs.Ops.{Operation, IsOperation, is_thinned, bare, in_segment}
@@ -16,7 +16,7 @@ use Rattle.op_core.specs.Lists.{shown_ids}
 use Rattle.op_core.specs.NextIds.{is_among}
 use Rattle.op_core.specs.Loops.Index.{is_missing, IsIndex, AreApart}
 use Rattle.op_core.specs.Thinned.{is_past, is_legal, bare_where, thin_where, is_thinned_in, ArePast, thinned_in, thin, skeleton, all_full}
-use Rattle.op_core.specs.declared.chapter.Chapter.{Chapter}
+use Rattle.op_core.specs.declared.index.chapter.Chapter.{Chapter}
 use Rattle.op_core.proofs.Held.{same_turned}
 use Rattle.op_core.proofs.Bare.{any_same, rises_same, told_same, is_shown_same, replaced_same}
 use Rattle.op_core.proofs.TwoSteps.{skeleton_where, rises_where, get_where, past_where}

@@ -15,7 +15,7 @@ use Rattle.op_core.proofs.Union.{rises-join, get-join, AgreeAtAll, join_comm}
 use Rattle.op_core.proofs.Agreement.{thinned_meets, full_meets}
 use Rattle.op_core.proofs.Bare.{past_same}
 use Rattle.op_core.proofs.Filters.{rises-filter, filter_within, filter_passes, filter_kept, all_of_filter}
-use Rattle.usfm_ref.specs.Segments.{Segment}
+use Rattle.usfm_ref.specs.declared.segment.Segment.{Segment}
 use Rattle.usfm_ref.proofs.Orders.{same_segment-is, same_segment-refl}
 use Rattle.op_core.proofs.Clashes.{get_cases}
 

@@ -5,12 +5,13 @@ use Rattle.std.proofs.lemmas.Bool.{and_parts, false≢true}
 use Rattle.usfm_ref.specs.Books.{same_bytes}
 use Rattle.usfm_ref.specs.Keys.{KeyParts, key_cmp, head_of, is_head, is_verse_of}
 use Rattle.usfm_ref.specs.Rising.{rising}
-use Rattle.usfm_ref.specs.Segments.{Segment, segment}
+use Rattle.usfm_ref.specs.Segments.{segment}
+use Rattle.usfm_ref.specs.declared.segment.Segment.{Segment}
 use Rattle.usfm_ref.proofs.Orders.{same_bytes-is, same_bytes-refl, same_segment-is}
 use Rattle.op_core.specs.Ids.{Id}
 use Rattle.op_core.specs.Ops.{Operation, IsOperation, in_segment, is_full, names}
 use Rattle.op_core.specs.Sets.{IsOpSet, get}
-use Rattle.op_core.specs.Shown.{is_replaced, is_shown, shown, last, text_in, text_of, is_empty}
+use Rattle.op_core.specs.Shown.{is_replaced, is_shown, shown, last, text_if_any, text_of, is_empty}
 use Rattle.op_core.specs.Shown.{is_verse_with_text, has_verse_text, greatest, pick, picked_text, Line}
 use Rattle.op_core.specs.Thinned.{is_legal, is_past}
 use Rattle.op_core.specs.Export.{of_book, has_book, exported_keys, export}
@@ -64,7 +65,7 @@ module _ (held : List Operation) (book : List ℕ) where
           → ((b && is_verse_of chapter o.segment.key) && not (is_empty (text_of (ops_of_book held book) o.segment)))
           ≡ ((b && is_verse_of chapter o.segment.key) && not (is_empty (text_of held o.segment)))
       by false e = refl
-      by true e = ap (λ (ops : List Operation). is_verse_of chapter o.segment.key && not (is_empty (text_in (last ops))))
+      by true e = ap (λ (ops : List Operation). is_verse_of chapter o.segment.key && not (is_empty (text_if_any (last ops))))
           (shown_same o.segment (same_bytes-is o.segment.book book e))
 
   verse_text_same : (chapter : ℕ) → has_verse_text (ops_of_book held book) book chapter ≡ has_verse_text held book chapter
@@ -76,7 +77,7 @@ module _ (held : List Operation) (book : List ℕ) where
 
   pick_same : (key : KeyParts) → pick (ops_of_book held book) (segment book key) ≡ pick held (segment book key)
   pick_same key =
-      (λ i. cond (is_head key.place && nat_le 1 key.chapter && is_empty (text_in (last (shown_same (segment book key) refl i)))
+      (λ i. cond (is_head key.place && nat_le 1 key.chapter && is_empty (text_if_any (last (shown_same (segment book key) refl i)))
       && verse_text_same key.chapter i)
       (Line key.chapter) (greatest (last (shown_same (segment book key) refl i))))
 

@@ -7,7 +7,7 @@ use Rattle.op_core.specs.Ops.{Operation, bare}
 use Rattle.op_core.specs.Sets.{rises, get}
 use Rattle.op_core.specs.Loops.Index.{register_of, shown_in, IsIndex}
 use Rattle.op_core.specs.Thinned.{is_past, is_left_out, thinned_in}
-use Rattle.op_core.specs.declared.chapter.Chapter.{Chapter}
+use Rattle.op_core.specs.declared.index.chapter.Chapter.{Chapter}
 use Rattle.op_core.proofs.Union.{held_itself}
 use Rattle.op_core.proofs.Enrolled.{more_items, each_at}
 use Rattle.op_core.proofs.TwoSteps.{past_not_shown}

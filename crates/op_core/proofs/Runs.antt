@@ -6,7 +6,8 @@ use Rattle.std.specs.Option.{option_or}
 use Rattle.std.proofs.lemmas.Bool.{and_parts}
 use Rattle.std.proofs.lemmas.List.{take-append-drop}
 use Rattle.std.proofs.lemmas.List.Folds.{find-append}
-use Rattle.usfm_ref.specs.Segments.{Segment, segment_cmp, same_segment}
+use Rattle.usfm_ref.specs.Segments.{segment_cmp, same_segment}
+use Rattle.usfm_ref.specs.declared.segment.Segment.{Segment}
 use Rattle.usfm_ref.proofs.Orders.{segment_total, same_segment-cmp}
 use Rattle.usfm_ref.proofs.Sorted.{tied_back}
 use Rattle.op_core.specs.Ids.{same_id}
@@ -14,7 +15,7 @@ use Rattle.op_core.specs.Ops.{Operation, names}
 use Rattle.op_core.specs.Loops.Index.{change_at, shown_in, missing_in, register_of, IsOrderly, IsChangeOf, IsRisingChange, HasRoomIn, Readies}
 use Rattle.op_core.specs.Loops.Turns.{turn_at, is_at, never_fall, comes, is_called, arrives, is_named}
 use Rattle.op_core.specs.Loops.Changes.{change_for, IsChangeAt, AreChanges, AllHaveRoom}
-use Rattle.op_core.specs.declared.chapter.Chapter.{Chapter}
+use Rattle.op_core.specs.declared.index.chapter.Chapter.{Chapter}
 use Rattle.op_core.specs.declared.index.change.Change.{Change}
 use Rattle.op_core.specs.declared.index.turns.Turn.{Turn}
 use Rattle.op_core.proofs.There.{readies_same, readies_more}

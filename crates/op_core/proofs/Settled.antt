@@ -6,13 +6,14 @@ use Rattle.std.specs.Option.{option_or}
 use Rattle.std.specs.Cmp.{Equal-is, tied_itself}
 use Rattle.std.proofs.lemmas.Bool.{and_parts, and_from, cond-true}
 use Rattle.std.proofs.lemmas.List.Folds.{find-append}
-use Rattle.usfm_ref.specs.Segments.{Segment, segment_cmp}
+use Rattle.usfm_ref.specs.Segments.{segment_cmp}
+use Rattle.usfm_ref.specs.declared.segment.Segment.{Segment}
 use Rattle.usfm_ref.proofs.Orders.{segment_total, segment_exact}
 use Rattle.usfm_ref.proofs.Sorted.{parts, each_found}
 use Rattle.op_core.specs.Loops.Index.{register_of, change_at, IsOrderly, IsAt, Takes}
 use Rattle.op_core.specs.Loops.Changes.{change_for, TakesIn, Taken, Settles}
-use Rattle.op_core.specs.declared.register.Register.{Register}
-use Rattle.op_core.specs.declared.chapter.Chapter.{Chapter}
+use Rattle.op_core.specs.declared.index.register.Register.{Register}
+use Rattle.op_core.specs.declared.index.chapter.Chapter.{Chapter}
 use Rattle.op_core.specs.declared.index.change.Change.{Change}
 use Rattle.op_core.proofs.Turned.{AreBelow, changes_rise, none_for}
 

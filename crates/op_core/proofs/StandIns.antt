@@ -17,7 +17,7 @@ use Rattle.op_core.proofs.NoClash.{no_clash}
 use Rattle.op_core.proofs.Bare.{is_shown_same, rises_same}
 use Rattle.op_core.proofs.Filters.{rises-filter, all-filter}
 use Rattle.op_core.proofs.Legal.{join_legal, full-join, full_legal, thin_legal, shown_full, delta_legal}
-use Rattle.usfm_ref.specs.Segments.{Segment}
+use Rattle.usfm_ref.specs.declared.segment.Segment.{Segment}
 
 abbrev pub ArePairs : List Operation → List Operation → Type 0
 ArePairs [] [] = Unit {0}

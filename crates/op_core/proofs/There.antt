@@ -5,14 +5,15 @@ use Rattle.std.specs.List.{list_any}
 use Rattle.std.specs.Option.{is_some}
 use Rattle.std.specs.Cmp.{Equal-is, tied_itself}
 use Rattle.std.proofs.lemmas.Bool.{cond-true, true≢false}
-use Rattle.usfm_ref.specs.Segments.{Segment, segment_cmp}
+use Rattle.usfm_ref.specs.Segments.{segment_cmp}
+use Rattle.usfm_ref.specs.declared.segment.Segment.{Segment}
 use Rattle.usfm_ref.proofs.Orders.{segment_total, segment_exact}
 use Rattle.op_core.specs.Ids.{Id, same_id, ids_rise}
 use Rattle.op_core.specs.Ops.{Operation}
 use Rattle.op_core.specs.Loops.Index.{register_of, shown_in, missing_in, is_there, IsOrderly, IsIndex, Changes, Same, IsAt, IsSameBut, Readies, HasRoomIn}
 use Rattle.op_core.specs.Sets.{rises}
-use Rattle.op_core.specs.declared.register.Register.{Register}
-use Rattle.op_core.specs.declared.chapter.Chapter.{Chapter}
+use Rattle.op_core.specs.declared.index.register.Register.{Register}
+use Rattle.op_core.specs.declared.index.chapter.Chapter.{Chapter}
 use Rattle.op_core.specs.declared.index.change.Change.{Change}
 use Rattle.op_core.proofs.Kept.{shown_ids_rise}
 

@@ -11,7 +11,8 @@ use Rattle.std.proofs.Math.ListN.{drop_of_length-le}
 use Rattle.std.proofs.lemmas.Bool.{and_parts, and_from, cond-false}
 use Rattle.std.proofs.lemmas.List.Folds.{list_any-append, list_any_more}
 use Rattle.std.proofs.lemmas.List.Sorted.{list_any-IsPermutation, ranks_by, sorted_far}
-use Rattle.usfm_ref.specs.Segments.{Segment, segment_cmp, same_segment}
+use Rattle.usfm_ref.specs.Segments.{segment_cmp, same_segment}
+use Rattle.usfm_ref.specs.declared.segment.Segment.{Segment}
 use Rattle.usfm_ref.specs.Rising.{rises_by}
 use Rattle.usfm_ref.proofs.Orders.{segment_total, segment_exact, same_segment-cmp}
 use Rattle.usfm_ref.proofs.Sorted.{tied_back, parts}
@@ -20,7 +21,7 @@ use Rattle.op_core.specs.Ops.{Operation}
 use Rattle.op_core.specs.Loops.Index.{is_in, change_at, shown_in, missing_in, register_of, IsChangeOf, Readies}
 use Rattle.op_core.specs.Loops.Turns.{turn_at, is_at, never_fall, arrives, is_named, AreTurnsOf}
 use Rattle.op_core.specs.Loops.Changes.{change_for, IsChangeAt}
-use Rattle.op_core.specs.declared.chapter.Chapter.{Chapter}
+use Rattle.op_core.specs.declared.index.chapter.Chapter.{Chapter}
 use Rattle.op_core.specs.declared.index.change.Change.{Change}
 use Rattle.op_core.specs.declared.index.turns.Turn.{Turn}
 

@@ -1,7 +1,7 @@
 -- Laws of sets of operations: of a join semilattice, and of what a multi-value register shows (INRIA RR-7506).
 use Rattle.std.specs.Prelude.{◌≡◌, ◌≢◌, ℕ, true, false, List, [], ◌∷◌, None, Some, Result, Ok, Err, Option, ◌⊎◌, IsTrue, is_ok}
 use Rattle.std.specs.List.{list_any, Contains}
-use Rattle.usfm_ref.specs.Segments.{Segment}
+use Rattle.usfm_ref.specs.declared.segment.Segment.{Segment}
 use Rattle.op_core.specs.Ids.{Id, id_below}
 use Rattle.op_core.specs.Ops.{Operation, is_full, in_segment, agree}
 use Rattle.op_core.specs.Sets.{IsOpSet, get, met, join, clash}

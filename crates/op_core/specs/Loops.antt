@@ -2,3 +2,4 @@
 pub mod Index
 pub mod Changes
 pub mod Turns
+pub mod Searches

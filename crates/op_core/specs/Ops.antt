@@ -7,7 +7,8 @@ use Rattle.std.specs.Str.{IsUtf8}
 use Rattle.std.specs.Cmp.Lexicographic.{pointwise}
 use Rattle.usfm_ref.specs.Books.{same_bytes, is_book_code}
 use Rattle.usfm_ref.specs.Keys.{is_key, is_verse_of}
-use Rattle.usfm_ref.specs.Segments.{Segment, same_segment}
+use Rattle.usfm_ref.specs.Segments.{same_segment}
+use Rattle.usfm_ref.specs.declared.segment.Segment.{Segment}
 use Rattle.verse_cut.specs.Fits.{Fits}
 use Rattle.op_core.specs.Ids.{Id, same_id, is_id, names_fall}
 

@@ -4,11 +4,11 @@
 use Rattle.std.specs.Prelude.{ℕ, nat_le, Bool, not, ◌&&◌, cond, List, [], ◌∷◌, Option, Some, None, filter, option_map}
 use Rattle.std.specs.List.{list_any}
 use Rattle.usfm_ref.specs.Keys.{is_head}
-use Rattle.usfm_ref.specs.Segments.{Segment}
+use Rattle.usfm_ref.specs.declared.segment.Segment.{Segment}
 pub use Rattle.verse_cut.specs.Reading.{is_empty}
 pub use Rattle.verse_cut.specs.Joins.{chapter_line}
-use Rattle.op_core.specs.declared.picked.Picked.{Picked}
-use Rattle.op_core.specs.declared.picked.Picked.TheVariants.{Nothing, Held, ChapterLine}
+use Rattle.op_core.specs.declared.operations.picked.Picked.{Picked}
+use Rattle.op_core.specs.declared.operations.picked.Picked.TheVariants.{Nothing, Held, ChapterLine}
 use Rattle.op_core.specs.Ids.{Id}
 use Rattle.op_core.specs.Ops.{Operation, in_segment, is_verse_in, names, own_text}
 
@@ -35,13 +35,13 @@ abbrev pub last_id : List Operation → Option Id
 last_id ops = option_map (λ o. o.id) (last ops)
 
 -- the text of an operation, empty if there is none or its text is left out
-abbrev pub text_in : Option Operation → List ℕ
-text_in None = []
-text_in (Some o) = own_text o
+abbrev pub text_if_any : Option Operation → List ℕ
+text_if_any None = []
+text_if_any (Some o) = own_text o
 
 -- the text of the greatest shown id, empty where none is shown
 abbrev pub text_of : List Operation → Segment → List ℕ
-text_of held g = text_in (last (shown held g))
+text_of held g = text_if_any (last (shown held g))
 
 -- whether the operation's segment is a verse of the chapter and has a text that is not empty
 abbrev pub is_verse_with_text : List Operation → List ℕ → ℕ → Operation → Bool

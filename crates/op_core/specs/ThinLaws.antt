@@ -1,7 +1,7 @@
 -- Laws of sets of which some operations may be thinned (this project's own rule).
 use Rattle.std.specs.Prelude.{◌≡◌, ◌⊎◌, ℕ, Bool, true, false, not, List, Some, None, ◌||◌, Result, Ok, filter, is_none}
 use Rattle.std.specs.Option.{is_some}
-use Rattle.usfm_ref.specs.Segments.{Segment}
+use Rattle.usfm_ref.specs.declared.segment.Segment.{Segment}
 use Rattle.op_core.specs.Ids.{Id}
 use Rattle.op_core.specs.Ops.{Operation, is_full, bare, agree}
 use Rattle.op_core.specs.Sets.{rises, get, put, join, clash}

@@ -1,7 +1,7 @@
 -- Thinned operations (this project's own rule): a replaced operation may be kept without its text.
 use Rattle.std.specs.Prelude.{◌≡◌, Bool, true, false, not, ◌&&◌, ◌||◌, cond, List, map, filter, Some, IsTrue, Option, None}
 use Rattle.std.specs.List.{list_any, list_all}
-use Rattle.usfm_ref.specs.Segments.{Segment}
+use Rattle.usfm_ref.specs.declared.segment.Segment.{Segment}
 use Rattle.op_core.specs.Ids.{Id, same_id}
 use Rattle.op_core.specs.Ops.{Operation, is_full, is_thinned, bare, in_segment}
 use Rattle.op_core.specs.Sets.{rises, get}

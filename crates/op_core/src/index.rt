@@ -8,25 +8,33 @@ ghost use Rattle.op_core.specs.Sets as sets;
 ghost use Rattle.op_core.specs.Sets.{IsOpSet};
 ghost use Rattle.op_core.specs.Loops.Index.{register_of, shown_in, IsOrderly, IsIndex, AreApart, Changes, Same};
 
+mod awaited;
 mod begin;
-pub(crate) mod change;
+pub(crate) mod books;
+mod change;
+pub(crate) mod chapter;
+pub(crate) mod keys;
 mod lay;
+pub(crate) mod place;
 mod ready;
+mod register;
 mod settle;
 mod turns;
 
+pub(crate) use self::awaited::push_awaited;
 use self::begin::begin_index;
+use self::chapter::{Chapter, put_register};
 use self::lay::lay_out;
+use self::place::{place_chapter, shown_of};
 use self::ready::ready_all;
+use self::register::Register;
 use self::settle::settle_all;
 use self::turns::turns_of;
-use crate::chapter::{Chapter, put_register};
 use crate::ids::has_id;
-use crate::op::Op;
-use crate::place::{Near, head_of, place_chapter, shown_of};
-use crate::register::Register;
+use crate::ids::search::Search;
+use crate::operations::op::Op;
 use std::alloc::{AllocError, Global};
-use usfm_ref::Book;
+use usfm_ref::{Book, Segment};
 
 // Takes in operations that rise and of which none is held. What they change at each segment is reckoned
 // aside, with the room for it, before the first change is made. Where nothing is held, the whole index is
@@ -36,8 +44,7 @@ pub(crate) fn enroll(
     alloc: Global,
     held: &[Op],
     new: &[Op],
-    near: &mut Near,
-    compared: &mut u64,
+    search: &mut Search,
 ) -> Result<(), AllocError>
     requires held { IsOpSet held.now }
     requires new { IsOpSet new.now }
@@ -46,14 +53,14 @@ pub(crate) fn enroll(
     ensures ok { OnOk result (IsIndex (sets.join held.now new.now) chapters.new.items) }
     ensures err { OnErr result (IsIndex held.now chapters.new.items) }
 {
-    let turns = turns_of(alloc, new, compared)?;
+    let turns = turns_of(alloc, new, search)?;
     if held.is_empty() {
-        *chapters = begin_index(alloc, new, &turns, compared)?;
+        *chapters = begin_index(alloc, new, &turns, search)?;
         return Ok(());
     }
-    lay_out(chapters, alloc, &turns, near, compared)?;
-    let changes = ready_all(chapters, alloc, held, new, &turns, near, compared)?;
-    settle_all(chapters, changes, near, compared);
+    lay_out(chapters, alloc, &turns, search)?;
+    let changes = ready_all(chapters, alloc, held, new, &turns, search)?;
+    settle_all(chapters, changes, search);
     Ok(())
 }
 
@@ -63,8 +70,7 @@ pub(crate) fn put_in(
     alloc: Global,
     book: Book,
     register: Register,
-    near: &mut Near,
-    compared: &mut u64,
+    search: &mut Search,
 ) -> Result<(), AllocError>
     requires orderly { IsOrderly chapters.old.items }
     requires absent { register_of (segment book register.key) chapters.old.items ≡ None }
@@ -72,38 +78,27 @@ pub(crate) fn put_in(
         (Changes (segment book register.key) register chapters.old.items chapters.new.items) }
     ensures err { OnErr result (Same chapters.old.items chapters.new.items) }
 {
-    let head = head_of(register.key);
-    let at = place_chapter(chapters, book, head, &mut near.chapter, compared);
+    let segment = Segment {
+        book,
+        key: register.key,
+    };
+    let at = place_chapter(chapters, &segment, search);
     if at < chapters.len() {
         let chapter = &mut chapters[at];
-        if chapter.order(book, head).is_eq() {
-            return put_register(
-                &mut chapter.registers,
-                register,
-                &mut near.register,
-                compared,
-            );
+        search.count();
+        if chapter.order(&segment).is_eq() {
+            return put_register(&mut chapter.registers, register, search);
         }
     }
     chapters.reserve(1)?;
-    let mut registers = Vec::new(alloc);
-    put_register(&mut registers, register, &mut near.register, compared)?;
-    let chapter = Chapter {
-        book,
-        head,
-        registers,
-    };
+    let mut chapter = Chapter::new(alloc, &segment);
+    put_register(&mut chapter.registers, register, search)?;
     chapters.insert(at, chapter).unwrap();
     Ok(())
 }
 
 // Leaves out the text of each operation that one of its segment names, and says how many had one.
-pub(crate) fn leave_past(
-    ops: &mut [Op],
-    chapters: &[Chapter],
-    near: &mut Near,
-    compared: &mut u64,
-) -> u64
+pub(crate) fn leave_past(ops: &mut [Op], chapters: &[Chapter], search: &mut Search) -> u64
     requires set { IsOpSet ops.old }
     requires index { IsIndex ops.old chapters.now }
     ensures thin { ops.new ≡ thinned.thin ops.old }
@@ -111,7 +106,7 @@ pub(crate) fn leave_past(
 {
     let mut count: u64 = 0;
     for i in 0..ops.len() {
-        if is_past(chapters, &ops[i], near, compared) && ops[i].leave_text() {
+        if is_past(chapters, &ops[i], search) && ops[i].leave_text() {
             count += 1;
         }
     }
@@ -119,12 +114,12 @@ pub(crate) fn leave_past(
 }
 
 // Whether the operation's segment does not show it.
-fn is_past(chapters: &[Chapter], op: &Op, near: &mut Near, compared: &mut u64) -> bool
+fn is_past(chapters: &[Chapter], op: &Op, search: &mut Search) -> bool
     requires orderly { IsOrderly chapters.now }
     requires rising { IsTrue (ids_rise (shown_in (register_of op.now.segment chapters.now))) }
     ensures { result
         ≡ not (list_any (same_id op.now.id) (shown_in (register_of op.now.segment chapters.now))) }
 {
-    let shown = shown_of(chapters, op.book(), op.key(), near, compared);
-    !has_id(shown, op.id(), compared)
+    let shown = shown_of(chapters, &op.segment(), search);
+    !has_id(shown, op.id(), search)
 }

@@ -5,7 +5,7 @@ ghost use Rattle.op_core.specs.Ids.{Id, id_cmp};
 ghost use Rattle.op_core.specs.Laws as laws;
 ghost use Rattle.op_core.specs.ThinLaws as thin_laws;
 
-use crate::op_id::OpId;
+use crate::ids::op_id::OpId;
 
 /// Ids go by number, and then by the bytes of the name.
 pub fn ids_are_ordered()

@@ -2,46 +2,46 @@ ghost use Rattle.std.specs.Prelude.{◌≡◌, ◌≢◌, ◌&&◌, ◌||◌, �
 ghost use Rattle.std.specs.Prelude.{None, IsTrue, IsOk, IfOk, IfErr, OnOk, OnErr};
 ghost use Rattle.std.specs.Option.{option_copied};
 ghost use Rattle.usfm_ref.specs.Segments.{segment};
-ghost use Rattle.op_core.specs.Ids.{Id, same_id};
+ghost use Rattle.usfm_ref.specs.Segments as segments;
 ghost use Rattle.op_core.specs.Ops as ops;
 ghost use Rattle.op_core.specs.Sets as sets;
 ghost use Rattle.op_core.specs.Thinned as thinned;
 ghost use Rattle.op_core.specs.Shown as texts;
 ghost use Rattle.op_core.specs.Lists as lists;
-ghost use Rattle.op_core.specs.Loops.Index.{is_missed, is_missed_in};
+ghost use Rattle.op_core.specs.Loops.Index.{IsIndex};
 ghost use Rattle.op_core.specs.NextIds as next_ids;
-ghost use Rattle.std.specs.List.{AllByRecursion, list_any};
+ghost use Rattle.std.specs.List.{AllByRecursion};
 ghost use Rattle.usfm_ref.specs.Keys.{is_verse_of};
 
 mod thinning;
 
-use crate::books::Books;
-use crate::chapter::Chapter;
 use crate::fault::SetFault;
-use crate::finder::Finder;
-use crate::index::enroll;
-use crate::keys::Keys;
-use crate::merge::{
+use crate::ids::op_id::OpId;
+use crate::ids::search::Search;
+use crate::index::books::Books;
+use crate::index::chapter::Chapter;
+use crate::index::keys::Keys;
+use crate::index::place::{any_key_beside, shown_of};
+use crate::index::{enroll, push_awaited};
+use crate::lists::finder::Finder;
+use crate::lists::merge::{
     clash, has_new, leave_held, look_at_each, merge, place_first, reserve_ops, tail_of,
 };
-use crate::op::Op;
-use crate::op_id::OpId;
-use crate::ops::Ops;
-use crate::picked::Picked;
-use crate::place::{Near, find_op, op_at, place_last, registers_of, shown_of};
-use crate::register::Register;
+use crate::lists::place::{find_op, op_at, place_last};
+use crate::operations::op::Op;
+use crate::operations::ops::Ops;
+use crate::operations::picked::Picked;
 use std::alloc::{AllocError, Global};
 use std::marker::Model;
 use std::slice;
-use usfm_ref::{Book, Key, Place};
+use usfm_ref::{Book, Key, Place, Segment};
 
 /// A set of operations, of which no two have one id. It keeps the allocator that it was made with.
 #[derive(Debug, Drop)]
 pub struct OpSet {
     ops: Vec<Op>,
     chapters: Vec<Chapter>,
-    near: Near,
-    compared: u64,
+    search: Search,
 }
 
 impl Model for OpSet {
@@ -68,8 +68,7 @@ impl OpSet {
         OpSet {
             ops: Vec::new(alloc),
             chapters: Vec::new(alloc),
-            near: Near::default(),
-            compared: 0,
+            search: Search::default(),
         }
     }
 
@@ -110,7 +109,7 @@ impl OpSet {
     pub fn get(&self, id: &OpId) -> Option<&Op>
         ensures { option_copied result ≡ sets.get self.now id.now }
     {
-        find_op(&self.ops, *id, &mut 0)
+        find_op(&self.ops, *id, &mut Search::default())
     }
 
     /// What finds held operations by their ids, and fastest by ids that rise. It takes no memory.
@@ -136,8 +135,8 @@ impl OpSet {
         ensures err { OnErr result (self.new ≡ self.old) }
     {
         let id = op.id();
-        let at = place_last(&self.ops, id, &mut self.compared);
-        if let Some(held) = op_at(&self.ops, at, id) {
+        let at = place_last(&self.ops, id, &mut self.search);
+        if let Some(held) = op_at(&self.ops, at, id, &mut self.search) {
             return if held.agrees(&op) {
                 Ok(false)
             } else {
@@ -147,14 +146,7 @@ impl OpSet {
         self.ops.reserve(1)?;
         let alloc = *self.ops.allocator();
         let new = slice::from_ref(&op);
-        enroll(
-            &mut self.chapters,
-            alloc,
-            &self.ops,
-            new,
-            &mut self.near,
-            &mut self.compared,
-        )?;
+        enroll(&mut self.chapters, alloc, &self.ops, new, &mut self.search)?;
         self.ops.insert(at, op).unwrap();
         Ok(true)
     }
@@ -173,16 +165,16 @@ impl OpSet {
         ensures held { sets.AreHeld self.old other → result ≢ Err SetFault.Memory }
         ensures err { OnErr result (self.new ≡ self.old) }
     {
-        if let Some(id) = clash(&self.ops, &other.ops, &mut self.compared) {
+        if let Some(id) = clash(&self.ops, &other.ops, &mut self.search) {
             return Err(SetFault::Clash(id));
         }
-        if !has_new(&self.ops, &other.ops, &mut self.compared) {
+        if !has_new(&self.ops, &other.ops, &mut self.search) {
             self.leave_thinned(&other.ops);
             return Ok(0);
         }
         let mut new = other.ops;
         let thinned = thinning::ids(*self.ops.allocator(), &new)?;
-        leave_held(&mut new, &self.ops, &mut self.compared);
+        leave_held(&mut new, &self.ops, &mut self.search);
         let count = self.join_rising(new)?;
         self.leave_texts(&thinned);
         Ok(count)
@@ -208,19 +200,12 @@ impl OpSet {
         }
         look_at_each(&new);
         let count = new.len();
-        let from = place_first(&self.ops, &new, &mut self.compared);
+        let from = place_first(&self.ops, &new, &mut self.search);
         let alloc = *self.ops.allocator();
         let tail = tail_of(alloc, self.ops.len(), from, count)?;
         reserve_ops(&mut self.ops, count)?;
-        enroll(
-            &mut self.chapters,
-            alloc,
-            &self.ops,
-            &new,
-            &mut self.near,
-            &mut self.compared,
-        )?;
-        merge(&mut self.ops, new, tail, from, &mut self.compared);
+        enroll(&mut self.chapters, alloc, &self.ops, &new, &mut self.search)?;
+        merge(&mut self.ops, new, tail, from, &mut self.search);
         Ok(count as u64)
     }
 
@@ -229,23 +214,22 @@ impl OpSet {
     pub fn shown_ids(&self, book: Book, key: Key) -> &[OpId]
         ensures { result.now ≡ lists.shown_ids self.now (segment book key) }
     {
-        shown_of(&self.chapters, book, key, &mut Near::default(), &mut 0)
+        let segment = Segment { book, key };
+        shown_of(self.index(), &segment, &mut Search::default())
     }
 
     /// The books with an operation, in the order of books. The walk takes no memory.
     pub fn books(&self) -> Books<'_>
         ensures { result ≡ lists.books_of self.now }
     {
-        let _ = &self.ops;
-        Books::new(&self.chapters)
+        Books::new(self.index())
     }
 
     /// The keys of a book with an operation, rising. The walk takes no memory.
     pub fn keys(&self, book: Book) -> Keys<'_>
         ensures { result ≡ lists.keys_of self.now book }
     {
-        let _ = &self.ops;
-        Keys::new(book, &self.chapters)
+        Keys::new(book, self.index())
     }
 
     /// The ids that a held operation names and none has, rising, each once. Where there is none, it
@@ -257,9 +241,8 @@ impl OpSet {
         ensures ids { IfOk result (λ ids. ids.items ≡ lists.awaited self.now) }
         ensures none { lists.awaited self.now ≡ [] → IsOk result }
     {
-        let _ = &self.ops;
         let mut ids = Vec::new(alloc);
-        self.push_awaited(&self.chapters, &mut ids)?;
+        push_awaited(self.index(), self.ops(), &mut ids)?;
         ids.sort_unstable();
         ids.dedup();
         Ok(ids)
@@ -268,7 +251,7 @@ impl OpSet {
     /// How many comparisons the calls made that change the set: each of two ids or of two segments
     /// adds one, up to `u64::MAX`. It is no part of the set, and may rise in a refused call.
     pub fn compared(&self) -> u64 {
-        self.compared
+        self.search.compared
     }
 
     /// What the segment shows: the operations of it whose ids no operation of it names as replaced,
@@ -281,8 +264,8 @@ impl OpSet {
             (λ v. map (λ op. op.now) v.items ≡ texts.shown self.now (segment book key)) }
         ensures none { texts.shown self.now (segment book key) ≡ [] → IsOk result }
     {
-        let _ = &self.ops;
-        let ids = self.shown_ids(book, key);
+        let segment = Segment { book, key };
+        let ids = shown_of(self.index(), &segment, &mut Search::default());
         let mut shown = Vec::with_capacity(alloc, ids.len())?;
         for id in ids {
             if let Some(op) = self.get(id) {
@@ -298,97 +281,72 @@ impl OpSet {
     pub fn pick(&self, book: Book, key: Key) -> Picked<'_>
         ensures { texts.picked result ≡ texts.pick self.now (segment book key) }
     {
+        let segment = Segment { book, key };
         if key.place == Place::Head
             && key.chapter >= 1
-            && self.is_text_empty(book, key)
-            && self.has_verse_text(book, key)
+            && self.is_text_empty(&segment)
+            && self.has_verse_text(&segment)
         {
             return Picked::ChapterLine(key.chapter);
         }
-        match self.greatest(book, key) {
+        match self.greatest(&segment) {
             None => Picked::Nothing,
             Some(op) => Picked::Held(op),
         }
     }
 
-    // Adds what the chapters' registers miss and no operation has. Where that fails, there is one.
-    fn push_awaited(&self, chapters: &[Chapter], ids: &mut Vec<OpId>) -> Result<(), AllocError>
-        ensures ids { OnOk result ((q : Id) → list_any (same_id q) ids.new.items
-            ≡ (list_any (same_id q) ids.old.items
-            || (is_missed_in chapters.now q && not (lists.is_held self.now q)))) }
-        ensures one { OnErr result ((q : Id)
-            × IsTrue (is_missed_in chapters.now q && not (lists.is_held self.now q))) }
+    // The index, chapter by chapter. What holds of it, and of the operations, is known to those who read it.
+    fn index(&self) -> &[Chapter]
+        ensures set { sets.IsOpSet self.now }
+        ensures index { IsIndex self.now result.now }
     {
-        for chapter in chapters {
-            self.push_missing_in(&chapter.registers, ids)?;
-        }
-        Ok(())
+        &self.chapters
     }
 
-    fn push_missing_in(&self, registers: &[Register], ids: &mut Vec<OpId>) -> Result<(), AllocError>
-        ensures ids { OnOk result ((q : Id) → list_any (same_id q) ids.new.items
-            ≡ (list_any (same_id q) ids.old.items
-            || (is_missed registers.now q && not (lists.is_held self.now q)))) }
-        ensures one { OnErr result ((q : Id)
-            × IsTrue (is_missed registers.now q && not (lists.is_held self.now q))) }
+    // The operations, rising by id.
+    fn ops(&self) -> &[Op]
+        ensures ops { result.now ≡ self.now }
+        ensures rising { IsTrue (sets.rises result.now) }
     {
-        for register in registers {
-            self.push_unheld(&register.missing, ids)?;
-        }
-        Ok(())
-    }
-
-    fn push_unheld(&self, missing: &[OpId], ids: &mut Vec<OpId>) -> Result<(), AllocError>
-        ensures ids { OnOk result ((q : Id) → list_any (same_id q) ids.new.items
-            ≡ (list_any (same_id q) ids.old.items
-            || (list_any (same_id q) missing.now && not (lists.is_held self.now q)))) }
-        ensures one { OnErr result ((q : Id)
-            × IsTrue (list_any (same_id q) missing.now && not (lists.is_held self.now q))) }
-    {
-        for id in missing {
-            if self.get(id).is_none() {
-                ids.push(*id)?;
-            }
-        }
-        Ok(())
+        &self.ops
     }
 
     // The shown operation with the greatest id.
-    fn greatest(&self, book: Book, key: Key) -> Option<&Op>
-        ensures { option_copied result ≡ texts.last (texts.shown self.now (segment book key)) }
+    fn greatest(&self, segment: &Segment) -> Option<&Op>
+        ensures { option_copied result ≡ texts.last (texts.shown self.now segment.now) }
     {
-        let _ = &self.ops;
-        let id = self.shown_ids(book, key).last()?;
+        let id = shown_of(self.index(), segment, &mut Search::default()).last()?;
         self.get(id)
     }
 
-    fn is_text_empty(&self, book: Book, key: Key) -> bool
-        ensures { result ≡ texts.is_empty (texts.text_of self.now (segment book key)) }
+    fn is_text_empty(&self, segment: &Segment) -> bool
+        ensures { result ≡ texts.is_empty (texts.text_of self.now segment.now) }
     {
-        match self.greatest(book, key) {
+        match self.greatest(segment) {
             None => true,
             Some(op) => op.text_or_empty().is_empty(),
         }
     }
 
     // Whether some verse of the chapter has a text that is not empty.
-    fn has_verse_text(&self, book: Book, key: Key) -> bool
-        ensures { result ≡ texts.has_verse_text self.now book key.chapter }
+    fn has_verse_text(&self, segment: &Segment) -> bool
+        ensures { result ≡ texts.has_verse_text self.now segment.now.book segment.now.key.chapter }
     {
-        let _ = &self.ops;
-        let registers = registers_of(&self.chapters, book, key, &mut 0, &mut 0);
-        self.has_text_among(registers, book, key)
-    }
-
-    // Whether one of the registers is of a verse of the key's chapter with a text that is not empty.
-    fn has_text_among(&self, registers: &[Register], book: Book, key: Key) -> bool
-        ensures { result ≡ list_any
-            (λ r. is_verse_of key.chapter r.key
-            && not (texts.is_empty (texts.text_of self.now (segment book r.key)))) registers.now }
-    {
-        registers.iter().any(|register| {
-            is_verse_beside(key, register.key) && !self.is_text_empty(book, register.key)
-        })
+        any_key_beside(
+            self.index(),
+            segment,
+            |key| -> bool
+                ensures { result ≡ (is_verse_of segment.entry.now.key.chapter key.now
+                    && not (texts.is_empty (texts.text_of self.entry.now
+                    (segments.segment segment.entry.now.book key.now)))) }
+            {
+                let own = Segment {
+                    book: segment.book,
+                    key: *key,
+                };
+                is_verse_beside(segment.key, *key) && !self.is_text_empty(&own)
+            },
+        )
     }
 }
 

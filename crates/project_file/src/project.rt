@@ -5,7 +5,10 @@ ghost use Rattle.op_core.specs.Names.{is_name};
 ghost use Rattle.op_core.specs.OneBook.{ops_of_book};
 ghost use Rattle.op_core.specs.Sets.{clash};
 ghost use Rattle.op_core.specs.Thinned.{all_full};
+ghost use Rattle.bundle_codec.specs.Joining.{whole_at};
 ghost use Rattle.bundle_codec.specs.Loops.Merging.{RefusesUnion};
+ghost use Rattle.bundle_codec.specs.Spelling as spelled;
+ghost use Rattle.bundle_codec.specs.Summaries.{outside};
 ghost use Rattle.replica_state.specs.OneBook.{of_one_book};
 ghost use Rattle.replica_state.specs.Receives.{lacked};
 ghost use Rattle.replica_state.specs.States.{State, IsState, begun};
@@ -14,7 +17,7 @@ ghost use Rattle.project_file.specs.Answers as answers;
 ghost use Rattle.project_file.specs.Projects as projects;
 
 use crate::fault::{CreateFault, LoadFault};
-use bundle_codec::{Bundle, JoinFault, decode_whole};
+use bundle_codec::{Bundle, JoinFault, Summary, decode_whole};
 use op_core::ReplicaName;
 use replica_state::{ReceiveFault, Replica};
 use std::alloc::{AllocError, Global};
@@ -139,6 +142,20 @@ impl Project<'_> {
         let front = front_for(alloc, &self.name)?;
         let (file, count) = self.bundle.join_after(bundle, front)?;
         Ok((file, count - self.bundle.len()))
+    }
+
+    /// The bundle of the operations that the replica holds and whose ids lie outside a summary, as
+    /// `Replica::delta` says it. The bytes of each are copied as they are; no replica is made.
+    ///
+    /// # Errors
+    /// Out of memory alone.
+    pub fn delta(&self, alloc: Global, summary: &Summary) -> Result<Vec<u8>, AllocError>
+        ensures spelled { IfOk result (λ bytes.
+            bytes.items ≡ spelled.bundle (outside summary.now self.now.held)) }
+        ensures again { IfOk result (λ bytes.
+            whole_at bytes.items ≡ Ok (outside summary.now self.now.held)) }
+    {
+        self.bundle.outside(alloc, summary)
     }
 }
 

@@ -1,6 +1,6 @@
 // The worked rows of project files.
 use crate::{CreateFault, LoadFault, create, judge, load, load_book, save};
-use bundle_codec::{BundleFault, JoinFault, WholeFault, decode_whole};
+use bundle_codec::{BundleFault, JoinFault, Summary, WholeFault, decode_whole};
 use op_core::OpId;
 use std::alloc::{AllocError, Global};
 use std::process::Abort;
@@ -21,6 +21,10 @@ const V2: [u8; 104] =
 // 3 ana on RUT 0, which names nothing.
 const RUTH: [u8; 46] =
     *b"\0\0\0\0\0\0\0\x03\x03anaRUT\0\0\0\0\0\0\0\0\0\0\0\0\0\0\x01\0\0\0\0\0\0\0\x08\\id RUT\n";
+
+// A summary that covers 1 ana.
+const FIRST: [u8; 44] =
+    *b"USFMSS1\n\0\0\0\0\0\0\0\x01\x03ana\0\0\0\0\0\0\0\x01\0\0\0\0\0\0\0\x01\0\0\0\0\0\0\0\x01";
 
 const CUT: LoadFault = LoadFault::Bundle(WholeFault::Bundle(BundleFault::Truncated));
 
@@ -123,6 +127,23 @@ fn clash_on_the_bytes(rt: HostRuntime) -> Result<(), Fail> {
         return Err(Fail::from("a project's file is not empty"));
     };
     assert_eq!(rt; judge(alloc, cut).err(), Some(CUT));
+    Ok(())
+}
+
+#[test]
+fn delta_on_the_bytes(rt: HostRuntime) -> Result<(), Fail> {
+    let alloc = rt.alloc();
+    let summary = Summary::read(alloc, &FIRST)?;
+    let of_second = joined(alloc, b"USFMSR1\n\0\0\0\0\0\0\0\x01", &B1[62..])?;
+    for (held, wanted) in [
+        (&B1[..], &of_second[..]),
+        (&V2, &V2),
+        (&ANA[12..], &ANA[12..]),
+    ] {
+        let file = joined(alloc, &ANA[..12], held)?;
+        let made = judge(alloc, &file)?.delta(alloc, &summary)?;
+        assert_eq!(rt; made.as_slice(), wanted);
+    }
     Ok(())
 }
 

@@ -11,14 +11,15 @@ use Rattle.std.proofs.lemmas.List.Folds.{list_any-append, list_all-append, find-
 use Rattle.usfm_ref.specs.Books.{same_bytes}
 use Rattle.usfm_ref.specs.Keys.{KeyParts, key_cmp, same_key}
 use Rattle.usfm_ref.specs.Rising.{rises_by}
-use Rattle.usfm_ref.specs.Segments.{Segment, segment}
+use Rattle.usfm_ref.specs.Segments.{segment}
+use Rattle.usfm_ref.specs.declared.segment.Segment.{Segment}
 use Rattle.usfm_ref.proofs.Orders.{key_total, key_exact, same_bytes-refl, same_key-is, same_key-refl}
 use Rattle.usfm_ref.proofs.Sorted.{is_less}
 use Rattle.verse_cut.specs.Pieces.{PieceParts}
 use Rattle.op_core.specs.Ids.{Id, same_id, id_below, ids_rise}
 use Rattle.op_core.specs.Ops.{Operation, IsOperation, in_segment, names}
 use Rattle.op_core.specs.Sets.{rises, get, join, met}
-use Rattle.op_core.specs.Shown.{is_replaced, is_shown, last, text_in, text_of}
+use Rattle.op_core.specs.Shown.{is_replaced, is_shown, last, text_if_any, text_of}
 use Rattle.op_core.specs.Lists.{shown_ids}
 use Rattle.op_core.specs.NextIds.{greatest_number, next_number}
 use Rattle.op_core.proofs.Enrolled.{apart_at}
@@ -179,15 +180,15 @@ module _ (s : State) (state : IsState s) (book : List ℕ) (pieces : List PieceP
     pub text_edited : rises_by key_cmp (λ k. k) all ≡ true → is_there key all ≡ true → text_of now g ≡ piece_at pieces key
     text_edited r h =
         let one = one_edit (next_number s.held) all r (omega arith) h in
-        ap (λ (ops : List Operation). text_in (last ops))
+        ap (λ (ops : List Operation). text_if_any (last ops))
         (filter-append (is_shown now g) s.held (edits (next_number s.held) all)
         ∙ ap (λ (ops : List Operation). filter (is_shown now g) s.held ++ ops) one.1)
-        ∙ ap text_in (last_push (filter (is_shown now g) s.held) (edit_at s book pieces one.0 key))
+        ∙ ap text_if_any (last_push (filter (is_shown now g) s.held) (edit_at s book pieces one.0 key))
 
     -- a key without one: its text is as it was
     pub text_kept : is_there key all ≡ false → text_of now g ≡ text_of s.held g
     text_kept h =
-        ap (λ (ops : List Operation). text_in (last ops))
+        ap (λ (ops : List Operation). text_if_any (last ops))
         (filter-append (is_shown now g) s.held (edits (next_number s.held) all)
         ∙ ap (λ (ops : List Operation). filter (is_shown now g) s.held ++ ops)
         (no_edit (λ o. not (is_replaced now g o.id)) (next_number s.held) all h)

@@ -21,7 +21,7 @@ use Rattle.op_core.specs.Export.{keys_in, exported_keys}
 use Rattle.op_core.specs.CutsBack.{picked_at}
 use Rattle.op_core.specs.Lists.{keys_of}
 use Rattle.op_core.proofs.Exported.{any-rising, picks_are_exported}
-use Rattle.replica_state.specs.Imports.{text_in, piece_of, is_due, walked_keys, due_keys, has_verse}
+use Rattle.replica_state.specs.Imports.{piece_own_text, piece_of, is_due, walked_keys, due_keys, has_verse}
 use Rattle.replica_state.proofs.Appended.{is_there, key_is}
 use Rattle.replica_state.proofs.KeyLists.{same_key-cmp}
 
@@ -98,7 +98,7 @@ module _ (held : List Operation) (book : List ℕ) (pieces : List PieceParts) wh
   due_among q h = by (is_empty (picked_at held book q)) refl
     where
       none : (t : List ℕ) → is_empty t ≡ true → (o : Option PieceParts)
-          → (not (same_bytes t (text_in o))
+          → (not (same_bytes t (piece_own_text o))
           || ((wants_chapter_line held (segment book q) && is_some o) && not (has_verse pieces q.chapter))) ≡ true → is_some o ≡ true
       none [] e (Some p) d = refl
       none [] e None d = last (wants_chapter_line held (segment book q)) d

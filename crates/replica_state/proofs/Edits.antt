@@ -8,7 +8,7 @@ use Rattle.std.specs.Iterator.{YieldsFirst}
 use Rattle.std.specs.Option.{is_some}
 use Rattle.usfm_ref.specs.Keys.{KeyParts, key_cmp}
 use Rattle.usfm_ref.specs.Rising.{rising, with_item}
-use Rattle.usfm_ref.specs.Segments.{Segment}
+use Rattle.usfm_ref.specs.declared.segment.Segment.{Segment}
 use Rattle.verse_cut.specs.Fits.{Fits}
 use Rattle.verse_cut.specs.Reading.{text_fits}
 use Rattle.verse_cut.proofs.FitLaws.{fits_is_read}

@@ -17,7 +17,7 @@ use Rattle.verse_cut.proofs.BookLaws.{books_are_joins}
 use Rattle.verse_cut.proofs.FitLaws.{fits_is_read, fits_other}
 use Rattle.verse_cut.proofs.Headings.{book_reads}
 use Rattle.verse_cut.proofs.PieceLaws.{pieces_fit}
-use Rattle.replica_state.specs.Imports.{text_in, piece_of, piece_at}
+use Rattle.replica_state.specs.Imports.{piece_own_text, piece_of, piece_at}
 
 -- ---- the book of a file
 
@@ -78,7 +78,7 @@ piece_fits book text key code headed = by (piece_of (pieces_of text) key) refl
         let here = ap (piece_of (pieces_of text)) (sym (same_key-is key book_head e)) ∙ gone in cc)
     absent false e gone = (fits_is_read book key []).0 (sym (fits_other book key [] e))
 
-    by : (o : Option PieceParts) → piece_of (pieces_of text) key ≡ o → Fits book key (text_in o)
+    by : (o : Option PieceParts) → piece_of (pieces_of text) key ≡ o → Fits book key (piece_own_text o)
     by None e = absent (same_key key book_head) refl e
     by (Some p) e =
         let h = piece_has (λ q. Fits book q.key q.text) key (pieces_of text) p (pieces_fit book text code headed) e in

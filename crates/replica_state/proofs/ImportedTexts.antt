@@ -8,7 +8,8 @@ use Rattle.std.proofs.lemmas.Bool.{and_parts, eqb-true, not-true}
 use Rattle.std.proofs.lemmas.List.Elements.{All-cons, All-head, All-tail, All-weaker}
 use Rattle.usfm_ref.specs.Books.{same_bytes}
 use Rattle.usfm_ref.specs.Keys.{KeyParts, chapter_head, head_of, is_head, is_verse_of}
-use Rattle.usfm_ref.specs.Segments.{Segment, segment}
+use Rattle.usfm_ref.specs.Segments.{segment}
+use Rattle.usfm_ref.specs.declared.segment.Segment.{Segment}
 use Rattle.usfm_ref.proofs.Orders.{same_bytes-is}
 use Rattle.verse_cut.specs.Pieces.{PieceParts, pieces_of}
 use Rattle.verse_cut.specs.Joins.{KeyText, HasHead, IsJoinOf, at_book_head, pieces_from}
@@ -20,7 +21,7 @@ use Rattle.op_core.specs.CutsBack.{picked_at}
 use Rattle.op_core.specs.NextIds.{next_number}
 use Rattle.op_core.proofs.Exported.{picked_line, picked_own, wants_line, head_picked}
 use Rattle.replica_state.specs.States.{State, IsState}
-use Rattle.replica_state.specs.Imports.{text_in, piece_of, piece_at, has_verse, loses_line, is_due, due_keys, edits_from}
+use Rattle.replica_state.specs.Imports.{piece_own_text, piece_of, piece_at, has_verse, loses_line, is_due, due_keys, edits_from}
 use Rattle.replica_state.proofs.Appended.{is_there, text_edited, text_kept}
 use Rattle.replica_state.proofs.DueKeys.{due_rise, not_due}
 use Rattle.replica_state.proofs.FilePieces.{book_is_code, book_is_headed}
@@ -202,7 +203,7 @@ module _ (s : State) (state : IsState s) (book file : List ℕ) (named : book_in
           → text_of now (at key) ≡ text_of s.held (at key) → picked_at s.held book key ≡ piece_at pieces key
           → loses_line s.held book pieces key ≡ false → picked_at now book key ≡ piece_at pieces key
 
-      there : (o : Option PieceParts) → is_empty (text_in o) ≡ false → is_some o ≡ true
+      there : (o : Option PieceParts) → is_empty (piece_own_text o) ≡ false → is_some o ≡ true
       there None e = absurd (cc)
       there (Some p) e = refl
 

@@ -25,7 +25,7 @@ use Rattle.op_core.proofs.Left.{join_full_legal}
 use Rattle.op_core.proofs.NextIds.{beyond}
 use Rattle.replica_state.specs.States.{State, IsState}
 use Rattle.replica_state.specs.Edits.{edit_with}
-use Rattle.replica_state.specs.Imports.{text_in, piece_of, piece_at, has_verse, loses_line, is_due, edits_from}
+use Rattle.replica_state.specs.Imports.{piece_own_text, piece_of, piece_at, has_verse, loses_line, is_due, edits_from}
 
 module _ (s : State) (book : List ℕ) (pieces : List PieceParts) where
   -- the edit of a key, with a number
@@ -102,6 +102,6 @@ module _ (held : List Operation) (book : List ℕ) (pieces : List PieceParts) (k
       ∙ ap (λ b. not b || loses_line held book pieces key) h
       ∙ (λ i. wants i && there (piece_of pieces key) (same_bytes-is (chapter_line chapter) (piece_at pieces key) h) i && not (sym e i)))
     where
-      there : (o : Option PieceParts) → chapter_line chapter ≡ text_in o → is_some o ≡ true
+      there : (o : Option PieceParts) → chapter_line chapter ≡ piece_own_text o → is_some o ≡ true
       there None e = absurd (cc)
       there (Some p) e = refl

@@ -15,7 +15,7 @@ use Rattle.verse_cut.specs.Joins.{KeyText, filled, pieces_from}
 use Rattle.verse_cut.specs.Reading.{is_empty}
 use Rattle.op_core.specs.Ops.{Operation}
 use Rattle.op_core.specs.CutsBack.{picked_at, keyed_text}
-use Rattle.replica_state.specs.Imports.{text_in, piece_of, piece_at}
+use Rattle.replica_state.specs.Imports.{piece_own_text, piece_of, piece_at}
 use Rattle.replica_state.proofs.Appended.{is_there, key_is}
 
 abbrev pub own_text : Option KeyText → List ℕ
@@ -34,7 +34,8 @@ text_of_piece n [] q = refl
 text_of_piece n (t ∷ ts) q = by (text_of_piece (n + length t.text) ts q) (is_eq (key_cmp q t.key))
   where
     by : piece_at (pieces_from (n + length t.text) ts) q ≡ text_at ts q → (b : Bool)
-        → text_in (cond b (Some (record { key = t.key; start = n; text = t.text })) (piece_of (pieces_from (n + length t.text) ts) q))
+        → piece_own_text (cond b (Some (record { key = t.key; start = n; text = t.text }))
+        (piece_of (pieces_from (n + length t.text) ts) q))
         ≡ own_text (cond b (Some t) (at_key ts q))
     by rest true = refl
     by rest false = rest

@@ -7,7 +7,8 @@ use Rattle.std.specs.Option.{is_some}
 use Rattle.std.proofs.lemmas.Bool.{and_parts, cond-true, leb-true, le-leb, not-true}
 use Rattle.usfm_ref.specs.Books.{is_book_code, same_bytes}
 use Rattle.usfm_ref.specs.Keys.{KeyParts, key_cmp, book_head, is_head, is_key, is_verse_of, same_key}
-use Rattle.usfm_ref.specs.Segments.{Segment, segment}
+use Rattle.usfm_ref.specs.Segments.{segment}
+use Rattle.usfm_ref.specs.declared.segment.Segment.{Segment}
 use Rattle.usfm_ref.proofs.Orders.{same_bytes-is, same_bytes-refl, same_key-is}
 use Rattle.verse_cut.specs.Keys.{key_below}
 use Rattle.verse_cut.specs.Fits.{IsHeaded, Fits}
@@ -21,7 +22,7 @@ use Rattle.verse_cut.proofs.KeyOrder.{above_book_head}
 use Rattle.op_core.specs.Ids.{is_number}
 use Rattle.op_core.specs.Names.{is_name}
 use Rattle.op_core.specs.Ops.{Operation, IsOperation, MayBeText, in_segment, is_full, is_verse_in, or_empty, own_text}
-use Rattle.op_core.specs.Shown.{last, shown, text_in, text_of, wants_chapter_line, is_verse_with_text}
+use Rattle.op_core.specs.Shown.{last, shown, text_if_any, text_of, wants_chapter_line, is_verse_with_text}
 use Rattle.op_core.specs.Export.{exported_keys, export}
 use Rattle.op_core.specs.CutsBack.{picked_at, later_texts}
 use Rattle.op_core.specs.NextIds.{greatest_number}
@@ -69,7 +70,7 @@ verse_there (p ∷ pieces) chapter key v h = by (λ g. verse_there pieces chapte
     or_true false = refl
 
     by : (is_empty (piece_at pieces key) ≡ false → has_verse pieces chapter ≡ true) → (b : Bool) → is_eq (key_cmp key p.key) ≡ b
-        → is_empty (spec.text_in (cond b (Some p) (piece_of pieces key))) ≡ false
+        → is_empty (spec.piece_own_text (cond b (Some p) (piece_of pieces key))) ≡ false
         → (is_verse_of chapter p.key || has_verse pieces chapter) ≡ true
     by rest true e h = ap (λ (k : KeyParts). is_verse_of chapter k || has_verse pieces chapter) (sym (key_is key p.key e))
         ∙ ap (λ b. b || has_verse pieces chapter) v
@@ -102,7 +103,7 @@ module _ (s : State) (state : IsState s) (book : List ℕ) (begun : list_any (in
       (is_key first.0.segment.key.chapter first.0.segment.key.place) of_head.is_operation.segment).0
 
   head_text : picked_at s.held book book_head ≡ own_text first.0
-  head_text = picked_own s.held (segment book book_head) refl ∙ ap text_in first.1
+  head_text = picked_own s.held (segment book book_head) refl ∙ ap text_if_any first.1
 
   headed : IsHeaded book file
   headed =

@@ -10,7 +10,7 @@ use Rattle.op_core.specs.Laws.Joining.{Part, Joined}
 use Rattle.op_core.proofs.Together.{joined_in, same_from_none}
 use Rattle.replica_state.specs.States.{State, begun}
 use Rattle.replica_state.specs.Steps.{received, step, Receive}
-use Rattle.replica_state.specs.Runs.{after, IsTaken, NoneRefused}
+use Rattle.replica_state.specs.Runs.{after_all, IsTaken, NoneRefused}
 
 -- a bundle that is not refused has no clash
 pub taken : (s : State) (bundle : List Operation) → IsTaken (step s (Receive bundle)).reply → clash s.held bundle ≡ None
@@ -22,7 +22,7 @@ taken s bundle t = by (clash s.held bundle) refl t
 
 -- what a run of receives holds is the union of the sets
 run_joined : (way : Joining) (s : State) (sets : List (List Operation)) → union_by way ≡ Ok s.held → NoneRefused s (map Receive sets)
-    → union_by (joined_in way sets) ≡ Ok (after s (map Receive sets)).held
+    → union_by (joined_in way sets) ≡ Ok (after_all s (map Receive sets)).held
 run_joined way s [] w t = w
 run_joined way s (set ∷ rest) w t =
     let none = taken s set t.0 in
@@ -35,7 +35,7 @@ run_joined way s (set ∷ rest) w t =
 pub same_held : (name other : List ℕ) (sets others : List (List Operation)) → AllByRecursion IsOpSet sets
     → AllByRecursion IsOpSet others
     → SameTogether sets others → NoneRefused (begun name) (map Receive sets) → NoneRefused (begun other) (map Receive others)
-    → (after (begun name) (map Receive sets)).held ≡ (after (begun other) (map Receive others)).held
+    → (after_all (begun name) (map Receive sets)).held ≡ (after_all (begun other) (map Receive others)).held
 same_held name other sets others s t same ha hb =
     same_from_none sets others _ _ s t same (run_joined (Part []) (begun name) sets refl ha)
     (run_joined (Part []) (begun other) others refl hb)

@@ -13,7 +13,7 @@ use Rattle.verse_cut.specs.declared.fault.BookFault.{BookFault}
 use Rattle.op_core.specs.Equal.{same_id-refl}
 use Rattle.op_core.specs.Ids.{Id}
 use Rattle.op_core.specs.Ops.{Operation, own_text, in_segment, is_verse_in, names}
-use Rattle.op_core.specs.Shown.{shown, is_replaced, is_shown, last, text_in, text_of, is_empty, has_verse_text, is_verse_with_text}
+use Rattle.op_core.specs.Shown.{shown, is_replaced, is_shown, last, text_if_any, text_of, is_empty, has_verse_text, is_verse_with_text}
 use Rattle.op_core.specs.Shown.{wants_chapter_line, Line, greatest, picked_text}
 use Rattle.op_core.specs.CutsBack.{picked_at}
 use Rattle.op_core.specs.Export.{of_book}
@@ -80,7 +80,7 @@ module _ (held base : List Operation) (book : List ℕ) (same : filter (of_book 
       ∙ filter_within (is_shown base g) (of_book book) (λ o h. in_book key o (not (is_replaced base g o.id)) h) base
 
   text_same : (key : KeyParts) → text_of held (segment book key) ≡ text_of base (segment book key)
-  text_same key = ap (λ (ops : List Operation). text_in (last ops)) (shown_same key)
+  text_same key = ap (λ (ops : List Operation). text_if_any (last ops)) (shown_same key)
 
   verse_same : (chapter : ℕ) (o : Operation) → is_verse_with_text held book chapter o ≡ is_verse_with_text base book chapter o
   verse_same chapter o = by (same_bytes o.segment.book book) refl
@@ -121,7 +121,7 @@ module _ (held base : List Operation) (book : List ℕ) (same : filter (of_book 
 
   module _ (fewer : (key : KeyParts) → length (shown base (segment book key)) ≤ 1) where
     all_stood : (ops : List Operation) → length ops ≤ 1
-        → filter (is_among (ids_of (filter (λ o. same_bytes (own_text o) (text_in (last ops))) ops))) (ids_of ops) ≡ ids_of ops
+        → filter (is_among (ids_of (filter (λ o. same_bytes (own_text o) (text_if_any (last ops))) ops))) (ids_of ops) ≡ ids_of ops
     all_stood [] l = refl
     all_stood (o ∷ []) l =
         ap (λ (ops : List Operation). filter (is_among (ids_of ops)) (o.id ∷ [])) (cond-true _ _ _ (same_bytes-refl (own_text o)))

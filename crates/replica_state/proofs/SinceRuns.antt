@@ -10,7 +10,8 @@ use Rattle.std.proofs.lemmas.List.Folds.{list_any-append}
 use Rattle.usfm_ref.specs.Books.{same_bytes}
 use Rattle.usfm_ref.specs.Keys.{KeyParts, key_cmp, head_of, book_head, same_key}
 use Rattle.usfm_ref.specs.Rising.{rises_by}
-use Rattle.usfm_ref.specs.Segments.{Segment, segment}
+use Rattle.usfm_ref.specs.Segments.{segment}
+use Rattle.usfm_ref.specs.declared.segment.Segment.{Segment}
 use Rattle.usfm_ref.proofs.Orders.{key_total}
 use Rattle.usfm_ref.proofs.Sorted.{is_less, rises_filter, rises-rising}
 use Rattle.verse_cut.specs.Pieces.{PieceParts, pieces_of}
@@ -32,7 +33,7 @@ use Rattle.replica_state.specs.Receives.{lacked}
 use Rattle.replica_state.specs.Edits.{has_numbers, edit_fault, first_not_shown, next_id, edit_by, unless}
 use Rattle.replica_state.specs.Imports.{piece_at, walked_keys}
 use Rattle.replica_state.specs.Steps.{Command, Receive, EditOver, Received, Edited, Step, received, edited, step, with_ops}
-use Rattle.replica_state.specs.Runs.{after, NoneRefused, IsTaken}
+use Rattle.replica_state.specs.Runs.{after_all, NoneRefused, IsTaken}
 use Rattle.replica_state.specs.Since.{SinceStep, stood_ids, seen_ids, is_changed, changed_keys, changes_from, with_edits, changed_after, changed_in}
 use Rattle.replica_state.specs.Since.{imported_since}
 use Rattle.replica_state.specs.SinceLaws.{changes_of, edits_over, IsReceivingAndEdits}
@@ -178,7 +179,7 @@ module _ (t : State) (base : List Operation) (book : List ℕ) (pieces : List Pi
       → ((key : KeyParts) → text_fits book key (piece_at pieces key) ≡ true)
       → ((q : KeyParts) → is_there q keys ≡ true → shown_ids s.held (segment book q) ≡ shown_ids t.held (segment book q))
       → NoneRefused s (edits_over t.held base book pieces keys)
-      × (after s (edits_over t.held base book pieces keys) ≡ with_ops s (changes_from n t base book pieces keys))
+      × (after_all s (edits_over t.held base book pieces keys) ≡ with_ops s (changes_from n t base book pieces keys))
   run [] s n named rising next room rise begun fits same = (tt, refl)
   run (key ∷ keys) s n named rising next room rise begun fits same =
       let rest = run keys u (suc n) named (rises-join s.held (change ∷ []) rising) (ap suc (sym greatest)) more p.1 still fits others in (
@@ -186,7 +187,7 @@ module _ (t : State) (base : List Operation) (book : List ℕ) (pieces : List Pi
           subst (λ (x : Step). IsTaken x.reply) (sym done) refl,
           subst (λ (x : Step). NoneRefused x.after (edits_over t.held base book pieces keys)) (sym done) rest.0,
         ),
-        ap (λ (x : Step). after x.after (edits_over t.held base book pieces keys)) done ∙ rest.1
+        ap (λ (x : Step). after_all x.after (edits_over t.held base book pieces keys)) done ∙ rest.1
             ∙ ap (λ (held : List Operation). record { name = s.name; held = held }) joined,
       )
     where
@@ -299,7 +300,7 @@ accepted s base file book count named answered =
 pub is_receiving_and_edits : IsReceivingAndEdits
 is_receiving_and_edits s base file book count state set named has answered = (
   (subst (λ (x : Step). IsTaken x.reply) (sym first) refl, subst (λ (x : Step). NoneRefused x.after later) (sym first) all.0),
-  ap (λ (x : Step). after x.after later) first ∙ all.1 ∙ ap (λ (x : SinceStep). x.after) (sym taken.is),
+  ap (λ (x : Step). after_all x.after later) first ∙ all.1 ∙ ap (λ (x : SinceStep). x.after) (sym taken.is),
 )
   where
     t : State
@@ -317,7 +318,7 @@ is_receiving_and_edits s base file book count state set named has answered = (
     first : step s (Receive base) ≡ record { after = t; reply = Received (Ok (length (lacked s.held base))) }
     first = ap (received s base) taken.none
 
-    all : NoneRefused t later × (after t later ≡ with_ops t (changes_from (next_number t.held) t base book (pieces_of file) keys))
+    all : NoneRefused t later × (after_all t later ≡ with_ops t (changes_from (next_number t.held) t base book (pieces_of file) keys))
     all =
         run t base book (pieces_of file) keys t (next_number t.held) refl (rises-join s.held base state.set.rising) refl taken.room
         (changed_rise t.held base book (pieces_of file))

@@ -5,7 +5,7 @@ use Rattle.std.proofs.lemmas.Bool.{or_left, or_right}
 use Rattle.std.proofs.lemmas.List.{map-append}
 use Rattle.std.proofs.lemmas.List.Folds.{list_any-append}
 use Rattle.op_core.specs.Ops.{Operation, own_text}
-use Rattle.op_core.specs.Shown.{last, text_in}
+use Rattle.op_core.specs.Shown.{last, text_if_any}
 use Rattle.op_core.proofs.Enrolled.{at_item, more_items}
 use Rattle.op_core.proofs.Walk.{last_push}
 
@@ -19,8 +19,8 @@ module _ {X : Type 0} (f : X → Operation) (xs : List X) (i : ℕ) (x : X) (l :
       ∙ or_right _ _ (or_left _ _ h)
 
   -- the text of the last of some items is that of the item
-  pub last_text : text_in (last (map f (take (i + 1) xs))) ≡ own_text (f x)
+  pub last_text : text_if_any (last (map f (take (i + 1) xs))) ≡ own_text (f x)
   last_text =
-      ap (λ (ys : List X). text_in (last (map f ys))) (more_items xs i x l is)
-      ∙ ap (λ (ops : List Operation). text_in (last ops)) (map-append f (take i xs) (x ∷ []))
-      ∙ ap text_in (last_push (map f (take i xs)) (f x))
+      ap (λ (ys : List X). text_if_any (last (map f ys))) (more_items xs i x l is)
+      ∙ ap (λ (ops : List Operation). text_if_any (last ops)) (map-append f (take i xs) (x ∷ []))
+      ∙ ap text_if_any (last_push (map f (take i xs)) (f x))

@@ -17,7 +17,7 @@ use Rattle.op_core.proofs.Union.{get-join}
 use Rattle.bundle_codec.specs.Summaries.{NameRanges, IsSummaryOf, covers, outside}
 use Rattle.replica_state.specs.States.{State, begun}
 use Rattle.replica_state.specs.Steps.{Command, Receive, Edit, EditOver, Import, Thin, Received, received, step, with_ops}
-use Rattle.replica_state.specs.Runs.{after, IsTaken, NoneRefused}
+use Rattle.replica_state.specs.Runs.{after_all, IsTaken, NoneRefused}
 use Rattle.replica_state.specs.ThinLaws.{SameButThinned, TakesFrom, brought, is_brought, RunAlike, GivesUnion}
 use Rattle.replica_state.proofs.DeltasJoined.{delta_new}
 use Rattle.replica_state.proofs.Thinning.{same_family}
@@ -63,8 +63,8 @@ module _ (family : Id → Operation) where
 
   record Ran (s : State) (commands : List Command) : Type 0 where
     taken : NoneRefused s commands
-    of : IsOf family (after s commands).held
-    ids : (q : Id) → is_held (after s commands).held q ≡ (is_held s.held q || is_brought commands q)
+    of : IsOf family (after_all s commands).held
+    ids : (q : Id) → is_held (after_all s commands).held q ≡ (is_held s.held q || is_brought commands q)
 
   or_more : (a b c : Bool) → ((a || b) || c) ≡ (a || (b || c))
   or_more true b c = refl
@@ -95,7 +95,7 @@ module _ (family : Id → Operation) where
       record {
         taken = one.taken;
         others_taken = two.taken;
-        same = same_family family (after (begun name) commands) (after (begun other) others) one.of two.of
+        same = same_family family (after_all (begun name) commands) (after_all (begun other) others) one.of two.of
             (λ q. one.ids q ∙ same q ∙ sym (two.ids q));
       }
 

@@ -4,7 +4,7 @@ use Rattle.std.specs.Prelude.{ℕ, ◌+◌, nat_le, Bool, not, ◌||◌, List, O
 use Rattle.std.specs.Prelude.{Some, option_map, Result, Ok, Err, if◌then◌else◌}
 use Rattle.std.specs.List.{find}
 use Rattle.usfm_ref.specs.Keys.{book_head, same_key}
-use Rattle.usfm_ref.specs.Segments.{Segment}
+use Rattle.usfm_ref.specs.declared.segment.Segment.{Segment}
 use Rattle.verse_cut.specs.Reading.{text_fits}
 use Rattle.op_core.specs.Ids.{Id, last_number}
 use Rattle.op_core.specs.Ops.{Operation}

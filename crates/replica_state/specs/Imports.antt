@@ -22,9 +22,9 @@ use Rattle.replica_state.specs.declared.fault.ImportFault.{ImportFault}
 use Rattle.replica_state.specs.declared.fault.ImportFault.TheVariants.{BadFile, NumbersUsedUp}
 
 -- the text of a piece, empty where there is none
-abbrev pub text_in : Option PieceParts → List ℕ
-text_in None = []
-text_in (Some p) = p.text
+abbrev pub piece_own_text : Option PieceParts → List ℕ
+piece_own_text None = []
+piece_own_text (Some p) = p.text
 
 -- the piece of a key
 abbrev pub piece_of : List PieceParts → KeyParts → Option PieceParts
@@ -32,7 +32,7 @@ piece_of pieces key = find (λ p. is_eq (key_cmp key p.key)) pieces
 
 -- the text of the piece of a key, empty where there is none
 abbrev pub piece_at : List PieceParts → KeyParts → List ℕ
-piece_at pieces key = text_in (piece_of pieces key)
+piece_at pieces key = piece_own_text (piece_of pieces key)
 
 -- whether a verse of the chapter has a piece
 abbrev pub has_verse : List PieceParts → ℕ → Bool

@@ -4,9 +4,9 @@ use Rattle.replica_state.specs.States.{State}
 use Rattle.replica_state.specs.Steps.{Command, Reply, Received, Edited, Imported, Thinned, step}
 
 -- what a replica is after commands, in their order
-abbrev pub after : State → List Command → State
-after s [] = s
-after s (c ∷ later) = after (step s c).after later
+abbrev pub after_all : State → List Command → State
+after_all s [] = s
+after_all s (c ∷ later) = after_all (step s c).after later
 
 -- the reply is no refusal
 abbrev pub IsTaken : Reply → Type 0

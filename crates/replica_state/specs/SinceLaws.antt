@@ -2,7 +2,8 @@
 use Rattle.std.specs.Prelude.{◌≡◌, ◌≤◌, ℕ, true, List, ◌∷◌, filter, length, map, None, Ok}
 use Rattle.std.specs.List.{Contains, list_any}
 use Rattle.usfm_ref.specs.Keys.{KeyParts, book_head}
-use Rattle.usfm_ref.specs.Segments.{Segment, segment}
+use Rattle.usfm_ref.specs.Segments.{segment}
+use Rattle.usfm_ref.specs.declared.segment.Segment.{Segment}
 use Rattle.verse_cut.specs.Pieces.{PieceParts, pieces_of}
 use Rattle.verse_cut.specs.Reading.{book_in}
 use Rattle.op_core.specs.Ids.{Id}
@@ -14,7 +15,7 @@ use Rattle.op_core.specs.Export.{export, has_book, of_book}
 use Rattle.replica_state.specs.States.{State, IsState}
 use Rattle.replica_state.specs.Imports.{piece_at}
 use Rattle.replica_state.specs.Steps.{Command, Receive, EditOver, Import, Imported, step, with_ops}
-use Rattle.replica_state.specs.Runs.{after, NoneRefused}
+use Rattle.replica_state.specs.Runs.{after_all, NoneRefused}
 use Rattle.replica_state.specs.Since.{seen_ids, changed_keys, changes_from, imported_since}
 
 -- the edits that a replica which has received the base makes of the changed keys
@@ -76,7 +77,8 @@ IsReceivingAndEdits =
     IsState s → IsOpSet base → book_in file ≡ Ok book → has_book base book ≡ true →
     (imported_since s base file).answer ≡ Ok count →
     NoneRefused s (since_commands s base book (pieces_of file))
-    × (after s (since_commands s base book (pieces_of file)) ≡ (imported_since s base file).after)
+    × (after_all s (since_commands s base book (pieces_of file))
+    ≡ (imported_since s base file).after)
 
 -- Twice is once: the same base and file again add nothing.
 abbrev pub TwiceIsOnce : Type 0

@@ -1,7 +1,7 @@
 -- The steps of a replica: what it is after a command, and what is answered (this project's own rule, over the joining of
 -- states in INRIA RR-7506).
 use Rattle.std.specs.Prelude.{ℕ, List, [], ◌∷◌, length, filter, Option, None, Some, Result, Ok, Err}
-use Rattle.usfm_ref.specs.Segments.{Segment}
+use Rattle.usfm_ref.specs.declared.segment.Segment.{Segment}
 use Rattle.op_core.specs.Ids.{Id}
 use Rattle.op_core.specs.Ops.{Operation}
 use Rattle.op_core.specs.Sets.{join, clash}

@@ -2,7 +2,7 @@
 -- so that sets are the same here where they are equal but for texts left out.
 use Rattle.std.specs.Prelude.{◌≡◌, ℕ, Bool, List, [], length, Ok}
 use Rattle.std.specs.List.{list_any, AllByRecursion}
-use Rattle.usfm_ref.specs.Segments.{Segment}
+use Rattle.usfm_ref.specs.declared.segment.Segment.{Segment}
 use Rattle.op_core.specs.Ids.{Id}
 use Rattle.op_core.specs.Ops.{Operation}
 use Rattle.op_core.specs.Shown.{shown, pick}
@@ -15,7 +15,7 @@ use Rattle.replica_state.specs.States.{State, IsState, begun}
 use Rattle.replica_state.specs.Receives.{lacked}
 use Rattle.replica_state.specs.Steps.{Command, Receive, Edit, EditOver, Import}
 use Rattle.replica_state.specs.Steps.{Thin, Received, Thinned, step, with_ops}
-use Rattle.replica_state.specs.Runs.{after, NoneRefused}
+use Rattle.replica_state.specs.Runs.{after_all, NoneRefused}
 
 -- Two replicas hold the same but for texts left out: they show and pick the same texts, and export the same bytes of every
 -- book; and ids, awaited ids, keys, books and summaries are the same.
@@ -64,7 +64,7 @@ is_brought commands id = list_any (λ c. is_held (brought c) id) commands
 pub record RunAlike (s t : State) (commands others : List Command) : Type 0 where
   pub taken : NoneRefused s commands
   pub others_taken : NoneRefused t others
-  pub same : SameButThinned (after s commands) (after t others)
+  pub same : SameButThinned (after_all s commands) (after_all t others)
 
 -- Two replicas that received bundles of one family, with the same ids together, in whatever order, grouping and repetition, and
 -- thinned at whatever moments, hold the same but for texts left out. No bundle is refused.

@@ -11,7 +11,7 @@ use Rattle.std.specs.Prelude.{ℕ, Bool, true, false, not, List, [], ◌∷◌, 
 use Rattle.std.specs.Prelude.{None, Result, Ok, Err, IsTrue, slice_get, if◌then◌else◌}
 use Rattle.std.specs.Str.{IsUtf8}
 use Rattle.usfm_ref.specs.Books.{same_bytes}
-use Rattle.usfm_ref.specs.Segments.{Segment}
+use Rattle.usfm_ref.specs.declared.segment.Segment.{Segment}
 use Rattle.op_core.specs.Names.{is_name}
 use Rattle.op_core.specs.Ids.{Id}
 use Rattle.op_core.specs.Ops.{Operation, is_segment}
@@ -96,9 +96,9 @@ happens w (ReceivesCut name k length) = w
 happens w (FindsNoMemory name) = w
 
 -- the world after some events, of which the last comes first
-abbrev pub after : List Event → World
-after [] = beginning
-after (e ∷ past) = happens (after past) e
+abbrev pub world : List Event → World
+world [] = beginning
+world (e ∷ past) = happens (world past) e
 
 -- ---- what an event makes of operations
 

@@ -10,7 +10,7 @@ ghost use Rattle.verse_cut.specs.Reading.{book_in};
 ghost use Rattle.verse_cut.specs.Views.{pieces_view};
 ghost use Rattle.op_core.specs.NextIds.{greatest_number, next_number};
 ghost use Rattle.op_core.specs.Ops.{own_text};
-ghost use Rattle.op_core.specs.Shown.{last, text_in};
+ghost use Rattle.op_core.specs.Shown.{last, text_if_any};
 ghost use Rattle.op_core.specs.Sets.{clash};
 ghost use Rattle.replica_state.specs.Edits as edits;
 ghost use Rattle.replica_state.specs.Imports as imports;
@@ -288,7 +288,7 @@ impl Replica {
 
 // The text of the last of some operations, empty where there is none.
 fn greatest_text<'a>(ops: &[&'a Op]) -> &'a str
-    ensures { result.now ≡ text_in (last (map (λ op. op.now) ops.now)) }
+    ensures { result.now ≡ text_if_any (last (map (λ op. op.now) ops.now)) }
 {
     let mut text = "";
     for op in ops {

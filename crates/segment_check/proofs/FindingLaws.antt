@@ -16,7 +16,7 @@ use Rattle.verse_cut.specs.Pieces.{pieces_of}
 use Rattle.segment_check.specs.Scenes.{Scene, scenes_after, scenes_of}
 use Rattle.verse_cut.specs.Places.{key_at}
 use Rattle.segment_check.specs.Findings.{all_codes, holds_of, found_at, spots_of, findings}
-use Rattle.segment_check.specs.Laws.{place_of, IsTokenStart, StartsNeverFall, CodesRise, NoTwoAlike, StartsAreTokens}
+use Rattle.segment_check.specs.Laws.{code_rank, IsTokenStart, StartsNeverFall, CodesRise, NoTwoAlike, StartsAreTokens}
 use Rattle.segment_check.specs.declared.code.Code.{Code}
 use Rattle.segment_check.specs.declared.finding.Finding.{Finding}
 
@@ -54,16 +54,16 @@ pairs_map R f (x ∷ xs) h =
 
 abbrev rises : List Code → Bool
 rises [] = true
-rises (c ∷ cs) = list_all (λ d. nat_lt (place_of c) (place_of d)) cs && rises cs
+rises (c ∷ cs) = list_all (λ d. nat_lt (code_rank c) (code_rank d)) cs && rises cs
 
 abbrev Below : Code → Code → Type 0
-Below c d = place_of c < place_of d
+Below c d = code_rank c < code_rank d
 
 codes_pairs : (cs : List Code) → rises cs ≡ true → AllPairs Below cs
 codes_pairs [] h = pairs_nil Below
 codes_pairs (c ∷ cs) h =
-    let p = and_parts (list_all (λ d. nat_lt (place_of c) (place_of d)) cs) (rises cs) h in
-    pairs_cons Below c cs (λ k d q. below _ _ (AllPass-from_list_all (λ d. nat_lt (place_of c) (place_of d)) cs p.0 k d q))
+    let p = and_parts (list_all (λ d. nat_lt (code_rank c) (code_rank d)) cs) (rises cs) h in
+    pairs_cons Below c cs (λ k d q. below _ _ (AllPass-from_list_all (λ d. nat_lt (code_rank c) (code_rank d)) cs p.0 k d q))
     (codes_pairs cs p.1)
   where
     below : (a b : ℕ) → nat_lt a b ≡ true → a < b
@@ -73,7 +73,7 @@ codes_pairs (c ∷ cs) h =
 
 -- by start, and at one start by code
 abbrev Before : Finding → Finding → Type 0
-Before a b = (a.start < b.start) ⊎ ((a.start ≡ b.start) × (place_of a.code < place_of b.code))
+Before a b = (a.start < b.start) ⊎ ((a.start ≡ b.start) × (code_rank a.code < code_rank b.code))
 
 module _ (sheet : List Record) (s : List ℕ) where
   abbrev found : Scene → List Finding
@@ -159,7 +159,7 @@ codes_rise sheet s i j d p q same = ⊎_elim (λ h. absurd (omega arith)) (λ h.
 
 -- no two findings have one start and one code
 pub no_two_alike : NoTwoAlike
-no_two_alike sheet s i j d p q same alike = let h = codes_rise sheet s i j d p q same in let e = ap place_of alike in omega (arith, h, e)
+no_two_alike sheet s i j d p q same alike = let h = codes_rise sheet s i j d p q same in let e = ap code_rank alike in omega (arith, h, e)
 
 -- each finding starts where a token starts
 pub starts_are_tokens : StartsAreTokens

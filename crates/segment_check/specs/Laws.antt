@@ -24,23 +24,23 @@ StartsNeverFall =
     → AllPairs (λ a b. a.start ≤ b.start) (findings sheet s)
 
 -- the place of a code in the list of codes
-abbrev pub place_of : Code → ℕ
-place_of code.UnknownMarker = 0
-place_of code.StrayClose = 1
-place_of code.UnclosedChar = 2
-place_of code.UnclosedNote = 3
-place_of code.TooDeep = 4
-place_of code.BadNumber = 5
-place_of code.BadBridge = 6
-place_of code.NotRising = 7
-place_of code.Overlap = 8
-place_of code.NotUnder = 9
+abbrev pub code_rank : Code → ℕ
+code_rank code.UnknownMarker = 0
+code_rank code.StrayClose = 1
+code_rank code.UnclosedChar = 2
+code_rank code.UnclosedNote = 3
+code_rank code.TooDeep = 4
+code_rank code.BadNumber = 5
+code_rank code.BadBridge = 6
+code_rank code.NotRising = 7
+code_rank code.Overlap = 8
+code_rank code.NotUnder = 9
 
 -- at one start the codes rise
 abbrev pub CodesRise : Type 0
 CodesRise =
     (sheet : List Record) (s : List ℕ)
-    → AllPairs (λ a b. a.start ≡ b.start → place_of a.code < place_of b.code) (findings sheet s)
+    → AllPairs (λ a b. a.start ≡ b.start → code_rank a.code < code_rank b.code) (findings sheet s)
 
 -- no two findings have one start and one code
 abbrev pub NoTwoAlike : Type 0

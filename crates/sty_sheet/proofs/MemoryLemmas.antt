@@ -8,7 +8,7 @@ use Rattle.sty_sheet.specs.Fields.{Field, passed, marker, occurs_under, endmarke
 use Rattle.sty_sheet.specs.Memory.{before_fault, begun_before_fault, may_take, takes_memory}
 use Rattle.sty_sheet.specs.Records.{Record}
 use Rattle.sty_sheet.specs.Sheets.{field_fault, first_fault, all_records, sheet_of}
-use Rattle.sty_sheet.specs.Loops.Steps.{Reading, after}
+use Rattle.sty_sheet.specs.Loops.Steps.{Reading, after_field}
 use Rattle.sty_sheet.specs.declared.fault.SheetFault.{SheetFault}
 use Rattle.sty_sheet.specs.declared.fault.SheetFault.TheVariants.{Memory, FieldBeforeMarker, EmptyMarker, BadStyleType}
 use Rattle.sty_sheet.specs.declared.kind.StyleKind.{StyleKind}
@@ -52,7 +52,7 @@ on_by seen n f fs h =
 
 -- one line more without a fault, of fields of which no more begin records than b
 pub still_within : (s t : Reading) (n b : ℕ) (f g : Field) (fs gs : List Field) → gs ≡ g ∷ fs → f ≡ g
-    → field_fault (is_some s.begun) (n + 1) f ≡ None → t ≡ after s f → begun_ahead (is_some s.begun) (n + 1) gs ≤ b
+    → field_fault (is_some s.begun) (n + 1) f ≡ None → t ≡ after_field s f → begun_ahead (is_some s.begun) (n + 1) gs ≤ b
     → begun_ahead (is_some t.begun) (n + 1 + 1) fs ≤ b
 still_within s t n b f g fs gs line same due on within =
     let step = on_by (is_some s.begun) (n + 1) f fs due in

@@ -8,7 +8,7 @@ use Rattle.sty_sheet.specs.Lines.{first_word}
 use Rattle.sty_sheet.specs.Fields.{Field, passed, marker, occurs_under, endmarker, name, style_type, text_type, is_marker, fields_of}
 use Rattle.sty_sheet.specs.Records.{Record}
 use Rattle.sty_sheet.specs.Sheets.{field_fault, first_fault, own_fields, all_records, record_with, sheet_with, sheet_of}
-use Rattle.sty_sheet.specs.Loops.Steps.{Reading, with_field, put, finished, after, Tells}
+use Rattle.sty_sheet.specs.Loops.Steps.{Reading, with_field, put, finished, after_field, Tells}
 use Rattle.sty_sheet.specs.Views.{Gives}
 use Rattle.sty_sheet.specs.declared.fault.SheetFault.TheVariants.{Memory, FieldBeforeMarker, EmptyMarker, BadStyleType}
 use Rattle.sty_sheet.specs.declared.fault.SheetFault.{SheetFault}
@@ -56,7 +56,7 @@ whole_of : Reading → List Record
 whole_of s = s.whole
 
 step_total : (rs : List Record) (o : Option Record) (f : Field) (fs : List Field)
-    → total (record { whole = rs; begun = o }) (f ∷ fs) ≡ total (after (record { whole = rs; begun = o }) f) fs
+    → total (record { whole = rs; begun = o }) (f ∷ fs) ≡ total (after_field (record { whole = rs; begun = o }) f) fs
 unfolding total ahead
 step_total rs None passed fs = refl
 step_total rs None (occurs_under value) fs = refl
@@ -77,7 +77,7 @@ step_total rs (Some r) (marker value) fs =
 
 -- a record is begun after a field where one was before it, or the field is a marker
 pub step_seen : (rs : List Record) (o : Option Record) (f : Field)
-    → is_some (after (record { whole = rs; begun = o }) f).begun ≡ (is_some o || is_marker f)
+    → is_some (after_field (record { whole = rs; begun = o }) f).begun ≡ (is_some o || is_marker f)
 step_seen rs None passed = refl
 step_seen rs None (occurs_under value) = refl
 step_seen rs None (endmarker value) = refl
@@ -95,7 +95,7 @@ step_seen rs (Some r) (marker value) = refl
 
 -- where a field has no fault, the reading goes on in the state after it
 pub goes_on : (s : Reading) (n : ℕ) (f : Field) (fs : List Field) → field_fault (is_some s.begun) (n + 1) f ≡ None
-    → resume s n (f ∷ fs) ≡ resume (after s f) (n + 1) fs
+    → resume s n (f ∷ fs) ≡ resume (after_field s f) (n + 1) fs
 unfolding resume total
 goes_on s n f fs h =
     ap (λ o. faulty_or (option_or o (first_fault (is_some s.begun || is_marker f) (n + 1 + 1) fs)) (total s (f ∷ fs))) h
@@ -133,7 +133,7 @@ starts text = starts_by (first_fault false 1 (fields_of text)) (fields_of text)
 
 -- the same of a line that an iterator gives
 pub takes_line : (s t : Reading) (n : ℕ) (f g : Field) (fs gs : List Field) (sheet : Result (List Record) SheetFault)
-    → gs ≡ g ∷ fs → f ≡ g → field_fault (is_some s.begun) (n + 1) f ≡ None → t ≡ after s f → resume s n gs ≡ sheet
+    → gs ≡ g ∷ fs → f ≡ g → field_fault (is_some s.begun) (n + 1) f ≡ None → t ≡ after_field s f → resume s n gs ≡ sheet
     → resume t (n + 1) fs ≡ sheet
 takes_line s t n f g fs gs sheet line same due on reads =
     ap (λ s. resume s (n + 1) fs) on ∙ sym (goes_on s n f fs due) ∙ ap (λ h. resume s n (h ∷ fs)) same ∙ ap (resume s n) (sym line) ∙ reads

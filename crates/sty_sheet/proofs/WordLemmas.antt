@@ -7,7 +7,8 @@ use Rattle.std.proofs.lemmas.Str.{IsCharBoundary-start, IsCharBoundary-end, IsCh
 use Rattle.std.specs.List.{prefix_len, suffix_len}
 use Rattle.std.specs.Str.{IsCharBoundary}
 use Rattle.std.proofs.str.Laws.{order}
-use Rattle.sty_sheet.specs.Lines.{is_blank, not_blank, comment_at}
+use Rattle.usfm_ref.specs.Numbers.{is_blank}
+use Rattle.sty_sheet.specs.Lines.{not_blank, comment_at}
 
 blank_by : (b : ℕ) (p q r s : Bool) → (b == 32) ≡ p → (b == 9) ≡ q → (b == 13) ≡ r → (b == 10) ≡ s → (p || q || r || s) ≡ true → b < 128
 blank_by b true q r s hp hq hr hs h = let is = eqb-true b 32 hp in omega arith

@@ -4,7 +4,8 @@ use Rattle.std.specs.Prelude.{not, filter}
 use Rattle.std.specs.List.{prefix_len, slice_split, onto_first}
 use Rattle.std.proofs.lemmas.Bool.{false_from_ne_true}
 use Rattle.std.proofs.lemmas.List.Splits.{slice_split-cons_yes}
-use Rattle.sty_sheet.specs.Lines.{is_blank, not_blank, after_blanks, first_word, after_word}
+use Rattle.usfm_ref.specs.Numbers.{is_blank}
+use Rattle.sty_sheet.specs.Lines.{not_blank, after_blanks, first_word, after_word}
 use Rattle.sty_sheet.specs.Records.{is_filled, words_of}
 
 blank_first : (b : ℕ) (bs : List ℕ) → is_blank b ≡ true → words_of (b ∷ bs) ≡ words_of bs

@@ -2,13 +2,10 @@
 --
 -- Paratext's `usfm.sty` has a field in a line and comments after '#'. What a blank is, which '#' begins a comment, and how '#!' and
 -- U+FEFF are passed over is this project's own rule.
-use Rattle.std.specs.Prelude.{ℕ, suc, ◌-◌, ◌==◌, Bool, true, ◌&&◌, ◌||◌, not, List, [], ◌∷◌, length, take, drop, take_while, if◌then◌else◌}
+use Rattle.std.specs.Prelude.{ℕ, suc, ◌-◌, ◌==◌, Bool, true, ◌&&◌, not, List, [], ◌∷◌, length, take, drop, take_while, if◌then◌else◌}
 use Rattle.std.specs.List.{prefix_len, suffix_len}
 use Rattle.std.specs.Str.{bytes_eq}
-
--- a space, a tab, CR or LF
-abbrev pub is_blank : ℕ → Bool
-is_blank b = b == 32 || b == 9 || b == 13 || b == 10
+use Rattle.usfm_ref.specs.Numbers.{is_blank}
 
 -- whether a byte is no blank
 abbrev pub not_blank : ℕ → Bool

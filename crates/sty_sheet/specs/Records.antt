@@ -6,7 +6,7 @@ use Rattle.std.specs.Prelude.{ℕ, ◌-◌, ◌==◌, Bool, true, false, ◌&&�
 use Rattle.std.specs.List.{list_any, slice_split}
 use Rattle.std.specs.Option.{option_map_or}
 use Rattle.std.specs.Str.{bytes_eq}
-use Rattle.sty_sheet.specs.Lines.{is_blank}
+use Rattle.usfm_ref.specs.Numbers.{is_blank}
 use Rattle.sty_sheet.specs.declared.kind.StyleKind.{StyleKind}
 use Rattle.sty_sheet.specs.declared.kind.StyleKind.TheVariants as kinds
 

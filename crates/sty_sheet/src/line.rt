@@ -3,7 +3,8 @@
 ghost use Rattle.std.specs.Prelude.{◌≡◌, true};
 ghost use Rattle.sty_sheet.specs.Lines.{comment_at, uncommented, after_bang, after_feff, body};
 
-use crate::words::{after_blanks, is_blank};
+use crate::words::after_blanks;
+use usfm_ref::is_blank;
 
 // How many bytes come before the comment, or the end.
 fn comment_at(bytes: &[u8]) -> usize

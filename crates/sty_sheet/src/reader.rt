@@ -67,7 +67,7 @@ impl<'s> Reader<'s> {
     ghost use Rattle.std.specs.Prelude.{[], None, Some, Ok, Err, OnOk, OnErr, is_some, IsSome};
     ghost use Rattle.sty_sheet.specs.Lines.{first_word};
     ghost use Rattle.sty_sheet.specs.Sheets.{record_with};
-    ghost use Rattle.sty_sheet.specs.Loops.Steps.{reading_of, after, began, extended, finished};
+    ghost use Rattle.sty_sheet.specs.Loops.Steps.{reading_of, after_field, began, extended, finished};
     ghost use Rattle.sty_sheet.specs.Loops.Steps.{BeginsAnother, Tells};
     ghost use Rattle.sty_sheet.specs.Views.{records_in, Gives};
 
@@ -83,7 +83,7 @@ impl<'s> Reader<'s> {
 
     // Takes the field of a line.
     pub(crate) fn take(&mut self, field: Field<'s>, line: usize) -> Result<(), SheetFault>
-        ensures reads { let later = after (reading_of self.old) (field_view field.entry) in
+        ensures reads { let later = after_field (reading_of self.old) (field_view field.entry) in
             OnOk result (reading_of self.new ≡ later) }
         ensures fault { let seen = is_some (reading_of self.old).begun in
             Tells result (field_fault seen line (field_view field.entry)) }
@@ -106,7 +106,7 @@ impl<'s> Reader<'s> {
     }
 
     fn add(&mut self, field: Field<'s>) -> Result<(), SheetFault>
-        ensures reads { let later = after (reading_of self.old) (field_view field.entry) in
+        ensures reads { let later = after_field (reading_of self.old) (field_view field.entry) in
             OnOk result (reading_of self.new ≡ later) }
         ensures memory { OnErr result (result ≡ Err SheetFault.Memory) }
         ensures begun { OnErr result (BeginsAnother self.old (field_view field.entry)) }

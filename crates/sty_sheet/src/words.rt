@@ -3,17 +3,13 @@
 ghost use Rattle.std.specs.Prelude.{◌≡◌, ◌≢◌, [], ◌∷◌, MatchOption, length, slice_get, IsUtf8};
 ghost use Rattle.std.specs.List.{prefix_len, suffix_len};
 ghost use Rattle.std.specs.Option.{option_map};
-ghost use Rattle.sty_sheet.specs.Lines.{is_blank, not_blank, after_blanks, trimmed, first_word, after_word};
+ghost use Rattle.usfm_ref.specs.Numbers.{is_blank};
+ghost use Rattle.sty_sheet.specs.Lines.{not_blank, after_blanks, trimmed, first_word, after_word};
 ghost use Rattle.sty_sheet.specs.Fields.{is_word, kind_named};
 ghost use Rattle.sty_sheet.specs.Records.{words_of, without_star, closing_name};
 
 use crate::kind::StyleKind;
-
-pub(crate) fn is_blank(byte: u8) -> bool
-    ensures { result ≡ is_blank byte }
-{
-    byte == b' ' || byte == b'\t' || byte == b'\r' || byte == b'\n'
-}
+use usfm_ref::is_blank;
 
 // How many blanks are at the front.
 fn blanks_in_front(bytes: &[u8]) -> usize

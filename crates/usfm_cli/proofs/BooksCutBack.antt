@@ -9,7 +9,7 @@ use Rattle.op_core.proofs.Union.{IsOpSet-join}
 use Rattle.usfm_export.specs.Books.{IsBookOf}
 use Rattle.usfm_export.proofs.Books.{is_book}
 use Rattle.usfm_cli.specs.Books.{FoldedBooksCutBack}
-use Rattle.usfm_cli.specs.Streams.{unless_clash, union_in, union_with, HasBundle, book_in}
+use Rattle.usfm_cli.specs.Streams.{unless_clash, union_in, union_with, HasBundle, book_from}
 use Rattle.usfm_cli.specs.declared.fault.Fault.{Fault}
 use Rattle.usfm_cli.specs.declared.fault.Fault.TheVariants.{NoBook}
 use Rattle.usfm_cli.proofs.StreamLemmas.{stream_of}
@@ -35,7 +35,7 @@ folded_books_cut_back book input text bytes h = by (union_in [] input) refl h
     by_book union set true h = let is : export union book ≡ text = cc in subst (IsBookOf union book) is (is_book union book set)
     by_book union set false h = absurd (cc)
 
-    by : (u : Result (List Operation) Fault) → union_in [] input ≡ u → book_in book u ≡ Ok text →
+    by : (u : Result (List Operation) Fault) → union_in [] input ≡ u → book_from book u ≡ Ok text →
         (union : List Operation) × (union_in [] input ≡ Ok union) × IsBookOf union book text
     by (Err fault) e h = absurd (cc)
     by (Ok union) e h =

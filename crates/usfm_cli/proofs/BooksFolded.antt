@@ -14,7 +14,7 @@ use Rattle.usfm_export.specs.declared.fault.ExportFault.TheVariants as writing
 use Rattle.usfm_cli.specs.Faults.{of_export}
 use Rattle.usfm_cli.specs.Folding.{AnswersStream, sink_failures}
 use Rattle.usfm_cli.specs.Reading.{most_bytes}
-use Rattle.usfm_cli.specs.Streams.{union_within, union_in, book_in, book_of_stream}
+use Rattle.usfm_cli.specs.Streams.{union_within, union_in, book_from, book_of_stream}
 use Rattle.usfm_cli.specs.declared.fault.Fault.TheVariants.{Memory, NoBook}
 
 -- what is answered of the book's operations, is answered of all
@@ -44,7 +44,7 @@ some_given (b ∷ bytes) union e some = omega arith
 module _ (book given : List ℕ) (left before after : Option (List ℕ)) (union : List Operation) (within : length given ≤ most_bytes)
     (whole : IsAtEnd left) (is : union_in [] given ≡ Ok union) where
   text_is : has_book union book ≡ true → book_of_stream book given ≡ Ok (export union book)
-  text_is has = ap (book_in book) is ∙ cond-true (has_book union book) (Ok (export union book)) (Err NoBook) has
+  text_is has = ap (book_from book) is ∙ cond-true (has_book union book) (Ok (export union book)) (Err NoBook) has
 
   pub written_all : (done : Unit {0}) → AnswersBook union book before after (Ok done) → AnswersStream book given left before after (Ok done)
   written_all done h = (within, whole, (export union book, text_is h.0, h.1))
@@ -52,7 +52,7 @@ module _ (book given : List ℕ) (left before after : Option (List ℕ)) (union 
   pub not_written : (fault : ExportFault) → AnswersBook union book before after (Err fault)
       → AnswersStream book given left before after (Err (of_export fault))
   not_written writing.NoBook h =
-      (within, whole, (ap (book_in book) is ∙ cond-false (has_book union book) (Ok (export union book)) (Err NoBook) h.0, h.1))
+      (within, whole, (ap (book_from book) is ∙ cond-false (has_book union book) (Ok (export union book)) (Err NoBook) h.0, h.1))
   not_written (writing.WriteFailed gone) h = (within, whole, (export union book, text_is h.0, h.1))
 
   -- out of memory is answered only where the book has operations, and so where bytes were given

@@ -7,14 +7,15 @@ use Rattle.std.proofs.lemmas.Bool.Decides.{nat_tests}
 use Rattle.std.proofs.lemmas.List.{length-reverse}
 use Rattle.usfm_ref.specs.Books.{same_bytes}
 use Rattle.usfm_ref.specs.Keys.{KeyParts}
-use Rattle.usfm_ref.specs.Segments.{Segment, segment}
+use Rattle.usfm_ref.specs.Segments.{segment}
+use Rattle.usfm_ref.specs.declared.segment.Segment.{Segment}
 use Rattle.usfm_ref.proofs.Orders.{same_bytes-is, same_bytes-refl}
 use Rattle.usfm_ref.proofs.Sorted.{rises_filter}
 use Rattle.op_core.specs.Ids.{Id, id_cmp}
 use Rattle.op_core.specs.Lists.{awaited, books_of, keys_of}
 use Rattle.op_core.specs.Ops.{Operation, own_text}
 use Rattle.op_core.specs.Sets.{IsOpSet}
-use Rattle.op_core.specs.Shown.{is_shown, last, shown, text_in}
+use Rattle.op_core.specs.Shown.{is_shown, last, shown, text_if_any}
 use Rattle.op_core.proofs.Rising.{id_total}
 use Rattle.conflict_report.specs.Reports.{is_repeated, distinct_texts, conflict_line, text_lines, conflict_lines, awaited_line}
 use Rattle.conflict_report.specs.Reports.{conflict_at, report}
@@ -74,7 +75,7 @@ two_kept (o ∷ p ∷ ops) =
     by (two_kept (p ∷ ops)) (differ (p ∷ ops)) refl (same_bytes (own_text o) text) refl (has_text (own_text o) (p ∷ ops)) refl
   where
     text : List ℕ
-    text = text_in (last (p ∷ ops))
+    text = text_if_any (last (p ∷ ops))
 
     rest : List Operation
     rest = latest (p ∷ ops)

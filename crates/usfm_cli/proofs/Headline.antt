@@ -12,7 +12,7 @@ use Rattle.project_file.proofs.Files.{project_is}
 use Rattle.conflict_report.specs.Reports.{report}
 use Rattle.conflict_report.proofs.SameReports.{skeleton_reports}
 use Rattle.usfm_cli.specs.Commands.{export_text}
-use Rattle.usfm_cli.specs.Streams.{unless_clash, union_with, HasBundle, book_in}
+use Rattle.usfm_cli.specs.Streams.{unless_clash, union_with, HasBundle, book_from}
 use Rattle.usfm_cli.specs.Headline.{Replica, Project, Stream, ProjectHolds, Accepted, book_of}
 use Rattle.usfm_cli.specs.Headline.{SameOperationsSameBytes, SameOperationsSameReport}
 use Rattle.usfm_cli.specs.Projects.{executed, file_after}
@@ -56,7 +56,7 @@ accepted_is_legal (Stream input) held a =
 book_is : (r : Replica) (held : List Operation) → Accepted r held → (book : List ℕ) → book_of r book ≡ export_text held book
 book_is (Project file commands) held a book =
     exported (file_after file commands) a.state book a.reads ∙ ap (λ (ops : List Operation). export_text ops book) a.is_held
-book_is (Stream input) held a book = ap (book_in book) a.union
+book_is (Stream input) held a book = ap (book_from book) a.union
 
 -- replicas that accepted the same operations write the same bytes of every book
 pub same_bytes : SameOperationsSameBytes

@@ -20,3 +20,4 @@ pub mod ShownSets
 pub mod ShownByKeys
 pub mod Conflicts
 pub mod Received
+pub mod DeltasMade

@@ -21,7 +21,7 @@ use Rattle.replica_state.proofs.World.Held.{among_is_held}
 use Rattle.project_file.specs.Projects.{project_at}
 use Rattle.conflict_report.proofs.SameReports.{skeleton_reports}
 use Rattle.usfm_cli.specs.Commands.{export_text}
-use Rattle.usfm_cli.specs.Streams.{unless_clash, union_in, union_with, AreSpelled, book_in}
+use Rattle.usfm_cli.specs.Streams.{unless_clash, union_in, union_with, AreSpelled, book_from}
 use Rattle.usfm_cli.specs.Streams.{book_of_stream}
 use Rattle.usfm_cli.specs.StreamLaws.{one_holds, FoldAlike}
 use Rattle.usfm_cli.specs.Projects.{executed}
@@ -129,10 +129,10 @@ module _ (family : Id → Operation) where
         union_is = u.is;
         other_is = v.is;
         books = λ book.
-            ap (book_in book) u.is
+            ap (book_from book) u.is
             ∙ texts_alike u.union v.union book (ap skeleton a ∙ alike.skeletons ∙ sym (ap skeleton b)) (ap (λ ops. export ops book) a
             ∙ alike.exports book ∙ sym (ap (λ ops. export ops book) b))
-            ∙ sym (ap (book_in book) v.is);
+            ∙ sym (ap (book_from book) v.is);
       }
 
   pub read_as_thinned_stream : (file : List ℕ) (s : State) (sets : List (List Operation)) (input : List ℕ) → project_at file ≡ Ok s →
@@ -148,4 +148,4 @@ module _ (family : Id → Operation) where
       exported file s book loads
       ∙ texts_alike s.held u.union book (ap skeleton a ∙ alike.skeletons ∙ sym (ap skeleton b)) (ap (λ ops. export ops book) a
       ∙ alike.exports book ∙ sym (ap (λ ops. export ops book) b))
-      ∙ sym (ap (book_in book) u.is)
+      ∙ sym (ap (book_from book) u.is)

@@ -6,7 +6,7 @@ use Rattle.std.specs.List.{Contains}
 use Rattle.op_core.specs.Laws.{IsAmong}
 use Rattle.op_core.proofs.Joinings.{same_unions}
 use Rattle.op_core.proofs.Together.{set_from_none}
-use Rattle.usfm_cli.specs.Streams.{AreSpelled, union_in, book_in, book_of_stream}
+use Rattle.usfm_cli.specs.Streams.{AreSpelled, union_in, book_from, book_of_stream}
 use Rattle.usfm_cli.proofs.StreamLemmas.{are_sets, union_joined, gives_union}
 use Rattle.replica_state.specs.States.{State, IsState}
 use Rattle.project_file.specs.Projects.{project_at}
@@ -43,7 +43,7 @@ pub read_as_stream : (file : List ℕ) (s : State) (sets : List (List Operation)
 read_as_stream file s sets input union loads hs spelled e there back book =
     let same : s.held ≡ union = set_from_none s.held sets union hs.set (are_sets sets spelled.each) there back
     (union_joined (Part []) [] sets union refl (sym (gives_union sets input spelled) ∙ e)) in
-    exported file s book loads ∙ ap (λ (held : List Operation). export_text held book) same ∙ sym (ap (book_in book) e)
+    exported file s book loads ∙ ap (λ (held : List Operation). export_text held book) same ∙ sym (ap (book_from book) e)
 
 -- projects that hold the same operations read the same
 pub same_operations : (file other : List ℕ) (s t : State) → project_at file ≡ Ok s → project_at other ≡ Ok t → IsState s → IsState t →

@@ -3,7 +3,7 @@ use Rattle.std.proofs.Common.{ℕ, ◌≤◌, List, [], length, Option, Err, ref
 use Rattle.std.specs.Io.KnownBytes.{IsAtEnd}
 use Rattle.usfm_cli.specs.Folding.{AnswersStream}
 use Rattle.usfm_cli.specs.Reading.{most_bytes}
-use Rattle.usfm_cli.specs.Streams.{UnionAnswers, book_in}
+use Rattle.usfm_cli.specs.Streams.{UnionAnswers, book_from}
 use Rattle.usfm_cli.specs.declared.fault.Fault.{Fault}
 use Rattle.usfm_cli.specs.declared.fault.Fault.TheVariants.{Memory, NotText, Reference, NoId, FieldBeforeMarker, EmptyMarker, BadStyleType, Naming, Clash, Bundle, Trailing, BadSummary, BadSegment, NumbersUsedUp, NoBook, NotShown, WriteFailed, EmptyNeedle, BadProject, ReadFailed, TooLong, FileFailed, FileChanged}
 use Rattle.usfm_cli.proofs.Unions.{receives_some}
@@ -12,8 +12,8 @@ use Rattle.usfm_cli.proofs.Unions.{receives_some}
 pub refused_stream : (book given : List ℕ) (left sink : Option (List ℕ)) (fault : Fault) → length given ≤ most_bytes → IsAtEnd left
     → UnionAnswers given (Err fault) → AnswersStream book given left sink sink (Err fault)
 refused_stream book given left sink Memory w e u = (receives_some [] given u, w, refl)
-refused_stream book given left sink (Clash id) w e u = (w, e, (ap (book_in book) u, refl))
-refused_stream book given left sink (Bundle fault) w e u = (w, e, (ap (book_in book) u, refl))
+refused_stream book given left sink (Clash id) w e u = (w, e, (ap (book_from book) u, refl))
+refused_stream book given left sink (Bundle fault) w e u = (w, e, (ap (book_from book) u, refl))
 refused_stream book given left sink (NotText valid) w e u = absurd u
 refused_stream book given left sink (Reference fault) w e u = absurd u
 refused_stream book given left sink NoId w e u = absurd u

@@ -11,7 +11,8 @@ use Rattle.std.proofs.lemmas.List.Elements.{All-nil, All-append, All-from_recurs
 use Rattle.std.proofs.lemmas.List.Elements.{recursion_from_All}
 use Rattle.std.proofs.lemmas.Cmp.{tied_itself}
 use Rattle.usfm_ref.specs.Keys.{KeyParts, key_cmp}
-use Rattle.usfm_ref.specs.Segments.{Segment, segment}
+use Rattle.usfm_ref.specs.Segments.{segment}
+use Rattle.usfm_ref.specs.declared.segment.Segment.{Segment}
 use Rattle.usfm_ref.proofs.Members.{tested_rising}
 use Rattle.usfm_ref.proofs.Orders.{key_total, key_exact, same_bytes-is}
 use Rattle.op_core.specs.Ids.{Id, same_id}

@@ -7,7 +7,8 @@ use Rattle.std.proofs.Math.Bool.{and-false}
 use Rattle.std.proofs.lemmas.Bool.{and_parts, and_from, not-true, or_cases, false≢true}
 use Rattle.usfm_ref.specs.Books.{same_bytes}
 use Rattle.usfm_ref.specs.Keys.{KeyParts, key_cmp, head_of, is_head, is_verse_of}
-use Rattle.usfm_ref.specs.Segments.{Segment, segment, same_segment}
+use Rattle.usfm_ref.specs.Segments.{segment, same_segment}
+use Rattle.usfm_ref.specs.declared.segment.Segment.{Segment}
 use Rattle.usfm_ref.proofs.Members.{same_tested, tested_rising}
 use Rattle.usfm_ref.proofs.Sorted.{rises-rising}
 use Rattle.usfm_ref.proofs.Orders.{key_total, key_exact, same_bytes-is, same_bytes-refl}
@@ -16,7 +17,7 @@ use Rattle.op_core.specs.Ids.{Id}
 use Rattle.op_core.specs.Ops.{Operation, IsOperation, in_segment, is_verse_in, is_full, names}
 use Rattle.op_core.specs.Sets.{IsOpSet}
 use Rattle.op_core.specs.Thinned.{is_legal, is_past}
-use Rattle.op_core.specs.Shown.{is_replaced, is_shown, shown, last, text_in, text_of, is_empty}
+use Rattle.op_core.specs.Shown.{is_replaced, is_shown, shown, last, text_if_any, text_of, is_empty}
 use Rattle.op_core.specs.Shown.{is_verse_with_text, has_verse_text, greatest, pick, picked_text}
 use Rattle.op_core.specs.Shown.{Line}
 use Rattle.op_core.specs.Export.{of_book, has_book, keys_in, exported_keys, export}
@@ -118,7 +119,7 @@ module _ (held : List Operation) (book : List ℕ) (set : IsOpSet held) where
           → ((b && is_verse_of chapter o.segment.key) && not (is_empty (text_of (shown_set held book) o.segment)))
           ≡ ((b && is_verse_of chapter o.segment.key) && not (is_empty (text_of held o.segment)))
       by false e = refl
-      by true e = ap (λ (ops : List Operation). is_verse_of chapter o.segment.key && not (is_empty (text_in (last ops))))
+      by true e = ap (λ (ops : List Operation). is_verse_of chapter o.segment.key && not (is_empty (text_if_any (last ops))))
           (shown_same o.segment (same_bytes-is o.segment.book book e))
 
   verse_text_same : (chapter : ℕ) → has_verse_text (shown_set held book) book chapter ≡ has_verse_text held book chapter
@@ -131,7 +132,7 @@ module _ (held : List Operation) (book : List ℕ) (set : IsOpSet held) where
 
   pick_same : (key : KeyParts) → pick (shown_set held book) (segment book key) ≡ pick held (segment book key)
   pick_same key =
-      (λ i. cond (is_head key.place && nat_le 1 key.chapter && is_empty (text_in (last (shown_same (segment book key) refl i)))
+      (λ i. cond (is_head key.place && nat_le 1 key.chapter && is_empty (text_if_any (last (shown_same (segment book key) refl i)))
       && verse_text_same key.chapter i)
       (Line key.chapter) (greatest (last (shown_same (segment book key) refl i))))
 

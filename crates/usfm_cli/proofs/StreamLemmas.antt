@@ -13,7 +13,7 @@ use Rattle.bundle_codec.specs.Spelling.{bundle}
 use Rattle.bundle_codec.specs.Reading.{AreBytes, bundle_at}
 use Rattle.bundle_codec.proofs.Spelled.{bundle_reads}
 use Rattle.usfm_cli.specs.Streams.{with_set, unless_clash, union_within, union_in, union_with}
-use Rattle.usfm_cli.specs.Streams.{HasBundle, AreSpelled, book_in, book_of_stream}
+use Rattle.usfm_cli.specs.Streams.{HasBundle, AreSpelled, book_from, book_of_stream}
 use Rattle.usfm_cli.specs.StreamLaws.{IsStreamOf}
 use Rattle.usfm_cli.specs.declared.fault.Fault.{Fault}
 use Rattle.usfm_cli.proofs.Unions.{next, bundle_is_some}
@@ -112,7 +112,7 @@ are_sets (set ∷ rest) each = (each.0.set, are_sets rest each.1)
 pub same_books : (sets others : List (List Operation)) (input other : List ℕ) (a b : List Operation) →
     AreSpelled sets input → AreSpelled others other → SameTogether sets others → union_in [] input ≡ Ok a →
     union_in [] other ≡ Ok b → (book : List ℕ) → book_of_stream book input ≡ book_of_stream book other
-same_books sets others input other a b s t same ha hb book = ap (book_in book) (ha ∙ ap Ok union ∙ sym hb)
+same_books sets others input other a b s t same ha hb book = ap (book_from book) (ha ∙ ap Ok union ∙ sym hb)
   where
     union : a ≡ b
     union = same_from_none sets others a b (are_sets sets s.each) (are_sets others t.each) same

@@ -6,7 +6,8 @@ use Rattle.std.specs.List.{flat_map}
 use Rattle.std.specs.Str.{is_utf8}
 use Rattle.std.specs.Str.Lossy.{utf8_valid_len}
 use Rattle.usfm_ref.specs.Books.{same_bytes}
-use Rattle.usfm_ref.specs.Segments.{Segment, segment}
+use Rattle.usfm_ref.specs.Segments.{segment}
+use Rattle.usfm_ref.specs.declared.segment.Segment.{Segment}
 use Rattle.verse_cut.specs.Reading.{book_in}
 use Rattle.verse_cut.specs.declared.fault.BookFault.{BookFault}
 use Rattle.op_core.specs.Ids.{Id}
@@ -49,12 +50,12 @@ abbrev pub line_of : List ℕ → List ℕ → List ℕ
 line_of word rest = word ++ 32 ∷ rest ++ 10 ∷ []
 
 -- an id: its number, a space and its name
-abbrev pub id_text : Id → List ℕ
-id_text id = decimal id.number ++ 32 ∷ id.name
+abbrev pub id_words : Id → List ℕ
+id_words id = decimal id.number ++ 32 ∷ id.name
 
 -- a shown operation: a line with its id and the length of its text, the text, and a line feed
 abbrev pub shown_line : Operation → List ℕ
-shown_line o = line_of (codes "op") (id_text o.id ++ 32 ∷ decimal (length (own_text o)))
+shown_line o = line_of (codes "op") (id_words o.id ++ 32 ∷ decimal (length (own_text o)))
     ++ own_text o ++ 10 ∷ []
 
 -- what a command writes of a step: how many operations are new, the id that an edit made, how many edits an import
@@ -62,7 +63,7 @@ shown_line o = line_of (codes "op") (id_text o.id ++ 32 ∷ decimal (length (own
 abbrev pub reply_line : Reply → Result (List ℕ) Fault
 reply_line (Received (Ok count)) = Ok (line_of (codes "new") (decimal count))
 reply_line (Received (Err fault)) = Err (of_receiving fault)
-reply_line (Edited (Ok id)) = Ok (line_of (codes "made") (id_text id))
+reply_line (Edited (Ok id)) = Ok (line_of (codes "made") (id_words id))
 reply_line (Edited (Err fault)) = Err (of_edit fault)
 reply_line (Imported (Ok count)) = Ok (line_of (codes "added") (decimal count))
 reply_line (Imported (Err fault)) = Err (of_import fault)

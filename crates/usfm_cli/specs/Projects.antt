@@ -1,14 +1,15 @@
 -- What commands make of a project's file (this project's own rule): the file is read, the command is done, and the file of the
 -- replica after it is written.
-use Rattle.std.specs.Prelude.{◌≡◌, ◌⊎◌, ℕ, List, [], ◌∷◌, Result, Ok, Err}
+use Rattle.std.specs.Prelude.{◌≡◌, ◌⊎◌, ℕ, List, [], ◌∷◌, Option, Result, Ok, Err}
 use Rattle.op_core.specs.Ops.{Operation}
 use Rattle.bundle_codec.specs.declared.fault.WholeFault.{WholeFault}
+use Rattle.bundle_codec.specs.Summaries.{NameRanges}
 use Rattle.replica_state.specs.States.{State}
 use Rattle.project_file.specs.declared.fault.LoadFault.{LoadFault}
 use Rattle.project_file.specs.Projects.{project, front_at, project_at}
 use Rattle.project_file.specs.Answers.{TakesMemoryAfter}
 use Rattle.usfm_cli.specs.Faults.{of_loading}
-use Rattle.usfm_cli.specs.Commands.{Done, with_bundle, outcome}
+use Rattle.usfm_cli.specs.Commands.{Done, done_if, with_bundle, delta_for, outcome}
 use Rattle.usfm_cli.specs.declared.command.Command.{Command}
 use Rattle.usfm_cli.specs.declared.fault.Fault.{Fault}
 use Rattle.usfm_cli.specs.declared.fault.Fault.TheVariants.{Memory}
@@ -39,6 +40,15 @@ abbrev pub received : Result State LoadFault → Result (List Operation) WholeFa
     → Result Written Fault
 received (Ok s) bundle = written (with_bundle s bundle)
 received (Err fault) bundle = Err (of_loading fault)
+
+-- what a replica writes for a summary, or that there is none
+abbrev pub delta_done : State → Option (List NameRanges) → Result Done Fault
+delta_done s known = done_if s (delta_for s.held known)
+
+-- what a delta makes of a replica that was read, or why none was read
+abbrev pub delta_made : Result State LoadFault → Option (List NameRanges) → Result Written Fault
+delta_made (Ok s) known = written (delta_done s known)
+delta_made (Err fault) known = Err (of_loading fault)
 
 -- A file that is no project is refused with its fault; or with out of memory, where memory is taken to judge its bundle.
 abbrev pub RefusesFile : {X : Type 0} → List ℕ → Fault → Result X Fault → Type 0

@@ -9,7 +9,7 @@ use Rattle.usfm_ref.specs.Segments.{segment}
 use Rattle.op_core.specs.Ops.{Operation, own_text}
 use Rattle.op_core.specs.Sets.{IsOpSet}
 use Rattle.op_core.specs.Thinned.{is_legal}
-use Rattle.op_core.specs.Shown.{last, text_in, is_shown, shown}
+use Rattle.op_core.specs.Shown.{last, text_if_any, is_shown, shown}
 use Rattle.op_core.specs.Lists.{keys_of, books_of, awaited}
 use Rattle.op_core.specs.Export.{of_book, has_book, export}
 use Rattle.bundle_codec.specs.Spelling.{bundle}
@@ -30,7 +30,7 @@ has_other_text text o = not (same_bytes (own_text o) text)
 
 -- whether operations have different texts: one of them has another one than the last
 abbrev pub differ : List Operation → Bool
-differ ops = list_any (has_other_text (text_in (last ops))) ops
+differ ops = list_any (has_other_text (text_if_any (last ops))) ops
 
 -- the keys of a book whose segments are in conflict: they show different texts
 abbrev pub conflicts_in : List Operation → List ℕ → List KeyParts

@@ -40,13 +40,13 @@ abbrev pub union_in : List Operation → List ℕ → Result (List Operation) Fa
 union_in held bytes = union_within (length bytes) held bytes
 
 -- the export of a book of the union, refused where the union has no operation on the book
-abbrev pub book_in : List ℕ → Result (List Operation) Fault → Result (List ℕ) Fault
-book_in book (Err fault) = Err fault
-book_in book (Ok union) = if has_book union book then Ok (export union book) else Err NoBook
+abbrev pub book_from : List ℕ → Result (List Operation) Fault → Result (List ℕ) Fault
+book_from book (Err fault) = Err fault
+book_from book (Ok union) = if has_book union book then Ok (export union book) else Err NoBook
 
 -- what a stream gives for a book: the book's bytes, or the first refusal
 abbrev pub book_of_stream : List ℕ → List ℕ → Result (List ℕ) Fault
-book_of_stream book input = book_in book (union_in [] input)
+book_of_stream book input = book_from book (union_in [] input)
 
 -- ---- the same in terms of sets
 

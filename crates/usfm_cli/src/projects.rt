@@ -4,17 +4,18 @@ ghost use Rattle.replica_state.specs.States.{State};
 ghost use Rattle.project_file.specs.Answers.{RefusesLoad};
 ghost use Rattle.project_file.specs.Projects.{project_at};
 ghost use Rattle.bundle_codec.specs.Joining.{whole_at};
+ghost use Rattle.bundle_codec.specs.SummaryReading.{read_summary};
 ghost use Rattle.usfm_cli.specs.Commands.{outcome, only_tells, is_late, MayWantMemory};
-ghost use Rattle.usfm_cli.specs.Commands.{is_late_in, with_bundle};
+ghost use Rattle.usfm_cli.specs.Commands.{is_late_in, no_fault, with_bundle};
 ghost use Rattle.usfm_cli.specs.Faults.{of_loading};
-ghost use Rattle.usfm_cli.specs.Projects.{RefusesFile, executed, received};
+ghost use Rattle.usfm_cli.specs.Projects.{RefusesFile, executed, received, delta_done, delta_made};
 ghost use Rattle.usfm_cli.specs.Seen.{IsSeen};
 ghost use Rattle.usfm_cli.specs.Projects.{file_or, file_after, state_or, state_after};
 
 use crate::command::Command;
 use crate::fault::Fault;
 use crate::steps::{count_line, obey};
-use bundle_codec::decode_whole;
+use bundle_codec::{Summary, decode_whole};
 use project_file::{LoadFault, judge, load, load_book, save};
 use replica_state::Replica;
 use std::alloc::{AllocError, Global};
@@ -56,8 +57,8 @@ impl Outcome {
 /// Does a command on a project, given as the bytes of its file: reads the project, does the command's
 /// step, and answers the file of the project after it and what the command writes. A command that
 /// only reports gives the project's bytes back as they are. All of the file is judged; of what it
-/// holds, a command that looks at one book copies what is of that book, and a receive nothing but the
-/// bytes that stay.
+/// holds, a command that looks at one book copies what is of that book, and a receive or a delta
+/// nothing but the bytes that it writes.
 ///
 /// # Errors
 /// First those of the project: `BadProject` (110) where the bytes do not begin as a project does, and
@@ -101,8 +102,10 @@ pub fn exec(alloc: Global, project: &[u8], command: &Command<'_>) -> Result<Outc
     ensures after { IfOk result (λ made. (s : State) → project_at project.now ≡ Ok s
         → project_at made.project ≡ Ok (state_or s (outcome s command.now))) }
 {
-    if let Command::Receive(bytes) = *command {
-        return receive_into(alloc, project, bytes);
+    match *command {
+        Command::Receive(bytes) => return receive_into(alloc, project, bytes),
+        Command::Delta(summary) => return delta_of(alloc, project, summary),
+        _ => {}
     }
     let mut replica = load_seen(alloc, project, command)?;
     let output = obey(alloc, &mut replica, command)?;
@@ -134,6 +137,28 @@ fn receive_into(alloc: Global, project: &[u8], bytes: &[u8]) -> Result<Outcome, 
     let bundle = decode_whole(alloc, bytes)?;
     let (project, new) = given.receive(alloc, &bundle)?;
     let output = count_line(alloc, "new", new)?;
+    Ok(Outcome {
+        project,
+        output,
+        replica: None,
+    })
+}
+
+// Writes what a summary lacks of a project's file out of its bytes: the project and then the summary are
+// judged. The file stays as it is.
+fn delta_of(alloc: Global, project: &[u8], summary: &[u8]) -> Result<Outcome, Fault>
+    ensures answer { result ≢ Err Fault.Memory →
+        delta_made (project_at project.now) (read_summary summary.now) ≡ result }
+    ensures no_project { IfErr (project_at project.now) (λ fault.
+        RefusesFile project.now (of_loading fault) result) }
+    ensures memory { result ≡ Err Fault.Memory → (s : State) → project_at project.now ≡ Ok s
+        → s.held ≡ [] → MayWantMemory no_fault (delta_done s (read_summary summary.now)) }
+    ensures unchanged { IfOk result (λ made. made.project ≡ project.now) }
+{
+    let judged = judge(alloc, project)?;
+    let summary = Summary::read(alloc, summary)?;
+    let output = judged.delta(alloc, &summary)?;
+    let project = project.to_vec(alloc)?;
     Ok(Outcome {
         project,
         output,

@@ -6,7 +6,7 @@ ghost use Rattle.usfm_ref.specs.Segments.{segment};
 ghost use Rattle.op_core.specs.Ops.{is_full};
 ghost use Rattle.op_core.specs.Lists.{keys_of};
 ghost use Rattle.op_core.specs.Sets.{put};
-ghost use Rattle.op_core.specs.Shown.{last, shown, text_in};
+ghost use Rattle.op_core.specs.Shown.{last, shown, text_if_any};
 ghost use Rattle.project_file.specs.Projects.{project_at};
 ghost use Rattle.replica_state.specs.States.{State};
 ghost use Rattle.usfm_cli.specs.Projects.{RefusesFile};
@@ -236,7 +236,7 @@ fn differ(ops: &[&Op]) -> bool
 
 // The text of the last of some operations, empty where there is none.
 fn last_text<'a>(ops: &[&'a Op]) -> &'a [u8]
-    ensures { result.now ≡ text_in (last (map (λ op. op.now) ops.now)) }
+    ensures { result.now ≡ text_if_any (last (map (λ op. op.now) ops.now)) }
 {
     let mut text: &[u8] = &[];
     for op in ops {

@@ -211,7 +211,7 @@ pub(crate) fn count_line(alloc: Global, word: &str, count: u64) -> Result<Vec<u8
 // The line of the id that an edit made.
 fn made_line(alloc: Global, id: &OpId) -> Result<Vec<u8>, AllocError>
     ensures { IfOk result (λ line.
-        line.items ≡ commands.line_of (codes "made") (commands.id_text id.now)) }
+        line.items ≡ commands.line_of (codes "made") (commands.id_words id.now)) }
 {
     let line = format!(in alloc; "made {} {}\n", id.number, id.name.text())?;
     Ok(line.into_bytes())

@@ -4,11 +4,7 @@ use Rattle.std.specs.declared.cmp.Ordering.{Ordering}
 use Rattle.std.specs.Ordering.{ordering_then}
 use Rattle.usfm_ref.specs.Books.{book_cmp, same_bytes}
 use Rattle.usfm_ref.specs.Keys.{KeyParts, key_cmp, same_key}
-
--- a segment: a book's code, and a key in the book
-pub record Segment : Type 0 where
-  pub book : List ℕ
-  pub key : KeyParts
+use Rattle.usfm_ref.specs.declared.segment.Segment.{Segment}
 
 -- the segment of a book at a key
 abbrev pub segment : List ℕ → KeyParts → Segment

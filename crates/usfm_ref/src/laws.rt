@@ -1,4 +1,4 @@
-//! That `cmp` of books and of keys is the order that this project defines, that a text has one
+//! That `cmp` of books, of keys and of segments is the order that this project defines, that a text has one
 //! number of a chapter or verse at most, and that references are read as they are written. Each
 //! function does nothing: its contract is the law.
 ghost use Rattle.std.specs.Prelude.{◌≡◌, List, ℕ};
@@ -6,9 +6,11 @@ ghost use Rattle.usfm_ref.specs.Books.{book_cmp};
 ghost use Rattle.usfm_ref.specs.Keys.{KeyParts, key_cmp};
 ghost use Rattle.usfm_ref.specs.Numbers.{ChaptersAreRead, OneChapter, OneVerse, VersesAreRead};
 ghost use Rattle.usfm_ref.specs.References.{ReadsWhatIsWritten, WritesWhatIsRead};
+ghost use Rattle.usfm_ref.specs.Segments.{segment_cmp};
 
 use crate::book::Book;
 use crate::key::Key;
+use crate::segment::Segment;
 
 /// Books go by the canon, and then by their bytes.
 pub fn books_are_ordered()
@@ -18,6 +20,11 @@ pub fn books_are_ordered()
 /// Keys go by chapter, then the head before the verses, then by number, then by letter.
 pub fn keys_are_ordered()
     ensures { (a b : KeyParts) → ⟦<Key as Ord>⟧.cmp a b ≡ key_cmp a b }
+{}
+
+/// Segments go by book, and then by key.
+pub fn segments_are_ordered()
+    ensures { (a b : Segment) → ⟦<Segment as Ord>⟧.cmp a b ≡ segment_cmp a b }
 {}
 
 /// A text has at most one number of a chapter.

@@ -1,6 +1,6 @@
 // The books' files of a folder, and what each was written from, as they stand on the disk.
 use crate::files::{read_file, read_open};
-use crate::project::place_of;
+use crate::project::real_path;
 use crate::turns::Refusal;
 use std::fs::File;
 use std::io::{ErrorKind, Write};
@@ -169,7 +169,7 @@ pub(crate) fn places_of(
     book: Book,
     path: &str,
 ) -> Result<(String, String), Fault> {
-    let end = place_of(rt, path)?;
+    let end = real_path(rt, path)?;
     let end = end.as_str();
     let new = if end == path {
         own_path(rt, folder, book, "usfm.new")?

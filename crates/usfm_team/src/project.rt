@@ -24,7 +24,7 @@ pub(crate) fn lock_project(rt: &HostRuntime, path: &str) -> Result<Project, Faul
     for _ in 0..u64::MAX {
         let file = open_project(rt, path)?;
         lock_file(&file)?;
-        let place = place_of(rt, path)?;
+        let place = real_path(rt, path)?;
         if stands_at(rt, &file, &place)? {
             return Ok(Project { file, place });
         }
@@ -84,7 +84,7 @@ fn open_project(rt: &HostRuntime, path: &str) -> Result<File, Fault> {
 
 // Where the file of a project is: under its name, or where that link leads. Were the link replaced, the two would
 // be two projects of one name from then on.
-pub(crate) fn place_of(rt: &HostRuntime, path: &str) -> Result<PathBuf, Fault> {
+pub(crate) fn real_path(rt: &HostRuntime, path: &str) -> Result<PathBuf, Fault> {
     let found = fs::symlink_metadata(rt, path).map_err(|_| Fault::FileFailed)?;
     if found.is_symlink() {
         fs::canonicalize(rt, path).map_err(link_fault)

@@ -40,10 +40,10 @@ pub record Leaves (xs ys : List Operation) (first : Operation)
   pub fewer : length xs' + length ys' < length xs + length ys
 
 -- a step of a joining takes the first operation of the union, or there is nothing to join
-abbrev pub Steps : List Operation → List Operation → List Operation → List Operation
+abbrev pub TakesFirst : List Operation → List Operation → List Operation → List Operation
     → Option Operation → Type 0
-Steps xs ys xs' ys' None = (xs ≡ []) × (ys ≡ [])
-Steps xs ys xs' ys' (Some first) = Leaves xs ys first xs' ys'
+TakesFirst xs ys xs' ys' None = (xs ≡ []) × (ys ≡ [])
+TakesFirst xs ys xs' ys' (Some first) = Leaves xs ys first xs' ys'
 
 -- a refusal while two sets are joined is out of memory, or the clash that there is
 abbrev pub RefusesUnion : Option Id → JoinFault → Type 0

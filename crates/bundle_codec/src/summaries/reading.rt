@@ -2,7 +2,7 @@
 // since a fault that comes later is answered before out of memory.
 ghost use Rattle.std.specs.Prelude.{◌≡◌, ◌++◌, ◌∷◌, [], Ok, IfOk, IfSome};
 ghost use Rattle.std.specs.Option.{IsSomeAnd, option_copied};
-ghost use Rattle.bundle_codec.specs.Reading.{Gives, exactly_at, after};
+ghost use Rattle.bundle_codec.specs.Reading.{Gives, exactly_at, ahead};
 ghost use Rattle.bundle_codec.specs.Summaries.{summary_magic};
 ghost use Rattle.bundle_codec.specs.SummaryReading as reading;
 
@@ -10,8 +10,8 @@ use super::name_ranges::NameRanges;
 use super::range::{NumberRange, begins_after, is_range};
 use super::writing::MAGIC;
 use crate::fault::BundleFault;
-use crate::fields::{block_of, exactly_of, u8_at, u64_at};
-use crate::ids::{is_name, made_name};
+use crate::judging::fields::{block_of, exactly_of, u8_at, u64_at};
+use crate::judging::ids::{is_name, made_name};
 use std::alloc::Global;
 
 // The bytes after the magic.
@@ -51,7 +51,7 @@ fn ranges_of(
     count: u64,
     bytes: &[u8],
 ) -> Result<(Option<Vec<NumberRange>>, &[u8]), BundleFault>
-    ensures rest { Gives (λ x. x.1.now) result (after (reading.ranges_at count bytes.now)) }
+    ensures rest { Gives (λ x. x.1.now) result (ahead (reading.ranges_at count bytes.now)) }
     ensures kept { IfOk result (reading.Keeps (reading.ranges_at count bytes.now)) }
 {
     let mut kept = Some(Vec::new(alloc));
@@ -136,7 +136,7 @@ pub(crate) fn summary_of(
     alloc: Global,
     bytes: &[u8],
 ) -> Result<(Option<Vec<NameRanges>>, &[u8]), BundleFault>
-    ensures rest { Gives (λ x. x.1.now) result (after (reading.summary_at bytes.now)) }
+    ensures rest { Gives (λ x. x.1.now) result (ahead (reading.summary_at bytes.now)) }
     ensures kept { IfOk result (reading.Keeps (reading.summary_at bytes.now)) }
 {
     let rest = after_magic(bytes)?;
@@ -150,7 +150,7 @@ fn names_of(
     count: u64,
     bytes: &[u8],
 ) -> Result<(Option<Vec<NameRanges>>, &[u8]), BundleFault>
-    ensures rest { Gives (λ x. x.1.now) result (after (reading.names_at count bytes.now)) }
+    ensures rest { Gives (λ x. x.1.now) result (ahead (reading.names_at count bytes.now)) }
     ensures kept { IfOk result (reading.Keeps (reading.names_at count bytes.now)) }
 {
     let mut kept = Some(Vec::new(alloc));

@@ -1,6 +1,6 @@
 // Summaries read and written, made of sets, and what lies outside one.
 use super::changed;
-use crate::{Summary, SummaryFault, decode_whole, encode_outside};
+use crate::{Summary, SummaryFault, decode_whole, encode, encode_outside};
 use op_core::OpSet;
 use std::alloc::{AllocError, Global};
 use std::test::Fail;
@@ -172,9 +172,13 @@ fn summaries_of_sets(rt: HostRuntime) -> Result<(), Fail> {
     Ok(())
 }
 
+// Whether this lies outside of the verses, as a set and as a bundle.
 fn is_outside(alloc: Global, summary: &Summary, wanted: &[u8]) -> Result<bool, Fail> {
     let set = verses(alloc)?;
-    Ok(encode_outside(alloc, &set, summary)?.as_slice() == wanted)
+    let of_set = encode_outside(alloc, &set, summary)?;
+    let bytes = encode(alloc, &set)?;
+    let of_bundle = decode_whole(alloc, &bytes)?.outside(alloc, summary)?;
+    Ok(of_set.as_slice() == wanted && of_bundle.as_slice() == wanted)
 }
 
 #[test]

@@ -131,10 +131,13 @@ fn of_three_texts(alloc: Global) -> Result<Vec<u8>, AllocError> {
 
 fn is_outside(alloc: Global, summary: &[u8], want: &[u8]) -> Result<bool, Fail> {
     let bytes = of_three_texts(alloc)?;
-    let set = decode_whole(alloc, &bytes)?.to_set(alloc)?;
+    let bundle = decode_whole(alloc, &bytes)?;
+    let set = bundle.to_set(alloc)?;
     let summary = Summary::read(alloc, summary)?;
     let same = encode(alloc, &set)?.as_slice() == bytes.as_slice();
-    Ok(same && encode_outside(alloc, &set, &summary)?.as_slice() == want)
+    let of_set = encode_outside(alloc, &set, &summary)?;
+    let of_bundle = bundle.outside(alloc, &summary)?;
+    Ok(same && of_set.as_slice() == want && of_bundle.as_slice() == want)
 }
 
 #[test]

@@ -9,9 +9,9 @@ is_like true c = is_word_char c
 is_like false c = not (is_word_char c)
 
 -- what comes after the characters at the front that are so
-abbrev pub after : Bool → List ℕ → List ℕ
-after is_word [] = []
-after is_word (c ∷ cs) = if is_like is_word c then after is_word cs else c ∷ cs
+abbrev pub rest_after : Bool → List ℕ → List ℕ
+rest_after is_word [] = []
+rest_after is_word (c ∷ cs) = if is_like is_word c then rest_after is_word cs else c ∷ cs
 
 -- the bytes of those characters
 abbrev pub front_bytes : Bool → List ℕ → List ℕ

@@ -2,14 +2,15 @@
 use Rattle.std.specs.Prelude.{◌≡◌, Bool, false, not, ◌&&◌, List, Option, Some, None, IsTrue}
 use Rattle.std.specs.List.{find, list_any, AllByRecursion}
 use Rattle.std.specs.Ordering.{is_eq}
-use Rattle.usfm_ref.specs.Segments.{Segment, segment_cmp, same_segment}
+use Rattle.usfm_ref.specs.Segments.{segment_cmp, same_segment}
+use Rattle.usfm_ref.specs.declared.segment.Segment.{Segment}
 use Rattle.usfm_ref.specs.Rising.{rises_by}
 use Rattle.op_core.specs.Ids.{Id, ids_rise}
 use Rattle.op_core.specs.Ops.{Operation}
 use Rattle.op_core.specs.Loops.Index.{among, register_of, shown_in, missing_in, change_at, IsRisingChange, IsChangeOf, HasRoomIn, Takes, IsOrderly}
 use Rattle.op_core.specs.Loops.Turns.{turn_at, arrives, is_named}
-use Rattle.op_core.specs.declared.register.Register.{Register}
-use Rattle.op_core.specs.declared.chapter.Chapter.{Chapter}
+use Rattle.op_core.specs.declared.index.register.Register.{Register}
+use Rattle.op_core.specs.declared.index.chapter.Chapter.{Chapter}
 use Rattle.op_core.specs.declared.index.change.Change.{Change}
 use Rattle.op_core.specs.declared.index.turns.Turn.{Turn}
 

@@ -2,14 +2,15 @@
 use Rattle.std.specs.Prelude.{◌≡◌, ℕ, Bool, true, not, ◌&&◌, List, [], ◌∷◌, IsTrue, take, drop}
 use Rattle.std.specs.List.{list_any, list_all}
 use Rattle.std.specs.Ordering.{is_lt}
-use Rattle.usfm_ref.specs.Segments.{Segment, segment, segment_cmp, same_segment}
+use Rattle.usfm_ref.specs.Segments.{segment_cmp, same_segment}
+use Rattle.usfm_ref.specs.declared.segment.Segment.{Segment}
 use Rattle.op_core.specs.Ids.{Id, same_id}
 use Rattle.op_core.specs.Ops.{Operation, names}
 use Rattle.op_core.specs.declared.index.turns.Turn.{Turn}
 
 -- a turn stands at its segment
 abbrev pub turn_at : Turn → Segment
-turn_at t = segment t.book t.key
+turn_at t = t.segment
 
 -- whether there is an operation at this place, and it passes
 abbrev pub is_at : (Operation → Bool) → List Operation → ℕ → Bool

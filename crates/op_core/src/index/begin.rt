@@ -7,13 +7,13 @@ ghost use Rattle.op_core.specs.Loops.Turns.{AreTurnsOf, comes, is_called};
 ghost use Rattle.op_core.specs.Loops.Changes.{IsBegun};
 
 use super::change::Aside;
+use super::chapter::Chapter;
 use super::put_in;
+use super::register::Register;
 use super::turns::{Turn, gather_arrived, gather_named, run_len};
-use crate::chapter::Chapter;
 use crate::ids::part_ids;
-use crate::op::Op;
-use crate::place::Near;
-use crate::register::Register;
+use crate::ids::search::Search;
+use crate::operations::op::Op;
 use std::alloc::{AllocError, Global};
 use usfm_ref::Key;
 
@@ -22,7 +22,7 @@ pub(crate) fn begin_index(
     alloc: Global,
     new: &[Op],
     turns: &[Turn],
-    compared: &mut u64,
+    search: &mut Search,
 ) -> Result<Vec<Chapter>, AllocError>
     requires new { IsTrue (sets.rises new.now) }
     requires turns { AreTurnsOf new.now turns.now }
@@ -30,20 +30,12 @@ pub(crate) fn begin_index(
 {
     let mut chapters = Vec::new(alloc);
     let mut aside = Aside::new(alloc);
-    let mut near = Near::default();
     let mut rest = turns;
     'runs: while let Some((first, others)) = rest.split_first() {
-        let len = 1 + run_len(first, others, compared);
+        let len = 1 + run_len(first, others, search);
         let (own, later) = rest.split_at(len);
-        let register = begin_register(alloc, new, first.key, own, &mut aside, compared)?;
-        put_in(
-            &mut chapters,
-            alloc,
-            first.book,
-            register,
-            &mut near,
-            compared,
-        )?;
+        let register = begin_register(alloc, new, first.segment.key, own, &mut aside, search)?;
+        put_in(&mut chapters, alloc, first.segment.book, register, search)?;
         rest = later;
     }
     Ok(chapters)
@@ -56,20 +48,20 @@ fn begin_register(
     key: Key,
     own: &[Turn],
     aside: &mut Aside,
-    compared: &mut u64,
+    search: &mut Search,
 ) -> Result<Register, AllocError>
     ensures key { IfOk result (λ r. r.key ≡ key) }
     ensures begun { IfOk result (λ r.
         IsBegun (comes new.now own.now) (is_called new.now own.now) (Some r)) }
 {
-    gather_arrived(&mut aside.arrived, new, own, compared)?;
-    gather_named(&mut aside.named, new, own, compared)?;
+    gather_arrived(&mut aside.arrived, new, own, search)?;
+    gather_named(&mut aside.named, new, own, search)?;
     part_ids(
         &mut aside.fresh,
         &mut aside.absent,
         &aside.arrived,
         &aside.named,
-        compared,
+        search,
     )?;
     let shown = Vec::from_slice(alloc, &aside.fresh)?;
     let missing = Vec::from_slice(alloc, &aside.absent)?;

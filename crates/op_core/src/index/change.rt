@@ -6,13 +6,14 @@ ghost use Rattle.op_core.specs.Ids.{Id, ids_rise};
 ghost use Rattle.op_core.specs.Sets as sets;
 ghost use Rattle.op_core.specs.Loops.Index.{IsChangeOf, IsRisingChange, among, is_in};
 
+use super::register::Register;
+use crate::ids::op_id::OpId;
+use crate::ids::search::Search;
 use crate::ids::{common_ids, leave_ids, part_ids};
-use crate::op::Op;
-use crate::op_id::OpId;
-use crate::place::is_in;
-use crate::register::Register;
+use crate::lists::place::is_in;
+use crate::operations::op::Op;
 use std::alloc::{AllocError, Global};
-use usfm_ref::{Book, Key};
+use usfm_ref::{Book, Key, Segment};
 
 /// What changes at a segment: which ids it comes to show and no longer shows, and which it comes to
 /// miss and no longer misses. Each list rises.
@@ -57,7 +58,7 @@ pub(crate) fn change_of(
     book: Book,
     register: &Register,
     aside: &mut Aside,
-    compared: &mut u64,
+    search: &mut Search,
 ) -> Result<Change, AllocError>
     requires held { IsTrue (sets.rises held.now) }
     requires shown { IsTrue (ids_rise register.now.shown.items) }
@@ -69,19 +70,23 @@ pub(crate) fn change_of(
         register.now.shown.items register.now.missing.items c) }
     ensures rising { IfOk result IsRisingChange }
 {
-    let leaving = common_ids(alloc, &aside.named, &register.shown, compared)?;
-    let found = common_ids(alloc, &aside.arrived, &register.missing, compared)?;
+    let segment = Segment {
+        book,
+        key: register.key,
+    };
+    let leaving = common_ids(alloc, &aside.named, &register.shown, search)?;
+    let found = common_ids(alloc, &aside.arrived, &register.missing, search)?;
     part_ids(
         &mut aside.fresh,
         &mut aside.absent,
         &aside.arrived,
         &aside.named,
-        compared,
+        search,
     )?;
-    leave_ids(&mut aside.fresh, &found, compared);
-    leave_ids(&mut aside.absent, &leaving, compared);
-    leave_ids(&mut aside.absent, &register.missing, compared);
-    leave_held(&mut aside.absent, held, book, register.key, compared);
+    leave_ids(&mut aside.fresh, &found, search);
+    leave_ids(&mut aside.absent, &leaving, search);
+    leave_ids(&mut aside.absent, &register.missing, search);
+    leave_held(&mut aside.absent, held, &segment, search);
     let arrived = Vec::from_slice(alloc, &aside.fresh)?;
     let lacking = Vec::from_slice(alloc, &aside.absent)?;
     Ok(Change {
@@ -95,16 +100,16 @@ pub(crate) fn change_of(
 }
 
 // Takes out of a list the ids of operations of a segment.
-fn leave_held(ids: &mut Vec<OpId>, held: &[Op], book: Book, key: Key, compared: &mut u64)
+fn leave_held(ids: &mut Vec<OpId>, held: &[Op], segment: &Segment, search: &mut Search)
     requires held { IsTrue (sets.rises held.now) }
     requires rising { IsTrue (ids_rise ids.old.items) }
     ensures rising { IsTrue (ids_rise ids.new.items) }
     ensures members { (q : Id) → among ids.new.items q
-        ≡ (among ids.old.items q && not (is_in held.now (segment book key) q)) }
+        ≡ (among ids.old.items q && not (is_in held.now segment.now q)) }
 {
     let mut kept = 0;
     for i in 0..ids.len() {
-        if !is_in(held, book, key, ids[i], compared) {
+        if !is_in(held, segment, ids[i], search) {
             ids.swap(kept, i);
             kept += 1;
         }

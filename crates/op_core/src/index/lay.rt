@@ -5,36 +5,24 @@ ghost use Rattle.std.specs.Prelude.{◌≡◌, ◌<◌, ◌≤◌, [], IsTrue, l
 ghost use Rattle.std.specs.Prelude.{vec_capacity, true, OnOk};
 ghost use Rattle.usfm_ref.specs.Keys as keys;
 ghost use Rattle.usfm_ref.specs.Keys.{key_cmp, same_key};
-ghost use Rattle.usfm_ref.specs.Segments.{segment, segment_cmp};
+ghost use Rattle.usfm_ref.specs.Segments.{segment_cmp};
 ghost use Rattle.usfm_ref.specs.Rising.{rises_by};
-ghost use Rattle.op_core.specs.Loops.Index.{place_of, is_there, IsOrderly, begins_above};
+ghost use Rattle.op_core.specs.Loops.Index.{home_of, chapter_of, is_there};
+ghost use Rattle.op_core.specs.Loops.Index.{IsOrderly, begins_above};
 ghost use Rattle.op_core.specs.Loops.Index.{Lays, LaysKeys, Readies};
 
+use super::chapter::Chapter;
+use super::place::{place_chapter, place_register, register_at, registers_of};
 use super::put_in;
+use super::register::Register;
 use super::turns::Turn;
-use crate::chapter::Chapter;
-use crate::merge::move_after;
-use crate::place::{Near, head_of, place_chapter, place_register, register_at, registers_of};
-use crate::register::Register;
+use crate::ids::search::Search;
+use crate::lists::merge::move_after;
 use std::alloc::{AllocError, Global};
-use usfm_ref::{Book, Key};
+use usfm_ref::{Key, Segment};
 
 // Fewer new segments are put in where they come: going over the lists would cost more.
 const FEW: usize = 16;
-
-// A segment that has no register yet.
-#[derive(Clone, Copy, Debug, PartialEq, Eq, PartialOrd, Ord)]
-struct Spot {
-    book: Book,
-    key: Key,
-}
-
-impl Spot {
-    // Whether both are of one chapter.
-    fn is_beside(&self, other: &Spot) -> bool {
-        self.key.chapter == other.key.chapter && self.book == other.book
-    }
-}
 
 // Puts in registers, and chapters for them, at the segments of the turns, where many have none. What the
 // index keeps stays, also where a growth was refused.
@@ -43,8 +31,7 @@ pub(crate) fn lay_out(
     chapters: &mut Vec<Chapter>,
     alloc: Global,
     turns: &[Turn],
-    near: &mut Near,
-    compared: &mut u64,
+    search: &mut Search,
 ) -> Result<(), AllocError>
     requires { IsOrderly chapters.old.items }
     ensures { Lays chapters.old.items chapters.new.items }
@@ -52,72 +39,69 @@ pub(crate) fn lay_out(
     if turns.len() < FEW {
         return Ok(());
     }
-    let spots = spots_of(chapters, alloc, turns, near, compared)?;
-    if spots.len() < FEW {
+    let segments = segments_of(chapters, alloc, turns, search)?;
+    if segments.len() < FEW {
         return Ok(());
     }
-    lay_chapters(chapters, alloc, &spots, compared)?;
-    lay_registers(chapters, alloc, &spots, compared)
+    lay_chapters(chapters, alloc, &segments, search)?;
+    lay_registers(chapters, alloc, &segments, search)
 }
 
 // The segments of the turns that have no register, in the turns' order, each once.
-fn spots_of(
+fn segments_of(
     chapters: &[Chapter],
     alloc: Global,
     turns: &[Turn],
-    near: &mut Near,
-    compared: &mut u64,
-) -> Result<Vec<Spot>, AllocError>
+    search: &mut Search,
+) -> Result<Vec<Segment>, AllocError>
     requires { IsOrderly chapters.now }
 {
-    let mut spots = Vec::new(alloc);
+    let mut segments = Vec::new(alloc);
     for at in 0..turns.len() {
-        let (book, key) = (turns[at].book, turns[at].key);
-        if !is_again(turns, at, compared) && !is_laid(chapters, book, key, near, compared) {
-            spots.push(Spot { book, key })?;
+        let segment = turns[at].segment;
+        if !is_again(turns, at, search) && !is_laid(chapters, &segment, search) {
+            segments.push(segment)?;
         }
     }
-    Ok(spots)
+    Ok(segments)
 }
 
 // Whether a turn is of the segment of the one before it.
-fn is_again(turns: &[Turn], at: usize, compared: &mut u64) -> bool
+fn is_again(turns: &[Turn], at: usize, search: &mut Search) -> bool
     requires { at < length turns.now }
 {
     if at == 0 {
         return false;
     }
-    *compared = compared.saturating_add(1);
+    search.count();
     turns[at].order(&turns[at - 1]).is_eq()
 }
 
 // Whether a segment has a register.
-fn is_laid(chapters: &[Chapter], book: Book, key: Key, near: &mut Near, compared: &mut u64) -> bool
+fn is_laid(chapters: &[Chapter], segment: &Segment, search: &mut Search) -> bool
     requires { IsOrderly chapters.now }
-    ensures { result ≡ is_there (segment book key) chapters.now }
+    ensures { result ≡ is_there segment.now chapters.now }
 {
-    let registers = registers_of(chapters, book, key, &mut near.chapter, compared);
-    register_at(registers, key, &mut near.register, compared).is_some()
+    let registers = registers_of(chapters, segment, search);
+    register_at(registers, segment.key, search).is_some()
 }
 
 // Puts in a register at a segment that has none.
 pub(crate) fn lay(
     chapters: &mut Vec<Chapter>,
     alloc: Global,
-    book: Book,
-    key: Key,
-    near: &mut Near,
-    compared: &mut u64,
+    segment: &Segment,
+    search: &mut Search,
 ) -> Result<(), AllocError>
     requires { IsOrderly chapters.old.items }
     ensures same { Readies chapters.old.items chapters.new.items }
-    ensures there { OnOk result (is_there (segment book key) chapters.new.items ≡ true) }
+    ensures there { OnOk result (is_there segment.now chapters.new.items ≡ true) }
 {
-    if is_laid(chapters, book, key, near, compared) {
+    if is_laid(chapters, segment, search) {
         return Ok(());
     }
-    let register = Register::new(alloc, key);
-    put_in(chapters, alloc, book, register, near, compared)
+    let register = Register::new(alloc, segment.key);
+    put_in(chapters, alloc, segment.book, register, search)
 }
 
 // Puts in the chapters of the segments that are not there.
@@ -125,51 +109,64 @@ pub(crate) fn lay(
 fn lay_chapters(
     chapters: &mut Vec<Chapter>,
     alloc: Global,
-    spots: &[Spot],
-    compared: &mut u64,
+    segments: &[Segment],
+    search: &mut Search,
 ) -> Result<(), AllocError>
     requires { IsOrderly chapters.old.items }
     ensures { Lays chapters.old.items chapters.new.items }
 {
-    let fresh = count_chapters(chapters, spots, compared);
+    let fresh = count_chapters(chapters, segments, search);
     if fresh == 0 {
         return Ok(());
     }
     chapters.reserve(fresh)?;
     let tail = Vec::with_capacity(alloc, chapters.capacity())?;
-    merge_chapters(chapters, alloc, spots, tail, compared);
+    merge_chapters(chapters, alloc, segments, tail, search);
     Ok(())
 }
 
 // Of how many chapters that are not there the segments are.
-fn count_chapters(chapters: &[Chapter], spots: &[Spot], compared: &mut u64) -> usize
+fn count_chapters(chapters: &[Chapter], segments: &[Segment], search: &mut Search) -> usize
     requires { IsOrderly chapters.now }
 {
     let mut fresh: usize = 0;
-    let mut near = 0;
-    let mut rest = spots;
-    'groups: while let Some((spot, _)) = rest.split_first() {
-        let head = head_of(spot.key);
-        let at = place_chapter(chapters, spot.book, head, &mut near, compared);
-        if at >= chapters.len() || !chapters[at].order(spot.book, head).is_eq() {
+    let mut rest = segments;
+    'groups: while let Some((segment, _)) = rest.split_first() {
+        let at = place_chapter(chapters, segment, search);
+        if !is_at(chapters, at, segment, search) {
             fresh = fresh.saturating_add(1);
         }
-        rest = &rest[chapter_len(rest)..];
+        rest = &rest[chapter_len(rest, search)..];
     }
     fresh
 }
 
+// Whether the chapter of a segment is at this place.
+fn is_at(chapters: &[Chapter], at: usize, segment: &Segment, search: &mut Search) -> bool {
+    if at >= chapters.len() {
+        return false;
+    }
+    search.count();
+    chapters[at].order(segment).is_eq()
+}
+
+// Whether both segments are of one chapter.
+fn is_beside(segment: &Segment, other: &Segment) -> bool {
+    segment.key.chapter == other.key.chapter && segment.book == other.book
+}
+
 // How many segments at the front are of the first one's chapter.
-fn chapter_len(spots: &[Spot]) -> usize
-    ensures some { 0 < length spots.now → 0 < result }
-    ensures within { result ≤ length spots.now }
+fn chapter_len(segments: &[Segment], search: &mut Search) -> usize
+    ensures some { 0 < length segments.now → 0 < result }
+    ensures within { result ≤ length segments.now }
 {
-    for at in 1..spots.len() {
-        if !spots[at].is_beside(&spots[0]) {
+    for at in 1..segments.len() {
+        search.count();
+        if !is_beside(&segments[at], &segments[0]) {
             return at;
         }
     }
-    spots.len()
+    segments.len()
 }
 
 // The same, where there is room for what is there in both lists: what is after each new chapter goes
@@ -177,49 +174,39 @@ fn chapter_len(spots: &[Spot]) -> usize
 fn merge_chapters(
     chapters: &mut Vec<Chapter>,
     alloc: Global,
-    spots: &[Spot],
+    segments: &[Segment],
     mut tail: Vec<Chapter>,
-    compared: &mut u64,
+    search: &mut Search,
 )
     requires orderly { IsOrderly chapters.old.items }
     requires tail { tail.items ≡ [] }
     requires room { vec_len chapters.old ≤ vec_capacity tail }
     ensures { Lays chapters.old.items chapters.new.items }
 {
-    let mut rest = spots;
-    'laying: while let Some((spot, before)) = rest.split_last() {
-        let head = head_of(spot.key);
-        let mut near = chapters.len();
-        let at = place_chapter(chapters, spot.book, head, &mut near, compared);
+    let mut rest = segments;
+    'laying: while let Some((segment, before)) = rest.split_last() {
+        search.chapter = chapters.len();
+        let at = place_chapter(chapters, segment, search);
         move_after(chapters, at, &mut tail);
         let len = chapters.len() + tail.len();
-        if len < chapters.capacity()
-            && len < tail.capacity()
-            && is_under(&tail, spot.book, head, compared)
-        {
-            let registers = Vec::new(alloc);
-            let chapter = Chapter {
-                book: spot.book,
-                head,
-                registers,
-            };
-            tail.push(chapter).unwrap();
+        if len < chapters.capacity() && len < tail.capacity() && is_under(&tail, segment, search) {
+            tail.push(Chapter::new(alloc, segment)).unwrap();
         }
         rest = before;
     }
     move_after(&mut tail, 0, chapters);
 }
 
-// Whether a chapter is before the last of these, if there is one.
-fn is_under(chapters: &[Chapter], book: Book, head: Key, compared: &mut u64) -> bool
+// Whether the chapter of a segment is before the last of these, if there is one.
+fn is_under(chapters: &[Chapter], segment: &Segment, search: &mut Search) -> bool
     ensures { result
-        ≡ begins_above segment_cmp place_of (segment book head) (reverse chapters.now) }
+        ≡ begins_above segment_cmp home_of (chapter_of segment.now) (reverse chapters.now) }
 {
     let Some((last, _)) = chapters.split_last() else {
         return true;
     };
-    *compared = compared.saturating_add(1);
-    last.order(book, head).is_gt()
+    search.count();
+    last.order(segment).is_gt()
 }
 
 // Puts registers of the segments into their chapters, where these are there.
@@ -227,17 +214,16 @@ fn is_under(chapters: &[Chapter], book: Book, head: Key, compared: &mut u64) -> 
 fn lay_registers(
     chapters: &mut Vec<Chapter>,
     alloc: Global,
-    spots: &[Spot],
-    compared: &mut u64,
+    segments: &[Segment],
+    search: &mut Search,
 ) -> Result<(), AllocError>
     requires { IsOrderly chapters.old.items }
     ensures { Lays chapters.old.items chapters.new.items }
 {
-    let mut near = 0;
-    let mut rest = spots;
-    'groups: while let Some((spot, _)) = rest.split_first() {
-        let (own, later) = rest.split_at(chapter_len(rest));
-        lay_beside(chapters, alloc, *spot, own, &mut near, compared)?;
+    let mut rest = segments;
+    'groups: while let Some((segment, _)) = rest.split_first() {
+        let (own, later) = rest.split_at(chapter_len(rest, search));
+        lay_beside(chapters, alloc, segment, own, search)?;
         rest = later;
     }
     Ok(())
@@ -248,20 +234,25 @@ fn lay_registers(
 fn lay_beside(
     chapters: &mut Vec<Chapter>,
     alloc: Global,
-    spot: Spot,
-    own: &[Spot],
-    near: &mut usize,
-    compared: &mut u64,
+    segment: &Segment,
+    own: &[Segment],
+    search: &mut Search,
 ) -> Result<(), AllocError>
     requires { IsOrderly chapters.old.items }
     ensures { Lays chapters.old.items chapters.new.items }
 {
-    let head = head_of(spot.key);
-    let at = place_chapter(chapters, spot.book, head, near, compared);
+    let at = place_chapter(chapters, segment, search);
     if at < chapters.len() {
         let chapter = &mut chapters[at];
-        if chapter.order(spot.book, head).is_eq() {
-            return lay_keys(&mut chapter.registers, alloc, head, own, compared);
+        search.count();
+        if chapter.order(segment).is_eq() {
+            return lay_keys(
+                &mut chapter.registers,
+                alloc,
+                segment.key.head(),
+                own,
+                search,
+            );
         }
     }
     Ok(())
@@ -273,15 +264,15 @@ fn lay_keys(
     registers: &mut Vec<Register>,
     alloc: Global,
     head: Key,
-    own: &[Spot],
-    compared: &mut u64,
+    own: &[Segment],
+    search: &mut Search,
 ) -> Result<(), AllocError>
     requires rising { IsTrue (rises_by key_cmp (λ r. r.key) registers.old.items) }
     ensures { LaysKeys head registers.old.items registers.new.items }
 {
     registers.reserve_exact(own.len())?;
     let tail = Vec::with_capacity(alloc, registers.capacity())?;
-    merge_registers(registers, alloc, head, own, tail, compared);
+    merge_registers(registers, alloc, head, own, tail, search);
     Ok(())
 }
 
@@ -290,9 +281,9 @@ fn merge_registers(
     registers: &mut Vec<Register>,
     alloc: Global,
     head: Key,
-    own: &[Spot],
+    own: &[Segment],
     mut tail: Vec<Register>,
-    compared: &mut u64,
+    search: &mut Search,
 )
     requires rising { IsTrue (rises_by key_cmp (λ r. r.key) registers.old.items) }
     requires tail { tail.items ≡ [] }
@@ -300,17 +291,17 @@ fn merge_registers(
     ensures { LaysKeys head registers.old.items registers.new.items }
 {
     let mut rest = own;
-    'laying: while let Some((spot, before)) = rest.split_last() {
-        let mut near = registers.len();
-        let at = place_register(registers, spot.key, &mut near, compared);
+    'laying: while let Some((segment, before)) = rest.split_last() {
+        search.register = registers.len();
+        let at = place_register(registers, segment.key, search);
         move_after(registers, at, &mut tail);
         let len = registers.len() + tail.len();
         if len < registers.capacity()
             && len < tail.capacity()
-            && is_of(spot.key, head)
-            && is_key_under(&tail, spot.key, compared)
+            && is_of(segment.key, head)
+            && is_key_under(&tail, segment.key, search)
         {
-            tail.push(Register::new(alloc, spot.key)).unwrap();
+            tail.push(Register::new(alloc, segment.key)).unwrap();
         }
         rest = before;
     }
@@ -321,16 +312,16 @@ fn merge_registers(
 fn is_of(key: Key, head: Key) -> bool
     ensures { result ≡ same_key (keys.head_of key) head }
 {
-    head_of(key) == head
+    key.head() == head
 }
 
 // Whether a key is before the last of these registers, if there is one.
-fn is_key_under(registers: &[Register], key: Key, compared: &mut u64) -> bool
+fn is_key_under(registers: &[Register], key: Key, search: &mut Search) -> bool
     ensures { result ≡ begins_above key_cmp (λ r. r.key) key (reverse registers.now) }
 {
     let Some((last, _)) = registers.split_last() else {
         return true;
     };
-    *compared = compared.saturating_add(1);
+    search.count();
     last.order(key).is_gt()
 }

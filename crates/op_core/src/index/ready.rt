@@ -1,22 +1,22 @@
 // What new operations change, segment by segment, and the room for it. Nothing that the index keeps
 // changes yet.
 ghost use Rattle.std.specs.Prelude.{◌≡◌, IsTrue, IfOk};
-ghost use Rattle.usfm_ref.specs.Segments.{segment};
 ghost use Rattle.op_core.specs.Ids.{ids_rise};
 ghost use Rattle.op_core.specs.Sets as sets;
 ghost use Rattle.op_core.specs.Loops.Index.{IsOrderly, IsIndex, register_of, shown_in, missing_in, is_there, among};
 ghost use Rattle.op_core.specs.Loops.Index.{IsAt, IsSameBut, IsChangeOf, IsRisingChange, HasRoomIn, Readies};
-ghost use Rattle.op_core.specs.Loops.Turns.{turn_at, never_fall, comes, is_called};
+ghost use Rattle.op_core.specs.Loops.Turns.{never_fall, comes, is_called};
 ghost use Rattle.op_core.specs.Loops.Changes.{AreChanges, AllHaveRoom};
 
 use super::change::{Aside, Change};
+use super::chapter::{Chapter, ready_at_key};
 use super::lay::lay;
+use super::place::place_chapter;
 use super::turns::{Turn, gather_arrived, gather_named, run_len};
-use crate::chapter::{Chapter, ready_at_key};
-use crate::op::Op;
-use crate::place::{Near, head_of, place_chapter};
+use crate::ids::search::Search;
+use crate::operations::op::Op;
 use std::alloc::{AllocError, Global};
-use usfm_ref::{Book, Key};
+use usfm_ref::Segment;
 
 // What changes at each segment as the operations of the turns arrive, by segments that rise.
 pub(crate) fn ready_all(
@@ -25,8 +25,7 @@ pub(crate) fn ready_all(
     held: &[Op],
     new: &[Op],
     turns: &[Turn],
-    near: &mut Near,
-    compared: &mut u64,
+    search: &mut Search,
 ) -> Result<Vec<Change>, AllocError>
     requires held { IsTrue (sets.rises held.now) }
     requires index { IsIndex held.now chapters.old.items }
@@ -40,10 +39,17 @@ pub(crate) fn ready_all(
     let mut aside = Aside::new(alloc);
     let mut rest = turns;
     'runs: while let Some((first, others)) = rest.split_first() {
-        let len = 1 + run_len(first, others, compared);
+        let len = 1 + run_len(first, others, search);
         let (own, later) = rest.split_at(len);
         let change = ready_run(
-            chapters, alloc, held, new, *first, own, &mut aside, near, compared,
+            chapters,
+            alloc,
+            held,
+            new,
+            &first.segment,
+            own,
+            &mut aside,
+            search,
         )?;
         changes.push(change)?;
         rest = later;
@@ -57,27 +63,25 @@ fn ready_run(
     alloc: Global,
     held: &[Op],
     new: &[Op],
-    first: Turn,
+    segment: &Segment,
     own: &[Turn],
     aside: &mut Aside,
-    near: &mut Near,
-    compared: &mut u64,
+    search: &mut Search,
 ) -> Result<Change, AllocError>
     requires held { IsTrue (sets.rises held.now) }
     requires index { IsIndex held.now chapters.old.items }
     ensures same { Readies chapters.old.items chapters.new.items }
-    ensures change { IfOk result (λ c. IsChangeOf held.now (turn_at first)
+    ensures change { IfOk result (λ c. IsChangeOf held.now segment.now
         (comes new.now own.now) (is_called new.now own.now)
-        (shown_in (register_of (turn_at first) chapters.new.items))
-        (missing_in (register_of (turn_at first) chapters.new.items)) c) }
+        (shown_in (register_of segment.now chapters.new.items))
+        (missing_in (register_of segment.now chapters.new.items)) c) }
     ensures rising { IfOk result IsRisingChange }
-    ensures room { IfOk result (λ c. HasRoomIn c (register_of (turn_at first) chapters.new.items)) }
+    ensures room { IfOk result (λ c. HasRoomIn c (register_of segment.now chapters.new.items)) }
 {
-    let (book, key) = (first.book, first.key);
-    lay(chapters, alloc, book, key, near, compared)?;
-    gather_arrived(&mut aside.arrived, new, own, compared)?;
-    gather_named(&mut aside.named, new, own, compared)?;
-    ready(chapters, alloc, held, book, key, aside, near, compared)
+    lay(chapters, alloc, segment, search)?;
+    gather_arrived(&mut aside.arrived, new, own, search)?;
+    gather_named(&mut aside.named, new, own, search)?;
+    ready(chapters, alloc, held, segment, aside, search)
 }
 
 // What changes at a segment, which has a register, as these ids arrive there, and the room for that.
@@ -85,39 +89,35 @@ fn ready(
     chapters: &mut Vec<Chapter>,
     alloc: Global,
     held: &[Op],
-    book: Book,
-    key: Key,
+    segment: &Segment,
     aside: &mut Aside,
-    near: &mut Near,
-    compared: &mut u64,
+    search: &mut Search,
 ) -> Result<Change, AllocError>
     requires held { IsTrue (sets.rises held.now) }
     requires orderly { IsOrderly chapters.old.items }
-    requires there { IsTrue (is_there (segment book key) chapters.old.items) }
+    requires there { IsTrue (is_there segment.now chapters.old.items) }
     requires shown { IsTrue
-        (ids_rise (shown_in (register_of (segment book key) chapters.old.items))) }
+        (ids_rise (shown_in (register_of segment.now chapters.old.items))) }
     requires missing { IsTrue
-        (ids_rise (missing_in (register_of (segment book key) chapters.old.items))) }
+        (ids_rise (missing_in (register_of segment.now chapters.old.items))) }
     requires arrived { IsTrue (ids_rise aside.old.arrived.items) }
     requires named { IsTrue (ids_rise aside.old.named.items) }
-    ensures same { IsAt IsSameBut (segment book key) chapters.old.items chapters.new.items }
-    ensures change { IfOk result (λ c. IsChangeOf held.now (segment book key)
+    ensures same { IsAt IsSameBut segment.now chapters.old.items chapters.new.items }
+    ensures change { IfOk result (λ c. IsChangeOf held.now segment.now
         (among aside.old.arrived.items) (among aside.old.named.items)
-        (shown_in (register_of (segment book key) chapters.old.items))
-        (missing_in (register_of (segment book key) chapters.old.items)) c) }
+        (shown_in (register_of segment.now chapters.old.items))
+        (missing_in (register_of segment.now chapters.old.items)) c) }
     ensures rising { IfOk result IsRisingChange }
     ensures room { IfOk result
-        (λ c. HasRoomIn c (register_of (segment book key) chapters.new.items)) }
+        (λ c. HasRoomIn c (register_of segment.now chapters.new.items)) }
 {
-    let at = place_chapter(chapters, book, head_of(key), &mut near.chapter, compared);
+    let at = place_chapter(chapters, segment, search);
     ready_at_key(
         &mut chapters[at].registers,
         alloc,
         held,
-        book,
-        key,
+        segment,
         aside,
-        &mut near.register,
-        compared,
+        search,
     )
 }

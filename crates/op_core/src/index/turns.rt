@@ -7,18 +7,18 @@ ghost use Rattle.op_core.specs.Ids.{Id, ids_rise};
 ghost use Rattle.op_core.specs.Loops.Index.{among};
 ghost use Rattle.op_core.specs.Loops.Turns.{turn_at, never_fall, comes, is_called, AreTurnsOf};
 
+use crate::ids::op_id::OpId;
+use crate::ids::search::Search;
 use crate::ids::sort_ids;
-use crate::op::Op;
-use crate::op_id::OpId;
+use crate::operations::op::Op;
 use std::alloc::{AllocError, Global};
 use std::cmp::Ordering;
-use usfm_ref::{Book, Key};
+use usfm_ref::Segment;
 
 /// The segment of a new operation, and where among the new ones it is.
 #[derive(Clone, Copy, Debug)]
 pub(crate) struct Turn {
-    pub(crate) book: Book,
-    pub(crate) key: Key,
+    pub(crate) segment: Segment,
     pub(crate) at: usize,
 }
 
@@ -27,10 +27,7 @@ impl Turn {
     pub(crate) fn order(&self, other: &Turn) -> Ordering
         ensures { result ≡ segment_cmp (turn_at self.now) (turn_at other.now) }
     {
-        match self.book.cmp(&other.book) {
-            Ordering::Equal => self.key.cmp(&other.key),
-            unequal => unequal,
-        }
+        self.segment.cmp(&other.segment)
     }
 }
 
@@ -38,24 +35,24 @@ impl Turn {
 pub(crate) fn turns_of(
     alloc: Global,
     new: &[Op],
-    compared: &mut u64,
+    search: &mut Search,
 ) -> Result<Vec<Turn>, AllocError>
     ensures { IfOk result (λ turns. AreTurnsOf new.now turns.items) }
 {
     let mut turns = Vec::with_capacity(alloc, new.len())?;
     for at in 0..new.len() {
-        let (book, key) = (new[at].book(), new[at].key());
-        turns.push(Turn { book, key, at })?;
+        let segment = new[at].segment();
+        turns.push(Turn { segment, at })?;
     }
     turns.sort_by(|a, b| {
-        *compared = compared.saturating_add(1);
+        search.count();
         a.order(b)
     })?;
     Ok(turns)
 }
 
 // How many turns at the front are of the segment of the one before them.
-pub(crate) fn run_len(first: &Turn, turns: &[Turn], compared: &mut u64) -> usize
+pub(crate) fn run_len(first: &Turn, turns: &[Turn], search: &mut Search) -> usize
     requires { IsTrue (never_fall (first.now ∷ turns.now)) }
     ensures within { result ≤ length turns.now }
     ensures own { AllByRecursion (λ t. turn_at t ≡ turn_at first.now) (take result turns.now) }
@@ -63,7 +60,7 @@ pub(crate) fn run_len(first: &Turn, turns: &[Turn], compared: &mut u64) -> usize
         (drop result turns.now)) }
 {
     for at in 0..turns.len() {
-        *compared = compared.saturating_add(1);
+        search.count();
         if !turns[at].order(first).is_eq() {
             return at;
         }
@@ -76,7 +73,7 @@ pub(crate) fn gather_arrived(
     ids: &mut Vec<OpId>,
     new: &[Op],
     own: &[Turn],
-    compared: &mut u64,
+    search: &mut Search,
 ) -> Result<(), AllocError>
     ensures rising { OnOk result (IsTrue (ids_rise ids.new.items)) }
     ensures members { OnOk result ((q : Id) → among ids.new.items q ≡ comes new.now own.now q) }
@@ -87,7 +84,7 @@ pub(crate) fn gather_arrived(
             ids.push(op.id())?;
         }
     }
-    sort_ids(ids, compared);
+    sort_ids(ids, search);
     Ok(())
 }
 
@@ -96,7 +93,7 @@ pub(crate) fn gather_named(
     ids: &mut Vec<OpId>,
     new: &[Op],
     own: &[Turn],
-    compared: &mut u64,
+    search: &mut Search,
 ) -> Result<(), AllocError>
     ensures rising { OnOk result (IsTrue (ids_rise ids.new.items)) }
     ensures members { OnOk result ((q : Id) → among ids.new.items q ≡ is_called new.now own.now q) }
@@ -107,6 +104,6 @@ pub(crate) fn gather_named(
             ids.extend_from_slice(op.replaced())?;
         }
     }
-    sort_ids(ids, compared);
+    sort_ids(ids, search);
     Ok(())
 }

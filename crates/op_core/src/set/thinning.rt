@@ -6,10 +6,10 @@ ghost use Rattle.op_core.specs.Thinned as thinned;
 ghost use Rattle.op_core.specs.NextIds as next_ids;
 
 use super::OpSet;
+use crate::ids::op_id::OpId;
 use crate::index::leave_past;
-use crate::op::Op;
-use crate::op_id::OpId;
-use crate::place::{leave_text_at, place_last};
+use crate::lists::place::{leave_text_at, place_last};
+use crate::operations::op::Op;
 use std::alloc::{AllocError, Global};
 
 impl OpSet {
@@ -20,8 +20,8 @@ impl OpSet {
         ensures thin { self.new ≡ thinned.thin_where (same_id id.now) self.old }
         ensures was { result ≡ thinned.has_text (sets.get self.old id.now) }
     {
-        let at = place_last(&self.ops, *id, &mut self.compared);
-        leave_text_at(&mut self.ops, at, *id)
+        let at = place_last(&self.ops, *id, &mut self.search);
+        leave_text_at(&mut self.ops, at, *id, &mut self.search)
     }
 
     /// Leaves out the text of every operation that a held operation of its segment names, and says
@@ -30,12 +30,7 @@ impl OpSet {
         ensures thin { self.new ≡ thinned.thin self.old }
         ensures count { result ≡ length (filter (thinned.is_left_out self.old) self.old) }
     {
-        leave_past(
-            &mut self.ops,
-            &self.chapters,
-            &mut self.near,
-            &mut self.compared,
-        )
+        leave_past(&mut self.ops, &self.chapters, &mut self.search)
     }
 
     // Leaves out the texts of the held operations that others, agreeing with them, have thinned.

@@ -10,12 +10,12 @@ use Rattle.bundle_codec.specs.Reading.{bundle_at}
 use Rattle.bundle_codec.proofs.OneSpelling.{AreCounted-from_length, front_is_cut}
 use Rattle.bundle_codec.proofs.Wholes.{some_left}
 use Rattle.bundle_codec.proofs.Spelled.{IsSpelled, bundle_reads}
-use Rattle.replica_state.specs.World.{Event, IsWithin, after}
+use Rattle.replica_state.specs.World.{Event, IsWithin, world}
 use Rattle.replica_state.specs.World.Bytes.{IsReadWhole, IsRefusedAsCut}
 use Rattle.replica_state.proofs.World.Sets.{hold_sets}
 
 pub bundles_are_read : (events : List Event) → AllByRecursion IsWithin events → (k : ℕ) (ops : List Operation)
-    → slice_get (after events).bundles k ≡ Some ops → length (bundle ops) < 2 ^ 64 → IsReadWhole ops
+    → slice_get (world events).bundles k ≡ Some ops → length (bundle ops) < 2 ^ 64 → IsReadWhole ops
 bundles_are_read events h k ops e short =
     let s = hold_sets events h in
     let spelled : IsSpelled ops = (s.bundles k ops e, AreCounted-from_length ops short) in
@@ -25,7 +25,7 @@ bundles_are_read events h k ops e short =
     }
 
 pub cut_receivings_are_refused : (past : List Event) → AllByRecursion IsWithin past → (name : List ℕ) (k n : ℕ) (ops : List Operation)
-    → slice_get (after past).bundles k ≡ Some ops → n < length (bundle ops) → length (bundle ops) < 2 ^ 64
+    → slice_get (world past).bundles k ≡ Some ops → n < length (bundle ops) → length (bundle ops) < 2 ^ 64
     → IsRefusedAsCut past name k n ops
 cut_receivings_are_refused past h name k n ops e proper short = record {
   refused = (bundles_are_read past h k ops e short).cut (take n (bundle ops)) (drop n (bundle ops)) (sym (take-append-drop n (bundle ops)))

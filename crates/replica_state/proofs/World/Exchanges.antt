@@ -19,7 +19,7 @@ use Rattle.op_core.proofs.Legal.{delta_legal}
 use Rattle.op_core.proofs.Union.{same_gets}
 use Rattle.bundle_codec.specs.Summaries.{summary_of, covers, outside}
 use Rattle.bundle_codec.proofs.Told.{covers_its_ids}
-use Rattle.replica_state.specs.World.{Event, Bundles, Receives, after, replica_of, is_apart}
+use Rattle.replica_state.specs.World.{Event, Bundles, Receives, world, replica_of, is_apart}
 use Rattle.replica_state.specs.World.Schedules.{Holds, Where, At, Within, found, in_bundle, IsMade, IsOrThinned}
 use Rattle.replica_state.specs.World.Exchanges.{HoldUnion, Request, Whole, Lacking, Hearing}
 use Rattle.replica_state.specs.World.Exchanges.{bundled, wanted, IsAsked, Hears, heard, IsRelay}
@@ -38,14 +38,14 @@ use Rattle.replica_state.proofs.World.Twins.{BothAt, each_at, twins, sound_no_cl
 outside_is : (own other : List Operation) → outside (summary_of own) other ≡ delta other (is_held own)
 outside_is own other = same_delta other (covers (summary_of own)) (is_held own) (λ q. covers_its_ids own q ∙ sym (held-get own q))
 
-received_held : (events : List Event) (a : List ℕ) (k : ℕ) (ops : List Operation) → slice_get (after events).bundles k ≡ Some ops
-    → (after (Receives a k ∷ events)).held a ≡ join ((after events).held a) ops
+received_held : (events : List Event) (a : List ℕ) (k : ℕ) (ops : List Operation) → slice_get (world events).bundles k ≡ Some ops
+    → (world (Receives a k ∷ events)).held a ≡ join ((world events).held a) ops
 received_held events a k ops e =
-    received_is (after events) a (slice_get (after events).bundles k) ops e (no_clash_here events a k ops e)
+    received_is (world events) a (slice_get (world events).bundles k) ops e (no_clash_here events a k ops e)
 
 -- two replicas hold one operation under each id, but for its text
-one_bare : (events : List Event) (a b : List ℕ) (q : Id) (x y : Operation) → get ((after events).held a) q ≡ Some x
-    → get ((after events).held b) q ≡ Some y → bare x ≡ bare y
+one_bare : (events : List Event) (a b : List ℕ) (q : Id) (x y : Operation) → get ((world events).held a) q ≡ Some x
+    → get ((world events).held b) q ≡ Some y → bare x ≡ bare y
 one_bare events a b q x y gx gy =
     let p = found_whole events (At a) q x gx in
     let r = found_whole events (At b) q y gy in
@@ -59,12 +59,12 @@ one_bare events a b q x y gx gy =
 
 module _ (last between first past : List Event) (a b : List ℕ) (k n : ℕ) (differ : same_bytes a b ≡ false)
     (apart_all : list_all (λ e. is_apart a e && is_apart b e) (last ++ (between ++ first)) ≡ true)
-    (ek : slice_get (after (first ++ past)).bundles k ≡ Some (outside (summary_of ((after past).held a)) ((after past).held b))) where
+    (ek : slice_get (world (first ++ past)).bundles k ≡ Some (outside (summary_of ((world past).held a)) ((world past).held b))) where
   abbrev s : List Operation
-  s = (after past).held a
+  s = (world past).held a
 
   abbrev t : List Operation
-  t = (after past).held b
+  t = (world past).held b
 
   abbrev one : List Event
   one = first ++ past
@@ -77,7 +77,7 @@ module _ (last between first past : List Event) (a b : List ℕ) (k n : ℕ) (di
 
   -- what the first holds when it has received
   abbrev more : List Operation
-  more = (after (Receives a k ∷ (first ++ past))).held a
+  more = (world (Receives a k ∷ (first ++ past))).held a
 
   both : (list_all (is_apart a) (last ++ (between ++ first)) ≡ true) × (list_all (is_apart b) (last ++ (between ++ first)) ≡ true)
   both = all_both (is_apart a) (is_apart b) (last ++ (between ++ first)) apart_all
@@ -105,33 +105,33 @@ module _ (last between first past : List Event) (a b : List ℕ) (k n : ℕ) (di
       ∙ ap (join s) (outside_is s t))
       ∙ delta_joins s t rs rt
 
-  of_a : skeleton ((after then).held a) ≡ skeleton (join s t)
+  of_a : skeleton ((world then).held a) ≡ skeleton (join s t)
   of_a =
       let p = split a both.0 in
       ap skeleton (all_apart last (Receives b n ∷ two) a p.0
-      ∙ apart (after two) a (Receives b n) (ap not differ)
+      ∙ apart (world two) a (Receives b n) (ap not differ)
       ∙ all_apart between (Receives a k ∷ one) a p.1)
       ∙ of_more
 
   -- what the second receives is joined to what it held
-  at_b : (sent : List Operation) → slice_get (after two).bundles n ≡ Some sent → (after then).held b ≡ join t sent
+  at_b : (sent : List Operation) → slice_get (world two).bundles n ≡ Some sent → (world then).held b ≡ join t sent
   at_b sent e =
       let p = split b both.1 in
       all_apart last (Receives b n ∷ two) b p.0
       ∙ received_held two b n sent e
       ∙ ap (λ xs. join xs sent)
-      (all_apart between (Receives a k ∷ one) b p.1 ∙ apart (after one) b (Receives a k) (ap not differ2) ∙ all_apart first past b p.2)
+      (all_apart between (Receives a k ∷ one) b p.1 ∙ apart (world one) b (Receives a k) (ap not differ2) ∙ all_apart first past b p.2)
 
-  pub deltas_join : slice_get (after two).bundles n ≡ Some (outside (summary_of t) s)
-      → HoldUnion (after then) a b s t
+  pub deltas_join : slice_get (world two).bundles n ≡ Some (outside (summary_of t) s)
+      → HoldUnion (world then) a b s t
   deltas_join e = record {
     first = of_a;
     second = ap skeleton (at_b (outside (summary_of t) s) e ∙ ap (join t) (outside_is t s))
         ∙ delta_joins t s rt rs ∙ join_turned t s rt rs (one_bare past b a);
   }
 
-  pub deltas_join_in_turn : slice_get (after two).bundles n ≡ Some (outside (summary_of t) more)
-      → HoldUnion (after then) a b s t
+  pub deltas_join_in_turn : slice_get (world two).bundles n ≡ Some (outside (summary_of t) more)
+      → HoldUnion (world then) a b s t
   deltas_join_in_turn e =
       let rm = (stands (Receives a k ∷ one) a).rising in
       record {
@@ -144,26 +144,26 @@ module _ (last between first past : List Event) (a b : List ℕ) (k n : ℕ) (di
 
 -- what is sent is legal, and its ids give it
 bundled_legal : (events : List Event) (teller hearer : List ℕ) (request : Request)
-    → is_legal (bundled hearer request ((after events).held teller)) ≡ true
+    → is_legal (bundled hearer request ((world events).held teller)) ≡ true
 bundled_legal events teller hearer Whole = (stands events teller).legal
 bundled_legal events teller hearer (Lacking asked) =
-    delta_legal ((after events).held teller) (covers (summary_of ((after asked).held hearer))) (stands events teller).rising
+    delta_legal ((world events).held teller) (covers (summary_of ((world asked).held hearer))) (stands events teller).rising
     (stands events teller).legal
 
 bundled_by_ids : (events : List Event) (teller hearer : List ℕ) (request : Request)
-    → of_ids (wanted hearer request ((after events).held teller)) ((after events).held teller)
-    ≡ bundled hearer request ((after events).held teller)
-bundled_by_ids events teller hearer Whole = all_ids ((after events).held teller) (stands events teller).rising
+    → of_ids (wanted hearer request ((world events).held teller)) ((world events).held teller)
+    ≡ bundled hearer request ((world events).held teller)
+bundled_by_ids events teller hearer Whole = all_ids ((world events).held teller) (stands events teller).rising
 bundled_by_ids events teller hearer (Lacking asked) =
-    of_its_ids (is_sent ((after events).held teller) (covers (summary_of ((after asked).held hearer)))) ((after events).held teller)
+    of_its_ids (is_sent ((world events).held teller) (covers (summary_of ((world asked).held hearer)))) ((world events).held teller)
     (stands events teller).rising
 
 pub can_be_heard : (later sent : List Event) (teller hearer : List ℕ) (request : Request)
-    → (k : ℕ) × (slice_get (after (later ++ Bundles teller (wanted hearer request ((after sent).held teller)) ∷ sent)).bundles k
-    ≡ Some (bundled hearer request ((after sent).held teller)))
+    → (k : ℕ) × (slice_get (world (later ++ Bundles teller (wanted hearer request ((world sent).held teller)) ∷ sent)).bundles k
+    ≡ Some (bundled hearer request ((world sent).held teller)))
 can_be_heard later sent teller hearer request =
     let e = bundled_by_ids sent teller hearer request in
-    let r = bundles_stay later sent teller (wanted hearer request ((after sent).held teller))
+    let r = bundles_stay later sent teller (wanted hearer request ((world sent).held teller))
     (ap is_legal e ∙ bundled_legal sent teller hearer request) in
     (r.0, r.1 ∙ ap Some e)
 
@@ -175,10 +175,10 @@ record Bundle (h : Hearing) (b : List Operation) : Type 0 where
   is : slice_get (whole h.got).bundles h.bundle ≡ Some ops
   stands_for : StandsFor b ops
 
-bundle_there : (h : Hearing) (b : List Operation) → slice_get (after h.got).bundles h.bundle ≡ Some b → Bundle h b
+bundle_there : (h : Hearing) (b : List Operation) → slice_get (world h.got).bundles h.bundle ≡ Some b → Bundle h b
 bundle_there h b e = by (slice_get (whole h.got).bundles h.bundle) refl
     (subst (λ r. BothAt r (slice_get (whole h.got).bundles h.bundle)) e
-    (each_at (after h.got).bundles (whole h.got).bundles (twins h.got).stands.bundles h.bundle))
+    (each_at (world h.got).bundles (whole h.got).bundles (twins h.got).stands.bundles h.bundle))
   where
     by : (r : Option (List Operation)) → slice_get (whole h.got).bundles h.bundle ≡ r → BothAt (Some b) r → Bundle h b
     by None f both = absurd both
@@ -190,7 +190,7 @@ hears : (a : List ℕ) (h : Hearing) → Hears a h → (q : Id) (o : Operation) 
 hears a h r q o g = ap (λ xs. get xs q) now ∙ held (get ((whole h.got).held h.hearer) q) refl
   where
     b : List Operation
-    b = bundled h.hearer h.request ((after h.sent).held a)
+    b = bundled h.hearer h.request ((world h.sent).held a)
 
     s : Sound (whole h.got)
     s = (twins h.got).sound
@@ -204,7 +204,7 @@ hears a h r q o g = ap (λ xs. get xs q) now ∙ held (get ((whole h.got).held h
 
     sent : (name : List ℕ) (x : Operation) → get ((whole h.sent).held name) q ≡ Some x → get ((whole h.got).held name) q ≡ Some x
     sent name x g =
-        let made = Bundles a (wanted h.hearer h.request ((after h.sent).held a)) in
+        let made = Bundles a (wanted h.hearer h.request ((world h.sent).held a)) in
         grown_to the_twin (made ∷ h.sent) h.got r.sends name q x ((the_twin.moves made h.sent).grows name q x g)
 
     -- what is found there under the id is the same one
@@ -215,27 +215,27 @@ hears a h r q o g = ap (λ xs. get xs q) now ∙ held (get ((whole h.got).held h
     in_bundle_there x e = ap (λ r. in_bundle r q) there.is ∙ e
 
     -- what the teller holds of it here
-    here : (x : Operation) → get ((after h.sent).held a) q ≡ Some x → (request : Request) → IsAsked request h.sent
-        → get ((whole h.got).held h.hearer) q ≡ None → get (bundled h.hearer request ((after h.sent).held a)) q ≡ Some x
+    here : (x : Operation) → get ((world h.sent).held a) q ≡ Some x → (request : Request) → IsAsked request h.sent
+        → get ((whole h.got).held h.hearer) q ≡ None → get (bundled h.hearer request ((world h.sent).held a)) q ≡ Some x
     here x f Whole asked n = f
     here x f (Lacking asked) before n =
-        delta_holds ((after h.sent).held a) (covers (summary_of ((after asked).held h.hearer))) q x f
-        (covers_its_ids ((after asked).held h.hearer) q ∙ sym (held-get ((after asked).held h.hearer) q)
-        ∙ lacks (is_held ((after asked).held h.hearer) q) refl)
+        delta_holds ((world h.sent).held a) (covers (summary_of ((world asked).held h.hearer))) q x f
+        (covers_its_ids ((world asked).held h.hearer) q ∙ sym (held-get ((world asked).held h.hearer) q)
+        ∙ lacks (is_held ((world asked).held h.hearer) q) refl)
       where
-        lacks : (b : Bool) → is_held ((after asked).held h.hearer) q ≡ b → is_held ((after asked).held h.hearer) q ≡ false
+        lacks : (b : Bool) → is_held ((world asked).held h.hearer) q ≡ b → is_held ((world asked).held h.hearer) q ≡ false
         lacks false e = e
         lacks true e =
             let x = held_at ((whole asked).held h.hearer) q (sym (ids_held _ _ (stands asked h.hearer).skeletons q) ∙ e) in
             cc (sym n ∙ sent h.hearer x.0 (grown_to the_twin asked h.sent before h.hearer q x.0 x.1))
 
-    held_here : InFull ((after h.sent).held a) q (bare o)
-    held_here = by (get ((after h.sent).held a) q) refl
-        (sym (get_bare ((after h.sent).held a) q) ∙ ap (λ xs. get xs q) (stands h.sent a).skeletons ∙ get_bare ((whole h.sent).held a) q
+    held_here : InFull ((world h.sent).held a) q (bare o)
+    held_here = by (get ((world h.sent).held a) q) refl
+        (sym (get_bare ((world h.sent).held a) q) ∙ ap (λ xs. get xs q) (stands h.sent a).skeletons ∙ get_bare ((whole h.sent).held a) q
         ∙ ap (option_map bare) g)
       where
-        by : (r : Option Operation) → get ((after h.sent).held a) q ≡ r → option_map bare r ≡ Some (bare o)
-            → InFull ((after h.sent).held a) q (bare o)
+        by : (r : Option Operation) → get ((world h.sent).held a) q ≡ r → option_map bare r ≡ Some (bare o)
+            → InFull ((world h.sent).held a) q (bare o)
         by None e f = cc f
         by (Some x) e f = record { op = x; here = e; same = cc f }
 
@@ -249,13 +249,13 @@ hears a h r q o g = ap (λ xs. get xs q) now ∙ held (get ((whole h.got).held h
         ∙ w.1 ∙ ap Some (same w.0 (Within h.bundle) (in_bundle_there w.0 w.1))
 
 pub relay_tells : (a b : List ℕ) (from to : List Event) (hearings : List Hearing) → IsRelay a from hearings b to → (o : Operation)
-    → Holds ((after from).held a) o → Holds ((after to).held b) o
+    → Holds ((world from).held a) o → Holds ((world to).held b) o
 relay_tells a b from to hearings r o g =
-    let x = of_bare ((after from).held a) ((whole from).held a) (stands from a) o.id (bare o) g in
-    let now : Holds ((after to).held b) x.op =
-    holds_of ((after to).held b) ((whole to).held b) (stands to b) o.id x.op
+    let x = of_bare ((world from).held a) ((whole from).held a) (stands from a) o.id (bare o) g in
+    let now : Holds ((world to).held b) x.op =
+    holds_of ((world to).held b) ((whole to).held b) (stands to b) o.id x.op
     (relay the_twin hears a b from to hearings r o.id x.op x.here) in
-    subst (λ (z : Operation). get (skeleton ((after to).held b)) z.id ≡ Some z) x.same now
+    subst (λ (z : Operation). get (skeleton ((world to).held b)) z.id ≡ Some z) x.same now
 
 -- ---- all hold all
 
@@ -268,11 +268,11 @@ all_hold_all is_there later past ends name here o m =
 holds_all_in_full : (events : List Event) (name : List ℕ) → HoldsAll events name → (o : Operation) → IsMade events o
     → get ((whole events).held name) o.id ≡ Some o
 holds_all_in_full events name h o m =
-    let x = of_bare ((after events).held name) ((whole events).held name) (stands events name) o.id (bare o) (h o m) in
+    let x = of_bare ((world events).held name) ((whole events).held name) (stands events name) o.id (bare o) (h o m) in
     x.here ∙ ap Some (one_in_twin events (At name) (At o.id.name) o.id x.op o x.here (made_held the_twin events o m))
 
 pub hold_same : (events : List Event) (a b : List ℕ) → HoldsAll events a → HoldsAll events b
-    → skeleton ((after events).held a) ≡ skeleton ((after events).held b)
+    → skeleton ((world events).held a) ≡ skeleton ((world events).held b)
 hold_same events a b ha hb =
     (stands events a).skeletons
     ∙ ap skeleton (held_same the_twin events a b (holds_all_in_full events a ha) (holds_all_in_full events b hb))
@@ -283,13 +283,13 @@ thinned_names x o named (inl e) h = subst (λ (p : Operation). names p named ≡
 thinned_names x o named (inr e) h = subst (λ (p : Operation). names p named ≡ true) e h
 
 pub awaits_none : (events : List Event) (a : List ℕ) → HoldsAll events a → (id : Id) (o : Operation)
-    → get ((after events).held a) id ≡ Some o → (named : Id) → names o named ≡ true → is_held ((after events).held a) named ≡ true
+    → get ((world events).held a) id ≡ Some o → (named : Id) → names o named ≡ true → is_held ((world events).held a) named ≡ true
 awaits_none events a h id p g named n =
     let f = found_whole events (At a) id p g in
     let o = f.0 in
     let m = was_made the_twin events a id o f.1 in
     let maker = replica_of m.event in
-    let seen = shown_held ((after m.past).held maker) o.segment named
+    let seen = shown_held ((world m.past).held maker) o.segment named
     (names_shown m.past m.event o named m.makes (thinned_names p o named f.2 n)) in
     let x = held_at ((whole m.past).held maker) named (sym (ids_held _ _ (stands m.past maker).skeletons named) ∙ seen) in
     let now : get ((whole events).held maker) named ≡ Some x.0 =
@@ -302,7 +302,7 @@ awaits_none events a h id p g named n =
     ∙ at_held ((whole events).held a) named x.0 (holds_within the_twin events maker a (holds_all_in_full events a h) named x.0 now)
 
 -- equal skeletons are of equal twins
-pub same_twins : (events : List Event) (a b : List ℕ) → skeleton ((after events).held a) ≡ skeleton ((after events).held b)
+pub same_twins : (events : List Event) (a b : List ℕ) → skeleton ((world events).held a) ≡ skeleton ((world events).held b)
     → (whole events).held a ≡ (whole events).held b
 same_twins events a b e =
     same_gets ((whole events).held a) ((whole events).held b) ((twins events).sound.rising a) ((twins events).sound.rising b)

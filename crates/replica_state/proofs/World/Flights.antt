@@ -9,7 +9,7 @@ use Rattle.op_core.specs.Ops.{Operation}
 use Rattle.op_core.specs.Thinned.{is_legal, of_ids}
 use Rattle.bundle_codec.specs.Summaries.{NameRanges, summary_of}
 use Rattle.replica_state.specs.World.{World, Event, Edits, EditsOver, Imports, Thins, Summarizes, Bundles, Receives}
-use Rattle.replica_state.specs.World.{ReceivesCut, FindsNoMemory, after, happens, received, with_held, with_bundle, is_apart, replica_of}
+use Rattle.replica_state.specs.World.{ReceivesCut, FindsNoMemory, world, happens, received, with_held, with_bundle, is_apart, replica_of}
 
 elsewhere : (w : World) (name n : List ℕ) (ops : List Operation) → same_bytes name n ≡ false → (with_held w n ops).held name ≡ w.held name
 elsewhere w name n ops h = cond-false (same_bytes name n) ops (w.held name) h
@@ -46,11 +46,11 @@ not_there name (ReceivesCut n k length) h = refl
 not_there name (FindsNoMemory n) h = refl
 
 pub all_apart : (later past : List Event) (name : List ℕ) → list_all (is_apart name) later ≡ true
-    → (after (later ++ past)).held name ≡ (after past).held name
+    → (world (later ++ past)).held name ≡ (world past).held name
 all_apart [] past name h = refl
 all_apart (e ∷ later) past name h =
     let p = and_parts (is_apart name e) (list_all (is_apart name) later) h in
-    apart (after (later ++ past)) name e p.0 ∙ all_apart later past name p.1
+    apart (world (later ++ past)) name e p.0 ∙ all_apart later past name p.1
 
 pub all_both : (f g : Event → Bool) (es : List Event) → list_all (λ e. f e && g e) es ≡ true
     → (list_all f es ≡ true) × (list_all g es ≡ true)
@@ -90,12 +90,12 @@ in_flight w (Receives name n) ops r = by (slice_get w.bundles n)
 in_flight w (ReceivesCut name n length) ops r = r
 in_flight w (FindsNoMemory name) ops r = r
 
-pub bundles_stay : (later past : List Event) (name : List ℕ) (kept : Id → Bool) → is_legal (of_ids kept ((after past).held name)) ≡ true
-    → (k : ℕ) × (slice_get (after (later ++ Bundles name kept ∷ past)).bundles k ≡ Some (of_ids kept ((after past).held name)))
+pub bundles_stay : (later past : List Event) (name : List ℕ) (kept : Id → Bool) → is_legal (of_ids kept ((world past).held name)) ≡ true
+    → (k : ℕ) × (slice_get (world (later ++ Bundles name kept ∷ past)).bundles k ≡ Some (of_ids kept ((world past).held name)))
 bundles_stay [] past name kept legal =
-    (zero, ap (λ b. slice_get (with_bundle (after past) (of_ids kept ((after past).held name)) b).bundles zero) legal)
+    (zero, ap (λ b. slice_get (with_bundle (world past) (of_ids kept ((world past).held name)) b).bundles zero) legal)
 bundles_stay (e ∷ later) past name kept legal =
-    in_flight (after (later ++ Bundles name kept ∷ past)) e _ (bundles_stay later past name kept legal)
+    in_flight (world (later ++ Bundles name kept ∷ past)) e _ (bundles_stay later past name kept legal)
 
 asked_for : (w : World) (e : Event) (s : List NameRanges) → (k : ℕ) × (slice_get w.summaries k ≡ Some s)
     → (k : ℕ) × (slice_get (happens w e).summaries k ≡ Some s)
@@ -118,6 +118,6 @@ asked_for w (ReceivesCut name n length) s r = r
 asked_for w (FindsNoMemory name) s r = r
 
 pub summaries_stay : (later past : List Event) (name : List ℕ)
-    → (k : ℕ) × (slice_get (after (later ++ Summarizes name ∷ past)).summaries k ≡ Some (summary_of ((after past).held name)))
+    → (k : ℕ) × (slice_get (world (later ++ Summarizes name ∷ past)).summaries k ≡ Some (summary_of ((world past).held name)))
 summaries_stay [] past name = (zero, refl)
-summaries_stay (e ∷ later) past name = asked_for (after (later ++ Summarizes name ∷ past)) e _ (summaries_stay later past name)
+summaries_stay (e ∷ later) past name = asked_for (world (later ++ Summarizes name ∷ past)) e _ (summaries_stay later past name)

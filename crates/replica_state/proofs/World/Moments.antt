@@ -13,7 +13,7 @@ use Rattle.op_core.specs.Thinned.{skeleton, StandsFor}
 use Rattle.op_core.proofs.Agreement.{Agree, agree-from, agree_itself}
 use Rattle.op_core.proofs.Clashes.{get_id}
 use Rattle.op_core.proofs.Groupings.{get_bare}
-use Rattle.replica_state.specs.World.{World, Event, after, replica_of}
+use Rattle.replica_state.specs.World.{World, Event, world, replica_of}
 use Rattle.replica_state.specs.World.Twin.{twin}
 use Rattle.replica_state.specs.World.Schedules.{Holds, HoldsAs, Makes, Where, At, Within, found, in_bundle, IsMade, IsOrThinned, IsChain}
 use Rattle.replica_state.proofs.World.Next.{falls, chain}
@@ -22,7 +22,7 @@ use Rattle.replica_state.proofs.World.Twins.{BothAt, each_at, twin_move, twins}
 
 -- the moment of the twin
 abbrev pub whole : List Event → World
-whole events = after (twin events)
+whole events = world (twin events)
 
 -- ---- what is held here, and at the twin
 
@@ -78,7 +78,7 @@ thinned_falls p o (inr e) h = subst (λ (p : Operation). (id : Id) → names p i
 
 -- ---- every moment
 
-pub stands : (events : List Event) (name : List ℕ) → StandsFor ((after events).held name) ((whole events).held name)
+pub stands : (events : List Event) (name : List ℕ) → StandsFor ((world events).held name) ((whole events).held name)
 stands events name = (twins events).stands.held name
 
 pub none_at_first : (name : List ℕ) (q : Id) (o : Operation) → get ((whole []).held name) q ≡ Some o → ⊥
@@ -87,29 +87,29 @@ none_at_first name q o g = cc g
 -- the twin is a run
 abbrev pub the_twin : Run
 the_twin = record {
-  at = λ events. after (twin events);
+  at = λ events. world (twin events);
   empty = none_at_first;
   sound = λ events. (twins events).sound;
-  moves = λ e past. twin_move (after past) (twin past) e (twins past);
+  moves = λ e past. twin_move (world past) (twin past) e (twins past);
 }
 
-pub holds_own : (later : List Event) (e : Event) (past : List Event) (o : Operation) → Makes (after past) e o
-    → HoldsAs (replica_of e) ((after (later ++ e ∷ past)).held (replica_of e)) o
+pub holds_own : (later : List Event) (e : Event) (past : List Event) (o : Operation) → Makes (world past) e o
+    → HoldsAs (replica_of e) ((world (later ++ e ∷ past)).held (replica_of e)) o
 holds_own later e past o m =
-    let name = made_name (after past) e o.id o m in
+    let name = made_name (world past) e o.id o m in
     record {
-      is_held = subst (λ (n : List ℕ). Holds ((after (later ++ e ∷ past)).held n) o) name
+      is_held = subst (λ (n : List ℕ). Holds ((world (later ++ e ∷ past)).held n) o) name
           (holds_of _ _ (stands (later ++ e ∷ past) o.id.name) o.id o (held_own the_twin later e past o m));
       own_name = name;
     }
 
 -- what is found here is found in full at the twin
-pub found_whole : (events : List Event) (a : Where) (q : Id) (x : Operation) → found (after events) a q ≡ Some x
+pub found_whole : (events : List Event) (a : Where) (q : Id) (x : Operation) → found (world events) a q ≡ Some x
     → (o : Operation) × (found (whole events) a q ≡ Some o) × IsOrThinned x o
 found_whole events (At name) q x g = whole_of _ _ (stands events name) q x g
 found_whole events (Within k) q x g =
-    by (slice_get (after events).bundles k) (slice_get (whole events).bundles k)
-    (each_at (after events).bundles (whole events).bundles (twins events).stands.bundles k) g
+    by (slice_get (world events).bundles k) (slice_get (whole events).bundles k)
+    (each_at (world events).bundles (whole events).bundles (twins events).stands.bundles k) g
   where
     by : (r s : Option (List Operation)) → BothAt r s → in_bundle r q ≡ Some x →
         (o : Operation) × (in_bundle s q ≡ Some o) × IsOrThinned x o
@@ -121,25 +121,25 @@ pub one_in_twin : (events : List Event) (a b : Where) (id : Id) (x y : Operation
     → found (whole events) b id ≡ Some y → x ≡ y
 one_in_twin = one_in_run the_twin
 
-pub found_was_made : (events : List Event) (a : Where) (id : Id) (x : Operation) → found (after events) a id ≡ Some x
+pub found_was_made : (events : List Event) (a : Where) (id : Id) (x : Operation) → found (world events) a id ≡ Some x
     → (o : Operation) × IsMade events o × IsOrThinned x o
 found_was_made events a id x g =
     let r = found_whole events a id x g in
     (r.0, was_made the_twin events id.name id r.0 (at_maker (whole events) (twins events).sound a id r.0 r.1), r.2)
 
-pub one_for_each : (events : List Event) (a b : Where) (id : Id) (x y : Operation) → found (after events) a id ≡ Some x
-    → found (after events) b id ≡ Some y → agree x y ≡ true
+pub one_for_each : (events : List Event) (a b : Where) (id : Id) (x y : Operation) → found (world events) a id ≡ Some x
+    → found (world events) b id ≡ Some y → agree x y ≡ true
 one_for_each events a b id x y gx gy =
     let p = found_whole events a id x gx in
     let q = found_whole events b id y gy in
     let same : q.0 ≡ p.0 = one_in_twin events b a id q.0 p.0 q.1 p.1 in
     thinned_agree p.0 x y p.2 (subst (IsOrThinned y) same q.2)
 
-pub shown_in_the_end : (events : List Event) (name : List ℕ) (id : Id) (o : Operation) → get ((after events).held name) id ≡ Some o
-    → (chain : List Operation) × IsChain ((after events).held name) o.segment o chain
+pub shown_in_the_end : (events : List Event) (name : List ℕ) (id : Id) (o : Operation) → get ((world events).held name) id ≡ Some o
+    → (chain : List Operation) × IsChain ((world events).held name) o.segment o chain
 shown_in_the_end events name id o g =
-    let here : get ((after events).held name) o.id ≡ Some o =
-    ap (get ((after events).held name)) (get_id ((after events).held name) id o g) ∙ g in
-    chain ((after events).held name) (stands events name).rising
+    let here : get ((world events).held name) o.id ≡ Some o =
+    ap (get ((world events).held name)) (get_id ((world events).held name) id o g) ∙ g in
+    chain ((world events).held name) (stands events name).rising
     (λ p h. let m = found_was_made events (At name) p.id p h in thinned_falls p m.0 m.2 (falls events m.0 m.1)) o.segment
-    (suc (greatest_number ((after events).held name))) o (omega arith) here (same_segment-refl o.segment)
+    (suc (greatest_number ((world events).held name))) o (omega arith) here (same_segment-refl o.segment)

@@ -4,7 +4,8 @@ use Rattle.std.proofs.Common.{[], ◌∷◌, length, filter, arith, refl, sym, a
 use Rattle.std.proofs.lemmas.Bool.{and_parts, and_from, false≢true}
 use Rattle.std.proofs.lemmas.Bool.Decides.{nat_tests}
 use Rattle.usfm_ref.specs.Keys.{KeyParts}
-use Rattle.usfm_ref.specs.Segments.{Segment, segment}
+use Rattle.usfm_ref.specs.Segments.{segment}
+use Rattle.usfm_ref.specs.declared.segment.Segment.{Segment}
 use Rattle.verse_cut.specs.declared.fault.BookFault.{BookFault}
 use Rattle.verse_cut.specs.Pieces.{PieceParts, pieces_of}
 use Rattle.verse_cut.specs.Reading.{book_in}
@@ -23,7 +24,7 @@ use Rattle.replica_state.specs.States.{State}
 use Rattle.replica_state.specs.Edits.{has_numbers, edit_with, next_id, edit_by, edit_fault, unless}
 use Rattle.replica_state.specs.Imports.{edits_from, edits_numbered, import_into, due_keys, piece_at}
 use Rattle.replica_state.specs.World.{World, Event, Edits, EditsOver, Imports, Thins, Summarizes, Bundles, Receives}
-use Rattle.replica_state.specs.World.{ReceivesCut, FindsNoMemory, after, made, edit_made, edits_made, replica, replica_of}
+use Rattle.replica_state.specs.World.{ReceivesCut, FindsNoMemory, world, made, edit_made, edits_made, replica, replica_of}
 use Rattle.replica_state.specs.World.Schedules.{Makes, IsMade, IsChain}
 use Rattle.replica_state.proofs.Imports.{edits_rise}
 use Rattle.replica_state.proofs.World.Held.{among_is_held, filter_held}
@@ -149,9 +150,9 @@ made_next w (FindsNoMemory name) = none_next (replica w name)
 pub is_next : (w : World) (e : Event) (o : Operation) → Makes w e o → IsNext (replica w (replica_of e)) o
 is_next w e o m = (made_next w e).each o.id o m
 
-pub names_shown : (past : List Event) (e : Event) (o : Operation) (id : Id) → Makes (after past) e o → names o id ≡ true
-    → is_among (shown_ids ((after past).held (replica_of e)) o.segment) id ≡ true
-names_shown past e o id m = (is_next (after past) e o m).seen id
+pub names_shown : (past : List Event) (e : Event) (o : Operation) (id : Id) → Makes (world past) e o → names o id ≡ true
+    → is_among (shown_ids ((world past).held (replica_of e)) o.segment) id ≡ true
+names_shown past e o id m = (is_next (world past) e o m).seen id
 
 pub shown_held : (held : List Operation) (g : Segment) (id : Id) → is_among (shown_ids held g) id ≡ true → is_held held id ≡ true
 shown_held held g id h = filter_held (is_shown held g) held id (sym (among_is_held (filter (is_shown held g) held) id) ∙ h)
@@ -170,7 +171,7 @@ held_number (o ∷ ops) id h = by (held_number ops id) (same_id id o.id) refl h
 
 pub falls : (events : List Event) (o : Operation) → IsMade events o → (id : Id) → names o id ≡ true → id.number < o.id.number
 falls events o m id h =
-    let n = is_next (after m.past) m.event o m.makes in
+    let n = is_next (world m.past) m.event o m.makes in
     let l = held_number _ id (shown_held _ o.segment id (n.seen id h)) in
     let g = n.greater in
     omega arith

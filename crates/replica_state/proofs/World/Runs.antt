@@ -12,7 +12,7 @@ use Rattle.op_core.specs.Sets.{get}
 use Rattle.op_core.proofs.Clashes.{get_id}
 use Rattle.op_core.proofs.Union.{same_gets}
 use Rattle.replica_state.specs.World.{World, Event, Edits, EditsOver, Imports, Thins, Summarizes, Bundles, Receives}
-use Rattle.replica_state.specs.World.{ReceivesCut, FindsNoMemory, after, made, replica_of, edits_at, is_exchange}
+use Rattle.replica_state.specs.World.{ReceivesCut, FindsNoMemory, world, made, replica_of, edits_at, is_exchange}
 use Rattle.replica_state.specs.World.Schedules.{Makes, Where, At, Within, found, in_bundle, IsMade}
 use Rattle.replica_state.specs.World.Exchanges.{IsBefore, Hearing, Hears, heard, IsRelay}
 use Rattle.replica_state.specs.World.Agreement.{EndsInRelays}
@@ -48,7 +48,7 @@ pub record Run : Type 0 where
   pub at : List Event → World
   pub empty : (name : List ℕ) (q : Id) (o : Operation) → get ((at []).held name) q ≡ Some o → ⊥
   pub sound : (events : List Event) → Sound (at events)
-  pub moves : (e : Event) (past : List Event) → Move (at past) (at (e ∷ past)) (made (after past) e)
+  pub moves : (e : Event) (past : List Event) → Move (at past) (at (e ∷ past)) (made (world past) e)
 
 module _ (run : Run) where
   -- what is held is held from then on
@@ -62,7 +62,7 @@ module _ (run : Run) where
   grown_to past events b name q o g =
       subst (λ (h : List Event). get ((run.at h).held name) q ≡ Some o) (sym b.1) (grown b.0 past name q o g)
 
-  pub held_own : (later : List Event) (e : Event) (past : List Event) (o : Operation) → Makes (after past) e o
+  pub held_own : (later : List Event) (e : Event) (past : List Event) (o : Operation) → Makes (world past) e o
       → get ((run.at (later ++ e ∷ past)).held o.id.name) o.id ≡ Some o
   held_own later e past o m = grown later (e ∷ past) o.id.name o.id o ((run.moves e past).stays o.id o m)
 
@@ -78,7 +78,7 @@ module _ (run : Run) where
   was_made (e ∷ past) name q o g = by (was_made past q.name q o) ((run.moves e past).comes name q o g)
     where
       by : (get ((run.at past).held q.name) q ≡ Some o → IsMade past o)
-          → (get ((run.at past).held q.name) q ≡ Some o) ⊎ (get (made (after past) e) q ≡ Some o) → IsMade (e ∷ past) o
+          → (get ((run.at past).held q.name) q ≡ Some o) ⊎ (get (made (world past) e) q ≡ Some o) → IsMade (e ∷ past) o
       by rest (inl g) =
           let m = rest g in
           record { later = e ∷ m.later; event = m.event; past = m.past; here = ap (λ es. e ∷ es) m.here; makes = m.makes }
@@ -87,7 +87,7 @@ module _ (run : Run) where
         event = e;
         past = past;
         here = refl;
-        makes = ap (get (made (after past) e)) (get_id (made (after past) e) q o m) ∙ m;
+        makes = ap (get (made (world past) e)) (get_id (made (world past) e) q o m) ∙ m;
       }
 
   pub made_held : (events : List Event) (o : Operation) → IsMade events o → get ((run.at events).held o.id.name) o.id ≡ Some o
@@ -110,10 +110,10 @@ module _ (run : Run) where
       parts = and_parts (is_exchange e) (list_all is_exchange later) h
 
       by : (e : Event) → is_exchange e ≡ true
-          → (get ((run.at (later ++ past)).held q.name) q ≡ Some o) ⊎ (get (made (after (later ++ past)) e) q ≡ Some o)
+          → (get ((run.at (later ++ past)).held q.name) q ≡ Some o) ⊎ (get (made (world (later ++ past)) e) q ≡ Some o)
           → get ((run.at (later ++ past)).held q.name) q ≡ Some o
       by e x (inl g) = g
-      by e x (inr m) = absurd (false≢true (made_there (λ name. false) (after (later ++ past)) e q o x m))
+      by e x (inr m) = absurd (false≢true (made_there (λ name. false) (world (later ++ past)) e q o x m))
 
   held_there : (is_there : List ℕ → Bool) (past : List Event) → list_all (edits_at is_there) past ≡ true → (name : List ℕ) (q : Id)
       (o : Operation) → get ((run.at past).held name) q ≡ Some o → is_there o.id.name ≡ true
@@ -124,9 +124,9 @@ module _ (run : Run) where
       parts = and_parts (edits_at is_there e) (list_all (edits_at is_there) past) h
 
       by : (get ((run.at past).held q.name) q ≡ Some o → is_there o.id.name ≡ true)
-          → (get ((run.at past).held q.name) q ≡ Some o) ⊎ (get (made (after past) e) q ≡ Some o) → is_there o.id.name ≡ true
+          → (get ((run.at past).held q.name) q ≡ Some o) ⊎ (get (made (world past) e) q ≡ Some o) → is_there o.id.name ≡ true
       by rest (inl g) = rest g
-      by rest (inr m) = made_there is_there (after past) e q o parts.0 m
+      by rest (inr m) = made_there is_there (world past) e q o parts.0 m
 
   -- where every hearing gives all, relays do
   module _ (tells : (a : List ℕ) (h : Hearing) → Hears a h → (q : Id) (o : Operation) → get ((run.at h.sent).held a) q ≡ Some o

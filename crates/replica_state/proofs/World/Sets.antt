@@ -12,7 +12,8 @@ use Rattle.std.proofs.lemmas.Str.{IsUtf8-nil}
 use Rattle.usfm_ref.specs.Books.{is_book_code}
 use Rattle.usfm_ref.specs.Keys.{KeyParts, is_key, key_cmp, head_of, book_head, same_key}
 use Rattle.usfm_ref.specs.Rising.{rising, with_item}
-use Rattle.usfm_ref.specs.Segments.{Segment, segment}
+use Rattle.usfm_ref.specs.Segments.{segment}
+use Rattle.usfm_ref.specs.declared.segment.Segment.{Segment}
 use Rattle.verse_cut.specs.declared.fault.BookFault.{BookFault}
 use Rattle.verse_cut.specs.Fits.{IsHeaded}
 use Rattle.verse_cut.specs.Pieces.{PieceParts, pieces_of}
@@ -35,9 +36,9 @@ use Rattle.replica_state.specs.declared.fault.EditFault.TheVariants.{BadSegment,
 use Rattle.replica_state.specs.declared.fault.ImportFault.TheVariants.{NumbersUsedUp}
 use Rattle.replica_state.specs.States.{State}
 use Rattle.replica_state.specs.Edits.{has_numbers, edit_with, next_id, edit_by, edit_fault, unless}
-use Rattle.replica_state.specs.Imports.{text_in, piece_of, piece_at, is_due, walked_keys, due_keys, edits_from, edits_numbered, import_into}
+use Rattle.replica_state.specs.Imports.{piece_own_text, piece_of, piece_at, is_due, walked_keys, due_keys, edits_from, edits_numbered, import_into}
 use Rattle.replica_state.specs.World.{World, Event, Edits, EditsOver, Imports, Thins, Summarizes, Bundles, Receives, ReceivesCut}
-use Rattle.replica_state.specs.World.{FindsNoMemory, IsWithin, after, made, edit_made, edits_made, replica, replica_of}
+use Rattle.replica_state.specs.World.{FindsNoMemory, IsWithin, world, made, edit_made, edits_made, replica, replica_of}
 use Rattle.replica_state.specs.World.Schedules.{Within, in_bundle, IsOrThinned, AreSets}
 use Rattle.replica_state.proofs.FilePieces.{book_is_code, book_is_headed, piece_fits}
 use Rattle.replica_state.proofs.World.Held.{held_at}
@@ -106,7 +107,7 @@ text_at : (ps : List PieceParts) (key : KeyParts) → AllByRecursion (λ (p : Pi
 text_at [] key h = IsUtf8-nil
 text_at (p ∷ ps) key h = by (is_eq (key_cmp key p.key)) (text_at ps key h.1)
   where
-    by : (b : Bool) → IsUtf8 (text_in (piece_of ps key)) → IsUtf8 (text_in (cond b (Some p) (piece_of ps key)))
+    by : (b : Bool) → IsUtf8 (piece_own_text (piece_of ps key)) → IsUtf8 (piece_own_text (cond b (Some p) (piece_of ps key)))
     by true rest = h.0
     by false rest = rest
 
@@ -243,43 +244,43 @@ abbrev AreLegal : List Event → Type 0
 AreLegal events = (name : List ℕ) (q : Id) (o : Operation) → get ((whole events).held name) q ≡ Some o → IsOperation o
 
 -- what is held here, if the twin's is within its ranges
-each_here : (events : List Event) → AreLegal events → (name : List ℕ) → AllByRecursion IsOperation ((after events).held name)
+each_here : (events : List Event) → AreLegal events → (name : List ℕ) → AllByRecursion IsOperation ((world events).held name)
 each_here events h name =
     let s = stands events name in
-    all_held IsOperation ((after events).held name) s.rising
+    all_held IsOperation ((world events).held name) s.rising
     (λ o g. let r = whole_of _ _ s o.id o g in thinned_legal o r.0 r.2 (h name o.id r.0 r.1))
 
 are_legal : (events : List Event) → AllByRecursion IsWithin events → AreLegal events
 are_legal [] h name q o g = cc g
 are_legal (e ∷ past) h name q o g = by (are_legal past h.1) ((the_twin.moves e past).comes name q o g)
   where
-    by : AreLegal past → (get ((whole past).held q.name) q ≡ Some o) ⊎ (get (made (after past) e) q ≡ Some o) → IsOperation o
+    by : AreLegal past → (get ((whole past).held q.name) q ≡ Some o) ⊎ (get (made (world past) e) q ≡ Some o) → IsOperation o
     by rest (inl g) = rest q.name q o g
     by rest (inr m) =
         let held = each_here past rest (replica_of e) in
-        next_legal (replica (after past) (replica_of e)) o (name_within (after past) e h.0 q o m) (stands past (replica_of e)).rising held
-        ((made_next (after past) e).each q o m) (made_fits (after past) e h.0 held q o m)
+        next_legal (replica (world past) (replica_of e)) o (name_within (world past) e h.0 q o m) (stands past (replica_of e)).rising held
+        ((made_next (world past) e).each q o m) (made_fits (world past) e h.0 held q o m)
 
 module _ (events : List Event) (h : AllByRecursion IsWithin events) where
   legal : AreLegal events
   legal = are_legal events h
 
-  bundle_stands : (k : ℕ) (bundle : List Operation) → slice_get (after events).bundles k ≡ Some bundle
+  bundle_stands : (k : ℕ) (bundle : List Operation) → slice_get (world events).bundles k ≡ Some bundle
       → (u : List Operation) × StandsFor bundle u
   bundle_stands k bundle e = by (slice_get (whole events).bundles k)
       (subst (λ r. BothAt r (slice_get (whole events).bundles k)) e
-      (each_at (after events).bundles (whole events).bundles (twins events).stands.bundles k))
+      (each_at (world events).bundles (whole events).bundles (twins events).stands.bundles k))
     where
       by : (r : Option (List Operation)) → BothAt (Some bundle) r → (u : List Operation) × StandsFor bundle u
       by None both = absurd both
       by (Some u) both = (u, both)
 
-  bundle_each : (k : ℕ) (bundle : List Operation) → slice_get (after events).bundles k ≡ Some bundle → AllByRecursion IsOperation bundle
+  bundle_each : (k : ℕ) (bundle : List Operation) → slice_get (world events).bundles k ≡ Some bundle → AllByRecursion IsOperation bundle
   bundle_each k bundle e = all_held IsOperation bundle (bundle_stands k bundle e).1.rising (λ o g.
       let r = found_whole events (Within k) o.id o (ap (λ b. in_bundle b o.id) e ∙ g) in
       thinned_legal o r.0 r.2 (legal o.id.name o.id r.0 (at_maker (whole events) (twins events).sound (Within k) o.id r.0 r.1)))
 
-  pub hold_sets : AreSets (after events)
+  pub hold_sets : AreSets (world events)
   hold_sets = record {
     held = λ name. record { rising = (stands events name).rising; each = each_here events legal name };
     held_legal = λ name. (stands events name).legal;

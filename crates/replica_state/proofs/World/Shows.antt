@@ -22,7 +22,7 @@ use Rattle.replica_state.specs.Edits.{edit_op, edit_over_op}
 use Rattle.replica_state.specs.Imports.{import_ops}
 use Rattle.replica_state.specs.Steps.{Command, Receive, Edit, EditOver, Import, Thin, step, edited, imported}
 use Rattle.replica_state.specs.World.{World, Event, Edits, EditsOver, Imports, Thins, Summarizes, Bundles}
-use Rattle.replica_state.specs.World.{Receives, ReceivesCut, FindsNoMemory, after, made, edit_made}
+use Rattle.replica_state.specs.World.{Receives, ReceivesCut, FindsNoMemory, world, made, edit_made}
 use Rattle.replica_state.specs.World.Twin.{twin}
 use Rattle.replica_state.specs.World.Agreement.{ShowSame, EndsInRelays, AgreeInTheEnd}
 use Rattle.replica_state.specs.World.Invisible.{AreAlike, StepsAlike, ActsFor, reply, receive_reply}
@@ -68,16 +68,16 @@ stands_shows s u h = record {
 }
 
 -- what a replica shows does not say whether anything was thinned
-pub thinning_shows_nothing : (events : List Event) (name : List ℕ) → ShowSame ((after events).held name) ((whole events).held name)
+pub thinning_shows_nothing : (events : List Event) (name : List ℕ) → ShowSame ((world events).held name) ((whole events).held name)
 thinning_shows_nothing events name = stands_shows _ _ (stands events name)
 
 -- replicas with one skeleton show the same
-pub show_same : (events : List Event) (a b : List ℕ) → skeleton ((after events).held a) ≡ skeleton ((after events).held b)
-    → ShowSame ((after events).held a) ((after events).held b)
+pub show_same : (events : List Event) (a b : List ℕ) → skeleton ((world events).held a) ≡ skeleton ((world events).held b)
+    → ShowSame ((world events).held a) ((world events).held b)
 show_same events a b e =
-    let p : ShowSame ((after events).held a) ((whole events).held a) = thinning_shows_nothing events a in
-    let q : ShowSame ((after events).held b) ((whole events).held a) =
-    subst (ShowSame ((after events).held b)) (sym (same_twins events a b e)) (thinning_shows_nothing events b) in
+    let p : ShowSame ((world events).held a) ((whole events).held a) = thinning_shows_nothing events a in
+    let q : ShowSame ((world events).held b) ((whole events).held a) =
+    subst (ShowSame ((world events).held b)) (sym (same_twins events a b e)) (thinning_shows_nothing events b) in
     record {
       skeletons = e;
       shown = λ g. p.shown g ∙ sym (q.shown g);
@@ -127,20 +127,20 @@ awaited_none held rise has = ap (rising id_cmp) (none_pass (λ id. not (is_held 
 -- after relays round all, all who are there agree
 pub all_agree_in_the_end : (is_there : List ℕ → Bool) (later past : List Event) → EndsInRelays is_there later past
     → (a b : List ℕ) → is_there a ≡ true → is_there b ≡ true
-    → AgreeInTheEnd ((after (later ++ past)).held a) ((after (later ++ past)).held b)
+    → AgreeInTheEnd ((world (later ++ past)).held a) ((world (later ++ past)).held b)
 all_agree_in_the_end is_there later past ends a b ha hb =
     let all_a = all_hold_all is_there later past ends a ha in
     let all_b = all_hold_all is_there later past ends b hb in
     record {
       same = show_same (later ++ past) a b (hold_same (later ++ past) a b all_a all_b);
-      awaits_none = awaited_none ((after (later ++ past)).held a) (stands (later ++ past) a).rising
+      awaits_none = awaited_none ((world (later ++ past)).held a) (stands (later ++ past) a).rising
           (λ o id g n. awaits_none (later ++ past) a all_a o.id o g id n);
     }
 
 -- ---- the same replies
 
-pub edits_are_the_same : (past : List Event) (e : Event) → made (after past) e ≡ made (after (twin past)) e
-edits_are_the_same past e = made_same (after past) (after (twin past)) (twins past).stands e
+pub edits_are_the_same : (past : List Event) (e : Event) → made (world past) e ≡ made (world (twin past)) e
+edits_are_the_same past e = made_same (world past) (world (twin past)) (twins past).stands e
 
 receive_replies : (name : List ℕ) (s u : List Operation) → StandsFor s u → (b v : Option (List Operation)) → BothAt b v
     → ((bundle : List Operation) → v ≡ Some bundle → clash u bundle ≡ None) → receive_reply (at name s) b ≡ receive_reply (at name u) v
@@ -155,7 +155,7 @@ edit_replies s u x y e = edit_reply s u x ∙ ap (λ r. (edited u r).reply) e
 import_replies : (s u : State) (x y : Result (List Operation) ImportFault) → x ≡ y → (imported s x).reply ≡ (imported u y).reply
 import_replies s u x y e = import_reply s u x ∙ ap (λ r. (imported u r).reply) e
 
-pub replies_are_the_same : (past : List Event) (e : Event) → reply (after past) e ≡ reply (after (twin past)) e
+pub replies_are_the_same : (past : List Event) (e : Event) → reply (world past) e ≡ reply (world (twin past)) e
 replies_are_the_same past (Edits name g text) = ap Some (edit_replies _ _ _ _ (edit_same name _ _ (stands past name) g text))
 replies_are_the_same past (EditsOver name g text given) =
     ap Some (edit_replies _ _ _ _ (edit_over_same name _ _ (stands past name) g text given))
@@ -165,8 +165,8 @@ replies_are_the_same past (Summarizes name) = refl
 replies_are_the_same past (Bundles name kept) = refl
 replies_are_the_same past (Receives name k) =
     let h = twins past in
-    receive_replies name _ _ (stands past name) (slice_get (after past).bundles k) (slice_get (whole past).bundles k)
-    (each_at (after past).bundles (whole past).bundles h.stands.bundles k) (λ bundle e. sound_no_clash (whole past) h.sound name k bundle e)
+    receive_replies name _ _ (stands past name) (slice_get (world past).bundles k) (slice_get (whole past).bundles k)
+    (each_at (world past).bundles (whole past).bundles h.stands.bundles k) (λ bundle e. sound_no_clash (whole past) h.sound name k bundle e)
 replies_are_the_same past (ReceivesCut name k length) = refl
 replies_are_the_same past (FindsNoMemory name) = refl
 

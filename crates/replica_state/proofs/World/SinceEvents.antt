@@ -13,7 +13,7 @@ use Rattle.replica_state.specs.States.{State, IsState}
 use Rattle.replica_state.specs.Edits.{edit_over_op}
 use Rattle.replica_state.specs.Imports.{piece_at}
 use Rattle.replica_state.specs.Steps.{Command, Receive, EditOver, received, edited, step, with_ops}
-use Rattle.replica_state.specs.Runs.{after}
+use Rattle.replica_state.specs.Runs.{after_all}
 use Rattle.replica_state.specs.Since.{SinceStep, seen_ids, changed_keys, imported_since}
 use Rattle.replica_state.specs.SinceLaws.{edits_over}
 use Rattle.replica_state.specs.World as world
@@ -41,7 +41,7 @@ stands w s c named is =
 
 module _ (held base : List Operation) (book : List ℕ) (pieces : List PieceParts) where
   edits_happen : (keys : List KeyParts) (w : World) (s : State) → IsIn w s
-      → IsIn (all_happen w (edits_since s.name held base book pieces keys)) (after s (edits_over held base book pieces keys))
+      → IsIn (all_happen w (edits_since s.name held base book pieces keys)) (after_all s (edits_over held base book pieces keys))
   edits_happen [] w s is = is
   edits_happen (key ∷ keys) w s is =
       let c : Command = EditOver (segment book key) (piece_at pieces key) (seen_ids held base (segment book key)) in
@@ -49,7 +49,7 @@ module _ (held base : List Operation) (book : List ℕ) (pieces : List PiecePart
       let named : u.name ≡ s.name = name_edited s
       (edit_over_op s (segment book key) (piece_at pieces key) (seen_ids held base (segment book key))) in
       subst (λ (n : List ℕ). IsIn (all_happen (steps w s.name c) (edits_since n held base book pieces keys))
-      (after u (edits_over held base book pieces keys))) named
+      (after_all u (edits_over held base book pieces keys))) named
       (edits_happen keys (steps w s.name c) u (stands w s c named is))
 
 module _ (s : State) (base : List Operation) (file : List ℕ) (state : IsState s) (set : IsOpSet base) where
@@ -64,9 +64,9 @@ module _ (s : State) (base : List Operation) (file : List ℕ) (state : IsState 
       let name : u.name ≡ s.name = name_received s base (clash s.held base) in
       let first : World = steps w s.name c in
       let done : IsIn (all_happen first (edits_since s.name t.held base book pieces keys))
-      (after u (edits_over t.held base book pieces keys)) =
+      (after_all u (edits_over t.held base book pieces keys)) =
       subst (λ (n : List ℕ). IsIn (all_happen first (edits_since n t.held base book pieces keys))
-      (after u (edits_over t.held base book pieces keys)))
+      (after_all u (edits_over t.held base book pieces keys)))
       name (edits_happen t.held base book pieces keys first u (stands w s c name is)) in
       subst (λ (r : Option (List Operation)). IsIn
       (all_happen (world.received w s.name r) (edits_since s.name t.held base book pieces keys))

@@ -12,7 +12,7 @@ use Rattle.replica_state.specs.Edits.{edit_op, edit_over_op}
 use Rattle.replica_state.specs.Imports.{import_ops}
 use Rattle.replica_state.specs.Steps.{Receive, step, edited, imported}
 use Rattle.replica_state.specs.World.{World, Event, Edits, EditsOver, Imports, Thins, Summarizes, Bundles, Receives, ReceivesCut}
-use Rattle.replica_state.specs.World.{FindsNoMemory, after, happens, made, edit_made, edits_made, replica, received, with_held, with_bundle}
+use Rattle.replica_state.specs.World.{FindsNoMemory, world, happens, made, edit_made, edits_made, replica, received, with_held, with_bundle}
 use Rattle.replica_state.specs.World.Twin.{is_twins, twin}
 use Rattle.replica_state.specs.World.Invisible.{EachStands, IsInvisible}
 use Rattle.replica_state.proofs.World.Held.{equal_no_clash}
@@ -92,45 +92,45 @@ bundle_both w v h name kept legal =
 
 -- ---- what an event does, or does not, to the twin
 
-like_twin : (w : World) (t : List Event) → IsTwin w (after t) → (e : Event) → Move (after t) (happens (after t) e) (made (after t) e)
-    → Move (after t) (happens (after t) e) (made w e)
-like_twin w t h e m = subst (Move (after t) (happens (after t) e)) (sym (made_same w (after t) h.stands e)) m
+like_twin : (w : World) (t : List Event) → IsTwin w (world t) → (e : Event) → Move (world t) (happens (world t) e) (made (world t) e)
+    → Move (world t) (happens (world t) e) (made w e)
+like_twin w t h e m = subst (Move (world t) (happens (world t) e)) (sym (made_same w (world t) h.stands e)) m
 
-pub twin_move : (w : World) (t : List Event) (e : Event) → IsTwin w (after t)
-    → Move (after t) (after (cond (is_twins w e) (e ∷ t) t)) (made w e)
-twin_move w t (Edits name g text) h = like_twin w t h (Edits name g text) (moves (after t) h.sound (Edits name g text) refl)
+pub twin_move : (w : World) (t : List Event) (e : Event) → IsTwin w (world t)
+    → Move (world t) (world (cond (is_twins w e) (e ∷ t) t)) (made w e)
+twin_move w t (Edits name g text) h = like_twin w t h (Edits name g text) (moves (world t) h.sound (Edits name g text) refl)
 twin_move w t (EditsOver name g text given) h =
-    like_twin w t h (EditsOver name g text given) (moves (after t) h.sound (EditsOver name g text given) refl)
-twin_move w t (Imports name file) h = like_twin w t h (Imports name file) (moves (after t) h.sound (Imports name file) refl)
-twin_move w t (Thins name) h = idle (after t) h.sound
-twin_move w t (Summarizes name) h = moves (after t) h.sound (Summarizes name) refl
+    like_twin w t h (EditsOver name g text given) (moves (world t) h.sound (EditsOver name g text given) refl)
+twin_move w t (Imports name file) h = like_twin w t h (Imports name file) (moves (world t) h.sound (Imports name file) refl)
+twin_move w t (Thins name) h = idle (world t) h.sound
+twin_move w t (Summarizes name) h = moves (world t) h.sound (Summarizes name) refl
 twin_move w t (Bundles name kept) h = by (is_legal (of_ids kept (w.held name)))
   where
-    by : (b : Bool) → Move (after t) (after (cond b (Bundles name kept ∷ t) t)) []
-    by true = moves (after t) h.sound (Bundles name kept) refl
-    by false = idle (after t) h.sound
-twin_move w t (Receives name k) h = moves (after t) h.sound (Receives name k) refl
-twin_move w t (ReceivesCut name k length) h = idle (after t) h.sound
-twin_move w t (FindsNoMemory name) h = idle (after t) h.sound
+    by : (b : Bool) → Move (world t) (world (cond b (Bundles name kept ∷ t) t)) []
+    by true = moves (world t) h.sound (Bundles name kept) refl
+    by false = idle (world t) h.sound
+twin_move w t (Receives name k) h = moves (world t) h.sound (Receives name k) refl
+twin_move w t (ReceivesCut name k length) h = idle (world t) h.sound
+twin_move w t (FindsNoMemory name) h = idle (world t) h.sound
 
-twin_stands : (w : World) (t : List Event) (e : Event) → IsTwin w (after t)
-    → IsInvisible (happens w e) (after (cond (is_twins w e) (e ∷ t) t))
+twin_stands : (w : World) (t : List Event) (e : Event) → IsTwin w (world t)
+    → IsInvisible (happens w e) (world (cond (is_twins w e) (e ∷ t) t))
 twin_stands w t (Edits name g text) h =
-    let v = after t in
+    let v = world t in
     let op = edit_op (replica v name) g text in
     set_both w v name _ (edited (replica v name) op).after.held h.stands
     (subst (λ r. StandsFor (edited (replica w name) r).after.held (edited (replica v name) op).after.held)
     (sym (edit_same name (w.held name) (v.held name) (h.stands.held name) g text))
     (edit_stands name (w.held name) (v.held name) (h.stands.held name) op (made_next v (Edits name g text))))
 twin_stands w t (EditsOver name g text given) h =
-    let v = after t in
+    let v = world t in
     let op = edit_over_op (replica v name) g text given in
     set_both w v name _ (edited (replica v name) op).after.held h.stands
     (subst (λ r. StandsFor (edited (replica w name) r).after.held (edited (replica v name) op).after.held)
     (sym (edit_over_same name (w.held name) (v.held name) (h.stands.held name) g text given))
     (edit_stands name (w.held name) (v.held name) (h.stands.held name) op (made_next v (EditsOver name g text given))))
 twin_stands w t (Imports name file) h =
-    let v = after t in
+    let v = world t in
     let ops = import_ops (replica v name) file in
     set_both w v name _ (imported (replica v name) ops).after.held h.stands
     (subst (λ r. StandsFor (imported (replica w name) r).after.held (imported (replica v name) ops).after.held)
@@ -140,29 +140,29 @@ twin_stands w t (Thins name) h =
     record { held = λ other. by other (same_bytes other name) refl; bundles = h.stands.bundles; summaries = h.stands.summaries }
   where
     by : (other : List ℕ) (b : Bool) → same_bytes other name ≡ b →
-        StandsFor (cond b (thin (w.held name)) (w.held other)) ((after t).held other)
-    by other true e = subst (λ n. StandsFor (thin (w.held name)) ((after t).held n)) (sym (same_bytes-is other name e))
-        (thin_stands (w.held name) ((after t).held name) (h.stands.held name))
+        StandsFor (cond b (thin (w.held name)) (w.held other)) ((world t).held other)
+    by other true e = subst (λ n. StandsFor (thin (w.held name)) ((world t).held n)) (sym (same_bytes-is other name e))
+        (thin_stands (w.held name) ((world t).held name) (h.stands.held name))
     by other false e = h.stands.held other
 twin_stands w t (Summarizes name) h = record {
   held = h.stands.held;
   bundles = h.stands.bundles;
-  summaries = λ i. summary_same name (w.held name) ((after t).held name) (h.stands.held name) i ∷ h.stands.summaries i;
+  summaries = λ i. summary_same name (w.held name) ((world t).held name) (h.stands.held name) i ∷ h.stands.summaries i;
 }
 twin_stands w t (Bundles name kept) h = by (is_legal (of_ids kept (w.held name))) refl
   where
     by : (b : Bool) → is_legal (of_ids kept (w.held name)) ≡ b
-        → IsInvisible (with_bundle w (of_ids kept (w.held name)) b) (after (cond b (Bundles name kept ∷ t) t))
-    by true e = bundle_both w (after t) h.stands name kept e
+        → IsInvisible (with_bundle w (of_ids kept (w.held name)) b) (world (cond b (Bundles name kept ∷ t) t))
+    by true e = bundle_both w (world t) h.stands name kept e
     by false e = h.stands
 twin_stands w t (Receives name k) h =
-    let v = after t in
+    let v = world t in
     receive_both w v h.stands name (slice_get w.bundles k) (slice_get v.bundles k) (each_at w.bundles v.bundles h.stands.bundles k)
     (λ bundle e. sound_no_clash v h.sound name k bundle e)
 twin_stands w t (ReceivesCut name k length) h = h.stands
 twin_stands w t (FindsNoMemory name) h = h.stands
 
-pub twins : (events : List Event) → IsTwin (after events) (after (twin events))
+pub twins : (events : List Event) → IsTwin (world events) (world (twin events))
 twins [] = record {
   sound = record {
     rising = λ name. refl;
@@ -177,23 +177,23 @@ twins (e ∷ past) =
     let h = twins past in
     record {
       sound =
-          sound_after (after (twin past)) (after (twin (e ∷ past))) (made (after past) e) h.sound (twin_move (after past) (twin past) e h);
-      stands = twin_stands (after past) (twin past) e h;
+          sound_after (world (twin past)) (world (twin (e ∷ past))) (made (world past) e) h.sound (twin_move (world past) (twin past) e h);
+      stands = twin_stands (world past) (twin past) e h;
     }
 
 -- no receiving is refused
 pub no_clash_here : (events : List Event) (name : List ℕ) (k : ℕ) (bundle : List Operation) →
-    slice_get (after events).bundles k ≡ Some bundle
-    → clash ((after events).held name) bundle ≡ None
-no_clash_here events name k bundle e = by (slice_get (after (twin events)).bundles k) refl
-    (subst (λ r. BothAt r (slice_get (after (twin events)).bundles k)) e
-    (each_at (after events).bundles (after (twin events)).bundles h.stands.bundles k))
+    slice_get (world events).bundles k ≡ Some bundle
+    → clash ((world events).held name) bundle ≡ None
+no_clash_here events name k bundle e = by (slice_get (world (twin events)).bundles k) refl
+    (subst (λ r. BothAt r (slice_get (world (twin events)).bundles k)) e
+    (each_at (world events).bundles (world (twin events)).bundles h.stands.bundles k))
   where
-    h : IsTwin (after events) (after (twin events))
+    h : IsTwin (world events) (world (twin events))
     h = twins events
 
-    by : (r : Option (List Operation)) → slice_get (after (twin events)).bundles k ≡ r → BothAt (Some bundle) r
-        → clash ((after events).held name) bundle ≡ None
+    by : (r : Option (List Operation)) → slice_get (world (twin events)).bundles k ≡ r → BothAt (Some bundle) r
+        → clash ((world events).held name) bundle ≡ None
     by None f both = absurd both
-    by (Some u) f both = (join_stands ((after events).held name) ((after (twin events)).held name) bundle u (h.stands.held name) both
-        (sound_no_clash (after (twin events)) h.sound name k u f)).0
+    by (Some u) f both = (join_stands ((world events).held name) ((world (twin events)).held name) bundle u (h.stands.held name) both
+        (sound_no_clash (world (twin events)) h.sound name k u f)).0

@@ -2,7 +2,7 @@
 use Rattle.std.specs.Prelude.{◌≡◌, ℕ, Bool, true, false, List, [], ◌++◌, Some}
 use Rattle.std.specs.List.{list_all}
 use Rattle.usfm_ref.specs.Books.{same_bytes}
-use Rattle.usfm_ref.specs.Segments.{Segment}
+use Rattle.usfm_ref.specs.declared.segment.Segment.{Segment}
 use Rattle.op_core.specs.Ids.{Id}
 use Rattle.op_core.specs.Ops.{Operation, names}
 use Rattle.op_core.specs.Sets.{get}
@@ -11,7 +11,7 @@ use Rattle.op_core.specs.Lists.{is_held, awaited}
 use Rattle.op_core.specs.Thinned.{skeleton}
 use Rattle.op_core.specs.ThinLaws.{AnswersSame}
 use Rattle.bundle_codec.specs.Summaries.{summary_of}
-use Rattle.replica_state.specs.World.{Event, after, edits_at, is_exchange}
+use Rattle.replica_state.specs.World.{Event, world, edits_at, is_exchange}
 use Rattle.replica_state.specs.World.Schedules.{Holds, IsMade}
 use Rattle.replica_state.specs.World.Exchanges.{Hearing, IsRelay}
 
@@ -28,25 +28,25 @@ pub record ShowSame (s t : List Operation) : Type 0 where
 abbrev pub SameSkeletonsShowSame : Type 0
 SameSkeletonsShowSame =
     (events : List Event) (a b : List ℕ) →
-    skeleton ((after events).held a) ≡ skeleton ((after events).held b) →
-    ShowSame ((after events).held a) ((after events).held b)
+    skeleton ((world events).held a) ≡ skeleton ((world events).held b) →
+    ShowSame ((world events).held a) ((world events).held b)
 
 -- the replica holds each operation ever made
 abbrev pub HoldsAll : List Event → List ℕ → Type 0
-HoldsAll events name = (o : Operation) → IsMade events o → Holds ((after events).held name) o
+HoldsAll events name = (o : Operation) → IsMade events o → Holds ((world events).held name) o
 
 -- Replicas that hold every operation hold one set but for texts left out.
 abbrev pub HoldsAllHoldsSame : Type 0
 HoldsAllHoldsSame =
     (events : List Event) (a b : List ℕ) → HoldsAll events a → HoldsAll events b →
-    skeleton ((after events).held a) ≡ skeleton ((after events).held b)
+    skeleton ((world events).held a) ≡ skeleton ((world events).held b)
 
 -- What a replica that holds every operation holds names nothing that it lacks.
 abbrev pub HoldsAllAwaitsNone : Type 0
 HoldsAllAwaitsNone =
     (events : List Event) (a : List ℕ) → HoldsAll events a →
-    (id : Id) (o : Operation) → get ((after events).held a) id ≡ Some o →
-    (named : Id) → names o named ≡ true → is_held ((after events).held a) named ≡ true
+    (id : Id) (o : Operation) → get ((world events).held a) id ≡ Some o →
+    (named : Id) → names o named ≡ true → is_held ((world events).held a) named ≡ true
 
 -- from each of two replicas that are there a relay leads to the other
 abbrev pub AllTell : (List ℕ → Bool) → List Event → List Event → Type 0
@@ -78,4 +78,4 @@ abbrev pub AllAgreeInTheEnd : Type 0
 AllAgreeInTheEnd =
     (is_there : List ℕ → Bool) (later past : List Event) → EndsInRelays is_there later past →
     (a b : List ℕ) → is_there a ≡ true → is_there b ≡ true →
-    AgreeInTheEnd ((after (later ++ past)).held a) ((after (later ++ past)).held b)
+    AgreeInTheEnd ((world (later ++ past)).held a) ((world (later ++ past)).held b)

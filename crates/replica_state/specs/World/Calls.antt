@@ -23,7 +23,7 @@ use Rattle.replica_state.specs.Steps.{Reply}
 use Rattle.replica_state.specs.Imports.{piece_at}
 use Rattle.replica_state.specs.Steps.{with_ops}
 use Rattle.replica_state.specs.Since.{seen_ids, changed_keys}
-use Rattle.replica_state.specs.World.{World, Event, Receives, EditsOver, IsWithin, after, happens, replica}
+use Rattle.replica_state.specs.World.{World, Event, Receives, EditsOver, IsWithin, world, happens, replica}
 use Rattle.replica_state.specs.World.{replica_of}
 use Rattle.replica_state.specs.World.Invisible.{reply}
 
@@ -84,8 +84,8 @@ IsImportingSince base file s t =
 -- In no world in which the replica stands, and the bundle was made, is its receiving refused as a clash.
 abbrev pub NeverClashes : List Operation → State → Result ℕ ReceiveFault → Type 0
 NeverClashes bundle s answer =
-    (events : List Event) (k : ℕ) (id : Id) → IsIn (after events) s →
-    slice_get (after events).bundles k ≡ Some bundle → answer ≢ Err (Clash id)
+    (events : List Event) (k : ℕ) (id : Id) → IsIn (world events) s →
+    slice_get (world events).bundles k ≡ Some bundle → answer ≢ Err (Clash id)
 
 -- The event makes a bundle of these operations, and the bytes are its own.
 pub record IsSending (e : Event) (s : State) (ops : List Operation) (bytes : List ℕ) : Type 0 where
@@ -97,7 +97,7 @@ pub record IsSending (e : Event) (s : State) (ops : List Operation) (bytes : Lis
 abbrev pub ReadsWhole : List ℕ → Result (List Operation) WholeFault → Type 0
 ReadsWhole bytes read =
     (events : List Event) (k : ℕ) (ops : List Operation) → AllByRecursion IsWithin events →
-    slice_get (after events).bundles k ≡ Some ops → bytes ≡ bundle ops →
+    slice_get (world events).bundles k ≡ Some ops → bytes ≡ bundle ops →
     MatchResult read (λ x. x ≡ ops) (λ fault. (fault ≡ out_of_memory) × (all_full ops ≡ false))
 
 -- A proper front of the bytes of a bundle that was made in a world is refused as cut.
@@ -105,5 +105,5 @@ abbrev pub RefusesCut : List ℕ → Result (List Operation) WholeFault → Type
 RefusesCut bytes read =
     (events : List Event) (k : ℕ) (ops : List Operation) (more : List ℕ) →
     AllByRecursion IsWithin events →
-    slice_get (after events).bundles k ≡ Some ops → length (bundle ops) < 2 ^ 64 →
+    slice_get (world events).bundles k ≡ Some ops → length (bundle ops) < 2 ^ 64 →
     bundle ops ≡ bytes ++ more → more ≢ [] → read ≡ Err (Bundle Truncated)

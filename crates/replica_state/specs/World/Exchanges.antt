@@ -9,7 +9,7 @@ use Rattle.op_core.specs.Sets.{join}
 use Rattle.op_core.specs.Lists.{is_held}
 use Rattle.op_core.specs.Thinned.{is_legal, skeleton, of_ids}
 use Rattle.bundle_codec.specs.Summaries.{summary_of, outside}
-use Rattle.replica_state.specs.World.{World, Event, Summarizes, Bundles, Receives, after, is_apart}
+use Rattle.replica_state.specs.World.{World, Event, Summarizes, Bundles, Receives, world, is_apart}
 use Rattle.replica_state.specs.World.Schedules.{Holds}
 
 -- two replicas hold a union of two sets, but for texts left out
@@ -23,38 +23,38 @@ abbrev pub DeltasJoin : Type 0
 DeltasJoin =
     (last between first past : List Event) (a b : List ℕ) (k n : ℕ) → same_bytes a b ≡ false →
     list_all (λ e. is_apart a e && is_apart b e) (last ++ (between ++ first)) ≡ true →
-    let s = (after past).held a in let t = (after past).held b in
-    slice_get (after (first ++ past)).bundles k ≡ Some (outside (summary_of s) t) →
+    let s = (world past).held a in let t = (world past).held b in
+    slice_get (world (first ++ past)).bundles k ≡ Some (outside (summary_of s) t) →
     let heard = Receives a k ∷ (first ++ past) in
-    slice_get (after (between ++ heard)).bundles n ≡ Some (outside (summary_of t) s) →
-    HoldUnion (after (last ++ (Receives b n ∷ (between ++ heard)))) a b s t
+    slice_get (world (between ++ heard)).bundles n ≡ Some (outside (summary_of t) s) →
+    HoldUnion (world (last ++ (Receives b n ∷ (between ++ heard)))) a b s t
 
 -- So they do where a makes its delta after it has received the other's.
 abbrev pub DeltasJoinInTurn : Type 0
 DeltasJoinInTurn =
     (last between first past : List Event) (a b : List ℕ) (k n : ℕ) → same_bytes a b ≡ false →
     list_all (λ e. is_apart a e && is_apart b e) (last ++ (between ++ first)) ≡ true →
-    let s = (after past).held a in let t = (after past).held b in
-    slice_get (after (first ++ past)).bundles k ≡ Some (outside (summary_of s) t) →
+    let s = (world past).held a in let t = (world past).held b in
+    slice_get (world (first ++ past)).bundles k ≡ Some (outside (summary_of s) t) →
     let heard = Receives a k ∷ (first ++ past) in
-    slice_get (after (between ++ heard)).bundles n
-    ≡ Some (outside (summary_of t) ((after heard).held a)) →
-    HoldUnion (after (last ++ (Receives b n ∷ (between ++ heard)))) a b s t
+    slice_get (world (between ++ heard)).bundles n
+    ≡ Some (outside (summary_of t) ((world heard).held a)) →
+    HoldUnion (world (last ++ (Receives b n ∷ (between ++ heard)))) a b s t
 
 -- A bundle of any ids that is legal is made, and can be received from then on.
 abbrev pub BundlesStay : Type 0
 BundlesStay =
     (later past : List Event) (name : List ℕ) (kept : Id → Bool) →
-    is_legal (of_ids kept ((after past).held name)) ≡ true →
-    (k : ℕ) × (slice_get (after (later ++ Bundles name kept ∷ past)).bundles k
-    ≡ Some (of_ids kept ((after past).held name)))
+    is_legal (of_ids kept ((world past).held name)) ≡ true →
+    (k : ℕ) × (slice_get (world (later ++ Bundles name kept ∷ past)).bundles k
+    ≡ Some (of_ids kept ((world past).held name)))
 
 -- A summary is made, and is there from then on.
 abbrev pub SummariesStay : Type 0
 SummariesStay =
     (later past : List Event) (name : List ℕ) →
-    (k : ℕ) × (slice_get (after (later ++ Summarizes name ∷ past)).summaries k
-    ≡ Some (summary_of ((after past).held name)))
+    (k : ℕ) × (slice_get (world (later ++ Summarizes name ∷ past)).summaries k
+    ≡ Some (summary_of ((world past).held name)))
 
 -- ---- hearings, and relays
 
@@ -79,7 +79,7 @@ pub record Hearing : Type 0 where
 -- what the bundle is to hold, of what is held
 abbrev pub bundled : List ℕ → Request → List Operation → List Operation
 bundled hearer Whole held = held
-bundled hearer (Lacking asked) held = outside (summary_of ((after asked).held hearer)) held
+bundled hearer (Lacking asked) held = outside (summary_of ((world asked).held hearer)) held
 
 -- the ids of what the bundle is to hold
 abbrev pub wanted : List ℕ → Request → List Operation → Id → Bool
@@ -93,18 +93,18 @@ IsAsked (Lacking asked) sent = IsBefore asked sent
 -- the teller makes the bundle, whole or for a summary that the hearer made before, and the hearer then receives it
 pub record Hears (teller : List ℕ) (h : Hearing) : Type 0 where
   pub asked : IsAsked h.request h.sent
-  pub sends : let held = (after h.sent).held teller in
+  pub sends : let held = (world h.sent).held teller in
       IsBefore (Bundles teller (wanted h.hearer h.request held) ∷ h.sent) h.got
-  pub is : let held = (after h.sent).held teller in
-      slice_get (after h.got).bundles h.bundle ≡ Some (bundled h.hearer h.request held)
+  pub is : let held = (world h.sent).held teller in
+      slice_get (world h.got).bundles h.bundle ≡ Some (bundled h.hearer h.request held)
 
 -- At every moment such a bundle is made, and there to be received from then on.
 abbrev pub CanBeHeard : Type 0
 CanBeHeard =
     (later sent : List Event) (teller hearer : List ℕ) (request : Request) →
-    let held = (after sent).held teller in
+    let held = (world sent).held teller in
     (k : ℕ)
-    × (slice_get (after (later ++ Bundles teller (wanted hearer request held) ∷ sent)).bundles k
+    × (slice_get (world (later ++ Bundles teller (wanted hearer request held) ∷ sent)).bundles k
     ≡ Some (bundled hearer request held))
 
 -- the moment after the hearing
@@ -121,4 +121,4 @@ IsRelay a from (h ∷ hearings) b to =
 abbrev pub RelayTells : Type 0
 RelayTells =
     (a b : List ℕ) (from to : List Event) (hearings : List Hearing) → IsRelay a from hearings b to →
-    (o : Operation) → Holds ((after from).held a) o → Holds ((after to).held b) o
+    (o : Operation) → Holds ((world from).held a) o → Holds ((world to).held b) o

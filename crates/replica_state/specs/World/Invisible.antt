@@ -8,7 +8,7 @@ use Rattle.replica_state.specs.States.{State}
 use Rattle.replica_state.specs.Steps.{Command, Receive, Edit, EditOver, Import, Thin, Reply, step}
 use Rattle.replica_state.specs.World.{World, Event, Edits, EditsOver, Imports, Thins}
 use Rattle.replica_state.specs.World.{Summarizes, Bundles, Receives, ReceivesCut}
-use Rattle.replica_state.specs.World.{FindsNoMemory, after, made, replica}
+use Rattle.replica_state.specs.World.{FindsNoMemory, world, made, replica}
 use Rattle.replica_state.specs.World.Twin.{keeps_texts, twin}
 use Rattle.replica_state.specs.World.Schedules.{Holds, IsMade}
 use Rattle.replica_state.specs.World.Agreement.{ShowSame}
@@ -59,7 +59,7 @@ pub record IsInvisible (w v : World) : Type 0 where
 
 -- At every moment each replica's set stands for its twin's, and so does each bundle.
 abbrev pub ThinningIsInvisible : Type 0
-ThinningIsInvisible = (events : List Event) → IsInvisible (after events) (after (twin events))
+ThinningIsInvisible = (events : List Event) → IsInvisible (world events) (world (twin events))
 
 -- No replica thins in the twin.
 abbrev pub TwinKeepsTexts : Type 0
@@ -69,11 +69,11 @@ TwinKeepsTexts = (events : List Event) → list_all keeps_texts (twin events) �
 abbrev pub ThinningShowsNothing : Type 0
 ThinningShowsNothing =
     (events : List Event) (name : List ℕ) →
-    ShowSame ((after events).held name) ((after (twin events)).held name)
+    ShowSame ((world events).held name) ((world (twin events)).held name)
 
 -- An edit, edit over or import makes the same operations in the twin.
 abbrev pub EditsAreTheSame : Type 0
-EditsAreTheSame = (past : List Event) (e : Event) → made (after past) e ≡ made (after (twin past)) e
+EditsAreTheSame = (past : List Event) (e : Event) → made (world past) e ≡ made (world (twin past)) e
 
 -- the reply to the receiving of a bundle, if there is one
 abbrev pub receive_reply : State → Option (List Operation) → Option Reply
@@ -96,19 +96,19 @@ reply w (FindsNoMemory name) = None
 -- An edit, edit over, import or receiving has the same reply in the twin.
 abbrev pub RepliesAreTheSame : Type 0
 RepliesAreTheSame =
-    (past : List Event) (e : Event) → reply (after past) e ≡ reply (after (twin past)) e
+    (past : List Event) (e : Event) → reply (world past) e ≡ reply (world (twin past)) e
 
 -- ---- worlds in which no replica thins
 
 -- the world is its twin, all is held in full, also what was made, and sets with equal skeletons are equal
 pub record IsExact (events : List Event) : Type 0 where
-  pub twin_is : after (twin events) ≡ after events
-  pub full : (name : List ℕ) → IsTrue (all_full ((after events).held name))
+  pub twin_is : world (twin events) ≡ world events
+  pub full : (name : List ℕ) → IsTrue (all_full ((world events).held name))
   pub holds : (name : List ℕ) (o : Operation) → IsMade events o →
-      Holds ((after events).held name) o →
-      get ((after events).held name) o.id ≡ Some o
-  pub same : (a b : List ℕ) → skeleton ((after events).held a) ≡ skeleton ((after events).held b) →
-      (after events).held a ≡ (after events).held b
+      Holds ((world events).held name) o →
+      get ((world events).held name) o.id ≡ Some o
+  pub same : (a b : List ℕ) → skeleton ((world events).held a) ≡ skeleton ((world events).held b) →
+      (world events).held a ≡ (world events).held b
 
 -- Where no replica thins, the world is its twin, all is held in full, and replicas whose skeletons are equal hold equal
 -- sets.

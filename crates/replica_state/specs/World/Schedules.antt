@@ -3,7 +3,7 @@
 use Rattle.std.specs.Prelude.{◌≡◌, ℕ, true, List, [], ◌∷◌, ◌++◌, ◌⊎◌}
 use Rattle.std.specs.Prelude.{Option, Some, None, IsTrue, slice_get}
 use Rattle.std.specs.List.{AllByRecursion}
-use Rattle.usfm_ref.specs.Segments.{Segment}
+use Rattle.usfm_ref.specs.declared.segment.Segment.{Segment}
 use Rattle.op_core.specs.Ids.{Id}
 use Rattle.op_core.specs.Ops.{Operation, bare, agree, in_segment, names}
 use Rattle.op_core.specs.Sets.{IsOpSet, rises, get, clash}
@@ -11,7 +11,7 @@ use Rattle.op_core.specs.Shown.{is_shown}
 use Rattle.op_core.specs.Lists.{shown_ids}
 use Rattle.op_core.specs.NextIds.{is_among}
 use Rattle.op_core.specs.Thinned.{is_legal, skeleton}
-use Rattle.replica_state.specs.World.{World, Event, IsWithin, after, made, replica_of}
+use Rattle.replica_state.specs.World.{World, Event, IsWithin, world, made, replica_of}
 
 -- the set holds the operation, perhaps without its text
 abbrev pub Holds : List Operation → Operation → Type 0
@@ -21,8 +21,8 @@ Holds held o = get (skeleton held) o.id ≡ Some (bare o)
 abbrev pub NoReceivingClashes : Type 0
 NoReceivingClashes =
     (events : List Event) (name : List ℕ) (k : ℕ) (bundle : List Operation) →
-    slice_get (after events).bundles k ≡ Some bundle →
-    clash ((after events).held name) bundle ≡ None
+    slice_get (world events).bundles k ≡ Some bundle →
+    clash ((world events).held name) bundle ≡ None
 
 -- what each replica holds is a legal set, and so is each bundle
 pub record AreSets (w : World) : Type 0 where
@@ -35,7 +35,7 @@ pub record AreSets (w : World) : Type 0 where
 
 -- What each replica holds is a legal set of operations, each within its ranges, and so is each bundle.
 abbrev pub WorldsHoldSets : Type 0
-WorldsHoldSets = (events : List Event) → AllByRecursion IsWithin events → AreSets (after events)
+WorldsHoldSets = (events : List Event) → AllByRecursion IsWithin events → AreSets (world events)
 
 -- ---- what was made
 
@@ -51,8 +51,8 @@ pub record HoldsAs (name : List ℕ) (held : List Operation) (o : Operation) : T
 -- A replica holds from then on, perhaps without its text, what it made. Its operations have its name.
 abbrev pub HoldsItsOwn : Type 0
 HoldsItsOwn =
-    (later : List Event) (e : Event) (past : List Event) (o : Operation) → Makes (after past) e o →
-    HoldsAs (replica_of e) ((after (later ++ e ∷ past)).held (replica_of e)) o
+    (later : List Event) (e : Event) (past : List Event) (o : Operation) → Makes (world past) e o →
+    HoldsAs (replica_of e) ((world (later ++ e ∷ past)).held (replica_of e)) o
 
 -- one of the events made the operation
 pub record IsMade (events : List Event) (o : Operation) : Type 0 where
@@ -60,7 +60,7 @@ pub record IsMade (events : List Event) (o : Operation) : Type 0 where
   pub event : Event
   pub past : List Event
   pub here : events ≡ later ++ event ∷ past
-  pub makes : Makes (after past) event o
+  pub makes : Makes (world past) event o
 
 -- where an operation may be: at a replica, or in a bundle
 pub data Where : Type 0 where
@@ -85,7 +85,7 @@ IsOrThinned x o = (x ≡ o) ⊎ (x ≡ bare o)
 abbrev pub FoundWasMade : Type 0
 FoundWasMade =
     (events : List Event) (a : Where) (id : Id) (x : Operation) →
-    found (after events) a id ≡ Some x →
+    found (world events) a id ≡ Some x →
     (o : Operation) × IsMade events o × IsOrThinned x o
 
 -- No two operations with one id are made.
@@ -95,13 +95,13 @@ MadeOnce = (events : List Event) (x y : Operation) → IsMade events x →
 
 -- What an event makes rises by ids, so that no two of its operations have one id.
 abbrev pub MadeRise : Type 0
-MadeRise = (past : List Event) (e : Event) → rises (made (after past) e) ≡ true
+MadeRise = (past : List Event) (e : Event) → rises (made (world past) e) ≡ true
 
 -- No id stands for two operations, at any replicas and in any bundles: what is found of one id agrees.
 abbrev pub OneForEachId : Type 0
 OneForEachId =
     (events : List Event) (a b : Where) (id : Id) (x y : Operation) →
-    found (after events) a id ≡ Some x → found (after events) b id ≡ Some y → agree x y ≡ true
+    found (world events) a id ≡ Some x → found (world events) b id ≡ Some y → agree x y ≡ true
 
 -- ---- what operations name
 
@@ -109,8 +109,8 @@ OneForEachId =
 abbrev pub NamesWhatWasShown : Type 0
 NamesWhatWasShown =
     (past : List Event) (e : Event) (o : Operation) (id : Id) →
-    Makes (after past) e o → names o id ≡ true →
-    is_among (shown_ids ((after past).held (replica_of e)) o.segment) id ≡ true
+    Makes (world past) e o → names o id ≡ true →
+    is_among (shown_ids ((world past).held (replica_of e)) o.segment) id ≡ true
 
 -- each operation of the chain is held in the segment and names the one before it, and the last is shown
 abbrev pub IsChain : List Operation → Segment → Operation → List Operation → Type 0
@@ -123,5 +123,5 @@ IsChain held g o (p ∷ chain) =
 abbrev pub ShownInTheEnd : Type 0
 ShownInTheEnd =
     (events : List Event) (name : List ℕ) (id : Id) (o : Operation) →
-    get ((after events).held name) id ≡ Some o →
-    (chain : List Operation) × IsChain ((after events).held name) o.segment o chain
+    get ((world events).held name) id ≡ Some o →
+    (chain : List Operation) × IsChain ((world events).held name) o.segment o chain

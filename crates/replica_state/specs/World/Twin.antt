@@ -2,7 +2,7 @@
 use Rattle.std.specs.Prelude.{Bool, true, false, List, [], ◌∷◌, if◌then◌else◌}
 use Rattle.op_core.specs.Thinned.{is_legal, of_ids}
 use Rattle.replica_state.specs.World.{World, Event, Edits, EditsOver, Imports, Thins, Summarizes}
-use Rattle.replica_state.specs.World.{Bundles, Receives, ReceivesCut, FindsNoMemory, after}
+use Rattle.replica_state.specs.World.{Bundles, Receives, ReceivesCut, FindsNoMemory, world}
 
 -- whether the event leaves out no text
 abbrev pub keeps_texts : Event → Bool
@@ -33,4 +33,4 @@ is_twins w (FindsNoMemory name) = false
 -- same ids in full, and is at the same place among all.
 abbrev pub twin : List Event → List Event
 twin [] = []
-twin (e ∷ past) = if is_twins (after past) e then e ∷ twin past else twin past
+twin (e ∷ past) = if is_twins (world past) e then e ∷ twin past else twin past

@@ -53,14 +53,14 @@ abbrev pub began : List ℕ → Reading → Reading
 began m s = record { whole = finished s; begun = Some (record_with m []) }
 
 -- a reading after one more field, which is no fault
-abbrev pub after : Reading → Field → Reading
-after s (marker value) = began (first_word value) s
-after s passed = s
-after s (occurs_under value) = extended s (occurs_under value)
-after s (endmarker value) = extended s (endmarker value)
-after s (name value) = extended s (name value)
-after s (style_type value) = extended s (style_type value)
-after s (text_type value) = extended s (text_type value)
+abbrev pub after_field : Reading → Field → Reading
+after_field s (marker value) = began (first_word value) s
+after_field s passed = s
+after_field s (occurs_under value) = extended s (occurs_under value)
+after_field s (endmarker value) = extended s (endmarker value)
+after_field s (name value) = extended s (name value)
+after_field s (style_type value) = extended s (style_type value)
+after_field s (text_type value) = extended s (text_type value)
 
 -- what a call answers where this fault, or none, is due; out of memory is answered where none is
 abbrev pub Tells : Result (Unit {0}) SheetFault → Option SheetFault → Type 0

@@ -9,14 +9,14 @@ loop-i-preserved c =
     elim c.if-not-has_id.branch [
       | then-not-has_id w ↦ rw (w.ids-is, w.kept-is) (record {
         filters = FiltersInPlace-more_swap {x = c.index.result.now} h.filters (omega arith)
-            (ap not (sym c.has_id.ensures ∙ w.if-not-has_id.true)) c.index.ensures w.swap.ensures.by_index;
+            (ap not (sym c.has_id.ensures.found ∙ w.if-not-has_id.true)) c.index.ensures w.swap.ensures.by_index;
         within = omega (arith, h.within);
         capacity = w.swap.ensures.capacity ∙ h.capacity;
         len = w.swap.ensures.len ∙ h.len;
       })
       | else-not-has_id w ↦ rw (w.ids-is, w.kept-is) (record {
         filters = FiltersInPlace-more_no {x = c.index.result.now} h.filters (omega arith)
-            (ap not (sym c.has_id.ensures ∙ w.if-not-has_id.false)) c.index.ensures;
+            (ap not (sym c.has_id.ensures.found ∙ w.if-not-has_id.false)) c.index.ensures;
         within = omega (arith, h.within);
         capacity = h.capacity;
         len = h.len;

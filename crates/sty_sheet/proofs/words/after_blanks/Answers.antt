@@ -1,7 +1,7 @@
 use Rattle.std.proofs.Common.{◌∙◌, ap, sym, subst}
 use Rattle.std.specs.List.{prefix_len}
 use Rattle.std.specs.Str.{IsCharBoundary}
-use Rattle.sty_sheet.specs.Lines.{is_blank}
+use Rattle.usfm_ref.specs.Numbers.{is_blank}
 use Rattle.sty_sheet.proofs.WordLemmas.{boundary_after_blanks}
 use Rattle.sty_sheet.proofs.words.after_blanks.Goals as goal
 

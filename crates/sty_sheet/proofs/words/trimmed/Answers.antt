@@ -2,7 +2,7 @@ use Rattle.std.proofs.Common.{◌-◌, ◌∙◌, ap, sym, subst, length, arith}
 use Rattle.std.specs.List.{suffix_len}
 use Rattle.std.specs.Str.{IsCharBoundary}
 use Rattle.std.proofs.lemmas.List.Sums.{suffix_len-le-length}
-use Rattle.sty_sheet.specs.Lines.{is_blank}
+use Rattle.usfm_ref.specs.Numbers.{is_blank}
 use Rattle.sty_sheet.proofs.WordLemmas.{boundary_before_end}
 use Rattle.sty_sheet.proofs.words.trimmed.Goals as goal
 

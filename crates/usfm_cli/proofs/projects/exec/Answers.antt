@@ -1,10 +1,12 @@
-use Rattle.std.proofs.Common.{◌≡◌, Global, Ok, Err, IfOk, subst, sym, ap, ◌∙◌, arith, rules}
+use Rattle.std.proofs.Common.{◌≡◌, Global, Result, Ok, Err, IfOk, IsTrue, subst, sym, ap, ◌∙◌, arith, rules}
 use Rattle.std.proofs.lemmas.Result.{err_from_is_err_and}
 use Rattle.project_file.specs.Projects.{project, project_at}
 use Rattle.replica_state.specs.States.{State}
-use Rattle.usfm_cli.specs.Commands.{is_late, outcome, MayWantMemory}
-use Rattle.usfm_cli.specs.Projects.{executed, state_or}
+use Rattle.usfm_cli.specs.Commands.{is_late, only_tells, outcome, MayWantMemory}
+use Rattle.usfm_cli.specs.Projects.{Written, executed, state_or}
 use Rattle.usfm_cli.specs.declared.command.Command.{Command}
+use Rattle.usfm_cli.specs.declared.fault.Fault.{Fault}
+use Rattle.usfm_cli.proofs.DeltasMade.{delta_is, stays, if_so}
 use Rattle.usfm_cli.proofs.Received.{received_is}
 use Rattle.usfm_cli.proofs.Loading.{loads_or_wants, refused_wants, refused_for}
 use Rattle.usfm_cli.proofs.Seen.{refused_all, seen_wants, told_all, changed_all, told_state, changed_state}
@@ -24,6 +26,32 @@ pub returns-in-Receive-clause-after : goal.returns-in-Receive-clause-after
 returns-in-Receive-clause-after c =
     subst (λ (k : Command). IfOk c.receive_into.result (λ made. (s : State) → project_at c.args.project.now ≡ Ok s
     → project_at made.project ≡ Ok (state_or s (outcome s k)))) (sym c.in-Receive.is) c.receive_into.ensures.after
+
+pub returns-in-Delta-clause-answer : goal.returns-in-Delta-clause-answer
+returns-in-Delta-clause-answer c = λ e.
+    ap (executed c.args.project.now) c.in-Delta.is ∙ delta_is (project_at c.args.project.now) c.in-Delta.summary
+    ∙ c.delta_of.ensures.answer e
+
+pub returns-in-Delta-clause-memory : goal.returns-in-Delta-clause-memory
+returns-in-Delta-clause-memory c = λ e s loads none.
+    subst (λ (k : Command). MayWantMemory (is_late k) (outcome s k)) (sym c.in-Delta.is) (c.delta_of.ensures.memory e s loads none)
+
+pub returns-in-Delta-clause-unchanged : goal.returns-in-Delta-clause-unchanged
+returns-in-Delta-clause-unchanged c =
+    if_so (IsTrue (only_tells c.args.command.now)) (λ (made : Written). made.project ≡ c.args.project.now) c.delta_of.result
+    c.delta_of.ensures.unchanged
+
+pub returns-in-Delta-clause-after : goal.returns-in-Delta-clause-after
+returns-in-Delta-clause-after c = by c.delta_of.result c.delta_of.ensures.unchanged
+  where
+    state : (s : State) → state_or s (outcome s c.args.command.now) ≡ s
+    state s = ap (λ (k : Command). state_or s (outcome s k)) c.in-Delta.is ∙ stays s _
+
+    by : (answer : Result Written Fault) → IfOk answer (λ made. made.project ≡ c.args.project.now)
+        → IfOk answer (λ made. (s : State) → project_at c.args.project.now ≡ Ok s
+        → project_at made.project ≡ Ok (state_or s (outcome s c.args.command.now)))
+    by (Ok made) same = λ s loads. ap project_at same ∙ loads ∙ ap Ok (sym (state s))
+    by (Err fault) same = tt
 
 pub returns-in_err-replica-clause-memory : goal.returns-in_err-replica-clause-memory
 returns-in_err-replica-clause-memory c = λ e s loads none.

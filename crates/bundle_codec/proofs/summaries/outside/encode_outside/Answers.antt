@@ -1,27 +1,20 @@
-use Rattle.std.proofs.Common.{◌≡◌, Bool, not, ◌||◌, List, sym, ◌∙◌, arith}
-use Rattle.usfm_ref.specs.Segments.{Segment}
-use Rattle.op_core.specs.Ops.{Operation}
-use Rattle.op_core.specs.Thinned.{is_sent, lacks_thinned}
+use Rattle.std.proofs.Common.{◌∙◌, arith}
+use Rattle.op_core.specs.Thinned.{is_sent}
 use Rattle.op_core.proofs.Legal.{delta_legal}
-use Rattle.bundle_codec.specs.Summaries.{NameRanges, covers, outside, has_segment}
+use Rattle.bundle_codec.specs.Summaries.{covers, outside}
 use Rattle.bundle_codec.proofs.Refronted.{has_front}
 use Rattle.bundle_codec.proofs.Wholes.{whole_reads}
-use Rattle.bundle_codec.proofs.LackedSegments.{Segments}
+use Rattle.bundle_codec.proofs.LackedSegments.{asked}
 use Rattle.bundle_codec.proofs.Outside.{outside_set, counted_some, goes_past, written_all, is_bundle}
 use Rattle.bundle_codec.proofs.summaries.outside.encode_outside.Goals as goal
-
--- whether an operation is sent, as it is tested
-asked : (set : List Operation) (summary coverage : List NameRanges) (whole : Segments) (o : Operation) (r : Bool) → coverage ≡ summary
-    → ((g : Segment) → has_segment whole g ≡ lacks_thinned set (covers summary) g)
-    → r ≡ (not (covers coverage o.id) || has_segment whole o.segment) → is_sent set (covers summary) o ≡ r
-asked set summary coverage whole o r same lacks e = sym (e ∙ (λ i. not (covers (same i) o.id) || lacks o.segment i))
 
 pub overflow_sub-count : goal.overflow_sub-count
 overflow_sub-count c =
     counted_some (is_sent c.args.set.now (covers c.args.summary.now)) c.args.set.now c.loop-op.op-iterator c.next.new.self c.in-Some.op.now
     c.loop-op.bytes.items c.loop-op.full c.loop-op.count c.in-Some.ensures.steps c.loop-op.invariant.1
-    (asked c.args.set.now c.args.summary.now c.loop-op.coverage c.in_ok-whole.whole c.in-Some.op.now c.is_sent.result c.loop-op.invariant.0
-    c.in_ok-whole.ensures c.is_sent.ensures.answer ∙ c.if-is_sent.false)
+    (asked c.args.set.now c.args.summary.now c.loop-op.coverage c.in_ok-whole.whole c.in-Some.op.now c.is_sent.result c.id.result
+    c.id.ensures.id c.book.ensures c.key.ensures c.loop-op.invariant.0 c.in_ok-whole.ensures c.is_sent.ensures.answer
+    ∙ c.if-is_sent.false)
 
 pub loop-op-preserved : goal.loop-op-preserved
 loop-op-preserved c = (
@@ -29,8 +22,8 @@ loop-op-preserved c = (
   goes_past (is_sent c.args.set.now (covers c.args.summary.now)) c.args.set.now c.loop-op.op-iterator c.next.new.self c.in-Some.op.now
       c.loop-op.bytes.items c.loop-op.full c.loop-op.count c.in-Some.ensures.steps c.loop-op.invariant.1
       (asked c.args.set.now c.args.summary.now c.loop-op.coverage c.in_ok-whole.whole c.in-Some.op.now c.is_sent.result
-      c.loop-op.invariant.0
-      c.in_ok-whole.ensures c.is_sent.ensures.answer ∙ c.if-is_sent.false),
+      c.id.result c.id.ensures.id c.book.ensures c.key.ensures c.loop-op.invariant.0 c.in_ok-whole.ensures c.is_sent.ensures.answer
+      ∙ c.if-is_sent.false),
 )
 
 pub set_front-requires : goal.set_front-requires

@@ -1,7 +1,7 @@
 use Rattle.std.proofs.Common.{◌≡◌, ◌++◌, ◌∷◌, [], ◌-◌, ◌+◌, Ok, Some, Vec, Global, subst}
 use Rattle.std.specs.Option.{IsSomeAnd, option_copied}
 use Rattle.std.proofs.lemmas.Result.{err_from_is_err_and}
-use Rattle.bundle_codec.specs.Reading.{many_at, after}
+use Rattle.bundle_codec.specs.Reading.{many_at, ahead}
 use Rattle.bundle_codec.specs.Summaries.{NameRanges}
 use Rattle.bundle_codec.specs.SummaryReading.{name_ranges_at, after_name, names_at}
 use Rattle.bundle_codec.proofs.Loops.{goes_on, fails, is_done}
@@ -13,7 +13,7 @@ returns-in_err-name-clause-rest c =
     let p = err_from_is_err_and c.from_residual.result c.from_residual.ensures.1 in
     rw (p.1, p.2) (fails name_ranges_at after_name c.args.count c.loop.counter
     (option_copied c.loop.before) c.loop.rest.now c.in_err-name.field-0.0
-    (after (names_at c.args.count c.args.bytes.now)) c.loop-test.true
+    (ahead (names_at c.args.count c.args.bytes.now)) c.loop-test.true
     (named_fails (name_ranges_at (option_copied c.loop.before) c.loop.rest.now) c.in_err-name.field-0.0 c.in_err-name.ensures.rest)
     c.loop.invariant.0)
 
@@ -21,11 +21,11 @@ pub loop-preserved : goal.loop-preserved
 loop-preserved c =
     let k = named_so (name_ranges_at (option_copied c.loop.before) c.loop.rest.now) c.in_ok-name.name.now c.in_ok-name.left.now
     c.in_ok-name.ensures.rest in (
-      subst (λ n. after (many_at name_ranges_at after_name (c.args.count - (c.loop.counter + 1)) (Some n) c.in_ok-name.left.now)
-          ≡ after (names_at c.args.count c.args.bytes.now)) k.named
+      subst (λ n. ahead (many_at name_ranges_at after_name (c.args.count - (c.loop.counter + 1)) (Some n) c.in_ok-name.left.now)
+          ≡ ahead (names_at c.args.count c.args.bytes.now)) k.named
           (goes_on name_ranges_at after_name c.args.count c.loop.counter
           (option_copied c.loop.before) c.loop.rest.now k.one c.in_ok-name.left.now
-          (after (names_at c.args.count c.args.bytes.now)) c.loop-test.true k.is_read c.loop.invariant.0),
+          (ahead (names_at c.args.count c.args.bytes.now)) c.loop-test.true k.is_read c.loop.invariant.0),
       kept_more
           (λ (v : Vec NameRanges Global). names_at c.args.count c.args.bytes.now
           ≡ after_kept v.items (many_at name_ranges_at after_name (c.args.count - c.loop.counter)
@@ -44,7 +44,7 @@ loop-preserved c =
 
 pub returns-clause-rest : goal.returns-clause-rest
 returns-clause-rest c = is_done name_ranges_at after_name c.args.count c.loop.counter (option_copied c.loop.before) c.loop.rest.now
-    (after (names_at c.args.count c.args.bytes.now)) c.loop-test.false c.loop.invariant.0
+    (ahead (names_at c.args.count c.args.bytes.now)) c.loop-test.false c.loop.invariant.0
 
 pub returns-clause-kept : goal.returns-clause-kept
 returns-clause-kept c = if_some

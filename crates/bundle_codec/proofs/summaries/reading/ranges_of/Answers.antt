@@ -1,7 +1,7 @@
 use Rattle.std.proofs.Common.{◌≡◌, ◌++◌, ◌∷◌, [], ◌-◌, ◌+◌, Ok, Some, Vec, Global}
 use Rattle.std.proofs.lemmas.Result.{err_from_is_err_and}
 use Rattle.bundle_codec.specs.declared.summaries.range.NumberRange.{NumberRange}
-use Rattle.bundle_codec.specs.Reading.{many_at, after}
+use Rattle.bundle_codec.specs.Reading.{many_at, ahead}
 use Rattle.bundle_codec.specs.SummaryReading.{range_at, after_range, ranges_at}
 use Rattle.bundle_codec.proofs.Loops.{goes_on, fails, is_done}
 use Rattle.bundle_codec.proofs.SummaryLoops.{after_kept, kept_on, kept_done, if_some, kept_more}
@@ -11,12 +11,12 @@ pub returns-in_err-range-clause-rest : goal.returns-in_err-range-clause-rest
 returns-in_err-range-clause-rest c =
     let p = err_from_is_err_and c.from_residual.result c.from_residual.ensures.1 in
     rw (p.1, p.2) (fails range_at after_range c.args.count c.loop.counter c.loop.before c.loop.rest.now c.in_err-range.field-0.0
-    (after (ranges_at c.args.count c.args.bytes.now)) c.loop-test.true c.in_err-range.ensures c.loop.invariant.0)
+    (ahead (ranges_at c.args.count c.args.bytes.now)) c.loop-test.true c.in_err-range.ensures c.loop.invariant.0)
 
 pub loop-preserved : goal.loop-preserved
 loop-preserved c = (
   goes_on range_at after_range c.args.count c.loop.counter c.loop.before c.loop.rest.now c.in_ok-range.range c.in_ok-range.left.now
-      (after (ranges_at c.args.count c.args.bytes.now)) c.loop-test.true c.in_ok-range.ensures c.loop.invariant.0,
+      (ahead (ranges_at c.args.count c.args.bytes.now)) c.loop-test.true c.in_ok-range.ensures c.loop.invariant.0,
   kept_more
       (λ (v : Vec NumberRange Global). ranges_at c.args.count c.args.bytes.now
       ≡ after_kept v.items (many_at range_at after_range (c.args.count - c.loop.counter) c.loop.before c.loop.rest.now))
@@ -32,7 +32,7 @@ loop-preserved c = (
 
 pub returns-clause-rest : goal.returns-clause-rest
 returns-clause-rest c = is_done range_at after_range c.args.count c.loop.counter c.loop.before c.loop.rest.now
-    (after (ranges_at c.args.count c.args.bytes.now)) c.loop-test.false c.loop.invariant.0
+    (ahead (ranges_at c.args.count c.args.bytes.now)) c.loop-test.false c.loop.invariant.0
 
 pub returns-clause-kept : goal.returns-clause-kept
 returns-clause-kept c = if_some

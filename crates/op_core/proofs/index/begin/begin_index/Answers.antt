@@ -11,7 +11,7 @@ runs-init c = none_begun c.args.new.now c.args.turns.now c.new-chapters.result.i
 
 pub put_in-requires-clause-absent : goal.put_in-requires-clause-absent
 put_in-requires-clause-absent c =
-    ap (λ (k : KeyParts). register_of (segment c.in-Some.first.now.book k) c.runs.chapters.items) c.in_ok-register.ensures.key
+    ap (λ (k : KeyParts). register_of (segment c.in-Some.first.now.segment.book k) c.runs.chapters.items) c.in_ok-register.ensures.key
     ∙ none_yet c.args.new.now c.args.turns.now c.runs.chapters.items c.runs.rest.now c.in-Some.others.now c.in-Some.first.now
     c.runs.invariant c.in-Some.ensures.cases.0
 
@@ -22,7 +22,7 @@ runs-preserved c =
     c.in_ok-register.register
     c.runs.invariant c.in-Some.ensures.cases.0 c.split_at.ensures.front c.split_at.ensures.back c.run_len-len.ensures.own
     c.run_len-len.ensures.later c.in_ok-register.ensures.begun
-    (subst (λ (k : KeyParts). Changes (segment c.in-Some.first.now.book k) c.in_ok-register.register c.runs.chapters.items
+    (subst (λ (k : KeyParts). Changes (segment c.in-Some.first.now.segment.book k) c.in_ok-register.register c.runs.chapters.items
     c.put_in.new.chapters.items) c.in_ok-register.ensures.key c.in_ok-put_in.ensures.ok)
 
 pub returns : goal.returns

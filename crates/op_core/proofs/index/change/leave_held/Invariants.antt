@@ -1,11 +1,10 @@
 use Rattle.std.proofs.Common.{◌≤◌, not}
 use Rattle.std.proofs.lemmas.List.Filters.{FiltersInPlace}
-use Rattle.usfm_ref.specs.Segments.{segment}
 use Rattle.op_core.specs.Loops.Index.{is_in}
 use Rattle.op_core.proofs.index.change.leave_held.Given as goal
 
 abbrev pub invariant-loop-i : goal.invariant-loop-i
 invariant-loop-i l = record {
-  filters : FiltersInPlace (λ i. not (is_in l.held (segment l.book l.key) i)) l.initial.ids.items l.ids.items l.kept l.i;
+  filters : FiltersInPlace (λ i. not (is_in l.held l.segment i)) l.initial.ids.items l.ids.items l.kept l.i;
   within : l.kept ≤ l.i;
 }

@@ -11,24 +11,24 @@ returns-then-is_laid-clause-same c = readies_same _ c.requires
 
 pub returns-then-is_laid-clause-there : goal.returns-then-is_laid-clause-there
 returns-then-is_laid-clause-there c =
-    ap (is_there (segment c.args.book c.args.key)) (sym c.deref.ensures.value) ∙ sym c.is_laid.ensures ∙ c.if-is_laid.true
+    ap (is_there c.args.segment.now) (sym c.deref.ensures.value) ∙ sym c.is_laid.ensures ∙ c.if-is_laid.true
 
 pub put_in-requires-clause-absent : goal.put_in-requires-clause-absent
 put_in-requires-clause-absent c =
-    let none : is_there (segment c.args.book c.args.key) c.args.chapters.now.items ≡ false =
-    ap (is_there (segment c.args.book c.args.key)) (sym c.deref.ensures.value) ∙ sym c.is_laid.ensures ∙ c.if-is_laid.false in
-    ap (λ (k : KeyParts). register_of (segment c.args.book k) c.args.chapters.now.items) c.new-register.ensures.key
-    ∙ not_there (segment c.args.book c.args.key) c.args.chapters.now.items none
+    let none : is_there c.args.segment.now c.args.chapters.now.items ≡ false =
+    ap (is_there c.args.segment.now) (sym c.deref.ensures.value) ∙ sym c.is_laid.ensures ∙ c.if-is_laid.false in
+    ap (λ (k : KeyParts). register_of (segment c.args.segment.now.book k) c.args.chapters.now.items) c.new-register.ensures.key
+    ∙ not_there c.args.segment.now c.args.chapters.now.items none
 
 pub returns-clause-same : goal.returns-clause-same
 returns-clause-same c =
     let r = c.new-register.result in
-    let none : is_there (segment c.args.book c.args.key) c.args.chapters.now.items ≡ false =
-    ap (is_there (segment c.args.book c.args.key)) (sym c.deref.ensures.value) ∙ sym c.is_laid.ensures ∙ c.if-is_laid.false in
-    let gone = ap (λ (k : KeyParts). register_of (segment c.args.book k) c.args.chapters.now.items) c.new-register.ensures.key
-    ∙ not_there (segment c.args.book c.args.key) c.args.chapters.now.items none in
+    let none : is_there c.args.segment.now c.args.chapters.now.items ≡ false =
+    ap (is_there c.args.segment.now) (sym c.deref.ensures.value) ∙ sym c.is_laid.ensures ∙ c.if-is_laid.false in
+    let gone = ap (λ (k : KeyParts). register_of (segment c.args.segment.now.book k) c.args.chapters.now.items) c.new-register.ensures.key
+    ∙ not_there c.args.segment.now c.args.chapters.now.items none in
     either c.put_in.result
-    (λ p. readies_put (segment c.args.book r.key) r c.args.chapters.now.items _ p gone c.new-register.ensures.shown
+    (λ p. readies_put (segment c.args.segment.now.book r.key) r c.args.chapters.now.items _ p gone c.new-register.ensures.shown
     c.new-register.ensures.missing)
     (λ s. readies_like c.args.chapters.now.items _ s) c.put_in.ensures.ok c.put_in.ensures.err
 
@@ -36,5 +36,6 @@ pub returns-clause-there : goal.returns-clause-there
 returns-clause-there c =
     let r = c.new-register.result in
     map_ok c.put_in.result
-    (λ p. subst (λ (n : KeyParts). is_there (segment c.args.book n) c.put_in.new.chapters.items ≡ true) c.new-register.ensures.key
-    (there_itself (segment c.args.book r.key) r c.args.chapters.now.items _ p)) c.put_in.ensures.ok
+    (λ p. subst (λ (n : KeyParts). is_there (segment c.args.segment.now.book n) c.put_in.new.chapters.items ≡ true)
+    c.new-register.ensures.key
+    (there_itself (segment c.args.segment.now.book r.key) r c.args.chapters.now.items _ p)) c.put_in.ensures.ok

@@ -4,7 +4,7 @@ use Rattle.usfm_ref.specs.Keys.{head_of, key_cmp}
 use Rattle.usfm_ref.proofs.Orders.{key_total, same_key-is}
 use Rattle.usfm_ref.proofs.Sorted.{place}
 use Rattle.op_core.specs.Loops.Index.{begins_above}
-use Rattle.op_core.specs.declared.register.Register.{Register}
+use Rattle.op_core.specs.declared.index.register.Register.{Register}
 use Rattle.op_core.proofs.Between.{rises_front}
 use Rattle.op_core.proofs.Laid.{keys_moved, key_more}
 use Rattle.op_core.proofs.index.lay.merge_registers.Goals as goal
@@ -19,7 +19,7 @@ pub laying-preserved-then-is_key_under : goal.laying-preserved-then-is_key_under
 laying-preserved-then-is_key_under c =
     let h = c.laying.invariant in
     let m = c.move_after.ensures in
-    let key = c.in-Some.spot.now.key in
+    let key = c.in-Some.segment.now.key in
     let n = c.place_register-at.result in
     let y : Register = c.new.result in
     let is : y.key ≡ key = c.new.ensures.key in

@@ -1,5 +1,4 @@
 use Rattle.std.proofs.Common.{refl, sym}
-use Rattle.usfm_ref.specs.Segments.{segment}
 use Rattle.op_core.specs.Loops.Index.{among, register_of, shown_in, missing_in}
 use Rattle.op_core.specs.Loops.Turns.{comes, is_called}
 use Rattle.op_core.proofs.IdSets.{if_ok}
@@ -12,19 +11,19 @@ ready-requires-clause-orderly c = c.lay.ensures.same.orderly
 
 pub ready-requires-clause-shown : goal.ready-requires-clause-shown
 ready-requires-clause-shown c = ready_shown c.args.held.now c.args.chapters.now.items c.lay.new.chapters.items c.requires.held
-    c.requires.index c.lay.ensures.same (segment c.args.first.book c.args.first.key)
+    c.requires.index c.lay.ensures.same c.args.segment.now
 
 pub ready-requires-clause-missing : goal.ready-requires-clause-missing
 ready-requires-clause-missing c = ready_missing c.args.held.now c.args.chapters.now.items c.lay.new.chapters.items c.requires.index
-    c.lay.ensures.same (segment c.args.first.book c.args.first.key)
+    c.lay.ensures.same c.args.segment.now
 
 pub returns-clause-same : goal.returns-clause-same
 returns-clause-same c = readies_more c.args.chapters.now.items c.lay.new.chapters.items c.ready.new.chapters.items c.lay.ensures.same
-    (readies_at (segment c.args.first.book c.args.first.key) c.lay.new.chapters.items c.ready.new.chapters.items c.ready.ensures.same)
+    (readies_at c.args.segment.now c.lay.new.chapters.items c.ready.new.chapters.items c.ready.ensures.same)
 
 pub returns-clause-change : goal.returns-clause-change
 returns-clause-change c =
-    let g = segment c.args.first.book c.args.first.key in
+    let g = c.args.segment.now in
     let r = readies_at g c.lay.new.chapters.items c.ready.new.chapters.items c.ready.ensures.same in
     if_ok c.ready.result
     (λ ch k. change_told c.args.held.now g g (among c.gather_arrived.new.ids.items) (comes c.args.new.now c.args.own.now)

@@ -1,6 +1,6 @@
 use Rattle.std.proofs.Common.{◌≡◌, true, vec_len, Some}
 use Rattle.std.specs.List.{AllByRecursion}
-use Rattle.usfm_ref.specs.Segments.{Segment}
+use Rattle.usfm_ref.specs.declared.segment.Segment.{Segment}
 use Rattle.op_core.specs.Loops.Index.{register_of, change_at, IsOrderly, IsRisingChange}
 use Rattle.op_core.specs.Loops.Changes.{change_for, AllHaveRoom}
 use Rattle.op_core.specs.declared.index.change.Change.{Change}

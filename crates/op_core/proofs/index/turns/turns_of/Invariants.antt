@@ -1,6 +1,6 @@
 use Rattle.std.proofs.Common.{◌≡◌, Bool, ◌&&◌, take}
 use Rattle.std.specs.List.{list_any}
-use Rattle.usfm_ref.specs.Segments.{Segment}
+use Rattle.usfm_ref.specs.declared.segment.Segment.{Segment}
 use Rattle.op_core.specs.Ops.{Operation}
 use Rattle.op_core.specs.Loops.Turns.{turn_at, is_at}
 use Rattle.op_core.proofs.index.turns.turns_of.Given as goal

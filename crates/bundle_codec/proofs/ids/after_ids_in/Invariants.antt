@@ -1,7 +1,0 @@
-use Rattle.std.proofs.Common.{◌≡◌, ◌-◌}
-use Rattle.bundle_codec.specs.Reading.{after}
-use Rattle.bundle_codec.specs.Views.{each_id_at}
-use Rattle.bundle_codec.proofs.ids.after_ids_in.Given as goal
-
-abbrev pub invariant-loop : goal.invariant-loop
-invariant-loop l = after (each_id_at (l.count - l.counter) l.rest) ≡ after (each_id_at l.count l.bytes)

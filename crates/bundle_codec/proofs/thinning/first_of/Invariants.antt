@@ -1,5 +1,0 @@
-use Rattle.bundle_codec.proofs.Unnamed.{SoFarFirst}
-use Rattle.bundle_codec.proofs.thinning.first_of.Given as goal
-
-abbrev pub invariant-loop-k : goal.invariant-loop-k
-invariant-loop-k l = SoFarFirst l.thinned l.fn.ops l.ops l.k l.count

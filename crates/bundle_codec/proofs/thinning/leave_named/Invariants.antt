@@ -1,5 +1,0 @@
-use Rattle.bundle_codec.proofs.Unnamed.{SoFarLeft}
-use Rattle.bundle_codec.proofs.thinning.leave_named.Given as goal
-
-abbrev pub invariant-loop-op : goal.invariant-loop-op
-invariant-loop-op l = SoFarLeft l.fn.ops l.op-iterator l.fn.thinned l.thinned

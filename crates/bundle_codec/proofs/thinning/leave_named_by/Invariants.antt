@@ -1,5 +1,0 @@
-use Rattle.bundle_codec.proofs.Unnamed.{SoFarNamed}
-use Rattle.bundle_codec.proofs.thinning.leave_named_by.Given as goal
-
-abbrev pub invariant-loop-id : goal.invariant-loop-id
-invariant-loop-id l = SoFarNamed l.op l.op.replaced l.id-iterator l.fn.thinned l.thinned

@@ -1,0 +1,100 @@
+ghost use Rattle.std.specs.Prelude.{◌≡◌, ◌∷◌, [], MatchOption};
+ghost use Rattle.std.specs.Iterator.{YieldsFirst, item_count};
+ghost use Rattle.op_core.specs.Loops.Index.{chapter_keys, kept_keys, keys_left};
+
+use super::chapter::Chapter;
+use super::register::Register;
+use std::marker::Model;
+use usfm_ref::{Book, Key};
+
+/// The keys of a book with an operation, rising, each once. Made by `OpSet::keys`; it takes no memory.
+#[derive(Debug, Drop)]
+pub struct Keys<'a> {
+    book: Book,
+    registers: &'a [Register],
+    chapters: &'a [Chapter],
+}
+
+impl<'a> Model for Keys<'a> {
+    ghost use Rattle.std.specs.Prelude.{List};
+    ghost use Rattle.usfm_ref.specs.Keys.{KeyParts};
+    ghost use Rattle.op_core.specs.Loops.Index.{keys_left};
+
+    ghost Value = { List KeyParts };
+
+    ghost view = { λ s. keys_left s.book s.registers.now s.chapters.now };
+}
+
+impl<'a> Keys<'a> {
+    pub(crate) fn new(book: Book, chapters: &'a [Chapter]) -> Keys<'a>
+        ensures { result ≡ chapter_keys book chapters.now }
+    {
+        let registers: &[Register] = &[];
+        Keys {
+            book,
+            registers,
+            chapters,
+        }
+    }
+}
+
+impl<'a> Iterator for Keys<'a> {
+    type Item = Key;
+
+    ghost next_gives = { YieldsFirst (λ s. s) };
+
+    ghost remaining = { item_count (λ s. s) };
+
+    fn next(&mut self) -> Option<Key> {
+        let Some((key, registers, chapters)) = next_key(self.book, self.registers, self.chapters)
+        else {
+            return None;
+        };
+        self.registers = registers;
+        self.chapters = chapters;
+        Some(key)
+    }
+}
+
+// The next key of the book, and what is left after it.
+fn next_key<'a>(
+    book: Book,
+    registers: &'a [Register],
+    chapters: &'a [Chapter],
+) -> Option<(Key, &'a [Register], &'a [Chapter])>
+    ensures { MatchOption result (keys_left book registers.now chapters.now ≡ [])
+        (λ x. keys_left book registers.now chapters.now ≡ x.0 ∷ keys_left book x.1.now x.2.now) }
+{
+    let mut registers = registers;
+    let mut chapters = chapters;
+    'chapters: while let Some((chapter, later)) = chapters.split_first() {
+        if let Some((key, rest)) = first_kept(registers) {
+            return Some((key, rest, chapters));
+        }
+        registers = if chapter.book == book {
+            &chapter.registers
+        } else {
+            &[]
+        };
+        chapters = later;
+    }
+    match first_kept(registers) {
+        None => None,
+        Some((key, rest)) => Some((key, rest, chapters)),
+    }
+}
+
+// The key of the first register that shows an id, and the registers after it.
+fn first_kept(registers: &[Register]) -> Option<(Key, &[Register])>
+    ensures { MatchOption result (kept_keys registers.now ≡ [])
+        (λ x. kept_keys registers.now ≡ x.0 ∷ kept_keys x.1.now) }
+{
+    let mut left = registers;
+    'registers: while let Some((first, rest)) = left.split_first() {
+        if !first.shown.is_empty() {
+            return Some((first.key, rest));
+        }
+        left = rest;
+    }
+    None
+}

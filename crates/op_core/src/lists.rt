@@ -1,0 +1,4 @@
+// Sets as lists, without an index: operations that rise by id, searched and merged.
+pub(crate) mod finder;
+pub(crate) mod merge;
+pub(crate) mod place;
