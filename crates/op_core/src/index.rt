@@ -6,7 +6,8 @@ ghost use Rattle.op_core.specs.Ids.{ids_rise, same_id};
 ghost use Rattle.op_core.specs.Thinned as thinned;
 ghost use Rattle.op_core.specs.Sets as sets;
 ghost use Rattle.op_core.specs.Sets.{IsOpSet};
-ghost use Rattle.op_core.specs.Loops.Index.{register_of, shown_in, IsOrderly, IsIndex, AreApart, Changes, Same};
+ghost use Rattle.op_core.specs.Loops.Index.{register_of, shown_in, IsOrderly, IsIndex, AreApart};
+ghost use Rattle.op_core.specs.Loops.Index.{Changes, Same};
 
 mod awaited;
 mod begin;

@@ -1,4 +1,5 @@
-ghost use Rattle.std.specs.Prelude.{◌≡◌, ◌≢◌, ◌&&◌, ◌||◌, ◌+◌, ◌≤◌, ◌↔◌, [], ◌∷◌, length, map, not, is_none};
+ghost use Rattle.std.specs.Prelude.{◌≡◌, ◌≢◌, ◌&&◌, ◌||◌, ◌+◌, ◌≤◌, ◌↔◌, [], ◌∷◌, length, map};
+ghost use Rattle.std.specs.Prelude.{not, is_none};
 ghost use Rattle.std.specs.Prelude.{None, IsTrue, IsOk, IfOk, IfErr, OnOk, OnErr};
 ghost use Rattle.std.specs.Option.{option_copied};
 ghost use Rattle.usfm_ref.specs.Segments.{segment};

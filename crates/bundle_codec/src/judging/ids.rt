@@ -5,7 +5,8 @@ ghost use Rattle.std.specs.Iterator.{YieldsFirst, item_count};
 ghost use Rattle.op_core.specs.Names.{is_name, is_name_char};
 ghost use Rattle.std.specs.Cmp.Lexicographic.{pointwise};
 ghost use Rattle.op_core.specs.Ids.{id_cmp, is_id, same_id};
-ghost use Rattle.bundle_codec.specs.Reading.{Gives, id_at, comes_after, named_at, after_id, many_at, replaced_at, ahead};
+ghost use Rattle.bundle_codec.specs.Reading.{Gives, id_at, comes_after, named_at, after_id};
+ghost use Rattle.bundle_codec.specs.Reading.{many_at, replaced_at, ahead};
 ghost use Rattle.bundle_codec.specs.Views.{id_view, each_id_at, ids_at, ids_view};
 
 use super::fields::{block_in, block_of, u8_at, u8_in, u64_at, u64_in};
