@@ -170,8 +170,9 @@ fn bundle_of(alloc: Global, bytes: &[u8]) -> Result<(Bundle<'_>, &[u8]), BundleF
 ///
 /// # Errors
 /// The first field from left to right that is cut or breaks its rule, by `BundleFault`. A field is
-/// judged once it is whole, before the next one is looked at. After them all comes the first thinned
-/// operation that none of its segment names, and in its place `Memory` where a growth was refused.
+/// judged once it is whole, before the next one is looked at. After them all comes, of format 2, that
+/// no operation is thinned (`Unsupported(0)`), or the first thinned operation that none of its segment
+/// names, and in the place of this one `Memory` where a growth was refused.
 pub fn decode(alloc: Global, bytes: &[u8]) -> Result<(Bundle<'_>, usize), BundleFault>
     // What is read is a legal set of operations, and spelled so.
     ensures set { IfOk result (λ x. IsOpSet x.0) }

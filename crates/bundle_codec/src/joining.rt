@@ -26,8 +26,8 @@ use std::alloc::Global;
 /// # Errors
 /// - `Bundle` with the refusal of the first bytes, as `decode_whole` answers it, or else with that of
 ///   the second.
-/// - `Clash` with the least id under which the two have operations that do not agree: that are not
-///   equal, or of which one is thinned and that are not equal but for their texts.
+/// - `Clash` with the least id under which the two have operations that do not agree: their segments or
+///   the ids that they name differ, or both have a text and these differ.
 /// - `Memory` where a growth was refused.
 pub fn join_bundles(alloc: Global, first: &[u8], second: &[u8]) -> Result<Vec<u8>, JoinFault>
     ensures joined { IfOk result (λ bytes.

@@ -10,7 +10,7 @@ pub enum FindFault {
     /// The needle is empty.
     #[error("the needle is empty")]
     EmptyNeedle,
-    /// There is no memory for the hits.
+    /// A growth was refused.
     #[error("out of memory")]
     Memory,
 }

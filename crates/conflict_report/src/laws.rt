@@ -9,8 +9,8 @@ pub fn empty_reports()
     ensures { laws.EmptyReports }
 {}
 
-/// Replicas that received bundles with the same operations together, in whatever order, grouping and
-/// repetition, give the same report.
+/// Replicas that received bundles with the same operations together, none of them refused, in
+/// whatever order, grouping and repetition, give the same report.
 pub fn same_bundles_same_reports()
     ensures { laws.SameBundlesSameReports }
 {}

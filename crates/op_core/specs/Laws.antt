@@ -124,7 +124,7 @@ ThinnedAgree way =
     o.id ≡ thinned.id → p.id ≡ thinned.id → agree o p ≡ true
 
 -- Sets that have the same operations together, and in which no id of a thinned operation has two operations, are joined either
--- way, or refused either way. An id of full operations may stand for two: then they are refused.
+-- way, or refused either way. An id of full operations may have two: then they are refused.
 abbrev pub RefusedAlike : Type 0
 RefusedAlike =
     (one other : Joining) → AreSets one → AreSets other → SameOperations one other

@@ -275,7 +275,7 @@ PutHeld =
     → agree p o ≡ true → is_full o ≡ true
     → put o held ≡ held
 
--- where the thinned ones are among those that a set's own operations name, it is legal still, and it stands for what it did
+-- a legal set, of which each operation whose id passes is past, is legal still without their texts
 abbrev pub ThinWhereIsLegal : Type 0
 ThinWhereIsLegal =
     (s : List Operation) (p : Id → Bool) → rises s ≡ true → is_legal s ≡ true → ArePast p s

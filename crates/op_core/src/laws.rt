@@ -60,13 +60,13 @@ pub fn no_clash_agrees()
 {}
 
 /// Two ways of joining sets that have the same operations together are refused alike, where no id of
-/// a thinned operation stands for two.
+/// a thinned operation has two operations.
 pub fn refused_alike()
     ensures { laws.RefusedAlike }
 {}
 
-/// Sets that have the same operations together, joined in whatever order, grouping and repetition,
-/// have one union, and so one export of every book.
+/// Sets that have the same operations together, joined in whatever order, grouping and repetition and
+/// not refused, have one union, and so one export of every book.
 pub fn equal_unions_export_alike()
     ensures { laws.EqualUnionsExportAlike }
 {}
@@ -172,7 +172,7 @@ pub fn says_same()
     ensures { thin_laws.SaysSame }
 {}
 
-/// A new full operation keeps what stands for what.
+/// Where a set stands for a full one, it does so still once both take in a new full operation.
 pub fn put_stands()
     ensures { thin_laws.PutStands }
 {}
@@ -187,12 +187,12 @@ pub fn full_groupings_alike()
     ensures { thin_laws.FullGroupingsAlike }
 {}
 
-/// Sets with equal skeletons stand for one set.
+/// Sets with equal skeletons that stand for full sets which do not clash stand for one set.
 pub fn same_skeleton_one_whole()
     ensures { thin_laws.SameSkeletonOneWhole }
 {}
 
-/// Sets with equal skeletons show the same.
+/// Sets with equal skeletons that stand for full sets which do not clash show the same.
 pub fn same_skeleton_shows_same()
     ensures { thin_laws.SameSkeletonShowsSame }
 {}
@@ -212,7 +212,8 @@ pub fn full_delta()
     ensures { thin_laws.FullDelta }
 {}
 
-/// What is sent to a set is not refused there, and adds what the whole adds, but for texts.
+/// Of two sets that do not clash, what one sends to the other for ids that this one holds is not
+/// refused there, and adds what the whole adds, but for texts.
 pub fn delta_joins()
     ensures { thin_laws.DeltaJoins }
 {}
@@ -243,7 +244,7 @@ pub fn put_held()
     ensures { thin_laws.PutHeld }
 {}
 
-/// Texts of operations that are named may be left out.
+/// A legal set stays legal where texts of operations are left out that others of their segments name.
 pub fn thin_where_is_legal()
     ensures { thin_laws.ThinWhereIsLegal }
 {}

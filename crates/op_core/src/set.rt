@@ -183,7 +183,7 @@ impl OpSet {
 
     /// Adds operations that rise by id and of which none is held, and says how many they are. In the
     /// union each thinned operation has to be named by one of its segment. What lies after the first
-    /// of them is moved once, however many they are. No operation takes no memory.
+    /// of them is moved once, however many they are. Where there are none, it takes no memory.
     ///
     /// # Errors
     /// Out of memory alone. The set is then unchanged, and the operations dropped.
@@ -249,8 +249,9 @@ impl OpSet {
         Ok(ids)
     }
 
-    /// How many comparisons the calls made that change the set: each of two ids or of two segments
-    /// adds one, up to `u64::MAX`. It is no part of the set, and may rise in a refused call.
+    /// How many comparisons the calls that change the set made to find what they change: each of two
+    /// ids or of two segments adds one, up to `u64::MAX`. Whether two operations of one id agree is
+    /// not counted. It is no part of the set, and may rise in a refused call.
     pub fn compared(&self) -> u64 {
         self.search.compared
     }
@@ -276,7 +277,7 @@ impl OpSet {
         Ok(shown)
     }
 
-    /// What stands for the segment's text in its book's export: the chapter's own line for a head
+    /// What is picked for the segment's text in its book's export: the chapter's own line for a head
     /// from chapter 1 on whose text would be empty while some verse of the chapter has a text, else
     /// the shown operation with the greatest id, if there is one. It takes no memory.
     pub fn pick(&self, book: Book, key: Key) -> Picked<'_>

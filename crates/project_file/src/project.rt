@@ -45,8 +45,8 @@ pub fn create(alloc: Global, name: &str) -> Result<Vec<u8>, CreateFault>
 
 /// The replica whose project file the bytes are. It is a copy: nothing is lent from the bytes.
 ///
-/// The name is judged before any memory is taken, and so is the bundle, but for what a thinned
-/// operation may be. Nothing goes by a count that the bytes state.
+/// The name is judged before any memory is taken, and so is the bundle, but for whether each thinned
+/// operation is named. Nothing goes by a count that the bytes state.
 ///
 /// # Errors
 /// - `BadProject` (110) where the magic or the name is cut or wrong.
@@ -79,7 +79,8 @@ pub fn load(alloc: Global, bytes: &[u8]) -> Result<Replica, LoadFault>
 }
 
 /// The replica whose project file the bytes are, with the operations of one book alone. All of the
-/// file is judged, as `load` does, but only what is of the book is copied.
+/// file is judged, as `load` does, but only what is of the book is copied. It is to be looked at alone:
+/// an edit of it may give an id that the project has in another book.
 ///
 /// # Errors
 /// Those of `load`. `Memory` (1) is not answered where the book has no operation and none of any book
@@ -161,8 +162,8 @@ impl Project<'_> {
 
 /// The project file that the bytes are. What it holds stays lent from them.
 ///
-/// The name is judged before any memory is taken, and so is the bundle, but for what a thinned
-/// operation may be. Nothing goes by a count that the bytes state.
+/// The name is judged before any memory is taken, and so is the bundle, but for whether each thinned
+/// operation is named. Nothing goes by a count that the bytes state.
 ///
 /// # Errors
 /// Those of `load`. `Memory` (1) is answered only where each field of the bundle is right and an

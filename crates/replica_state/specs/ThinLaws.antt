@@ -1,4 +1,4 @@
--- Laws of replicas that hold thinned operations (this project's own rule): a thinned operation stands for the one that it was,
+-- Laws of replicas that hold thinned operations (this project's own rule): a thinned operation counts as the one that it was,
 -- so that sets are the same here where they are equal but for texts left out.
 use Rattle.std.specs.Prelude.{◌≡◌, ℕ, Bool, List, [], length, Ok}
 use Rattle.std.specs.List.{list_any, AllByRecursion}

@@ -10,7 +10,7 @@ use std::alloc::{AllocError, AllocFailed};
 use thiserror::Error;
 use verse_cut::BookFault;
 
-/// Why a replica did not take a bundle in. The replica is then unchanged.
+/// Why a bundle was not taken in. A replica is then unchanged, and a gathering is dropped.
 #[derive(Clone, Copy, Debug, PartialEq, Eq, Error)]
 pub enum ReceiveFault {
     /// A growth was refused.

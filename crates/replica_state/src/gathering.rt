@@ -55,8 +55,8 @@ impl<'a> Gathering<'a> {
         }
     }
 
-    /// Takes in the operations of a bundle. Nothing is copied out of its bytes. Of an operation that
-    /// was taken in before and that the bundle has too, the one without its text stays, if either is.
+    /// Takes in the operations of a bundle. Nothing is copied out of its bytes. Where an operation was
+    /// taken in before and the bundle has it too, the thinned one stays, if either is thinned.
     ///
     /// # Errors
     /// `Clash` with the least id under which it and the bundle have operations that do not agree:
@@ -81,7 +81,8 @@ impl<'a> Gathering<'a> {
     }
 
     /// A replica of this name that holds those of the operations which are of one book. Only these are
-    /// copied. Where there is none, it takes no memory.
+    /// copied. Where there is none, it takes no memory. It is to be looked at alone, as that of
+    /// `Replica::of_book`.
     ///
     /// # Errors
     /// Out of memory alone.
@@ -109,8 +110,8 @@ impl<'a> Gathering<'a> {
     }
 }
 
-// Holds an operation too: a new one, or of one that was held and agrees with it the one without its text,
-// if either is.
+// Takes an operation in. Where one of its id is held, which has to agree with it, the thinned one stays, if
+// either is thinned.
 fn hold<'a>(ops: &mut BTreeMap<OpId, OpView<'a>>, view: OpView<'a>) -> Result<(), ReceiveFault>
     requires entries { ops.old.entries ≡ by_id (values ops.old) }
     requires rising { IsTrue (sets.rises (values ops.old)) }

@@ -8,8 +8,9 @@ pub mod since;
 pub mod thinning;
 pub mod worlds;
 
-/// Replicas that received bundles with the same operations together, in whatever order, grouping and
-/// repetition, hold the same operations, and export the same bytes of every book.
+/// Replicas that received bundles with the same operations together, none of them refused, in
+/// whatever order, grouping and repetition, hold the same operations, and export the same bytes of
+/// every book.
 pub fn same_bundles_same_books()
     ensures { laws.SameBundlesSameBooks }
 {}

@@ -12,7 +12,8 @@ use usfm_ref::Book;
 
 impl Replica {
     /// A replica of this name that holds those operations of a bundle which are of one book. Only
-    /// these are copied. Where there is none, it takes no memory.
+    /// these are copied. Where there is none, it takes no memory. It is to be looked at alone: an edit
+    /// of it may give an id that the bundle has in another book.
     ///
     /// # Errors
     /// Out of memory alone.

@@ -93,7 +93,7 @@ impl Replica {
         self.set.shown(alloc, book, key)
     }
 
-    /// What stands for the segment's text in its book's export: the chapter's own line for a head
+    /// What is picked for the segment's text in its book's export: the chapter's own line for a head
     /// from chapter 1 on whose text would be empty while some verse of the chapter has a text, else
     /// the shown operation with the greatest id, if there is one. It takes no memory.
     pub fn pick(&self, book: Book, key: Key) -> Picked<'_>
@@ -163,8 +163,8 @@ impl Replica {
         count
     }
 
-    /// How many comparisons the calls made that change the replica: each of two ids or of two segments
-    /// adds one, up to `u64::MAX`. It is no part of the replica's state, and may rise in a refused call.
+    /// How many comparisons the replica's set counted (`OpSet::compared`), up to `u64::MAX`. It is no
+    /// part of the replica's state, and may rise in a refused call.
     pub fn compared(&self) -> u64 {
         self.set.compared()
     }

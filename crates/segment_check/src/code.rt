@@ -1,7 +1,7 @@
 /// What is found at a mark. At one mark the codes are reported in this order.
 #[derive(Clone, Copy, Debug, PartialEq, Eq, PartialOrd, Ord, Hash)]
 pub enum Code {
-    /// A mark, not closing, that has no record in the sheet.
+    /// A mark, not closing, for which the sheet has no record (`Sheet::style_of`).
     UnknownMarker,
     /// A closing mark that closes no node.
     StrayClose,
@@ -13,12 +13,13 @@ pub enum Code {
     TooDeep,
     /// A mark `\c` or `\v`, neither nested nor closing, without a number.
     BadNumber,
-    /// A verse with a hyphen after its number and no bridge, or whose bridge does not lead to a
-    /// later verse.
+    /// A verse with a hyphen directly after its number and no bridge, or whose bridge does not lead to
+    /// a later verse.
     BadBridge,
     /// A mark with a key that opens no piece of the book.
     NotRising,
-    /// A verse that a bridge before it in its chapter reaches.
+    /// A verse that opens a piece and lies within the bridge of a verse before it in its chapter that
+    /// opens one too.
     Overlap,
     /// A character or note node that is where its style's OccursUnder does not allow it.
     NotUnder,

@@ -170,7 +170,7 @@ fn has_bad_bridge(verse: Option<VerseMark>, after: &str) -> bool
     }
 }
 
-// The text in front, if it is one.
+// The text of the next token, empty where that is a mark or there is none.
 fn text_of<'a>(next: Option<Token<'a>>) -> &'a str
     ensures { (ts : List Lexeme) → IsFirst next.entry ts → result.now ≡ text_after ts }
 {

@@ -13,7 +13,7 @@ use Rattle.sty_sheet.specs.declared.fault.SheetFault.TheVariants.{FieldBeforeMar
 
 -- ---- faults
 
--- a field that is read follows a marker line
+-- the fault of a field that is read where no marker line was seen before it
 abbrev pub misplaced : Bool → ℕ → Option SheetFault
 misplaced seen n = if seen then None else Some (FieldBeforeMarker n)
 

@@ -3,7 +3,7 @@
 pub enum StyleKind {
     /// A paragraph, which has no closing marker.
     Paragraph,
-    /// A run of characters within a paragraph or a note.
+    /// Characters within a paragraph or a note.
     Character,
     /// A note within a paragraph.
     Note,

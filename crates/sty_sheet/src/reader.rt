@@ -12,7 +12,7 @@ use crate::style::Style;
 use crate::words::{kind_named, split_word};
 use std::alloc::Global;
 
-// A field that is read follows a marker line.
+// The fault of a field that is read where no marker line was seen before it.
 fn misplaced(seen: bool, line: usize) -> Option<SheetFault>
     ensures { result ≡ misplaced seen line }
 {

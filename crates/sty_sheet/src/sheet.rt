@@ -34,11 +34,12 @@ impl<'s> Sheet<'s> {
 
     /// The records of a sheet's text.
     ///
-    /// A line is a field: a backslash, the field's name up to a blank (a space, a tab or a line's
-    /// end), and its value. U+FEFF at the text's start, blanks at a line's start, and one `#!` with
-    /// the blanks after it are passed over; any other `#` at the start or after a blank begins a
-    /// comment. Field names, style types and `VerseText` are compared without ASCII case. A second
-    /// record of a marker replaces the first wholly and keeps its place.
+    /// A line that begins with a backslash is a field: its name up to a blank (a space, a tab, CR or
+    /// LF), and its value. Other lines are passed over, and so are fields of other names; of a field
+    /// that a record has twice the last counts. U+FEFF at the text's start, blanks at a line's start,
+    /// and one `#!` with the blanks after it are passed over; any other `#` at the start or after a
+    /// blank begins a comment. Field names, style types and `VerseText` are compared without ASCII
+    /// case. A second record of a marker replaces the first wholly and keeps its place.
     ///
     /// # Errors
     ///

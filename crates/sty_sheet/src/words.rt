@@ -87,7 +87,7 @@ pub(crate) fn word_at(text: &str, place: usize) -> Option<&str>
     None
 }
 
-// Whether a text is a word, in capital or small ASCII letters.
+// Whether a text is this word, in whatever ASCII case.
 pub(crate) fn is_word(word: &str, text: &str) -> bool
     ensures { result ≡ is_word word.now text.now }
 {

@@ -32,8 +32,8 @@ pub record ReadTheSame (file other : List ℕ) : Type 0 where
       output_of (executed file (Export book)) ≡ output_of (executed other (Export book))
   pub report : output_of (executed file Report) ≡ output_of (executed other Report)
 
--- A project, after a list of commands, and a stream of bundles write the same bytes of every book, or refuse it alike, where the
--- stream's bundles have together the operations that the project holds, thinned ones as thinned.
+-- A project, after a list of commands, and a stream of bundles of which none is refused write the same bytes of every book, or
+-- refuse it alike, where the stream's bundles have together the operations that the project holds, thinned ones as thinned.
 abbrev pub ProjectsReadAsStreams : Type 0
 ProjectsReadAsStreams =
     (file : List ℕ) (commands : List Command) (s : State) (sets : List (List Operation))
@@ -54,10 +54,10 @@ SameOperationsReadTheSame =
     IsState s → IsState t → HoldTheSame s t →
     ReadTheSame (file_after file commands) (file_after other others)
 
--- ---- the same but for texts left out: a thinned operation stands for the one that it was
+-- ---- the same but for texts left out: a thinned operation counts as the one that it was
 
 -- Two projects, each after a list of commands, read the same where they then hold the same but for texts left out, and no id
--- stands for two operations.
+-- has two operations.
 abbrev pub SkeletonsReadTheSame : Type 0
 SkeletonsReadTheSame =
     (file other : List ℕ) (commands others : List Command) (s t : State) →
@@ -65,8 +65,8 @@ SkeletonsReadTheSame =
     IsState s → IsState t → skeleton s.held ≡ skeleton t.held → clash s.held t.held ≡ None →
     ReadTheSame (file_after file commands) (file_after other others)
 
--- Two projects, each after a list of commands, read the same where they then hold operations of one family, in which no id stands
--- for two operations, of the same ids; whatever order, grouping and repetition they were accepted in, whatever was refused, and
+-- Two projects, each after a list of commands, read the same where they then hold operations of one family, in which no id has
+-- two operations, of the same ids; whatever order, grouping and repetition they were accepted in, whatever was refused, and
 -- whatever texts are left out.
 abbrev pub SameIdsReadAlike : Type 0
 SameIdsReadAlike =

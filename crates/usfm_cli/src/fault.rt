@@ -84,8 +84,8 @@ pub enum Fault {
     /// 121: the input has more than 268,435,456 bytes.
     #[error("the input is too long")]
     TooLong,
-    /// 130: a project's file was not made, replaced or renamed.
-    #[error("the project's file was not written")]
+    /// 130: a project's file, or one of a folder, was not made, replaced or renamed.
+    #[error("the file was not written")]
     FileFailed,
     /// 131: a book's file in a folder was changed, and what it was written from is not known; or there
     /// are two of one book, or another file in the place of one.

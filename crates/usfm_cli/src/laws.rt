@@ -22,7 +22,7 @@ pub fn unions_are_of_streams()
 {}
 
 /// Streams whose bundles have the same operations together, in whatever order, grouping and
-/// repetition, give the same bytes of every book.
+/// repetition, give the same bytes of every book, where neither is refused for a clash.
 pub fn same_operations_same_books()
     ensures { laws.SameOperationsSameBooks }
 {}
@@ -68,8 +68,8 @@ pub fn thinned_projects_read_as_streams()
     ensures { projects.ThinnedProjectsReadAsStreams }
 {}
 
-/// A project, after whatever commands, and a stream of bundles with the same operations write the same
-/// bytes of every book, or refuse it alike.
+/// A project, after whatever commands, and a stream of bundles with the same operations, none of them
+/// refused, write the same bytes of every book, or refuse it alike.
 pub fn projects_read_as_streams()
     ensures { projects.ProjectsReadAsStreams }
 {}

@@ -83,8 +83,9 @@ impl Outcome {
 /// `Memory` (1) where a growth was refused; of bytes that are no project only where an operation of
 /// their bundle is thinned, since the other refusals take no memory. Nor do those of the command once
 /// the project was read, but for `NumbersUsedUp` and `FileChanged` of an import, `Clash`, 69 and 70 of
-/// a bundle with a thinned operation, and what is found after records of a sheet were kept. The project
-/// is the bytes that were given, so that a refused command leaves it as it is.
+/// a bundle with a thinned operation, `NoId` and `Reference` of an `ImportSince` whose base has one, and
+/// what is found after records of a sheet were kept. The project is the bytes that were given, so that a
+/// refused command leaves it as it is.
 pub fn exec(alloc: Global, project: &[u8], command: &Command<'_>) -> Result<Outcome, Fault>
     ensures answer { result ≢ Err Fault.Memory → executed project.now command.now ≡ result }
     // A file that is no project is refused for that, whatever memory there is; but for its bundle, where

@@ -115,11 +115,15 @@ Begin with:
   usfm_team init ana.project ana
   usfm_team import ana.project matthew.usfm
 
-A command that is refused writes one line to standard error,
-`fault NUMBER ..`, and exits with status 1; the help of a subcommand lists its
-faults. A wrong command line exits with status 2. A project is written to
-PROJECT.new and renamed; where PROJECT is a link, so is the file that it leads
-to. One of more than 268,435,456 bytes is written, and cannot be read again.";
+An operation is one text for one segment, as an edit or an import made it; its
+id is a number and a copy's name. A segment is a verse, or a head: what comes
+before the first verse of a chapter, or before the first chapter of a book.
+
+A command that is refused writes `fault NUMBER ..` to standard error, and exits
+with status 1; the help of a subcommand lists its faults. A wrong command line
+exits with status 2. A change is written to PROJECT.new and renamed; where
+PROJECT is a link, so is the file that it leads to. A project of more than
+268,435,456 bytes is written, and cannot be read again.";
 
 // A subcommand with its words, each of them required.
 pub(crate) fn command<'a>(
@@ -149,7 +153,7 @@ Example: usfm_team init ana.project ana
 
 Faults:
   fault 1      out of memory
-  fault 50     NAME is no replica's name
+  fault 50     NAME is no name for a copy: see above
   fault 130    PROJECT is there already, or was not written";
 
 fn init_line(alloc: Global, given: &ArgMatches<'_>) -> Result<Line, LineFault> {
@@ -169,7 +173,7 @@ fn import<'a>(alloc: Global) -> Result<Command<'a>, AllocError> {
     command(
         alloc,
         "import",
-        "Takes in the files of books by edits that make them the exports",
+        "Takes in the files of books; what differs is edited",
         IMPORT,
         &[PROJECT],
     )?
@@ -182,12 +186,13 @@ Writes `added N` for each FILE, N the number of edits. All are taken in, or
 none: where one of several is refused, a second line `in FILE` on standard error
 names it.
 
-A FILE replaces all that its book shows. Where it was exported from PROJECT and
-others' work was received since, give the bundle of that time:
+Where FILE differs from the book, it replaces all that is shown there, also what
+came from others. Where it was exported from PROJECT and others' work was
+received since, give the bundle of that time:
   usfm_team send ana.project > ana.bundle
   usfm_team export ana.project MAT > matthew.usfm
   usfm_team import ana.project matthew.usfm --since ana.bundle
-Then an edit replaces only what stood in FILE, and what came in stays beside it.
+Then an edit replaces only what FILE had at that time; what came in stays.
 
 Example: usfm_team import ana.project matthew.usfm mark.usfm
 
@@ -195,7 +200,7 @@ Faults:
   fault 1                  out of memory
   fault 10 BYTES           FILE is not UTF-8 after this many bytes
   fault 20, fault 30       FILE does not begin with \\id and a book's code
-  fault 51 NUMBER NAME     PROJECT and BUNDLE have two operations of this id
+  fault 51 NUMBER NAME     two operations that differ have this id
   fault 60 to 70, 110      PROJECT is no project, or BUNDLE no bundle
   fault 81                 no number is left for the edits
   fault 90 BYTES           writing the output failed; the project is changed
@@ -221,7 +226,7 @@ fn edit<'a>(alloc: Global) -> Result<Command<'a>, AllocError> {
 }
 
 const EDIT: &str = "\
-The text is the whole segment, with its mark: `\\v 1 In the beginning` for a
+The text is the whole segment, with its mark: `\\v 1 In the beginning` for
 verse 1. The empty text takes the segment out of its book. Writes
 `made NUMBER NAME`, the edit's id.
 

@@ -2,7 +2,7 @@
 //! as bytes.
 //!
 //! A [`ByteSink`] takes bytes and counts its failures, so that contracts can say what was written and
-//! whose fault an error was. [`StdSink`] makes one of a writer of std.
+//! whether it failed. [`StdSink`] makes one of a writer of std.
 #![tactic(auto)]
 
 mod export;

@@ -38,14 +38,14 @@ impl BookFile {
         }
     }
 
-    // Whether this bundle alone stands for what the file was written from.
+    // Whether this is the bundle that the file was written from, with no newer one beside it.
     pub(crate) fn keeps(&self, base: &[u8]) -> bool {
         self.newer.is_none() && self.base.as_deref() == Some(base)
     }
 }
 
-// Waits for a folder until no other command writes its books. A file system that locks no folders lets each command go
-// on.
+// Waits for a folder until no other command writes its books. Where the lock is refused, for whatever reason, the command
+// goes on.
 pub(crate) fn lock_books(rt: &HostRuntime, folder: &str) -> Result<File, Refusal> {
     let is_folder = fs::metadata(rt, folder).is_ok_and(|found| found.is_dir());
     match File::open(rt, folder) {
@@ -76,8 +76,7 @@ pub(crate) fn own_path(
     Ok(format!(in rt.alloc(); "{own}/{code}.{ending}")?)
 }
 
-// Reads the books' files of a folder, in the order of their names, and says which files that end in such a name it
-// passes over.
+// Reads the books' files of a folder, in the order of their names, and says which files of such names it passes over.
 pub(crate) fn read_books(rt: &HostRuntime, folder: &str) -> Result<Vec<BookFile>, Refusal> {
     let mut files = Vec::new(rt.alloc());
     for path in paths_in(rt, folder)? {
@@ -188,7 +187,7 @@ pub(crate) fn read_if_there(rt: &HostRuntime, path: &str) -> Result<Option<Vec<u
     }
 }
 
-// The file of a book, if there is one. Two are refused.
+// The first file of a book, if there is one.
 pub(crate) fn file_of(files: &[BookFile], book: Book) -> Option<&BookFile> {
     files.iter().find(|file| file.book == book)
 }

@@ -27,7 +27,7 @@ const REFUSED: u8 = 1;
 
 const USAGE: u8 = 2;
 
-// What is at a terminal for the person who is to type a text, or to give bundles.
+// What a person at a terminal reads who is to type a text, or to give bundles.
 const TYPE_A_TEXT: &str =
     "usfm_team: type the segment's text with its mark, and end it with control-D on a new line\n";
 
@@ -68,8 +68,8 @@ fn read_line(rt: &HostRuntime) -> Result<Line, LineFault> {
     }
 }
 
-// Does what a line asks for. Files are read in the order of the words, and standard input last. A command that changes
-// a project reads it again when no other command can change it: who types a text holds up nobody.
+// Does what a line asks for. Files are read in the order of the words, and standard input last. An edit, an import and a
+// receive read the project again when no other command can change it: who types a text holds up nobody.
 fn run(rt: &HostRuntime, line: Line) -> Result<(), Refusal> {
     match line {
         Line::Init { project, name } => {
@@ -235,7 +235,7 @@ fn refuse(rt: &HostRuntime, fault: &Fault) -> ExitCode {
     ExitCode::from(REFUSED)
 }
 
-// Writes to standard error which file a fault is of, where the line names several.
+// Writes to standard error which file a fault is of, where the line names several, or a folder.
 fn tell_file(rt: &HostRuntime, refusal: &Refusal) {
     if let Some(file) = &refusal.file {
         let _ = writeln!(rt.stderr(), "in {file}");

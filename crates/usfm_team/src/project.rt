@@ -82,8 +82,8 @@ fn open_project(rt: &HostRuntime, path: &str) -> Result<File, Fault> {
     }
 }
 
-// Where the file of a project is: under its name, or where that link leads. Were the link replaced, the two would
-// be two projects of one name from then on.
+// Where a file is: under its name, or where that leads, if it is a link. Were a project's link replaced, the two would be
+// two projects of one name from then on.
 pub(crate) fn real_path(rt: &HostRuntime, path: &str) -> Result<PathBuf, Fault> {
     let found = fs::symlink_metadata(rt, path).map_err(|_| Fault::FileFailed)?;
     if found.is_symlink() {

@@ -140,8 +140,8 @@ fn take_in<'a>(
     }
 }
 
-// Of a file that was left, since it was changed after it was taken in: what it was when it was taken in is what the next
-// change is looked at from.
+// For each file that was left, since it was changed after it was taken in: what it was then becomes what its next change
+// is looked at from.
 fn keep_left(
     rt: &HostRuntime,
     folder: &str,

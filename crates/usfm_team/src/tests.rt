@@ -1,4 +1,4 @@
-// Reading to the end and writing piece by piece, with slow, short and failing streams.
+// Reading to the end and writing piece by piece, with slow, short and failing sources and sinks.
 mod books;
 mod checks;
 mod commands;

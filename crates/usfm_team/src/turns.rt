@@ -5,7 +5,7 @@ use crate::project::lock_project;
 use std::{io, mem};
 use usfm_cli::{Command, Fault, StdSink, TurnFault, exec_in_turn, write_more};
 
-// Why a line was refused: the fault, and the file that it is of where the line names several.
+// Why a line was refused: the fault, and the file that it is of where the line names several files, or a folder.
 #[derive(Debug, Drop)]
 pub(crate) struct Refusal {
     pub(crate) fault: Fault,

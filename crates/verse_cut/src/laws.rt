@@ -31,7 +31,7 @@ pub fn fits_is_read()
     ensures { FitsIsRead }
 {}
 
-/// Each piece of a text that begins with a book's code fits the book and its key.
+/// Each piece of a text that begins with `\id` and a book's code fits the book and its key.
 pub fn pieces_fit()
     ensures { PiecesFit }
 {}
@@ -42,18 +42,18 @@ pub fn fitting_texts_cut_back()
     ensures { FittingTextsCutBack }
 {}
 
-/// Each text that begins with a book's code is the join of its pieces, which are such texts as cut
-/// back from their join.
+/// Each text that begins with `\id` and a book's code is the join of its pieces, which are such texts
+/// as cut back from their join.
 pub fn books_are_joins()
     ensures { BooksAreJoins }
 {}
 
-/// A join begins with the book's code that its head begins with.
+/// A join begins with `\id` and the book's code, as its head does.
 pub fn joins_keep_their_book()
     ensures { JoinsKeepTheirBook }
 {}
 
-/// The line `\c N` fits the head of chapter N.
+/// The line `\c N` fits the head of chapter N, from chapter 1 on.
 pub fn chapter_lines_fit()
     ensures { ChapterLinesFit }
 {}

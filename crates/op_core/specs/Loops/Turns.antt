@@ -39,7 +39,7 @@ comes new turns id = list_any (λ t. is_at (λ o. same_id id o.id) new t.at) tur
 abbrev pub is_called : List Operation → List Turn → Id → Bool
 is_called new turns id = list_any (λ t. is_at (λ o. names o id) new t.at) turns
 
--- whether the id arrives at the segment, or is named there
+-- whether one of the operations at the segment has the id
 abbrev pub arrives : List Operation → List Turn → Segment → Id → Bool
 arrives new turns g id =
     list_any (λ t. same_segment (turn_at t) g && is_at (λ o. same_id id o.id) new t.at) turns

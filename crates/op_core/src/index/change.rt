@@ -49,9 +49,9 @@ impl Aside {
     }
 }
 
-// What changes at a register's segment as these ids arrive, of whose operations those name others. What
-// arrives is shown if it is neither named nor was missed; what is named and is of no operation is missed.
-// The lists that a register may keep take no more than they need.
+// What changes at a register's segment as the arrived ids of `aside` come there, whose operations name the
+// named ids of `aside`. What arrives is shown if it is neither named nor was missed; what is named and is of
+// no operation there is missed. The lists that a register may keep take no more than they need.
 pub(crate) fn change_of(
     alloc: Global,
     held: &[Op],

@@ -79,7 +79,7 @@ fn reserve_register(registers: &mut Vec<Register>) -> Result<(), AllocError>
     registers.reserve_exact(1 + registers.len() / 4)
 }
 
-// What changes in the register of a key as these ids arrive there, and the room for that.
+// What changes in the register of a key as the arrived ids of `aside` come there, and the room for that.
 pub(crate) fn ready_at_key(
     registers: &mut Vec<Register>,
     alloc: Global,

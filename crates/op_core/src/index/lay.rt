@@ -169,8 +169,8 @@ fn chapter_len(segments: &[Segment], search: &mut Search) -> usize
     segments.len()
 }
 
-// The same, where there is room for what is there in both lists: what is after each new chapter goes
-// to the tail, the last first, and at last from there to the end of the list.
+// Puts in the chapters of the segments that are not there. Both lists have room for what is there: what is
+// after each new chapter goes to the tail, the last first, and at last from there to the end of the list.
 fn merge_chapters(
     chapters: &mut Vec<Chapter>,
     alloc: Global,

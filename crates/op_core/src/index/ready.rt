@@ -84,7 +84,8 @@ fn ready_run(
     ready(chapters, alloc, held, segment, aside, search)
 }
 
-// What changes at a segment, which has a register, as these ids arrive there, and the room for that.
+// What changes at a segment, which has a register, as the arrived ids of `aside` come there, and the room
+// for that.
 fn ready(
     chapters: &mut Vec<Chapter>,
     alloc: Global,

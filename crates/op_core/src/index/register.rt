@@ -44,8 +44,8 @@ impl Register {
         self.key.cmp(&key)
     }
 
-    // What changes in it as these ids arrive at its segment, of whose operations those name others. It
-    // gets the room for that.
+    // What changes in it as the arrived ids of `aside` come to its segment, whose operations name the
+    // named ids of `aside`. It gets the room for that.
     pub(crate) fn ready(
         &mut self,
         alloc: Global,

@@ -91,7 +91,8 @@ pub(crate) fn look_at_each(new: &[Op])
     }
 }
 
-// Makes room for this many operations more. To an empty list they come with their own.
+// Makes room for this many operations more. An empty list needs none: the list of the new ones takes its
+// place.
 pub(crate) fn reserve_ops(ops: &mut Vec<Op>, count: usize) -> Result<(), AllocError>
     ensures items { ops.new.items ≡ ops.old.items }
     ensures len { vec_len ops.new ≡ vec_len ops.old }
@@ -122,7 +123,7 @@ pub(crate) fn tail_of(
     Vec::with_capacity(alloc, room)
 }
 
-// Merges new operations into a rising list, of whose ids none is there. There is room for them, and in
+// Merges new operations, none of whose ids is held, into a rising list. There is room for them, and in
 // `tail` for them and for what is after the first of them.
 pub(crate) fn merge(
     ops: &mut Vec<Op>,

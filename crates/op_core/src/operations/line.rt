@@ -6,8 +6,8 @@ ghost use Rattle.op_core.specs.Shown.{chapter_line};
 use arrayvec::ArrayString;
 use std::marker::Model;
 
-/// The most bytes of a short line: nine, an id's number of 16 digits, a space, its name of 32 bytes and a
-/// line feed.
+/// The most bytes of a short line: nine in front, as of `fault 51 `, then an id's number of 16 digits, a
+/// space, its name of 32 bytes and a line feed.
 pub const MOST_LINE_BYTES: usize = 59;
 
 /// A line of at most 59 bytes, in a value of fixed size. Its calls take no memory.
@@ -43,7 +43,7 @@ impl ShortLine {
         }
     }
 
-    /// Appends a text.
+    /// Appends a text. The line has to stay within `MOST_LINE_BYTES`.
     pub fn push_text(&mut self, text: &str)
         requires { length self.old + length text.now ≤ MOST_LINE_BYTES }
         ensures appended { self.new ≡ self.old ++ text.now }
@@ -52,7 +52,7 @@ impl ShortLine {
         self.text.push_str(text);
     }
 
-    /// Appends a number in decimal, without leading zeros.
+    /// Appends a number in decimal, without leading zeros. The line has to stay within `MOST_LINE_BYTES`.
     pub fn push_number(&mut self, number: u64)
         requires { length self.old + length (decimal number) ≤ MOST_LINE_BYTES }
         ensures appended { self.new ≡ self.old ++ decimal number }

@@ -12,8 +12,8 @@ use crate::ids::op_id::OpId;
 use std::marker::Model;
 use usfm_ref::{Book, Key, Segment};
 
-/// The text that a replica gave to a segment, a book's key, and the ids of the operations that it
-/// replaces there. The text fits the book and the key.
+/// One text for one segment, with its id and the ids of the operations of that segment that it replaces.
+/// The text fits the segment's book and key. A thinned operation is kept without it.
 #[derive(Debug, Drop)]
 pub struct Op {
     id: OpId,

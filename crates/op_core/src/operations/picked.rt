@@ -1,6 +1,6 @@
 use super::op::Op;
 
-/// What stands for the text of a segment in its book's export.
+/// What is picked for the text of a segment in its book's export.
 #[derive(Debug, Drop)]
 pub enum Picked<'a> {
     /// The segment shows nothing.

@@ -97,7 +97,7 @@ MadeOnce = (events : List Event) (x y : Operation) → IsMade events x →
 abbrev pub MadeRise : Type 0
 MadeRise = (past : List Event) (e : Event) → rises (made (world past) e) ≡ true
 
--- No id stands for two operations, at any replicas and in any bundles: what is found of one id agrees.
+-- No id has two operations, at any replicas and in any bundles: what is found of one id agrees.
 abbrev pub OneForEachId : Type 0
 OneForEachId =
     (events : List Event) (a b : Where) (id : Id) (x y : Operation) →

@@ -32,7 +32,7 @@ pub fn made_rise()
     ensures { schedules.MadeRise }
 {}
 
-/// No id stands for two operations, at any replicas and in any bundles.
+/// No id has two operations, at any replicas and in any bundles.
 pub fn one_for_each_id()
     ensures { schedules.OneForEachId }
 {}
@@ -103,8 +103,8 @@ pub fn all_agree_in_the_end()
     ensures { agreement.AllAgreeInTheEnd }
 {}
 
-/// Of two replicas, where the set of the first stands for that of the second, the same edit, edit
-/// over and import has the same reply, and the sets stand so again; so it is with two bundles of which
+/// Of two replicas with one name, where the set of the first stands for that of the second, the same edit,
+/// edit over and import has the same reply, and the sets stand so again; so it is with two bundles of which
 /// the first stands for the second, if the second does not clash with what the second one holds.
 pub fn stand_ins_step_alike()
     ensures { invisible.StandInsStepAlike }

@@ -3,7 +3,7 @@
 ghost use Rattle.usfm_cli.specs.Headline as headline;
 
 /// Replicas that accepted the same operations but for texts left out, in whatever order, grouping and
-/// repetition, write the same bytes of every book.
+/// repetition, write the same bytes of every book, or refuse it alike, where no id has two operations.
 pub fn same_operations_same_bytes()
     ensures { headline.SameOperationsSameBytes }
 {}

@@ -2,7 +2,8 @@
 ghost use Rattle.usfm_cli.specs.Turns as laws;
 
 /// Commands in turn on a project make what the same commands make one after another, each on the file of
-/// the one before: the same file and outputs, or the same first refusal of the same command.
+/// the one before, where each file on the way is read again as the replica that its steps make: the same
+/// file and outputs, or the same first refusal of the same command.
 pub fn in_turn_is_one_after_another()
     ensures { laws.InTurnIsOneAfterAnother }
 {}

@@ -27,8 +27,10 @@ const SYNC: &str = "\
 A book's file is the one whose name ends in .usfm or .sfm and that begins with
 \\id and the book's code; it keeps its name. A book without one becomes
 CODE.usfm. Of a file only what was changed since it was written is taken in, so
-that what came from others stays. All is taken in, or nothing: then a second
-line `in FILE` on standard error says where. Writes
+that what came from others stays. Save and close the files in the editor before:
+one that is open there still has the old text, and saving that undoes what came
+in. All is taken in, or nothing: then a second line `in FILE` on standard error
+says where. Writes
   added N CODE     for each file in which something was changed
   new N            for each BUNDLE
   wrote FILE       for each file that was written
@@ -39,19 +41,18 @@ Example: usfm_team sync ana.project texts ben.bundle
 
 If a verse shows several texts, its file has one of them, and a change of the
 file replaces that one alone. To settle it, see them with `usfm_team report`,
-give the text that is to stand with `usfm_team edit`, and sync: it replaces
+give the right text by `usfm_team edit`, and sync: that edit replaces
 them all, and the file is written.
 
 After fault 131 look at FILE: two files may be of one book (move one away). Or
 it is not known what FILE was written from. Then move it away and sync, and make
-its changes in the file that is written; or, to have FILE replace all that the
-book shows, `usfm_team import PROJECT FILE`, and sync.
+its changes in the file that is written; or, to have FILE replace what the book
+has, `usfm_team import PROJECT FILE`, and sync.
 
 After fault 60 to 70 in a book's FILE, the bundle that FILE was written from is
 damaged: remove FOLDER/.usfm_team/CODE.bundle, and sync.
 
-Faults: those of `import`, `receive` and `export`, and
-  fault 131                FILE would lose what stands in it";
+Faults: those of `import`, `receive` and `export`.";
 
 pub(crate) fn sync_line(alloc: Global, given: &ArgMatches<'_>) -> Result<Line, LineFault> {
     Ok(Line::Sync {
@@ -83,8 +84,8 @@ pub(crate) fn export<'a>(alloc: Global) -> Result<Command<'a>, AllocError> {
 const EXPORT: &str = "\
 Where a segment shows several texts, the one of the greatest id is written.
 
-With --into the books go into the files of FOLDER, as `usfm_team help sync` has
-it, but nothing is taken in: a file that was changed is refused.
+With --into the books go into the files of FOLDER, as `usfm_team help sync`
+says, but nothing is taken in: a file that was changed is refused.
 
 Example: usfm_team export ana.project MAT > matthew.usfm
 Example: usfm_team export ana.project --into texts
@@ -92,12 +93,13 @@ Example: usfm_team export ana.project --into texts
 Faults:
   fault 1                  out of memory
   fault 20                 BOOK is no book's code
+  fault 51 NUMBER NAME     two operations that differ have this id
   fault 60 to 70, 110      PROJECT is no project
   fault 82                 the project has no operation of the book
   fault 90 BYTES           writing failed after this many bytes
   fault 120, fault 121     a file was not read, or is over 268,435,456 bytes
   fault 130                a file of FOLDER was not written
-  fault 131                a file of FOLDER was changed: `sync` takes it in";
+  fault 131                a file would lose what stands in it: see `sync`";
 
 pub(crate) fn export_line(alloc: Global, given: &ArgMatches<'_>) -> Result<Line, LineFault> {
     let project = text(alloc, given, "PROJECT")?;

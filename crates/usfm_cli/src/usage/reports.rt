@@ -18,7 +18,8 @@ pub(crate) fn shown<'a>(alloc: Global) -> Result<Command<'a>, AllocError> {
 
 const SHOWN: &str = "\
 For each operation a line `op NUMBER NAME LENGTH`, the text of LENGTH bytes,
-and a line feed. The last one is the text that the book has.
+and a line feed. The last one is the text that the book has, but for a chapter's
+head: where the last one is empty and a verse has a text, the book has `\\c N`.
 
 Example: usfm_team shown ana.project 'MAT 1:1'
 
@@ -102,8 +103,8 @@ pub(crate) fn delta<'a>(alloc: Global) -> Result<Command<'a>, AllocError> {
 }
 
 const DELTA: &str = "\
-The bundle has the operations that the summary does not cover, and of a segment
-of which one of them has no text, all. The other project takes it in with
+The bundle has the operations that the summary does not cover; where one of them
+has no text, all those of its segment. The other project takes it in with
 `receive`, and then has all that this one has.
 
 Example: usfm_team delta ana.project ben.summary > ana.bundle
@@ -134,9 +135,9 @@ pub(crate) fn check<'a>(alloc: Global) -> Result<Command<'a>, AllocError> {
 
 const CHECK: &str = "\
 Writes a line `REF CODE START` for each finding: its segment, what is found,
-and at which byte of the export. The codes: unknown-marker, stray-close,
-unclosed-char, unclosed-note, too-deep, bad-number, bad-bridge, not-rising,
-overlap, not-under.
+and how many bytes of the export come before it. The codes: unknown-marker,
+stray-close, unclosed-char, unclosed-note, too-deep, bad-number, bad-bridge,
+not-rising, overlap, not-under.
 
 Example: usfm_team check ana.project MAT samples/small.sty
 
@@ -172,9 +173,9 @@ pub(crate) fn find<'a>(alloc: Global) -> Result<Command<'a>, AllocError> {
 }
 
 const FIND: &str = "\
-Looks in the text of paragraphs whose style has the text of verses, outside
-notes, attributes and verse numbers. Writes a line `REF START` for each hit:
-its segment, and at which byte of the export.
+Looks in paragraphs whose style in SHEET has `\\TextType VerseText`, outside
+notes, milestones, attributes and verse numbers. Writes a line `REF START` for
+each hit: its segment, and how many bytes of the export come before it.
 
 Example: usfm_team find ana.project MAT samples/small.sty beginning
 
@@ -202,7 +203,7 @@ pub(crate) fn words<'a>(alloc: Global) -> Result<Command<'a>, AllocError> {
 
 const WORDS: &str = "\
 Writes a line for each word: the word in Unicode's Normalization Form C, and
-after it the segments where it stands, each after a space.
+after it the places where it occurs, each after a space.
 
 Example: usfm_team words ana.project MAT samples/small.sty
 
@@ -228,7 +229,7 @@ pub(crate) fn report<'a>(alloc: Global) -> Result<Command<'a>, AllocError> {
 
 const REPORT: &str = "\
 For each segment that shows several texts a line `conflict REF COUNT`; then for
-each of its texts, the one that the book has first, a line
+each of its texts, that of the greatest edit first, a line
 `text NUMBER NAME LENGTH`, the text of LENGTH bytes, and a line feed. Then a
 line `awaited NUMBER NAME` for each operation that another one replaces and
 that has not come yet.
@@ -258,7 +259,7 @@ pub(crate) fn fold<'a>(alloc: Global) -> Result<Command<'a>, AllocError> {
 }
 
 const FOLD: &str = "\
-Bundles stand one after another; their order and how often each stands make no
+Bundles come one after another; their order, and how often each comes, make no
 difference.
 
 Example: usfm_team fold MAT < first.bundle
