@@ -13,7 +13,7 @@ use Rattle.std.specs.Char.{is_ascii_digit, is_ascii_lowercase}
 use Rattle.usfm_ref.specs.Books.{is_book_code}
 use Rattle.usfm_ref.specs.Keys.{KeyParts, is_key, is_letter, is_place}
 use Rattle.usfm_ref.specs.Numbers.{are_blanks, are_digits, number_after, number_of, ends_number, StartsWithNumber, number_at, chapter_in}
-use Rattle.usfm_ref.specs.References.{place_text, key_text, ref_text, is_zero_led, plain_at, verse_to_end, place_in, key_at, key_in, key_after, ref_to, ref_in, IsRefTo, ReadsWhatIsWritten, WritesWhatIsRead}
+use Rattle.usfm_ref.specs.References.{place_text, key_text, ref_text, is_zero_led, plain_at, verse_to_end, place_in, key_at, key_in, key_or_bad, key_of, key_after, ref_to, ref_in, IsRefTo, KeysAreRead, ReadsWhatIsWritten, WritesWhatIsRead}
 use Rattle.usfm_ref.specs.declared.fault.RefFault.{RefFault}
 use Rattle.usfm_ref.specs.declared.fault.RefFault.TheVariants.{BadBook}
 use Rattle.usfm_ref.specs.declared.key.Place.{Place}
@@ -239,6 +239,24 @@ key_in-some bytes key h = option_and_then_some (λ (n : ℕ × List ℕ). key_at
                   ∙ ap (λ (r : List ℕ). decimal n.0 ++ r) written.bytes_are,
               and_from _ _ (le-leb n.0 999 plain.small) written.is_place,
             )
+
+-- a key is read from its text, and from no other text
+pub key_of_is : KeysAreRead
+key_of_is text key = (there, back)
+  where
+    there : key_of text ≡ Ok key → (is_key key.chapter key.place ≡ true) × (text ≡ key_text key)
+    there h = by (key_in text) refl h
+      where
+        by : (read : Option KeyParts) → key_in text ≡ read → key_or_bad read ≡ Ok key
+            → (is_key key.chapter key.place ≡ true) × (text ≡ key_text key)
+        by None e h = cc h
+        by (Some other) e h =
+            let same : other ≡ key = cc h in
+            let parts = key_in-some text key (e ∙ ap Some same) in
+            (parts.1, parts.0)
+
+    back : (is_key key.chapter key.place ≡ true) × (text ≡ key_text key) → key_of text ≡ Ok key
+    back h = ap key_of h.1 ∙ ap key_or_bad (key_in-of key h.0)
 
 -- ---- references
 

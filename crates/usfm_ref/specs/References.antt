@@ -1,7 +1,7 @@
 -- References and keys as text: this project's own rule, over the book codes, chapters and verses of USFM 3.0. A key is
 -- written `0`, `5`, `5:3` or `5:3a`, its numbers in decimal, and so without leading zeros. A reference is a book's code, one
 -- space and a key.
-use Rattle.std.specs.Prelude.{◌≡◌, ℕ, ◌==◌, Bool, false, ◌&&◌, IsTrue, List, [], ◌∷◌, ◌++◌, take, drop, codes, Option, None, Some, Result, Ok, Err, if◌then◌else◌}
+use Rattle.std.specs.Prelude.{◌≡◌, ◌↔◌, ℕ, ◌==◌, Bool, false, ◌&&◌, IsTrue, List, [], ◌∷◌, ◌++◌, take, drop, codes, Option, None, Some, Result, Ok, Err, if◌then◌else◌}
 use Rattle.std.specs.Option.{option_and_then, option_to_list}
 use Rattle.std.specs.Fmt.{decimal}
 use Rattle.std.specs.Char.{is_ascii_digit, is_ascii_lowercase}
@@ -103,3 +103,8 @@ ReadsWhatIsWritten = (book : List ℕ) (key : KeyParts) → IsTrue (is_book_code
 abbrev pub WritesWhatIsRead : Type 0
 WritesWhatIsRead = (text : List ℕ) (book : List ℕ) (key : KeyParts) → ref_in text ≡ Ok (book, key)
     → IsRefTo text book key
+
+-- A key is read from its text, and from no other text.
+abbrev pub KeysAreRead : Type 0
+KeysAreRead = (text : List ℕ) (key : KeyParts) →
+    (key_of text ≡ Ok key) ↔ (IsTrue (is_key key.chapter key.place) × (text ≡ key_text key))

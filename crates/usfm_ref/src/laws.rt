@@ -5,7 +5,7 @@ ghost use Rattle.std.specs.Prelude.{◌≡◌, List, ℕ};
 ghost use Rattle.usfm_ref.specs.Books.{book_cmp};
 ghost use Rattle.usfm_ref.specs.Keys.{KeyParts, key_cmp};
 ghost use Rattle.usfm_ref.specs.Numbers.{ChaptersAreRead, OneChapter, OneVerse, VersesAreRead};
-ghost use Rattle.usfm_ref.specs.References.{ReadsWhatIsWritten, WritesWhatIsRead};
+ghost use Rattle.usfm_ref.specs.References.{KeysAreRead, ReadsWhatIsWritten, WritesWhatIsRead};
 ghost use Rattle.usfm_ref.specs.Segments.{segment_cmp};
 
 use crate::book::Book;
@@ -45,6 +45,11 @@ pub fn chapters_are_read()
 /// `verse_in`, which reads from the left, gives exactly the verse that the grammar has.
 pub fn verses_are_read()
     ensures { VersesAreRead }
+{}
+
+/// The text of each key is read as that key, and no other text is.
+pub fn keys_are_read()
+    ensures { KeysAreRead }
 {}
 
 /// The text of each book and key is read as that book and key.
