@@ -1,6 +1,6 @@
 // Project files made, loaded and saved.
-ghost use Rattle.std.specs.Prelude.{◌≡◌, ◌≢◌, ◌↔◌, ◌++◌, ◌∷◌, [], Ok, Err, length, option_map};
-ghost use Rattle.std.specs.Prelude.{IfOk, IfErr, IfSome, IsSome, IsTrue, MatchResult};
+ghost use Rattle.std.specs.Prelude.{◌≡◌, ◌≢◌, ◌++◌, ◌∷◌, [], Ok, Err, length, option_map};
+ghost use Rattle.std.specs.Prelude.{IfOk, IfErr, IsTrue, MatchResult};
 ghost use Rattle.op_core.specs.Names.{is_name};
 ghost use Rattle.op_core.specs.OneBook.{ops_of_book};
 ghost use Rattle.op_core.specs.Sets.{clash};
@@ -237,16 +237,5 @@ fn name_at(bytes: &[u8]) -> Option<(ReplicaName, &[u8])>
 {
     let (length, rest) = bytes.split_first()?;
     let (name, rest) = rest.split_at_checked(*length as usize)?;
-    Some((name_of(name)?, rest))
-}
-
-// The name that the bytes are.
-fn name_of(bytes: &[u8]) -> Option<ReplicaName>
-    ensures accepts { IsSome result ↔ IsTrue (is_name bytes.now) }
-    ensures name { IfSome result (λ name. name ≡ bytes.now) }
-{
-    match str::from_utf8(bytes) {
-        Ok(text) => ReplicaName::read(text).ok(),
-        Err(_) => None,
-    }
+    Some((ReplicaName::of_bytes(name)?, rest))
 }
