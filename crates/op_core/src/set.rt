@@ -346,15 +346,8 @@ impl OpSet {
                     book: segment.book,
                     key: *key,
                 };
-                is_verse_beside(segment.key, *key) && !self.is_text_empty(&own)
+                key.is_verse_of(segment.key.chapter) && !self.is_text_empty(&own)
             },
         )
     }
-}
-
-// Whether the key is a verse of the other one's chapter.
-fn is_verse_beside(other: Key, key: Key) -> bool
-    ensures { result ≡ is_verse_of other.chapter key }
-{
-    key.chapter == other.chapter && key.place != Place::Head
 }
