@@ -3,7 +3,8 @@ ghost use Rattle.usfm_ref.specs.Keys.{key_cmp};
 ghost use Rattle.usfm_ref.specs.Segments.{segment};
 ghost use Rattle.op_core.specs.Ids.{ids_rise};
 ghost use Rattle.op_core.specs.Sets as sets;
-ghost use Rattle.op_core.specs.Loops.Index.{HasRoom, IsSameBut, IsChangeOf, IsRisingChange, Takes, among};
+ghost use Rattle.op_core.specs.NextIds.{is_among};
+ghost use Rattle.op_core.specs.Loops.Index.{HasRoom, IsSameBut, IsChangeOf, IsRisingChange, Takes};
 
 use super::change::{Aside, Change, change_of};
 use crate::ids::op_id::OpId;
@@ -61,7 +62,7 @@ impl Register {
         requires named { IsTrue (ids_rise aside.old.named.items) }
         ensures same { IsSameBut self.old self.new }
         ensures change { IfOk result (λ c. IsChangeOf held.now (segment book self.old.key)
-            (among aside.old.arrived.items) (among aside.old.named.items)
+            (is_among aside.old.arrived.items) (is_among aside.old.named.items)
             self.old.shown.items self.old.missing.items c) }
         ensures rising { IfOk result IsRisingChange }
         ensures room { IfOk result (λ c. HasRoom c self.new) }
