@@ -10,7 +10,7 @@ ghost use Rattle.op_core.specs.Loops.Index.{IsChangeOf, IsRisingChange, is_in};
 use super::register::Register;
 use crate::ids::op_id::OpId;
 use crate::ids::search::Search;
-use crate::ids::{common_ids, leave_ids, part_ids};
+use crate::ids::{common_ids, part_ids, remove_ids};
 use crate::lists::place::is_in;
 use crate::operations::op::Op;
 use std::alloc::{AllocError, Global};
@@ -84,10 +84,10 @@ pub(crate) fn change_of(
         &aside.named,
         search,
     )?;
-    leave_ids(&mut aside.fresh, &found, search);
-    leave_ids(&mut aside.absent, &leaving, search);
-    leave_ids(&mut aside.absent, &register.missing, search);
-    leave_held(&mut aside.absent, held, &segment, search);
+    remove_ids(&mut aside.fresh, &found, search);
+    remove_ids(&mut aside.absent, &leaving, search);
+    remove_ids(&mut aside.absent, &register.missing, search);
+    remove_held_ids(&mut aside.absent, held, &segment, search);
     let arrived = Vec::from_slice(alloc, &aside.fresh)?;
     let lacking = Vec::from_slice(alloc, &aside.absent)?;
     Ok(Change {
@@ -101,7 +101,7 @@ pub(crate) fn change_of(
 }
 
 // Takes out of a list the ids of operations of a segment.
-fn leave_held(ids: &mut Vec<OpId>, held: &[Op], segment: &Segment, search: &mut Search)
+fn remove_held_ids(ids: &mut Vec<OpId>, held: &[Op], segment: &Segment, search: &mut Search)
     requires held { IsTrue (sets.rises held.now) }
     requires rising { IsTrue (ids_rise ids.old.items) }
     ensures rising { IsTrue (ids_rise ids.new.items) }

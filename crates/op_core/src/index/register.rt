@@ -9,7 +9,7 @@ ghost use Rattle.op_core.specs.Loops.Index.{HasRoom, IsSameBut, IsChangeOf, IsRi
 use super::change::{Aside, Change, change_of};
 use crate::ids::op_id::OpId;
 use crate::ids::search::Search;
-use crate::ids::{leave_ids, reserve_ids, unite_ids};
+use crate::ids::{remove_ids, reserve_ids, unite_ids};
 use crate::operations::op::Op;
 use std::alloc::{AllocError, Global};
 use std::cmp::Ordering;
@@ -81,9 +81,9 @@ impl Register {
         requires room { HasRoom change self.old }
         ensures { Takes change self.old self.new }
     {
-        leave_ids(&mut self.shown, &change.leaving, search);
+        remove_ids(&mut self.shown, &change.leaving, search);
         unite_ids(&mut self.shown, change.arrived, search);
-        leave_ids(&mut self.missing, &change.found, search);
+        remove_ids(&mut self.missing, &change.found, search);
         unite_ids(&mut self.missing, change.lacking, search);
     }
 }

@@ -21,12 +21,12 @@ returns-clause-change c =
     ∙ (λ i. is_among (c.deref-5.ensures.value i) q && not (is_among (c.deref-6.ensures.value i) q)) in
     let absent = λ (q : Id). c.in_ok-part_ids.ensures.others q
     ∙ (λ i. is_among (c.deref-6.ensures.value i) q && not (is_among (c.deref-5.ensures.value i) q)) in
-    let arrived = λ (q : Id). c.leave_ids.ensures.members q
+    let arrived = λ (q : Id). c.remove_ids.ensures.members q
     ∙ (λ i. fresh q i && not ((ap (λ (ids : List Id). is_among ids q) c.deref-7.ensures.value ∙ found q) i)) in
-    let unshown = λ (q : Id). c.leave_ids-2.ensures.members q
+    let unshown = λ (q : Id). c.remove_ids-2.ensures.members q
     ∙ (λ i. absent q i && not ((ap (λ (ids : List Id). is_among ids q) c.deref-8.ensures.value ∙ leaving q) i)) in
-    let unknown = λ (q : Id). c.leave_ids-3.ensures.members q ∙ (λ i. unshown q i && not (is_among (c.deref-9.ensures.value i) q)) in
-    let lacking = λ (q : Id). c.leave_held.ensures.members q ∙ (λ i. unknown q i && not (h q)) in
+    let unknown = λ (q : Id). c.remove_ids-3.ensures.members q ∙ (λ i. unshown q i && not (is_among (c.deref-9.ensures.value i) q)) in
+    let lacking = λ (q : Id). c.remove_held_ids.ensures.members q ∙ (λ i. unknown q i && not (h q)) in
     record {
       place = refl;
       arrived = λ q. ap (λ (ids : List Id). is_among ids q) (c.in_ok-arrived.ensures.items ∙ c.deref-10.ensures.value) ∙ arrived q

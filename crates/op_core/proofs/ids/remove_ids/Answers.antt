@@ -3,15 +3,15 @@ use Rattle.op_core.specs.Ids.{Id}
 use Rattle.op_core.specs.NextIds.{is_among}
 use Rattle.op_core.proofs.IdLists.{without_rises}
 use Rattle.op_core.proofs.IdSets.{filter_rises, filter_members, no_longer, only_one}
-use Rattle.op_core.proofs.ids.leave_ids.Goals as goal
+use Rattle.op_core.proofs.ids.remove_ids.Goals as goal
 
 pub returns-in-len1-clause-rising : goal.returns-in-len1-clause-rising
 returns-in-len1-clause-rising c =
-    without_rises c.id-item.result c.args.ids.now.items c.take_id.new.ids.items c.take_id.ensures.items c.requires.rising
+    without_rises c.id-item.result c.args.ids.now.items c.remove_id.new.ids.items c.remove_id.ensures.items c.requires.rising
 
 pub returns-in-len1-clause-members : goal.returns-in-len1-clause-members
 returns-in-len1-clause-members c = λ q.
-    no_longer q c.id-item.result c.args.ids.now.items c.take_id.new.ids.items c.take_id.ensures.items
+    no_longer q c.id-item.result c.args.ids.now.items c.remove_id.new.ids.items c.remove_id.ensures.items
     ∙ ap (λ (ids : List Id). is_among c.args.ids.now.items q && not (is_among ids q))
     (sym (only_one c.args.others.now c.id-item.result c.in-len1.len_at_least c.in-len1.len_below c.id-item.is))
 
