@@ -90,7 +90,7 @@ impl Replica {
     {
         let mut ops = Vec::new(self.alloc);
         for op in self.set.iter() {
-            ops.push(self.copy_op(op)?)?;
+            ops.push(op.copy(self.alloc)?)?;
         }
         let mut set = OpSet::new(self.alloc);
         set.join_rising(ops)?;
@@ -116,21 +116,6 @@ impl Replica {
             alloc: self.alloc,
             name,
             set,
-        }
-    }
-
-    // A copy of an operation.
-    fn copy_op(&self, op: &Op) -> Result<Op, AllocError>
-        ensures { IfOk result (λ copy. copy ≡ op.now) }
-    {
-        let replaced = op.replaced().to_vec(self.alloc)?;
-        let (id, book, key) = (op.id(), op.book(), op.key());
-        match op.text() {
-            None => Ok(Op::thinned(id, book, key, replaced)),
-            Some(text) => {
-                let text = String::from_str(self.alloc, text)?;
-                Ok(Op::new(id, book, key, replaced, text))
-            }
         }
     }
 
