@@ -64,7 +64,7 @@ impl Replica {
     {
         let book = book_of(file)?;
         let lacked = self.copy_lacked(base)?;
-        let was = self.replica_of(base)?;
+        let was = self.holding_bundle(base)?;
         let pieces = cut(self.alloc, file)?;
         if lacked.is_empty() && base.is_full() {
             // Nothing is to be received, and so nothing to be undone where the edits are refused.
@@ -98,7 +98,7 @@ impl Replica {
     }
 
     // A replica of the same name that holds what a bundle has.
-    fn replica_of(&self, bundle: &Bundle<'_>) -> Result<Replica, AllocError>
+    fn holding_bundle(&self, bundle: &Bundle<'_>) -> Result<Replica, AllocError>
         ensures { IfOk result (λ r. r ≡ record { name = self.now.name; held = bundle.now }) }
     {
         Ok(self.holding(bundle.to_set(self.alloc)?))
