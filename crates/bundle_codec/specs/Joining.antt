@@ -91,3 +91,9 @@ abbrev pub RefusesJoin : List ℕ → List ℕ → JoinFault → Type 0
 RefusesJoin x y Memory = JoinTakesMemory x y
 RefusesJoin x y (Bundle fault) = bundles_joined x y ≡ Err (Bundle fault)
 RefusesJoin x y (Clash id) = bundles_joined x y ≡ Err (Clash id)
+
+-- a refusal while two sets are joined is out of memory, or the clash that there is
+abbrev pub RefusesUnion : Option Id → JoinFault → Type 0
+RefusesUnion found Memory = Unit {0}
+RefusesUnion found (Bundle fault) = ⊥
+RefusesUnion found (Clash id) = found ≡ Some id

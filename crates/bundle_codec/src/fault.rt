@@ -3,7 +3,6 @@ ghost use Rattle.bundle_codec.specs.Joining.{join_fault};
 ghost use Rattle.bundle_codec.specs.declared.fault.BundleFault.TheVariants as bundle;
 ghost use Rattle.bundle_codec.specs.declared.fault.WholeFault.TheVariants as whole;
 ghost use Rattle.bundle_codec.specs.declared.fault.JoinFault.TheVariants as joining;
-ghost use Rattle.bundle_codec.specs.declared.fault.SummaryFault.TheVariants as summing;
 
 use op_core::OpId;
 use std::alloc::AllocError;
@@ -121,13 +120,5 @@ impl From<WholeFault> for JoinFault {
             WholeFault::Bundle(BundleFault::Memory) => JoinFault::Memory,
             _ => JoinFault::Bundle(fault),
         }
-    }
-}
-
-impl From<AllocError> for SummaryFault {
-    ghost from_gives = { λ _ fault. fault ≡ summing.Memory };
-
-    fn from(_: AllocError) -> SummaryFault {
-        SummaryFault::Memory
     }
 }

@@ -3,7 +3,6 @@ ghost use Rattle.std.specs.Prelude.{◌≡◌, ◌++◌, Ok, IfOk, IfErr, IsTrue
 ghost use Rattle.op_core.specs.Sets as sets;
 ghost use Rattle.op_core.specs.Thinned.{is_legal};
 ghost use Rattle.bundle_codec.specs.Joining as joining;
-ghost use Rattle.bundle_codec.specs.Loops.Merging.{RefusesUnion};
 ghost use Rattle.bundle_codec.specs.Spelling as spelled;
 
 mod merging;
@@ -66,7 +65,7 @@ impl Bundle<'_> {
         // The union is a legal set of operations.
         ensures set { IfOk result (λ _. sets.IsOpSet (sets.join self.now other.now)) }
         ensures legal { IfOk result (λ _. IsTrue (is_legal (sets.join self.now other.now))) }
-        ensures refused { IfErr result (RefusesUnion (sets.clash self.now other.now)) }
+        ensures refused { IfErr result (joining.RefusesUnion (sets.clash self.now other.now)) }
     {
         let at = bytes.len();
         push_front(&mut bytes, true, 0)?;

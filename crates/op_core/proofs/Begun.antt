@@ -15,7 +15,7 @@ use Rattle.op_core.specs.Sets.{rises, join}
 use Rattle.op_core.specs.Shown.{is_replaced}
 use Rattle.op_core.specs.Lists.{shown_ids}
 use Rattle.op_core.specs.Loops.Index.{register_of, shown_in, is_in, IsOrderly, IsIndex, Changes}
-use Rattle.op_core.specs.Loops.Turns.{turn_at, is_at, never_fall, comes, is_called, arrives, is_named, AreTurnsOf}
+use Rattle.op_core.specs.Loops.Turns.{is_at, never_fall, comes, is_called, arrives, is_named, AreTurnsOf}
 use Rattle.op_core.specs.Loops.Changes.{IsBegun}
 use Rattle.op_core.specs.declared.index.register.Register.{Register}
 use Rattle.op_core.specs.declared.index.chapter.Chapter.{Chapter}
@@ -29,10 +29,10 @@ use Rattle.op_core.proofs.Fronts.{join_none}
 -- what is so at a segment while these turns are left: a register is whole, and all that is left is after it; where there is none, all
 -- turns of the segment are left
 abbrev pub BegunAt : List Operation → List Turn → List Turn → Segment → Option Register → Type 0
-BegunAt new turns rest g None = (f : Turn → Bool) → list_any (λ t. same_segment (turn_at t) g && f t) turns
-    ≡ list_any (λ t. same_segment (turn_at t) g && f t) rest
+BegunAt new turns rest g None = (f : Turn → Bool) → list_any (λ t. same_segment t.segment g && f t) turns
+    ≡ list_any (λ t. same_segment t.segment g && f t) rest
 BegunAt new turns rest g (Some r) =
-    IsBegun (arrives new turns g) (is_named new turns g) (Some r) × (list_all (λ t. is_lt (segment_cmp g (turn_at t))) rest ≡ true)
+    IsBegun (arrives new turns g) (is_named new turns g) (Some r) × (list_all (λ t. is_lt (segment_cmp g t.segment)) rest ≡ true)
 
 pub record Begun (new : List Operation) (turns : List Turn) (now : List Chapter) (rest : List Turn) : Type 0 where
   pub orderly : IsOrderly now
@@ -50,37 +50,37 @@ none_begun new turns now e s =
 
 -- the segment of the first turn that is left has no register yet
 pub none_yet : (new : List Operation) (turns : List Turn) (now : List Chapter) (rest others : List Turn) (first : Turn)
-    → Begun new turns now rest → rest ≡ first ∷ others → register_of (turn_at first) now ≡ None
-none_yet new turns now rest others first w e = by (register_of (turn_at first) now) (w.each (turn_at first))
+    → Begun new turns now rest → rest ≡ first ∷ others → register_of first.segment now ≡ None
+none_yet new turns now rest others first w e = by (register_of first.segment now) (w.each first.segment)
   where
-    by : (x : Option Register) → BegunAt new turns rest (turn_at first) x → x ≡ None
+    by : (x : Option Register) → BegunAt new turns rest first.segment x → x ≡ None
     by None h = refl
     by (Some r) h =
-        let after = and_parts (is_lt (segment_cmp (turn_at first) (turn_at first)))
-        (list_all (λ t. is_lt (segment_cmp (turn_at first) (turn_at t))) others)
-        (sym (ap (list_all (λ (t : Turn). is_lt (segment_cmp (turn_at first) (turn_at t)))) e) ∙ h.1) in
-        cc (sym (less_apart (turn_at first) (turn_at first) after.0) ∙ ap is_eq (tied_itself segment_total (turn_at first)))
+        let after = and_parts (is_lt (segment_cmp first.segment first.segment))
+        (list_all (λ t. is_lt (segment_cmp first.segment t.segment)) others)
+        (sym (ap (list_all (λ (t : Turn). is_lt (segment_cmp first.segment t.segment))) e) ∙ h.1) in
+        cc (sym (less_apart first.segment first.segment after.0) ∙ ap is_eq (tied_itself segment_total first.segment))
 
 module _ (new : List Operation) (turns : List Turn) (now after : List Chapter) (rest others own later : List Turn) (first : Turn) (n : ℕ)
     (r : Register) (w : Begun new turns now rest) (e : rest ≡ first ∷ others) (o : own ≡ take (1 + n) rest) (l : later ≡ drop (1 + n) rest)
-    (ours : AllByRecursion (λ (t : Turn). turn_at t ≡ turn_at first) (take n others))
-    (above : list_all (λ t. is_lt (segment_cmp (turn_at first) (turn_at t))) (drop n others) ≡ true)
-    (is : IsBegun (comes new own) (is_called new own) (Some r)) (c : Changes (turn_at first) r now after) where
-  own_all : AllByRecursion (λ (t : Turn). turn_at t ≡ turn_at first) own
-  own_all = subst (AllByRecursion (λ (t : Turn). turn_at t ≡ turn_at first)) (sym (o ∙ own_is rest others first n e)) (refl, ours)
+    (ours : AllByRecursion (λ (t : Turn). t.segment ≡ first.segment) (take n others))
+    (above : list_all (λ t. is_lt (segment_cmp first.segment t.segment)) (drop n others) ≡ true)
+    (is : IsBegun (comes new own) (is_called new own) (Some r)) (c : Changes first.segment r now after) where
+  own_all : AllByRecursion (λ (t : Turn). t.segment ≡ first.segment) own
+  own_all = subst (AllByRecursion (λ (t : Turn). t.segment ≡ first.segment)) (sym (o ∙ own_is rest others first n e)) (refl, ours)
 
-  later_all : list_all (λ t. is_lt (segment_cmp (turn_at first) (turn_at t))) later ≡ true
-  later_all = ap (list_all (λ (t : Turn). is_lt (segment_cmp (turn_at first) (turn_at t)))) (l ∙ later_is rest others first n e) ∙ above
+  later_all : list_all (λ t. is_lt (segment_cmp first.segment t.segment)) later ≡ true
+  later_all = ap (list_all (λ (t : Turn). is_lt (segment_cmp first.segment t.segment))) (l ∙ later_is rest others first n e) ∙ above
 
   whole : rest ≡ own ++ later
   whole = sym (take-append-drop (1 + n) rest) ∙ (λ i. sym o i ++ sym l i)
 
-  at_own : (f : Turn → Bool) → list_any f own ≡ list_any (λ t. same_segment (turn_at t) (turn_at first) && f t) turns
+  at_own : (f : Turn → Bool) → list_any f own ≡ list_any (λ t. same_segment t.segment first.segment && f t) turns
   at_own f =
-      sym (subst (BegunAt new turns rest (turn_at first)) (none_yet new turns now rest others first w e) (w.each (turn_at first)) f
-      ∙ at_run rest own later (turn_at first) whole own_all later_all f)
+      sym (subst (BegunAt new turns rest first.segment) (none_yet new turns now rest others first w e) (w.each first.segment) f
+      ∙ at_run rest own later first.segment whole own_all later_all f)
 
-  begun : IsBegun (arrives new turns (turn_at first)) (is_named new turns (turn_at first)) (Some r)
+  begun : IsBegun (arrives new turns first.segment) (is_named new turns first.segment) (Some r)
   begun =
       let comes_is = λ (q : Id). at_own (λ t. is_at (λ x. same_id q x.id) new t.at) in
       let called_is = λ (q : Id). at_own (λ t. is_at (λ x. names x q) new t.at) in
@@ -92,20 +92,20 @@ module _ (new : List Operation) (turns : List Turn) (now after : List Chapter) (
       }
 
   each_now : (g : Segment) → BegunAt new turns later g (register_of g after)
-  each_now g = subst (BegunAt new turns later g) (sym (c.is_now g)) (by (is_eq (segment_cmp g (turn_at first))) refl)
+  each_now g = subst (BegunAt new turns later g) (sym (c.is_now g)) (by (is_eq (segment_cmp g first.segment)) refl)
     where
-      other : (x : Option Register) → is_eq (segment_cmp g (turn_at first)) ≡ false → BegunAt new turns rest g x
+      other : (x : Option Register) → is_eq (segment_cmp g first.segment) ≡ false → BegunAt new turns rest g x
           → BegunAt new turns later g x
-      other None t h = λ f. h f ∙ at_other rest own later (turn_at first) whole own_all later_all g f
-          (same_segment-cmp (turn_at first) g ∙ tied_back segment_cmp segment_total g (turn_at first) false t)
+      other None t h = λ f. h f ∙ at_other rest own later first.segment whole own_all later_all g f
+          (same_segment-cmp first.segment g ∙ tied_back segment_cmp segment_total g first.segment false t)
       other (Some x) t h = (
         h.0,
-        ap (list_all (λ (t : Turn). is_lt (segment_cmp g (turn_at t)))) l
-            ∙ all_drop (λ (t : Turn). is_lt (segment_cmp g (turn_at t))) (1 + n) rest h.1,
+        ap (list_all (λ (t : Turn). is_lt (segment_cmp g t.segment))) l
+            ∙ all_drop (λ (t : Turn). is_lt (segment_cmp g t.segment)) (1 + n) rest h.1,
       )
 
-      by : (b : Bool) → is_eq (segment_cmp g (turn_at first)) ≡ b → BegunAt new turns later g (cond b (Some r) (register_of g now))
-      by true t = subst (λ (k : Segment). BegunAt new turns later k (Some r)) (sym (segment_exact g (turn_at first) ((Equal-is _).0 t)))
+      by : (b : Bool) → is_eq (segment_cmp g first.segment) ≡ b → BegunAt new turns later g (cond b (Some r) (register_of g now))
+      by true t = subst (λ (k : Segment). BegunAt new turns later k (Some r)) (sym (segment_exact g first.segment ((Equal-is _).0 t)))
           (begun, later_all)
       by false t = other (register_of g now) t (w.each g)
 
@@ -142,7 +142,7 @@ begun_index new turns now rest h t e w = record {
           missing = λ q. k.0.missing q ∙ (λ i. named_is q i && not (new_is q i));
         }
         by None k =
-            let away = λ (f : Turn → Bool). k f ∙ ap (list_any (λ (t : Turn). same_segment (turn_at t) g && f t)) e in
+            let away = λ (f : Turn → Bool). k f ∙ ap (list_any (λ (t : Turn). same_segment t.segment g && f t)) e in
             let no_new = λ (q : Id). sym (new_is q) ∙ away (λ t. is_at (λ x. same_id q x.id) new t.at) in
             let no_named = λ (q : Id). sym (named_is q) ∙ away (λ t. is_at (λ x. names x q) new t.at) in
             record {

@@ -12,7 +12,8 @@ use Rattle.op_core.specs.Ops.{Operation, in_segment, names}
 use Rattle.op_core.specs.Sets.{rises, get, join, IsOpSet}
 use Rattle.op_core.specs.Shown.{is_replaced}
 use Rattle.op_core.specs.Lists.{shown_ids}
-use Rattle.op_core.specs.Loops.Index.{is_in, among, register_of, shown_in, missing_in, change_at, AreApart, IsIndex}
+use Rattle.op_core.specs.NextIds.{is_among}
+use Rattle.op_core.specs.Loops.Index.{is_in, register_of, shown_in, missing_in, change_at, AreApart, IsIndex}
 use Rattle.op_core.specs.Loops.Turns.{AreTurnsOf}
 use Rattle.op_core.specs.Loops.Changes.{change_for, IsChangeAt, AreChanges, TakesIn, Taken, Settles}
 use Rattle.op_core.specs.declared.index.register.Register.{Register}
@@ -104,14 +105,15 @@ found_has P g (x ∷ cs) c h e = by (found_has P g cs c h.1) (is_eq (segment_cmp
 -- what the index keeps of a segment of the union
 record KeptAt (held new : List Operation) (g : Segment) (r : Option Register) : Type 0 where
   pub shown_rises : ids_rise (shown_in r) ≡ true
-  pub shown : (q : Id) → among (shown_in r) q ≡ ((is_in held g q || is_in new g q) && not (is_replaced held g q || is_replaced new g q))
+  pub shown : (q : Id) → is_among (shown_in r) q ≡ ((is_in held g q || is_in new g q) && not (is_replaced held g q || is_replaced new g q))
   pub missing_rises : ids_rise (missing_in r) ≡ true
-  pub missing : (q : Id) → among (missing_in r) q ≡ ((is_replaced held g q || is_replaced new g q) && not (is_in held g q || is_in new g q))
+  pub missing : (q : Id) → is_among (missing_in r) q
+      ≡ ((is_replaced held g q || is_replaced new g q) && not (is_in held g q || is_in new g q))
 
 module _ (held new : List Operation) (turns : List Turn) (changes : List Change) (before after : List Chapter) (sh : IsOpSet held)
     (sn : IsOpSet new) (apart : AreApart held new) (index : IsIndex held before) (t : AreTurnsOf new turns)
     (are : AreChanges held new turns before changes) (s : Settles changes before after) where
-  was_shown : (g : Segment) (q : Id) → among (shown_in (register_of g before)) q ≡ (is_in held g q && not (is_replaced held g q))
+  was_shown : (g : Segment) (q : Id) → is_among (shown_in (register_of g before)) q ≡ (is_in held g q && not (is_replaced held g q))
   was_shown g q = ap (list_any (same_id q)) (index.keeps.shown g) ∙ any_shown held g q
 
   was_risen : (g : Segment) → ids_rise (shown_in (register_of g before)) ≡ true
@@ -124,11 +126,11 @@ module _ (held new : List Operation) (turns : List Turn) (changes : List Change)
       let no_named = λ (q : Id). none_in g (λ o. names o q) new away in
       record {
         shown_rises = ap (λ (r : Option Register). ids_rise (shown_in r)) same ∙ was_risen g;
-        shown = λ q. ap (λ (r : Option Register). among (shown_in r) q) same ∙ was_shown g q
+        shown = λ q. ap (λ (r : Option Register). is_among (shown_in r) q) same ∙ was_shown g q
             ∙ (λ i. or_false (is_in held g q) i && not (or_false (is_replaced held g q) i))
             ∙ (λ i. (is_in held g q || sym (no_new q) i) && not (is_replaced held g q || sym (no_named q) i));
         missing_rises = ap (λ (r : Option Register). ids_rise (missing_in r)) same ∙ index.keeps.rising g;
-        missing = λ q. ap (λ (r : Option Register). among (missing_in r) q) same ∙ index.keeps.missing g q
+        missing = λ q. ap (λ (r : Option Register). is_among (missing_in r) q) same ∙ index.keeps.missing g q
             ∙ (λ i. or_false (is_replaced held g q) i && not (or_false (is_in held g q) i))
             ∙ (λ i. (is_replaced held g q || sym (no_named q) i) && not (is_in held g q || sym (no_new q) i));
       }
@@ -139,17 +141,17 @@ module _ (held new : List Operation) (turns : List Turn) (changes : List Change)
   at_change c k n =
       let new_is = λ (q : Id). t.same (λ p. same_segment p (change_at c)) (λ o. same_id q o.id) in
       let named_is = λ (q : Id). t.same (λ p. same_segment p (change_at c)) (λ o. names o q) in
-      let sb = λ (q : Id). sym (ap (λ (r : Option Register). among (shown_in r) q) n.was) ∙ was_shown (change_at c) q in
-      let mb = λ (q : Id). sym (ap (λ (r : Option Register). among (missing_in r) q) n.was) ∙ index.keeps.missing (change_at c) q in
+      let sb = λ (q : Id). sym (ap (λ (r : Option Register). is_among (shown_in r) q) n.was) ∙ was_shown (change_at c) q in
+      let mb = λ (q : Id). sym (ap (λ (r : Option Register). is_among (missing_in r) q) n.was) ∙ index.keeps.missing (change_at c) q in
       record {
         shown_rises = ap (λ (r : Option Register). ids_rise (shown_in r)) n.is ∙ n.takes.shown_rises;
-        shown = λ q. ap (λ (r : Option Register). among (shown_in r) q) n.is ∙ n.takes.shown q
+        shown = λ q. ap (λ (r : Option Register). is_among (shown_in r) q) n.is ∙ n.takes.shown q
             ∙ (λ i. (sb q i && not ((k.leaving q ∙ (λ j. named_is q j && was_shown (change_at c) q j)) i))
             || (k.arrived q ∙ (λ j. (new_is q j && not (named_is q j)) && not (index.keeps.missing (change_at c) q j))) i)
             ∙ shown_table (is_in held (change_at c) q) (is_replaced held (change_at c) q) (is_in new (change_at c) q)
             (is_replaced new (change_at c) q) (new_unheld held new (change_at c) q sh.rising sn.rising apart);
         missing_rises = ap (λ (r : Option Register). ids_rise (missing_in r)) n.is ∙ n.takes.missing_rises;
-        missing = λ q. ap (λ (r : Option Register). among (missing_in r) q) n.is ∙ n.takes.missing q
+        missing = λ q. ap (λ (r : Option Register). is_among (missing_in r) q) n.is ∙ n.takes.missing q
             ∙ (λ i. (mb q i && not ((k.found q ∙ (λ j. new_is q j && index.keeps.missing (change_at c) q j)) i))
             || (k.lacking q ∙ (λ j. (((named_is q j && not (new_is q j)) && not (was_shown (change_at c) q j))
             && not (index.keeps.missing (change_at c) q j)) && not (is_in held (change_at c) q))) i)

@@ -11,7 +11,8 @@ use Rattle.std.proofs.lemmas.List.Kept.{IsStrictlySortedBy-dedup}
 use Rattle.usfm_ref.specs.Rising.{placed}
 use Rattle.usfm_ref.proofs.Sorted.{rises_filter}
 use Rattle.op_core.specs.Ids.{Id, id_cmp, same_id, ids_rise}
-use Rattle.op_core.specs.Loops.Index.{without, among}
+use Rattle.op_core.specs.NextIds.{is_among}
+use Rattle.op_core.specs.Loops.Index.{without}
 use Rattle.op_core.proofs.Rising.{id_total, same_id-cmp}
 use Rattle.op_core.proofs.IdLists.{any_without, any_placed}
 use Rattle.op_core.proofs.Awaited.{any_dedup, strict_rises, any_filtered, any_append}
@@ -25,7 +26,8 @@ pub sorted_rises : (sorted ys : List Id) → IsSorted id_cmp sorted → ys ≡ d
 sorted_rises sorted ys s e =
     ap ids_rise e ∙ strict_rises (dedup same_id sorted) (IsStrictlySortedBy-dedup id_total (λ x y. same_id-cmp x y) sorted s)
 
-pub sorted_members : (xs sorted ys : List Id) → IsPermutation xs sorted → ys ≡ dedup same_id sorted → (q : Id) → among ys q ≡ among xs q
+pub sorted_members : (xs sorted ys : List Id) → IsPermutation xs sorted → ys ≡ dedup same_id sorted → (q : Id)
+    → is_among ys q ≡ is_among xs q
 sorted_members xs sorted ys p e q = ap (list_any (same_id q)) e ∙ any_dedup q sorted ∙ sym (list_any-IsPermutation (same_id q) xs sorted p)
 
 -- ---- what is left
@@ -33,7 +35,7 @@ sorted_members xs sorted ys p e q = ap (list_any (same_id q)) e ∙ any_dedup q 
 pub filter_rises : (p : Id → Bool) (xs ys : List Id) → ys ≡ filter p xs → ids_rise xs ≡ true → ids_rise ys ≡ true
 filter_rises p xs ys e h = ap ids_rise e ∙ rises_filter id_cmp id_total (λ (i : Id). i) p xs h
 
-pub filter_members : (p : Id → Bool) (xs ys : List Id) → ys ≡ filter p xs → (q : Id) → among ys q ≡ (among xs q && p q)
+pub filter_members : (p : Id → Bool) (xs ys : List Id) → ys ≡ filter p xs → (q : Id) → is_among ys q ≡ (is_among xs q && p q)
 filter_members p xs ys e q = ap (list_any (same_id q)) e ∙ any_filtered q p xs
 
 or_false : (b : Bool) → (b || false) ≡ b
@@ -44,7 +46,7 @@ pub and_true : (b : Bool) → b ≡ (b && true)
 and_true true = refl
 and_true false = refl
 
-pub no_longer : (q n : Id) (xs ys : List Id) → ys ≡ without n xs → among ys q ≡ (among xs q && not (among (n ∷ []) q))
+pub no_longer : (q n : Id) (xs ys : List Id) → ys ≡ without n xs → is_among ys q ≡ (is_among xs q && not (is_among (n ∷ []) q))
 no_longer q n xs ys e =
     ap (list_any (same_id q)) e ∙ any_without q n xs ∙ ap (λ b. list_any (same_id q) xs && not b) (sym (or_false (same_id q n)))
 
@@ -57,7 +59,8 @@ filter_one p xs i x b l hx e ys h =
 -- ---- one put in after the other
 
 pub put_one : (q : Id) (a : Bool) (more xs ys : List Id) (i : ℕ) (n : Id) → i < length more → n ≡ get_or more i n
-    → ys ≡ placed id_cmp (λ (k : Id). k) n xs → among xs q ≡ (a || among (take i more) q) → among ys q ≡ (a || among (take (i + 1) more) q)
+    → ys ≡ placed id_cmp (λ (k : Id). k) n xs → is_among xs q ≡ (a || is_among (take i more) q)
+    → is_among ys q ≡ (a || is_among (take (i + 1) more) q)
 put_one q a more xs ys i n l hn e h =
     ap (list_any (same_id q)) e ∙ any_placed q n xs ∙ ap (λ b. same_id q n || b) h
     ∙ turn (same_id q n) a (list_any (same_id q) (take i more))
@@ -76,7 +79,7 @@ pub none_before : (a : Bool) → a ≡ (a || false)
 none_before true = refl
 none_before false = refl
 
-pub appended : (q : Id) (xs ys zs : List Id) → zs ≡ xs ++ ys → among zs q ≡ (among xs q || among ys q)
+pub appended : (q : Id) (xs ys zs : List Id) → zs ≡ xs ++ ys → is_among zs q ≡ (is_among xs q || is_among ys q)
 appended q xs ys zs e = ap (list_any (same_id q)) e ∙ any_append (same_id q) xs ys
 
 -- ---- what holds of a result

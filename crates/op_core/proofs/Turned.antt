@@ -19,7 +19,7 @@ use Rattle.usfm_ref.proofs.Sorted.{tied_back, parts}
 use Rattle.op_core.specs.Ids.{Id, same_id}
 use Rattle.op_core.specs.Ops.{Operation}
 use Rattle.op_core.specs.Loops.Index.{is_in, change_at, shown_in, missing_in, register_of, IsChangeOf, Readies}
-use Rattle.op_core.specs.Loops.Turns.{turn_at, is_at, never_fall, arrives, is_named, AreTurnsOf}
+use Rattle.op_core.specs.Loops.Turns.{is_at, never_fall, arrives, is_named, AreTurnsOf}
 use Rattle.op_core.specs.Loops.Changes.{change_for, IsChangeAt}
 use Rattle.op_core.specs.declared.index.chapter.Chapter.{Chapter}
 use Rattle.op_core.specs.declared.index.change.Change.{Change}
@@ -44,22 +44,22 @@ after_apart a g h = same_segment-cmp a g ∙ less_apart g a h
 -- ---- the run at the front
 
 -- all of a run are of its segment
-pub all_of_run : (g : Segment) (f : Turn → Bool) (ts : List Turn) → AllByRecursion (λ (t : Turn). turn_at t ≡ g) ts
-    → list_any (λ t. same_segment (turn_at t) g && f t) ts ≡ list_any f ts
+pub all_of_run : (g : Segment) (f : Turn → Bool) (ts : List Turn) → AllByRecursion (λ (t : Turn). t.segment ≡ g) ts
+    → list_any (λ t. same_segment t.segment g && f t) ts ≡ list_any f ts
 all_of_run g f [] h = refl
-all_of_run g f (t ∷ ts) h = λ i. (same_itself (turn_at t) g h.0 i && f t) || all_of_run g f ts h.1 i
+all_of_run g f (t ∷ ts) h = λ i. (same_itself t.segment g h.0 i && f t) || all_of_run g f ts h.1 i
 
 -- none of what comes after it is
-pub none_after : (g : Segment) (f : Turn → Bool) (ts : List Turn) → list_all (λ t. is_lt (segment_cmp g (turn_at t))) ts ≡ true
-    → list_any (λ t. same_segment (turn_at t) g && f t) ts ≡ false
+pub none_after : (g : Segment) (f : Turn → Bool) (ts : List Turn) → list_all (λ t. is_lt (segment_cmp g t.segment)) ts ≡ true
+    → list_any (λ t. same_segment t.segment g && f t) ts ≡ false
 none_after g f [] h = refl
 none_after g f (t ∷ ts) h =
-    let p = and_parts (is_lt (segment_cmp g (turn_at t))) (list_all (λ t. is_lt (segment_cmp g (turn_at t))) ts) h in
-    λ i. (after_apart (turn_at t) g p.0 i && f t) || none_after g f ts p.1 i
+    let p = and_parts (is_lt (segment_cmp g t.segment)) (list_all (λ t. is_lt (segment_cmp g t.segment)) ts) h in
+    λ i. (after_apart t.segment g p.0 i && f t) || none_after g f ts p.1 i
 
 -- and none of a run is of another segment
 pub none_other : (g k : Segment) (f : Turn → Bool) (ts : List Turn) → same_segment k g ≡ false
-    → AllByRecursion (λ (t : Turn). turn_at t ≡ k) ts → list_any (λ t. same_segment (turn_at t) g && f t) ts ≡ false
+    → AllByRecursion (λ (t : Turn). t.segment ≡ k) ts → list_any (λ t. same_segment t.segment g && f t) ts ≡ false
 none_other g k f [] e h = refl
 none_other g k f (t ∷ ts) e h = λ i. ((ap (λ (s : Segment). same_segment s g) h.0 ∙ e) i && f t) || none_other g k f ts e h.1 i
 
@@ -71,7 +71,7 @@ pub fall_drop : (n : ℕ) (ts : List Turn) → never_fall ts ≡ true → never_
 fall_drop zero ts h = h
 fall_drop (suc n) [] h = refl
 fall_drop (suc n) (t ∷ ts) h =
-    fall_drop n ts (and_parts (list_all (λ u. not (is_lt (segment_cmp (turn_at u) (turn_at t)))) ts) (never_fall ts) h).1
+    fall_drop n ts (and_parts (list_all (λ u. not (is_lt (segment_cmp u.segment t.segment))) ts) (never_fall ts) h).1
 
 pub all_drop : {X : Type 0} (p : X → Bool) (n : ℕ) (xs : List X) → list_all p xs ≡ true → list_all p (drop n xs) ≡ true
 all_drop p zero xs h = h
@@ -86,16 +86,16 @@ greater Greater h e = refl
 
 -- from a turn that does not tie on, all come after
 pub later_above : (first : Turn) (ts : List Turn) (n : ℕ) (t : Turn) → never_fall (first ∷ ts) ≡ true → n < length ts → t ≡ get_or ts n t
-    → is_eq (segment_cmp (turn_at t) (turn_at first)) ≡ false
-    → list_all (λ u. is_lt (segment_cmp (turn_at first) (turn_at u))) (drop n ts) ≡ true
+    → is_eq (segment_cmp t.segment first.segment) ≡ false
+    → list_all (λ u. is_lt (segment_cmp first.segment u.segment)) (drop n ts) ≡ true
 later_above first [] n t h l e f = absurd (omega arith)
 later_above first (x ∷ ts) zero t h l e f =
-    let q = and_parts (not (is_lt (segment_cmp (turn_at x) (turn_at first))))
-    (list_all (λ u. not (is_lt (segment_cmp (turn_at u) (turn_at first)))) ts) (and_parts _ (never_fall (x ∷ ts)) h).0 in
-    let less : segment_cmp (turn_at first) (turn_at x) ≡ Less =
-    before (turn_at first) (turn_at x) (flip _ q.0) (ap (λ (u : Turn). is_eq (segment_cmp (turn_at u) (turn_at first))) (sym e) ∙ f) in
+    let q = and_parts (not (is_lt (segment_cmp x.segment first.segment)))
+    (list_all (λ u. not (is_lt (segment_cmp u.segment first.segment))) ts) (and_parts _ (never_fall (x ∷ ts)) h).0 in
+    let less : segment_cmp first.segment x.segment ≡ Less =
+    before first.segment x.segment (flip _ q.0) (ap (λ (u : Turn). is_eq (segment_cmp u.segment first.segment)) (sym e) ∙ f) in
     and_from _ _ (ap is_lt less)
-    (over (turn_at first) (turn_at x) less ts (and_parts _ (never_fall ts) (and_parts _ (never_fall (x ∷ ts)) h).1).0)
+    (over first.segment x.segment less ts (and_parts _ (never_fall ts) (and_parts _ (never_fall (x ∷ ts)) h).1).0)
   where
     flip : (b : Bool) → not b ≡ true → b ≡ false
     flip true e = cc e
@@ -113,35 +113,35 @@ later_above first (x ∷ ts) zero t h l e f =
         by Equal k n = ap is_lt (ap (segment_cmp a) (segment_exact c b k) ∙ p)
         by Greater k n = ap is_lt (segment_total.trans a b c p (segment_total.antisymm b c ∙ ap ordering_reverse k))
 
-    over : (a b : Segment) → segment_cmp a b ≡ Less → (us : List Turn) → list_all (λ u. not (is_lt (segment_cmp (turn_at u) b))) us ≡ true
-        → list_all (λ u. is_lt (segment_cmp a (turn_at u))) us ≡ true
+    over : (a b : Segment) → segment_cmp a b ≡ Less → (us : List Turn) → list_all (λ u. not (is_lt (segment_cmp u.segment b))) us ≡ true
+        → list_all (λ u. is_lt (segment_cmp a u.segment)) us ≡ true
     over a b p [] k = refl
     over a b p (u ∷ us) k =
-        let r = and_parts (not (is_lt (segment_cmp (turn_at u) b))) (list_all (λ u. not (is_lt (segment_cmp (turn_at u) b))) us) k in
-        and_from _ _ (step a b (turn_at u) p (flip _ r.0)) (over a b p us r.1)
+        let r = and_parts (not (is_lt (segment_cmp u.segment b))) (list_all (λ u. not (is_lt (segment_cmp u.segment b))) us) k in
+        and_from _ _ (step a b u.segment p (flip _ r.0)) (over a b p us r.1)
 later_above first (x ∷ ts) (suc n) t h l e f =
     let q = and_parts _ (never_fall (x ∷ ts)) h in
-    let tail = and_parts _ (list_all (λ u. not (is_lt (segment_cmp (turn_at u) (turn_at first)))) ts) q.0 in
+    let tail = and_parts _ (list_all (λ u. not (is_lt (segment_cmp u.segment first.segment))) ts) q.0 in
     later_above first ts n t (and_from _ _ tail.1 (and_parts _ (never_fall ts) q.1).1) (omega arith) e f
 
 -- ---- turns that are left, after the run at their front
 
-module _ (rest own later : List Turn) (g : Segment) (whole : rest ≡ own ++ later) (ours : AllByRecursion (λ (t : Turn). turn_at t ≡ g) own)
-    (above : list_all (λ t. is_lt (segment_cmp g (turn_at t))) later ≡ true) where
+module _ (rest own later : List Turn) (g : Segment) (whole : rest ≡ own ++ later) (ours : AllByRecursion (λ (t : Turn). t.segment ≡ g) own)
+    (above : list_all (λ t. is_lt (segment_cmp g t.segment)) later ≡ true) where
   -- at the run's segment
-  pub at_run : (f : Turn → Bool) → list_any (λ t. same_segment (turn_at t) g && f t) rest ≡ list_any f own
+  pub at_run : (f : Turn → Bool) → list_any (λ t. same_segment t.segment g && f t) rest ≡ list_any f own
   at_run f =
-      ap (list_any (λ (t : Turn). same_segment (turn_at t) g && f t)) whole
-      ∙ list_any-append (λ (t : Turn). same_segment (turn_at t) g && f t) own later
+      ap (list_any (λ (t : Turn). same_segment t.segment g && f t)) whole
+      ∙ list_any-append (λ (t : Turn). same_segment t.segment g && f t) own later
       ∙ (λ i. all_of_run g f own ours i || none_after g f later above i) ∙ or_false (list_any f own)
 
   -- at any other
   pub at_other : (k : Segment) (f : Turn → Bool) → same_segment g k ≡ false
-      → list_any (λ t. same_segment (turn_at t) k && f t) rest ≡ list_any (λ t. same_segment (turn_at t) k && f t) later
+      → list_any (λ t. same_segment t.segment k && f t) rest ≡ list_any (λ t. same_segment t.segment k && f t) later
   at_other k f e =
-      ap (list_any (λ (t : Turn). same_segment (turn_at t) k && f t)) whole
-      ∙ list_any-append (λ (t : Turn). same_segment (turn_at t) k && f t) own later
-      ∙ ap (λ b. b || list_any (λ (t : Turn). same_segment (turn_at t) k && f t) later) (none_other k g f own e ours)
+      ap (list_any (λ (t : Turn). same_segment t.segment k && f t)) whole
+      ∙ list_any-append (λ (t : Turn). same_segment t.segment k && f t) own later
+      ∙ ap (λ b. b || list_any (λ (t : Turn). same_segment t.segment k && f t) later) (none_other k g f own e ours)
 
 -- ---- changes of earlier segments
 
@@ -209,7 +209,7 @@ are_ready held new turns before after cs r h =
 -- ---- turns of operations, made and sorted
 
 module _ (new : List Operation) (ts us : List Turn) (at : ℕ) (o : Operation) (t : Turn) (l : at < length new) (ho : o ≡ get_or new at o)
-    (home : turn_at t ≡ o.segment) (place : t.at ≡ at) (e : us ≡ ts ++ t ∷ []) where
+    (home : t.segment ≡ o.segment) (place : t.at ≡ at) (e : us ≡ ts ++ t ∷ []) where
   here_is : (f : Operation → Bool) → is_at f new t.at ≡ f o
   here_is f =
       ap (is_at f new) place ∙ ap (λ (xs : List Operation). list_any f (take 1 xs)) (drop-cons new at o l)
@@ -221,28 +221,28 @@ module _ (new : List Operation) (ts us : List Turn) (at : ℕ) (o : Operation) (
       ap (list_any p) e ∙ list_any-append p ts (t ∷ []) ∙ (λ i. h i || (or_false (p t) ∙ s ∙ ap f ho) i) ∙ sym (list_any_more f new at o l)
 
   pub same_more : (p : Segment → Bool) (f : Operation → Bool)
-      → list_any (λ t. p (turn_at t) && is_at f new t.at) ts ≡ list_any (λ o. p o.segment && f o) (take at new)
-      → list_any (λ t. p (turn_at t) && is_at f new t.at) us ≡ list_any (λ o. p o.segment && f o) (take (at + 1) new)
-  same_more p f h = turn_more (λ t. p (turn_at t) && is_at f new t.at) (λ o. p o.segment && f o) (λ i. p (home i) && here_is f i) h
+      → list_any (λ t. p t.segment && is_at f new t.at) ts ≡ list_any (λ o. p o.segment && f o) (take at new)
+      → list_any (λ t. p t.segment && is_at f new t.at) us ≡ list_any (λ o. p o.segment && f o) (take (at + 1) new)
+  same_more p f h = turn_more (λ t. p t.segment && is_at f new t.at) (λ o. p o.segment && f o) (λ i. p (home i) && here_is f i) h
 
-  pub each_more : (p : Segment → Bool) → list_any (λ t. p (turn_at t)) ts ≡ list_any (λ o. p o.segment) (take at new)
-      → list_any (λ t. p (turn_at t)) us ≡ list_any (λ o. p o.segment) (take (at + 1) new)
-  each_more p h = turn_more (λ t. p (turn_at t)) (λ o. p o.segment) (ap p home) h
+  pub each_more : (p : Segment → Bool) → list_any (λ t. p t.segment) ts ≡ list_any (λ o. p o.segment) (take at new)
+      → list_any (λ t. p t.segment) us ≡ list_any (λ o. p o.segment) (take (at + 1) new)
+  each_more p h = turn_more (λ t. p t.segment) (λ o. p o.segment) (ap p home) h
 
-pub turns_rank : IsStrictWeakOrder (λ (t u : Turn). is_lt (segment_cmp (turn_at t) (turn_at u)))
-turns_rank = ranks_by segment_total turn_at
+pub turns_rank : IsStrictWeakOrder (λ (t u : Turn). is_lt (segment_cmp t.segment u.segment))
+turns_rank = ranks_by segment_total (λ (t : Turn). t.segment)
 
-pub fall_sorted : (ts : List Turn) → IsSortedBy (λ (t u : Turn). is_lt (segment_cmp (turn_at t) (turn_at u))) ts → never_fall ts ≡ true
-fall_sorted ts h = far ts (λ i j d a b. sorted_far (λ (t u : Turn). is_lt (segment_cmp (turn_at t) (turn_at u))) turns_rank ts h i j d a b)
+pub fall_sorted : (ts : List Turn) → IsSortedBy (λ (t u : Turn). is_lt (segment_cmp t.segment u.segment)) ts → never_fall ts ≡ true
+fall_sorted ts h = far ts (λ i j d a b. sorted_far (λ (t u : Turn). is_lt (segment_cmp t.segment u.segment)) turns_rank ts h i j d a b)
   where
     all : (t : Turn) (us : List Turn) →
-        ((j : ℕ) (d : Turn) → j < length us → is_lt (segment_cmp (turn_at (get_or us j d)) (turn_at t)) ≡ false)
-        → list_all (λ u. not (is_lt (segment_cmp (turn_at u) (turn_at t)))) us ≡ true
+        ((j : ℕ) (d : Turn) → j < length us → is_lt (segment_cmp (get_or us j d).segment t.segment) ≡ false)
+        → list_all (λ u. not (is_lt (segment_cmp u.segment t.segment))) us ≡ true
     all t [] k = refl
     all t (u ∷ us) k = and_from _ _ (ap not (k 0 u (omega arith))) (all t us (λ j d l. k (suc j) d (omega arith)))
 
     far : (us : List Turn) →
-        ((i j : ℕ) (d : Turn) → i ≤ j → j < length us → is_lt (segment_cmp (turn_at (get_or us j d)) (turn_at (get_or us i d))) ≡ false)
+        ((i j : ℕ) (d : Turn) → i ≤ j → j < length us → is_lt (segment_cmp (get_or us j d).segment (get_or us i d).segment) ≡ false)
         → never_fall us ≡ true
     far [] k = refl
     far (u ∷ us) k = and_from _ _ (all u us (λ j d l. k 0 (suc j) d (omega arith) (omega arith)))
@@ -250,12 +250,12 @@ fall_sorted ts h = far ts (λ i j d a b. sorted_far (λ (t u : Turn). is_lt (seg
 
 -- the turns sorted are those of the same operations
 pub sorted_turns : (new : List Operation) (ts us : List Turn)
-    → ((p : Segment → Bool) (f : Operation → Bool) → list_any (λ t. p (turn_at t) && is_at f new t.at) ts
-    ≡ list_any (λ o. p o.segment && f o) new) → ((p : Segment → Bool) → list_any (λ t. p (turn_at t)) ts ≡ list_any (λ o. p o.segment) new)
-    → IsPermutation ts us → IsSortedBy (λ (t u : Turn). is_lt (segment_cmp (turn_at t) (turn_at u))) us → AreTurnsOf new us
+    → ((p : Segment → Bool) (f : Operation → Bool) → list_any (λ t. p t.segment && is_at f new t.at) ts
+    ≡ list_any (λ o. p o.segment && f o) new) → ((p : Segment → Bool) → list_any (λ t. p t.segment) ts ≡ list_any (λ o. p o.segment) new)
+    → IsPermutation ts us → IsSortedBy (λ (t u : Turn). is_lt (segment_cmp t.segment u.segment)) us → AreTurnsOf new us
 sorted_turns new ts us same each m s = record {
-  same = λ p f. sym (list_any-IsPermutation (λ t. p (turn_at t) && is_at f new t.at) ts us m) ∙ same p f;
-  each = λ p. sym (list_any-IsPermutation (λ t. p (turn_at t)) ts us m) ∙ each p;
+  same = λ p f. sym (list_any-IsPermutation (λ t. p t.segment && is_at f new t.at) ts us m) ∙ same p f;
+  each = λ p. sym (list_any-IsPermutation (λ t. p t.segment) ts us m) ∙ each p;
   sorted = fall_sorted us s;
 }
 

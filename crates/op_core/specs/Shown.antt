@@ -1,7 +1,7 @@
 -- What a segment shows, and the text that is picked for it. A multi-value register shows each write that no
 -- write of the register replaces (INRIA RR-7506); which of several is picked, and the chapter's own line, are
 -- this project's own rule.
-use Rattle.std.specs.Prelude.{ℕ, nat_le, Bool, not, ◌&&◌, cond, List, [], ◌∷◌, Option, Some, None, filter, option_map}
+use Rattle.std.specs.Prelude.{ℕ, nat_le, Bool, not, ◌&&◌, cond, List, [], ◌∷◌, Option, Some, None, filter}
 use Rattle.std.specs.List.{list_any}
 use Rattle.usfm_ref.specs.Keys.{is_head}
 use Rattle.usfm_ref.specs.declared.segment.Segment.{Segment}
@@ -29,10 +29,6 @@ abbrev pub last : List Operation → Option Operation
 last [] = None
 last (o ∷ []) = Some o
 last (o ∷ p ∷ rest) = last (p ∷ rest)
-
--- the id of the last operation, if there is one
-abbrev pub last_id : List Operation → Option Id
-last_id ops = option_map (λ o. o.id) (last ops)
 
 -- the text of an operation, empty if there is none or its text is left out
 abbrev pub text_if_any : Option Operation → List ℕ

@@ -26,7 +26,7 @@ use crate::index::place::{any_key_beside, shown_of};
 use crate::index::{enroll, push_awaited};
 use crate::lists::finder::Finder;
 use crate::lists::merge::{
-    clash, has_new, leave_held, look_at_each, merge, place_first, reserve_ops, tail_of,
+    clash, has_new, look_at_each, merge, place_first, remove_held, reserve_ops, tail_of,
 };
 use crate::lists::place::{find_op, op_at, place_last};
 use crate::operations::op::Op;
@@ -175,7 +175,7 @@ impl OpSet {
         }
         let mut new = other.ops;
         let thinned = thinning::ids(*self.ops.allocator(), &new)?;
-        leave_held(&mut new, &self.ops, &mut self.search);
+        remove_held(&mut new, &self.ops, &mut self.search);
         let count = self.join_rising(new)?;
         self.leave_texts(&thinned);
         Ok(count)
@@ -346,15 +346,8 @@ impl OpSet {
                     book: segment.book,
                     key: *key,
                 };
-                is_verse_beside(segment.key, *key) && !self.is_text_empty(&own)
+                key.is_verse_of(segment.key.chapter) && !self.is_text_empty(&own)
             },
         )
     }
-}
-
-// Whether the key is a verse of the other one's chapter.
-fn is_verse_beside(other: Key, key: Key) -> bool
-    ensures { result ≡ is_verse_of other.chapter key }
-{
-    key.chapter == other.chapter && key.place != Place::Head
 }

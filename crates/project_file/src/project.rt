@@ -1,12 +1,11 @@
 // Project files made, loaded and saved.
-ghost use Rattle.std.specs.Prelude.{◌≡◌, ◌≢◌, ◌↔◌, ◌++◌, ◌∷◌, [], Ok, Err, length, option_map};
-ghost use Rattle.std.specs.Prelude.{IfOk, IfErr, IfSome, IsSome, IsTrue, MatchResult};
+ghost use Rattle.std.specs.Prelude.{◌≡◌, ◌≢◌, ◌++◌, ◌∷◌, [], Ok, Err, length, option_map};
+ghost use Rattle.std.specs.Prelude.{IfOk, IfErr, IsTrue, MatchResult};
 ghost use Rattle.op_core.specs.Names.{is_name};
 ghost use Rattle.op_core.specs.OneBook.{ops_of_book};
 ghost use Rattle.op_core.specs.Sets.{clash};
 ghost use Rattle.op_core.specs.Thinned.{all_full};
-ghost use Rattle.bundle_codec.specs.Joining.{whole_at};
-ghost use Rattle.bundle_codec.specs.Loops.Merging.{RefusesUnion};
+ghost use Rattle.bundle_codec.specs.Joining.{RefusesUnion, whole_at};
 ghost use Rattle.bundle_codec.specs.Spelling as spelled;
 ghost use Rattle.bundle_codec.specs.Summaries.{outside};
 ghost use Rattle.replica_state.specs.OneBook.{of_one_book};
@@ -237,16 +236,5 @@ fn name_at(bytes: &[u8]) -> Option<(ReplicaName, &[u8])>
 {
     let (length, rest) = bytes.split_first()?;
     let (name, rest) = rest.split_at_checked(*length as usize)?;
-    Some((name_of(name)?, rest))
-}
-
-// The name that the bytes are.
-fn name_of(bytes: &[u8]) -> Option<ReplicaName>
-    ensures accepts { IsSome result ↔ IsTrue (is_name bytes.now) }
-    ensures name { IfSome result (λ name. name ≡ bytes.now) }
-{
-    match str::from_utf8(bytes) {
-        Ok(text) => ReplicaName::read(text).ok(),
-        Err(_) => None,
-    }
+    Some((ReplicaName::of_bytes(name)?, rest))
 }

@@ -11,7 +11,7 @@ use Rattle.usfm_ref.proofs.Orders.{same_bytes-is, same_bytes-refl}
 use Rattle.verse_cut.specs.Pieces.{PieceParts, pieces_of}
 use Rattle.verse_cut.specs.declared.fault.BookFault.{BookFault}
 use Rattle.op_core.specs.Equal.{same_id-refl}
-use Rattle.op_core.specs.Ids.{Id}
+use Rattle.op_core.specs.Ids.{Id, is_none_left}
 use Rattle.op_core.specs.Ops.{Operation, own_text, in_segment, is_verse_in, names}
 use Rattle.op_core.specs.Shown.{shown, is_replaced, is_shown, last, text_if_any, text_of, is_empty, has_verse_text, is_verse_with_text}
 use Rattle.op_core.specs.Shown.{wants_chapter_line, Line, greatest, picked_text}
@@ -23,7 +23,7 @@ use Rattle.replica_state.specs.States.{State}
 use Rattle.replica_state.specs.Edits.{has_numbers, edit_with}
 use Rattle.replica_state.specs.Imports.{piece_of, piece_at, has_verse, is_due, walked_keys, due_keys, edits_from, import_into}
 use Rattle.replica_state.specs.Steps.{Import, Step, imported, step, with_ops}
-use Rattle.replica_state.specs.Since.{stood_ids, seen_ids, is_none_seen, is_changed, changed_keys, changes_from}
+use Rattle.replica_state.specs.Since.{stood_ids, seen_ids, is_changed, changed_keys, changes_from}
 use Rattle.replica_state.specs.Since.{with_edits, changed, changed_after, changed_in, imported_since}
 use Rattle.replica_state.specs.SinceLaws.{IsImportWhereNothingCame}
 use Rattle.replica_state.specs.declared.fault.ImportFault.TheVariants as importing
@@ -135,7 +135,7 @@ module _ (held base : List Operation) (book : List ℕ) (same : filter (of_book 
         ∙ ap ids_of (sym (shown_same key))
 
     none_doubled : (text : List ℕ) (ops : List Operation)
-        → (is_none_seen (ids_of ops) && list_any (λ o. same_bytes (own_text o) text) ops) ≡ false
+        → (is_none_left (ids_of ops) && list_any (λ o. same_bytes (own_text o) text) ops) ≡ false
     none_doubled text [] = refl
     none_doubled text (o ∷ ops) = refl
 
@@ -144,10 +144,10 @@ module _ (held base : List Operation) (book : List ℕ) (same : filter (of_book 
         let g = segment book key in
         (λ i. is_due base book pieces key && not (double i)) ∙ and_true (is_due base book pieces key) ∙ sym (due_same pieces key)
       where
-        double : (is_none_seen (seen_ids held base (segment book key))
+        double : (is_none_left (seen_ids held base (segment book key))
             && list_any (λ o. same_bytes (own_text o) (piece_at pieces key)) (shown held (segment book key))) ≡ false
         double =
-            ap (λ (ids : List Id). is_none_seen ids
+            ap (λ (ids : List Id). is_none_left ids
             && list_any (λ o. same_bytes (own_text o) (piece_at pieces key)) (shown held (segment book key))) (all_seen key)
             ∙ none_doubled (piece_at pieces key) (shown held (segment book key))
 

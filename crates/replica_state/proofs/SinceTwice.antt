@@ -14,7 +14,7 @@ use Rattle.usfm_ref.proofs.Orders.{same_bytes-refl, same_key-refl}
 use Rattle.verse_cut.specs.Pieces.{PieceParts, pieces_of}
 use Rattle.verse_cut.specs.Reading.{book_in}
 use Rattle.verse_cut.specs.declared.fault.BookFault.{BookFault}
-use Rattle.op_core.specs.Ids.{Id, ids_rise}
+use Rattle.op_core.specs.Ids.{Id, ids_rise, is_none_left}
 use Rattle.op_core.specs.Ops.{Operation, IsOperation, own_text, in_segment, names}
 use Rattle.op_core.specs.Sets.{IsOpSet, rises, get, join, met, clash}
 use Rattle.op_core.specs.Shown.{shown, is_shown, is_replaced}
@@ -35,7 +35,7 @@ use Rattle.replica_state.specs.States.{State, IsState}
 use Rattle.replica_state.specs.Edits.{has_numbers}
 use Rattle.replica_state.specs.Imports.{piece_at, is_due, walked_keys}
 use Rattle.replica_state.specs.Steps.{with_ops}
-use Rattle.replica_state.specs.Since.{SinceStep, has_greatest_text, stood_ids, seen_ids, shows_text, is_none_seen, is_changed, changed_keys, changes_from}
+use Rattle.replica_state.specs.Since.{SinceStep, has_greatest_text, stood_ids, seen_ids, shows_text, is_changed, changed_keys, changes_from}
 use Rattle.replica_state.specs.Since.{changed, changed_after, changed_in, imported_since}
 use Rattle.replica_state.specs.SinceLaws.{TwiceIsOnce}
 use Rattle.replica_state.proofs.Appended.{is_there, key_is, keys_apart}
@@ -251,7 +251,7 @@ module _ (t : State) (base : List Operation) (book : List ℕ) (pieces : List Pi
         ∙ or_right _ _ (edit_shown (next_number t.held) keys (omega arith) there)
 
     pub not_again : is_changed now base book pieces q ≡ false
-    not_again = and_right (is_due base book pieces q) _ (λ i. not (is_none_seen (none_seen i) && text_shown i))
+    not_again = and_right (is_due base book pieces q) _ (λ i. not (is_none_left (none_seen i) && text_shown i))
 
 -- ---- the numbers that were given
 
@@ -317,7 +317,7 @@ module _ (s : State) (base : List Operation) (file book : List ℕ) (count : ℕ
       by true e = not_again t base book pieces t_set q keys e (stood_held q)
       by false e =
           ap (λ (ops : List Operation). is_due base book pieces q
-          && not (is_none_seen (filter (is_among (stood_ids base (segment book q))) (ids_of ops))
+          && not (is_none_left (filter (is_among (stood_ids base (segment book q))) (ids_of ops))
           && list_any (λ o. same_bytes (own_text o) (piece_at pieces q)) ops))
           (shown_after t.held edits (segment book q) (none_of t base book pieces q (next_number t.held) keys e))
           ∙ not_changed s.held base book pieces state.set.rising set.rising taken.none q e

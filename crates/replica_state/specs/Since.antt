@@ -10,7 +10,7 @@ use Rattle.usfm_ref.specs.declared.segment.Segment.{Segment}
 use Rattle.verse_cut.specs.Pieces.{PieceParts, pieces_of}
 use Rattle.verse_cut.specs.Reading.{book_in}
 use Rattle.verse_cut.specs.declared.fault.BookFault.{BookFault}
-use Rattle.op_core.specs.Ids.{Id}
+use Rattle.op_core.specs.Ids.{Id, is_none_left}
 use Rattle.op_core.specs.Ops.{Operation, own_text}
 use Rattle.op_core.specs.Sets.{clash}
 use Rattle.op_core.specs.Shown.{shown, text_of}
@@ -47,17 +47,12 @@ seen_ids held base g = given_ids held g (stood_ids base g)
 abbrev pub shows_text : List Operation → Segment → List ℕ → Bool
 shows_text held g text = list_any (λ o. same_bytes (own_text o) text) (shown held g)
 
--- whether there are no ids
-abbrev pub is_none_seen : List Id → Bool
-is_none_seen [] = true
-is_none_seen (id ∷ ids) = false
-
 -- Whether the key was changed in the file since the base, as an import into the base would see it; but not where nothing is
 -- shown any more of what stood in the file, and the new text is shown already.
 abbrev pub is_changed : List Operation → List Operation → List ℕ → List PieceParts → KeyParts → Bool
 is_changed held base book pieces key =
     is_due base book pieces key
-    && not (is_none_seen (seen_ids held base (segment book key))
+    && not (is_none_left (seen_ids held base (segment book key))
     && shows_text held (segment book key) (piece_at pieces key))
 
 -- the keys that were changed, rising, of those of the book and of the file

@@ -173,13 +173,13 @@ is_apart name (ReceivesCut n k length) = true
 is_apart name (FindsNoMemory n) = true
 
 -- the name of the replica at which the event happens
-abbrev pub replica_of : Event → List ℕ
-replica_of (Edits name g text) = name
-replica_of (EditsOver name g text given) = name
-replica_of (Imports name file) = name
-replica_of (Thins name) = name
-replica_of (Summarizes name) = name
-replica_of (Bundles name kept) = name
-replica_of (Receives name k) = name
-replica_of (ReceivesCut name k length) = name
-replica_of (FindsNoMemory name) = name
+abbrev pub replica_name : Event → List ℕ
+replica_name (Edits name g text) = name
+replica_name (EditsOver name g text given) = name
+replica_name (Imports name file) = name
+replica_name (Thins name) = name
+replica_name (Summarizes name) = name
+replica_name (Bundles name kept) = name
+replica_name (Receives name k) = name
+replica_name (ReceivesCut name k length) = name
+replica_name (FindsNoMemory name) = name

@@ -96,26 +96,10 @@ impl From<AllocError> for EditFault {
     }
 }
 
-impl<T: Drop> From<AllocFailed<T>> for EditFault {
-    ghost from_gives = { λ _ fault. fault ≡ edit.Memory };
-
-    fn from(_: AllocFailed<T>) -> EditFault {
-        EditFault::Memory
-    }
-}
-
 impl From<AllocError> for ImportFault {
     ghost from_gives = { λ _ fault. fault ≡ import.Memory };
 
     fn from(_: AllocError) -> ImportFault {
-        ImportFault::Memory
-    }
-}
-
-impl<T: Drop> From<AllocFailed<T>> for ImportFault {
-    ghost from_gives = { λ _ fault. fault ≡ import.Memory };
-
-    fn from(_: AllocFailed<T>) -> ImportFault {
         ImportFault::Memory
     }
 }

@@ -64,7 +64,7 @@ impl Replica {
     {
         let book = book_of(file)?;
         let lacked = self.copy_lacked(base)?;
-        let was = self.replica_of(base)?;
+        let was = self.holding_bundle(base)?;
         let pieces = cut(self.alloc, file)?;
         if lacked.is_empty() && base.is_full() {
             // Nothing is to be received, and so nothing to be undone where the edits are refused.
@@ -90,7 +90,7 @@ impl Replica {
     {
         let mut ops = Vec::new(self.alloc);
         for op in self.set.iter() {
-            ops.push(self.copy_op(op)?)?;
+            ops.push(op.copy(self.alloc)?)?;
         }
         let mut set = OpSet::new(self.alloc);
         set.join_rising(ops)?;
@@ -98,7 +98,7 @@ impl Replica {
     }
 
     // A replica of the same name that holds what a bundle has.
-    fn replica_of(&self, bundle: &Bundle<'_>) -> Result<Replica, AllocError>
+    fn holding_bundle(&self, bundle: &Bundle<'_>) -> Result<Replica, AllocError>
         ensures { IfOk result (λ r. r ≡ record { name = self.now.name; held = bundle.now }) }
     {
         Ok(self.holding(bundle.to_set(self.alloc)?))
@@ -116,21 +116,6 @@ impl Replica {
             alloc: self.alloc,
             name,
             set,
-        }
-    }
-
-    // A copy of an operation.
-    fn copy_op(&self, op: &Op) -> Result<Op, AllocError>
-        ensures { IfOk result (λ copy. copy ≡ op.now) }
-    {
-        let replaced = op.replaced().to_vec(self.alloc)?;
-        let (id, book, key) = (op.id(), op.book(), op.key());
-        match op.text() {
-            None => Ok(Op::thinned(id, book, key, replaced)),
-            Some(text) => {
-                let text = String::from_str(self.alloc, text)?;
-                Ok(Op::new(id, book, key, replaced, text))
-            }
         }
     }
 

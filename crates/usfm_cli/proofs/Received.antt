@@ -9,9 +9,8 @@ use Rattle.bundle_codec.specs.declared.fault.WholeFault.{WholeFault}
 use Rattle.bundle_codec.specs.declared.fault.WholeFault.TheVariants as whole
 use Rattle.bundle_codec.specs.declared.fault.JoinFault.{JoinFault}
 use Rattle.bundle_codec.specs.declared.fault.JoinFault.TheVariants as joining
-use Rattle.bundle_codec.specs.Loops.Merging.{RefusesUnion}
 use Rattle.bundle_codec.specs.Reading.{fields_at, TakesMemory}
-use Rattle.bundle_codec.specs.Joining.{whole_if, whole_at, RefusesWhole}
+use Rattle.bundle_codec.specs.Joining.{whole_if, whole_at, RefusesWhole, RefusesUnion}
 use Rattle.replica_state.specs.Receives.{lacked}
 use Rattle.replica_state.specs.States.{State}
 use Rattle.replica_state.specs.Steps as steps

@@ -206,24 +206,9 @@ fn put_copy(alloc: Global, op: &Op, set: &mut OpSet) -> Result<(), AllocError>
     requires full { IsTrue (is_full op.now) }
     ensures { OnOk result (set.new ≡ put op.now set.old) }
 {
-    let copy = copy_of(alloc, op)?;
+    let copy = op.copy(alloc)?;
     set.insert(copy).map_err(|_| AllocError)?;
     Ok(())
-}
-
-// A copy of an operation.
-fn copy_of(alloc: Global, op: &Op) -> Result<Op, AllocError>
-    ensures { IfOk result (λ copy. copy ≡ op.now) }
-{
-    let replaced = op.replaced().to_vec(alloc)?;
-    let (id, book, key) = (op.id(), op.book(), op.key());
-    match op.text() {
-        None => Ok(Op::thinned(id, book, key, replaced)),
-        Some(text) => {
-            let text = String::from_str(alloc, text)?;
-            Ok(Op::new(id, book, key, replaced, text))
-        }
-    }
 }
 
 // Whether operations have different texts.

@@ -1,10 +1,7 @@
 -- Two walks side by side, which join the operations of two bundles one at a time.
 use Rattle.std.specs.Prelude.{◌≡◌, ◌<◌, ◌+◌, ◌⊎◌, ℕ, true, List, [], ◌∷◌, length, Option, Some, None, IsTrue}
-use Rattle.op_core.specs.Ids.{Id}
 use Rattle.op_core.specs.Ops.{Operation, agree}
 use Rattle.op_core.specs.Sets.{rises, meet, join, clash}
-use Rattle.bundle_codec.specs.declared.fault.JoinFault.{JoinFault}
-use Rattle.bundle_codec.specs.declared.fault.JoinFault.TheVariants.{Memory, Bundle, Clash}
 
 -- the operations of a walk, with the next one at hand
 abbrev pub at_hand : Option Operation → List Operation → List Operation
@@ -44,9 +41,3 @@ abbrev pub TakesFirst : List Operation → List Operation → List Operation →
     → Option Operation → Type 0
 TakesFirst xs ys xs' ys' None = (xs ≡ []) × (ys ≡ [])
 TakesFirst xs ys xs' ys' (Some first) = Leaves xs ys first xs' ys'
-
--- a refusal while two sets are joined is out of memory, or the clash that there is
-abbrev pub RefusesUnion : Option Id → JoinFault → Type 0
-RefusesUnion found Memory = Unit {0}
-RefusesUnion found (Bundle fault) = ⊥
-RefusesUnion found (Clash id) = found ≡ Some id

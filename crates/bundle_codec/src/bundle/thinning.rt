@@ -31,7 +31,7 @@ pub(crate) fn judge_thinned(alloc: Global, count: u64, bytes: &[u8]) -> Result<(
     if unnamed.is_empty() {
         return Err(BundleFault::Unsupported(0));
     }
-    leave_named(&mut unnamed, BundleOps::new(count, bytes));
+    remove_named(&mut unnamed, BundleOps::new(count, bytes));
     match first_of(&unnamed, count, BundleOps::new(count, bytes)) {
         None => Ok(()),
         Some(place) => Err(BundleFault::Unsupported(place)),
@@ -54,16 +54,16 @@ fn thinned_of(alloc: Global, ops: BundleOps<'_>) -> Result<Thinned, AllocError>
 }
 
 // Takes out what an operation of the walk names in its own segment.
-fn leave_named(thinned: &mut Thinned, ops: BundleOps<'_>)
+fn remove_named(thinned: &mut Thinned, ops: BundleOps<'_>)
     ensures { thinning.LeavesNamed ops.entry thinned.old thinned.new }
 {
     for op in ops {
-        leave_named_by(thinned, &op);
+        remove_named_by(thinned, &op);
     }
 }
 
 // Takes out what the operation names in its segment.
-fn leave_named_by(thinned: &mut Thinned, op: &OpView<'_>)
+fn remove_named_by(thinned: &mut Thinned, op: &OpView<'_>)
     ensures { thinning.LeavesNamed (op.now ∷ []) thinned.old thinned.new }
 {
     for id in op.replaced() {

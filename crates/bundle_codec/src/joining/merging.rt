@@ -4,6 +4,7 @@ ghost use Rattle.std.specs.List.{flat_map};
 ghost use Rattle.op_core.specs.Ops.{Operation};
 ghost use Rattle.op_core.specs.Sets as sets;
 ghost use Rattle.op_core.specs.Thinned.{all_full};
+ghost use Rattle.bundle_codec.specs.Joining.{RefusesUnion};
 ghost use Rattle.bundle_codec.specs.Spelling.{operation};
 ghost use Rattle.bundle_codec.specs.Loops.Merging as merging;
 
@@ -64,7 +65,7 @@ fn pass_least<'a>(
     requires left { IsTrue (sets.rises left.old) }
     requires right { IsTrue (sets.rises right.old) }
     ensures next { IfOk result (merging.TakesFirst left.old right.old left.new right.new) }
-    ensures refused { IfErr result (merging.RefusesUnion (sets.clash left.old right.old)) }
+    ensures refused { IfErr result (RefusesUnion (sets.clash left.old right.old)) }
 {
     match (left.first(), right.first()) {
         (None, _) => Ok(right.pass()),
@@ -110,7 +111,7 @@ pub(crate) fn push_union<'a>(
     ensures full { IfOk result (λ r. r.0 ≡ all_full (sets.join left.entry right.entry)) }
     ensures count { IfOk result (λ r. r.1 ≡ length (sets.join left.entry right.entry)) }
     ensures agrees { IfOk result (λ _. sets.clash left.entry right.entry ≡ None) }
-    ensures refused { IfErr result (merging.RefusesUnion (sets.clash left.entry right.entry)) }
+    ensures refused { IfErr result (RefusesUnion (sets.clash left.entry right.entry)) }
 {
     let mut left = Walk::new(left);
     let mut right = Walk::new(right);

@@ -7,8 +7,9 @@ use Rattle.usfm_ref.specs.declared.segment.Segment.{Segment}
 use Rattle.usfm_ref.specs.Rising.{rises_by}
 use Rattle.op_core.specs.Ids.{Id, ids_rise}
 use Rattle.op_core.specs.Ops.{Operation}
-use Rattle.op_core.specs.Loops.Index.{among, register_of, shown_in, missing_in, change_at, IsRisingChange, IsChangeOf, HasRoomIn, Takes, IsOrderly}
-use Rattle.op_core.specs.Loops.Turns.{turn_at, arrives, is_named}
+use Rattle.op_core.specs.NextIds.{is_among}
+use Rattle.op_core.specs.Loops.Index.{register_of, shown_in, missing_in, change_at, IsRisingChange, IsChangeOf, HasRoomIn, Takes, IsOrderly}
+use Rattle.op_core.specs.Loops.Turns.{arrives, is_named}
 use Rattle.op_core.specs.declared.index.register.Register.{Register}
 use Rattle.op_core.specs.declared.index.chapter.Chapter.{Chapter}
 use Rattle.op_core.specs.declared.index.change.Change.{Change}
@@ -33,7 +34,7 @@ pub record AreChanges (held new : List Operation) (turns : List Turn) (chapters 
   pub each : AllByRecursion IsRisingChange changes
   pub are : AllByRecursion (IsChangeAt held new turns chapters) changes
   pub all : (g : Segment) → change_for g changes ≡ None
-      → list_any (λ t. same_segment (turn_at t) g) turns ≡ false
+      → list_any (λ t. same_segment t.segment g) turns ≡ false
 
 -- the register of each change has room for it
 abbrev pub AllHaveRoom : List Chapter → List Change → Type 0
@@ -57,9 +58,9 @@ TakesIn (Some c) before after = Taken c before after
 -- what is named and does not arrive
 pub record IsBegun (arrives is_named : Id → Bool) (r : Option Register) : Type 0 where
   pub shown_rises : IsTrue (ids_rise (shown_in r))
-  pub shown : (q : Id) → among (shown_in r) q ≡ (arrives q && not (is_named q))
+  pub shown : (q : Id) → is_among (shown_in r) q ≡ (arrives q && not (is_named q))
   pub missing_rises : IsTrue (ids_rise (missing_in r))
-  pub missing : (q : Id) → among (missing_in r) q ≡ (is_named q && not (arrives q))
+  pub missing : (q : Id) → is_among (missing_in r) q ≡ (is_named q && not (arrives q))
 
 -- an index after some changes
 pub record Settles (changes : List Change) (before after : List Chapter) : Type 0 where

@@ -8,10 +8,6 @@ use Rattle.op_core.specs.Ids.{Id, same_id}
 use Rattle.op_core.specs.Ops.{Operation, names}
 use Rattle.op_core.specs.declared.index.turns.Turn.{Turn}
 
--- a turn stands at its segment
-abbrev pub turn_at : Turn → Segment
-turn_at t = t.segment
-
 -- whether there is an operation at this place, and it passes
 abbrev pub is_at : (Operation → Bool) → List Operation → ℕ → Bool
 is_at p new at = list_any p (take 1 (drop at new))
@@ -20,14 +16,14 @@ is_at p new at = list_any p (take 1 (drop at new))
 abbrev pub never_fall : List Turn → Bool
 never_fall [] = true
 never_fall (t ∷ turns) =
-    list_all (λ u. not (is_lt (segment_cmp (turn_at u) (turn_at t)))) turns && never_fall turns
+    list_all (λ u. not (is_lt (segment_cmp u.segment t.segment))) turns && never_fall turns
 
 -- each operation has a turn, at its segment, and the segments never fall
 pub record AreTurnsOf (new : List Operation) (turns : List Turn) : Type 0 where
   pub same : (p : Segment → Bool) (f : Operation → Bool)
-      → list_any (λ t. p (turn_at t) && is_at f new t.at) turns
+      → list_any (λ t. p t.segment && is_at f new t.at) turns
       ≡ list_any (λ o. p o.segment && f o) new
-  pub each : (p : Segment → Bool) → list_any (λ t. p (turn_at t)) turns
+  pub each : (p : Segment → Bool) → list_any (λ t. p t.segment) turns
       ≡ list_any (λ o. p o.segment) new
   pub sorted : IsTrue (never_fall turns)
 
@@ -42,9 +38,9 @@ is_called new turns id = list_any (λ t. is_at (λ o. names o id) new t.at) turn
 -- whether one of the operations at the segment has the id
 abbrev pub arrives : List Operation → List Turn → Segment → Id → Bool
 arrives new turns g id =
-    list_any (λ t. same_segment (turn_at t) g && is_at (λ o. same_id id o.id) new t.at) turns
+    list_any (λ t. same_segment t.segment g && is_at (λ o. same_id id o.id) new t.at) turns
 
 -- whether one of the operations at the segment names the id
 abbrev pub is_named : List Operation → List Turn → Segment → Id → Bool
 is_named new turns g id =
-    list_any (λ t. same_segment (turn_at t) g && is_at (λ o. names o id) new t.at) turns
+    list_any (λ t. same_segment t.segment g && is_at (λ o. names o id) new t.at) turns

@@ -4,12 +4,13 @@ ghost use Rattle.std.specs.Prelude.{◌≡◌, ◌&&◌, not, IsTrue, IfOk};
 ghost use Rattle.usfm_ref.specs.Segments.{segment};
 ghost use Rattle.op_core.specs.Ids.{Id, ids_rise};
 ghost use Rattle.op_core.specs.Sets as sets;
-ghost use Rattle.op_core.specs.Loops.Index.{IsChangeOf, IsRisingChange, among, is_in};
+ghost use Rattle.op_core.specs.NextIds.{is_among};
+ghost use Rattle.op_core.specs.Loops.Index.{IsChangeOf, IsRisingChange, is_in};
 
 use super::register::Register;
 use crate::ids::op_id::OpId;
 use crate::ids::search::Search;
-use crate::ids::{common_ids, leave_ids, part_ids};
+use crate::ids::{common_ids, part_ids, remove_ids};
 use crate::lists::place::is_in;
 use crate::operations::op::Op;
 use std::alloc::{AllocError, Global};
@@ -66,7 +67,7 @@ pub(crate) fn change_of(
     requires arrived { IsTrue (ids_rise aside.old.arrived.items) }
     requires named { IsTrue (ids_rise aside.old.named.items) }
     ensures change { IfOk result (λ c. IsChangeOf held.now (segment book register.now.key)
-        (among aside.old.arrived.items) (among aside.old.named.items)
+        (is_among aside.old.arrived.items) (is_among aside.old.named.items)
         register.now.shown.items register.now.missing.items c) }
     ensures rising { IfOk result IsRisingChange }
 {
@@ -83,10 +84,10 @@ pub(crate) fn change_of(
         &aside.named,
         search,
     )?;
-    leave_ids(&mut aside.fresh, &found, search);
-    leave_ids(&mut aside.absent, &leaving, search);
-    leave_ids(&mut aside.absent, &register.missing, search);
-    leave_held(&mut aside.absent, held, &segment, search);
+    remove_ids(&mut aside.fresh, &found, search);
+    remove_ids(&mut aside.absent, &leaving, search);
+    remove_ids(&mut aside.absent, &register.missing, search);
+    remove_held_ids(&mut aside.absent, held, &segment, search);
     let arrived = Vec::from_slice(alloc, &aside.fresh)?;
     let lacking = Vec::from_slice(alloc, &aside.absent)?;
     Ok(Change {
@@ -100,12 +101,12 @@ pub(crate) fn change_of(
 }
 
 // Takes out of a list the ids of operations of a segment.
-fn leave_held(ids: &mut Vec<OpId>, held: &[Op], segment: &Segment, search: &mut Search)
+fn remove_held_ids(ids: &mut Vec<OpId>, held: &[Op], segment: &Segment, search: &mut Search)
     requires held { IsTrue (sets.rises held.now) }
     requires rising { IsTrue (ids_rise ids.old.items) }
     ensures rising { IsTrue (ids_rise ids.new.items) }
-    ensures members { (q : Id) → among ids.new.items q
-        ≡ (among ids.old.items q && not (is_in held.now segment.now q)) }
+    ensures members { (q : Id) → is_among ids.new.items q
+        ≡ (is_among ids.old.items q && not (is_in held.now segment.now q)) }
 {
     let mut kept = 0;
     for i in 0..ids.len() {

@@ -6,8 +6,9 @@ ghost use Rattle.usfm_ref.specs.Keys.{key_cmp};
 ghost use Rattle.usfm_ref.specs.Rising.{rises_by};
 ghost use Rattle.op_core.specs.Ids.{ids_rise};
 ghost use Rattle.op_core.specs.Sets as sets;
+ghost use Rattle.op_core.specs.NextIds.{is_among};
 ghost use Rattle.op_core.specs.Loops.Index.{home_of, chapter_of, register_at, shown_in, missing_in};
-ghost use Rattle.op_core.specs.Loops.Index.{ChangesKey, among, IsAtKey, IsSameBut, IsChangeOf};
+ghost use Rattle.op_core.specs.Loops.Index.{ChangesKey, IsAtKey, IsSameBut, IsChangeOf};
 ghost use Rattle.op_core.specs.Loops.Index.{IsRisingChange, HasRoomIn, Takes};
 
 use super::change::{Aside, Change};
@@ -99,7 +100,7 @@ pub(crate) fn ready_at_key(
     requires named { IsTrue (ids_rise aside.old.named.items) }
     ensures same { IsAtKey IsSameBut segment.now.key registers.old.items registers.new.items }
     ensures change { IfOk result (λ c. IsChangeOf held.now segment.now
-        (among aside.old.arrived.items) (among aside.old.named.items)
+        (is_among aside.old.arrived.items) (is_among aside.old.named.items)
         (shown_in (register_at segment.now.key registers.old.items))
         (missing_in (register_at segment.now.key registers.old.items)) c) }
     ensures rising { IfOk result IsRisingChange }

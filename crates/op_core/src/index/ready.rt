@@ -3,7 +3,8 @@
 ghost use Rattle.std.specs.Prelude.{◌≡◌, IsTrue, IfOk};
 ghost use Rattle.op_core.specs.Ids.{ids_rise};
 ghost use Rattle.op_core.specs.Sets as sets;
-ghost use Rattle.op_core.specs.Loops.Index.{IsOrderly, IsIndex, register_of, shown_in, missing_in, is_there, among};
+ghost use Rattle.op_core.specs.NextIds.{is_among};
+ghost use Rattle.op_core.specs.Loops.Index.{IsOrderly, IsIndex, register_of, shown_in, missing_in, is_there};
 ghost use Rattle.op_core.specs.Loops.Index.{IsAt, IsSameBut, IsChangeOf, IsRisingChange, HasRoomIn, Readies};
 ghost use Rattle.op_core.specs.Loops.Turns.{never_fall, comes, is_called};
 ghost use Rattle.op_core.specs.Loops.Changes.{AreChanges, AllHaveRoom};
@@ -105,7 +106,7 @@ fn ready(
     requires named { IsTrue (ids_rise aside.old.named.items) }
     ensures same { IsAt IsSameBut segment.now chapters.old.items chapters.new.items }
     ensures change { IfOk result (λ c. IsChangeOf held.now segment.now
-        (among aside.old.arrived.items) (among aside.old.named.items)
+        (is_among aside.old.arrived.items) (is_among aside.old.named.items)
         (shown_in (register_of segment.now chapters.old.items))
         (missing_in (register_of segment.now chapters.old.items)) c) }
     ensures rising { IfOk result IsRisingChange }

@@ -3,12 +3,13 @@ ghost use Rattle.usfm_ref.specs.Keys.{key_cmp};
 ghost use Rattle.usfm_ref.specs.Segments.{segment};
 ghost use Rattle.op_core.specs.Ids.{ids_rise};
 ghost use Rattle.op_core.specs.Sets as sets;
-ghost use Rattle.op_core.specs.Loops.Index.{HasRoom, IsSameBut, IsChangeOf, IsRisingChange, Takes, among};
+ghost use Rattle.op_core.specs.NextIds.{is_among};
+ghost use Rattle.op_core.specs.Loops.Index.{HasRoom, IsSameBut, IsChangeOf, IsRisingChange, Takes};
 
 use super::change::{Aside, Change, change_of};
 use crate::ids::op_id::OpId;
 use crate::ids::search::Search;
-use crate::ids::{leave_ids, reserve_ids, unite_ids};
+use crate::ids::{remove_ids, reserve_ids, unite_ids};
 use crate::operations::op::Op;
 use std::alloc::{AllocError, Global};
 use std::cmp::Ordering;
@@ -61,7 +62,7 @@ impl Register {
         requires named { IsTrue (ids_rise aside.old.named.items) }
         ensures same { IsSameBut self.old self.new }
         ensures change { IfOk result (λ c. IsChangeOf held.now (segment book self.old.key)
-            (among aside.old.arrived.items) (among aside.old.named.items)
+            (is_among aside.old.arrived.items) (is_among aside.old.named.items)
             self.old.shown.items self.old.missing.items c) }
         ensures rising { IfOk result IsRisingChange }
         ensures room { IfOk result (λ c. HasRoom c self.new) }
@@ -80,9 +81,9 @@ impl Register {
         requires room { HasRoom change self.old }
         ensures { Takes change self.old self.new }
     {
-        leave_ids(&mut self.shown, &change.leaving, search);
+        remove_ids(&mut self.shown, &change.leaving, search);
         unite_ids(&mut self.shown, change.arrived, search);
-        leave_ids(&mut self.missing, &change.found, search);
+        remove_ids(&mut self.missing, &change.found, search);
         unite_ids(&mut self.missing, change.lacking, search);
     }
 }

@@ -4,8 +4,8 @@ ghost use Rattle.std.specs.List.{AllByRecursion, list_all};
 ghost use Rattle.std.specs.Ordering.{is_lt};
 ghost use Rattle.usfm_ref.specs.Segments.{segment_cmp};
 ghost use Rattle.op_core.specs.Ids.{Id, ids_rise};
-ghost use Rattle.op_core.specs.Loops.Index.{among};
-ghost use Rattle.op_core.specs.Loops.Turns.{turn_at, never_fall, comes, is_called, AreTurnsOf};
+ghost use Rattle.op_core.specs.NextIds.{is_among};
+ghost use Rattle.op_core.specs.Loops.Turns.{never_fall, comes, is_called, AreTurnsOf};
 
 use crate::ids::op_id::OpId;
 use crate::ids::search::Search;
@@ -25,7 +25,7 @@ pub(crate) struct Turn {
 impl Turn {
     // How its segment stands to that of another one.
     pub(crate) fn order(&self, other: &Turn) -> Ordering
-        ensures { result ≡ segment_cmp (turn_at self.now) (turn_at other.now) }
+        ensures { result ≡ segment_cmp self.now.segment other.now.segment }
     {
         self.segment.cmp(&other.segment)
     }
@@ -55,8 +55,8 @@ pub(crate) fn turns_of(
 pub(crate) fn run_len(first: &Turn, turns: &[Turn], search: &mut Search) -> usize
     requires { IsTrue (never_fall (first.now ∷ turns.now)) }
     ensures within { result ≤ length turns.now }
-    ensures own { AllByRecursion (λ t. turn_at t ≡ turn_at first.now) (take result turns.now) }
-    ensures later { IsTrue (list_all (λ t. is_lt (segment_cmp (turn_at first.now) (turn_at t)))
+    ensures own { AllByRecursion (λ t. t.segment ≡ first.now.segment) (take result turns.now) }
+    ensures later { IsTrue (list_all (λ t. is_lt (segment_cmp first.now.segment t.segment))
         (drop result turns.now)) }
 {
     for at in 0..turns.len() {
@@ -76,7 +76,7 @@ pub(crate) fn gather_arrived(
     search: &mut Search,
 ) -> Result<(), AllocError>
     ensures rising { OnOk result (IsTrue (ids_rise ids.new.items)) }
-    ensures members { OnOk result ((q : Id) → among ids.new.items q ≡ comes new.now own.now q) }
+    ensures members { OnOk result ((q : Id) → is_among ids.new.items q ≡ comes new.now own.now q) }
 {
     ids.clear();
     for turn in own {
@@ -96,7 +96,8 @@ pub(crate) fn gather_named(
     search: &mut Search,
 ) -> Result<(), AllocError>
     ensures rising { OnOk result (IsTrue (ids_rise ids.new.items)) }
-    ensures members { OnOk result ((q : Id) → among ids.new.items q ≡ is_called new.now own.now q) }
+    ensures members { OnOk result ((q : Id) → is_among ids.new.items q
+        ≡ is_called new.now own.now q) }
 {
     ids.clear();
     for turn in own {

@@ -55,7 +55,7 @@ pub(crate) fn has_new(held: &[Op], new: &[Op], search: &mut Search) -> bool
 }
 
 // Takes out of a rising list the operations whose ids are held.
-pub(crate) fn leave_held(new: &mut Vec<Op>, held: &[Op], search: &mut Search)
+pub(crate) fn remove_held(new: &mut Vec<Op>, held: &[Op], search: &mut Search)
     requires { IsTrue (sets.rises held.now) }
     ensures { new.new.items ≡ filter (λ o. is_none (sets.get held.now o.id)) new.old.items }
 {

@@ -1,4 +1,4 @@
-ghost use Rattle.std.specs.Prelude.{◌≡◌, IsTrue, string_bytes, option_map, Some, None};
+ghost use Rattle.std.specs.Prelude.{◌≡◌, IfOk, IsTrue, string_bytes, option_map, Some, None};
 ghost use Rattle.std.specs.Cmp.{partial_equiv_from_equiv};
 ghost use Rattle.std.specs.Cmp.Lexicographic.{pointwise};
 ghost use Rattle.std.specs.List.{list_all};
@@ -9,6 +9,7 @@ ghost use Rattle.op_core.specs.Ops.{IsOperation, in_segment, bare, agree, same_b
 ghost use Rattle.op_core.specs.Ops as ops;
 
 use crate::ids::op_id::OpId;
+use std::alloc::{AllocError, Global};
 use std::marker::Model;
 use usfm_ref::{Book, Key, Segment};
 
@@ -143,6 +144,24 @@ impl Op {
         match &self.text {
             None => "",
             Some(text) => text.as_str(),
+        }
+    }
+
+    /// A copy: its named ids and its text are copied.
+    ///
+    /// # Errors
+    /// Out of memory alone.
+    pub fn copy(&self, alloc: Global) -> Result<Op, AllocError>
+        ensures { IfOk result (λ copy. copy ≡ self.now) }
+    {
+        let replaced = self.replaced().to_vec(alloc)?;
+        let (id, book, key) = (self.id(), self.book(), self.key());
+        match self.text() {
+            None => Ok(Op::thinned(id, book, key, replaced)),
+            Some(text) => {
+                let text = String::from_str(alloc, text)?;
+                Ok(Op::new(id, book, key, replaced, text))
+            }
         }
     }
 

@@ -14,7 +14,7 @@ use Rattle.replica_state.specs.declared.fault.ReceiveFault.{ReceiveFault}
 use Rattle.replica_state.specs.declared.fault.ReceiveFault.TheVariants.{Memory, Clash}
 use Rattle.replica_state.specs.Receives.{RefusesReceive}
 use Rattle.replica_state.specs.States.{State}
-use Rattle.replica_state.specs.World.{World, Event, Bundles, happens, replica_of, with_bundle}
+use Rattle.replica_state.specs.World.{World, Event, Bundles, happens, replica_name, with_bundle}
 use Rattle.replica_state.specs.World.Calls.{IsIn, IsSending, NeverClashes}
 use Rattle.replica_state.proofs.World.Flights.{apart, not_there}
 use Rattle.replica_state.proofs.World.Held.{of_its_ids}
@@ -28,7 +28,7 @@ makes s kept ops e legal w is =
     ap (λ b. (with_bundle w (of_ids kept (w.held s.name)) b).bundles) (ap is_legal here ∙ legal) ∙ ap (λ xs. xs ∷ w.bundles) here
 
 -- a replica stays what it is through an event at another one
-pub others_stay : (w : World) (e : Event) (s : State) → same_bytes s.name (replica_of e) ≡ false → IsIn w s → IsIn (happens w e) s
+pub others_stay : (w : World) (e : Event) (s : State) → same_bytes s.name (replica_name e) ≡ false → IsIn w s → IsIn (happens w e) s
 others_stay w e s h is = ap (of_name s.name) (apart w s.name e (not_there s.name e h)) ∙ is
   where
     of_name : List ℕ → List Operation → State

@@ -19,7 +19,7 @@ use Rattle.op_core.proofs.Legal.{delta_legal}
 use Rattle.op_core.proofs.Union.{same_gets}
 use Rattle.bundle_codec.specs.Summaries.{summary_of, covers, outside}
 use Rattle.bundle_codec.proofs.Told.{covers_its_ids}
-use Rattle.replica_state.specs.World.{Event, Bundles, Receives, world, replica_of, is_apart}
+use Rattle.replica_state.specs.World.{Event, Bundles, Receives, world, replica_name, is_apart}
 use Rattle.replica_state.specs.World.Schedules.{Holds, Where, At, Within, found, in_bundle, IsMade, IsOrThinned}
 use Rattle.replica_state.specs.World.Exchanges.{HoldUnion, Request, Whole, Lacking, Hearing}
 use Rattle.replica_state.specs.World.Exchanges.{bundled, wanted, IsAsked, Hears, heard, IsRelay}
@@ -288,7 +288,7 @@ awaits_none events a h id p g named n =
     let f = found_whole events (At a) id p g in
     let o = f.0 in
     let m = was_made the_twin events a id o f.1 in
-    let maker = replica_of m.event in
+    let maker = replica_name m.event in
     let seen = shown_held ((world m.past).held maker) o.segment named
     (names_shown m.past m.event o named m.makes (thinned_names p o named f.2 n)) in
     let x = held_at ((whole m.past).held maker) named (sym (ids_held _ _ (stands m.past maker).skeletons named) ∙ seen) in

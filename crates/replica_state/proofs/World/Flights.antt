@@ -9,7 +9,7 @@ use Rattle.op_core.specs.Ops.{Operation}
 use Rattle.op_core.specs.Thinned.{is_legal, of_ids}
 use Rattle.bundle_codec.specs.Summaries.{NameRanges, summary_of}
 use Rattle.replica_state.specs.World.{World, Event, Edits, EditsOver, Imports, Thins, Summarizes, Bundles, Receives}
-use Rattle.replica_state.specs.World.{ReceivesCut, FindsNoMemory, world, happens, received, with_held, with_bundle, is_apart, replica_of}
+use Rattle.replica_state.specs.World.{ReceivesCut, FindsNoMemory, world, happens, received, with_held, with_bundle, is_apart, replica_name}
 
 elsewhere : (w : World) (name n : List ℕ) (ops : List Operation) → same_bytes name n ≡ false → (with_held w n ops).held name ≡ w.held name
 elsewhere w name n ops h = cond-false (same_bytes name n) ops (w.held name) h
@@ -34,7 +34,7 @@ apart w name (ReceivesCut n k length) h = refl
 apart w name (FindsNoMemory n) h = refl
 
 -- an event at another replica changes nothing at this one
-pub not_there : (name : List ℕ) (e : Event) → same_bytes name (replica_of e) ≡ false → is_apart name e ≡ true
+pub not_there : (name : List ℕ) (e : Event) → same_bytes name (replica_name e) ≡ false → is_apart name e ≡ true
 not_there name (Edits n g text) h = ap not h
 not_there name (EditsOver n g text given) h = ap not h
 not_there name (Imports n file) h = ap not h

@@ -13,7 +13,7 @@ use Rattle.op_core.specs.Thinned.{skeleton, StandsFor}
 use Rattle.op_core.proofs.Agreement.{Agree, agree-from, agree_itself}
 use Rattle.op_core.proofs.Clashes.{get_id}
 use Rattle.op_core.proofs.Groupings.{get_bare}
-use Rattle.replica_state.specs.World.{World, Event, world, replica_of}
+use Rattle.replica_state.specs.World.{World, Event, world, replica_name}
 use Rattle.replica_state.specs.World.Twin.{twin}
 use Rattle.replica_state.specs.World.Schedules.{Holds, HoldsAs, Makes, Where, At, Within, found, in_bundle, IsMade, IsOrThinned, IsChain}
 use Rattle.replica_state.proofs.World.Next.{falls, chain}
@@ -94,7 +94,7 @@ the_twin = record {
 }
 
 pub holds_own : (later : List Event) (e : Event) (past : List Event) (o : Operation) → Makes (world past) e o
-    → HoldsAs (replica_of e) ((world (later ++ e ∷ past)).held (replica_of e)) o
+    → HoldsAs (replica_name e) ((world (later ++ e ∷ past)).held (replica_name e)) o
 holds_own later e past o m =
     let name = made_name (world past) e o.id o m in
     record {

@@ -22,7 +22,7 @@ use Rattle.replica_state.specs.Imports.{import_ops}
 use Rattle.replica_state.specs.Steps.{received, edited, imported}
 use Rattle.replica_state.specs.World as world
 use Rattle.replica_state.specs.World.{World, Event, Edits, EditsOver, Imports, Thins, Summarizes, Bundles, Receives, ReceivesCut}
-use Rattle.replica_state.specs.World.{FindsNoMemory, happens, made, edit_made, edits_made, replica, replica_of, with_held, with_bundle}
+use Rattle.replica_state.specs.World.{FindsNoMemory, happens, made, edit_made, edits_made, replica, replica_name, with_held, with_bundle}
 use Rattle.replica_state.specs.World.Twin.{keeps_texts}
 use Rattle.replica_state.proofs.World.Held.{HasTexts, join_left, join_right, join_cases}
 use Rattle.replica_state.proofs.World.Next.{AreNext, made_next}

@@ -24,7 +24,7 @@ use Rattle.replica_state.specs.States.{State}
 use Rattle.replica_state.specs.Edits.{has_numbers, edit_with, next_id, edit_by, edit_fault, unless}
 use Rattle.replica_state.specs.Imports.{edits_from, edits_numbered, import_into, due_keys, piece_at}
 use Rattle.replica_state.specs.World.{World, Event, Edits, EditsOver, Imports, Thins, Summarizes, Bundles, Receives}
-use Rattle.replica_state.specs.World.{ReceivesCut, FindsNoMemory, world, made, edit_made, edits_made, replica, replica_of}
+use Rattle.replica_state.specs.World.{ReceivesCut, FindsNoMemory, world, made, edit_made, edits_made, replica, replica_name}
 use Rattle.replica_state.specs.World.Schedules.{Makes, IsMade, IsChain}
 use Rattle.replica_state.proofs.Imports.{edits_rise}
 use Rattle.replica_state.proofs.World.Held.{among_is_held, filter_held}
@@ -129,7 +129,7 @@ import_next s pieces (Err fault) = none_next s
 
 -- ---- every event
 
-pub made_next : (w : World) (e : Event) → AreNext (replica w (replica_of e)) (made w e)
+pub made_next : (w : World) (e : Event) → AreNext (replica w (replica_name e)) (made w e)
 made_next w (Edits name g text) =
     let s = replica w name in
     unless_next s (edit_fault s.held g text) _
@@ -147,11 +147,11 @@ made_next w (Receives name k) = none_next (replica w name)
 made_next w (ReceivesCut name k length) = none_next (replica w name)
 made_next w (FindsNoMemory name) = none_next (replica w name)
 
-pub is_next : (w : World) (e : Event) (o : Operation) → Makes w e o → IsNext (replica w (replica_of e)) o
+pub is_next : (w : World) (e : Event) (o : Operation) → Makes w e o → IsNext (replica w (replica_name e)) o
 is_next w e o m = (made_next w e).each o.id o m
 
 pub names_shown : (past : List Event) (e : Event) (o : Operation) (id : Id) → Makes (world past) e o → names o id ≡ true
-    → is_among (shown_ids ((world past).held (replica_of e)) o.segment) id ≡ true
+    → is_among (shown_ids ((world past).held (replica_name e)) o.segment) id ≡ true
 names_shown past e o id m = (is_next (world past) e o m).seen id
 
 pub shown_held : (held : List Operation) (g : Segment) (id : Id) → is_among (shown_ids held g) id ≡ true → is_held held id ≡ true

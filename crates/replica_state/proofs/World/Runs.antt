@@ -12,7 +12,7 @@ use Rattle.op_core.specs.Sets.{get}
 use Rattle.op_core.proofs.Clashes.{get_id}
 use Rattle.op_core.proofs.Union.{same_gets}
 use Rattle.replica_state.specs.World.{World, Event, Edits, EditsOver, Imports, Thins, Summarizes, Bundles, Receives}
-use Rattle.replica_state.specs.World.{ReceivesCut, FindsNoMemory, world, made, replica_of, edits_at, is_exchange}
+use Rattle.replica_state.specs.World.{ReceivesCut, FindsNoMemory, world, made, replica_name, edits_at, is_exchange}
 use Rattle.replica_state.specs.World.Schedules.{Makes, Where, At, Within, found, in_bundle, IsMade}
 use Rattle.replica_state.specs.World.Exchanges.{IsBefore, Hearing, Hears, heard, IsRelay}
 use Rattle.replica_state.specs.World.Agreement.{EndsInRelays}
@@ -29,7 +29,7 @@ at_maker w s (Within k) q o g = by (slice_get w.bundles k) refl g
     by (Some ops) e g = s.bundles_own k ops e q o g
 
 -- the name of what is made is its maker's
-pub made_name : (w : World) (e : Event) (q : Id) (o : Operation) → get (made w e) q ≡ Some o → o.id.name ≡ replica_of e
+pub made_name : (w : World) (e : Event) (q : Id) (o : Operation) → get (made w e) q ≡ Some o → o.id.name ≡ replica_name e
 made_name w e q o m = ((made_next w e).each q o m).own_name
 
 made_there : (is_there : List ℕ → Bool) (w : World) (e : Event) (q : Id) (o : Operation) → edits_at is_there e ≡ true

@@ -38,7 +38,7 @@ use Rattle.replica_state.specs.States.{State}
 use Rattle.replica_state.specs.Edits.{has_numbers, edit_with, next_id, edit_by, edit_fault, unless}
 use Rattle.replica_state.specs.Imports.{piece_own_text, piece_of, piece_at, is_due, walked_keys, due_keys, edits_from, edits_numbered, import_into}
 use Rattle.replica_state.specs.World.{World, Event, Edits, EditsOver, Imports, Thins, Summarizes, Bundles, Receives, ReceivesCut}
-use Rattle.replica_state.specs.World.{FindsNoMemory, IsWithin, world, made, edit_made, edits_made, replica, replica_of}
+use Rattle.replica_state.specs.World.{FindsNoMemory, IsWithin, world, made, edit_made, edits_made, replica, replica_name}
 use Rattle.replica_state.specs.World.Schedules.{Within, in_bundle, IsOrThinned, AreSets}
 use Rattle.replica_state.proofs.FilePieces.{book_is_code, book_is_headed, piece_fits}
 use Rattle.replica_state.proofs.World.Held.{held_at}
@@ -178,7 +178,7 @@ import_fits s file h u (Ok book) e q o m =
     numbered_fits s book file (book_is_code file book e) (book_is_headed file book e) u (due_keys s.held book (pieces_of file))
     (due_are_keys s.held book file h) q o m
 
-made_fits : (w : World) (e : Event) → IsWithin e → AllByRecursion IsOperation (w.held (replica_of e))
+made_fits : (w : World) (e : Event) → IsWithin e → AllByRecursion IsOperation (w.held (replica_name e))
     → (q : Id) (o : Operation) → get (made w e) q ≡ Some o → Fits o
 made_fits w (Edits name g text) h held q o m =
     edit_fits (replica w name) g text _ h.segment h.text (by_fits (replica w name) g _ text h.segment h.text) q o m
@@ -194,7 +194,7 @@ made_fits w (ReceivesCut name k length) h held q o m = cc m
 made_fits w (FindsNoMemory name) h held q o m = cc m
 
 -- the name of a replica that makes something is right
-name_within : (w : World) (e : Event) → IsWithin e → (q : Id) (o : Operation) → get (made w e) q ≡ Some o → is_name (replica_of e) ≡ true
+name_within : (w : World) (e : Event) → IsWithin e → (q : Id) (o : Operation) → get (made w e) q ≡ Some o → is_name (replica_name e) ≡ true
 name_within w (Edits name g text) h q o m = h.name
 name_within w (EditsOver name g text given) h q o m = h.name
 name_within w (Imports name file) h q o m = h.0
@@ -257,8 +257,9 @@ are_legal (e ∷ past) h name q o g = by (are_legal past h.1) ((the_twin.moves e
     by : AreLegal past → (get ((whole past).held q.name) q ≡ Some o) ⊎ (get (made (world past) e) q ≡ Some o) → IsOperation o
     by rest (inl g) = rest q.name q o g
     by rest (inr m) =
-        let held = each_here past rest (replica_of e) in
-        next_legal (replica (world past) (replica_of e)) o (name_within (world past) e h.0 q o m) (stands past (replica_of e)).rising held
+        let held = each_here past rest (replica_name e) in
+        next_legal (replica (world past) (replica_name e)) o (name_within (world past) e h.0 q o m)
+        (stands past (replica_name e)).rising held
         ((made_next (world past) e).each q o m) (made_fits (world past) e h.0 held q o m)
 
 module _ (events : List Event) (h : AllByRecursion IsWithin events) where

@@ -24,7 +24,7 @@ use Rattle.replica_state.specs.Imports.{piece_at}
 use Rattle.replica_state.specs.Steps.{with_ops}
 use Rattle.replica_state.specs.Since.{seen_ids, changed_keys}
 use Rattle.replica_state.specs.World.{World, Event, Receives, EditsOver, IsWithin, world, happens, replica}
-use Rattle.replica_state.specs.World.{replica_of}
+use Rattle.replica_state.specs.World.{replica_name}
 use Rattle.replica_state.specs.World.Invisible.{reply}
 
 -- the replica is that of its name in the world
@@ -39,7 +39,7 @@ IsEvent e s t = (w : World) → IsIn w s → IsIn (happens w e) t
 -- are a list of events in one world.
 abbrev pub OthersStay : Type 0
 OthersStay =
-    (w : World) (e : Event) (s : State) → same_bytes s.name (replica_of e) ≡ false →
+    (w : World) (e : Event) (s : State) → same_bytes s.name (replica_name e) ≡ false →
     IsIn w s → IsIn (happens w e) s
 
 -- what the call answers is the reply to the event

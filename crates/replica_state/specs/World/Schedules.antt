@@ -11,7 +11,7 @@ use Rattle.op_core.specs.Shown.{is_shown}
 use Rattle.op_core.specs.Lists.{shown_ids}
 use Rattle.op_core.specs.NextIds.{is_among}
 use Rattle.op_core.specs.Thinned.{is_legal, skeleton}
-use Rattle.replica_state.specs.World.{World, Event, IsWithin, world, made, replica_of}
+use Rattle.replica_state.specs.World.{World, Event, IsWithin, world, made, replica_name}
 
 -- the set holds the operation, perhaps without its text
 abbrev pub Holds : List Operation → Operation → Type 0
@@ -52,7 +52,7 @@ pub record HoldsAs (name : List ℕ) (held : List Operation) (o : Operation) : T
 abbrev pub HoldsItsOwn : Type 0
 HoldsItsOwn =
     (later : List Event) (e : Event) (past : List Event) (o : Operation) → Makes (world past) e o →
-    HoldsAs (replica_of e) ((world (later ++ e ∷ past)).held (replica_of e)) o
+    HoldsAs (replica_name e) ((world (later ++ e ∷ past)).held (replica_name e)) o
 
 -- one of the events made the operation
 pub record IsMade (events : List Event) (o : Operation) : Type 0 where
@@ -110,7 +110,7 @@ abbrev pub NamesWhatWasShown : Type 0
 NamesWhatWasShown =
     (past : List Event) (e : Event) (o : Operation) (id : Id) →
     Makes (world past) e o → names o id ≡ true →
-    is_among (shown_ids ((world past).held (replica_of e)) o.segment) id ≡ true
+    is_among (shown_ids ((world past).held (replica_name e)) o.segment) id ≡ true
 
 -- each operation of the chain is held in the segment and names the one before it, and the last is shown
 abbrev pub IsChain : List Operation → Segment → Operation → List Operation → Type 0

@@ -1,7 +1,8 @@
 use Rattle.std.proofs.Common.{arith, subst, refl, sym, ap, IsTrue, Option}
 use Rattle.usfm_ref.specs.Segments.{segment}
 use Rattle.op_core.specs.Ids.{ids_rise}
-use Rattle.op_core.specs.Loops.Index.{among, shown_in, missing_in, HasRoomIn}
+use Rattle.op_core.specs.NextIds.{is_among}
+use Rattle.op_core.specs.Loops.Index.{shown_in, missing_in, HasRoomIn}
 use Rattle.op_core.specs.declared.index.register.Register.{Register}
 use Rattle.op_core.proofs.Registers.{there_at, at_was, at_is, at_changes, key_now}
 use Rattle.op_core.proofs.IdSets.{if_ok}
@@ -50,8 +51,8 @@ returns-clause-change c =
     (rw (← c.deref.ensures.value) c.place_register-at.ensures.place) x c.index_mut.ensures.value c.requires.there in
     if_ok c.ready.result
     (λ ch k. change_told c.args.held.now (segment c.args.segment.now.book x.key) c.args.segment.now
-    (among c.args.aside.now.arrived.items) (among c.args.aside.now.arrived.items) (among c.args.aside.now.named.items)
-    (among c.args.aside.now.named.items)
+    (is_among c.args.aside.now.arrived.items) (is_among c.args.aside.now.arrived.items) (is_among c.args.aside.now.named.items)
+    (is_among c.args.aside.now.named.items)
     x.shown.items _ x.missing.items _ ch (ap (segment c.args.segment.now.book) (sym is)) (λ q. refl) (λ q. refl) (ap shown_in (sym was))
     (ap missing_in (sym was)) k) c.ready.ensures.change
 

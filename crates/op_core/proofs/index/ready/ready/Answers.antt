@@ -1,7 +1,8 @@
 use Rattle.std.proofs.Common.{arith, subst, refl, sym, IsTrue, List}
 use Rattle.std.specs.Option.{is_some}
 use Rattle.op_core.specs.Ids.{ids_rise}
-use Rattle.op_core.specs.Loops.Index.{register_at, shown_in, missing_in, among, HasRoomIn, IsAtKey, IsSameBut, IsChangeOf}
+use Rattle.op_core.specs.NextIds.{is_among}
+use Rattle.op_core.specs.Loops.Index.{register_at, shown_in, missing_in, HasRoomIn, IsAtKey, IsSameBut, IsChangeOf}
 use Rattle.op_core.specs.declared.index.register.Register.{Register}
 use Rattle.op_core.proofs.Registers.{rise}
 use Rattle.op_core.proofs.Chapters.{chapter_there, chapter_was, chapter_changes, now_in, is_at}
@@ -66,7 +67,7 @@ returns-clause-change c =
     c.index_mut.ensures.value c.requires.there in
     if_ok c.ready_at_key.result
     (λ ch k. subst (λ (rs : List Register). IsChangeOf c.args.held.now c.args.segment.now
-    (among c.args.aside.now.arrived.items) (among c.args.aside.now.named.items) (shown_in (register_at c.args.segment.now.key rs))
+    (is_among c.args.aside.now.arrived.items) (is_among c.args.aside.now.named.items) (shown_in (register_at c.args.segment.now.key rs))
     (missing_in (register_at c.args.segment.now.key rs)) ch) (sym was) k) c.ready_at_key.ensures.change
 
 pub returns-clause-room : goal.returns-clause-room

@@ -1,5 +1,6 @@
 use Rattle.std.proofs.Common.{refl, sym}
-use Rattle.op_core.specs.Loops.Index.{among, register_of, shown_in, missing_in}
+use Rattle.op_core.specs.NextIds.{is_among}
+use Rattle.op_core.specs.Loops.Index.{register_of, shown_in, missing_in}
 use Rattle.op_core.specs.Loops.Turns.{comes, is_called}
 use Rattle.op_core.proofs.IdSets.{if_ok}
 use Rattle.op_core.proofs.There.{readies_more, readies_at, ready_shown, ready_missing}
@@ -26,8 +27,8 @@ returns-clause-change c =
     let g = c.args.segment.now in
     let r = readies_at g c.lay.new.chapters.items c.ready.new.chapters.items c.ready.ensures.same in
     if_ok c.ready.result
-    (λ ch k. change_told c.args.held.now g g (among c.gather_arrived.new.ids.items) (comes c.args.new.now c.args.own.now)
-    (among c.gather_named.new.ids.items) (is_called c.args.new.now c.args.own.now)
+    (λ ch k. change_told c.args.held.now g g (is_among c.gather_arrived.new.ids.items) (comes c.args.new.now c.args.own.now)
+    (is_among c.gather_named.new.ids.items) (is_called c.args.new.now c.args.own.now)
     (shown_in (register_of g c.lay.new.chapters.items)) (shown_in (register_of g c.ready.new.chapters.items))
     (missing_in (register_of g c.lay.new.chapters.items)) (missing_in (register_of g c.ready.new.chapters.items)) ch
     refl c.in_ok-gather_arrived.ensures.members c.in_ok-gather_named.ensures.members (sym (r.shown g)) (sym (r.missing g)) k)

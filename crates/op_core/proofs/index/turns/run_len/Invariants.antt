@@ -1,8 +1,7 @@
 use Rattle.std.proofs.Common.{◌≡◌, take}
 use Rattle.std.specs.List.{AllByRecursion}
-use Rattle.op_core.specs.Loops.Turns.{turn_at}
 use Rattle.op_core.specs.declared.index.turns.Turn.{Turn}
 use Rattle.op_core.proofs.index.turns.run_len.Given as goal
 
 abbrev pub invariant-loop-at : goal.invariant-loop-at
-invariant-loop-at l = AllByRecursion (λ (t : Turn). turn_at t ≡ turn_at l.first) (take l.at l.turns)
+invariant-loop-at l = AllByRecursion (λ (t : Turn). t.segment ≡ l.first.segment) (take l.at l.turns)

@@ -53,13 +53,13 @@ returns-in_err-count-clause-held c = λ held refused.
 
 pub join_rising-requires-clause-rising : goal.join_rising-requires-clause-rising
 join_rising-requires-clause-rising c =
-    let e = c.leave_held.ensures ∙ ap (λ (s : List Operation). fresh s c.other.inside.ops.items) c.deref-6.ensures.value in
+    let e = c.remove_held.ensures ∙ ap (λ (s : List Operation). fresh s c.other.inside.ops.items) c.deref-6.ensures.value in
     subst (λ (xs : List Operation). rises xs ≡ true) (sym e)
     (fresh_rises c.self.inside.ops.items c.other.inside.ops.items c.other.invariant.0.rising)
 
 pub join_rising-requires-clause-apart : goal.join_rising-requires-clause-apart
 join_rising-requires-clause-apart c =
-    let e = c.leave_held.ensures ∙ ap (λ (s : List Operation). fresh s c.other.inside.ops.items) c.deref-6.ensures.value in
+    let e = c.remove_held.ensures ∙ ap (λ (s : List Operation). fresh s c.other.inside.ops.items) c.deref-6.ensures.value in
     subst (AreApart c.self.inside.ops.items) (sym e) (fresh_apart c.self.inside.ops.items c.other.inside.ops.items)
 
 pub join_rising-requires-clause-legal : goal.join_rising-requires-clause-legal
@@ -67,7 +67,7 @@ join_rising-requires-clause-legal c =
     let s = c.self.inside.ops.items in
     let t = c.other.inside.ops.items in
     let n : clash s t ≡ None = sym (c.in_default.ensures ∙ (λ i. clash (c.deref.ensures.value i) (c.deref-2.ensures.value i))) in
-    let e = c.leave_held.ensures ∙ ap (λ (xs : List Operation). fresh xs t) c.deref-6.ensures.value in
+    let e = c.remove_held.ensures ∙ ap (λ (xs : List Operation). fresh xs t) c.deref-6.ensures.value in
     subst (λ (xs : List Operation). is_legal (join s xs) ≡ true) (sym e)
     ((two_steps s t c.self.invariant.0.rising c.other.invariant.0.rising n).legal c.self.invariant.2 c.other.invariant.2)
 
@@ -77,7 +77,7 @@ leave_texts-requires c = record {
       let s = c.self.inside.ops.items in
       let t = c.other.inside.ops.items in
       let n : clash s t ≡ None = sym (c.in_default.ensures ∙ (λ i. clash (c.deref.ensures.value i) (c.deref-2.ensures.value i))) in
-      let e = c.leave_held.ensures ∙ ap (λ (xs : List Operation). fresh xs t) c.deref-6.ensures.value in
+      let e = c.remove_held.ensures ∙ ap (λ (xs : List Operation). fresh xs t) c.deref-6.ensures.value in
       let j : c.join_rising.new.self ≡ join s (fresh s t) = c.in_ok-count.ensures.ok ∙ ap (join s) e in
       let ids : is_among c.deref-7.result.now o.id ≡ is_thinned_in t o.id =
       ap (λ (ids : List Id). is_among ids o.id) c.deref-7.ensures.value
@@ -92,7 +92,7 @@ returns-clause-ok c =
     let s = c.self.inside.ops.items in
     let t = c.other.inside.ops.items in
     let n : clash s t ≡ None = sym (c.in_default.ensures ∙ (λ i. clash (c.deref.ensures.value i) (c.deref-2.ensures.value i))) in
-    let e = c.leave_held.ensures ∙ ap (λ (xs : List Operation). fresh xs t) c.deref-6.ensures.value in
+    let e = c.remove_held.ensures ∙ ap (λ (xs : List Operation). fresh xs t) c.deref-6.ensures.value in
     let j : c.join_rising.new.self ≡ join s (fresh s t) = c.in_ok-count.ensures.ok ∙ ap (join s) e in
     c.leave_texts.ensures
     ∙ where_agree (is_among c.deref-7.result.now) (is_thinned_in t) c.join_rising.new.self
@@ -106,7 +106,7 @@ pub returns-clause-count : goal.returns-clause-count
 returns-clause-count c =
     let s = c.self.inside.ops.items in
     let t = c.other.inside.ops.items in
-    let e = c.leave_held.ensures ∙ ap (λ (xs : List Operation). fresh xs t) c.deref-6.ensures.value in
+    let e = c.remove_held.ensures ∙ ap (λ (xs : List Operation). fresh xs t) c.deref-6.ensures.value in
     let grown = length_join s (fresh s t) c.self.invariant.0.rising (fresh_rises s t c.other.invariant.0.rising) (fresh_apart s t) in
     let now = ap length c.leave_texts.ensures ∙ length_where (is_among c.deref-7.result.now) c.join_rising.new.self
     ∙ ap length (c.in_ok-count.ensures.ok ∙ ap (join s) e) in

@@ -1,8 +1,8 @@
 use Rattle.std.proofs.Common.{arith, ◌∙◌}
 use Rattle.std.proofs.lemmas.List.Filters.{FiltersInPlace-more_swap, FiltersInPlace-more_no}
 use Rattle.op_core.proofs.Fresh.{looked_up}
-use Rattle.op_core.proofs.lists.merge.leave_held.Goals.{then-is_none, else-is_none}
-use Rattle.op_core.proofs.lists.merge.leave_held.Goals as goal
+use Rattle.op_core.proofs.lists.merge.remove_held.Goals.{then-is_none, else-is_none}
+use Rattle.op_core.proofs.lists.merge.remove_held.Goals as goal
 
 pub loop-i-preserved : goal.loop-i-preserved
 loop-i-preserved c =

@@ -1,7 +1,7 @@
 use Rattle.std.proofs.Common.{sym, ap, ◌∙◌}
 use Rattle.bundle_codec.specs.Loops.Thinning.{is_beside}
 use Rattle.bundle_codec.proofs.Unnamed.{goes}
-use Rattle.bundle_codec.proofs.bundle.thinning.leave_named_by.Goals as goal
+use Rattle.bundle_codec.proofs.bundle.thinning.remove_named_by.Goals as goal
 
 pub loop-id-preserved-then-is_beside : goal.loop-id-preserved-then-is_beside
 loop-id-preserved-then-is_beside c =

@@ -1,7 +1,7 @@
 use Rattle.std.proofs.Common.{◌≤◌, is_none}
 use Rattle.std.proofs.lemmas.List.Filters.{FiltersInPlace}
 use Rattle.op_core.specs.Sets.{get}
-use Rattle.op_core.proofs.lists.merge.leave_held.Given as goal
+use Rattle.op_core.proofs.lists.merge.remove_held.Given as goal
 
 abbrev pub invariant-loop-i : goal.invariant-loop-i
 invariant-loop-i l = record {
