@@ -5,7 +5,7 @@ ghost use Rattle.segment_check.specs.NumberConditions as conditions;
 ghost use Rattle.segment_check.specs.Numbers as numbers;
 ghost use Rattle.segment_check.specs.Reading as reading;
 ghost use Rattle.segment_check.specs.Scenes as scenes;
-ghost use Rattle.usfm_ref.specs.Numbers.{is_last, is_verse};
+ghost use Rattle.usfm_ref.specs.Numbers.{is_verse};
 ghost use Rattle.usfm_token.specs.View.{mark_parts};
 
 use usfm_ref::{Key, Place, VerseMark, chapter_after, verse_after};

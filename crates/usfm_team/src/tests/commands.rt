@@ -3,7 +3,7 @@ use super::player::Step::{
     Again, Checked, Edit, Export, Import, Over, Pack, Receive, Report, Same, Send, Shown, Unpack,
 };
 use super::player::Who::{Ana, Ben};
-use super::player::{Player, Row, play};
+use super::player::{Row, play};
 use super::vectors::{
     AFTER, B1, CLASHING, FIRST, LAST_NUMBER, NAMES_ANOTHER, NAMES_ITSELF, NAMES_TWO, NOTHING, Y, Z,
 };
