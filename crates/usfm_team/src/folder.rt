@@ -193,7 +193,7 @@ pub(crate) fn file_of(files: &[BookFile], book: Book) -> Option<&BookFile> {
 }
 
 // Refuses two files of one book: the later one is named.
-pub(crate) fn refuse_twins(rt: &HostRuntime, files: &[BookFile]) -> Result<(), Refusal> {
+pub(crate) fn refuse_two_of_one_book(rt: &HostRuntime, files: &[BookFile]) -> Result<(), Refusal> {
     for (at, file) in files.iter().enumerate() {
         let (before, _) = files.split_at(at);
         if file_of(before, file.book).is_some() {
