@@ -24,10 +24,16 @@ const AFTER_THREE: &[Row<'static>] = &[
     ),
     (Ana, Pack, b""),
     (Ben, Unpack, b"new 4\n"),
+    (Ben, Export("MAT"), AFTER),
     (
         Ben,
         Shown("MAT 1:1"),
         b"op 3 ana 8\n\\v 1 To\n\nop 3 ben 8\n\\v 1 At\n\n",
+    ),
+    (
+        Ben,
+        Report,
+        b"conflict MAT 1:1 2\ntext 3 ben 8\n\\v 1 At\n\ntext 3 ana 8\n\\v 1 To\n\n",
     ),
     (
         Ana,
