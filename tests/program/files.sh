@@ -143,6 +143,13 @@ refuse_since 20 lower clashing
 refuse_since 51\ 2\ ana book clashing
 run import ana book headless --since base
 wants 1 '' 'fault 30\nin headless\n'
+# What the bundle is refused for is of no file.
+run import ana book mark --since cut
+wants 1 '' 'fault 61\n'
+run import ana book mark --since trailing
+wants 1 '' 'fault 70\n'
+run import ana book mark --since clashing
+wants 1 '' 'fault 51 2 ana\n'
 run import missing book --since missing
 wants 1 '' 'fault 120\n'
 run import b1 headless --since cut

@@ -52,7 +52,7 @@ impl Word {
 }
 
 // Puts keys after those of a form.
-fn note<'f>(
+fn put_keys<'f>(
     alloc: Global,
     groups: &mut IndexMap<&'f str, Vec<Key>>,
     form: &'f str,
@@ -75,14 +75,17 @@ fn note<'f>(
 }
 
 // The keys of each run.
-fn noted<'a>(alloc: Global, runs: Keyed<'_, 'a>) -> Result<IndexMap<&'a str, Vec<Key>>, AllocError>
+fn keys_by_run<'a>(
+    alloc: Global,
+    runs: Keyed<'_, 'a>,
+) -> Result<IndexMap<&'a str, Vec<Key>>, AllocError>
     ensures spells { IfOk result (λ groups.
         SpellsSame (map spelled (hits_left runs.entry)) (all_spellings groups.entries)) }
     ensures keyed { IfOk result (λ groups. IsFalse (has_bare groups.entries)) }
 {
     let mut groups = IndexMap::new(alloc);
     for run in runs {
-        note(alloc, &mut groups, run.text, &[run.key])?;
+        put_keys(alloc, &mut groups, run.text, &[run.key])?;
     }
     Ok(groups)
 }
@@ -118,7 +121,7 @@ fn composed<'f>(
     let mut groups = IndexMap::new(alloc);
     for (index, form) in forms.iter().enumerate() {
         if let Some((_, keys)) = runs.get_index(index) {
-            note(alloc, &mut groups, form.text(), keys.as_slice())?;
+            put_keys(alloc, &mut groups, form.text(), keys.as_slice())?;
         }
     }
     Ok(groups)
@@ -153,7 +156,7 @@ fn in_order<'f>(
 }
 
 // The words of groups whose forms rise.
-fn gathered(alloc: Global, groups: &IndexMap<&str, Vec<Key>>) -> Result<Vec<Word>, AllocError>
+fn words_in(alloc: Global, groups: &IndexMap<&str, Vec<Key>>) -> Result<Vec<Word>, AllocError>
     requires keyed { IsFalse (has_bare groups.now.entries) }
     requires rise { IsTrue (rise groups.now.entries) }
     ensures { IfOk result
@@ -183,9 +186,9 @@ pub fn words(alloc: Global, text: &str, sheet: &Sheet<'_>) -> Result<Vec<Word>, 
     let leaves = plain_leaves(alloc, text, sheet)?;
     let runs = runs(alloc, &leaves)?;
     let pieces = cut(alloc, text)?;
-    let noted = noted(alloc, Keyed::new(&runs, &pieces))?;
-    let forms = forms_of(alloc, &noted)?;
-    let groups = composed(alloc, &noted, &forms)?;
+    let by_run = keys_by_run(alloc, Keyed::new(&runs, &pieces))?;
+    let forms = forms_of(alloc, &by_run)?;
+    let groups = composed(alloc, &by_run, &forms)?;
     let sorted = in_order(groups)?;
-    gathered(alloc, &sorted)
+    words_in(alloc, &sorted)
 }

@@ -1,5 +1,5 @@
 -- Laws of reports in worlds (this project's own rule): what holds after every list of events, at any number of replicas.
-use Rattle.std.specs.Prelude.{◌≡◌, ℕ, Bool, true, List, [], ◌++◌}
+use Rattle.std.specs.Prelude.{◌≡◌, ℕ, Bool, true, List, ◌++◌}
 use Rattle.std.specs.List.{flat_map}
 use Rattle.op_core.specs.Ops.{Operation}
 use Rattle.op_core.specs.Lists.{books_of}

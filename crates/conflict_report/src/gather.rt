@@ -2,7 +2,7 @@
 ghost use Rattle.std.specs.Prelude.{◌≡◌, ◌++◌, OnOk, IfOk};
 ghost use Rattle.std.specs.List.{flat_map};
 ghost use Rattle.usfm_ref.specs.Segments.{segment};
-ghost use Rattle.op_core.specs.Lists.{awaited, books_of, keys_of};
+ghost use Rattle.op_core.specs.Lists.{awaited, books_of};
 ghost use Rattle.conflict_report.specs.Loops.Parts.{bytes_of};
 ghost use Rattle.conflict_report.specs.Reports as reports;
 

@@ -164,6 +164,15 @@ fn what_is_held_stays(rt: HostRuntime) -> Result<(), Fail> {
     assert!(rt; !put(&mut set, again)?);
     assert_eq!(rt; join(&mut set, first_set(alloc)?)?, 0);
     assert_eq!(rt; OpSet::new(alloc).join_rising(Vec::new(alloc))?, 0);
+    let mut joined = OpSet::new(alloc);
+    assert_eq!(rt; join(&mut joined, first_set(alloc)?)?, 2);
+    let mut both = OpSet::new(alloc);
+    for is_new in [true, false] {
+        let id_line = op(alloc, op_id(1, "ana")?, head(0)?, &[], "\\id MAT\n")?;
+        let text = op(alloc, op_id(2, "ana")?, verse(1)?, &[], "\\v 1 In\n")?;
+        assert_eq!(rt; put(&mut both, id_line)?, is_new);
+        assert_eq!(rt; put(&mut both, text)?, is_new);
+    }
     assert_eq!(rt; set.len(), 2);
     let mat = Book::read("MAT")?;
     assert!(rt; matches!(&set.pick(mat, head(1)?), Picked::ChapterLine(1)));

@@ -13,11 +13,11 @@ ghost use Rattle.verse_cut.specs.Loops.Walks.{IsFirst};
 use crate::code::Code;
 use crate::finding::Finding;
 use crate::numbers::{
-    fails_bridge, further, key_of, lacks_number, mark_chapter, mark_verse, reaches,
+    Verse, fails_bridge, further, key_of, lacks_number, mark_chapter, mark_verse, reaches,
 };
 use crate::seen::Seen;
 use std::alloc::{AllocError, Global};
-use usfm_ref::{Key, Place, VerseMark};
+use usfm_ref::{Key, VerseMark};
 use usfm_token::{Mark, Token, TokenIter};
 
 // Which codes hold at a mark.
@@ -35,7 +35,7 @@ struct Held {
 #[derive(Drop)]
 struct Walk<'t> {
     key: Key,
-    reach: Option<(u16, Option<u8>)>,
+    reach: Option<Verse>,
     seen: &'t [Seen],
 }
 
@@ -138,7 +138,7 @@ fn key_then(key: Key, found: Option<Key>) -> Key
 }
 
 // Whether a bridge before it reaches a verse.
-fn overlaps(reach: Option<(u16, Option<u8>)>, verse: Option<VerseMark>) -> bool
+fn overlaps(reach: Option<Verse>, verse: Option<VerseMark>) -> bool
     ensures { result ≡ option_map_or (reading.any_reaches reach) verse false }
 {
     match (verse, reach) {
@@ -149,10 +149,7 @@ fn overlaps(reach: Option<(u16, Option<u8>)>, verse: Option<VerseMark>) -> bool
 
 // How far bridges reach after a mark that opens a piece: its verse's bridge counts, and at the
 // head of a chapter none does.
-fn reach_with(
-    reach: Option<(u16, Option<u8>)>,
-    verse: Option<VerseMark>,
-) -> Option<(u16, Option<u8>)>
+fn reach_with(reach: Option<Verse>, verse: Option<VerseMark>) -> Option<Verse>
     ensures { result ≡ reading.reach_with reach verse }
 {
     match verse {
@@ -236,10 +233,7 @@ pub(crate) fn find_marks(
 {
     let mut findings = Vec::new(alloc);
     let mut walk = Walk {
-        key: Key {
-            chapter: 0,
-            place: Place::Head,
-        },
+        key: Key::chapter_head(0),
         reach: None,
         seen,
     };

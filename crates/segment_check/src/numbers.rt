@@ -5,14 +5,14 @@ ghost use Rattle.segment_check.specs.NumberConditions as conditions;
 ghost use Rattle.segment_check.specs.Numbers as numbers;
 ghost use Rattle.segment_check.specs.Reading as reading;
 ghost use Rattle.segment_check.specs.Scenes as scenes;
-ghost use Rattle.usfm_ref.specs.Numbers.{is_last, is_verse};
+ghost use Rattle.usfm_ref.specs.Numbers.{is_verse};
 ghost use Rattle.usfm_token.specs.View.{mark_parts};
 
 use usfm_ref::{Key, Place, VerseMark, chapter_after, verse_after};
 use usfm_token::Mark;
 
 // A verse and its letter, if it has one.
-type Verse = (u16, Option<u8>);
+pub(crate) type Verse = (u16, Option<u8>);
 
 fn is_plain(mark: Mark<'_>) -> bool
     ensures { result ≡ not ((mark_parts mark.entry).nested || (mark_parts mark.entry).closing) }
@@ -52,10 +52,7 @@ pub(crate) fn key_of(chapter: u16, head: Option<u16>, verse: Option<VerseMark>) 
     ensures { result ≡ numbers.key_by chapter head verse }
 {
     match (head, verse) {
-        (Some(chapter), _) => Some(Key {
-            chapter,
-            place: Place::Head,
-        }),
+        (Some(chapter), _) => Some(Key::chapter_head(chapter)),
         (None, Some(verse)) => {
             let place = Place::Verse {
                 number: verse.number,

@@ -65,8 +65,6 @@ pub(crate) struct Reader<'s> {
 
 impl<'s> Reader<'s> {
     ghost use Rattle.std.specs.Prelude.{[], None, Some, Ok, Err, OnOk, OnErr, is_some, IsSome};
-    ghost use Rattle.sty_sheet.specs.Lines.{first_word};
-    ghost use Rattle.sty_sheet.specs.Sheets.{record_with};
     ghost use Rattle.sty_sheet.specs.Loops.Steps.{reading_of, after_field, began, extended, finished};
     ghost use Rattle.sty_sheet.specs.Loops.Steps.{BeginsAnother, Tells};
     ghost use Rattle.sty_sheet.specs.Views.{records_in, Gives};

@@ -21,7 +21,7 @@ use Rattle.conflict_report.specs.Reports.{is_repeated, distinct_texts, conflict_
 use Rattle.conflict_report.specs.Reports.{conflict_at, report}
 use Rattle.conflict_report.specs.Reports as reports
 use Rattle.conflict_report.proofs.Latest.{has_text, latest, latest_is}
-use Rattle.usfm_cli.specs.Standing.{has_other_text, differ, conflicts_in, is_any, project_parts, conflicts_told, reported_in, reported}
+use Rattle.usfm_cli.specs.Standing.{has_other_text, differ, conflict_keys, is_any, project_parts, conflicts_told, reported_in, reported}
 use Rattle.usfm_cli.specs.Standing.{ConflictsToldAreReported}
 
 -- ---- texts that differ
@@ -160,7 +160,7 @@ module _ (held : List Operation) (set : IsOpSet held) where
       (rises_filter id_cmp id_total (λ (o : Operation). o.id) (is_shown held g) held set.rising))
       ∙ sym (length-reverse (filter (λ o. not (is_repeated (shown held g) o)) (shown held g))))
 
-  all_listed : flat_map (conflicts_in held) (books_of held) ≡ flat_map (reported_in held) (books_of held)
+  all_listed : flat_map (conflict_keys held) (books_of held) ≡ flat_map (reported_in held) (books_of held)
   all_listed = λ i. flat_map (λ book. filter (λ key. is_listed (segment book key) i) (keys_of held book)) (books_of held)
 
   any_reported : is_any (report held) ≡ (is_any (flat_map (reported_in held) (books_of held)) || is_any (awaited held))

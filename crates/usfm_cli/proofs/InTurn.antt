@@ -7,7 +7,7 @@ use Rattle.project_file.specs.Projects.{project, project_at}
 use Rattle.project_file.proofs.Files.{project_is}
 use Rattle.usfm_cli.specs.Commands.{Done, outcome, is_late}
 use Rattle.usfm_cli.specs.Projects.{Written, written, of_loaded, executed, file_or, file_after, state_or, state_after}
-use Rattle.usfm_cli.specs.Turns.{InTurn, after_one, done_before, in_turn, one_more, written_in_turn, loaded_in_turn, executed_in_turn}
+use Rattle.usfm_cli.specs.Turns.{InTurn, after_one, done_before, in_turn, with_output, written_in_turn, loaded_in_turn, executed_in_turn}
 use Rattle.usfm_cli.specs.Turns.{RefusedFor, RefusedIn, AnswersInTurn, is_memory, is_of_memory}
 use Rattle.usfm_cli.specs.Turns.{written_before, one_after_another, InTurnIsOneAfterAnother, AcceptedIsFileAfter}
 use Rattle.usfm_cli.specs.declared.command.Command.{Command}
@@ -65,10 +65,10 @@ joined (command ∷ before) later s d e = by (outcome s command) (λ x y f. join
 
 -- one command more is accepted
 pub accepted_more : (before : List Command) (command : Command) (s : State) (d e : InTurn State) → in_turn s before ≡ Ok d
-    → one_more d.outputs (outcome d.after command) ≡ Ok e → in_turn s (before ++ command ∷ []) ≡ Ok e
+    → with_output d.outputs (outcome d.after command) ≡ Ok e → in_turn s (before ++ command ∷ []) ≡ Ok e
 accepted_more before command s d e f g = joined before (command ∷ []) s d f ∙ by (outcome d.after command) g
   where
-    by : (r : Result Done Fault) → one_more d.outputs r ≡ Ok e
+    by : (r : Result Done Fault) → with_output d.outputs r ≡ Ok e
         → after_all d.outputs (done_before r (λ next. in_turn next [])) ≡ Ok e
     by (Ok x) g =
         let is : record { after = x.after; outputs = d.outputs ++ x.output ∷ [] } ≡ e = cc g in
@@ -182,7 +182,7 @@ pub record DoneSoFar (s : State) (commands : List Command) (n : ℕ) (now : Stat
 pub none_done : (s : State) (commands : List Command) → DoneSoFar s commands 0 s []
 none_done s commands = record { so_far = refl; count = refl }
 
-more_outputs : (outputs : List (List ℕ)) (r : Result Done Fault) (e : InTurn State) → one_more outputs r ≡ Ok e
+more_outputs : (outputs : List (List ℕ)) (r : Result Done Fault) (e : InTurn State) → with_output outputs r ≡ Ok e
     → length e.outputs ≡ length outputs + 1
 more_outputs outputs (Ok x) e f =
     let is : outputs ++ x.output ∷ [] ≡ e.outputs = cc f in
@@ -198,7 +198,7 @@ module _ (s : State) (commands : List Command) (n : ℕ) (now : State) (outputs 
       ∙ ap (λ (x : Command). x ∷ drop (suc n) commands) (sym is))
 
   pub one_done : (next : State) (more : List (List ℕ))
-      → one_more outputs (outcome now command) ≡ Ok (record { after = next; outputs = more })
+      → with_output outputs (outcome now command) ≡ Ok (record { after = next; outputs = more })
       → DoneSoFar s commands (n + 1) next more
   one_done next more e = record {
     so_far =

@@ -18,8 +18,8 @@ use Rattle.usfm_export.specs.Books.{AnswersText}
 use Rattle.usfm_export.specs.declared.fault.TextFault.{TextFault}
 use Rattle.usfm_export.specs.declared.fault.TextFault.TheVariants as giving
 use Rattle.usfm_cli.specs.Commands.{MayWantMemory, Gives}
-use Rattle.usfm_cli.specs.Faults.{of_find, of_sheet, of_book_text as fault_of_text}
-use Rattle.usfm_cli.specs.SheetReports.{by_records, by_sheet, of_book_text, hit_lines, unless_empty, searched, is_after_sheet}
+use Rattle.usfm_cli.specs.Faults.{of_find, of_sheet, of_book_text}
+use Rattle.usfm_cli.specs.SheetReports.{by_records, by_sheet, by_book_text, hit_lines, unless_empty, searched, is_after_sheet}
 use Rattle.usfm_cli.specs.declared.fault.Fault.{Fault}
 use Rattle.usfm_cli.specs.declared.fault.Fault.TheVariants.{NoBook}
 
@@ -33,7 +33,7 @@ module _ (bytes : List ℕ) where
   -- nothing but a book's missing operations is refused before what is written of it
   pub book_wanted : (held : List Operation) (book : List ℕ) (next : List ℕ → Result (List ℕ) Fault)
       → ((text : List ℕ) → MayWantMemory (is_after_sheet bytes) (next text))
-      → MayWantMemory (is_after_sheet bytes) (of_book_text held book next)
+      → MayWantMemory (is_after_sheet bytes) (by_book_text held book next)
   book_wanted held book next later = by (has_book held book)
     where
       by : (has : Bool) → MayWantMemory (is_after_sheet bytes) (cond has (next (export held book)) (Err NoBook))
@@ -72,7 +72,7 @@ pub searched_is : (held : List Operation) (book sheet needle : List ℕ) (record
     is_utf8 sheet ≡ true → sheet_of sheet ≡ Ok records → has_book held book ≡ true →
     searched held book sheet needle ≡ unless_empty needle (Ok (hit_lines book (hits_of records (export held book) needle)))
 searched_is held book sheet needle records is read has =
-    let found = λ (r : List Record). of_book_text held book (λ text. unless_empty needle (Ok (hit_lines book (hits_of r text needle)))) in
+    let found = λ (r : List Record). by_book_text held book (λ text. unless_empty needle (Ok (hit_lines book (hits_of r text needle)))) in
     cond-true _ _ _ is ∙ ap (λ r. by_records r found) read ∙ cond-true _ _ _ has
 
 -- a needle that is not empty is not refused
@@ -96,10 +96,10 @@ search_refused A sheet needle found wanted finding.EmptyNeedle e h = e ∙ ap (�
 -- a book without an operation is refused, and of one that has some out of memory may be answered
 pub search_without_text : (A B : Type 0) (held : List Operation) (book sheet needle : List ℕ) (records : List Record)
     (fault : TextFault) → is_utf8 sheet ≡ true → sheet_of sheet ≡ Ok records → AnswersText {A = A} held book (Err fault)
-    → Gives {A = B} (is_after_sheet sheet) (searched held book sheet needle) (Err (fault_of_text fault))
+    → Gives {A = B} (is_after_sheet sheet) (searched held book sheet needle) (Err (of_book_text fault))
 search_without_text A B held book sheet needle records giving.NoBook is read has =
     let lines = λ (r : List Record) (text : List ℕ). hit_lines book (hits_of r text needle) in
-    let found = λ (r : List Record). of_book_text held book (λ text. unless_empty needle (Ok (lines r text))) in
+    let found = λ (r : List Record). by_book_text held book (λ text. unless_empty needle (Ok (lines r text))) in
     cond-true _ _ _ is ∙ ap (λ r. by_records r found) read ∙ cond-false _ _ _ has
 search_without_text A B held book sheet needle records giving.Memory is read has =
     let due = searched_is held book sheet needle records is read has in

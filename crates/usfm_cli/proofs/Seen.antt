@@ -16,7 +16,7 @@ use Rattle.concordance.specs.Hits.{hits_of}
 use Rattle.concordance.specs.Words.{words_of}
 use Rattle.usfm_cli.specs.Commands.{Done, done_if, shown_line, outcome, only_tells, MayWantMemory}
 use Rattle.usfm_cli.specs.Projects.{written, of_loaded, executed, state_or}
-use Rattle.usfm_cli.specs.SheetReports.{by_sheet, of_book_text, finding_lines, unless_empty, hit_lines, word_lines}
+use Rattle.usfm_cli.specs.SheetReports.{by_sheet, by_book_text, finding_lines, unless_empty, hit_lines, word_lines}
 use Rattle.usfm_cli.specs.Seen.{looked_at, seen_of, IsSeen}
 use Rattle.usfm_cli.specs.declared.command.Command.{Command}
 use Rattle.usfm_cli.specs.declared.command.Command.TheVariants.{Import, ImportSince, ImportNew}
@@ -43,7 +43,7 @@ told_alike s t told other same = told_done s told ∙ same ∙ sym (told_done t 
 
 -- what is made of a book's text, is made of it where the operations of the book are all
 text_same : (held : List Operation) (book : List ℕ) (next : List ℕ → Result (List ℕ) Fault)
-    → of_book_text (ops_of_book held book) book next ≡ of_book_text held book next
+    → by_book_text (ops_of_book held book) book next ≡ by_book_text held book next
 text_same held book next = λ i. cond (has_book_same held book i) (next (export_same held book i)) (Err NoBook)
 
 -- a command writes the same of what it sees and of all

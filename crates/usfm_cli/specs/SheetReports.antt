@@ -34,9 +34,9 @@ by_sheet bytes next =
     if is_utf8 bytes then by_records (sheet_of bytes) next else Err (NotText (utf8_valid_len bytes))
 
 -- what is written of the export of a book, or that the book has no operation
-abbrev pub of_book_text : List Operation → List ℕ →
+abbrev pub by_book_text : List Operation → List ℕ →
     (List ℕ → Result (List ℕ) Fault) → Result (List ℕ) Fault
-of_book_text held book next = if has_book held book then next (export held book) else Err NoBook
+by_book_text held book next = if has_book held book then next (export held book) else Err NoBook
 
 -- ---- findings
 
@@ -53,7 +53,7 @@ finding_lines book found = flat_map (finding_line book) found
 abbrev pub checked : List Operation → List ℕ → List ℕ → Result (List ℕ) Fault
 checked held book sheet =
     by_sheet sheet (λ records.
-    of_book_text held book (λ text. Ok (finding_lines book (findings records text))))
+    by_book_text held book (λ text. Ok (finding_lines book (findings records text))))
 
 -- ---- hits
 
@@ -73,7 +73,7 @@ unless_empty (b ∷ needle) found = found
 -- the hits of a needle in a book by a sheet, a line for each
 abbrev pub searched : List Operation → List ℕ → List ℕ → List ℕ → Result (List ℕ) Fault
 searched held book sheet needle =
-    by_sheet sheet (λ records. of_book_text held book
+    by_sheet sheet (λ records. by_book_text held book
     (λ text. unless_empty needle (Ok (hit_lines book (hits_of records text needle)))))
 
 -- ---- words
@@ -90,7 +90,7 @@ word_lines words = flat_map word_line words
 abbrev pub listed : List Operation → List ℕ → List ℕ → Result (List ℕ) Fault
 listed held book sheet =
     by_sheet sheet
-    (λ records. of_book_text held book (λ text. Ok (word_lines (words_of records text))))
+    (λ records. by_book_text held book (λ text. Ok (word_lines (words_of records text))))
 
 -- Whether a refusal of a command that goes by this sheet is found only after memory may have been taken: the book and the
 -- needle are looked at after the sheet was read. That the sheet is no text takes none, and a fault of it only some (takes_memory).

@@ -33,8 +33,8 @@ abbrev pub differ : List Operation → Bool
 differ ops = list_any (has_other_text (text_if_any (last ops))) ops
 
 -- the keys of a book whose segments are in conflict: they show different texts
-abbrev pub conflicts_in : List Operation → List ℕ → List KeyParts
-conflicts_in held book = filter (λ key. differ (shown held (segment book key))) (keys_of held book)
+abbrev pub conflict_keys : List Operation → List ℕ → List KeyParts
+conflict_keys held book = filter (λ key. differ (shown held (segment book key))) (keys_of held book)
 
 -- a book of a project: its export, and the bundle that makes it, which has what the book shows
 pub record BookParts : Type 0 where
@@ -62,7 +62,7 @@ is_any (x ∷ rest) = true
 abbrev pub project_parts : List Operation → ProjectParts
 project_parts held = record {
   books = map (book_parts held) (books_of held);
-  conflicts = length (flat_map (conflicts_in held) (books_of held));
+  conflicts = length (flat_map (conflict_keys held) (books_of held));
   awaits = is_any (awaited held);
 }
 

@@ -79,16 +79,17 @@ abbrev pub bytes_of : {A : Type 0} → List (Vec ℕ A) → List (List ℕ)
 bytes_of outputs = map (λ output. output.items) outputs
 
 -- what a command writes, after what the ones before it wrote
-abbrev pub one_more : List (List ℕ) → Result Done Fault → Result (InTurn State) Fault
-one_more before (Ok done) = Ok (record { after = done.after; outputs = before ++ done.output ∷ [] })
-one_more before (Err fault) = Err fault
+abbrev pub with_output : List (List ℕ) → Result Done Fault → Result (InTurn State) Fault
+with_output before (Ok done) =
+    Ok (record { after = done.after; outputs = before ++ done.output ∷ [] })
+with_output before (Err fault) = Err fault
 
 -- What is answered of a command in its turn, where the replica and the outputs are then so: its output comes after the others;
 -- or it is refused, and the outputs are those that there were.
 abbrev pub AnswersTurn : (Fault → Bool) → Result Done Fault → List (List ℕ) → State →
     List (List ℕ) → Result (Unit {0}) Fault → Type 0
 AnswersTurn late wanted before after outputs (Ok done) =
-    one_more before wanted ≡ Ok (record { after = after; outputs = outputs })
+    with_output before wanted ≡ Ok (record { after = after; outputs = outputs })
 AnswersTurn late wanted before after outputs (Err fault) =
     RefusedFor late wanted fault × (outputs ≡ before)
 

@@ -6,8 +6,7 @@ ghost use Rattle.usfm_cli.specs.Lines as lines;
 
 use crate::Fault;
 use bundle_codec::BundleFault;
-use op_core::{IdFault, OpId};
-use usfm_export::ShortLine;
+use op_core::{IdFault, OpId, ShortLine};
 use usfm_ref::RefFault;
 
 /// The line that reports a fault: `fault`, its number, its details, each after one space, and a line

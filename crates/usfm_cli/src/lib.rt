@@ -29,6 +29,7 @@ pub use fault::Fault;
 pub use fault_lines::fault_line;
 pub use fold::fold_stream;
 pub use folder::{book_begun, makes, may_be_book, written_from};
+pub use op_core::{MOST_LINE_BYTES, ShortLine as FaultLine};
 pub use project_file::create;
 pub use projects::{Outcome, exec, exec_each};
 pub use reading::{MOST_BYTES, ReadFault, read_to_end};
@@ -36,8 +37,5 @@ pub use source::{ByteSource, StdSource};
 pub use standing::{Standing, StandingBook, project_standing};
 pub use turns::{Outcomes, TurnFault, exec_in_turn, stand_in_turn};
 pub use usage::VERSION;
-pub use usfm_export::{
-    ByteSink, MOST_LINE_BYTES, ShortLine as FaultLine, StdSink, WriteFault, write_all, write_more,
-    write_pieces,
-};
+pub use usfm_export::{ByteSink, StdSink, WriteFault, write_all, write_more};
 pub use words::{Line, LineFault, read_words};

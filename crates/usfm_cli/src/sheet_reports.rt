@@ -85,10 +85,10 @@ fn push_finding(
     ensures { OnOk result (bytes.new.items
         ≡ bytes.old.items ++ reports.finding_line book finding.now) }
 {
-    let place = write_ref(alloc, book, finding.key)?;
+    let reference = write_ref(alloc, book, finding.key)?;
     let name = finding.code.name();
     let start = finding.start;
-    let line = format!(in alloc; "{place} {name} {start}\n")?;
+    let line = format!(in alloc; "{reference} {name} {start}\n")?;
     bytes.extend_from_slice(line.as_bytes())
 }
 
@@ -107,9 +107,9 @@ fn push_hit(alloc: Global, bytes: &mut Vec<u8>, book: Book, hit: &Hit<'_>) -> Re
     ensures { OnOk result (bytes.new.items
         ≡ bytes.old.items ++ reports.hit_line book (hit_view hit.now)) }
 {
-    let place = write_ref(alloc, book, hit.key)?;
+    let reference = write_ref(alloc, book, hit.key)?;
     let start = hit.start;
-    let line = format!(in alloc; "{place} {start}\n")?;
+    let line = format!(in alloc; "{reference} {start}\n")?;
     bytes.extend_from_slice(line.as_bytes())
 }
 

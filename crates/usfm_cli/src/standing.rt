@@ -147,7 +147,7 @@ fn standing_book(
 ) -> Result<StandingBook, AllocError>
     ensures book { IfOk result (λ made. made ≡ standing.book_parts replica.now.held book) }
     ensures keys { OnOk result (keys.new.items
-        ≡ keys.old.items ++ standing.conflicts_in replica.now.held book) }
+        ≡ keys.old.items ++ standing.conflict_keys replica.now.held book) }
 {
     let text = book_text(alloc, replica, book).map_err(|_| AllocError)?;
     let base = encode(alloc, &shown_set(alloc, replica, book, keys)?)?;
@@ -163,7 +163,7 @@ fn shown_set(
 ) -> Result<OpSet, AllocError>
     ensures shown { IfOk result (λ set. set ≡ standing.shown_set replica.now.held book) }
     ensures keys { OnOk result (keys.new.items
-        ≡ keys.old.items ++ standing.conflicts_in replica.now.held book) }
+        ≡ keys.old.items ++ standing.conflict_keys replica.now.held book) }
 {
     // The name shows that what the replica holds is a legal set, so that what is shown has its text.
     let _ = replica.name();
@@ -187,7 +187,7 @@ fn shown_ops<'a>(
         (keys_of replica.now.held book))
         (map (λ op. op.now) ops.items)) }
     ensures keys { OnOk result (keys.new.items
-        ≡ keys.old.items ++ standing.conflicts_in replica.now.held book) }
+        ≡ keys.old.items ++ standing.conflict_keys replica.now.held book) }
 {
     let mut ops = Vec::new(alloc);
     for key in replica.keys(book) {

@@ -1,7 +1,6 @@
 // What commands do to a replica, and what they write.
 ghost use Rattle.std.specs.Prelude.{◌≡◌, true, false, ◌++◌, IfOk, IfErr, OnOk, codes};
 ghost use Rattle.std.specs.Fmt.{decimal};
-ghost use Rattle.std.specs.List.{flat_map};
 ghost use Rattle.std.specs.Str.{is_utf8};
 ghost use Rattle.std.specs.Str.Lossy.{utf8_valid_len};
 ghost use Rattle.usfm_ref.specs.Segments.{segment};

@@ -13,7 +13,6 @@ mod writing;
 
 pub use export::{book_text, write_book};
 pub use fault::{ExportFault, TextFault};
-pub use op_core::{MOST_LINE_BYTES, ShortLine};
 pub use sink::{ByteSink, StdSink};
 pub use told::within;
-pub use writing::{WriteFault, write_all, write_more, write_pieces};
+pub use writing::{WriteFault, write_all, write_more};

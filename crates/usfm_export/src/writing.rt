@@ -1,6 +1,5 @@
 // Writes texts to a sink, piece by piece.
 ghost use Rattle.std.specs.Prelude.{◌≡◌, ◌<◌, take, length, OnOk, IfOk, IfErr};
-ghost use Rattle.std.specs.List.{flat_map};
 ghost use Rattle.std.specs.Io.KnownBytes.{Appends};
 ghost use Rattle.usfm_export.specs.Counts.{failures_after};
 ghost use Rattle.usfm_export.specs.Writing.{TakesAll, TakesFront};
@@ -61,24 +60,4 @@ pub fn write_more<W: ByteSink>(sink: &mut W, gone: u64, piece: &[u8]) -> Result<
             gone: gone.saturating_add(fault.gone),
         }),
     }
-}
-
-/// Writes pieces one after another. It takes no memory.
-///
-/// # Errors
-/// The bytes that were written of all pieces where the sink answers an error, of whatever kind, or takes 0
-/// bytes. No write is tried again.
-pub fn write_pieces<W: ByteSink>(sink: &mut W, pieces: &[&[u8]]) -> Result<(), WriteFault>
-    ensures all { OnOk result
-        (Appends (W.taken sink.old) (W.taken sink.new) (flat_map (λ piece. piece.now) pieces.now)) }
-    ensures front { IfErr result (λ fault.
-        TakesFront (W.taken sink.old) (W.taken sink.new)
-        (flat_map (λ piece. piece.now) pieces.now) 0 fault.gone) }
-    ensures failed { W.failures sink.new ≡ failures_after result (W.failures sink.old) }
-{
-    let mut gone = 0;
-    for piece in pieces {
-        gone = write_more(sink, gone, piece)?;
-    }
-    Ok(())
 }

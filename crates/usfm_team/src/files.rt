@@ -21,6 +21,15 @@ pub(crate) fn read_open(rt: &HostRuntime, file: &File) -> Result<Vec<u8>, Fault>
     Ok(read_to_end(rt.alloc(), &mut source)?)
 }
 
+// Whether something stands under a name: a file, a folder, or a link, wherever it leads.
+pub(crate) fn is_there(rt: &HostRuntime, path: &str) -> io::Result<bool> {
+    match fs::symlink_metadata(rt, path) {
+        Ok(_) => Ok(true),
+        Err(error) if error.kind() == ErrorKind::NotFound => Ok(false),
+        Err(error) => Err(error),
+    }
+}
+
 // Removes a file or a link, if one stands there.
 pub(crate) fn remove_if_there(rt: &HostRuntime, path: &str) -> Result<(), Fault> {
     match fs::remove_file(rt, path) {

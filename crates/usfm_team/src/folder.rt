@@ -1,5 +1,5 @@
 // The books' files of a folder, and what each was written from, as they stand on the disk.
-use crate::files::{read_file, read_open};
+use crate::files::{is_there, read_file, read_open};
 use crate::project::real_path;
 use crate::turns::Refusal;
 use std::fs::File;
@@ -70,10 +70,8 @@ pub(crate) fn own_path(
     book: Book,
     ending: &str,
 ) -> Result<String, Fault> {
-    let code = book.code();
-    let code = str::from_utf8(&code).unwrap_or("");
     let own = path_in(rt, folder, OWN)?;
-    Ok(format!(in rt.alloc(); "{own}/{code}.{ending}")?)
+    Ok(format!(in rt.alloc(); "{own}/{book}.{ending}")?)
 }
 
 // Reads the books' files of a folder, in the order of their names, and says which files of such names it passes over.
@@ -153,11 +151,7 @@ fn read_book(rt: &HostRuntime, folder: &str, path: &String) -> Result<Option<Boo
 // Whether a new file of a book was written and not put in its place.
 fn is_unplaced(rt: &HostRuntime, folder: &str, book: Book, path: &str) -> Result<bool, Fault> {
     let (new, _) = places_of(rt, folder, book, path)?;
-    match fs::symlink_metadata(rt, new.as_str()) {
-        Ok(_) => Ok(true),
-        Err(error) if error.kind() == ErrorKind::NotFound => Ok(false),
-        Err(_) => Err(Fault::ReadFailed),
-    }
+    is_there(rt, &new).map_err(|_| Fault::ReadFailed)
 }
 
 // Where a book's new file is written, and where it goes: beside the file that a link leads to, which may be on another
@@ -193,7 +187,7 @@ pub(crate) fn file_of(files: &[BookFile], book: Book) -> Option<&BookFile> {
 }
 
 // Refuses two files of one book: the later one is named.
-pub(crate) fn refuse_twins(rt: &HostRuntime, files: &[BookFile]) -> Result<(), Refusal> {
+pub(crate) fn refuse_two_of_one_book(rt: &HostRuntime, files: &[BookFile]) -> Result<(), Refusal> {
     for (at, file) in files.iter().enumerate() {
         let (before, _) = files.split_at(at);
         if file_of(before, file.book).is_some() {

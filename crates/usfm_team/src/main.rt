@@ -14,6 +14,7 @@ use crate::files::read_file;
 use crate::project::{begin_project, lock_project};
 use crate::sync::{export_into, sync};
 use crate::turns::{Refusal, import, receive};
+use op_core::{OpId, ReplicaName};
 use std::io::{ErrorKind, IsTerminal, Write};
 use std::process::ExitCode;
 use std::{io, mem};
@@ -21,7 +22,7 @@ use usfm_cli::{
     Command, Fault, Line, LineFault, StdSink, StdSource, create, exec, fault_line, fold_stream,
     read_to_end, read_words, write_all,
 };
-use usfm_ref::Book;
+use usfm_ref::{Book, Key};
 
 const REFUSED: u8 = 1;
 
@@ -72,37 +73,19 @@ fn read_line(rt: &HostRuntime) -> Result<Line, LineFault> {
 // receive read the project again when no other command can change it: who types a text holds up nobody.
 fn run(rt: &HostRuntime, line: Line) -> Result<(), Refusal> {
     match line {
-        Line::Init { project, name } => {
-            let bytes = create(rt.alloc(), name.text()).map_err(Fault::from)?;
-            Ok(begin_project(rt, &project, &bytes)?)
-        }
+        Line::Init { project, name } => init(rt, &project, &name),
         Line::Import {
             project,
             files,
             since,
         } => import(rt, &project, files, since),
-        Line::Edit { project, book, key } => {
-            read_file(rt, &project)?;
-            let text = &read_text(rt)?;
-            change(rt, &project, &Command::Edit { book, key, text })
-        }
+        Line::Edit { project, book, key } => edit(rt, &project, book, key),
         Line::EditOver {
             project,
             book,
             key,
             ids,
-        } => {
-            read_file(rt, &project)?;
-            let text = &read_text(rt)?;
-            let ids = &ids;
-            let command = Command::EditOver {
-                book,
-                key,
-                text,
-                ids,
-            };
-            change(rt, &project, &command)
-        }
+        } => edit_over(rt, &project, book, key, &ids),
         Line::Receive { project, bundles } => receive(rt, &project, bundles),
         Line::Shown { project, book, key } => ask(rt, &project, &Command::Shown(book, key)),
         Line::Send { project } => ask(rt, &project, &Command::Send),
@@ -118,43 +101,93 @@ fn run(rt: &HostRuntime, line: Line) -> Result<(), Refusal> {
             bundles,
         } => sync(rt, &project, &folder, bundles),
         Line::Summary { project } => ask(rt, &project, &Command::Summary),
-        Line::Delta { project, summary } => {
-            let bytes = read_file(rt, &project)?;
-            let summary = read_file(rt, &summary)?;
-            answer(rt, &bytes, &Command::Delta(&summary))
-        }
+        Line::Delta { project, summary } => delta(rt, &project, &summary),
         Line::Thin { project } => change(rt, &project, &Command::Thin),
         Line::Report { project } => ask(rt, &project, &Command::Report),
         Line::Check {
             project,
             book,
             sheet,
-        } => {
-            let bytes = read_file(rt, &project)?;
-            let sheet = read_file(rt, &sheet)?;
-            answer(rt, &bytes, &Command::Check(book, &sheet))
-        }
+        } => check(rt, &project, book, &sheet),
         Line::Find {
             project,
             book,
             sheet,
             needle,
-        } => {
-            let bytes = read_file(rt, &project)?;
-            let sheet = read_file(rt, &sheet)?;
-            answer(rt, &bytes, &Command::Find(book, &sheet, &needle))
-        }
+        } => find(rt, &project, book, &sheet, &needle),
         Line::Words {
             project,
             book,
             sheet,
-        } => {
-            let bytes = read_file(rt, &project)?;
-            let sheet = read_file(rt, &sheet)?;
-            answer(rt, &bytes, &Command::Words(book, &sheet))
-        }
+        } => words(rt, &project, book, &sheet),
         Line::Fold(book) => fold(rt, book),
     }
+}
+
+// Begins a project.
+fn init(rt: &HostRuntime, project: &str, name: &ReplicaName) -> Result<(), Refusal> {
+    let bytes = create(rt.alloc(), name.text()).map_err(Fault::from)?;
+    Ok(begin_project(rt, project, &bytes)?)
+}
+
+// Gives a segment the text of standard input.
+fn edit(rt: &HostRuntime, project: &str, book: Book, key: Key) -> Result<(), Refusal> {
+    read_file(rt, project)?;
+    let text = &read_text(rt)?;
+    change(rt, project, &Command::Edit { book, key, text })
+}
+
+// Gives a segment the text of standard input, in the place of some operations.
+fn edit_over(
+    rt: &HostRuntime,
+    project: &str,
+    book: Book,
+    key: Key,
+    ids: &[OpId],
+) -> Result<(), Refusal> {
+    read_file(rt, project)?;
+    let text = &read_text(rt)?;
+    let command = Command::EditOver {
+        book,
+        key,
+        text,
+        ids,
+    };
+    change(rt, project, &command)
+}
+
+// Writes what another project lacks by its summary.
+fn delta(rt: &HostRuntime, project: &str, summary: &str) -> Result<(), Refusal> {
+    let bytes = read_file(rt, project)?;
+    let summary = read_file(rt, summary)?;
+    answer(rt, &bytes, &Command::Delta(&summary))
+}
+
+// Reports what is found in a book by a style sheet.
+fn check(rt: &HostRuntime, project: &str, book: Book, sheet: &str) -> Result<(), Refusal> {
+    let bytes = read_file(rt, project)?;
+    let sheet = read_file(rt, sheet)?;
+    answer(rt, &bytes, &Command::Check(book, &sheet))
+}
+
+// Finds a needle in a book by a style sheet.
+fn find(
+    rt: &HostRuntime,
+    project: &str,
+    book: Book,
+    sheet: &str,
+    needle: &str,
+) -> Result<(), Refusal> {
+    let bytes = read_file(rt, project)?;
+    let sheet = read_file(rt, sheet)?;
+    answer(rt, &bytes, &Command::Find(book, &sheet, needle))
+}
+
+// Lists the words of a book by a style sheet.
+fn words(rt: &HostRuntime, project: &str, book: Book, sheet: &str) -> Result<(), Refusal> {
+    let bytes = read_file(rt, project)?;
+    let sheet = read_file(rt, sheet)?;
+    answer(rt, &bytes, &Command::Words(book, &sheet))
 }
 
 // Does a command on a project's file that it reads first.

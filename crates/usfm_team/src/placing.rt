@@ -2,7 +2,8 @@
 // own folder, so that a full disk changes nothing; then each file is renamed into its place, between the bundle that it
 // was written from and the new one.
 use crate::files::{
-    make_file, make_private, read_file, remove_if_there, sync_file, sync_folder, write_made,
+    is_there, make_file, make_private, read_file, remove_if_there, sync_file, sync_folder,
+    write_made,
 };
 use crate::folder::{BookFile, OWN, file_of, own_path, path_in, places_of};
 use crate::project::keep_rights;
@@ -110,8 +111,7 @@ fn clear(rt: &HostRuntime, folder: &str, book: Book) -> Result<(), Fault> {
 
 // The path of a book that has no file.
 fn path_for(rt: &HostRuntime, folder: &str, book: Book) -> Result<String, Fault> {
-    let code = book.code();
-    let name = format!(in rt.alloc(); "{}.usfm", str::from_utf8(&code).unwrap_or(""))?;
+    let name = format!(in rt.alloc(); "{book}.usfm")?;
     path_in(rt, folder, &name)
 }
 
@@ -210,9 +210,8 @@ fn refuse_another(rt: &HostRuntime, path: &str) -> Result<(), Fault> {
 
 // Whether nothing stands under a name.
 fn is_free(rt: &HostRuntime, path: &str) -> Result<bool, Fault> {
-    match fs::symlink_metadata(rt, path) {
-        Ok(_) => Ok(false),
-        Err(error) if error.kind() == ErrorKind::NotFound => Ok(true),
+    match is_there(rt, path) {
+        Ok(is_taken) => Ok(!is_taken),
         Err(_) => Err(Fault::FileFailed),
     }
 }

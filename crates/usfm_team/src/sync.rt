@@ -1,6 +1,6 @@
 // A folder of books' files: what was changed in it comes into the project, and the project's books go into it.
 use crate::files::read_file;
-use crate::folder::{BookFile, file_of, lock_books, read_books, refuse_twins};
+use crate::folder::{BookFile, file_of, lock_books, read_books, refuse_two_of_one_book};
 use crate::placing::{Staged, place, put_base, stage, unstage};
 use crate::project::lock_project;
 use crate::turns::{Refusal, read_files, refusal_in};
@@ -28,7 +28,7 @@ pub(crate) fn sync(
     let _held = lock_books(rt, folder)?;
     let mut files = read_books(rt, folder)?;
     let given = read_files(rt, &bundles).map_err(|fault| refusal_in(rt, fault, &bundles))?;
-    refuse_twins(rt, &files)?;
+    refuse_two_of_one_book(rt, &files)?;
     find_bases(rt, &mut files)?;
     let (outcomes, stands) = take_in(rt, &before, &files, &bundles, &given)?;
     let books = all_books(rt, &stands)?;
@@ -61,7 +61,7 @@ pub(crate) fn export_into(
     let stands = project_standing(rt.alloc(), &bytes)?;
     let chosen = chosen_books(rt, &stands, books)?;
     let mut files = read_books(rt, folder)?;
-    refuse_twins(rt, &files)?;
+    refuse_two_of_one_book(rt, &files)?;
     find_bases(rt, &mut files)?;
     let replaced = replaced_files(rt, &files, &chosen)?;
     refuse_lost(rt, &bytes, &replaced)?;

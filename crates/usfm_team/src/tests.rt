@@ -23,7 +23,7 @@ use std::io::ErrorKind;
 use std::test::Fail;
 use usfm_cli::{
     ByteSource, FaultLine, MOST_LINE_BYTES, ReadFault, StdSink, StdSource, WriteFault, read_to_end,
-    write_all, write_more, write_pieces,
+    write_all, write_more,
 };
 use usfm_export::within;
 
@@ -76,10 +76,12 @@ fn each_write_fails(rt: HostRuntime) -> Result<(), Fail> {
             assert_eq!(rt; sink.taken.as_slice(), TEXT.split_at(room).0);
             assert_eq!(rt; sink.failures, 1);
             let mut sink = ShortSink::new(rt.alloc(), 3, room, refusal);
-            let pieces = [b"ab".as_slice(), b"", b"cde", b"fgh"];
+            let later = Err(WriteFault {
+                gone: (room as u64).saturating_add(10),
+            });
             assert!(rt;
-                write_pieces(&mut sink, &pieces) == fault,
-                "{refusal:?} at {room}"
+                write_more(&mut sink, 10, &TEXT) == later,
+                "{refusal:?} at {room} of a later piece"
             );
             assert_eq!(rt; sink.taken.as_slice(), TEXT.split_at(room).0);
             assert_eq!(rt; sink.failures, 1);
@@ -92,7 +94,7 @@ fn each_write_fails(rt: HostRuntime) -> Result<(), Fail> {
 fn slow_writes(rt: HostRuntime) -> Result<(), Fail> {
     let mut sink = ShortSink::new(rt.alloc(), 1, 100, Refusal::TakesNothing);
     write_all(&mut sink, b"")?;
-    write_pieces(&mut sink, &[b"abc".as_slice(), b"", b"def"])?;
+    write_all(&mut sink, b"abcdef")?;
     assert_eq!(rt; write_more(&mut sink, 6, b"gh")?, 8);
     assert_eq!(rt; write_more(&mut sink, u64::MAX, b"i")?, u64::MAX);
     assert_eq!(rt; sink.taken.as_slice(), b"abcdefghi".as_slice());

@@ -83,7 +83,21 @@ fn import_since(
         .iter()
         .map(|file| Command::ImportSince { file, base })
         .collect(rt.alloc())?;
-    change_in_turn(rt, project, &commands)
+    change_in_turn(rt, project, &commands).map_err(told_of_base)
+}
+
+// A refusal with what the base is refused for apart from the files. The first command judges the base, and only
+// bundles have these faults, so they are of no file.
+fn told_of_base(fault: TurnFault) -> TurnFault {
+    match fault {
+        TurnFault::Turn(_, fault) if is_of_bundle(&fault) => TurnFault::Project(fault),
+        _ => fault,
+    }
+}
+
+// Whether a bundle alone is refused for this.
+fn is_of_bundle(fault: &Fault) -> bool {
+    matches!(fault, Fault::Bundle(_) | Fault::Trailing | Fault::Clash(_))
 }
 
 fn receive_one(rt: &HostRuntime, project: &str, name: &str) -> Result<(), Refusal> {

@@ -7,7 +7,7 @@ ghost use Rattle.usfm_tree.specs.Forest.{nothing, text, leaf, node};
 ghost use Rattle.usfm_tree.specs.Loops.TakenViews.{optional_text};
 ghost use Rattle.usfm_tree.specs.Views.{view, forest_of, branch_of};
 
-use crate::node::{Branch, Leaf, Node, Words};
+use crate::node::{Branch, Leaf, Node, Text};
 use std::alloc::{AllocError, Global};
 use sty_sheet::StyleKind;
 use usfm_token::Mark;
@@ -15,7 +15,7 @@ use usfm_token::Mark;
 pub(crate) fn text_node<'a>(start: usize, slice: &'a str) -> Node<'a>
     ensures { view result ≡ text start slice.entry.now nothing }
 {
-    Node::Text(Words { start, slice })
+    Node::Text(Text { start, slice })
 }
 
 pub(crate) fn leaf_node<'a>(start: usize, mark: Mark<'a>) -> Node<'a>

@@ -29,7 +29,7 @@ mod unwind;
 mod walk;
 
 pub use leaves::Leaves;
-pub use node::{Branch, Leaf, Node, Words};
+pub use node::{Branch, Leaf, Node, Text};
 pub use step::{Entry, Step};
 pub use stream::TreeReader;
 pub use tree::Tree;

@@ -11,7 +11,7 @@ use usfm_token::Mark;
 #[derive(Drop)]
 pub enum Node<'a> {
     /// A text between marks.
-    Text(Words<'a>),
+    Text(Text<'a>),
     /// A paragraph mark, with all up to the next paragraph mark.
     Para(Branch<'a>),
     /// A character mark, with what it encloses.
@@ -26,7 +26,7 @@ pub enum Node<'a> {
 
 /// A text between marks, and where it begins.
 #[derive(Clone, Copy, Debug)]
-pub struct Words<'a> {
+pub struct Text<'a> {
     pub(crate) start: usize,
     pub(crate) slice: &'a str,
 }
@@ -66,7 +66,7 @@ impl<'a> Node<'a> {
         ensures { result ≡ start_of (view self.now) }
     {
         match self {
-            Node::Text(words) => words.start,
+            Node::Text(text) => text.start,
             Node::Leaf(leaf) => leaf.start,
             Node::Para(b) | Node::Char(b) | Node::Note(b) | Node::Milestone(b) => b.start,
         }
@@ -77,7 +77,7 @@ impl<'a> Node<'a> {
         ensures { result.now ≡ slice_here (view self.now) }
     {
         match self {
-            Node::Text(words) => words.slice,
+            Node::Text(text) => text.slice,
             Node::Leaf(leaf) => leaf.mark.slice(),
             Node::Para(b) | Node::Char(b) | Node::Note(b) | Node::Milestone(b) => b.slice,
         }

@@ -16,7 +16,6 @@ use crate::read::read_nodes;
 use crate::tree::Tree;
 use std::alloc::{AllocError, Global};
 use sty_sheet::Sheet;
-use usfm_token::TokenIter;
 
 // What a path leads to from nodes that are side by side.
 pub(crate) fn part_in<'t, 'a>(nodes: &'t [Node<'a>], path: &[usize]) -> Option<&'t Node<'a>>

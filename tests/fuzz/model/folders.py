@@ -89,7 +89,7 @@ def read_books(folder: dict, place: str, read: Callable[[dict, str], bytes], not
     return files
 
 
-def refuse_twins(files: Sequence[BookFile]) -> None:
+def refuse_two_of_one_book(files: Sequence[BookFile]) -> None:
     seen = set()
     for file in files:
         if file.book in seen:

@@ -142,7 +142,7 @@ def sync(folder: Folder, project: str, place: str, names: Sequence[str], notes: 
     before = read_file(folder, project)
     files = folders.read_books(folder, place, read_file, notes)
     bundles = [folders.within(it, read_file, folder, it) for it in names]
-    folders.refuse_twins(files)
+    folders.refuse_two_of_one_book(files)
     folders.find_bases(folder, place, files)
     replica = load(before)
     told = b"".join(folders.within(it.path, folders.take, replica, it) for it in files)
@@ -161,7 +161,7 @@ def export_into(folder: Folder, project: str, place: str, named: Sequence[str], 
     if not set(named) <= set(begun):
         raise Fault(82)
     files = folders.read_books(folder, place, read_file, notes)
-    folders.refuse_twins(files)
+    folders.refuse_two_of_one_book(files)
     folders.find_bases(folder, place, files)
     books = [it for it in begun if it in named or not named]
     folders.refuse_changed(held, files, books)

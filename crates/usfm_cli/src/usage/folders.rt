@@ -1,6 +1,6 @@
 // The subcommands on a folder of books' files, and the export of one book: of each its words, its help, and
 // the line that it is read as.
-use super::{PROJECT, command};
+use super::{BOOK, PROJECT, command};
 use crate::given::{books, text, text_if_given, texts};
 use crate::words::{Line, LineFault};
 use clap::{Arg, ArgMatches, Command};
@@ -63,10 +63,11 @@ pub(crate) fn sync_line(alloc: Global, given: &ArgMatches<'_>) -> Result<Line, L
 }
 
 pub(crate) fn export<'a>(alloc: Global) -> Result<Command<'a>, AllocError> {
-    let books = Arg::new(alloc, "BOOK")
+    let (word, help) = BOOK;
+    let books = Arg::new(alloc, word)
         .num_args(0..)
         .required_unless_present("FOLDER")?
-        .help("The book's code: three of A to Z and 0 to 9, as MAT");
+        .help(help);
     let folder = Arg::new(alloc, "FOLDER")
         .long("into")
         .help("Into the files of a folder, all where no BOOK is given");

@@ -3,7 +3,7 @@ use super::player::Step::{
     Again, Checked, Edit, Export, Import, Over, Pack, Receive, Report, Same, Send, Shown, Unpack,
 };
 use super::player::Who::{Ana, Ben};
-use super::player::{Player, Row, play};
+use super::player::{Row, play};
 use super::vectors::{
     AFTER, B1, CLASHING, FIRST, LAST_NUMBER, NAMES_ANOTHER, NAMES_ITSELF, NAMES_TWO, NOTHING, Y, Z,
 };
@@ -24,10 +24,16 @@ const AFTER_THREE: &[Row<'static>] = &[
     ),
     (Ana, Pack, b""),
     (Ben, Unpack, b"new 4\n"),
+    (Ben, Export("MAT"), AFTER),
     (
         Ben,
         Shown("MAT 1:1"),
         b"op 3 ana 8\n\\v 1 To\n\nop 3 ben 8\n\\v 1 At\n\n",
+    ),
+    (
+        Ben,
+        Report,
+        b"conflict MAT 1:1 2\ntext 3 ben 8\n\\v 1 At\n\ntext 3 ana 8\n\\v 1 To\n\n",
     ),
     (
         Ana,

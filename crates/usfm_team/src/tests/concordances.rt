@@ -1,10 +1,9 @@
 // The hits and the words of small texts.
 use concordance::{FindFault, find, words};
 use std::alloc::{AllocError, Global};
-use std::process::Abort;
 use sty_sheet::{Sheet, SheetFault};
 use thiserror::Error;
-use usfm_ref::{Key, write_key};
+use usfm_ref::write_key;
 
 // The style sheet of the tests.
 const SHEET: &str = "\\Marker id

@@ -52,9 +52,7 @@ fn told(alloc: Global, line: &Line) -> Result<String, Fail> {
             several(alloc, "receive", project, "bundle", bundles)?
         }
         Line::Send { project } => format!(in alloc; "send {project}")?,
-        Line::Export { project, book } => {
-            format!(in alloc; "export {project} book {}", str::from_utf8(&book.code())?)?
-        }
+        Line::Export { project, book } => { format!(in alloc; "export {project} book {book}")? }
         Line::ExportInto {
             project,
             folder,
@@ -62,8 +60,7 @@ fn told(alloc: Global, line: &Line) -> Result<String, Fail> {
         } => {
             let mut text = format!(in alloc; "export {project} into {folder}")?;
             for book in books {
-                let code = book.code();
-                text.push_str(format!(in alloc; " book {}", str::from_utf8(&code)?)?.as_str())?;
+                text.push_str(format!(in alloc; " book {book}")?.as_str())?;
             }
             text
         }
@@ -83,34 +80,21 @@ fn told(alloc: Global, line: &Line) -> Result<String, Fail> {
             project,
             book,
             sheet,
-        } => {
-            format!(in alloc;
-                "check {project} book {} sheet {sheet}",
-                str::from_utf8(&book.code())?
-            )?
-        }
+        } => { format!(in alloc; "check {project} book {book} sheet {sheet}")? }
         Line::Find {
             project,
             book,
             sheet,
             needle,
-        } => {
-            let code = book.code();
-            let book = str::from_utf8(&code)?;
-            format!(in alloc; "find {project} book {book} sheet {sheet} needle {needle}")?
-        }
+        } => { format!(in alloc; "find {project} book {book} sheet {sheet} needle {needle}")? }
         Line::Words {
             project,
             book,
             sheet,
-        } => {
-            let code = book.code();
-            let book = str::from_utf8(&code)?;
-            format!(in alloc; "words {project} book {book} sheet {sheet}")?
-        }
+        } => { format!(in alloc; "words {project} book {book} sheet {sheet}")? }
         Line::Thin { project } => format!(in alloc; "thin {project}")?,
         Line::Report { project } => format!(in alloc; "report {project}")?,
-        Line::Fold(book) => format!(in alloc; "fold {}", str::from_utf8(&book.code())?)?,
+        Line::Fold(book) => format!(in alloc; "fold {book}")?,
     })
 }
 

@@ -8,7 +8,7 @@ use Rattle.concordance.specs.Loops.Groups.{is_spelled, composed, form_at, Spells
 use Rattle.concordance.specs.declared.form.Form.{Form}
 use Rattle.concordance.proofs.GroupSteps.{group_keyed}
 use Rattle.concordance.proofs.WordLists.{composed_at, same_more}
-use Rattle.concordance.proofs.listing.composed.Goals.{in-Some+in_ok-note, in_default}
+use Rattle.concordance.proofs.listing.composed.Goals.{in-Some+in_ok-put_keys, in_default}
 use Rattle.concordance.proofs.listing.composed.Goals as goal
 
 -- forms in the places of their groups
@@ -21,8 +21,8 @@ form_here (f ∷ forms) (h ∷ gs) zero form g same below is at =
 form_here (f ∷ forms) (h ∷ gs) (suc i) form g same below is at =
     form_here forms gs i form g (let rest : map form_bytes forms ≡ map form_at gs = cc in rest) (omega arith) is at
 
-pub note-requires-clause-some : goal.note-requires-clause-some
-note-requires-clause-some c =
+pub put_keys-requires-clause-some : goal.put_keys-requires-clause-some
+put_keys-requires-clause-some c =
     let some =
     group_keyed c.args.runs.now.entries c.loop-index.index (c.in-Some.field-0-0.now, c.in-Some.keys.now) (sym c.in-Some.ensures.entry)
     c.requires.keyed in
@@ -34,23 +34,23 @@ loop-index-preserved c =
     let i = c.loop-index.index in
     let old = c.loop-index.groups.entries in
     elim c.match-get_index.branch [
-      | in-Some+in_ok-note w ↦
+      | in-Some+in_ok-put_keys w ↦
           (let g : Group = (w.in-Some.field-0-0.now, w.in-Some.keys.now) in
           let at = sym w.in-Some.ensures.entry in
           let form =
           w.text.ensures
           ∙ form_here c.args.forms.now runs i c.index-forms-index.result g c.requires.forms c.loop-index-test.true c.index-forms-index.is
           at in
-          let also : SpellsBoth (all_spellings old) (spellings_with (form_at g) g.1.items) (all_spellings w.note.new.groups.entries) =
-          λ s. w.in_ok-note.ensures.spells s
+          let also : SpellsBoth (all_spellings old) (spellings_with (form_at g) g.1.items) (all_spellings w.put_keys.new.groups.entries) =
+          λ s. w.in_ok-put_keys.ensures.spells s
           ∙ (λ j. is_spelled s (all_spellings old) || is_spelled s (spellings_with (form j) (w.as_slice.ensures.value j))) in
           record {
             spells =
                 λ s. ap (is_spelled s) (ap (λ n. map composed (all_spellings (take n runs))) (add-one i) ∙ composed_at runs i g at)
                 ∙ same_more (map composed (all_spellings (take i runs))) (all_spellings old) (spellings_with (form_at g) g.1.items)
-                (all_spellings w.note.new.groups.entries) c.loop-index.invariant.spells also s
+                (all_spellings w.put_keys.new.groups.entries) c.loop-index.invariant.spells also s
                 ∙ ap (λ gs. is_spelled s (all_spellings gs.entries)) (sym w.groups-is);
-            keyed = ap (λ gs. has_bare gs.entries) w.groups-is ∙ w.in_ok-note.ensures.keyed;
+            keyed = ap (λ gs. has_bare gs.entries) w.groups-is ∙ w.in_ok-put_keys.ensures.keyed;
           })
       | in_default w ↦
           (let forms = ap length c.requires.forms in

@@ -51,7 +51,7 @@ returns c =
     ∙ (λ i. map (spelling_at ((ap pieces_view c.deref-3.ensures.value ∙ c.in_ok-pieces.ensures.value) i)) (found at i)) in
     let all : words_in (all_spellings c.in_ok-sorted.sorted.entries) ≡ words_of sheet text =
     sym (words_same (map composed hits) (all_spellings c.in_ok-sorted.sorted.entries)
-    (λ s. composed_same hits (all_spellings c.in_ok-noted.noted.entries) c.in_ok-noted.ensures.spells s
+    (λ s. composed_same hits (all_spellings c.in_ok-by_run.by_run.entries) c.in_ok-by_run.ensures.spells s
     ∙ c.in_ok-groups.ensures.spells s ∙ c.in_ok-sorted.ensures.spells s))
     ∙ ap words_in spelled_all in
-    subst (λ (ws : List WordParts). IfOk c.gathered.result (λ words. words.items ≡ ws)) all c.gathered.ensures
+    subst (λ (ws : List WordParts). IfOk c.words_in.result (λ words. words.items ≡ ws)) all c.words_in.ensures

@@ -5,7 +5,7 @@ use Rattle.indexmap.proofs.CallerLemmas.{insert_entry-new}
 use Rattle.concordance.specs.Loops.Groups.{Group, all_spellings, spellings_with, has_bare}
 use Rattle.concordance.specs.Loops.Groups.{SpellsBoth}
 use Rattle.concordance.proofs.GroupSteps.{put_spelled, new_spelled, put_keyed, new_keyed, text_eq}
-use Rattle.concordance.proofs.listing.note.Goals as goal
+use Rattle.concordance.proofs.listing.put_keys.Goals as goal
 
 none_of : {X : Type 0} (o : Option X) → false ≡ is_some o → o ≡ None
 none_of None h = refl

@@ -3,7 +3,7 @@ use Rattle.std.specs.Prelude.{◌||◌}
 use Rattle.concordance.specs.Loops.Groups.{all_spellings, has_bare, is_spelled}
 use Rattle.concordance.specs.Loops.KeyedViews.{hits_left, spelled}
 use Rattle.concordance.specs.Words.{Spelling}
-use Rattle.concordance.proofs.listing.noted.Given as goal
+use Rattle.concordance.proofs.listing.keys_by_run.Given as goal
 
 abbrev pub invariant-loop-run : goal.invariant-loop-run
 invariant-loop-run l =

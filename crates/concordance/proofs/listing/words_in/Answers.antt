@@ -6,8 +6,8 @@ use Rattle.usfm_ref.specs.Rising.{rising}
 use Rattle.concordance.specs.Words.{WordParts}
 use Rattle.concordance.proofs.GroupSteps.{map_at}
 use Rattle.concordance.proofs.WordLists.{word_spelled, groups_words}
-use Rattle.concordance.proofs.listing.gathered.Goals.{in-Some+in_ok-word_of+in_ok-push, in_default}
-use Rattle.concordance.proofs.listing.gathered.Goals as goal
+use Rattle.concordance.proofs.listing.words_in.Goals.{in-Some+in_ok-word_of+in_ok-push, in_default}
+use Rattle.concordance.proofs.listing.words_in.Goals as goal
 
 pub loop-index-preserved : goal.loop-index-preserved
 loop-index-preserved c =
