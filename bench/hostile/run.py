@@ -84,11 +84,14 @@ def main() -> int:
     parser.add_argument("--program", help="the program, else the one of this repository")
     parser.add_argument("words", nargs="*", metavar="WORD", help="words in the names of the inputs")
     options = parser.parse_args()
+    wanted = [it for it in FAMILIES if all(word in it.what for word in options.words)]
+    if not wanted:
+        lacking = [word for word in options.words if not any(word in it.what for it in FAMILIES)]
+        parser.error(f"no input's name has {' and '.join(lacking or options.words)}")
     program = os.path.abspath(options.program or program_of_repository())
     print("| Input | Bytes | Time | Bytes | Time | Times |")
     print("|---|---|---|---|---|---|")
     with tempfile.TemporaryDirectory() as folder:
-        wanted = [it for it in FAMILIES if all(word in it.what for word in options.words)]
         within = [measure(program, it, folder) for it in wanted]
     return 0 if all(within) else 1
 
