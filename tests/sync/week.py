@@ -1,4 +1,5 @@
 """Two people, each with a project and a folder, and what they do."""
+import errno
 import os
 import random
 import re
@@ -6,6 +7,7 @@ import shutil
 import subprocess
 import time
 from pathlib import Path
+from typing import BinaryIO, Optional
 
 from stage import SECONDS, Tally, run
 from texts import Book, Copy, Writing, cut, in_order, join
@@ -227,7 +229,12 @@ def check_saves(tally: Tally, program: Path, work: Path, seed: int) -> None:
         while saved == before:
             saved = week.changed(before)
         command = subprocess.Popen([program, "sync", "p", "texts", pipe], cwd=ana.home, stdout=subprocess.PIPE)
-        with open(pipe, "wb") as stream:
+        stream = to_reader(command, pipe)
+        if stream is None:
+            command.kill()
+            tally.check(False, f"save {number}: the sync did not read the bundle, and has status {command.wait()}")
+            return
+        with stream:
             ana.save(code, saved)
             stream.write(bundle)
         told, _ = command.communicate(timeout=SECONDS)
@@ -239,6 +246,23 @@ def check_saves(tally: Tally, program: Path, work: Path, seed: int) -> None:
         week.exchange()
     tally.check(left > 5, f"{left} files were left")
     week.look("saves")
+
+
+def to_reader(command: subprocess.Popen, pipe: Path) -> Optional[BinaryIO]:
+    """What is written to a pipe, once a command waits for it; nothing where the command ends before, or does not come to it."""
+    latest = time.monotonic() + SECONDS
+    while command.poll() is None and time.monotonic() < latest:
+        try:
+            # Else it would wait for a reader for ever.
+            handle = os.open(pipe, os.O_WRONLY | os.O_NONBLOCK)
+        except OSError as error:
+            if error.errno != errno.ENXIO:
+                raise
+            time.sleep(0.001)
+        else:
+            os.set_blocking(handle, True)
+            return open(handle, "wb")
+    return None
 
 
 def seconds(what) -> float:
