@@ -42,8 +42,8 @@ def once(program: str, one: Input, folder: str) -> float:
         before = processor_seconds()
         ran = subprocess.run([program, *one.words], cwd=folder, stdin=given, stdout=subprocess.DEVNULL, stderr=subprocess.PIPE)
         after = processor_seconds()
-    if ran.returncode != 0 and ran.stderr != b"fault 82\n":
-        sys.exit(f"{one.words[0]} answers {ran.stderr!r}")
+    if (ran.returncode, ran.stderr) != (1 if one.fault else 0, one.fault):
+        sys.exit(f"{one.words[0]} ends with status {ran.returncode} and answers {ran.stderr!r}")
     return after - before
 
 
