@@ -2,9 +2,9 @@
 import os
 import re
 import subprocess
-from pathlib import Path
 
-TOP = Path(__file__).resolve().parent.parent.parent
+from repository import TOP
+
 counts = [0, 0]
 
 
