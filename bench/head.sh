@@ -2,7 +2,7 @@
 # run.sh sets `here` first, to its own folder. This sets `top`, the repository, `work`, a folder that is removed at
 # the end, and `plain` and, once it is built, `proved`, the two programs.
 top=$(cd "$here/../.." && pwd)
-work=$(mktemp -d)
+work=$(mktemp -d) || exit 2
 trap 'rm -rf "$work"' EXIT
 plain=$work/plain
 

@@ -5,32 +5,44 @@ _usfm_team() {
     local books="GEN EXO LEV NUM DEU JOS JDG RUT 1SA 2SA 1KI 2KI 1CH 2CH EZR NEH EST JOB PSA PRO ECC SNG
         ISA JER LAM EZK DAN HOS JOL AMO OBA JON MIC NAM HAB ZEP HAG ZEC MAL MAT MRK LUK JHN ACT
         ROM 1CO 2CO GAL EPH PHP COL 1TH 2TH 1TI 2TI TIT PHM HEB JAS 1PE 2PE 1JN 2JN 3JN JUD REV"
-    local word=${COMP_WORDS[COMP_CWORD]} command=${COMP_WORDS[1]} asked=""
+    local word=${COMP_WORDS[COMP_CWORD]} command=${COMP_WORDS[1]} options="--help" asked=() more="" kind at place=0 ended=""
     COMPREPLY=()
-    if [ "$COMP_CWORD" -eq 1 ]; then
-        mapfile -t COMPREPLY < <(compgen -W "$commands --help --version" -- "$word")
-        return
-    fi
-    if [ "$command" = import ] && [[ $word == -* ]]; then
-        mapfile -t COMPREPLY < <(compgen -W --since -- "$word")
-        return
-    fi
-    # What each command asks for, word by word; what is not listed is free text.
-    local place=$((COMP_CWORD - 1))
+    # How many words stand before this one, without options and what is given to them. After `--` no word is an option.
+    for ((at = 1; at < COMP_CWORD; at++)); do
+        case $ended${COMP_WORDS[at]} in
+            # In bash `--into=texts` is three words.
+            --since | --into) at=$((at + 1)); [ "${COMP_WORDS[at]}" != = ] || at=$((at + 1)) ;;
+            --) ended=yes ;;
+            -?*) ;;
+            *) place=$((place + 1)) ;;
+        esac
+    done
+    # What each command asks for, word by word, and then for each word more; what is not listed is free text.
     case $command in
-        init | edit | edit-over | shown | send | summary | report | thin) asked="file" ;;
-        import | receive | sync) asked="file" place=1 ;;
-        delta) asked="file file" ;;
-        export) asked="file book"; [ "$place" -le 2 ] || place=2 ;;
-        check | find | words) asked="file book file" ;;
-        fold) asked="book" ;;
-        help) asked="command" ;;
+        init | edit | edit-over | shown | send | summary | report | thin) asked=(file) ;;
+        import) asked=(file) more=file options="--since --help" ;;
+        receive | sync) asked=(file) more=file ;;
+        delta) asked=(file file) ;;
+        export) asked=(file) more=book options="--into --help" ;;
+        check | find | words) asked=(file book file) ;;
+        fold) asked=(book) ;;
+        help) asked=(command) options="" ;;
     esac
-    [ "${COMP_WORDS[COMP_CWORD - 1]}" != --into ] || { asked="file"; place=1; }
-    case $(cut -d' ' -f$place <<<"$asked ") in
+    if [ "$at" -gt "$COMP_CWORD" ]; then
+        # What is given to an option.
+        kind="file"
+    elif [ "$place" -eq 0 ]; then
+        kind="program" options="--help --version"
+    else
+        kind=${asked[place - 1]:-$more}
+    fi
+    [[ $at -gt $COMP_CWORD || $ended$word != -* ]] || kind="option"
+    case $kind in
         file) compopt -o filenames 2>/dev/null; mapfile -t COMPREPLY < <(compgen -f -- "$word") ;;
         book) mapfile -t COMPREPLY < <(compgen -W "$books" -- "$word") ;;
+        program) mapfile -t COMPREPLY < <(compgen -W "$commands" -- "$word") ;;
         command) mapfile -t COMPREPLY < <(compgen -W "${commands% help}" -- "$word") ;;
+        option) mapfile -t COMPREPLY < <(compgen -W "$options" -- "$word") ;;
     esac
 }
 complete -F _usfm_team usfm_team

@@ -1,19 +1,42 @@
 # Completes the words of usfm_team in fish: copy it to ~/.config/fish/completions/.
 
+set -g __usfm_team_commands init import edit edit-over shown receive sync send export summary delta report check find words thin fold
 set -g __usfm_team_books GEN EXO LEV NUM DEU JOS JDG RUT 1SA 2SA 1KI 2KI 1CH 2CH EZR NEH EST JOB PSA PRO ECC SNG \
     ISA JER LAM EZK DAN HOS JOL AMO OBA JON MIC NAM HAB ZEP HAG ZEC MAL MAT MRK LUK JHN ACT \
     ROM 1CO 2CO GAL EPH PHP COL 1TH 2TH 1TI 2TI TIT PHM HEB JAS 1PE 2PE 1JN 2JN 3JN JUD REV
 
+# How many words stand before the one that is completed, without the program's name, options and what is given to them. After `--`
+# no word is an option.
+function __usfm_team_place
+    set -l words (commandline -opc)
+    set -l place 0
+    set -l ended
+    set -l at 2
+    while test $at -le (count $words)
+        switch "$ended$words[$at]"
+            case --since --into
+                set at (math $at + 1)
+            case --
+                set ended yes
+            case -
+                set place (math $place + 1)
+            case '-*'
+            case '*'
+                set place (math $place + 1)
+        end
+        set at (math $at + 1)
+    end
+    echo $place
+end
+
 # Whether the word after the command's name and this many words is completed, for one of these commands.
 function __usfm_team_at
-    set -l words (commandline -opc)
-    test (count $words) -eq (math $argv[1] + 2); and contains -- $words[2] $argv[2..]
+    test (__usfm_team_place) -eq (math $argv[1] + 1); and contains -- (commandline -opc)[2] $argv[2..]
 end
 
 # The same of the word after the command's name and this many words, and of each after that.
 function __usfm_team_from
-    set -l words (commandline -opc)
-    test (count $words) -ge (math $argv[1] + 2); and contains -- $words[2] $argv[2..]
+    test (__usfm_team_place) -ge (math $argv[1] + 1); and contains -- (commandline -opc)[2] $argv[2..]
 end
 
 complete -c usfm_team -f
@@ -37,13 +60,14 @@ complete -c usfm_team -n __fish_use_subcommand -a fold -d 'Joins bundles and wri
 complete -c usfm_team -n __fish_use_subcommand -a help -d 'Prints the help of a command'
 complete -c usfm_team -n __fish_use_subcommand -l help -d 'Prints help'
 complete -c usfm_team -n __fish_use_subcommand -l version -d 'Prints the version'
+complete -c usfm_team -n "__usfm_team_from 0 $__usfm_team_commands" -l help -d 'Prints the help of the command'
 complete -c usfm_team -n '__usfm_team_at 0 init import edit edit-over shown receive sync send export summary delta report check find words thin' -F
 complete -c usfm_team -n '__usfm_team_from 1 import receive sync' -F
 complete -c usfm_team -n '__usfm_team_from 0 import' -l since -rF -d 'Takes in what was changed since this bundle'
+complete -c usfm_team -n '__usfm_team_from 0 export' -l into -rF -d 'Into the files of a folder'
 complete -c usfm_team -n '__usfm_team_at 1 delta' -F
 complete -c usfm_team -n '__usfm_team_at 2 check find words' -F
 complete -c usfm_team -n '__usfm_team_at 1 check find words' -a "$__usfm_team_books"
 complete -c usfm_team -n '__usfm_team_from 1 export' -a "$__usfm_team_books"
-complete -c usfm_team -n '__fish_seen_subcommand_from export' -l into -r -F -d 'Into the files of a folder'
 complete -c usfm_team -n '__usfm_team_at 0 fold' -a "$__usfm_team_books"
-complete -c usfm_team -n '__usfm_team_at 0 help' -a 'init import edit edit-over shown receive sync send export summary delta report check find words thin fold'
+complete -c usfm_team -n '__usfm_team_at 0 help' -a "$__usfm_team_commands"

@@ -19,8 +19,8 @@ import time
 TOP = pathlib.Path(__file__).resolve().parent.parent.parent
 TICK = os.sysconf("SC_CLK_TCK")
 PAGE = os.sysconf("SC_PAGE_SIZE")
-SCRIPTS = ("compile-fail/run", "tests/refused_growths/run", "tests/walkthrough/run", "tests/program/run", "tests/run",
-           "edits/run")
+# What the gate runs beside the proofs and after them.
+SCRIPTS = re.findall(r"^ *(?:part|begin) (\S+/run)\b", (TOP / ".ci/run").read_text(), re.M)
 
 
 def command_of(pid):

@@ -35,11 +35,12 @@ SHEET = b"""\\Marker id
 
 @dataclass(frozen=True)
 class Input:
-    """A command, the files that it reads, and its standard input."""
+    """A command, the files that it reads, its standard input, and the fault that it writes at the end, if it does."""
 
     words: list[str]
     files: dict[str, bytes] = field(default_factory=dict)
     given: bytes = b""
+    fault: bytes = b""
 
     def length(self) -> int:
         return len(self.given) + sum(len(it) for it in self.files.values())
@@ -82,10 +83,10 @@ def text_of(verse: int) -> bytes:
 
 
 def falling_chapters(count: int) -> Input:
-    """One bundle whose chapters fall while its ids rise."""
+    """One bundle whose chapters fall while its ids rise, none of which is of Matthew."""
     places = ((book_code(at // 999), 999 - at % 999) for at in range(count))
     operations = [operation((at, b"a"), book, chapter, 1, [], text_of(1)) for at, (book, chapter) in enumerate(places, 1)]
-    return fold(rising(operations))
+    return Input(["fold", "MAT"], given=rising(operations), fault=b"fault 82\n")
 
 
 def falling_verses(count: int) -> Input:

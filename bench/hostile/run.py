@@ -42,8 +42,8 @@ def once(program: str, one: Input, folder: str) -> float:
         before = processor_seconds()
         ran = subprocess.run([program, *one.words], cwd=folder, stdin=given, stdout=subprocess.DEVNULL, stderr=subprocess.PIPE)
         after = processor_seconds()
-    if ran.returncode != 0 and ran.stderr != b"fault 82\n":
-        sys.exit(f"{one.words[0]} answers {ran.stderr!r}")
+    if (ran.returncode, ran.stderr) != (1 if one.fault else 0, one.fault):
+        sys.exit(f"{one.words[0]} ends with status {ran.returncode} and answers {ran.stderr!r}")
     return after - before
 
 
@@ -84,11 +84,14 @@ def main() -> int:
     parser.add_argument("--program", help="the program, else the one of this repository")
     parser.add_argument("words", nargs="*", metavar="WORD", help="words in the names of the inputs")
     options = parser.parse_args()
+    wanted = [it for it in FAMILIES if all(word in it.what for word in options.words)]
+    if not wanted:
+        lacking = [word for word in options.words if not any(word in it.what for it in FAMILIES)]
+        parser.error(f"no input's name has {' and '.join(lacking or options.words)}")
     program = os.path.abspath(options.program or program_of_repository())
     print("| Input | Bytes | Time | Bytes | Time | Times |")
     print("|---|---|---|---|---|---|")
     with tempfile.TemporaryDirectory() as folder:
-        wanted = [it for it in FAMILIES if all(word in it.what for word in options.words)]
         within = [measure(program, it, folder) for it in wanted]
     return 0 if all(within) else 1
 

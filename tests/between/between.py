@@ -2,11 +2,9 @@
 import os
 import shutil
 import subprocess
-import sys
 from dataclasses import dataclass
 from pathlib import Path
 
-TOP = Path(__file__).resolve().parent.parent.parent
 # Far more than any run takes: a program that hangs is shown as one that fails.
 SECONDS = 300
 
@@ -38,13 +36,6 @@ class Run:
     calls: list[Call]
     asked: int
     most_held: int
-
-
-def program_of_repository() -> Path:
-    """The program of this repository, which is built first where it is older than its sources."""
-    if subprocess.run([TOP / "usfm_team", "--help"], stdout=subprocess.DEVNULL).returncode != 0:
-        sys.exit(2)
-    return TOP / "crates/usfm_team/out/usfm_team"
 
 
 class Between:

@@ -23,6 +23,39 @@ CHANGES = [
 READS = [["shown", "p", "MAT 1:1"], ["send", "p"], ["export", "p", "MAT"], ["summary", "p"], ["report", "p"]]
 
 
+def written(name: str) -> str:
+    return rf"write\(\d+<.*/{re.escape(name)}>"
+
+
+def synced(name: str) -> str:
+    return rf"fsync\(\d+<.*/{re.escape(name)}>\) += 0"
+
+
+def renamed(old: str, new: str) -> str:
+    return rf'rename\w*\(.*"{re.escape(old)}", .*"{re.escape(new)}".*\) += 0'
+
+
+ANSWERED = r"write\(1<"
+# How a project is replaced, in the folder `order`.
+REPLACED = [written("p.new"), synced("p.new"), renamed("p.new", "p"), synced("order")]
+# How a book's file and the bundle that it is written from are written for the folder `texts`, and then put in their places: at each
+# moment the bundle of the file that is there has one of two names.
+STAGED = [written("MAT.usfm.new"), synced("MAT.usfm.new"), written("MAT.bundle.made"), synced("MAT.bundle.made")]
+PLACED = [
+    renamed("texts/.usfm_team/MAT.bundle.made", "texts/.usfm_team/MAT.bundle.new"),
+    synced(".usfm_team"),
+    renamed("texts/.usfm_team/MAT.usfm.new", "texts/MAT.usfm"),
+    synced("texts"),
+    renamed("texts/.usfm_team/MAT.bundle.new", "texts/.usfm_team/MAT.bundle"),
+    synced(".usfm_team"),
+]
+# A file that is written first, and one that is replaced, after the project.
+INTO_FOLDER = [
+    (["export", "p", "--into", "texts"], [*STAGED, *PLACED, ANSWERED]),
+    (["sync", "p", "texts", "bens"], [*STAGED, *REPLACED, *PLACED, ANSWERED]),
+]
+
+
 def check_order(tally: Tally, program: Path, work: Path) -> None:
     if not has_strace():
         print("disk: not run, since there is no strace: the order at the system; apt-get install strace")
@@ -40,8 +73,14 @@ def check_order(tally: Tally, program: Path, work: Path) -> None:
         is_untouched = not any(line.startswith(("flock", "fsync", "rename")) for line in lines)
         tally.check(is_untouched, f"{' '.join(words)}: {lines}")
     lines = traced(program, folder, ["init", "begun", "ana"], b"")
-    is_synced = in_order(lines, [r'openat\(.*"begun", .*O_EXCL', r"write\(\d+<.*/begun>", r"fsync\(\d+<.*/begun>\) += 0", fsync_of(folder)])
+    is_synced = in_order(lines, [r'openat\(.*"begun", .*O_EXCL', written("begun"), synced("begun"), synced("order")])
     tally.check(is_synced, f"init: {lines}")
+    folder.joinpath("texts").mkdir()
+    folder.joinpath("p").write_bytes(HELD)
+    folder.joinpath("bens").write_bytes(BENS)
+    for words, wanted in INTO_FOLDER:
+        lines = traced(program, folder, words, b"")
+        tally.check(are_these(lines, wanted), f"{' '.join(words)}: {lines}")
 
 
 def has_strace() -> bool:
@@ -74,21 +113,7 @@ def is_changed_in_order(lines: list[str]) -> bool:
     locks = [place for place, line in enumerate(lines) if re.match(r"flock\(\d+<[^>]*/p>, LOCK_EX\) += 0", line)]
     if len(locks) != 1:
         return False
-    return in_order(
-        lines[locks[0] :],
-        [
-            r"write\(\d+<.*/p\.new>",
-            r"fsync\(\d+<.*/p\.new>\) += 0",
-            r'rename\w*\(.*"p\.new", .*"p".*\) += 0',
-            fsync_of(),
-            r"close\(\d+<[^>]*/p>",
-            r"write\(1<",
-        ],
-    )
-
-
-def fsync_of(folder: Path = Path("order")) -> str:
-    return rf"fsync\(\d+<.*/{folder.name}>\) += 0"
+    return in_order(lines[locks[0] :], [*REPLACED, r"close\(\d+<[^>]*/p>", ANSWERED])
 
 
 def in_order(lines: list[str], wanted: list[str]) -> bool:
@@ -101,3 +126,9 @@ def in_order(lines: list[str], wanted: list[str]) -> bool:
             return False
         at = fits[-1]
     return True
+
+
+def are_these(lines: list[str], wanted: list[str]) -> bool:
+    """Whether the lines that any of the patterns fits are as many as the patterns, and each is fitted by its own."""
+    found = [line for line in lines if any(re.match(pattern, line) for pattern in wanted)]
+    return len(found) == len(wanted) and all(re.match(pattern, line) for pattern, line in zip(wanted, found))

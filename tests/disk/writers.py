@@ -45,7 +45,8 @@ def check_writers(tally: Tally, program: Path, work: Path, book: Book) -> None:
     tally.check(wanted(run(program, folder, ["export", "p", book.code])) == book.content, "the book before")
     # One of the writers names the project by a link.
     folder.joinpath("linked").symlink_to("p")
-    edits, exports = played(program, folder, book)
+    edits, exports_of_readers = played(program, folder, book)
+    exports = [export for of_one in exports_of_readers for export in of_one]
     numbers = sorted(edit.number for edit in edits)
     first = numbers[0]
     for edit in edits:
@@ -57,18 +58,18 @@ def check_writers(tally: Tally, program: Path, work: Path, book: Book) -> None:
         tally.check(is_of_a_moment(book, edits, export), f"an export of {len(export.answer.output)} bytes, {export.answer.error!r}")
     for edit in edits:
         tally.check(edit.text in last.output, f"a text that was lost: {edit.text!r}")
-    tally.check(len(exports) >= READERS, "each reader exported")
+    tally.check(all(exports_of_readers), f"each reader exported: {[len(of_one) for of_one in exports_of_readers]} times")
     tally.check(not folder.joinpath("p.new").exists(), "PROJECT.new is gone")
     report = run(program, folder, ["report", "p"])
     tally.check(report == Answer(0, b"", b""), f"a report of edits one after another: {report}")
     print(f"disk: {len(edits)} edits by {WRITERS} writers beside {len(exports)} exports by {READERS} readers")
 
 
-def played(program: Path, folder: Path, book: Book) -> tuple[list[Edit], list[Export]]:
-    """Has the writers edit verses, each verse once, while the readers export the book."""
+def played(program: Path, folder: Path, book: Book) -> tuple[list[Edit], list[list[Export]]]:
+    """Has the writers edit verses, each verse once, while the readers export the book. The exports are apart for each reader."""
     places = random.Random(1).sample(range(len(book.verses)), WRITERS * EDITS)
     edits: list[Edit] = []
-    exports: list[Export] = []
+    exports: list[list[Export]] = [[] for _ in range(READERS)]
     is_over = threading.Event()
 
     def write(writer: int) -> None:
@@ -79,14 +80,14 @@ def played(program: Path, folder: Path, book: Book) -> tuple[list[Edit], list[Ex
             answer = run(program, folder, words, text)
             edits.append(Edit(verse, text, began, time.monotonic(), answer))
 
-    def read() -> None:
+    def read(reader: int) -> None:
         while not is_over.is_set():
             began = time.monotonic()
             answer = run(program, folder, ["export", "p", book.code])
-            exports.append(Export(began, time.monotonic(), answer))
+            exports[reader].append(Export(began, time.monotonic(), answer))
 
     writers = [threading.Thread(target=write, args=(writer,)) for writer in range(WRITERS)]
-    readers = [threading.Thread(target=read) for _ in range(READERS)]
+    readers = [threading.Thread(target=read, args=(reader,)) for reader in range(READERS)]
     for thread in writers + readers:
         thread.start()
     for thread in writers:

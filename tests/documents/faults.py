@@ -5,6 +5,7 @@ number at the front of its comment, its details as its fields, and its sentence 
 """
 import re
 
+from repository import commands_in
 from tally import check, numbers_in, program, text_of
 
 FAULT = "crates/usfm_cli/src/fault.rt"
@@ -167,8 +168,7 @@ def check_commands(code, pages):
 def pages_of_help():
     """The program's page of help, and that of each command."""
     found = {"usfm_team": program("--help")}
-    commands = re.findall(r"^  ([a-z-]+)  +[A-Z]", found["usfm_team"].split("Commands:")[1].split("Options:")[0], re.M)
-    found.update({it: program(it, "--help") for it in commands if it != "help"})
+    found.update({it: program(it, "--help") for it in commands_in(found["usfm_team"]) if it != "help"})
     return found
 
 

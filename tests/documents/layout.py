@@ -2,14 +2,19 @@
 import re
 from collections import defaultdict
 
-from tally import check, kept_files, text_of
+from tally import TOP, check, kept_files, text_of
 
 MOST_LINES, WIDEST_CLAUSE, WIDEST_PROOF = 400, 100, 140
-CODE = re.compile(r"\.(rt|antt|py|sh|rs)$|/run$")
+CODE = re.compile(r"\.(rt|antt|py|sh|bash|fish|awk|rs|c)$")
 TESTS = re.compile(r"^crates/(usfm_team|\w+/src/tests)\b")
 # Lines that may be as wide as they are: comments, imports and attributes.
 WIDE = re.compile(r"\s*(//|--|#\[|(pub )?(ghost )?use )")
 CITED = re.compile(r"^use Rattle\.(\w+)\.proofs\.([\w.]+)\.\{([^}]*)\}", re.M)
+
+
+def is_code(path):
+    """Whether a file is code: by the end of its name, or since it begins as a script does."""
+    return bool(CODE.search(path)) or (TOP / path).read_bytes().startswith(b"#!")
 
 
 def check_length(path, lines):
@@ -39,7 +44,7 @@ def check_comments(files):
 
 
 def check_layout():
-    files = [it for it in kept_files() if CODE.search(it)]
+    files = [it for it in kept_files() if is_code(it)]
     for path in files:
         lines = text_of(path).splitlines()
         check_length(path, lines)

@@ -1,11 +1,9 @@
 """What the documents name: files, calls, laws, clauses, tests and edits."""
-import importlib.machinery
-import importlib.util
 import os
 import re
-import shutil
 
 from tally import TOP, check, kept_files, pages, sources_of, text_of
+from toolchain import load_rt
 
 # A path of the repository between backticks, perhaps with words after it.
 PATH = re.compile(r"`((?:\./)?(?:\.ci|bench|compile-fail|completions|crates|docs|edits|samples|tests|usfm_team)(?:/[\w./-]+)?)((?: [^`]*)?)`")
@@ -75,16 +73,8 @@ def check_tests(page):
             check(re.search(rf"\b(fn|const) {name}\b", tests), f"{page}: no test has {name}")
 
 
-def load_rt():
-    """rt itself, whose reading of edits is that of the gate."""
-    loader = importlib.machinery.SourceFileLoader("rt", os.path.realpath(shutil.which("rt")))
-    made = importlib.util.module_from_spec(importlib.util.spec_from_loader("rt", loader))
-    loader.exec_module(made)
-    return made
-
-
 def check_edits():
-    """Each edit that the prover has to refuse still fits the sources that it edits."""
+    """Each edit that the prover has to refuse still fits the sources that it edits, as rt reads it for the gate."""
     rt, wrong = load_rt(), []
     for path in kept_files():
         if path.endswith(".edit"):

@@ -1,9 +1,10 @@
 """What was checked, and the files of the repository."""
+import os
 import re
 import subprocess
-from pathlib import Path
 
-TOP = Path(__file__).resolve().parent.parent.parent
+from repository import TOP
+
 counts = [0, 0]
 
 
@@ -25,9 +26,10 @@ def pages():
 
 def kept_files():
     """The files that git keeps, by their paths, without packed branches that are not merged."""
-    words = ["ls-files", "-co", "--exclude-standard", "--", ":!parked"]
-    listed = subprocess.run(["git", "-C", TOP, *words], stdout=subprocess.PIPE, text=True, check=True)
-    return [path for path in listed.stdout.splitlines() if (TOP / path).is_file()]
+    words = ["ls-files", "-co", "-z", "--exclude-standard", "--", ":!parked"]
+    # The repository may be another user's than who looks at it.
+    listed = subprocess.run(["git", "-c", "safe.directory=*", "-C", TOP, *words], stdout=subprocess.PIPE, check=True)
+    return [path for path in map(os.fsdecode, listed.stdout.split(b"\0")) if (TOP / path).is_file()]
 
 
 def sources_of(crate):

@@ -4,6 +4,7 @@ import concurrent.futures
 import errno
 import os
 import shutil
+import signal
 import tempfile
 from pathlib import Path
 from typing import Iterator
@@ -13,6 +14,8 @@ from stage import Answer, Tally, run, wanted
 
 # The calls that matter to what stands on the disk, and those that read.
 KINDS = ("open", "read", "write", "sync", "look", "follow", "remove", "rename", "lock", "mode")
+# Those of them by which a file gets its bytes, its place and its rights, and is on the disk: where one fails, so does the command.
+KEEPING = ("write", "sync", "rename", "mode")
 FILES = {
     "41MATana.SFM": ("\\id MAT\n\\c 1\n\\v 1 In\n\\v 2 And\n", "\\id MAT\n\\c 1\n\\v 1 ana\n\\v 2 And\n"),
     "MRK.usfm": ("\\id MRK\n\\c 1\n\\v 1 The\n", "\\id MRK\n\\c 1\n\\v 1 The\n"),
@@ -45,6 +48,8 @@ def check_command(tally: Tally, between: Between, work: Path, words: list[str], 
 
     whole, _, end = tried("")
     tally.check(whole.answer.status == 0 and whole.answer.error == b"", f"{words[0]}: {whole.answer}")
+    unseen = set(KINDS) - {call.kind for call in whole.calls}
+    tally.check(not unseen, f"{words[0]}: no call is seen of {sorted(unseen)}")
     ways = list(refusals(whole))
     with concurrent.futures.ThreadPoolExecutor(os.cpu_count()) as lanes:
         for way, (first, again, left) in zip(ways, lanes.map(tried, ways)):
@@ -66,12 +71,16 @@ def refusals(whole: Run) -> Iterator[str]:
 
 
 def is_right(way: str, answer: Answer, whole: Answer) -> bool:
-    """Whether a command that was disturbed so may answer this. Refused memory is reported as such, or made do without."""
+    """Whether a command that was disturbed so may answer this. Refused memory is reported as such, or made do without. Of other
+    calls some may fail: a file that cannot be read again before it is replaced counts as changed, and is left."""
+    kind = way.split(":")[0]
     if way.endswith("kill"):
-        return True
-    if way.startswith("memory"):
-        return answer == whole or answer.status == 1 and answer.output == b"" and answer.error.startswith(b"fault 1\n")
-    return answer.status == 0 or answer.error.startswith(b"fault ") and answer.output == b""
+        return answer.status == -signal.SIGKILL
+    is_refused = answer.status == 1 and answer.output == b"" and answer.error.startswith(b"fault ")
+    if kind == "memory":
+        return answer == whole or is_refused and answer.error.startswith(b"fault 1\n")
+    is_done = answer.status == 0 and answer.error == b"" and answer.output.replace(b"left ", b"wrote ") == whole.output
+    return is_refused or is_done and kind not in KEEPING
 
 
 def begun(program: Path, home: Path) -> Path:

@@ -1,4 +1,5 @@
 """Two people, each with a project and a folder, and what they do."""
+import errno
 import os
 import random
 import re
@@ -6,6 +7,7 @@ import shutil
 import subprocess
 import time
 from pathlib import Path
+from typing import BinaryIO, Optional
 
 from stage import SECONDS, Tally, run
 from texts import Book, Copy, Writing, cut, in_order, join
@@ -13,6 +15,8 @@ from texts import Book, Copy, Writing, cut, in_order, join
 NAMES = ("ana", "ben")
 # Files as people name them: each book has its own manner.
 FILES = {"MAT": "41MAT{}.SFM", "MRK": "MRK.usfm", "LUK": "luke of {}.Usfm", "JHN": "44JHN{}.sfm"}
+# When a sync was killed.
+BEFORE, AFTER, TOO_LATE = "before the project's change", "after it", "when it had ended"
 SHOWN = re.compile(rb"op \d+ [a-z0-9-]+ (\d+)\n")
 
 
@@ -225,7 +229,12 @@ def check_saves(tally: Tally, program: Path, work: Path, seed: int) -> None:
         while saved == before:
             saved = week.changed(before)
         command = subprocess.Popen([program, "sync", "p", "texts", pipe], cwd=ana.home, stdout=subprocess.PIPE)
-        with open(pipe, "wb") as stream:
+        stream = to_reader(command, pipe)
+        if stream is None:
+            command.kill()
+            tally.check(False, f"save {number}: the sync did not read the bundle, and has status {command.wait()}")
+            return
+        with stream:
             ana.save(code, saved)
             stream.write(bundle)
         told, _ = command.communicate(timeout=SECONDS)
@@ -239,6 +248,23 @@ def check_saves(tally: Tally, program: Path, work: Path, seed: int) -> None:
     week.look("saves")
 
 
+def to_reader(command: subprocess.Popen, pipe: Path) -> Optional[BinaryIO]:
+    """What is written to a pipe, once a command waits for it; nothing where the command ends before, or does not come to it."""
+    latest = time.monotonic() + SECONDS
+    while command.poll() is None and time.monotonic() < latest:
+        try:
+            # Else it would wait for a reader for ever.
+            handle = os.open(pipe, os.O_WRONLY | os.O_NONBLOCK)
+        except OSError as error:
+            if error.errno != errno.ENXIO:
+                raise
+            time.sleep(0.001)
+        else:
+            os.set_blocking(handle, True)
+            return open(handle, "wb")
+    return None
+
+
 def seconds(what) -> float:
     began = time.monotonic()
     what()
@@ -250,6 +276,7 @@ def check_kills(tally: Tally, program: Path, work: Path, seed: int) -> None:
     week = Week(tally, program, work / "kills", seed)
     week.begin()
     longest = seconds(week.people[0].sync) * 2
+    moments: list[str] = []
     for _ in range(60):
         for person in week.people:
             codes = sorted(person.files())
@@ -259,18 +286,27 @@ def check_kills(tally: Tally, program: Path, work: Path, seed: int) -> None:
         second.sync()
         bundle = second.send(first, False)
         first.note()
-        kill(first, bundle, week.chance.uniform(0, longest))
+        moments.append(kill(first, bundle, week.chance.uniform(0, longest)))
         first.known = first.books()
         first.sync(bundle)
         first.copy.take(second.copy)
         beside = [path.name for path in (first.folder / ".usfm_team").iterdir() if path.suffix != ".bundle"]
         tally.check(beside == [], f"after a kill and a sync there is {beside}")
+    kinds = {kind: moments.count(kind) for kind in (BEFORE, AFTER, TOO_LATE)}
+    told = "killed " + ", ".join(f"{count} {kind}" for kind, count in kinds.items())
+    tally.check(kinds[BEFORE] > 0 and kinds[AFTER] > 0, told)
+    print(f"sync: {told}")
     week.exchange()
     week.look("kills")
 
 
-def kill(person: Person, bundle: Path, after: float) -> None:
+def kill(person: Person, bundle: Path, after: float) -> str:
+    """Kills a sync after this many seconds, and says when that was, by the change of the project."""
+    project = person.home / "p"
+    before = project.read_bytes()
     command = subprocess.Popen([person.program, "sync", "p", "texts", bundle], cwd=person.home, stdout=subprocess.DEVNULL)
     time.sleep(after)
     command.kill()
-    command.wait()
+    if command.wait() == 0:
+        return TOO_LATE
+    return BEFORE if project.read_bytes() == before else AFTER

@@ -270,10 +270,11 @@ fn play_schedule(rt: &impl Abort, alloc: Global) -> Result<(), Fail> {
     agree_in_the_end(rt, &mut world)
 }
 
-// That a thinning leaves out as many texts as the table of them says.
+// That a thinning leaves out as many texts as the table of them says, each time fewer than ten.
 fn thins_there(rt: &impl Abort, world: &mut World, who: Who, at: usize) -> Result<(), Fail> {
     let answer = world.happens(rt, who, &Thin)?;
     assert!(rt; answer.starts_with(b"thinned "), "event {at}");
+    assert!(rt; answer.len() == 10, "event {at}");
     assert!(rt; answer.get(8) == LEFT_OUT.get(at / 3), "event {at}");
     Ok(())
 }
