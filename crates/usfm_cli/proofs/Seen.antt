@@ -1,5 +1,5 @@
 -- What a command writes of what it sees of a project is what it writes of all.
-use Rattle.std.proofs.Common.{◌≡◌, ℕ, Bool, true, false, cond, List, Some, None, Result, Ok, Err, IfOk, refl, sym, ap, subst, ◌∙◌}
+use Rattle.std.proofs.Common.{Bor, ◌≡◌, ◌≢◌, ℕ, Bool, true, false, cond, List, Some, None, Result, Ok, Err, IfOk, refl, sym, ap, subst, ◌∙◌}
 use Rattle.std.specs.List.{flat_map}
 use Rattle.usfm_ref.specs.Segments.{segment}
 use Rattle.op_core.specs.Ops.{Operation}
@@ -17,7 +17,7 @@ use Rattle.concordance.specs.Words.{words_of}
 use Rattle.usfm_cli.specs.Commands.{Done, done_if, shown_line, outcome, only_tells, MayWantMemory}
 use Rattle.usfm_cli.specs.Projects.{written, of_loaded, executed, state_or}
 use Rattle.usfm_cli.specs.SheetReports.{by_sheet, by_book_text, finding_lines, unless_empty, hit_lines, word_lines}
-use Rattle.usfm_cli.specs.Seen.{looked_at, seen_of, IsSeen}
+use Rattle.usfm_cli.specs.Seen.{looked_at, seen_of, goes_by_bytes, IsSeen}
 use Rattle.usfm_cli.specs.declared.command.Command.{Command}
 use Rattle.usfm_cli.specs.declared.command.Command.TheVariants.{Import, ImportSince, ImportNew}
 use Rattle.usfm_cli.specs.declared.command.Command.TheVariants.{Edit, EditOver, Receive}
@@ -110,6 +110,26 @@ sees_all Report s e = refl
 sees_all (Check book sheet) s e = cc e
 sees_all (Find book sheet needle) s e = cc e
 sees_all (Words book sheet) s e = cc e
+
+-- a command that is no receive and no delta does not go by the bytes
+pub copies : (command : Command) → ((bytes : Bor (List ℕ)) → command ≢ Receive bytes)
+    → ((summary : Bor (List ℕ)) → command ≢ Delta summary) → goes_by_bytes command ≡ false
+copies (Import file) r d = refl
+copies (ImportSince file base) r d = refl
+copies (ImportNew file) r d = refl
+copies (Edit book key text) r d = refl
+copies (EditOver book key text ids) r d = refl
+copies (Receive bytes) r d = absurd (r bytes refl)
+copies Thin r d = refl
+copies (Shown book key) r d = refl
+copies Send r d = refl
+copies (Export book) r d = refl
+copies Summary r d = refl
+copies (Delta summary) r d = absurd (d summary refl)
+copies Report r d = refl
+copies (Check book sheet) r d = refl
+copies (Find book sheet needle) r d = refl
+copies (Words book sheet) r d = refl
 
 refused_if : (r : Result Done Fault) (fault : Fault) → told_of r ≡ Err fault → r ≡ Err fault
 refused_if (Ok d) fault e = cc e

@@ -1,5 +1,6 @@
 -- What a command sees of a project (this project's own rule): of one book what it holds, or all.
-use Rattle.std.specs.Prelude.{◌≡◌, ℕ, List, Option, None, Some, Ok}
+use Rattle.std.specs.Prelude.{◌≡◌, ℕ, Bool, true, false, not, ◌&&◌, List, [], Option, None, Some, Ok, IsTrue}
+use Rattle.op_core.specs.Thinned.{all_full}
 use Rattle.replica_state.specs.OneBook.{of_one_book}
 use Rattle.replica_state.specs.States.{State}
 use Rattle.project_file.specs.Projects.{project_at}
@@ -32,6 +33,31 @@ looked_at (Words book sheet) = Some book
 abbrev pub seen_of : Option (List ℕ) → State → State
 seen_of None s = s
 seen_of (Some book) s = of_one_book s book
+
+-- whether a command goes by the bytes of a project's file, and copies nothing of what it holds
+abbrev pub goes_by_bytes : Command → Bool
+goes_by_bytes (Import file) = false
+goes_by_bytes (ImportSince file base) = false
+goes_by_bytes (ImportNew file) = false
+goes_by_bytes (Edit book key text) = false
+goes_by_bytes (EditOver book key text ids) = false
+goes_by_bytes (Receive bytes) = true
+goes_by_bytes Thin = false
+goes_by_bytes (Shown book key) = false
+goes_by_bytes Send = false
+goes_by_bytes (Export book) = false
+goes_by_bytes Summary = false
+goes_by_bytes (Delta summary) = true
+goes_by_bytes Report = false
+goes_by_bytes (Check book sheet) = false
+goes_by_bytes (Find book sheet needle) = false
+goes_by_bytes (Words book sheet) = false
+
+-- A command reads a replica's file without memory: no operation is thinned, and nothing is held of what the command sees, unless it
+-- goes by the bytes.
+pub record ReadInPlace (command : Command) (s : State) : Type 0 where
+  pub full : IsTrue (all_full s.held)
+  pub nothing_copied : goes_by_bytes command ≡ false → (seen_of (looked_at command) s).held ≡ []
 
 -- bytes are a project file, and a replica is what a command sees of its replica
 pub record IsSeen (bytes : List ℕ) (command : Command) (seen : State) : Type 0 where

@@ -1,5 +1,6 @@
 // Commands over a project's file.
 ghost use Rattle.std.specs.Prelude.{◌≡◌, ◌≢◌, [], Ok, Err, IsTrue, IfOk, IfErr};
+ghost use Rattle.op_core.specs.Thinned.{all_full};
 ghost use Rattle.replica_state.specs.States.{State};
 ghost use Rattle.project_file.specs.Answers.{RefusesLoad};
 ghost use Rattle.project_file.specs.Projects.{project_at};
@@ -9,7 +10,7 @@ ghost use Rattle.usfm_cli.specs.Commands.{outcome, only_tells, is_late, MayWantM
 ghost use Rattle.usfm_cli.specs.Commands.{is_late_in, no_fault, with_bundle};
 ghost use Rattle.usfm_cli.specs.Faults.{of_loading};
 ghost use Rattle.usfm_cli.specs.Projects.{RefusesFile, executed, received, delta_done, delta_made};
-ghost use Rattle.usfm_cli.specs.Seen.{IsSeen};
+ghost use Rattle.usfm_cli.specs.Seen.{looked_at, seen_of, IsSeen, ReadInPlace};
 ghost use Rattle.usfm_cli.specs.Projects.{file_or, file_after, state_or, state_after};
 
 use crate::command::Command;
@@ -92,10 +93,10 @@ pub fn exec(alloc: Global, project: &[u8], command: &Command<'_>) -> Result<Outc
     // an operation of it is thinned.
     ensures no_project { IfErr (project_at project.now) (λ fault.
         RefusesFile project.now (of_loading fault) result) }
-    // Reading a project that holds nothing takes no memory: then out of memory is answered only where
-    // the command may want some, and so in the place of no refusal that needs none.
+    // Where the project is read without memory, out of memory is answered only where the command may
+    // want some, and so in the place of no refusal that needs none.
     ensures memory { result ≡ Err Fault.Memory → (s : State) → project_at project.now ≡ Ok s
-        → s.held ≡ [] → MayWantMemory (is_late command.now) (outcome s command.now) }
+        → ReadInPlace command.now s → MayWantMemory (is_late command.now) (outcome s command.now) }
     // A command that only reports gives the file back as it is.
     ensures unchanged { IfOk result (λ made.
         IsTrue (only_tells command.now) → made.project ≡ project.now) }
@@ -130,7 +131,8 @@ fn receive_into(alloc: Global, project: &[u8], bytes: &[u8]) -> Result<Outcome, 
     ensures no_project { IfErr (project_at project.now) (λ fault.
         RefusesFile project.now (of_loading fault) result) }
     ensures memory { result ≡ Err Fault.Memory → (s : State) → project_at project.now ≡ Ok s
-        → s.held ≡ [] → MayWantMemory (is_late_in bytes.now) (with_bundle s (whole_at bytes.now)) }
+        → IsTrue (all_full s.held)
+        → MayWantMemory (is_late_in bytes.now) (with_bundle s (whole_at bytes.now)) }
     ensures after { IfOk result (λ made. (s : State) → project_at project.now ≡ Ok s
         → project_at made.project ≡ Ok (state_or s (with_bundle s (whole_at bytes.now)))) }
 {
@@ -153,7 +155,8 @@ fn delta_of(alloc: Global, project: &[u8], summary: &[u8]) -> Result<Outcome, Fa
     ensures no_project { IfErr (project_at project.now) (λ fault.
         RefusesFile project.now (of_loading fault) result) }
     ensures memory { result ≡ Err Fault.Memory → (s : State) → project_at project.now ≡ Ok s
-        → s.held ≡ [] → MayWantMemory no_fault (delta_done s (read_summary summary.now)) }
+        → IsTrue (all_full s.held)
+        → MayWantMemory no_fault (delta_done s (read_summary summary.now)) }
     ensures unchanged { IfOk result (λ made. made.project ≡ project.now) }
 {
     let judged = judge(alloc, project)?;
@@ -171,8 +174,8 @@ fn delta_of(alloc: Global, project: &[u8], summary: &[u8]) -> Result<Outcome, Fa
 fn load_seen(alloc: Global, project: &[u8], command: &Command<'_>) -> Result<Replica, LoadFault>
     ensures seen { IfOk result (IsSeen project.now command.now) }
     ensures refused { IfErr result (RefusesLoad project.now) }
-    ensures nothing_held { (s : State) → project_at project.now ≡ Ok s → s.held ≡ []
-        → result ≢ Err LoadFault.Memory }
+    ensures nothing_seen { (s : State) → project_at project.now ≡ Ok s → IsTrue (all_full s.held)
+        → (seen_of (looked_at command.now) s).held ≡ [] → result ≢ Err LoadFault.Memory }
 {
     match command.looked_at() {
         None => load(alloc, project),

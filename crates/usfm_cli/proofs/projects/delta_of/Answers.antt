@@ -1,15 +1,14 @@
 use Rattle.std.proofs.Common.{Err, ap}
 use Rattle.std.proofs.lemmas.Result.{err_from_is_err_and}
-use Rattle.op_core.specs.Thinned.{all_full}
 use Rattle.bundle_codec.specs.SummaryReading.{read_summary}
 use Rattle.usfm_cli.proofs.DeltasMade.{makes_delta, summary_refused, summary_wants}
 use Rattle.usfm_cli.proofs.Loading.{loads_or_wants}
 use Rattle.usfm_cli.proofs.projects.delta_of.Goals as goal
 
 pub returns-in_err-judged-clause-memory : goal.returns-in_err-judged-clause-memory
-returns-in_err-judged-clause-memory c = λ e s loads none.
+returns-in_err-judged-clause-memory c = λ e s loads full.
     absurd (loads_or_wants c.args.project.now s c.in_err-judged.field-0.0 loads c.in_err-judged.ensures.refused
-    (λ m. c.in_err-judged.ensures.full s loads (ap all_full none) (ap Err m)))
+    (λ m. c.in_err-judged.ensures.full s loads full (ap Err m)))
 
 pub returns-in_err-summary-clause-answer : goal.returns-in_err-summary-clause-answer
 returns-in_err-summary-clause-answer c =
@@ -20,7 +19,7 @@ returns-in_err-summary-clause-answer c =
 pub returns-in_err-summary-clause-memory : goal.returns-in_err-summary-clause-memory
 returns-in_err-summary-clause-memory c =
     let from = err_from_is_err_and c.from_residual-in_err-summary.result c.from_residual-in_err-summary.ensures.1 in
-    rw (from.1, from.2) (λ e s loads none. summary_wants s (read_summary c.args.summary.now) c.in_err-summary.field-0.0
+    rw (from.1, from.2) (λ e s loads full. summary_wants s (read_summary c.args.summary.now) c.in_err-summary.field-0.0
     c.in_err-summary.ensures.none (cc e))
 
 pub returns-clause-answer : goal.returns-clause-answer

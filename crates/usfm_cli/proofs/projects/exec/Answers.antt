@@ -9,7 +9,7 @@ use Rattle.usfm_cli.specs.declared.fault.Fault.{Fault}
 use Rattle.usfm_cli.proofs.DeltasMade.{delta_is, stays, if_so}
 use Rattle.usfm_cli.proofs.Received.{received_is}
 use Rattle.usfm_cli.proofs.Loading.{loads_or_wants, refused_wants, refused_for}
-use Rattle.usfm_cli.proofs.Seen.{refused_all, seen_wants, told_all, changed_all, told_state, changed_state}
+use Rattle.usfm_cli.proofs.Seen.{copies, refused_all, seen_wants, told_all, changed_all, told_state, changed_state}
 use Rattle.usfm_cli.proofs.projects.exec.Goals as goal
 use Rattle.usfm_cli.proofs.projects.exec.Goals.{then-only_tells+in_ok-project, else-only_tells+in_ok-project-2}
 
@@ -19,8 +19,9 @@ returns-in-Receive-clause-answer c = λ e.
     ∙ c.receive_into.ensures.answer e
 
 pub returns-in-Receive-clause-memory : goal.returns-in-Receive-clause-memory
-returns-in-Receive-clause-memory c = λ e s loads none.
-    subst (λ (k : Command). MayWantMemory (is_late k) (outcome s k)) (sym c.in-Receive.is) (c.receive_into.ensures.memory e s loads none)
+returns-in-Receive-clause-memory c = λ e s loads place.
+    subst (λ (k : Command). MayWantMemory (is_late k) (outcome s k)) (sym c.in-Receive.is)
+    (c.receive_into.ensures.memory e s loads place.full)
 
 pub returns-in-Receive-clause-after : goal.returns-in-Receive-clause-after
 returns-in-Receive-clause-after c =
@@ -33,8 +34,8 @@ returns-in-Delta-clause-answer c = λ e.
     ∙ c.delta_of.ensures.answer e
 
 pub returns-in-Delta-clause-memory : goal.returns-in-Delta-clause-memory
-returns-in-Delta-clause-memory c = λ e s loads none.
-    subst (λ (k : Command). MayWantMemory (is_late k) (outcome s k)) (sym c.in-Delta.is) (c.delta_of.ensures.memory e s loads none)
+returns-in-Delta-clause-memory c = λ e s loads place.
+    subst (λ (k : Command). MayWantMemory (is_late k) (outcome s k)) (sym c.in-Delta.is) (c.delta_of.ensures.memory e s loads place.full)
 
 pub returns-in-Delta-clause-unchanged : goal.returns-in-Delta-clause-unchanged
 returns-in-Delta-clause-unchanged c =
@@ -54,9 +55,10 @@ returns-in-Delta-clause-after c = by c.delta_of.result c.delta_of.ensures.unchan
     by (Err fault) same = tt
 
 pub returns-in_err-replica-clause-memory : goal.returns-in_err-replica-clause-memory
-returns-in_err-replica-clause-memory c = λ e s loads none.
+returns-in_err-replica-clause-memory c = λ e s loads place.
+    let none = place.nothing_copied (copies c.args.command.now c.in_default.not-Receive c.in_default.not-Delta) in
     absurd (loads_or_wants c.args.project.now s c.in_err-replica.field-0.0 loads c.in_err-replica.ensures.refused
-    (λ m. c.in_err-replica.ensures.nothing_held s loads none (ap Err m)))
+    (λ m. c.in_err-replica.ensures.nothing_seen s loads place.full none (ap Err m)))
 
 pub returns-in_err-output-clause-answer : goal.returns-in_err-output-clause-answer
 returns-in_err-output-clause-answer c =
@@ -69,7 +71,7 @@ returns-in_err-output-clause-answer c =
 pub returns-in_err-output-clause-memory : goal.returns-in_err-output-clause-memory
 returns-in_err-output-clause-memory c =
     let from = err_from_is_err_and c.from_residual-in_err-output.result c.from_residual-in_err-output.ensures.1 in
-    rw (from.1, from.2) (λ e s loads none.
+    rw (from.1, from.2) (λ e s loads place.
     seen_wants c.args.project.now c.args.command.now c.in_ok-replica.replica c.in_ok-replica.ensures.seen (is_late c.args.command.now)
     s loads
     (refused_wants Global (is_late c.args.command.now) (outcome c.in_ok-replica.replica c.args.command.now) c.obey.new.replica

@@ -1,7 +1,5 @@
-use Rattle.std.proofs.Common.{List, sym, ap, ◌∙◌}
-use Rattle.op_core.specs.OneBook.{ops_of_book}
-use Rattle.op_core.specs.Ops.{Operation}
-use Rattle.op_core.specs.Thinned.{all_full}
+use Rattle.std.proofs.Common.{◌≡◌, ℕ, List, [], Option, sym, subst, ◌∙◌}
+use Rattle.usfm_cli.specs.Seen.{seen_of}
 use Rattle.usfm_cli.proofs.Seen.{seen_all, seen_one}
 use Rattle.usfm_cli.proofs.projects.load_seen.Goals as goal
 
@@ -14,6 +12,10 @@ returns-in-Some-clause-seen c =
     seen_one c.args.project.now c.args.command.now c.in-Some.book c.load_book.result (sym c.looked_at.ensures ∙ c.in-Some.is)
     c.load_book.ensures.loaded
 
-pub returns-in-Some-clause-nothing_held : goal.returns-in-Some-clause-nothing_held
-returns-in-Some-clause-nothing_held c = λ s loads none. c.load_book.ensures.nothing_held s loads (ap all_full none)
-    (ap (λ (held : List Operation). ops_of_book held c.in-Some.book) none)
+pub returns-in-None-clause-nothing_seen : goal.returns-in-None-clause-nothing_seen
+returns-in-None-clause-nothing_seen c = λ s loads full none. c.load.ensures.nothing_held s loads
+    (subst (λ (book : Option (List ℕ)). (seen_of book s).held ≡ []) (sym c.looked_at.ensures ∙ c.in-None.is) none)
+
+pub returns-in-Some-clause-nothing_seen : goal.returns-in-Some-clause-nothing_seen
+returns-in-Some-clause-nothing_seen c = λ s loads full none. c.load_book.ensures.nothing_held s loads full
+    (subst (λ (book : Option (List ℕ)). (seen_of book s).held ≡ []) (sym c.looked_at.ensures ∙ c.in-Some.is) none)

@@ -1,6 +1,5 @@
 use Rattle.std.proofs.Common.{Err, ap}
 use Rattle.std.proofs.lemmas.Result.{err_from_is_err_and}
-use Rattle.op_core.specs.Thinned.{all_full}
 use Rattle.usfm_cli.proofs.Loading.{loads_or_wants}
 use Rattle.usfm_cli.proofs.Received.{union_refused, makes, is_after, bundle_refused, bundle_wants, joining_wants}
 use Rattle.usfm_cli.specs.Commands.{with_bundle}
@@ -8,9 +7,9 @@ use Rattle.bundle_codec.specs.Joining.{whole_at}
 use Rattle.usfm_cli.proofs.projects.receive_into.Goals as goal
 
 pub returns-in_err-given-clause-memory : goal.returns-in_err-given-clause-memory
-returns-in_err-given-clause-memory c = λ e s loads none.
+returns-in_err-given-clause-memory c = λ e s loads full.
     absurd (loads_or_wants c.args.project.now s c.in_err-given.field-0.0 loads c.in_err-given.ensures.refused
-    (λ m. c.in_err-given.ensures.full s loads (ap all_full none) (ap Err m)))
+    (λ m. c.in_err-given.ensures.full s loads full (ap Err m)))
 
 pub returns-in_err-bundle-clause-answer : goal.returns-in_err-bundle-clause-answer
 returns-in_err-bundle-clause-answer c =
@@ -21,7 +20,7 @@ returns-in_err-bundle-clause-answer c =
 pub returns-in_err-bundle-clause-memory : goal.returns-in_err-bundle-clause-memory
 returns-in_err-bundle-clause-memory c =
     let from = err_from_is_err_and c.from_residual-in_err-bundle.result c.from_residual-in_err-bundle.ensures.1 in
-    rw (from.1, from.2) (λ e s loads none. bundle_wants c.args.bytes.now (with_bundle s (whole_at c.args.bytes.now))
+    rw (from.1, from.2) (λ e s loads full. bundle_wants c.args.bytes.now (with_bundle s (whole_at c.args.bytes.now))
     c.in_err-bundle.field-0.0 c.in_err-bundle.ensures.exact (cc e))
 
 pub returns-in_err-project-clause-answer : goal.returns-in_err-project-clause-answer
@@ -32,11 +31,11 @@ returns-in_err-project-clause-answer c =
     (λ m. e (ap Err m)))
 
 pub returns-in_err-project-clause-memory : goal.returns-in_err-project-clause-memory
-returns-in_err-project-clause-memory c = λ e s loads none.
+returns-in_err-project-clause-memory c = λ e s loads full.
     joining_wants c.args.bytes.now s c.in_ok-bundle.bundle c.in_ok-bundle.ensures.exact
 
 pub returns-in_err-output-clause-memory : goal.returns-in_err-output-clause-memory
-returns-in_err-output-clause-memory c = λ e s loads none.
+returns-in_err-output-clause-memory c = λ e s loads full.
     joining_wants c.args.bytes.now s c.in_ok-bundle.bundle c.in_ok-bundle.ensures.exact
 
 pub returns-clause-answer : goal.returns-clause-answer
