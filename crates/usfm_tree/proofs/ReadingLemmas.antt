@@ -10,7 +10,7 @@ use Rattle.usfm_tree.specs.Loops.Stack.{Frame, opens_of, ended_node, resume, End
 use Rattle.usfm_tree.specs.Reading.{Styles, Placed, Role, plain, alone, spans, opens, closes, Open, ended, role, Closed, close_by, closed_by, take_close, Taken, take_bare, milestone_at, milestone_takes, Taken_none, bare, is_bare_close, Read, followed, spanned, opened, open_of, has_room, enter, kids, kids_of_list, placed, tree_of}
 
 -- P holds of a choice where it holds of both
-either : {A : Type 0} (P : A → Type 0) (b : Bool) (x y : A) → P x → P y → P (cond b x y)
+pub either : {A : Type 0} (P : A → Type 0) (b : Bool) (x y : A) → P x → P y → P (cond b x y)
 either P true x y p q = p
 either P false x y p q = q
 

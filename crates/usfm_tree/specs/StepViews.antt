@@ -2,7 +2,7 @@
 use Rattle.sty_sheet.specs.Records.{Record, mark_style}
 use Rattle.sty_sheet.specs.Views.{record_of}
 use Rattle.sty_sheet.specs.declared.kind.StyleKind.TheVariants as kinds
-use Rattle.std.specs.Prelude.{◌≡◌, ℕ, List, [], ◌∷◌, Option, None, Some}
+use Rattle.std.specs.Prelude.{◌≡◌, ◌≢◌, ℕ, List, [], ◌∷◌, Option, None, Some}
 use Rattle.std.specs.Borrow.{Bor}
 use Rattle.std.specs.Option.{option_map}
 use Rattle.usfm_token.specs.Tokens.{MarkParts}
@@ -41,14 +41,23 @@ abbrev pub IsNext : List Event → Option Step → List Event → Type 0
 IsNext whole None later = (n : ℕ) × (whole ≡ ends_before n [])
 IsNext whole (Some step) later = whole ≡ step_before step later
 
--- the style of a mark that begins a node is the one that the records have for it
+-- the style of a mark that begins a node is the one that the records have for it, and has the node's kind
 abbrev pub IsStyled : List Record → Entry → Type 0
 IsStyled rs (entries.Text start t) = Unit {0}
 IsStyled rs (entries.Leaf m) = Unit {0}
 IsStyled rs (entries.Begin kind m style) =
-    mark_style rs (mark_parts m).name ≡ Some (record_of style.now)
+    (mark_style rs (mark_parts m).name ≡ Some (record_of style.now))
+    × ((record_of style.now).kind ≡ Some kind)
 IsStyled rs (entries.Close m) = Unit {0}
 IsStyled rs (entries.Milestone m t close) = Unit {0}
+
+-- an entry begins no milestone: a milestone is one entry of its own
+abbrev pub BeginsNoMilestone : Entry → Type 0
+BeginsNoMilestone (entries.Text start t) = Unit {0}
+BeginsNoMilestone (entries.Leaf m) = Unit {0}
+BeginsNoMilestone (entries.Begin kind m style) = kind ≢ kinds.Milestone
+BeginsNoMilestone (entries.Close m) = Unit {0}
+BeginsNoMilestone (entries.Milestone m t close) = Unit {0}
 
 -- after nodes that end without a closing mark, an end with this one, if any, and then what the nodes that are left give
 abbrev pub closed_before : Option MarkParts → List Event → List Event → List Event

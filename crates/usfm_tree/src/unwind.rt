@@ -3,11 +3,12 @@
 ghost use Rattle.std.specs.Prelude.{◌≡◌, ◌<◌, ◌≤◌, List, None, length, vec_len, vec_capacity};
 ghost use Rattle.std.specs.Option.{option_map};
 ghost use Rattle.sty_sheet.specs.Records.{Record};
+ghost use Rattle.usfm_token.specs.Tokens.{Lexeme};
 ghost use Rattle.usfm_token.specs.View.{mark_parts};
 ghost use Rattle.usfm_tree.specs.Reading as reading;
 ghost use Rattle.usfm_tree.specs.Loops.ReaderViews.{opens_in};
 ghost use Rattle.usfm_tree.specs.Loops.RoleViews.{role_view, HasOwnStyle};
-ghost use Rattle.usfm_tree.specs.StepViews.{IsStyled, Unwinds, EntersAs};
+ghost use Rattle.usfm_tree.specs.StepViews.{BeginsNoMilestone, IsStyled, Unwinds, EntersAs};
 
 use crate::milestone::takes;
 use crate::open::{DEEPEST, Open, closing, ended};
@@ -68,6 +69,8 @@ pub(crate) fn enter<'a, 's>(
         (opens_in open_nodes.old.items) (opens_in open_nodes.new.items) }
     ensures within { length result.1.now ≤ length rest.entry.now }
     ensures style { (rs : List Record) → HasOwnStyle rs role.entry → IsStyled rs result.0 }
+    ensures whole_milestones { (styles : reading.Styles) (token : Lexeme)
+        → reading.role styles token ≡ role_view role.entry → BeginsNoMilestone result.0 }
 {
     match role {
         Role::Plain(text) => (Entry::Text(start, text), rest),

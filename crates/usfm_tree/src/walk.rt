@@ -28,7 +28,7 @@ impl<'a, 's> TreeWalk<'a, 's> {
     ghost use Rattle.usfm_tree.specs.Events.{events_of};
     ghost use Rattle.usfm_tree.specs.Reading.{tree_of};
     ghost use Rattle.usfm_tree.specs.SheetViews.{styles_of};
-    ghost use Rattle.usfm_tree.specs.StepViews.{IsNext, IsStyled};
+    ghost use Rattle.usfm_tree.specs.StepViews.{BeginsNoMilestone, IsNext, IsStyled};
     ghost use Rattle.usfm_tree.specs.WalkViews.{events_ahead, records_by};
 
     /// A walk over the tree of a text by a style sheet. It takes no memory yet.
@@ -59,6 +59,8 @@ impl<'a, 's> TreeWalk<'a, 's> {
             step ≡ None → events_ahead self.new ≡ events_ahead self.old) }
         ensures style { IfOk result (λ step.
             IfSome step (λ s. IsStyled (records_by self.old) s.entry)) }
+        ensures whole_milestones { IfOk result (λ step.
+            IfSome step (λ s. BeginsNoMilestone s.entry)) }
         ensures records { records_by self.new ≡ records_by self.old }
         ensures unchanged { OnErr result (events_ahead self.new ≡ events_ahead self.old) }
     {

@@ -11,6 +11,7 @@ use Rattle.usfm_tree.specs.Loops.RoleViews.{role_view}
 use Rattle.usfm_tree.specs.StepViews.{placed_text}
 use Rattle.usfm_tree.specs.Loops.TakenViews.{optional_text, text_of, close_mark}
 use Rattle.usfm_tree.proofs.ReaderLemmas.{opens_in_push, length_opens_in}
+use Rattle.usfm_tree.proofs.RoleLemmas.{OpensNoMilestone, role_opens}
 use Rattle.usfm_tree.proofs.StepLemmas.{Becomes, becomes_text, becomes_alone, becomes_stray, becomes_deep, becomes_node, becomes_deep_span, becomes_milestone, placed_is}
 use Rattle.usfm_tree.proofs.unwind.enter.Goals as goal
 
@@ -97,3 +98,7 @@ returns-else-len-ge-DEEPEST-2-clause-enters c =
     (subst F (sym (ap role_view c.in-Spans.is))
     (becomes_milestone c.args.start c.args.end rest os m place (text_of t) (close_mark t) t.after.now (omega arith)
     (c.takes-taken.ensures c.args.end c.requires.within).0))
+
+pub returns-else-len-ge-DEEPEST-clause-whole_milestones : goal.returns-else-len-ge-DEEPEST-clause-whole_milestones
+returns-else-len-ge-DEEPEST-clause-whole_milestones c =
+    λ styles token is. subst OpensNoMilestone (is ∙ ap role_view c.in-Opens.is) (role_opens styles token)

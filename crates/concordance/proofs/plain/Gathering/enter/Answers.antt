@@ -18,7 +18,7 @@ returns-in_ok-push-in-Begin c =
     let kind = c.in-Begin.kind in
     let m = mark_parts c.in-Begin.mark in
     let may_end = c.attributes_may_end.ensures ∙ ap (attributes_may_end c.innermost-innermost.result) c.in-Begin.is in
-    let own = subst (IsStyled sheet) c.in-Begin.is styled in
+    let own = (subst (IsStyled sheet) c.in-Begin.is styled).0 in
     let node =
     c.enclosed.ensures sheet m own ∙ ap (λ e. enclosed sheet e kind m) c.innermost-innermost.ensures in
     let around =

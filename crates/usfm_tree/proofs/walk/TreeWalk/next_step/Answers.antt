@@ -123,3 +123,7 @@ returns-clause-next c =
 
 pub returns-clause-style : goal.returns-clause-style
 returns-clause-style c = c.enter.ensures.style (records_by c.args.self.now) c.role_of-role.ensures.style
+
+pub returns-clause-whole_milestones : goal.returns-clause-whole_milestones
+returns-clause-whole_milestones c =
+    c.enter.ensures.whole_milestones (styles_of c.args.self.now.sheet.now) (lexeme c.in-Some.token) (sym c.role_of-role.ensures.role)
