@@ -1,27 +1,22 @@
 -- What is asked of a set that stands for a full one is answered alike.
-use Rattle.std.proofs.Common.{◌≡◌, ℕ, nat_le, true, not, cond, ◌&&◌, List, [], ◌∷◌, Some, None, option_map, filter, refl, ap, ◌∙◌}
-use Rattle.std.specs.List.{list_any}
+use Rattle.std.proofs.Common.{◌≡◌, ℕ, true, cond, List, [], ◌∷◌, Some, None, option_map, filter, map, refl, sym, ap, ◌∙◌}
+use Rattle.std.specs.List.{flat_map}
 use Rattle.std.proofs.lemmas.Bool.{and_from}
 use Rattle.op_core.specs.Ops.{Operation, is_full}
 use Rattle.op_core.specs.Sets.{get, put, clash, differs}
 use Rattle.op_core.specs.Lists.{ids_of}
-use Rattle.op_core.specs.Shown.{is_shown, shown, last, text_if_any, text_of, is_empty, has_verse_text, greatest, pick}
-use Rattle.op_core.specs.Shown.Pick.{Line}
+use Rattle.op_core.specs.Shown.{is_shown, shown, last, text_if_any, pick, picked_text}
 use Rattle.op_core.specs.Thinned.{skeleton, StandsFor}
 use Rattle.op_core.specs.ThinLaws.{AnswersSame, SameButTexts}
-use Rattle.op_core.proofs.Bare.{any_same, ids_same, number_same, awaited_same, is_shown_same}
+use Rattle.op_core.proofs.Bare.{ids_same, number_same, awaited_same, is_shown_same, told_same}
+use Rattle.op_core.proofs.ByShown.{pick_same}
 use Rattle.op_core.proofs.StandIns.{shows_same, full_stands, join_stands}
 use Rattle.usfm_ref.specs.declared.segment.Segment.{Segment}
-use Rattle.std.specs.List.{flat_map}
-use Rattle.std.proofs.Common.{map, sym}
 use Rattle.usfm_ref.specs.Books.{book_cmp}
-use Rattle.usfm_ref.specs.Keys.{is_head, key_cmp, head_of}
+use Rattle.usfm_ref.specs.Keys.{key_cmp, head_of}
 use Rattle.usfm_ref.specs.Segments.{segment}
 use Rattle.usfm_ref.specs.Rising.{rising}
-use Rattle.op_core.specs.Ops.{is_verse_in}
-use Rattle.op_core.specs.Shown.{picked_text}
 use Rattle.op_core.specs.Export.{of_book, keys_in, export}
-use Rattle.op_core.proofs.Bare.{told_same}
 
 books_bare : (ops : List Operation) → map (λ o. o.segment.book) ops ≡ map (λ o. o.segment.book) (skeleton ops)
 books_bare [] = refl
@@ -41,27 +36,18 @@ skeleton_answers s u e = record {
     books_same : map (λ o. o.segment.book) s ≡ map (λ o. o.segment.book) u
     books_same = books_bare s ∙ ap (map (λ (o : Operation). o.segment.book)) e ∙ sym (books_bare u)
 
+-- sets that show the same pick the same
+pub picks_alike : (s u : List Operation) → ((seg : Segment) → shown s seg ≡ shown u seg) → (seg : Segment) → pick s seg ≡ pick u seg
+picks_alike s u shows seg = pick_same s u seg.book (λ key. shows (segment seg.book key)) seg.key
+
 -- of sets with equal skeletons that show the same
 module _ (s u : List Operation) (e : skeleton s ≡ skeleton u) (shows : (seg : Segment) → shown s seg ≡ shown u seg) where
-  has_alike : (book : List ℕ) (chapter : ℕ) → has_verse_text s book chapter ≡ has_verse_text u book chapter
-  has_alike book chapter =
-      (λ i. list_any (λ o. is_verse_in book chapter o && not (is_empty (text_if_any (last (shows o.segment i))))) s)
-      ∙ any_same s u e (λ o. is_verse_in book chapter o && not (is_empty (text_of u o.segment)))
-
-  pub picks_alike : (seg : Segment) → pick s seg ≡ pick u seg
-  picks_alike seg =
-      let same = shows seg in
-      let has = has_alike seg.book seg.key.chapter in
-      λ i. cond (is_head seg.key.place && nat_le 1 seg.key.chapter && is_empty (text_if_any (last (same i))) && has i)
-      (Line seg.key.chapter)
-      (greatest (last (same i)))
-
   keys_alike : (book : List ℕ) → keys_in s book ≡ keys_in u book
   keys_alike book = told_same s u e (of_book book) (λ o. o.segment.key)
 
   pub exports_alike : (book : List ℕ) → export s book ≡ export u book
   exports_alike book i =
-      flat_map (λ key. picked_text (picks_alike (segment book key) i))
+      flat_map (λ key. picked_text (picks_alike s u shows (segment book key) i))
       (rising key_cmp (flat_map (λ key. head_of key ∷ key ∷ []) (keys_alike book i)))
 
   -- sets that are alike answer alike
@@ -82,7 +68,7 @@ module _ (s u : List Operation) (e : skeleton s ≡ skeleton u) (shows : (seg : 
 module _ (s u : List Operation) (h : StandsFor s u) where
   -- sets that are alike pick the same
   pub picks_same : (seg : Segment) → pick s seg ≡ pick u seg
-  picks_same = picks_alike s u h.skeletons (λ seg. shows_same s u seg h)
+  picks_same = picks_alike s u (λ seg. shows_same s u seg h)
 
   -- sets that are alike answer every question in the same way
   pub answers_same : AnswersSame s u

@@ -2,6 +2,7 @@
 use Rattle.std.proofs.Common.{◌≡◌, ℕ, ◌≤◌, Bool, true, false, not, cond, ◌&&◌, ◌||◌, ◌==◌, nat_le, List, [], ◌∷◌, ◌++◌, Option, None, Some, map, filter, codes, IsUtf8, arith, refl, sym, ap, subst, ◌∙◌, inl, inr}
 use Rattle.std.proofs.lemmas.Bool.{and_parts, and_from, and_left, eqb-true, eq-eqb, leb-true, le-leb, not-true, cond-true, cond-false, or_left, or_right}
 use Rattle.std.proofs.lemmas.Fmt.{IsAscii-decimal}
+use Rattle.std.proofs.lemmas.List.Folds.{Any-from_list_any}
 use Rattle.std.proofs.lemmas.Str.{IsAscii-append, IsUtf8-from_ascii, IsUtf8-nil}
 use Rattle.std.proofs.lemmas.Str.Ascii.{IsAscii-nil, IsAscii-cons}
 use Rattle.std.specs.Fmt.{decimal}
@@ -28,6 +29,7 @@ use Rattle.op_core.specs.Sets.{IsOpSet}
 use Rattle.op_core.specs.Shown.{is_replaced, is_shown, shown, last, text_if_any, text_of, is_verse_with_text, has_verse_text, wants_chapter_line, greatest, pick, picked_text}
 use Rattle.op_core.specs.Export.{of_book, keys_in, exported_keys}
 use Rattle.op_core.specs.CutsBack.{picked_at, PicksAreExported}
+use Rattle.op_core.proofs.FilteredLists.{any_weaker}
 
 -- ---- tests of lists
 
@@ -40,14 +42,6 @@ or_swap false false c = refl
 or_twice : (a c : Bool) → (a || (a || c)) ≡ (a || c)
 or_twice true c = refl
 or_twice false c = refl
-
-any_weaker : {X : Type 0} (p q : X → Bool) (xs : List X) → ((x : X) → p x ≡ true → q x ≡ true) → list_any p xs ≡ true → list_any q xs ≡ true
-any_weaker p q [] f h = h
-any_weaker p q (x ∷ xs) f h = by (any_weaker p q xs f) (p x) refl h
-  where
-    by : (list_any p xs ≡ true → list_any q xs ≡ true) → (b : Bool) → p x ≡ b → (b || list_any p xs) ≡ true → list_any q (x ∷ xs) ≡ true
-    by later true e h = or_left (q x) (list_any q xs) (f x e)
-    by later false e h = or_right (q x) (list_any q xs) (later h)
 
 -- an item that passes is one of which what holds of all does
 pub found_of : {X : Type 0} (P : X → Type 0) (p : X → Bool) (xs : List X) → AllByRecursion P xs → list_any p xs ≡ true
@@ -288,6 +282,38 @@ text_held held g h = by (last (shown held g)) refl h
     by None e h = absurd (cc)
     by (Some o) e h = last_held held g o e
 
+-- a verse of a chapter, with a text that is not empty
+pub record FilledVerse (held : List Operation) (book : List ℕ) (chapter : ℕ) : Type 0 where
+  pub key : KeyParts
+  pub verse : is_verse_of chapter key ≡ true
+  pub some : is_empty (text_of held (segment book key)) ≡ false
+
+-- where some verse of a chapter has a text, it is at a key
+pub filled_verse : (held : List Operation) (book : List ℕ) (chapter : ℕ) → has_verse_text held book chapter ≡ true
+    → FilledVerse held book chapter
+filled_verse held book chapter h =
+    let found = Any-from_list_any (is_verse_with_text held book chapter) held h in
+    let g : Segment = found.1.segment in
+    let a = and_parts (is_verse_in book chapter found.1) (not (is_empty (text_of held g))) found.4 in
+    let b = and_parts (same_bytes g.book book) (is_verse_of chapter g.key) a.0 in
+    let is : g ≡ segment book g.key = λ i. segment (same_bytes-is g.book book b.0 i) g.key in
+    record {
+      key = g.key;
+      verse = b.1;
+      some = ap (λ (s : Segment). is_empty (text_of held s)) (sym is) ∙ not-true (is_empty (text_of held g)) a.1;
+    }
+
+-- and where a verse has one, some verse of its chapter has
+pub has_filled_verse : (held : List Operation) (book : List ℕ) (chapter : ℕ) → FilledVerse held book chapter
+    → has_verse_text held book chapter ≡ true
+has_filled_verse held book chapter v =
+    let g = segment book v.key in
+    any_weaker (in_segment g) (is_verse_with_text held book chapter)
+    (λ o e. ap (λ (s : Segment). (same_bytes s.book book && is_verse_of chapter s.key) && not (is_empty (text_of held s)))
+    (same_segment-is o.segment g e)
+    ∙ and_from _ _ (and_from _ _ (same_bytes-refl book) v.verse) (ap not v.some))
+    held (text_held held g v.some)
+
 -- the texts of an export are what is picked at its keys
 pub picks_are_exported : PicksAreExported
 picks_are_exported held book key h = by (wants_chapter_line held (segment book key)) refl
@@ -297,11 +323,11 @@ picks_are_exported held book key h = by (wants_chapter_line held (segment book k
         let w = wants_line held (segment book key) e in
         subst (λ k. list_any (same_key k) (exported_keys held book) ≡ true) (sym w.key_is)
         (key_exported held book (chapter_head key.chapter)
-        (any_weaker (is_verse_with_text held book key.chapter) (gives_key book (chapter_head key.chapter)) held
-        (gives_head held book key.chapter) w.verse))
+        (any_weaker (is_verse_with_text held book key.chapter) (gives_key book (chapter_head key.chapter))
+        (gives_head held book key.chapter) held w.verse))
     by false e =
         let some = text_held held (segment book key) (ap is_empty (sym (picked_own held (segment book key) e)) ∙ h) in
-        key_exported held book key (any_weaker (in_segment (segment book key)) (gives_key book key) held (gives_own book key) some)
+        key_exported held book key (any_weaker (in_segment (segment book key)) (gives_key book key) (gives_own book key) held some)
 
 -- the head of a verse's chapter has a text that is not empty, where the verse has one and is not of chapter 0
 pub head_picked : (held : List Operation) (book : List ℕ) (key : KeyParts) → is_empty (picked_at held book key) ≡ false
@@ -318,18 +344,12 @@ head_picked held book key h verse some = by (is_empty (text_of held head)) refl
     some_text : is_empty (text_of held (segment book key)) ≡ false
     some_text = ap is_empty (sym (picked_own held (segment book key) no_line)) ∙ h
 
-    verse_here : (o : Operation) → in_segment (segment book key) o ≡ true → is_verse_with_text held book key.chapter o ≡ true
-    verse_here o e =
-        let is = same_segment-is o.segment (segment book key) e in
-        ap (λ (g : Segment). (same_bytes g.book book && is_verse_of key.chapter g.key) && not (is_empty (text_of held g))) is
-        ∙ and_from (same_bytes book book && is_verse_of key.chapter key) (not (is_empty (text_of held (segment book key))))
-        (and_from (same_bytes book book) (is_verse_of key.chapter key) (same_bytes-refl book)
-        (and_from (key.chapter == key.chapter) (not (is_head key.place)) (eq-eqb key.chapter key.chapter refl) (ap not verse)))
-        (ap not some_text)
-
     has_verse : has_verse_text held book key.chapter ≡ true
-    has_verse = any_weaker (in_segment (segment book key)) (is_verse_with_text held book key.chapter) held verse_here
-        (text_held held (segment book key) some_text)
+    has_verse = has_filled_verse held book key.chapter record {
+      key = key;
+      verse = and_from (key.chapter == key.chapter) (not (is_head key.place)) (eq-eqb key.chapter key.chapter refl) (ap not verse);
+      some = some_text;
+    }
 
     by : (e : Bool) → is_empty (text_of held (segment book (head_of key))) ≡ e → is_empty (picked_at held book (head_of key)) ≡ false
     by true e = ap is_empty (picked_line held (segment book (head_of key))

@@ -158,7 +158,7 @@ skeleton_shows s t seg hs ht ls lt n e =
 
 pub skeleton_picks : (s t : List Operation) (seg : Segment) → rises s ≡ true → rises t ≡ true → is_legal s ≡ true → is_legal t ≡ true
     → clash s t ≡ None → skeleton s ≡ skeleton t → pick s seg ≡ pick t seg
-skeleton_picks s t seg hs ht ls lt n e = picks_alike s t e (λ seg. skeleton_shows s t seg hs ht ls lt n e) seg
+skeleton_picks s t seg hs ht ls lt n e = picks_alike s t (λ seg. skeleton_shows s t seg hs ht ls lt n e) seg
 
 -- ---- deltas
 

@@ -1,41 +1,36 @@
 -- The operations of one book are all that the book is made of.
-use Rattle.std.proofs.Common.{◌≡◌, ℕ, Bool, true, false, not, cond, ◌&&◌, List, [], ◌∷◌, Some, filter, map, nat_le, refl, ap, ◌∙◌}
+use Rattle.std.proofs.Common.{◌≡◌, ℕ, Bool, true, false, not, ◌&&◌, List, [], ◌∷◌, Some, filter, map, refl, ap, ◌∙◌}
 use Rattle.std.specs.List.{list_any, flat_map}
-use Rattle.std.proofs.lemmas.Bool.{and_parts, false≢true}
+use Rattle.std.proofs.lemmas.Bool.{and_parts}
 use Rattle.usfm_ref.specs.Books.{same_bytes}
-use Rattle.usfm_ref.specs.Keys.{KeyParts, key_cmp, head_of, is_head, is_verse_of}
+use Rattle.usfm_ref.specs.Keys.{key_cmp, head_of}
 use Rattle.usfm_ref.specs.Rising.{rising}
 use Rattle.usfm_ref.specs.Segments.{segment}
 use Rattle.usfm_ref.specs.declared.segment.Segment.{Segment}
 use Rattle.usfm_ref.proofs.Orders.{same_bytes-is, same_bytes-refl, same_segment-is}
+use Rattle.verse_cut.proofs.MarkLaws.{both_second}
 use Rattle.op_core.specs.Ids.{Id}
 use Rattle.op_core.specs.Ops.{Operation, IsOperation, in_segment, is_full, names}
 use Rattle.op_core.specs.Sets.{IsOpSet, get}
-use Rattle.op_core.specs.Shown.{is_replaced, is_shown, shown, last, text_if_any, text_of, is_empty}
-use Rattle.op_core.specs.Shown.{is_verse_with_text, has_verse_text, greatest, pick, picked_text, Line}
+use Rattle.op_core.specs.Shown.{is_replaced, is_shown, shown}
 use Rattle.op_core.specs.Thinned.{is_legal, is_past}
 use Rattle.op_core.specs.Export.{of_book, has_book, exported_keys, export}
 use Rattle.op_core.specs.OneBook.{ops_of_book}
+use Rattle.op_core.proofs.ByShown.{picked_same}
 use Rattle.op_core.proofs.FilteredLists.{filter_both, any_filter, kept_each}
 use Rattle.op_core.proofs.Filters.{rises-filter, filter_within, filter_passes}
 use Rattle.op_core.proofs.Legal.{legal_at, legal_from}
-
--- of two tests of which the second passes less, both pass where the second does
-second_of : (a b : Bool) → (b ≡ true → a ≡ true) → (a && b) ≡ b
-second_of true b h = refl
-second_of false true h = absurd (false≢true (h refl))
-second_of false false h = refl
 
 module _ (held : List Operation) (book : List ℕ) where
   -- a test that operations of the book alone pass finds among these what it finds among all
   any_same : (p : Operation → Bool) → ((o : Operation) → p o ≡ true → of_book book o ≡ true)
       → list_any p (ops_of_book held book) ≡ list_any p held
-  any_same p of = any_filter p (of_book book) held ∙ (λ i. list_any (λ o. second_of (of_book book o) (p o) (of o) i) held)
+  any_same p of = any_filter p (of_book book) held ∙ (λ i. list_any (λ o. both_second (of_book book o) (p o) (of o) i) held)
 
   -- so it leaves the same of these and of all
   filter_same : (p : Operation → Bool) → ((o : Operation) → p o ≡ true → of_book book o ≡ true)
       → filter p (ops_of_book held book) ≡ filter p held
-  filter_same p of = filter_both p (of_book book) p (λ o. second_of (of_book book o) (p o) (of o)) held
+  filter_same p of = filter_both p (of_book book) p (λ o. both_second (of_book book o) (p o) (of o)) held
 
   -- ---- what a segment of the book shows
 
@@ -55,31 +50,7 @@ module _ (held : List Operation) (book : List ℕ) where
       (λ i. filter (λ o. in_segment g o && not (replaced_same g of o.id i)) (ops_of_book held book))
       ∙ filter_same (is_shown held g) (λ o h. is_of_book g of o (and_parts (in_segment g o) (not (is_replaced held g o.id)) h).0)
 
-  -- ---- what is picked, and where
-
-  verse_with_text : (chapter : ℕ) (o : Operation)
-      → is_verse_with_text (ops_of_book held book) book chapter o ≡ is_verse_with_text held book chapter o
-  verse_with_text chapter o = by (same_bytes o.segment.book book) refl
-    where
-      by : (b : Bool) → same_bytes o.segment.book book ≡ b
-          → ((b && is_verse_of chapter o.segment.key) && not (is_empty (text_of (ops_of_book held book) o.segment)))
-          ≡ ((b && is_verse_of chapter o.segment.key) && not (is_empty (text_of held o.segment)))
-      by false e = refl
-      by true e = ap (λ (ops : List Operation). is_verse_of chapter o.segment.key && not (is_empty (text_if_any (last ops))))
-          (shown_same o.segment (same_bytes-is o.segment.book book e))
-
-  verse_text_same : (chapter : ℕ) → has_verse_text (ops_of_book held book) book chapter ≡ has_verse_text held book chapter
-  verse_text_same chapter =
-      (λ i. list_any (λ o. verse_with_text chapter o i) (ops_of_book held book))
-      ∙ any_same (is_verse_with_text held book chapter) (λ o h.
-      (and_parts (same_bytes o.segment.book book) (is_verse_of chapter o.segment.key)
-      (and_parts (same_bytes o.segment.book book && is_verse_of chapter o.segment.key) (not (is_empty (text_of held o.segment))) h).0).0)
-
-  pick_same : (key : KeyParts) → pick (ops_of_book held book) (segment book key) ≡ pick held (segment book key)
-  pick_same key =
-      (λ i. cond (is_head key.place && nat_le 1 key.chapter && is_empty (text_if_any (last (shown_same (segment book key) refl i)))
-      && verse_text_same key.chapter i)
-      (Line key.chapter) (greatest (last (shown_same (segment book key) refl i))))
+  -- ---- the export
 
   keys_same : exported_keys (ops_of_book held book) book ≡ exported_keys held book
   keys_same = ap (λ (ops : List Operation). rising key_cmp (flat_map (λ key. head_of key ∷ key ∷ []) (map (λ o. o.segment.key) ops)))
@@ -87,7 +58,8 @@ module _ (held : List Operation) (book : List ℕ) where
 
   -- the book's export is the same where the operations of the book are all
   pub export_same : export (ops_of_book held book) book ≡ export held book
-  export_same = (λ i. flat_map (λ key. picked_text (pick_same key i)) (keys_same i))
+  export_same =
+      (λ i. flat_map (λ key. picked_same (ops_of_book held book) held book (λ k. shown_same (segment book k) refl) key i) (keys_same i))
 
   -- and the book has an operation where it has one among all
   pub has_book_same : has_book (ops_of_book held book) book ≡ has_book held book

@@ -21,6 +21,7 @@ use Rattle.op_core.specs.Export.{keys_in, exported_keys}
 use Rattle.op_core.specs.CutsBack.{picked_at}
 use Rattle.op_core.specs.Lists.{keys_of}
 use Rattle.op_core.proofs.Exported.{any-rising, picks_are_exported}
+use Rattle.op_core.proofs.FilteredLists.{any_map}
 use Rattle.replica_state.specs.Imports.{piece_own_text, piece_of, is_due, walked_keys, due_keys, has_verse}
 use Rattle.replica_state.proofs.Appended.{is_there, key_is}
 use Rattle.replica_state.proofs.KeyLists.{same_key-cmp}
@@ -42,7 +43,8 @@ module _ (held : List Operation) (book : List ℕ) (pieces : List PieceParts) wh
   due_rise = rises_filter key_cmp key_total (λ k. k) (is_due held book pieces) (walked_keys held book pieces)
       (rises-rising key_cmp key_total (map head_of (keys_of held book) ++ (keys_of held book ++ map (λ p. p.key) pieces)))
 
-  piece_there : (q : KeyParts) (ps : List PieceParts) → is_some (piece_of ps q) ≡ true → is_there q (map (λ p. p.key) ps) ≡ true
+  -- a key that has a piece is among those of the pieces
+  pub piece_there : (q : KeyParts) (ps : List PieceParts) → is_some (piece_of ps q) ≡ true → is_there q (map (λ p. p.key) ps) ≡ true
   piece_there q [] h = cc h
   piece_there q (p ∷ ps) h = by (λ g. piece_there q ps g) (is_eq (key_cmp q p.key)) h
     where
@@ -52,8 +54,7 @@ module _ (held : List Operation) (book : List ℕ) (pieces : List PieceParts) wh
       by rest false h = rest h
 
   pub heads_map : (q : KeyParts) (ks : List KeyParts) → is_there q (map head_of ks) ≡ list_any (λ k. is_eq (key_cmp q (head_of k))) ks
-  heads_map q [] = refl
-  heads_map q (k ∷ ks) = ap (λ b. is_eq (key_cmp q (head_of k)) || b) (heads_map q ks)
+  heads_map q ks = any_map (λ k. is_eq (key_cmp q k)) head_of ks
 
   flat_there : (q : KeyParts) (ks : List KeyParts)
       → is_there q (flat_map (λ key. head_of key ∷ key ∷ []) ks) ≡ (list_any (λ k. is_eq (key_cmp q (head_of k))) ks || is_there q ks)

@@ -1,7 +1,7 @@
 -- What is picked at each key after an import is the file's piece.
 use Rattle.std.proofs.Common.{◌≡◌, ℕ, suc, ◌+◌, length, ◌≤◌, ◌<◌, Bool, true, false, not, ◌&&◌, ◌||◌, nat_le, ◌==◌}
 use Rattle.std.proofs.Common.{List, [], ◌∷◌, ◌++◌, Option, None, Some, Ok, arith, refl, sym, ap, subst, ◌∙◌, inl, inr}
-use Rattle.std.specs.List.{All, Contains, list_any}
+use Rattle.std.specs.List.{All, Contains}
 use Rattle.std.specs.Option.{is_some}
 use Rattle.std.specs.Prelude.{◌⊎◌}
 use Rattle.std.proofs.lemmas.Bool.{and_parts, eqb-true, not-true}
@@ -15,26 +15,17 @@ use Rattle.verse_cut.specs.Pieces.{PieceParts, pieces_of}
 use Rattle.verse_cut.specs.Joins.{KeyText, HasHead, IsJoinOf, at_book_head, pieces_from}
 use Rattle.verse_cut.specs.Reading.{book_in, is_empty}
 use Rattle.verse_cut.proofs.BookLaws.{books_are_joins}
-use Rattle.op_core.specs.Ops.{Operation, is_verse_in}
-use Rattle.op_core.specs.Shown.{text_of, is_verse_with_text, has_verse_text, wants_chapter_line}
+use Rattle.op_core.specs.Ops.{Operation}
+use Rattle.op_core.specs.Shown.{text_of, has_verse_text, wants_chapter_line}
 use Rattle.op_core.specs.CutsBack.{picked_at}
 use Rattle.op_core.specs.NextIds.{next_number}
-use Rattle.op_core.proofs.Exported.{picked_line, picked_own, wants_line, head_picked}
+use Rattle.op_core.proofs.Exported.{filled_verse, picked_line, picked_own, wants_line, head_picked}
 use Rattle.replica_state.specs.States.{State, IsState}
 use Rattle.replica_state.specs.Imports.{piece_own_text, piece_of, piece_at, has_verse, loses_line, is_due, due_keys, edits_from}
 use Rattle.replica_state.proofs.Appended.{is_there, text_edited, text_kept}
 use Rattle.replica_state.proofs.DueKeys.{due_rise, not_due}
 use Rattle.replica_state.proofs.FilePieces.{book_is_code, book_is_headed}
 use Rattle.replica_state.proofs.KeyTexts.{text_at, text_of_piece, stands, item_at}
-
--- where a test passes in a list, it passes of something
-pub any_found : {X : Type 0} (p : X → Bool) (xs : List X) → list_any p xs ≡ true → (x : X) × (p x ≡ true)
-any_found p [] h = cc h
-any_found {X} p (x ∷ xs) h = by (λ g. any_found p xs g) (p x) refl h
-  where
-    by : (list_any p xs ≡ true → (y : X) × (p y ≡ true)) → (b : Bool) → p x ≡ b → (b || list_any p xs) ≡ true → (y : X) × (p y ≡ true)
-    by rest true e h = (x, e)
-    by rest false e h = rest h
 
 contains_later : (x : KeyText) (xs : List KeyText) (t : KeyText) → Contains xs t → Contains (x ∷ xs) t
 contains_later x xs t (j, lt, is) = (suc j, omega (arith, lt), is)
@@ -155,19 +146,13 @@ module _ (s : State) (state : IsState s) (book file : List ℕ) (named : book_in
   line_has_piece : (chapter : ℕ) → 1 ≤ chapter → has_verse_text now book chapter ≡ true
       → is_empty (piece_at pieces (chapter_head chapter)) ≡ false
   line_has_piece chapter some h =
-      let o = any_found (is_verse_with_text now book chapter) now h in
-      let a = and_parts (is_verse_in book chapter o.0) (not (is_empty (text_of now o.0.segment))) o.1 in
-      let b = and_parts (same_bytes o.0.segment.book book) (is_verse_of chapter o.0.segment.key) a.0 in
-      let c = and_parts (o.0.segment.key.chapter == chapter) (not (is_head o.0.segment.key.place)) b.1 in
-      let is : o.0.segment ≡ at o.0.segment.key = λ i. segment (same_bytes-is o.0.segment.book book b.0 i) o.0.segment.key in
-      let verse = not-true (is_head o.0.segment.key.place) c.1 in
-      let number : o.0.segment.key.chapter ≡ chapter = eqb-true o.0.segment.key.chapter chapter c.0 in
-      let text : is_empty (piece_at pieces o.0.segment.key) ≡ false =
-      ap is_empty (sym (verse_text o.0.segment.key verse)) ∙ ap (λ (g : Segment). is_empty (text_of now g)) (sym is)
-      ∙ not-true (is_empty (text_of now o.0.segment)) a.1
-      in
+      let v = filled_verse now book chapter h in
+      let c = and_parts (v.key.chapter == chapter) (not (is_head v.key.place)) v.verse in
+      let verse = not-true (is_head v.key.place) c.1 in
+      let number : v.key.chapter ≡ chapter = eqb-true v.key.chapter chapter c.0 in
+      let text : is_empty (piece_at pieces v.key) ≡ false = ap is_empty (sym (verse_text v.key verse)) ∙ v.some in
       ap (λ n. is_empty (piece_at pieces (chapter_head n))) (sym number)
-      ∙ head_has_text o.0.segment.key text verse (subst (λ n. 1 ≤ n) (sym number) some)
+      ∙ head_has_text v.key text verse (subst (λ n. 1 ≤ n) (sym number) some)
 
   -- a chapter with a verse among the pieces has a head that is picked
   verse_has_head : (chapter : ℕ) → 1 ≤ chapter → has_verse pieces chapter ≡ true

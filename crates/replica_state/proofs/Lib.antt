@@ -19,6 +19,7 @@ pub mod World
 pub mod Changes
 pub mod SinceLaws
 pub mod SinceRuns
+pub mod SinceBegun
 pub mod SinceTwice
 pub mod SinceImports
 pub mod SinceTexts

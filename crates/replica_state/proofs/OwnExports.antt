@@ -9,7 +9,7 @@ use Rattle.usfm_ref.specs.Books.{is_book_code, same_bytes}
 use Rattle.usfm_ref.specs.Keys.{KeyParts, key_cmp, book_head, is_head, is_key, is_verse_of, same_key}
 use Rattle.usfm_ref.specs.Segments.{segment}
 use Rattle.usfm_ref.specs.declared.segment.Segment.{Segment}
-use Rattle.usfm_ref.proofs.Orders.{same_bytes-is, same_bytes-refl, same_key-is}
+use Rattle.usfm_ref.proofs.Orders.{same_bytes-refl, same_key-is}
 use Rattle.verse_cut.specs.Keys.{key_below}
 use Rattle.verse_cut.specs.Fits.{IsHeaded, Fits}
 use Rattle.verse_cut.specs.Pieces.{PieceParts, pieces_of}
@@ -21,13 +21,13 @@ use Rattle.verse_cut.proofs.Headings.{book_only}
 use Rattle.verse_cut.proofs.KeyOrder.{above_book_head}
 use Rattle.op_core.specs.Ids.{is_number}
 use Rattle.op_core.specs.Names.{is_name}
-use Rattle.op_core.specs.Ops.{Operation, IsOperation, MayBeText, in_segment, is_full, is_verse_in, or_empty, own_text}
-use Rattle.op_core.specs.Shown.{last, shown, text_if_any, text_of, wants_chapter_line, is_verse_with_text}
+use Rattle.op_core.specs.Ops.{Operation, IsOperation, MayBeText, in_segment, is_full, or_empty, own_text}
+use Rattle.op_core.specs.Shown.{last, shown, text_if_any, wants_chapter_line}
 use Rattle.op_core.specs.Export.{exported_keys, export}
 use Rattle.op_core.specs.CutsBack.{picked_at, later_texts}
 use Rattle.op_core.specs.NextIds.{greatest_number}
 use Rattle.op_core.proofs.CutsBack.{exports_cut_back, keys_rise, split, texts_fit, texts_rise}
-use Rattle.op_core.proofs.Exported.{IsOf, shown_last, picked_own, picks_are_exported, wants_line}
+use Rattle.op_core.proofs.Exported.{IsOf, filled_verse, shown_last, picked_own, picks_are_exported, wants_line}
 use Rattle.op_core.proofs.Legal.{shown_full, full_last}
 use Rattle.op_core.proofs.Shows.{shows_one}
 use Rattle.replica_state.specs.States.{State, IsState}
@@ -38,7 +38,7 @@ use Rattle.replica_state.specs.Imports.{walked_keys, due_keys, edits_numbered, i
 use Rattle.replica_state.specs.ImportLaws.{OwnExportsAddNothing}
 use Rattle.replica_state.specs.Steps.{Import, Imported, imported, step}
 use Rattle.replica_state.proofs.Exports.{after_head, later_at}
-use Rattle.replica_state.proofs.ImportedTexts.{any_found, verse_wants_none}
+use Rattle.replica_state.proofs.ImportedTexts.{verse_wants_none}
 use Rattle.replica_state.proofs.KeyTexts.{text_at, text_of_piece}
 use Rattle.replica_state.proofs.Appended.{key_is}
 
@@ -144,18 +144,11 @@ module _ (s : State) (state : IsState s) (book : List ℕ) (begun : list_any (in
   -- a key that is picked as its chapter's line has a verse among the pieces
   line_has_verse : (q : KeyParts) → wants_chapter_line s.held (segment book q) ≡ true → has_verse (pieces_of file) q.chapter ≡ true
   line_has_verse q h =
-      let o = any_found (is_verse_with_text s.held book q.chapter) s.held (wants_line s.held (segment book q) h).verse in
-      let a = and_parts (is_verse_in book q.chapter o.0) (not (is_empty (text_of s.held o.0.segment))) o.1 in
-      let b = and_parts (same_bytes o.0.segment.book book) (is_verse_of q.chapter o.0.segment.key) a.0 in
-      let c = and_parts (o.0.segment.key.chapter == q.chapter) (not (is_head o.0.segment.key.place)) b.1 in
-      let is : o.0.segment ≡ segment book o.0.segment.key = λ i. segment (same_bytes-is o.0.segment.book book b.0 i) o.0.segment.key in
-      let verse = not-true (is_head o.0.segment.key.place) c.1 in
-      let text : is_empty (piece_at (pieces_of file) o.0.segment.key) ≡ false =
-      ap is_empty (own_piece o.0.segment.key ∙ picked_own s.held (segment book o.0.segment.key)
-      (verse_wants_none s.held (segment book o.0.segment.key) verse))
-      ∙ ap (λ (g : Segment). is_empty (text_of s.held g)) (sym is) ∙ not-true (is_empty (text_of s.held o.0.segment)) a.1
-      in
-      verse_there (pieces_of file) q.chapter o.0.segment.key b.1 text
+      let v = filled_verse s.held book q.chapter (wants_line s.held (segment book q) h).verse in
+      let c = and_parts (v.key.chapter == q.chapter) (not (is_head v.key.place)) v.verse in
+      let none = verse_wants_none s.held (segment book v.key) (not-true (is_head v.key.place) c.1) in
+      verse_there (pieces_of file) q.chapter v.key v.verse
+      (ap is_empty (own_piece v.key ∙ picked_own s.held (segment book v.key) none) ∙ v.some)
 
   pub none_due : (q : KeyParts) → is_due s.held book (pieces_of file) q ≡ false
   none_due q =

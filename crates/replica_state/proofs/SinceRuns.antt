@@ -1,10 +1,11 @@
--- An import since a base is a receiving and then edits over given ids.
+-- The edits of an import since a base, as edits over given ids.
 use Rattle.std.proofs.Common.{◌≡◌, ℕ, suc, ◌+◌, ◌<◌, ◌≤◌, Bool, true, false, not, cond, ◌&&◌, ◌||◌, List, [], ◌∷◌, ◌++◌, map, filter, length}
 use Rattle.std.proofs.Common.{Option, Some, None, Result, Ok, Err, option_map, refl, sym, ap, subst, ◌∙◌, arith, append-nil, append_assoc}
 use Rattle.std.specs.Cmp.{tied_itself}
 use Rattle.std.specs.List.{list_all, list_any, find}
 use Rattle.std.specs.Ordering.{is_eq, is_lt}
-use Rattle.std.proofs.lemmas.Bool.{and_parts, and_right, and_left, or_parts, or_from, or_left, or_right, cond-true, cond-false, leb-true, le-leb}
+use Rattle.std.proofs.Math.Bool.{or-false}
+use Rattle.std.proofs.lemmas.Bool.{and_parts, and_right, or_left, or_right, cond-true, cond-false, leb-true, le-leb}
 use Rattle.std.proofs.lemmas.List.Elements.{filter-append}
 use Rattle.std.proofs.lemmas.List.Folds.{list_any-append}
 use Rattle.usfm_ref.specs.Books.{same_bytes}
@@ -12,10 +13,9 @@ use Rattle.usfm_ref.specs.Keys.{KeyParts, key_cmp, head_of, book_head, same_key}
 use Rattle.usfm_ref.specs.Rising.{rises_by}
 use Rattle.usfm_ref.specs.Segments.{segment}
 use Rattle.usfm_ref.specs.declared.segment.Segment.{Segment}
-use Rattle.usfm_ref.proofs.Orders.{key_total}
+use Rattle.usfm_ref.proofs.Orders.{key_total, same_bytes-refl}
 use Rattle.usfm_ref.proofs.Sorted.{is_less, rises_filter, rises-rising}
 use Rattle.verse_cut.specs.Pieces.{PieceParts, pieces_of}
-use Rattle.verse_cut.proofs.FitLaws.{fits_is_read}
 use Rattle.verse_cut.specs.Reading.{book_in, text_fits}
 use Rattle.verse_cut.specs.declared.fault.BookFault.{BookFault}
 use Rattle.op_core.specs.Equal.{id_from_same, same_id-refl}
@@ -26,22 +26,21 @@ use Rattle.op_core.specs.Shown.{shown, is_shown, is_replaced}
 use Rattle.op_core.specs.Lists.{ids_of, shown_ids, keys_of}
 use Rattle.op_core.specs.NextIds.{greatest_number, next_number, is_among, given_ids}
 use Rattle.op_core.specs.Export.{of_book, has_book}
+use Rattle.op_core.proofs.FilteredLists.{filter_none, none_of_less}
 use Rattle.op_core.proofs.Gets.{AnyHeld, any_held, any_from}
 use Rattle.op_core.proofs.Union.{agree_from_no_clash, get-join, rises-join}
 use Rattle.replica_state.specs.States.{State}
-use Rattle.replica_state.specs.Receives.{lacked}
 use Rattle.replica_state.specs.Edits.{has_numbers, edit_fault, first_not_shown, next_id, edit_by, unless}
 use Rattle.replica_state.specs.Imports.{piece_at, walked_keys}
-use Rattle.replica_state.specs.Steps.{Command, Receive, EditOver, Received, Edited, Step, received, edited, step, with_ops}
+use Rattle.replica_state.specs.Steps.{Command, EditOver, Edited, Step, edited, step, with_ops}
 use Rattle.replica_state.specs.Runs.{after_all, NoneRefused, IsTaken}
 use Rattle.replica_state.specs.Since.{SinceStep, stood_ids, seen_ids, is_changed, changed_keys, changes_from, with_edits, changed_after, changed_in}
 use Rattle.replica_state.specs.Since.{imported_since}
-use Rattle.replica_state.specs.SinceLaws.{changes_of, edits_over, IsReceivingAndEdits}
+use Rattle.replica_state.specs.SinceLaws.{changes_of, edits_over}
 use Rattle.replica_state.specs.declared.fault.EditFault.TheVariants.{NotShown}
 use Rattle.replica_state.specs.declared.fault.SinceFault.TheVariants.{NumbersUsedUp}
 use Rattle.replica_state.proofs.Appended.{is_there, key_is, keys_apart}
 use Rattle.replica_state.proofs.Changes.{change_at, changes_after, changes_count}
-use Rattle.replica_state.proofs.FilePieces.{book_is_code, book_is_headed, piece_fits}
 
 -- ---- ids of which some pass
 
@@ -76,35 +75,23 @@ none_outside ids (x ∷ given) h =
 
 -- ---- operations of other segments, after those of a set
 
-none_in : (g : Segment) (test : Operation → Bool) (ops : List Operation) → list_any (in_segment g) ops ≡ false
-    → filter (λ o. in_segment g o && test o) ops ≡ []
-none_in g test [] h = refl
-none_in g test (o ∷ ops) h =
-    let p = or_parts (in_segment g o) (list_any (in_segment g) ops) h in
-    cond-false _ _ _ (and_left (in_segment g o) (test o) p.0) ∙ none_in g test ops p.1
-
 none_among : (g : Segment) (test : Operation → Bool) (ops : List Operation) → list_any (in_segment g) ops ≡ false
     → list_any (λ o. in_segment g o && test o) ops ≡ false
-none_among g test [] h = refl
-none_among g test (o ∷ ops) h =
-    let p = or_parts (in_segment g o) (list_any (in_segment g) ops) h in
-    or_from _ _ (and_left (in_segment g o) (test o) p.0) (none_among g test ops p.1)
+none_among g test ops h =
+    none_of_less (λ o. in_segment g o && test o) (in_segment g) (λ o e. (and_parts (in_segment g o) (test o) e).0) ops h
 
 -- a segment shows what it did
 pub shown_after : (held new : List Operation) (g : Segment) → list_any (in_segment g) new ≡ false → shown (held ++ new) g ≡ shown held g
 shown_after held new g h =
     filter-append (is_shown (held ++ new) g) held new
-    ∙ (λ i. filter (λ o. in_segment g o && not (same o.id i)) held ++ none_in g (λ o. not (is_replaced (held ++ new) g o.id)) new h i)
+    ∙ (λ i. filter (λ o. in_segment g o && not (same o.id i)) held
+    ++ filter_none (is_shown (held ++ new) g) new (none_among g (λ o. not (is_replaced (held ++ new) g o.id)) new h) i)
     ∙ append-nil (shown held g)
   where
-    or_none : (b : Bool) → (b || false) ≡ b
-    or_none true = refl
-    or_none false = refl
-
     same : (id : Id) → is_replaced (held ++ new) g id ≡ is_replaced held g id
     same id =
         list_any-append (λ (p : Operation). in_segment g p && names p id) held new
-        ∙ ap (λ b. is_replaced held g id || b) (none_among g (λ o. names o id) new h) ∙ or_none (is_replaced held g id)
+        ∙ ap (λ b. is_replaced held g id || b) (none_among g (λ o. names o id) new h) ∙ or-false (is_replaced held g id)
 
 -- the number of one that stands after is the greatest
 greatest_after : (held : List Operation) (o : Operation) → greatest_number held < o.id.number
@@ -114,7 +101,8 @@ greatest_after (p ∷ held) o l = let rest = greatest_after held o (omega (arith
 
 -- ---- keys that rise
 
-not_there : (key : KeyParts) (keys : List KeyParts) → list_all (λ k. is_lt (key_cmp key k)) keys ≡ true → is_there key keys ≡ false
+-- a key below all others is not among them
+pub not_there : (key : KeyParts) (keys : List KeyParts) → list_all (λ k. is_lt (key_cmp key k)) keys ≡ true → is_there key keys ≡ false
 not_there key [] h = refl
 not_there key (k ∷ keys) h =
     let p = and_parts (is_lt (key_cmp key k)) (list_all (λ k. is_lt (key_cmp key k)) keys) h in
@@ -135,6 +123,16 @@ pub changed_rise : (held base : List Operation) (book : List ℕ) (pieces : List
 changed_rise held base book pieces =
     rises_filter key_cmp key_total (λ k. k) (is_changed held base book pieces) (walked_keys held book pieces)
     (rises-rising key_cmp key_total (map head_of (keys_of held book) ++ (keys_of held book ++ map (λ p. p.key) pieces)))
+
+-- an edit of the first of some keys finds the book begun: it has an operation, or the key is its head
+abbrev pub begins : List Operation → List ℕ → List KeyParts → Bool
+begins held book [] = true
+begins held book (key ∷ keys) = has_book held book || same_key key book_head
+
+-- as it does of any keys where the book has an operation
+pub begins_held : (held : List Operation) (book : List ℕ) (keys : List KeyParts) → has_book held book ≡ true → begins held book keys ≡ true
+begins_held held book [] h = refl
+begins_held held book (key ∷ keys) h = or_left _ _ h
 
 module _ (t : State) (base : List Operation) (book : List ℕ) (pieces : List PieceParts) where
   abbrev seen : KeyParts → List Id
@@ -175,14 +173,15 @@ module _ (t : State) (base : List Operation) (book : List ℕ) (pieces : List Pi
 
   -- the edits over ids one after the other
   pub run : (keys : List KeyParts) (s : State) (n : ℕ) → s.name ≡ t.name → rises s.held ≡ true → n ≡ next_number s.held
-      → has_numbers s.held (length keys) ≡ true → rises_by key_cmp (λ k. k) keys ≡ true → has_book s.held book ≡ true
+      → has_numbers s.held (length keys) ≡ true → rises_by key_cmp (λ k. k) keys ≡ true → begins s.held book keys ≡ true
       → ((key : KeyParts) → text_fits book key (piece_at pieces key) ≡ true)
       → ((q : KeyParts) → is_there q keys ≡ true → shown_ids s.held (segment book q) ≡ shown_ids t.held (segment book q))
       → NoneRefused s (edits_over t.held base book pieces keys)
       × (after_all s (edits_over t.held base book pieces keys) ≡ with_ops s (changes_from n t base book pieces keys))
   run [] s n named rising next room rise begun fits same = (tt, refl)
   run (key ∷ keys) s n named rising next room rise begun fits same =
-      let rest = run keys u (suc n) named (rises-join s.held (change ∷ []) rising) (ap suc (sym greatest)) more p.1 still fits others in (
+      let rest = run keys u (suc n) named (rises-join s.held (change ∷ []) rising) (ap suc (sym greatest)) more p.1
+      (begins_held u.held book keys still) fits others in (
         (
           subst (λ (x : Step). IsTaken x.reply) (sym done) refl,
           subst (λ (x : Step). NoneRefused x.after (edits_over t.held base book pieces keys)) (sym done) rest.0,
@@ -217,11 +216,11 @@ module _ (t : State) (base : List Operation) (book : List ℕ) (pieces : List Pi
 
       still : has_book u.held book ≡ true
       still = ap (list_any (of_book book)) at ∙ list_any-append (of_book book) s.held (change ∷ [])
-          ∙ ap (λ b. b || list_any (of_book book) (change ∷ [])) begun
+          ∙ or_right _ _ (or_left (same_bytes book book) false (same_bytes-refl book))
 
       done : step s (over key) ≡ record { after = u; reply = Edited (Ok (record { number = n; name = t.name })) }
       done = one s n key named next (le-leb (greatest_number s.held + 1) 1000000000000000 (omega (arith, number)))
-          (ap (λ b. b || same_key key book_head) begun) (fits key)
+          begun (fits key)
           (same key (or_left _ _ (ap is_eq (tied_itself key_total key))))
 
       others : (q : KeyParts) → is_there q keys ≡ true → shown_ids u.held (segment book q) ≡ shown_ids t.held (segment book q)
@@ -296,32 +295,3 @@ accepted s base file book count named answered =
         → Accepted s base file book count
     by (Some id) none e = cc e
     by None none e = numbered none (has_numbers t.held (length keys)) refl e
-
-pub is_receiving_and_edits : IsReceivingAndEdits
-is_receiving_and_edits s base file book count state set named has answered = (
-  (subst (λ (x : Step). IsTaken x.reply) (sym first) refl, subst (λ (x : Step). NoneRefused x.after later) (sym first) all.0),
-  ap (λ (x : Step). after_all x.after later) first ∙ all.1 ∙ ap (λ (x : SinceStep). x.after) (sym taken.is),
-)
-  where
-    t : State
-    t = with_ops s base
-
-    keys : List KeyParts
-    keys = changed_keys t.held base book (pieces_of file)
-
-    later : List Command
-    later = edits_over t.held base book (pieces_of file) keys
-
-    taken : Accepted s base file book count
-    taken = accepted s base file book count named answered
-
-    first : step s (Receive base) ≡ record { after = t; reply = Received (Ok (length (lacked s.held base))) }
-    first = ap (received s base) taken.none
-
-    all : NoneRefused t later × (after_all t later ≡ with_ops t (changes_from (next_number t.held) t base book (pieces_of file) keys))
-    all =
-        run t base book (pieces_of file) keys t (next_number t.held) refl (rises-join s.held base state.set.rising) refl taken.room
-        (changed_rise t.held base book (pieces_of file))
-        (any_received s.held base (λ g. same_bytes g.book book) state.set.rising set.rising taken.none has)
-        (λ key. (fits_is_read book key _).1 (piece_fits book file key (book_is_code file book named) (book_is_headed file book named)))
-        (λ q h. refl)

@@ -1,9 +1,9 @@
 -- The same base and file taken in again add nothing.
-use Rattle.std.proofs.Common.{◌≡◌, ℕ, suc, max, ◌+◌, ◌<◌, ◌≤◌, nat_lt, Bool, true, false, not, cond, ◌&&◌, ◌||◌, List, [], ◌∷◌, ◌++◌, map}
+use Rattle.std.proofs.Common.{◌≡◌, ℕ, suc, max, ◌+◌, ◌<◌, ◌≤◌, nat_lt, Bool, true, false, not, ◌&&◌, ◌||◌, List, [], ◌∷◌, ◌++◌, map}
 use Rattle.std.proofs.Common.{filter, length, Option, Some, None, Result, Ok, Err, refl, sym, ap, subst, ◌∙◌, arith}
 use Rattle.std.specs.List.{AllByRecursion, list_all, list_any}
 use Rattle.std.specs.Ordering.{is_eq}
-use Rattle.std.proofs.lemmas.Bool.{and_parts, and_from, and_right, or_parts, or_from, or_left, or_right, not-true, cond-true, cond-false}
+use Rattle.std.proofs.lemmas.Bool.{and_parts, and_from, and_right, or_parts, or_from, or_left, or_right, not-true, cond-true}
 use Rattle.std.proofs.lemmas.Bool.{false_from_ne_true, leb-true, le-leb}
 use Rattle.std.proofs.lemmas.List.Folds.{list_any-append}
 use Rattle.usfm_ref.specs.Books.{same_bytes}
@@ -24,6 +24,7 @@ use Rattle.op_core.specs.NextIds.{greatest_number, next_number, is_among}
 use Rattle.op_core.proofs.Agreement.{Agree, agree_itself}
 use Rattle.op_core.proofs.Enrolled.{apart_at}
 use Rattle.op_core.proofs.Exported.{any-rising}
+use Rattle.op_core.proofs.FilteredLists.{any_filter, any_map, filter_none}
 use Rattle.op_core.proofs.Filters.{filter_kept}
 use Rattle.op_core.proofs.Gets.{AnyHeld, any_held}
 use Rattle.op_core.proofs.Groupings.{join_agrees}
@@ -47,41 +48,17 @@ use Rattle.replica_state.proofs.World.Held.{at_held, among_is_held, filter_held,
 
 -- ---- operations of which some are shown
 
-any_shown : (test other : Operation → Bool) (ops : List Operation)
-    → list_any other (filter test ops) ≡ list_any (λ o. test o && other o) ops
-any_shown test other [] = refl
-any_shown test other (o ∷ ops) = by (any_shown test other ops) (test o)
-  where
-    by : list_any other (filter test ops) ≡ list_any (λ o. test o && other o) ops → (b : Bool)
-        → list_any other (cond b (o ∷ filter test ops) (filter test ops)) ≡ ((b && other o) || list_any (λ o. test o && other o) ops)
-    by rest true = ap (λ b. other o || b) rest
-    by rest false = rest
-
 no_id_left : (p : Id → Bool) (test : Operation → Bool) (ops : List Operation) → list_any (λ o. test o && p o.id) ops ≡ false
     → filter p (ids_of (filter test ops)) ≡ []
-no_id_left p test [] h = refl
-no_id_left p test (o ∷ ops) h = by (no_id_left p test ops a.1) (test o) a.0
-  where
-    a : ((test o && p o.id) ≡ false) × (list_any (λ o. test o && p o.id) ops ≡ false)
-    a = or_parts (test o && p o.id) (list_any (λ o. test o && p o.id) ops) h
-
-    by : filter p (ids_of (filter test ops)) ≡ [] → (b : Bool) → (b && p o.id) ≡ false
-        → filter p (ids_of (cond b (o ∷ filter test ops) (filter test ops))) ≡ []
-    by rest true e = cond-false _ _ _ e ∙ rest
-    by rest false e = rest
+no_id_left p test ops h =
+    filter_none p (ids_of (filter test ops)) (any_map p (λ (o : Operation). o.id) (filter test ops) ∙ any_filter (λ o. p o.id) test ops ∙ h)
 
 -- ---- keys of a set
 
 any_key : (test : KeyParts → Bool) (ops : List Operation) (book : List ℕ)
     → list_any test (keys_in ops book) ≡ list_any (λ o. same_bytes o.segment.book book && test o.segment.key) ops
-any_key test [] book = refl
-any_key test (o ∷ ops) book = by (any_key test ops book) (of_book book o)
-  where
-    by : list_any test (keys_in ops book) ≡ list_any (λ o. same_bytes o.segment.book book && test o.segment.key) ops → (b : Bool)
-        → list_any test (map (λ p. p.segment.key) (cond b (o ∷ filter (of_book book) ops) (filter (of_book book) ops)))
-        ≡ ((b && test o.segment.key) || list_any (λ o. same_bytes o.segment.book book && test o.segment.key) ops)
-    by rest true = ap (λ b. test o.segment.key || b) rest
-    by rest false = rest
+any_key test ops book =
+    any_map test (λ (o : Operation). o.segment.key) (filter (of_book book) ops) ∙ any_filter (λ o. test o.segment.key) (of_book book) ops
 
 module _ (held base : List Operation) (book : List ℕ) (pieces : List PieceParts) (hh : rises held ≡ true) (hb : rises base ≡ true)
     (none : clash held base ≡ None) where
@@ -246,7 +223,7 @@ module _ (t : State) (base : List Operation) (book : List ℕ) (pieces : List Pi
 
     text_shown : shows_text now g (piece_at pieces q) ≡ true
     text_shown =
-        any_shown (is_shown now g) (λ o. same_bytes (own_text o) (piece_at pieces q)) now
+        any_filter (λ o. same_bytes (own_text o) (piece_at pieces q)) (is_shown now g) now
         ∙ list_any-append (λ o. is_shown now g o && same_bytes (own_text o) (piece_at pieces q)) t.held (new (next_number t.held) keys)
         ∙ or_right _ _ (edit_shown (next_number t.held) keys (omega arith) there)
 

@@ -1,6 +1,6 @@
 -- Laws of imports since a base (this project's own rule).
-use Rattle.std.specs.Prelude.{◌≡◌, ◌≤◌, ℕ, true, List, ◌∷◌, filter, length, map, None, Ok}
-use Rattle.std.specs.List.{Contains, list_any}
+use Rattle.std.specs.Prelude.{◌≡◌, ℕ, true, List, ◌∷◌, map, None, Ok}
+use Rattle.std.specs.List.{Contains, list_all, list_any}
 use Rattle.usfm_ref.specs.Keys.{KeyParts, book_head}
 use Rattle.usfm_ref.specs.Segments.{segment}
 use Rattle.usfm_ref.specs.declared.segment.Segment.{Segment}
@@ -11,12 +11,13 @@ use Rattle.op_core.specs.Ops.{Operation, in_segment, own_text}
 use Rattle.op_core.specs.Sets.{IsOpSet, clash}
 use Rattle.op_core.specs.Shown.{shown, text_of}
 use Rattle.op_core.specs.NextIds.{next_number}
-use Rattle.op_core.specs.Export.{export, has_book, of_book}
+use Rattle.op_core.specs.Export.{export}
 use Rattle.replica_state.specs.States.{State, IsState}
 use Rattle.replica_state.specs.Imports.{piece_at}
 use Rattle.replica_state.specs.Steps.{Command, Receive, EditOver, Import, Imported, step, with_ops}
 use Rattle.replica_state.specs.Runs.{after_all, NoneRefused}
-use Rattle.replica_state.specs.Since.{seen_ids, changed_keys, changes_from, imported_since}
+use Rattle.replica_state.specs.Since.{has_greatest_text, seen_ids, changed_keys, changes_from}
+use Rattle.replica_state.specs.Since.{imported_since}
 
 -- the edits that a replica which has received the base makes of the changed keys
 abbrev pub changes_of : State → List Operation → List ℕ → List PieceParts → List Operation
@@ -70,11 +71,11 @@ since_commands s base book pieces =
     (changed_keys (with_ops s base).held base book pieces)
 
 -- An import since a base that is not refused is a receiving and then edits over given ids, of which none is refused; so all that
--- holds of receivings and edits holds of it. The base has the book, as one does that its file was written from.
+-- holds of receivings and edits holds of it.
 abbrev pub IsReceivingAndEdits : Type 0
 IsReceivingAndEdits =
     (s : State) (base : List Operation) (file book : List ℕ) (count : ℕ) →
-    IsState s → IsOpSet base → book_in file ≡ Ok book → has_book base book ≡ true →
+    IsState s → IsOpSet base → book_in file ≡ Ok book →
     (imported_since s base file).answer ≡ Ok count →
     NoneRefused s (since_commands s base book (pieces_of file))
     × (after_all s (since_commands s base book (pieces_of file))
@@ -88,14 +89,16 @@ TwiceIsOnce =
     imported_since (imported_since s base file).after base file
     ≡ record { after = (imported_since s base file).after; answer = Ok 0 }
 
--- It is the import of the file where the replica, with the base received, holds of the file's book what the base has, and the base
--- shows at most one operation in each segment of it.
+-- It is the import of the file where, with the base received, each segment of the file's book shows what the base shows there, and
+-- of several operations that the base shows in one segment all have one text, so that nothing is in conflict there.
 abbrev pub IsImportWhereNothingCame : Type 0
 IsImportWhereNothingCame =
     (s : State) (base : List Operation) (file book : List ℕ) (count : ℕ) →
     IsState s → IsOpSet base → clash s.held base ≡ None → book_in file ≡ Ok book →
-    filter (of_book book) (with_ops s base).held ≡ filter (of_book book) base →
-    ((key : KeyParts) → length (shown base (segment book key)) ≤ 1) →
+    ((key : KeyParts) →
+    shown (with_ops s base).held (segment book key) ≡ shown base (segment book key)) →
+    ((key : KeyParts) → list_all (has_greatest_text base (segment book key))
+    (shown base (segment book key)) ≡ true) →
     (step (with_ops s base) (Import file)).reply ≡ Imported (Ok count) →
     imported_since s base file
     ≡ record { after = (step (with_ops s base) (Import file)).after; answer = Ok count }

@@ -15,7 +15,6 @@ pub mod Searched
 pub mod Headline
 pub mod InTurn
 pub mod Puts
-pub mod ListTests
 pub mod ShownSets
 pub mod ShownByKeys
 pub mod Conflicts

@@ -1,12 +1,14 @@
 -- What a book shows by its keys, in whatever order, put into a set, is the set of what it shows.
 use Rattle.std.proofs.Common.{◌≡◌, ℕ, Bool, true, false, cond, ◌&&◌, ◌||◌, List, [], ◌∷◌, filter}
 use Rattle.std.proofs.Common.{refl, sym, ap, subst, ◌∙◌, Option, None, Some, is_some}
+use Rattle.std.specs.Cmp.{both_ways}
 use Rattle.std.specs.List.{list_all, list_any, flat_map, All, AllByRecursion}
 use Rattle.std.specs.List.Sorted.{IsPermutation}
 use Rattle.std.specs.Ordering.{is_eq}
 use Rattle.std.proofs.Math.Bool.{or-false, or_assoc}
 use Rattle.std.proofs.lemmas.Bool.{and_parts, and_from, false≢true}
 use Rattle.std.proofs.lemmas.List.Sorted.{All-permutation, list_any-IsPermutation}
+use Rattle.std.proofs.lemmas.List.Folds.{Any-from_list_any}
 use Rattle.std.proofs.lemmas.List.Elements.{All-nil, All-append, All-from_recursion}
 use Rattle.std.proofs.lemmas.List.Elements.{recursion_from_All}
 use Rattle.std.proofs.lemmas.Cmp.{tied_itself}
@@ -28,9 +30,8 @@ use Rattle.op_core.proofs.Gets.{AnyHeld, any_held, any_from, all_at}
 use Rattle.op_core.proofs.Union.{met_none, get-put, rises-put, put_held, held_itself, same_gets}
 use Rattle.usfm_cli.specs.Standing.{is_shown_in_book, shown_set}
 use Rattle.usfm_cli.proofs.Puts.{put_all}
-use Rattle.replica_state.proofs.ImportedTexts.{any_found}
-use Rattle.op_core.proofs.FilteredLists.{any_filter}
-use Rattle.usfm_cli.proofs.ListTests.{any_map, any_flat, any_of_more, key_passes, same_tests}
+use Rattle.op_core.proofs.FilteredLists.{any_filter, any_flat, any_map, any_weaker}
+use Rattle.replica_state.proofs.Appended.{key_is}
 use Rattle.usfm_cli.proofs.ShownSets.{passes_both, shown_is_full, shown_is_set}
 
 -- ---- operations put into a set
@@ -108,19 +109,21 @@ module _ (held : List Operation) (book : List ℕ) (set : IsOpSet held) where
 
   -- what a book shows by its keys is what it shows
   by_keys : (p : Operation → Bool) → list_any p (flat_map shown_at (keys_of held book)) ≡ list_any p (shown_set held book)
-  by_keys p = any_flat p shown_at (keys_of held book) ∙ same_tests _ _ into out
+  by_keys p = any_flat p shown_at (keys_of held book) ∙ both_ways _ _ into out
     where
       into : list_any (λ key. list_any p (shown_at key)) (keys_of held book) ≡ true → list_any p (shown_set held book) ≡ true
       into h =
-          let found = any_found (λ key. list_any p (shown_at key)) (keys_of held book) h in
+          let found = Any-from_list_any (λ key. list_any p (shown_at key)) (keys_of held book) h in
+          let at = segment book found.1 in
           any_filter p (is_shown_in_book held book) held
-          ∙ any_of_more (λ o. is_shown held (segment book found.0) o && p o) (λ o. is_shown_in_book held book o && p o)
-          (λ o e. let parts = and_parts (is_shown held (segment book found.0) o) (p o) e in and_from _ _
-          (in_book (segment book found.0) o refl parts.0) parts.1)
-          held (sym (any_filter p (is_shown held (segment book found.0)) held) ∙ found.1)
+          ∙ any_weaker (λ o. is_shown held at o && p o) (λ o. is_shown_in_book held book o && p o)
+          (λ o e. let parts = and_parts (is_shown held at o) (p o) e in and_from _ _ (in_book at o refl parts.0) parts.1)
+          held (sym (any_filter p (is_shown held at) held) ∙ found.4)
 
       out : list_any p (shown_set held book) ≡ true → list_any (λ key. list_any p (shown_at key)) (keys_of held book) ≡ true
-      out h = key_passes (λ key. list_any p (shown_at key)) one.segment.key here (keys_of held book) there
+      out h =
+          any_weaker (λ k. is_eq (key_cmp one.segment.key k)) (λ k. list_any p (shown_at k))
+          (λ k e. ap (λ (key : KeyParts). list_any p (shown_at key)) (sym (key_is one.segment.key k e)) ∙ here) (keys_of held book) there
         where
           found : AnyHeld (λ o. is_shown_in_book held book o && p o) held
           found = any_held _ held set.rising (sym (any_filter p (is_shown_in_book held book) held) ∙ h)

@@ -1,27 +1,27 @@
 -- The operations that a book shows give the same export as all, so that their bundle makes the book's file.
-use Rattle.std.proofs.Common.{◌≡◌, ◌≢◌, ◌<◌, ◌^◌, ℕ, Bool, true, false, not, cond, ◌&&◌, ◌||◌, List}
-use Rattle.std.proofs.Common.{[], ◌∷◌, length, filter, inl, inr, nat_le, refl, sym, ap, subst, ◌∙◌}
+use Rattle.std.proofs.Common.{◌≡◌, ◌≢◌, ◌<◌, ◌^◌, ℕ, Bool, true, false, not, ◌&&◌, ◌||◌, List}
+use Rattle.std.proofs.Common.{[], ◌∷◌, length, filter, inl, inr, refl, sym, ap, subst, ◌∙◌}
+use Rattle.std.specs.Cmp.{both_ways}
 use Rattle.std.specs.List.{list_all, list_any, flat_map}
 use Rattle.std.specs.Ordering.{is_eq}
 use Rattle.std.proofs.Math.Bool.{and-false}
 use Rattle.std.proofs.lemmas.Bool.{and_parts, and_from, not-true, or_cases, false≢true}
 use Rattle.usfm_ref.specs.Books.{same_bytes}
-use Rattle.usfm_ref.specs.Keys.{KeyParts, key_cmp, head_of, is_head, is_verse_of}
+use Rattle.usfm_ref.specs.Keys.{KeyParts, key_cmp, head_of}
 use Rattle.usfm_ref.specs.Segments.{segment, same_segment}
 use Rattle.usfm_ref.specs.declared.segment.Segment.{Segment}
 use Rattle.usfm_ref.proofs.Members.{same_tested, tested_rising}
 use Rattle.usfm_ref.proofs.Sorted.{rises-rising}
-use Rattle.usfm_ref.proofs.Orders.{key_total, key_exact, same_bytes-is, same_bytes-refl}
+use Rattle.usfm_ref.proofs.Orders.{key_total, key_exact, same_bytes-refl}
 use Rattle.usfm_ref.proofs.Orders.{same_segment-is, same_segment-refl}
 use Rattle.op_core.specs.Ids.{Id}
-use Rattle.op_core.specs.Ops.{Operation, IsOperation, in_segment, is_verse_in, is_full, names}
+use Rattle.op_core.specs.Ops.{Operation, IsOperation, in_segment, is_full, names}
 use Rattle.op_core.specs.Sets.{IsOpSet}
 use Rattle.op_core.specs.Thinned.{is_legal, is_past}
-use Rattle.op_core.specs.Shown.{is_replaced, is_shown, shown, last, text_if_any, text_of, is_empty}
-use Rattle.op_core.specs.Shown.{is_verse_with_text, has_verse_text, greatest, pick, picked_text}
-use Rattle.op_core.specs.Shown.{Line}
+use Rattle.op_core.specs.Shown.{is_replaced, is_shown, shown}
 use Rattle.op_core.specs.Export.{of_book, has_book, keys_in, exported_keys, export}
-use Rattle.op_core.proofs.FilteredLists.{filter_both, any_filter, kept_each}
+use Rattle.op_core.proofs.ByShown.{picked_same}
+use Rattle.op_core.proofs.FilteredLists.{filter_both, filter_none, any_filter, any_flat, any_map, none_of_less, kept_each}
 use Rattle.op_core.proofs.Filters.{rises-filter, filter_within, filter_kept, all_of_filter}
 use Rattle.op_core.proofs.Gets.{AnyHeld, any_held, any_from}
 use Rattle.op_core.proofs.Shows.{shows_one}
@@ -29,7 +29,6 @@ use Rattle.bundle_codec.specs.Spelling.{bundle}
 use Rattle.bundle_codec.proofs.Wholes.{whole_reads}
 use Rattle.usfm_cli.specs.Folders.{is_export, makes}
 use Rattle.usfm_cli.specs.Standing.{is_shown_in_book, shown_set}
-use Rattle.usfm_cli.proofs.ListTests.{any_map, any_flat, none_of_less, filter_none, same_tests}
 
 module _ (held : List Operation) (book : List ℕ) (set : IsOpSet held) where
   -- ---- what a segment of the book shows
@@ -74,7 +73,7 @@ module _ (held : List Operation) (book : List ℕ) (set : IsOpSet held) where
   any_same : (p : Operation → Bool) → ((o q : Operation) → o.segment ≡ q.segment → p o ≡ p q)
       → ((o : Operation) → p o ≡ true → of_book book o ≡ true)
       → list_any p (shown_set held book) ≡ list_any p held
-  any_same p alike of = same_tests _ _ within back
+  any_same p alike of = both_ways _ _ within back
     where
       within : list_any p (shown_set held book) ≡ true → list_any p held ≡ true
       within h =
@@ -109,32 +108,7 @@ module _ (held : List Operation) (book : List ℕ) (set : IsOpSet held) where
               (filter_kept (is_shown_in_book held book) held there.one.id there.one there.held
               (and_from _ _ (of there.one passes) here)) passes
 
-  -- ---- what is picked, and where
-
-  verse_with_text : (chapter : ℕ) (o : Operation)
-      → is_verse_with_text (shown_set held book) book chapter o ≡ is_verse_with_text held book chapter o
-  verse_with_text chapter o = by (same_bytes o.segment.book book) refl
-    where
-      by : (b : Bool) → same_bytes o.segment.book book ≡ b
-          → ((b && is_verse_of chapter o.segment.key) && not (is_empty (text_of (shown_set held book) o.segment)))
-          ≡ ((b && is_verse_of chapter o.segment.key) && not (is_empty (text_of held o.segment)))
-      by false e = refl
-      by true e = ap (λ (ops : List Operation). is_verse_of chapter o.segment.key && not (is_empty (text_if_any (last ops))))
-          (shown_same o.segment (same_bytes-is o.segment.book book e))
-
-  verse_text_same : (chapter : ℕ) → has_verse_text (shown_set held book) book chapter ≡ has_verse_text held book chapter
-  verse_text_same chapter =
-      (λ i. list_any (λ o. verse_with_text chapter o i) (shown_set held book))
-      ∙ any_same (is_verse_with_text held book chapter)
-      (λ o q is. ap (λ (g : Segment). (same_bytes g.book book && is_verse_of chapter g.key) && not (is_empty (text_of held g))) is)
-      (λ o h. (and_parts (same_bytes o.segment.book book) (is_verse_of chapter o.segment.key)
-      (and_parts (is_verse_in book chapter o) (not (is_empty (text_of held o.segment))) h).0).0)
-
-  pick_same : (key : KeyParts) → pick (shown_set held book) (segment book key) ≡ pick held (segment book key)
-  pick_same key =
-      (λ i. cond (is_head key.place && nat_le 1 key.chapter && is_empty (text_if_any (last (shown_same (segment book key) refl i)))
-      && verse_text_same key.chapter i)
-      (Line key.chapter) (greatest (last (shown_same (segment book key) refl i))))
+  -- ---- the export
 
   abbrev heads_with : KeyParts → List KeyParts
   heads_with key = head_of key ∷ key ∷ []
@@ -161,7 +135,8 @@ module _ (held : List Operation) (book : List ℕ) (set : IsOpSet held) where
       ∙ sym (tested_rising key_cmp key_total key_exact q (flat_map heads_with (keys_in held book))))
 
   pub export_same : export (shown_set held book) book ≡ export held book
-  export_same = (λ i. flat_map (λ key. picked_text (pick_same key i)) (keys_same i))
+  export_same =
+      (λ i. flat_map (λ key. picked_same (shown_set held book) held book (λ k. shown_same (segment book k) refl) key i) (keys_same i))
 
   pub has_book_same : has_book (shown_set held book) book ≡ has_book held book
   has_book_same = any_same (of_book book) (λ o q is. ap (λ (g : Segment). same_bytes g.book book) is) (λ o h. h)

@@ -19,7 +19,7 @@ use Rattle.replica_state.specs.SinceLaws.{edits_over}
 use Rattle.replica_state.specs.World as world
 use Rattle.replica_state.specs.World.{World, replica, steps, with_held}
 use Rattle.replica_state.specs.World.Calls.{IsIn, IsImportingSince, edits_since, all_happen}
-use Rattle.replica_state.proofs.SinceRuns.{is_receiving_and_edits}
+use Rattle.replica_state.proofs.SinceBegun.{is_receiving_and_edits}
 use Rattle.replica_state.proofs.World.Moves.{held_same}
 
 -- a step leaves a replica its name
@@ -55,7 +55,7 @@ module _ (held base : List Operation) (book : List ℕ) (pieces : List PiecePart
 module _ (s : State) (base : List Operation) (file : List ℕ) (state : IsState s) (set : IsOpSet base) where
   import_happens : (count : ℕ) → (imported_since s base file).answer ≡ Ok count
       → IsImportingSince base file s (imported_since s base file).after
-  import_happens count answered w k book is made named has =
+  import_happens count answered w k book is made named =
       let pieces = pieces_of file in
       let t : State = with_ops s base in
       let keys = changed_keys t.held base book pieces in
@@ -72,7 +72,7 @@ module _ (s : State) (base : List Operation) (file : List ℕ) (state : IsState 
       (all_happen (world.received w s.name r) (edits_since s.name t.held base book pieces keys))
       (imported_since s base file).after) (sym made)
       (subst (λ (x : State). IsIn (all_happen first (edits_since s.name t.held base book pieces keys)) x)
-      (is_receiving_and_edits s base file book count state set named has answered).1 done)
+      (is_receiving_and_edits s base file book count state set named answered).1 done)
 
   pub importing : (t : State) (r : Result ℕ SinceFault) → (r ≢ Err Memory → imported_since s base file ≡ record { after = t; answer = r })
       → OnOk r (IsImportingSince base file s t)

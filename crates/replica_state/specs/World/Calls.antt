@@ -1,5 +1,5 @@
 -- How the calls of replicas are the events of a world (this project's own rule).
-use Rattle.std.specs.Prelude.{◌≡◌, ◌≢◌, ◌<◌, ◌^◌, ℕ, true, false, List, [], ◌∷◌, ◌++◌, map}
+use Rattle.std.specs.Prelude.{◌≡◌, ◌≢◌, ◌<◌, ◌^◌, ℕ, false, List, [], ◌∷◌, ◌++◌, map}
 use Rattle.std.specs.Prelude.{length, Result, Ok, Err, Some, slice_get, MatchResult}
 use Rattle.std.specs.List.{AllByRecursion}
 use Rattle.usfm_ref.specs.Books.{same_bytes}
@@ -7,7 +7,6 @@ use Rattle.usfm_ref.specs.Keys.{KeyParts}
 use Rattle.usfm_ref.specs.Segments.{segment}
 use Rattle.verse_cut.specs.Pieces.{PieceParts, pieces_of}
 use Rattle.verse_cut.specs.Reading.{book_in}
-use Rattle.op_core.specs.Export.{has_book}
 use Rattle.op_core.specs.Ids.{Id}
 use Rattle.op_core.specs.Ops.{Operation}
 use Rattle.op_core.specs.Thinned.{all_full}
@@ -74,11 +73,11 @@ all_happen w [] = w
 all_happen w (e ∷ later) = all_happen (happens w e) later
 
 -- In each world in which the replica stands and the base was made, the events of the import since it make of the replica what the
--- call did. The base has the file's book.
+-- call did.
 abbrev pub IsImportingSince : List Operation → List ℕ → State → State → Type 0
 IsImportingSince base file s t =
     (w : World) (k : ℕ) (book : List ℕ) → IsIn w s → slice_get w.bundles k ≡ Some base →
-    book_in file ≡ Ok book → has_book base book ≡ true →
+    book_in file ≡ Ok book →
     IsIn (all_happen w (since_events s k base book (pieces_of file))) t
 
 -- In no world in which the replica stands, and the bundle was made, is its receiving refused as a clash.

@@ -1,5 +1,6 @@
-//! Laws of calls: each call of a replica is an event of every world that has the replica. Each
-//! function makes the call that it is named after, and its contract says which event that is.
+//! Laws of calls: each call of a replica is an event of every world that has the replica, and an import
+//! since a base several. Each function makes the call that it is named after, and its contract says which
+//! event that is.
 ghost use Rattle.std.specs.Prelude.{◌≡◌, ◌≢◌, ◌∷◌, Err, IfOk, OnErr, OnOk};
 ghost use Rattle.usfm_ref.specs.Segments.{segment};
 ghost use Rattle.op_core.specs.Lists.{is_held};

@@ -29,7 +29,8 @@ pub fn twice_is_once()
     ensures { laws.TwiceIsOnce }
 {}
 
-/// It is `import` where nothing else of the book came since, and the base has no conflict in it.
+/// It is `import` where, with the base received, each segment of the file's book shows what the base shows
+/// there, and of several operations that the base shows in one segment all have one text.
 pub fn is_import_where_nothing_came()
     ensures { laws.IsImportWhereNothingCame }
 {}

@@ -1,4 +1,4 @@
-use Rattle.replica_state.proofs.SinceRuns.{is_receiving_and_edits}
+use Rattle.replica_state.proofs.SinceBegun.{is_receiving_and_edits}
 use Rattle.replica_state.proofs.laws.since.is_receiving_and_edits.Goals as goal
 
 pub returns : goal.returns

@@ -1,0 +1,146 @@
+-- An import since a base is a receiving and then edits over given ids. Where no operation of the book is held, the first edit is
+-- that of the book's head, which begins the book.
+use Rattle.std.proofs.Common.{◌≡◌, ℕ, Bool, true, false, not, List, [], ◌∷◌, ◌++◌, length, codes}
+use Rattle.std.proofs.Common.{Some, Ok, refl, sym, ap, subst, ◌∙◌}
+use Rattle.std.specs.List.{list_all, list_any}
+use Rattle.std.specs.Option.{is_some}
+use Rattle.std.specs.Prelude.{if◌then◌else◌}
+use Rattle.std.specs.Ordering.{is_lt}
+use Rattle.std.proofs.lemmas.Bool.{and_parts, and_from, and_right, or_left, or_right, false≢true, false_from_ne_true}
+use Rattle.usfm_ref.specs.Books.{same_bytes}
+use Rattle.usfm_ref.specs.Keys.{KeyParts, key_cmp, book_head, same_key}
+use Rattle.usfm_ref.specs.Rising.{rises_by}
+use Rattle.usfm_ref.specs.Segments.{segment}
+use Rattle.usfm_ref.proofs.Orders.{key_total}
+use Rattle.usfm_ref.proofs.Sorted.{above_trans, is_less}
+use Rattle.verse_cut.specs.Fits.{IsHeaded, byte_order_mark}
+use Rattle.verse_cut.specs.Joins.{IsJoinOf}
+use Rattle.verse_cut.specs.Keys.{key_below}
+use Rattle.verse_cut.specs.Pieces.{PieceParts, pieces_of}
+use Rattle.verse_cut.specs.Reading.{book_in}
+use Rattle.verse_cut.proofs.BookLaws.{books_are_joins}
+use Rattle.verse_cut.proofs.FitLaws.{fits_is_read}
+use Rattle.verse_cut.proofs.KeyOrder.{above_book_head}
+use Rattle.op_core.specs.Ids.{is_none_left}
+use Rattle.op_core.specs.Ops.{Operation, in_segment, own_text}
+use Rattle.op_core.specs.Shown.{is_replaced, is_shown, shown, last, greatest, picked_text}
+use Rattle.op_core.specs.CutsBack.{picked_at}
+use Rattle.op_core.specs.NextIds.{next_number}
+use Rattle.op_core.specs.Export.{of_book, has_book}
+use Rattle.op_core.proofs.FilteredLists.{filter_none, none_of_less}
+use Rattle.op_core.proofs.Union.{rises-join}
+use Rattle.replica_state.specs.States.{State}
+use Rattle.replica_state.specs.Receives.{lacked}
+use Rattle.replica_state.specs.Imports.{piece_own_text, piece_of, piece_at, is_due, walked_keys}
+use Rattle.replica_state.specs.Steps.{Command, Receive, Received, Step, received, step, with_ops}
+use Rattle.replica_state.specs.Runs.{after_all, NoneRefused, IsTaken}
+use Rattle.replica_state.specs.Since.{SinceStep, seen_ids, is_changed, changed_keys, changes_from}
+use Rattle.replica_state.specs.SinceLaws.{edits_over, IsReceivingAndEdits}
+use Rattle.replica_state.proofs.Appended.{is_there}
+use Rattle.replica_state.proofs.DueKeys.{piece_there, there_kept, walked}
+use Rattle.replica_state.proofs.FilePieces.{book_is_code, book_is_headed, head_has_piece, piece_fits}
+use Rattle.replica_state.proofs.SinceRuns.{Accepted, accepted, any_received, begins, begins_held, changed_rise, not_there, run}
+
+-- a book without operations shows nothing
+none_shown : (ops : List Operation) (book : List ℕ) (key : KeyParts) → has_book ops book ≡ false → shown ops (segment book key) ≡ []
+none_shown ops book key h =
+    let g = segment book key in
+    filter_none (is_shown ops g) ops
+    (none_of_less (is_shown ops g) (of_book book)
+    (λ o e. (and_parts (same_bytes o.segment.book book) (same_key o.segment.key key)
+    (and_parts (in_segment g o) (not (is_replaced ops g o.id)) e).0).0) ops h)
+
+-- a text with a book's heading is not empty
+headed_differs : (book text : List ℕ) → IsHeaded book text → same_bytes [] text ≡ false
+headed_differs book text h = ap (same_bytes []) h.begins.text_is ∙ by h.begins.marked
+  where
+    by : (m : Bool)
+        → same_bytes [] ((if m then byte_order_mark else []) ++ (codes "\\id" ++ h.begins.blank ∷ (book ++ h.rest))) ≡ false
+    by true = refl
+    by false = refl
+
+-- the head of the book, where it is among rising keys, is the first
+head_begins : (held : List Operation) (book : List ℕ) (keys : List KeyParts) → rises_by key_cmp (λ k. k) keys ≡ true
+    → is_there book_head keys ≡ true → begins held book keys ≡ true
+head_begins held book [] rise h = refl
+head_begins held book (key ∷ keys) rise h = by (same_key key book_head) refl
+  where
+    by : (b : Bool) → same_key key book_head ≡ b → begins held book (key ∷ keys) ≡ true
+    by true e = or_right _ _ e
+    by false e =
+        let above : key_below book_head key ≡ true = above_book_head key ∙ ap not e in
+        let later = (and_parts (list_all (λ k. is_lt (key_cmp key k)) keys) (rises_by key_cmp (λ k. k) keys) rise).0 in
+        cc (sym h ∙ not_there book_head (key ∷ keys)
+        (and_from _ _ above (above_trans key_cmp key_total (λ k. k) book_head key keys (is_less _ above) later)))
+
+module _ (held base : List Operation) (file book : List ℕ) (named : book_in file ≡ Ok book) where
+  abbrev pieces : List PieceParts
+  pieces = pieces_of file
+
+  abbrev keys : List KeyParts
+  keys = changed_keys held base book pieces
+
+  joined : IsJoinOf book file
+  joined = books_are_joins book file (book_is_code file book named) (book_is_headed file book named)
+
+  piece : piece_of pieces book_head ≡ Some (record { key = book_head; start = 0; text = joined.head })
+  piece = head_has_piece file book joined
+
+  -- of a book that neither has, the head is changed
+  head_changed : has_book held book ≡ false → has_book base book ≡ false → is_changed held base book pieces book_head ≡ true
+  head_changed none nor = and_from _ _ due (ap not (and_right (is_none_left (seen_ids held base (segment book book_head))) _ unshown))
+    where
+      differs : same_bytes (picked_at base book book_head) (piece_at pieces book_head) ≡ false
+      differs =
+          (λ i. same_bytes (picked_text (greatest (last (none_shown base book book_head nor i)))) (piece_own_text (piece i)))
+          ∙ headed_differs book joined.head joined.head_fits.0
+
+      due : is_due base book pieces book_head ≡ true
+      due = or_left _ _ (ap not differs)
+
+      unshown : list_any (λ o. same_bytes (own_text o) (piece_at pieces book_head)) (shown held (segment book book_head)) ≡ false
+      unshown = ap (list_any (λ (o : Operation). same_bytes (own_text o) (piece_at pieces book_head)))
+          (none_shown held book book_head none)
+
+  -- so the edits begin the book, where what is held has the book if the base does
+  pub begun : (has_book base book ≡ true → has_book held book ≡ true) → begins held book keys ≡ true
+  begun also = by (has_book held book) refl
+    where
+      by : (b : Bool) → has_book held book ≡ b → begins held book keys ≡ true
+      by true e = begins_held held book keys e
+      by false e =
+          let nor : has_book base book ≡ false = false_from_ne_true _ (λ f. false≢true (sym e ∙ also f)) in
+          head_begins held book keys (changed_rise held base book pieces)
+          (there_kept (is_changed held base book pieces) book_head (walked_keys held book pieces) (head_changed e nor)
+          (walked held book pieces book_head (or_right _ _ (piece_there held book pieces book_head pieces (ap is_some piece)))))
+
+pub is_receiving_and_edits : IsReceivingAndEdits
+is_receiving_and_edits s base file book count state set named answered = (
+  (subst (λ (x : Step). IsTaken x.reply) (sym first) refl, subst (λ (x : Step). NoneRefused x.after later) (sym first) all.0),
+  ap (λ (x : Step). after_all x.after later) first ∙ all.1 ∙ ap (λ (x : SinceStep). x.after) (sym taken.is),
+)
+  where
+    t : State
+    t = with_ops s base
+
+    changed : List KeyParts
+    changed = changed_keys t.held base book (pieces_of file)
+
+    later : List Command
+    later = edits_over t.held base book (pieces_of file) changed
+
+    taken : Accepted s base file book count
+    taken = accepted s base file book count named answered
+
+    first : step s (Receive base) ≡ record { after = t; reply = Received (Ok (length (lacked s.held base))) }
+    first = ap (received s base) taken.none
+
+    all : NoneRefused t later
+        × (after_all t later ≡ with_ops t (changes_from (next_number t.held) t base book (pieces_of file) changed))
+    all =
+        run t base book (pieces_of file) changed t (next_number t.held) refl (rises-join s.held base state.set.rising) refl taken.room
+        (changed_rise t.held base book (pieces_of file))
+        (begun t.held base file book named
+        (any_received s.held base (λ g. same_bytes g.book book) state.set.rising set.rising taken.none))
+        (λ key. (fits_is_read book key _).1 (piece_fits book file key (book_is_code file book named) (book_is_headed file book named)))
+        (λ q h. refl)
