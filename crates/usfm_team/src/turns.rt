@@ -41,7 +41,7 @@ pub(crate) fn import(
     };
     match done {
         Ok(()) => Ok(()),
-        Err(fault) => Err(refusal_of(fault, files)),
+        Err(fault) => Err(refusal_of(told_of_base(fault), files)),
     }
 }
 
@@ -83,11 +83,11 @@ fn import_since(
         .iter()
         .map(|file| Command::ImportSince { file, base })
         .collect(rt.alloc())?;
-    change_in_turn(rt, project, &commands).map_err(told_of_base)
+    change_in_turn(rt, project, &commands)
 }
 
-// A refusal with what the base is refused for apart from the files. The first command judges the base, and only
-// bundles have these faults, so they are of no file.
+// A refusal with what the base is refused for apart from the files. The first command judges the base, and a book's file
+// has none of the faults of a bundle, so they are of no file.
 fn told_of_base(fault: TurnFault) -> TurnFault {
     match fault {
         TurnFault::Turn(_, fault) if is_of_bundle(&fault) => TurnFault::Project(fault),
