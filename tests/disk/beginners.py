@@ -2,7 +2,7 @@
 import subprocess
 from pathlib import Path
 
-from model.bundles import write_bundle, write_project
+from model.bundles import write_project
 from stage import SECONDS, Tally
 
 TIMES = 100

@@ -50,7 +50,7 @@ class Killing:
     def all(self) -> list[str]:
         """Kills one after the other, and says of each when it was: before, at or after the change."""
         # Some are to come after the change, also where most edits take longer than this one.
-        longest = self.whole_edit() * 1.5
+        longest = self.whole_edit() * 1.25
         return [self.kill(self.chance.uniform(0, longest)) for _ in range(KILLS // WRITERS)]
 
     def edit(self) -> tuple[list[str], bytes]:

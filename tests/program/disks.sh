@@ -4,13 +4,7 @@
 begin
 { printf '\\id MAT\n\\c 1\n\\v 1 '; head -c 4000 /dev/zero | tr '\0' a; } >long
 printf "$begun$b1" >p
-row='import on a full disk'
-(
-    trap '' XFSZ
-    ulimit -f 1
-    exec "$work/usfm_team" import p long >"$work/out" 2>"$work/err"
-) </dev/null
-status=$?
+run_on_full_disk import p long
 wants 1 '' 'fault 130\n'
 has p "$begun$b1"
 run import p long

@@ -10,13 +10,7 @@ printf "$first" >short
 } >long
 run import p short long
 mkdir t
-row='export into a full disk'
-(
-    trap '' XFSZ
-    ulimit -f 1
-    exec "$work/usfm_team" export p --into t >"$work/out" 2>"$work/err"
-) </dev/null
-status=$?
+run_on_full_disk export p --into t
 wants 1 '' 'fault 130\nin t/MRK.usfm\n'
 keeps t
 run sync p t
@@ -36,13 +30,7 @@ cp "$work/out" longs
 printf "$to" >t/MAT.usfm
 cp p was
 cp -r t before
-row='sync on a full disk'
-(
-    trap '' XFSZ
-    ulimit -f 1
-    exec "$work/usfm_team" sync p t longs >"$work/out" 2>"$work/err"
-) </dev/null
-status=$?
+run_on_full_disk sync p t longs
 wants 1 '' 'fault 130\nin t/MRK.usfm\n'
 cmp -s p was && diff -r t before
 told "$row: the project and the folder are as they were" $?
@@ -60,13 +48,7 @@ cp MAT MRK t
 mv t/MAT t/MAT.sfm
 mv t/MRK t/MRK.sfm
 printf "$begun$nothing" >p
-row='sync of a project without room'
-(
-    trap '' XFSZ
-    ulimit -f 1
-    exec "$work/usfm_team" sync p t >"$work/out" 2>"$work/err"
-) </dev/null
-status=$?
+run_on_full_disk sync p t
 wants 1 '' 'fault 130\n'
 has p "$begun$nothing"
 keeps t MAT.sfm MRK.sfm

@@ -20,6 +20,17 @@ run() { # WORDS..
     status=$?
 }
 
+# The same on a disk that is full for what is written beyond 1,024 bytes of a file.
+run_on_full_disk() { # WORDS..
+    row="on a full disk: $*"
+    (
+        trap '' XFSZ
+        ulimit -f 1
+        exec "$work/usfm_team" "$@" <"$work/input" >"$work/out" 2>"$work/err"
+    )
+    status=$?
+}
+
 # That the last row had this status and wrote this, in printf's form, on standard output and on standard
 # error.
 wants() { # STATUS OUTPUT ERROR

@@ -3,7 +3,7 @@ import errno
 import os
 import random
 import re
-import shutil
+import signal
 import subprocess
 import time
 from pathlib import Path
@@ -307,6 +307,8 @@ def kill(person: Person, bundle: Path, after: float) -> str:
     command = subprocess.Popen([person.program, "sync", "p", "texts", bundle], cwd=person.home, stdout=subprocess.DEVNULL)
     time.sleep(after)
     command.kill()
-    if command.wait() == 0:
+    status = command.wait()
+    person.tally.check(status in (0, -signal.SIGKILL), f"a sync that is killed has status {status}")
+    if status == 0:
         return TOO_LATE
     return BEFORE if project.read_bytes() == before else AFTER

@@ -1,48 +1,10 @@
 // The findings in small texts.
+use super::trees::SHEET;
 use segment_check::{Code, Finding, check};
 use std::alloc::{AllocError, Global};
 use std::process::Abort;
 use sty_sheet::{Sheet, SheetFault};
 use usfm_ref::{Key, Place};
-
-const SHEET: &str = "# sheet of the worked rows
-\\Marker id
-\\StyleType Paragraph
-\\Marker c
-\\StyleType Paragraph
-\\Marker v
-\\StyleType Character
-\\Marker p
-\\StyleType Paragraph
-\\TextType VerseText
-\\Marker add
-\\Endmarker add*
-\\OccursUnder p NEST
-\\StyleType Character
-\\Marker nd
-\\Endmarker nd*
-\\OccursUnder p NEST
-\\StyleType Character
-\\Marker wj
-\\Endmarker wj*
-\\OccursUnder p NEST
-\\StyleType Character
-\\Marker w
-\\Endmarker w*
-\\OccursUnder p NEST
-\\StyleType Character
-\\Marker f
-\\Endmarker f*
-\\OccursUnder p
-\\StyleType Note
-\\Marker ft
-\\Endmarker ft*
-\\OccursUnder f
-\\StyleType Character
-\\Marker qt-s
-\\Endmarker qt-e
-\\StyleType Milestone
-";
 
 const HEAD: Key = Key {
     chapter: 0,

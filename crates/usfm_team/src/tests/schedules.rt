@@ -1,5 +1,5 @@
 // Schedules of three projects: lost, late, repeated and cut bundles, deltas for old summaries, and thinnings.
-use super::vectors::{B1, Y, Z};
+use super::vectors::{B1, FIRST, Y, Z};
 use super::worlds::Event::{
     Edit, Export, Hold, Import, Over, Pack, PackLacked, Report, Same, Sum, Take, TakeCut, Thin,
 };
@@ -10,8 +10,6 @@ use std::process::Abort;
 use std::test::Fail;
 use usfm_cli::Command;
 use usfm_ref::Book;
-
-const FIRST: &[u8] = b"\\id MAT\n\\c 1\n\\v 1 In\n";
 
 // Cy hears of an edit before what it replaces.
 const HEARD_LATE: &[Row<'static>] = &[
