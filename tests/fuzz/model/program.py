@@ -128,13 +128,15 @@ def take_in(folder: Folder, command: str, project: str, names: Sequence[str], ba
     """Takes in files one after another, and answers what each of them writes. Where one is refused, none is taken in."""
     before = read_file(folder, project)
     contents = [of_file(names, name, read_file, folder, name) for name in names]
-    bundle = [read_file(folder, base)] if base is not None else []
+    bundle = None if base is None else read_file(folder, base)
     replica = load(before)
-    imports = replica.import_since if bundle else replica.import_book
-    call = imports if command == "import" else replica.receive
-    output = b"".join(of_file(names, name, call, content, *bundle) for name, content in zip(names, contents))
+    if bundle is None:
+        call = replica.import_book if command == "import" else replica.receive
+        taken = [of_file(names, name, call, content) for name, content in zip(names, contents)]
+    else:
+        taken = [of_file_since(names, name, replica, content, bundle) for name, content in zip(names, contents)]
     folder[project] = save(replica)
-    return output
+    return b"".join(taken)
 
 
 def sync(folder: Folder, project: str, place: str, names: Sequence[str], notes: list[bytes]) -> bytes:
@@ -174,6 +176,16 @@ def of_file(names: Sequence[str], name: str, call: Callable[..., bytes], *given:
         return call(*given)
     except Fault as fault:
         fault.file = name if len(names) > 1 else None
+        raise
+
+
+def of_file_since(names: Sequence[str], name: str, replica: Replica, content: bytes, bundle: bytes) -> bytes:
+    """What an import of a file since a bundle gives. What the bundle is refused for is of none of the files."""
+    try:
+        return of_file(names, name, replica.import_since, content, bundle)
+    except Fault as fault:
+        if fault.number == 51 or 60 <= fault.number <= 70:
+            fault.file = None
         raise
 
 
