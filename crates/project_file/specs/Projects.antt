@@ -1,5 +1,5 @@
 -- Project files: a replica as bytes, its name in front of the bundle of what it holds (this project's own format).
-use Rattle.std.specs.Prelude.{ℕ, nat_eq, nat_le, ◌&&◌, List, [], ◌∷◌, ◌++◌, length, take, drop, codes, Option, Some, None, option_and_then, Result, Ok, Err, if◌then◌else◌}
+use Rattle.std.specs.Prelude.{◌≡◌, ℕ, nat_eq, nat_le, ◌&&◌, List, [], ◌∷◌, ◌++◌, length, take, drop, codes, Option, Some, None, option_and_then, Result, Ok, Err, if◌then◌else◌}
 use Rattle.std.specs.List.{starts_with}
 use Rattle.op_core.specs.Names.{is_name}
 use Rattle.op_core.specs.Ops.{Operation}
@@ -7,7 +7,7 @@ use Rattle.bundle_codec.specs.declared.fault.WholeFault.{WholeFault}
 use Rattle.bundle_codec.specs.Spelling.{bundle}
 use Rattle.bundle_codec.specs.Joining.{whole_at}
 use Rattle.replica_state.specs.OneBook.{of_one_book}
-use Rattle.replica_state.specs.States.{State}
+use Rattle.replica_state.specs.States.{State, IsState}
 use Rattle.project_file.specs.declared.fault.LoadFault.{LoadFault}
 use Rattle.project_file.specs.declared.fault.LoadFault.TheVariants.{BadProject, Bundle}
 
@@ -18,6 +18,11 @@ magic = codes "USFMPJ1" ++ 10 ∷ []
 -- the project file of a replica: the magic, the name's length in one byte, the name, and the bundle of what is held
 unfoldable pub project : State → List ℕ
 project s = magic ++ (length s.name ∷ (s.name ++ bundle s.held))
+
+-- a replica, and bytes that are the bundle of what it holds
+pub record IsJudged (s : State) (bytes : List ℕ) : Type 0 where
+  pub valid : IsState s
+  pub spelled : bytes ≡ bundle s.held
 
 -- ---- reading, from left to right
 

@@ -107,19 +107,30 @@ pub fn load_book(alloc: Global, bytes: &[u8], book: Book) -> Result<Replica, Loa
 pub struct Project<'a> {
     name: ReplicaName,
     bundle: Bundle<'a>,
+    // What spells the bundle.
+    bytes: &'a [u8],
 }
 
 impl<'a> Model for Project<'a> {
-    ghost use Rattle.replica_state.specs.States.{State, IsState};
+    ghost use Rattle.replica_state.specs.States.{State};
+    ghost use Rattle.project_file.specs.Projects.{IsJudged};
 
     ghost Value = { State };
 
     ghost view = { λ p. record { name = p.name; held = p.bundle } };
 
-    ghost invariant = { λ p. IsState (record { name = p.name; held = p.bundle }) };
+    ghost invariant = { λ p. IsJudged (record { name = p.name; held = p.bundle }) p.bytes.now };
 }
 
-impl Project<'_> {
+impl<'a> Project<'a> {
+    /// The bundle of all operations that the replica holds, as `Replica::bundle` writes it. It is lent from
+    /// the bytes of the file, of which it is all that follows the name.
+    pub fn bundle(&self) -> &'a [u8]
+        ensures { result.now ≡ spelled.bundle self.now.held }
+    {
+        self.bytes
+    }
+
     /// The project file of the replica after it took in the operations of a bundle, and how many of them
     /// are new, as `Replica::receive` says it. Each operation is copied with the bytes that spell it, out
     /// of one or the other; no replica is made.
@@ -186,7 +197,11 @@ pub fn judge(alloc: Global, bytes: &[u8]) -> Result<Project<'_>, LoadFault>
     };
     let (name, rest) = front;
     let bundle = decode_whole(alloc, rest)?;
-    Ok(Project { name, bundle })
+    Ok(Project {
+        name,
+        bundle,
+        bytes: rest,
+    })
 }
 
 /// The project file of a replica. There is one for each replica.

@@ -131,6 +131,16 @@ fn clash_on_the_bytes(rt: HostRuntime) -> Result<(), Fail> {
 }
 
 #[test]
+fn bundle_in_the_bytes(rt: HostRuntime) -> Result<(), Fail> {
+    let alloc = rt.alloc();
+    for held in [&B1[..], &V2, &ANA[12..]] {
+        let file = joined(alloc, &ANA[..12], held)?;
+        assert_eq!(rt; judge(alloc, &file)?.bundle(), held);
+    }
+    Ok(())
+}
+
+#[test]
 fn delta_on_the_bytes(rt: HostRuntime) -> Result<(), Fail> {
     let alloc = rt.alloc();
     let summary = Summary::read(alloc, &FIRST)?;

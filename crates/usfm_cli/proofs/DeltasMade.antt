@@ -1,5 +1,5 @@
--- Writing a delta out of the bytes of a project's file.
-use Rattle.std.proofs.Common.{Bor, ◌≡◌, ◌≢◌, ℕ, List, Option, Some, None, Result, Ok, Err, IfOk, refl, sym, ◌∙◌}
+-- Writing a delta, or all operations, out of the bytes of a project's file.
+use Rattle.std.proofs.Common.{Bor, ◌≡◌, ◌≢◌, ℕ, List, Option, Some, None, Result, Ok, Err, IfOk, refl, sym, ap, ◌∙◌}
 use Rattle.bundle_codec.specs.declared.fault.SummaryFault.{SummaryFault}
 use Rattle.bundle_codec.specs.declared.fault.SummaryFault.TheVariants as summing
 use Rattle.bundle_codec.specs.Spelling.{bundle}
@@ -8,10 +8,11 @@ use Rattle.bundle_codec.specs.SummaryReading.{read_summary, ReadFails}
 use Rattle.replica_state.specs.States.{State}
 use Rattle.project_file.specs.declared.fault.LoadFault.{LoadFault}
 use Rattle.project_file.specs.Projects.{project, project_at}
-use Rattle.usfm_cli.specs.Commands.{done_if, no_fault, MayWantMemory}
+use Rattle.usfm_cli.specs.Commands.{done_if, outcome, no_fault, MayWantMemory}
 use Rattle.usfm_cli.specs.Faults.{of_summary}
-use Rattle.usfm_cli.specs.Projects.{of_loaded, delta_done, delta_made, state_or}
-use Rattle.usfm_cli.specs.declared.command.Command.TheVariants.{Delta}
+use Rattle.usfm_cli.specs.Projects.{Written, of_loaded, executed, delta_done, delta_made, state_or}
+use Rattle.usfm_cli.specs.declared.command.Command.{Command}
+use Rattle.usfm_cli.specs.declared.command.Command.TheVariants.{Send, Delta}
 use Rattle.usfm_cli.specs.declared.fault.Fault.{Fault}
 use Rattle.usfm_cli.specs.declared.fault.Fault.TheVariants.{Memory}
 
@@ -26,10 +27,23 @@ pub stays : (s : State) (written : Result (List ℕ) Fault) → state_or s (done
 stays s (Ok output) = refl
 stays s (Err fault) = refl
 
+-- so does a command whose answer gives the file back
+pub file_stays : (file : List ℕ) (command : Command) → ((s : State) → state_or s (outcome s command) ≡ s) → (answer : Result Written Fault)
+    → IfOk answer (λ made. made.project ≡ file)
+    → IfOk answer (λ made. (s : State) → project_at file ≡ Ok s → project_at made.project ≡ Ok (state_or s (outcome s command)))
+file_stays file command keeps (Ok made) same = λ s loads. ap project_at same ∙ loads ∙ ap Ok (sym (keeps s))
+file_stays file command keeps (Err fault) same = tt
+
 -- what holds of an answer holds of it under a condition
 pub if_so : {A E : Type 0} (X : Type 0) (P : A → Type 0) (answer : Result A E) → IfOk answer P → IfOk answer (λ made. X → P made)
 if_so X P (Ok made) h = λ x. h
 if_so X P (Err fault) h = tt
+
+pub makes_bundle : (file : List ℕ) (s : State) (made output : List ℕ) → project_at file ≡ Ok s → made ≡ file → file ≡ project s
+    → output ≡ bundle s.held → executed file Send ≡ Ok (record { project = made; output = output })
+makes_bundle file s made output loads same spelled e =
+    ap (λ (read : Result State LoadFault). of_loaded read Send) loads
+    ∙ (λ i. Ok (record { project = sym (same ∙ spelled) i; output = sym e i }))
 
 module _ (file bytes : List ℕ) (s : State) (loads : project_at file ≡ Ok s) where
   pub makes_delta : (known : List NameRanges) (made output : List ℕ) → read_summary bytes ≡ Some known → made ≡ file → file ≡ project s

@@ -111,25 +111,25 @@ sees_all (Check book sheet) s e = cc e
 sees_all (Find book sheet needle) s e = cc e
 sees_all (Words book sheet) s e = cc e
 
--- a command that is no receive and no delta does not go by the bytes
+-- a command that is no receive, no send and no delta does not go by the bytes
 pub copies : (command : Command) → ((bytes : Bor (List ℕ)) → command ≢ Receive bytes)
-    → ((summary : Bor (List ℕ)) → command ≢ Delta summary) → goes_by_bytes command ≡ false
-copies (Import file) r d = refl
-copies (ImportSince file base) r d = refl
-copies (ImportNew file) r d = refl
-copies (Edit book key text) r d = refl
-copies (EditOver book key text ids) r d = refl
-copies (Receive bytes) r d = absurd (r bytes refl)
-copies Thin r d = refl
-copies (Shown book key) r d = refl
-copies Send r d = refl
-copies (Export book) r d = refl
-copies Summary r d = refl
-copies (Delta summary) r d = absurd (d summary refl)
-copies Report r d = refl
-copies (Check book sheet) r d = refl
-copies (Find book sheet needle) r d = refl
-copies (Words book sheet) r d = refl
+    → command ≢ Send → ((summary : Bor (List ℕ)) → command ≢ Delta summary) → goes_by_bytes command ≡ false
+copies (Import file) r s d = refl
+copies (ImportSince file base) r s d = refl
+copies (ImportNew file) r s d = refl
+copies (Edit book key text) r s d = refl
+copies (EditOver book key text ids) r s d = refl
+copies (Receive bytes) r s d = absurd (r bytes refl)
+copies Thin r s d = refl
+copies (Shown book key) r s d = refl
+copies Send r s d = absurd (s refl)
+copies (Export book) r s d = refl
+copies Summary r s d = refl
+copies (Delta summary) r s d = absurd (d summary refl)
+copies Report r s d = refl
+copies (Check book sheet) r s d = refl
+copies (Find book sheet needle) r s d = refl
+copies (Words book sheet) r s d = refl
 
 refused_if : (r : Result Done Fault) (fault : Fault) → told_of r ≡ Err fault → r ≡ Err fault
 refused_if (Ok d) fault e = cc e

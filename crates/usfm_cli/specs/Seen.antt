@@ -1,5 +1,5 @@
 -- What a command sees of a project (this project's own rule): of one book what it holds, or all.
-use Rattle.std.specs.Prelude.{◌≡◌, ℕ, Bool, true, false, not, ◌&&◌, List, [], Option, None, Some, Ok, IsTrue}
+use Rattle.std.specs.Prelude.{◌≡◌, ℕ, Bool, true, false, List, [], Option, None, Some, Ok, IsTrue}
 use Rattle.op_core.specs.Thinned.{all_full}
 use Rattle.replica_state.specs.OneBook.{of_one_book}
 use Rattle.replica_state.specs.States.{State}
@@ -44,7 +44,7 @@ goes_by_bytes (EditOver book key text ids) = false
 goes_by_bytes (Receive bytes) = true
 goes_by_bytes Thin = false
 goes_by_bytes (Shown book key) = false
-goes_by_bytes Send = false
+goes_by_bytes Send = true
 goes_by_bytes (Export book) = false
 goes_by_bytes Summary = false
 goes_by_bytes (Delta summary) = true

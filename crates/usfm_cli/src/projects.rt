@@ -58,8 +58,8 @@ impl Outcome {
 /// Does a command on a project, given as the bytes of its file: reads the project, does the command's
 /// step, and answers the file of the project after it and what the command writes. A command that
 /// only reports gives the project's bytes back as they are. All of the file is judged; of what it
-/// holds, a command that looks at one book copies what is of that book, and a receive or a delta
-/// nothing but the bytes that it writes.
+/// holds, a command that looks at one book copies what is of that book, and a receive, a send or a
+/// delta nothing but the bytes that it writes.
 ///
 /// # Errors
 /// First those of the project: `BadProject` (110) where the bytes do not begin as a project does, and
@@ -106,6 +106,7 @@ pub fn exec(alloc: Global, project: &[u8], command: &Command<'_>) -> Result<Outc
 {
     match *command {
         Command::Receive(bytes) => return receive_into(alloc, project, bytes),
+        Command::Send => return send_of(alloc, project),
         Command::Delta(summary) => return delta_of(alloc, project, summary),
         _ => {}
     }
@@ -140,6 +141,23 @@ fn receive_into(alloc: Global, project: &[u8], bytes: &[u8]) -> Result<Outcome, 
     let bundle = decode_whole(alloc, bytes)?;
     let (project, new) = given.receive(alloc, &bundle)?;
     let output = count_line(alloc, "new", new)?;
+    Ok(Outcome {
+        project,
+        output,
+        replica: None,
+    })
+}
+
+// Copies the bundle of all operations out of the bytes of a project's file, which is judged. The file stays
+// as it is.
+fn send_of(alloc: Global, project: &[u8]) -> Result<Outcome, Fault>
+    ensures answer { result ≢ Err Fault.Memory → executed project.now Command.Send ≡ result }
+    ensures no_project { IfErr (project_at project.now) (λ fault.
+        RefusesFile project.now (of_loading fault) result) }
+    ensures unchanged { IfOk result (λ made. made.project ≡ project.now) }
+{
+    let output = judge(alloc, project)?.bundle().to_vec(alloc)?;
+    let project = project.to_vec(alloc)?;
     Ok(Outcome {
         project,
         output,

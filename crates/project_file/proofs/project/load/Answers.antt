@@ -30,24 +30,24 @@ unreachable-requires c =
 
 pub returns-in-Ok-clause-loaded : goal.returns-in-Ok-clause-loaded
 returns-in-Ok-clause-loaded c =
-    let is = held_is c.project.inside.name c.project.inside.bundle c.receive.new.self c.new-replica.result c.project.invariant.set
+    let is = held_is c.project.inside.name c.project.inside.bundle c.receive.new.self c.new-replica.result c.project.invariant.valid.set
     c.in-Ok.ensures.ok c.new-replica.ensures ∙ c.project.view_is in
     c.in_ok-project.ensures.read ∙ ap Ok (sym is)
 
 pub returns-in-Ok-clause-valid : goal.returns-in-Ok-clause-valid
 returns-in-Ok-clause-valid c =
-    let is = held_is c.project.inside.name c.project.inside.bundle c.receive.new.self c.new-replica.result c.project.invariant.set
+    let is = held_is c.project.inside.name c.project.inside.bundle c.receive.new.self c.new-replica.result c.project.invariant.valid.set
     c.in-Ok.ensures.ok c.new-replica.ensures ∙ c.project.view_is in
     subst IsState (sym is) c.in_ok-project.ensures.valid
 
 pub returns-in-Ok-clause-spelled : goal.returns-in-Ok-clause-spelled
 returns-in-Ok-clause-spelled c =
-    let is = held_is c.project.inside.name c.project.inside.bundle c.receive.new.self c.new-replica.result c.project.invariant.set
+    let is = held_is c.project.inside.name c.project.inside.bundle c.receive.new.self c.new-replica.result c.project.invariant.valid.set
     c.in-Ok.ensures.ok c.new-replica.ensures ∙ c.project.view_is in
     c.in_ok-project.ensures.spelled ∙ ap project (sym is)
 
 pub returns-in-Ok-clause-only : goal.returns-in-Ok-clause-only
 returns-in-Ok-clause-only c = λ s valid is.
-    let held = held_is c.project.inside.name c.project.inside.bundle c.receive.new.self c.new-replica.result c.project.invariant.set
+    let held = held_is c.project.inside.name c.project.inside.bundle c.receive.new.self c.new-replica.result c.project.invariant.valid.set
     c.in-Ok.ensures.ok c.new-replica.ensures ∙ c.project.view_is in
     same_replica c.args.bytes.now c.receive.new.self s (omega arith) (c.in_ok-project.ensures.read ∙ ap Ok (sym held)) valid is

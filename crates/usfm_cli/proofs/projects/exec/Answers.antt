@@ -1,12 +1,11 @@
-use Rattle.std.proofs.Common.{◌≡◌, Global, Result, Ok, Err, IfOk, IsTrue, subst, sym, ap, ◌∙◌, arith, rules}
+use Rattle.std.proofs.Common.{◌≡◌, Global, Ok, Err, IfOk, IsTrue, subst, sym, ap, ◌∙◌, arith, rules}
 use Rattle.std.proofs.lemmas.Result.{err_from_is_err_and}
 use Rattle.project_file.specs.Projects.{project, project_at}
 use Rattle.replica_state.specs.States.{State}
 use Rattle.usfm_cli.specs.Commands.{is_late, only_tells, outcome, MayWantMemory}
 use Rattle.usfm_cli.specs.Projects.{Written, executed, state_or}
 use Rattle.usfm_cli.specs.declared.command.Command.{Command}
-use Rattle.usfm_cli.specs.declared.fault.Fault.{Fault}
-use Rattle.usfm_cli.proofs.DeltasMade.{delta_is, stays, if_so}
+use Rattle.usfm_cli.proofs.DeltasMade.{delta_is, stays, file_stays, if_so}
 use Rattle.usfm_cli.proofs.Received.{received_is}
 use Rattle.usfm_cli.proofs.Loading.{loads_or_wants, refused_wants, refused_for}
 use Rattle.usfm_cli.proofs.Seen.{copies, refused_all, seen_wants, told_all, changed_all, told_state, changed_state}
@@ -28,6 +27,23 @@ returns-in-Receive-clause-after c =
     subst (λ (k : Command). IfOk c.receive_into.result (λ made. (s : State) → project_at c.args.project.now ≡ Ok s
     → project_at made.project ≡ Ok (state_or s (outcome s k)))) (sym c.in-Receive.is) c.receive_into.ensures.after
 
+pub returns-in-Send-clause-answer : goal.returns-in-Send-clause-answer
+returns-in-Send-clause-answer c = λ e. ap (executed c.args.project.now) c.in-Send.is ∙ c.send_of.ensures.answer e
+
+pub returns-in-Send-clause-memory : goal.returns-in-Send-clause-memory
+returns-in-Send-clause-memory c = λ e s loads place.
+    subst (λ (k : Command). MayWantMemory (is_late k) (outcome s k)) (sym c.in-Send.is) tt
+
+pub returns-in-Send-clause-unchanged : goal.returns-in-Send-clause-unchanged
+returns-in-Send-clause-unchanged c =
+    if_so (IsTrue (only_tells c.args.command.now)) (λ (made : Written). made.project ≡ c.args.project.now) c.send_of.result
+    c.send_of.ensures.unchanged
+
+pub returns-in-Send-clause-after : goal.returns-in-Send-clause-after
+returns-in-Send-clause-after c =
+    file_stays c.args.project.now c.args.command.now (λ s. ap (λ (k : Command). state_or s (outcome s k)) c.in-Send.is)
+    c.send_of.result c.send_of.ensures.unchanged
+
 pub returns-in-Delta-clause-answer : goal.returns-in-Delta-clause-answer
 returns-in-Delta-clause-answer c = λ e.
     ap (executed c.args.project.now) c.in-Delta.is ∙ delta_is (project_at c.args.project.now) c.in-Delta.summary
@@ -43,20 +59,14 @@ returns-in-Delta-clause-unchanged c =
     c.delta_of.ensures.unchanged
 
 pub returns-in-Delta-clause-after : goal.returns-in-Delta-clause-after
-returns-in-Delta-clause-after c = by c.delta_of.result c.delta_of.ensures.unchanged
-  where
-    state : (s : State) → state_or s (outcome s c.args.command.now) ≡ s
-    state s = ap (λ (k : Command). state_or s (outcome s k)) c.in-Delta.is ∙ stays s _
-
-    by : (answer : Result Written Fault) → IfOk answer (λ made. made.project ≡ c.args.project.now)
-        → IfOk answer (λ made. (s : State) → project_at c.args.project.now ≡ Ok s
-        → project_at made.project ≡ Ok (state_or s (outcome s c.args.command.now)))
-    by (Ok made) same = λ s loads. ap project_at same ∙ loads ∙ ap Ok (sym (state s))
-    by (Err fault) same = tt
+returns-in-Delta-clause-after c =
+    file_stays c.args.project.now c.args.command.now
+    (λ s. ap (λ (k : Command). state_or s (outcome s k)) c.in-Delta.is ∙ stays s _) c.delta_of.result c.delta_of.ensures.unchanged
 
 pub returns-in_err-replica-clause-memory : goal.returns-in_err-replica-clause-memory
 returns-in_err-replica-clause-memory c = λ e s loads place.
-    let none = place.nothing_copied (copies c.args.command.now c.in_default.not-Receive c.in_default.not-Delta) in
+    let none = place.nothing_copied
+    (copies c.args.command.now c.in_default.not-Receive c.in_default.not-Send c.in_default.not-Delta) in
     absurd (loads_or_wants c.args.project.now s c.in_err-replica.field-0.0 loads c.in_err-replica.ensures.refused
     (λ m. c.in_err-replica.ensures.nothing_seen s loads place.full none (ap Err m)))
 

@@ -11,7 +11,7 @@ use Rattle.project_file.proofs.project.Project.receive.Goals as goal
 
 pub overflow_sub-result : goal.overflow_sub-result
 overflow_sub-result c =
-    let more = union_length c.self.inside.bundle c.args.bundle.now c.self.invariant.set.rising c.ops.ensures.set.rising
+    let more = union_length c.self.inside.bundle c.args.bundle.now c.self.invariant.valid.set.rising c.ops.ensures.set.rising
     c.in_ok-file.ensures.agrees in
     omega (arith, more, c.in_ok-file.ensures.count, c.len.ensures)
 
@@ -25,7 +25,7 @@ returns-clause-spelled c =
 pub returns-clause-again : goal.returns-clause-again
 returns-clause-again c =
     let was : State = record { name = c.self.inside.name; held = c.self.inside.bundle } in
-    let valid = state_after was c.args.bundle.now c.self.invariant c.in_ok-file.ensures.set c.in_ok-file.ensures.legal in
+    let valid = state_after was c.args.bundle.now c.self.invariant.valid c.in_ok-file.ensures.set c.in_ok-file.ensures.legal in
     read_again c.in_ok-file.file.items (with_ops c.args.self.now c.args.bundle.now)
     (omega (arith, c.in_ok-file.file.ok.0, c.in_ok-file.file.small))
     (subst (λ (t : State). IsState (with_ops t c.args.bundle.now)) c.self.view_is valid)
@@ -33,7 +33,7 @@ returns-clause-again c =
 
 pub returns-clause-new : goal.returns-clause-new
 returns-clause-new c =
-    let more = union_length c.self.inside.bundle c.args.bundle.now c.self.invariant.set.rising c.ops.ensures.set.rising
+    let more = union_length c.self.inside.bundle c.args.bundle.now c.self.invariant.valid.set.rising c.ops.ensures.set.rising
     c.in_ok-file.ensures.agrees in
     let new : c.in_ok-file.count - c.len.result ≡ length (lacked c.self.inside.bundle c.args.bundle.now) =
     omega (arith, more, c.in_ok-file.ensures.count, c.len.ensures) in
