@@ -106,31 +106,33 @@ fn books_stand_after_commands(rt: HostRuntime) -> Result<(), Fail> {
     Ok(())
 }
 
+// What a file of Matthew was written from.
+fn from<'a>(
+    alloc: Global,
+    file: &[u8],
+    base: Option<&'a [u8]>,
+    newer: Option<&'a [u8]>,
+    is_unplaced: bool,
+) -> Result<Option<&'a [u8]>, Fault> {
+    written_from(alloc, Book::read("MAT")?, file, base, newer, is_unplaced)
+}
+
 #[test]
 fn what_a_file_was_written_from(rt: HostRuntime) -> Result<(), Fail> {
     let alloc = rt.alloc();
-    let book = Book::read("MAT")?;
     let stands = project_standing(alloc, &project_of(alloc, &[B1, Y])?)?;
     let [after] = stands.books() else {
         return Err(Fail::from(Fault::NoBook));
     };
-    let newer = after.base();
-    let from = |file, base, newer, is_unplaced| written_from(
-        alloc,
-        book,
-        file,
-        base,
-        newer,
-        is_unplaced,
-    );
+    let newer = Some(after.base());
     for base in [None, Some(B1)] {
-        assert!(rt; from(OTHER, base, None, false)? == base);
-        assert!(rt; from(AFTER, base, Some(newer), false)? == Some(newer));
-        assert!(rt; from(OTHER, base, Some(newer), true)? == base);
-        assert!(rt; from(OTHER, base, Some(newer), false).err() == Some(Fault::FileChanged));
+        assert!(rt; from(alloc, OTHER, base, None, false)? == base);
+        assert!(rt; from(alloc, AFTER, base, newer, false)? == newer);
+        assert!(rt; from(alloc, OTHER, base, newer, true)? == base);
+        assert!(rt; from(alloc, OTHER, base, newer, false).err() == Some(Fault::FileChanged));
     }
-    assert!(rt; from(FIRST, Some(B1), Some(newer), false)? == Some(B1));
-    assert!(rt; from(FIRST, None, Some(newer), false).err() == Some(Fault::FileChanged));
+    assert!(rt; from(alloc, FIRST, Some(B1), newer, false)? == Some(B1));
+    assert!(rt; from(alloc, FIRST, None, newer, false).err() == Some(Fault::FileChanged));
     Ok(())
 }
 

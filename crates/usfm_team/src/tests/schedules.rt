@@ -231,6 +231,20 @@ fn happens_there(
     Ok(answer)
 }
 
+// That two worlds answer a command alike, after an event.
+fn tells_the_same(
+    rt: &impl Abort,
+    one: &mut World,
+    other: &mut World,
+    (who, at): (Who, usize),
+    command: &Command<'_>,
+) -> Result<(), Fail> {
+    let here = one.told(who, command)?;
+    let there = other.told(who, command)?;
+    assert!(rt; here.as_slice() == there.as_slice(), "event {at}");
+    Ok(())
+}
+
 // That a project reads the same in two worlds: its export, its report and its summary.
 fn reads_the_same(
     rt: &impl Abort,
@@ -239,16 +253,10 @@ fn reads_the_same(
     who: Who,
     at: usize,
 ) -> Result<(), Fail> {
-    for command in [
-        Command::Export(Book::read("MAT")?),
-        Command::Report,
-        Command::Summary,
-    ] {
-        let here = one.told(who, &command)?;
-        let there = other.told(who, &command)?;
-        assert!(rt; here.as_slice() == there.as_slice(), "event {at}");
-    }
-    Ok(())
+    let export = Command::Export(Book::read("MAT")?);
+    tells_the_same(rt, one, other, (who, at), &export)?;
+    tells_the_same(rt, one, other, (who, at), &Command::Report)?;
+    tells_the_same(rt, one, other, (who, at), &Command::Summary)
 }
 
 // That all have the last book in the end, and nothing to report.

@@ -2,9 +2,11 @@
 use super::vectors::{AFTER, B1, CLASHING, Y};
 use bundle_codec::join_bundles;
 use op_core::OpId;
+use std::alloc::Global;
+use std::process::Abort;
 use std::test::Fail;
 use usfm_cli::{Command, Fault, TurnFault, create, exec, exec_each, exec_in_turn};
-use usfm_ref::{Book, read_ref};
+use usfm_ref::{Book, Key, read_ref};
 
 #[test]
 fn commands_one_after_another(rt: HostRuntime) -> Result<(), Fail> {
@@ -54,42 +56,49 @@ fn commands_in_turn(rt: HostRuntime) -> Result<(), Fail> {
     Ok(())
 }
 
+// That the command at a place is refused, and with it all of them; and that bytes that are no project are.
+fn assert_refused(
+    rt: &impl Abort,
+    alloc: Global,
+    begun: &[u8],
+    commands: &[Command<'_>],
+    (at, fault): (usize, Fault),
+) {
+    let answer = exec_in_turn(alloc, begun, commands);
+    assert!(rt; answer.err() == Some(TurnFault::Turn(at, fault)), "{at}");
+    let answer = exec_in_turn(alloc, B1, commands);
+    assert!(rt; answer.err() == Some(TurnFault::Project(Fault::BadProject)));
+}
+
+// An edit whose text is another verse's.
+fn misplaced<'a>(book: Book, key: Key) -> Command<'a> {
+    Command::Edit {
+        book,
+        key,
+        text: b"\\v 2 b",
+    }
+}
+
 // The first that is refused refuses all, by what those before it made; a project that is none has no turn.
 #[test]
 fn refused_in_turn(rt: HostRuntime) -> Result<(), Fail> {
     let alloc = rt.alloc();
     let (book, key) = read_ref("MAT 1:1")?;
-    let text = b"\\v 2 b".as_slice();
-    let late = Command::Edit { book, key, text };
     let begun = create(alloc, "ana")?;
     let clash = Fault::Clash(OpId::read("2:ana")?);
-    let rows = [
-        (
-            [Command::Receive(B1), late, Command::Import(b"\xff")],
-            1,
-            Fault::BadSegment,
-        ),
-        ([late, Command::Receive(B1), late], 0, Fault::BadSegment),
-        (
-            [
-                Command::Receive(B1),
-                Command::Thin,
-                Command::Receive(CLASHING),
-            ],
-            2,
-            clash,
-        ),
-        (
-            [Command::Receive(CLASHING), Command::Receive(B1), late],
-            1,
-            clash,
-        ),
+    let late = misplaced(book, key);
+    let commands = [Command::Receive(B1), late, Command::Import(b"\xff")];
+    assert_refused(&rt, alloc, &begun, &commands, (1, Fault::BadSegment));
+    let commands = [misplaced(book, key), Command::Receive(B1)];
+    assert_refused(&rt, alloc, &begun, &commands, (0, Fault::BadSegment));
+    let commands = [
+        Command::Receive(B1),
+        Command::Thin,
+        Command::Receive(CLASHING),
     ];
-    for (commands, at, fault) in rows {
-        let answer = exec_in_turn(alloc, &begun, &commands);
-        assert!(rt; answer.err() == Some(TurnFault::Turn(at, fault)), "{at}");
-        let answer = exec_in_turn(alloc, B1, &commands);
-        assert!(rt; answer.err() == Some(TurnFault::Project(Fault::BadProject)));
-    }
+    assert_refused(&rt, alloc, &begun, &commands, (2, clash));
+    let late = misplaced(book, key);
+    let commands = [Command::Receive(CLASHING), Command::Receive(B1), late];
+    assert_refused(&rt, alloc, &begun, &commands, (1, clash));
     Ok(())
 }

@@ -108,12 +108,11 @@ impl World {
 
     fn takes(&mut self, who: Who, place: usize, most: usize) -> Result<Vec<u8>, Fail> {
         let bundle = self.bundle(place)?;
-        let front = if most < bundle.len() {
-            &bundle[..most]
-        } else {
-            bundle.as_slice()
-        };
-        self.told(who, &Command::Receive(front))
+        self.receives(who, bundle.get(..most).unwrap_or(&bundle))
+    }
+
+    fn receives(&mut self, who: Who, bytes: &[u8]) -> Result<Vec<u8>, Fail> {
+        self.told(who, &Command::Receive(bytes))
     }
 
     // What an event writes.
@@ -131,7 +130,7 @@ impl World {
             }
             Event::Over(at, text, words) => self.edit_over(who, at, text, words),
             Event::Thin => self.told(who, &Command::Thin),
-            Event::Hold(bytes) => self.told(who, &Command::Receive(bytes)),
+            Event::Hold(bytes) => self.receives(who, bytes),
             Event::Sum => {
                 let summary = self.told(who, &Command::Summary)?;
                 self.summaries.push(summary)?;
