@@ -1,5 +1,6 @@
 // Worlds: three projects that edit, thin and exchange what a table says, event by event.
 use super::player::Player;
+use op_core::OpId;
 use std::alloc::Global;
 use std::process::Abort;
 use std::test::Fail;
@@ -51,6 +52,8 @@ pub(crate) struct World {
     cy: Player,
     bundles: Vec<Vec<u8>>,
     summaries: Vec<Vec<u8>>,
+    // None: it is here for its type, as in `Player`.
+    ids: Vec<OpId>,
 }
 
 impl World {
@@ -62,6 +65,7 @@ impl World {
             cy: Player::new(alloc, "cy")?,
             bundles: Vec::new(alloc),
             summaries: Vec::new(alloc),
+            ids: Vec::new(alloc),
         })
     }
 
