@@ -9,10 +9,8 @@ plain=$work/plain
 # A generated book of a kind, prose or marks, of this many bytes.
 make_text() { awk -v kind="$1" -v size="$2" -f "$top/bench/book.awk"; }
 
-# Builds the plain program for the processor that Rattle builds for. The words after go to rustc.
-build_plain() {
-    rustc -C opt-level=3 -C target-cpu=x86-64-v2 -C codegen-units=1 "$@" -o "$plain" "$here/plain.rs"
-}
+# Builds the plain program.
+build_plain() { "$top/bench/build_plain.sh" "$here/plain.rs" "$plain"; }
 
 # Proves and builds the proved program over a copy of crates of the repository, and runs it once: the name of its
 # crate, those crates, the crates that it names, and the words to run it with.

@@ -4,6 +4,8 @@ import shutil
 import subprocess
 import sys
 
+from programs import plain_program
+
 HERE = os.path.dirname(os.path.abspath(__file__))
 TOP = os.path.dirname(HERE)
 MAGIC = b"USFMSR1\n"
@@ -23,7 +25,7 @@ def lines_of(crate):
 
 def build(work, folder, crate, words, beside=()):
     """Builds FOLDER/bench.rt.txt over the crate, and what it names beside it, by `rt run`, with these words, and
-    FOLDER/plain.rs by `rustc -O`."""
+    FOLDER/plain.rs by bench/build_plain.sh."""
     subprocess.run(["git", "-C", work, "init", "-q"], check=True)
     name = os.path.basename(folder) + "_bench"
     lines = lines_of(crate)
@@ -38,9 +40,7 @@ def build(work, folder, crate, words, beside=()):
     ran = subprocess.run(["rt", "run", "--", *words], cwd=program, stdout=subprocess.PIPE, stderr=subprocess.STDOUT, text=True)
     if ran.returncode:
         sys.exit("\n".join(ran.stdout.splitlines()[-30:]))
-    plain = os.path.join(work, "plain")
-    subprocess.run(["rustc", "-O", "--edition", "2021", "-o", plain, os.path.join(folder, "plain.rs")], check=True)
-    return os.path.join(program, "out", name), plain
+    return os.path.join(program, "out", name), plain_program(work, folder)
 
 
 def write_bundles(count, names):

@@ -85,9 +85,9 @@ def built(words):
 
 
 def plain_program(work, folder):
-    """FOLDER/plain.rs, built by `rustc -O`."""
+    """FOLDER/plain.rs, built by bench/build_plain.sh."""
     plain = os.path.join(work, "plain")
-    subprocess.run(["rustc", "-O", "--edition", "2021", "-o", plain, os.path.join(folder, "plain.rs")], check=True)
+    subprocess.run([os.path.join(HERE, "build_plain.sh"), os.path.join(folder, "plain.rs"), plain], check=True)
     return plain
 
 

@@ -43,6 +43,6 @@ build_both() {
     shift
     echo "building"
     make_psalters "$bytes"
-    build_plain --edition 2021
+    build_plain
     build_proved "$name" "$crates" 'usfm_ref sty_sheet concordance anyhow' "$work/sheet" "$work/psalter.$bytes" "$@"
 }

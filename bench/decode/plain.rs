@@ -1,7 +1,6 @@
 //! The job of `bundle_codec::decode` in plain Rust, to be measured against: judges the bundle that bytes begin with.
 //!
 //! `plain FILE ROUNDS` prints the least time of a round in nanoseconds, and how many operations and bytes the bundle has.
-//! Built by `rustc -O`, without crates.
 
 #[path = "../judging.rs"]
 mod judging;

@@ -2,7 +2,7 @@
 //! them, and writes the book's picked texts by rising key. Names and texts are lent by what was read, and what segments
 //! show is looked up in the one book alone.
 //!
-//! `plain BOOK < stream`. Built by `rustc -O`, without crates.
+//! `plain BOOK < stream`.
 
 #[path = "../operations.rs"]
 mod operations;

@@ -3,7 +3,7 @@
 
     run.py [OPERATIONS ..]      by default 10000 100000
 
-The program is the one that `./usfm_team` builds; the plain one, built here by `rustc -O`, lends names and texts
+The program is the one that `./usfm_team` builds; the plain one, built by bench/build_plain.sh, lends names and texts
 from what it read, holds the operations by their ids, and looks at the segments of the one book alone. Each job runs
 several times, and the least wall time counts. The peak of resident memory is that of one more run below
 `/usr/bin/time`: a child of this script would begin with the script's own. The job `read and join` asks for a book that
@@ -16,8 +16,9 @@ import tempfile
 import time
 
 HERE = os.path.dirname(os.path.abspath(__file__))
-TOP = os.path.dirname(os.path.dirname(HERE))
-PROGRAM = os.path.join(TOP, "crates/usfm_team/out/usfm_team")
+sys.path.insert(0, os.path.dirname(HERE))
+from programs import PROGRAM, TOP, plain_program
+
 TURNS = 15
 
 
@@ -60,8 +61,7 @@ def main():
     with open(os.path.join(TOP, "samples/first.bundle"), "rb") as sample:
         subprocess.run([os.path.join(TOP, "usfm_team"), "fold", "MAT"], stdin=sample, stdout=subprocess.DEVNULL, check=True)
     with tempfile.TemporaryDirectory() as work:
-        plain = os.path.join(work, "plain")
-        subprocess.run(["rustc", "-O", "--edition", "2021", "-o", plain, os.path.join(HERE, "plain.rs")], check=True)
+        plain = plain_program(work, HERE)
         for count in counts:
             stream = os.path.join(work, "stream")
             with open(stream, "wb") as out:

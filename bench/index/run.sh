@@ -16,7 +16,7 @@ turns=${2:-5}
 rounds=5
 
 echo "building"
-build_plain --edition 2021
+build_plain
 build_proved index_bench "usfm_ref usfm_token verse_cut op_core" "usfm_ref verse_cut op_core anyhow" 1000 1
 
 for _ in $(seq "$turns"); do

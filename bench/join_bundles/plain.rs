@@ -2,7 +2,7 @@
 //! bundle of their union out of the bytes that spell its operations.
 //!
 //! `plain FIRST SECOND ROUNDS` prints the least time of a round in nanoseconds, and the length and a sum of the joined
-//! bytes. Built by `rustc -O`, without crates.
+//! bytes.
 
 #[path = "../operations.rs"]
 mod operations;

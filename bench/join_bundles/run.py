@@ -3,11 +3,11 @@
 
     run.py [OPERATIONS ..]      by default 10000 100000: how many each of the two bundles has
 
-The proved call is built by `rt run` (bench.rt.txt, in a folder of its own), the plain one by `rustc -O` (plain.rs).
-Half of the operations are in both bundles. The least time of a round counts, and the greatest resident memory of a
-process that joins once, beside what the inputs and the output fill (no peak shows below the 19 MB or so that this
-script itself holds). The exit status is 1 where the two programs join
-to different bytes, or the proved one takes more than 1.5 times as long.
+The proved call is built by `rt run` (bench.rt.txt, in a folder of its own), the plain one by bench/build_plain.sh
+(plain.rs). Half of the operations are in both bundles. The least time of a round counts, and the greatest resident
+memory of a process that joins once, beside what the inputs and the output fill (no peak shows below the 19 MB or so
+that this script itself holds). The exit status is 1 where the two programs join to different bytes, or the proved one
+takes more than 1.5 times as long.
 """
 import os
 import subprocess

@@ -5,8 +5,7 @@
 //!
 //! `plain import PROJECT FILE`, `plain receive PROJECT BUNDLE`, `plain export PROJECT BOOK`. Beside these, `plain load
 //! PROJECT` only loads, and `plain index PROJECT` then makes a register of what each segment shows, as a replica that
-//! is asked again and again would keep it: what the two take apart is the share of an index. Built by `rustc -O`,
-//! without crates.
+//! is asked again and again would keep it: what the two take apart is the share of an index.
 
 #[path = "../operations.rs"]
 mod operations;
