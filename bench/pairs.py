@@ -4,7 +4,7 @@ import shutil
 import subprocess
 import sys
 
-from programs import plain_program
+from programs import peak, plain_program
 
 HERE = os.path.dirname(os.path.abspath(__file__))
 TOP = os.path.dirname(HERE)
@@ -53,14 +53,12 @@ def write_bundles(count, names):
 
 
 def once(program, words):
-    """Nanoseconds of the least round, what else the program wrote, and its peak kilobytes."""
-    child = subprocess.Popen([program, *words], stdout=subprocess.PIPE, text=True)
-    told = child.stdout.read().split()
-    _, status, usage = os.wait4(child.pid, 0)
-    child.returncode = os.waitstatus_to_exitcode(status)
-    if child.returncode:
+    """Nanoseconds of the least round, and what else the program wrote."""
+    ran = subprocess.run([program, *words], stdout=subprocess.PIPE, text=True)
+    if ran.returncode:
         sys.exit("%s failed" % program)
-    return int(told[0]), told[1:], usage.ru_maxrss
+    nanos, *told = ran.stdout.split()
+    return int(nanos), told
 
 
 def turn_about(programs, words, turns):
@@ -69,7 +67,7 @@ def turn_about(programs, words, turns):
     answers = []
     for _ in range(turns):
         for i, program in enumerate(programs):
-            nanos, told, _ = once(program, words)
+            nanos, told = once(program, words)
             least[i] = min(least[i], nanos)
             answers.append(told)
     if any(told != answers[0] for told in answers):
@@ -83,7 +81,7 @@ def compare_jobs(programs, jobs, turns=7, limit=1.5):
     held = True
     for label, words in jobs:
         least, _ = turn_about(programs, words, turns)
-        peaks = [once(program, words)[2] for program in programs]
+        peaks = [peak([program, *words]) for program in programs]
         ratio = least[0] / least[1]
         print("%-18s proved %9.3f ms %7d KB   plain %9.3f ms %7d KB   time %.2f   memory %.2f"
               % (label, least[0] / 1e6, peaks[0], least[1] / 1e6, peaks[1], ratio, peaks[0] / peaks[1]))

@@ -17,7 +17,7 @@ import time
 
 HERE = os.path.dirname(os.path.abspath(__file__))
 sys.path.insert(0, os.path.dirname(HERE))
-from programs import PROGRAM, TOP, plain_program
+from programs import PROGRAM, TOP, peak, plain_program
 
 TURNS = 15
 
@@ -32,12 +32,9 @@ def once(command, stream):
         return wall, (out.read(), status)
 
 
-def peak(command, stream):
-    """Peak kilobytes of one run."""
-    with open(stream, "rb") as source, tempfile.NamedTemporaryFile("r") as told:
-        subprocess.run(["/usr/bin/time", "-q", "-f", "%M", "-o", told.name] + command, stdin=source,
-                       stdout=subprocess.DEVNULL, stderr=subprocess.DEVNULL)
-        return int(told.read().split()[-1])
+def peak_on(command, stream):
+    with open(stream, "rb") as source:
+        return peak(command, source)
 
 
 def compare(label, ours, plain, stream):
@@ -51,7 +48,7 @@ def compare(label, ours, plain, stream):
     if answers["ours"] != answers["plain"]:
         sys.exit("%s: the two programs answer differently" % label)
     ours_wall, plain_wall = min(walls["ours"]), min(walls["plain"])
-    ours_peak, plain_peak = peak(ours, stream), peak(plain, stream)
+    ours_peak, plain_peak = peak_on(ours, stream), peak_on(plain, stream)
     print("%-28s %8.3f s %7d KB   plain %8.3f s %7d KB   wall %.2f  memory %.2f"
           % (label, ours_wall, ours_peak, plain_wall, plain_peak, ours_wall / plain_wall, ours_peak / plain_peak))
 
