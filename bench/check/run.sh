@@ -6,8 +6,8 @@
 #
 # A last text has one mark alone, of a style with as many bytes of words in OccursUnder.
 #
-# The plain checker reads the tree whole and then walks it. The proved one is done with each node under the root
-# before it reads the next, so that its memory does not grow with the tree.
+# The plain checker walks the marks with a stack of the open nodes. The proved one walks the tree: it is done with each
+# node under the root before it reads the next, so that the memory of neither grows with the tree.
 #
 # The two are run turn about, and of each the least time of a round counts. How the work grows is measured by
 # processes of one round, by their instructions where valgrind is there to count them. The exit status is 1 where the
