@@ -1,8 +1,8 @@
 #!/usr/bin/env bash
-# Times sets of operations (bench.rt.txt) against sets in plain Rust by maps (plain.rs), both built for the processor
-# that Rattle builds for: this many single inserts with the making of the operations, two thirds of them each in a new
-# segment and the others over what a segment shows; the join of a first set of six tenths of them into an empty one,
-# and then of two more, which lie after it or overlap. Needs rt and rustc, and takes some minutes.
+# Times sets of operations (bench.rt.txt) against sets in plain Rust (plain.rs: a list that rises by id, and a map of what
+# segments show), both built for the processor that Rattle builds for: this many single inserts with the making of the
+# operations, two thirds of them each in a new segment and the others over what a segment shows; the join of a first
+# set of six tenths of them into an empty one, and then of two more, which lie after it or overlap. Needs rt and rustc, and takes some minutes.
 #
 # The two are run turn about, and of each the least time of a round counts. The exit status is 1 where the two show
 # different ids, or a job takes the proved program longer than the plain one.
