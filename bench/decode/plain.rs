@@ -5,7 +5,7 @@
 #[path = "../judging.rs"]
 mod judging;
 
-use judging::{MAGIC, Reader};
+use judging::{FRONT, Reader};
 use std::env;
 use std::fs;
 use std::process::ExitCode;
@@ -19,7 +19,7 @@ fn main() -> ExitCode {
     let mut found = (0, 0);
     for _ in 0..rounds {
         let start = Instant::now();
-        let mut length = MAGIC.len() + 8;
+        let mut length = FRONT;
         let count = match (Reader { rest: &bytes }).bundle(|op| length += op.bytes.len()) {
             Ok(count) => count,
             Err((number, details)) => {

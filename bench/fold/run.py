@@ -4,8 +4,8 @@
     run.py [OPERATIONS ..]      by default 10000 100000
 
 The program is the one that `./usfm_team` builds; the plain one, built by bench/build_plain.sh, lends names and texts
-from what it read, holds the operations by their ids, and looks at the segments of the one book alone. Each job runs
-several times, and the least wall time counts. The peak of resident memory is that of one more run below
+from what it read, judges each bundle, walks all of them side by side, and keeps the operations of the one book alone.
+Each job runs several times, and the least wall time counts. The peak of resident memory is that of one more run below
 `/usr/bin/time`: a child of this script would begin with the script's own. The job `read and join` asks for a book that
 has no operation, so that both programs read, judge and join all and write nothing; `whole` also exports the first book.
 """
