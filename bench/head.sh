@@ -13,14 +13,22 @@ make_text() { awk -v kind="$1" -v size="$2" -f "$top/bench/book.awk"; }
 # Builds the plain program.
 build_plain() { "$top/bench/build_plain.sh" "$here/plain.rs" "$plain"; }
 
-# Proves and builds the proved program over a copy of crates of the repository, and runs it once: the name of its
-# crate, those crates, the crates that it names, and the words to run it with.
+# The lines of crates.txt of some crates and of all that these are built on.
+lines_of() {
+    tac "$top/crates.txt" | awk -v wanted="$*" '
+        BEGIN { count = split(wanted, names); for (i = 1; i <= count; i++) is_wanted[names[i] ":"] = 1 }
+        $1 in is_wanted { print; for (i = 2; i <= NF; i++) is_wanted[$i ":"] = 1 }' | tac
+}
+
+# Proves and builds the proved program over a copy of the crates that it is built on, and runs it once: the name of its
+# crate, the crates that it names, and the words to run it with.
 build_proved() {
-    local name=$1 crates=$2 uses=$3 crate part
-    shift 3
+    local name=$1 uses=$2 crate part
+    shift 2
     git -C "$work" init -q
     mkdir -p "$work/crates/$name/src"
-    for crate in $crates; do
+    { lines_of $uses; echo "$name: $uses"; } >"$work/crates.txt"
+    for crate in $(lines_of $uses | cut -d: -f1); do
         mkdir -p "$work/crates/$crate"
         # What was proved of the crates comes along, so that they are not proved again.
         for part in src specs proofs out; do
@@ -30,10 +38,6 @@ build_proved() {
         done
     done
     cp "$here/bench.rt.txt" "$work/crates/$name/src/main.rt"
-    {
-        grep -E "^(${crates// /|}):" "$top/crates.txt"
-        echo "$name: $uses"
-    } >"$work/crates.txt"
     if ! (cd "$work/crates/$name" && rt run -- "$@") >"$work/log" 2>&1; then
         tail -n 30 "$work/log"
         exit 1

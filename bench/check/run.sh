@@ -75,8 +75,7 @@ done
 for size in "$bytes" "$((10 * bytes))"; do with_words "$size" >"$work/words.$size"; done
 printf '\\p \\em a\\em*' >"$work/one"
 build_plain
-build_proved check_bench "usfm_ref usfm_token sty_sheet verse_cut usfm_tree segment_check" \
-    "usfm_ref sty_sheet segment_check anyhow" "$work/sheet" "$work/prose.$bytes" 1
+build_proved check_bench "usfm_ref sty_sheet segment_check anyhow" "$work/sheet" "$work/prose.$bytes" 1
 
 for text in prose marks faults; do
     for size in "$bytes" "$((10 * bytes))"; do

@@ -17,7 +17,7 @@ rounds=5
 
 echo "building"
 build_plain
-build_proved index_bench "usfm_ref usfm_token verse_cut op_core" "usfm_ref verse_cut op_core anyhow" 1000 1
+build_proved index_bench "usfm_ref verse_cut op_core anyhow" 1000 1
 
 for _ in $(seq "$turns"); do
     "$plain" "$count" "$rounds" >>"$work/plain.out"

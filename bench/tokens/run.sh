@@ -18,7 +18,7 @@ echo "building"
 make_text prose "$bytes" >"$work/prose"
 make_text marks "$bytes" >"$work/marks"
 build_plain
-build_proved token_bench usfm_token "usfm_token anyhow" "$work/prose" 1
+build_proved token_bench "usfm_token anyhow" "$work/prose" 1
 
 for text in prose marks; do
     compare "$text" "$work/$text"

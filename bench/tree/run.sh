@@ -44,7 +44,7 @@ make_sheet >"$work/sheet"
 make_text prose "$bytes" >"$work/prose"
 make_text marks "$bytes" >"$work/marks"
 build_plain
-build_proved tree_bench "usfm_token sty_sheet usfm_tree" "sty_sheet usfm_tree anyhow" "$work/sheet" "$work/prose" 1
+build_proved tree_bench "sty_sheet usfm_tree anyhow" "$work/sheet" "$work/prose" 1
 
 # A run prints the time of the sheet before that of the tree.
 column=2
