@@ -23,8 +23,9 @@ struct Kept<'a> {
 pub struct Held<'a> {
     ops: Vec<Kept<'a>>,
     names: HashMap<&'a [u8], usize>,
-    named: HashSet<Id<'a>>,
     shown: HashMap<Segment, Vec<Id<'a>>>,
+    /// What is named in a segment and has not come.
+    awaited: HashSet<(Segment, Id<'a>)>,
 }
 
 impl<'a> Held<'a> {
@@ -64,7 +65,6 @@ impl<'a> Held<'a> {
             _ => true,
         };
         for op in new {
-            self.note(op);
             let next = self.names.len();
             let name = *self.names.entry(op.id.name).or_insert(next);
             self.ops.push(Kept { op: *op, name });
@@ -72,14 +72,21 @@ impl<'a> Held<'a> {
         if !is_after {
             self.ops.sort_by_key(|kept| kept.op.id);
         }
+        new.iter().for_each(|op| self.note(op));
     }
 
-    /// Shows the operation in its segment, in place of those that it names, if none that came names it.
+    /// Shows a held operation in its segment, in place of those that it names, if none that came names it.
     fn note(&mut self, op: &Op<'a>) {
-        let shown = self.shown.entry(op.segment()).or_default();
-        shown.retain(|id| op.replaced().all(|named| named != *id));
-        self.named.extend(op.replaced());
-        if !self.named.contains(&op.id) {
+        let segment = op.segment();
+        let shown = self.shown.entry(segment).or_default();
+        for named in op.replaced() {
+            if let Some(at) = shown.iter().position(|id| *id == named) {
+                shown.remove(at);
+            } else if self.ops.binary_search_by(|held| held.op.id.cmp(&named)).is_err() {
+                self.awaited.insert((segment, named));
+            }
+        }
+        if !self.awaited.remove(&(segment, op.id)) {
             let at = shown.partition_point(|id| *id < op.id);
             shown.insert(at, op.id);
         }

@@ -1,6 +1,9 @@
 //! Judging bundles of either format in plain Rust: what the plain programs that read operations have in common. What is
 //! handed on is lent by the bytes: nothing is copied out of them.
 
+// No program uses all of it.
+#![allow(dead_code)]
+
 #[path = "fitting.rs"]
 pub mod fitting;
 #[path = "reading.rs"]
@@ -12,6 +15,9 @@ pub use reading::{Fault, Reader};
 pub const MAGIC: &[u8; 8] = b"USFMSR1\n";
 /// Of a bundle in which a text was left out.
 pub const SECOND_MAGIC: &[u8; 8] = b"USFMSR2\n";
+
+/// The bytes of a bundle before its operations: the magic ones, and how many operations there are.
+pub const FRONT: usize = 16;
 
 /// A book and a key, as they are spelled.
 pub type Segment = [u8; 9];
@@ -87,6 +93,11 @@ fn note<'a>(left_out: &mut Vec<LeftOut<'a>>, place: u64, op: &Op<'a>) {
     }
 }
 
+/// Most texts are ASCII, which is quicker to see.
+fn is_utf8(text: &[u8]) -> bool {
+    text.is_ascii() || std::str::from_utf8(text).is_ok()
+}
+
 impl<'a> Reader<'a> {
     fn id(&mut self, bad: impl Fn() -> Fault) -> Result<Id<'a>, Fault> {
         let number = self.u64()?;
@@ -117,7 +128,10 @@ impl<'a> Reader<'a> {
             _ => return Err(told(66)),
         }
         let length = self.u64()?;
-        let text = std::str::from_utf8(self.take(length)?).map_err(|_| told(67))?;
+        let text = self.take(length)?;
+        if !is_utf8(text) {
+            return Err(told(67));
+        }
         if fits(book, key, text) { Ok(()) } else { Err(told(68)) }
     }
 
@@ -161,6 +175,13 @@ impl<'a> Reader<'a> {
         Ok(count)
     }
 
+    /// Judges the bundle at the front. Its operations can then be read without judging them again.
+    pub fn judged(&mut self) -> Result<Judged<'a>, Fault> {
+        let bytes = self.rest;
+        self.bundle(|_| {})?;
+        Ok(Judged { rest: &bytes[FRONT..bytes.len() - self.rest.len()] })
+    }
+
     /// Judges the bundle at the front, and hands on each operation as soon as it is judged. Answers how many there are.
     pub fn bundle(&mut self, mut each: impl FnMut(Op<'a>)) -> Result<u64, Fault> {
         if !self.is_second()? {
@@ -178,5 +199,33 @@ impl<'a> Reader<'a> {
             Some(one) => Err((69, format!(" {}", one.place))),
             None => Ok(count),
         }
+    }
+}
+
+/// The operations of a bundle that was judged, read again from their bytes.
+pub struct Judged<'a> {
+    rest: &'a [u8],
+}
+
+impl<'a> Iterator for Judged<'a> {
+    type Item = Op<'a>;
+
+    fn next(&mut self) -> Option<Op<'a>> {
+        let bytes = self.rest;
+        let u64_at = |at: usize| u64::from_be_bytes(bytes[at..][..8].try_into().unwrap());
+        if bytes.is_empty() {
+            return None;
+        }
+        let name = &bytes[9..][..bytes[8].into()];
+        let id = Id { number: u64_at(0), name };
+        let count = 9 + name.len() + 9;
+        let mut head = count + 8;
+        for _ in 0..u64_at(count) {
+            head += 9 + usize::from(bytes[head + 8]);
+        }
+        let length = if bytes[head] == 0 { 1 } else { 9 + u64_at(head + 1) as usize };
+        let (bytes, rest) = bytes.split_at(head + length);
+        self.rest = rest;
+        Some(Op { id, bytes, head })
     }
 }

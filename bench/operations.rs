@@ -102,18 +102,17 @@ pub fn shown_in<'a>(ops: impl IntoIterator<Item = Op<'a>>) -> BTreeMap<Key, Vec<
     segments
 }
 
-/// The picked text of each segment of a book, out of what it shows. A chapter with a verse has its line, where no text
-/// of its head is picked.
-pub fn picked<'a>(shown: &BTreeMap<Key, Vec<Op<'a>>>) -> BTreeMap<Key, Cow<'a, [u8]>> {
-    let mut texts = BTreeMap::new();
-    let mut with_verses = BTreeSet::new();
-    for (key, ops) in shown {
-        let text = ops.last().and_then(Op::text).unwrap_or(b"");
-        if key.place != Place::Head && !text.is_empty() {
-            with_verses.insert(key.chapter);
-        }
-        texts.insert(*key, Cow::Borrowed(text));
+/// The picked text of each segment of a book, of operations that rise by id: that of the greatest id, which no other
+/// operation names, since it would have a greater one. A chapter with a verse has its line, where no text of its head is
+/// picked.
+pub fn picked<'a>(ops: &[Op<'a>]) -> BTreeMap<Key, Cow<'a, [u8]>> {
+    let text_of = |op: &Op<'a>| Cow::Borrowed(op.text().unwrap_or(b""));
+    let mut texts: BTreeMap<Key, Cow<[u8]>> = BTreeMap::new();
+    for op in ops {
+        texts.insert(op.key(), text_of(op));
     }
+    let verses = texts.iter().filter(|(key, text)| key.place != Place::Head && !text.is_empty());
+    let mut with_verses: BTreeSet<u16> = verses.map(|(key, _)| key.chapter).collect();
     with_verses.remove(&0);
     for chapter in with_verses {
         let place = Place::Head;
@@ -126,10 +125,9 @@ pub fn picked<'a>(shown: &BTreeMap<Key, Vec<Op<'a>>>) -> BTreeMap<Key, Cow<'a, [
 }
 
 /// The text of a book, of operations that rise by id: what is picked, by rising key.
-pub fn export<'a>(ops: impl IntoIterator<Item = Op<'a>>) -> Result<Vec<u8>, Fault> {
-    let shown = shown_in(ops);
-    if shown.is_empty() {
+pub fn export(ops: &[Op]) -> Result<Vec<u8>, Fault> {
+    if ops.is_empty() {
         return Err((82, String::new()));
     }
-    Ok(picked(&shown).into_values().collect::<Vec<_>>().concat())
+    Ok(picked(ops).into_values().collect::<Vec<_>>().concat())
 }

@@ -4,6 +4,8 @@ import shutil
 import subprocess
 import sys
 
+from programs import peak, plain_program
+
 HERE = os.path.dirname(os.path.abspath(__file__))
 TOP = os.path.dirname(HERE)
 MAGIC = b"USFMSR1\n"
@@ -23,7 +25,7 @@ def lines_of(crate):
 
 def build(work, folder, crate, words, beside=()):
     """Builds FOLDER/bench.rt.txt over the crate, and what it names beside it, by `rt run`, with these words, and
-    FOLDER/plain.rs by `rustc -O`."""
+    FOLDER/plain.rs by bench/build_plain.sh."""
     subprocess.run(["git", "-C", work, "init", "-q"], check=True)
     name = os.path.basename(folder) + "_bench"
     lines = lines_of(crate)
@@ -38,9 +40,7 @@ def build(work, folder, crate, words, beside=()):
     ran = subprocess.run(["rt", "run", "--", *words], cwd=program, stdout=subprocess.PIPE, stderr=subprocess.STDOUT, text=True)
     if ran.returncode:
         sys.exit("\n".join(ran.stdout.splitlines()[-30:]))
-    plain = os.path.join(work, "plain")
-    subprocess.run(["rustc", "-O", "--edition", "2021", "-o", plain, os.path.join(folder, "plain.rs")], check=True)
-    return os.path.join(program, "out", name), plain
+    return os.path.join(program, "out", name), plain_program(work, folder)
 
 
 def write_bundles(count, names):
@@ -53,14 +53,12 @@ def write_bundles(count, names):
 
 
 def once(program, words):
-    """Nanoseconds of the least round, what else the program wrote, and its peak kilobytes."""
-    child = subprocess.Popen([program, *words], stdout=subprocess.PIPE, text=True)
-    told = child.stdout.read().split()
-    _, status, usage = os.wait4(child.pid, 0)
-    child.returncode = os.waitstatus_to_exitcode(status)
-    if child.returncode:
+    """Nanoseconds of the least round, and what else the program wrote."""
+    ran = subprocess.run([program, *words], stdout=subprocess.PIPE, text=True)
+    if ran.returncode:
         sys.exit("%s failed" % program)
-    return int(told[0]), told[1:], usage.ru_maxrss
+    nanos, *told = ran.stdout.split()
+    return int(nanos), told
 
 
 def turn_about(programs, words, turns):
@@ -69,7 +67,7 @@ def turn_about(programs, words, turns):
     answers = []
     for _ in range(turns):
         for i, program in enumerate(programs):
-            nanos, told, _ = once(program, words)
+            nanos, told = once(program, words)
             least[i] = min(least[i], nanos)
             answers.append(told)
     if any(told != answers[0] for told in answers):
@@ -83,7 +81,7 @@ def compare_jobs(programs, jobs, turns=7, limit=1.5):
     held = True
     for label, words in jobs:
         least, _ = turn_about(programs, words, turns)
-        peaks = [once(program, words)[2] for program in programs]
+        peaks = [peak([program, *words]) for program in programs]
         ratio = least[0] / least[1]
         print("%-18s proved %9.3f ms %7d KB   plain %9.3f ms %7d KB   time %.2f   memory %.2f"
               % (label, least[0] / 1e6, peaks[0], least[1] / 1e6, peaks[1], ratio, peaks[0] / peaks[1]))

@@ -19,6 +19,13 @@ pub struct Style<'s> {
     pub under: &'s str,
 }
 
+impl Style<'_> {
+    /// Whether this is a word of OccursUnder.
+    pub fn has_under(&self, word: &str) -> bool {
+        self.under.split(BLANK).any(|it| it == word)
+    }
+}
+
 #[derive(Default)]
 pub struct Sheet<'s> {
     places: HashMap<&'s str, usize>,
@@ -79,12 +86,12 @@ impl<'s> Sheet<'s> {
         Some(sheet)
     }
 
-    pub fn style_of(&self, name: &str) -> Option<Style<'s>> {
+    pub fn style_of(&self, name: &str) -> Option<&Style<'s>> {
         if let Some(place) = self.places.get(name) {
-            return Some(self.styles[*place]);
+            return Some(&self.styles[*place]);
         }
         let closes = |s: &&Style| s.kind == Some(Kind::Milestone) && s.closer == Some(name);
-        self.styles.iter().find(closes).copied()
+        self.styles.iter().find(closes)
     }
 }
 
@@ -96,7 +103,7 @@ pub struct Mark<'a> {
     pub closing: bool,
 }
 
-fn split_mark(text: &str) -> (Mark<'_>, usize) {
+pub fn split_mark(text: &str) -> (Mark<'_>, usize) {
     let bytes = text.as_bytes();
     let nested = bytes.get(1) == Some(&b'+');
     let from = if nested { 2 } else { 1 };
@@ -121,7 +128,7 @@ pub struct Branch<'a> {
     pub kind: Kind,
     pub start: usize,
     pub slice: &'a str,
-    pub mark: Mark<'a>,
+    mark: Mark<'a>,
     pub kids: Vec<Node<'a>>,
     pub close: Option<Mark<'a>>,
 }

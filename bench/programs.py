@@ -3,6 +3,7 @@ import os
 import shutil
 import subprocess
 import sys
+import tempfile
 import time
 
 HERE = os.path.dirname(os.path.abspath(__file__))
@@ -25,7 +26,6 @@ class Files:
         self.project = os.path.join(folder, "project")
         self.copy = os.path.join(folder, "copy")
         self.output = os.path.join(folder, "output")
-        self.peak = os.path.join(folder, "peak")
 
     def named(self, name):
         return os.path.join(self.folder, name)
@@ -46,12 +46,17 @@ def once(command, files):
     return (wall, usage.ru_utime + usage.ru_stime), (bytes_of(files.output), child.returncode, bytes_of(files.copy))
 
 
-def peak(command, files):
-    """Peak kilobytes of one run."""
+def peak(command, source=subprocess.DEVNULL):
+    """Peak kilobytes of one run below `/usr/bin/time`: a child of this script would begin with the script's own."""
+    with tempfile.NamedTemporaryFile("r") as written:
+        subprocess.run(["/usr/bin/time", "-q", "-f", "%M", "-o", written.name, *command], stdin=source,
+                       stdout=subprocess.DEVNULL, stderr=subprocess.DEVNULL)
+        return int(written.read().split()[-1])
+
+
+def peak_on_copy(command, files):
     files.fresh()
-    subprocess.run(["/usr/bin/time", "-q", "-f", "%M", "-o", files.peak] + command, stdin=subprocess.DEVNULL,
-                   stdout=subprocess.DEVNULL, stderr=subprocess.DEVNULL)
-    return int(bytes_of(files.peak).split()[-1])
+    return peak(command)
 
 
 def turn_about(commands, files):
@@ -73,7 +78,7 @@ def agreed(programs, words, files):
     least, answers = turn_about(commands, files)
     if any(answer != answers[0] for answer in answers) or answers[0][1] != 0:
         sys.exit("%s: the programs answer differently, or refuse" % words[0])
-    return least, [peak(command, files) for command in commands], answers[0]
+    return least, [peak_on_copy(command, files) for command in commands], answers[0]
 
 
 def built(words):
@@ -85,9 +90,9 @@ def built(words):
 
 
 def plain_program(work, folder):
-    """FOLDER/plain.rs, built by `rustc -O`."""
+    """FOLDER/plain.rs, built by bench/build_plain.sh."""
     plain = os.path.join(work, "plain")
-    subprocess.run(["rustc", "-O", "--edition", "2021", "-o", plain, os.path.join(folder, "plain.rs")], check=True)
+    subprocess.run([os.path.join(HERE, "build_plain.sh"), os.path.join(folder, "plain.rs"), plain], check=True)
     return plain
 
 

@@ -39,10 +39,10 @@ make_psalters() {
 # Makes the sheet and the psalters and builds both programs: the name of the proved one's crate, and the words after the
 # sheet and the psalter that it is run with once.
 build_both() {
-    local name=$1 crates='usfm_ref usfm_token sty_sheet verse_cut usfm_tree concordance'
+    local name=$1
     shift
     echo "building"
     make_psalters "$bytes"
-    build_plain --edition 2021
-    build_proved "$name" "$crates" 'usfm_ref sty_sheet concordance anyhow' "$work/sheet" "$work/psalter.$bytes" "$@"
+    build_plain
+    build_proved "$name" 'usfm_ref sty_sheet concordance anyhow' "$work/sheet" "$work/psalter.$bytes" "$@"
 }

@@ -1,13 +1,32 @@
-//! A plain checker of USFM books, to which the proved one is compared. It is run as
-//! `plain SHEET FILE ROUNDS`, and prints the least time of a check in nanoseconds, how many findings of
-//! each code there are, and the sum of their starts and of the numbers of their keys.
+//! A plain checker of USFM books, to which the proved one is compared: one walk over the marks with a stack of the open
+//! nodes; no tree is made. It is run as `plain SHEET FILE ROUNDS`, and prints the least time of a check in nanoseconds,
+//! how many findings of each code there are, and the sum of their starts and of the numbers of their keys.
 
 #[path = "../plain_tree.rs"]
 mod plain_tree;
 
-use plain_tree::{Branch, Kind, Mark, Node, Sheet, Style, read_tree};
+use plain_tree::{Kind, Mark, Sheet, Style, split_mark};
 use std::time::{Duration, Instant};
 use std::{env, fs};
+
+/// What is found at a mark. At one mark the codes are in this order.
+#[derive(Clone, Copy, PartialEq)]
+enum Code {
+    UnknownMarker,
+    StrayClose,
+    UnclosedChar,
+    UnclosedNote,
+    TooDeep,
+    BadNumber,
+    BadBridge,
+    NotRising,
+    Overlap,
+    NotUnder,
+    /// What is left of a finding that was taken back.
+    TakenBack,
+}
+
+const CODES: usize = Code::TakenBack as usize;
 
 type Verse = (u16, Option<u8>);
 
@@ -19,34 +38,9 @@ struct Key {
 
 #[derive(Clone, Copy)]
 struct Finding {
-    code: usize,
+    code: Code,
     start: usize,
     key: Key,
-}
-
-/// What is around a mark.
-#[derive(Clone, Copy, Default)]
-struct Inside<'a> {
-    in_note: bool,
-    depth: usize,
-    character: Option<&'a str>,
-    holder: Option<&'a str>,
-    paragraph: Option<&'a str>,
-}
-
-struct Checker<'a, 's> {
-    sheet: &'s Sheet<'s>,
-    key: Key,
-    reach: Option<Verse>,
-    last: Option<(usize, Mark<'a>, Told)>,
-    findings: Vec<Finding>,
-}
-
-#[derive(Clone, Copy, Default)]
-struct Told {
-    first: Option<usize>,
-    unclosed: Option<usize>,
-    not_under: bool,
 }
 
 fn is_blank(b: u8) -> bool {
@@ -85,142 +79,191 @@ fn end_order(last: Verse) -> (u16, u8) {
     (last.0, last.1.unwrap_or(u8::MAX))
 }
 
-fn is_restricted(kind: Option<Kind>) -> bool {
-    matches!(kind, Some(Kind::Character | Kind::Note))
+/// The kind of node that a mark, not closing, of a style begins where there is room.
+fn begun_by(style: &Style<'_>, mark: &Mark<'_>) -> Option<Kind> {
+    let begins = match style.kind? {
+        Kind::Character => style.closer.is_some(),
+        _ => !mark.nested,
+    };
+    style.kind.filter(|_| begins)
 }
 
-fn forbids(under: &str, kind: Option<Kind>, inside: Inside<'_>) -> bool {
-    let mut words = under.split([' ', '\t', '\r', '\n']).filter(|word| !word.is_empty()).peekable();
-    if words.peek().is_none() {
-        return false;
-    }
-    !words.any(|word| match (kind, inside.character) {
-        (Some(Kind::Note), _) => inside.paragraph == Some(word),
-        (_, Some(name)) => word == name || word == "NEST",
-        (_, None) => inside.holder == Some(word),
-    })
+struct Open<'a, 's> {
+    kind: Kind,
+    mark: Mark<'a>,
+    closer: Option<&'s str>,
+    /// The finding that it has no closing mark.
+    unclosed: Option<usize>,
 }
 
-impl<'a> Checker<'a, '_> {
-    fn push(&mut self, holds: bool, code: usize, start: usize) {
-        if holds {
-            self.findings.push(Finding { code, start, key: self.key });
-        }
+struct Walk<'a, 's> {
+    text: &'a str,
+    sheet: &'s Sheet<'s>,
+    open: Vec<Open<'a, 's>>,
+    key: Key,
+    reach: Option<Verse>,
+    findings: Vec<Finding>,
+}
+
+impl<'a, 's> Walk<'a, 's> {
+    fn push(&mut self, code: Code, start: usize) {
+        self.findings.push(Finding { code, start, key: self.key });
     }
 
-    /// Settles what is found at the mark before, after which this text comes.
-    fn settle(&mut self, after: &str) {
-        let Some((start, mark, told)) = self.last.take() else { return };
-        let (mut number, mut verse, mut key) = (false, None, None);
-        if !mark.nested && !mark.closing && (mark.name == "c" || mark.name == "v") {
-            number = true;
-            let read = number_after(after, mark.name == "v");
-            if mark.name == "c" {
-                key = read.map(|(n, _)| Key { chapter: n.0, verse: None });
-            } else if let Some((own, rest)) = read {
-                let last = rest.strip_prefix(b"-").and_then(|rest| super_number(rest));
-                verse = Some((own, last, rest.first() == Some(&b'-')));
-                key = Some(Key { chapter: self.key.chapter, verse: Some(own) });
-            }
-        }
-        let opens = key.is_some_and(|key| key > self.key);
-        let overlap = match (verse, self.reach) {
-            (Some((own, ..)), Some(reach)) => opens && reaches(reach, own),
-            _ => false,
-        };
-        if opens {
-            self.key = key.unwrap();
-            self.reach = match verse {
-                None => None,
-                Some((_, last, _)) => self.reach.into_iter().chain(last).max_by_key(|v| end_order(*v)),
-            };
-        }
-        let bad_bridge = verse.is_some_and(|(own, last, hyphen)| last.map_or(hyphen, |last| own >= last));
-        if let Some(code) = told.first {
-            self.push(true, code, start);
-        }
-        if let Some(code) = told.unclosed {
-            self.push(true, code, start);
-        }
-        self.push(number && key.is_none(), 5, start);
-        self.push(bad_bridge, 6, start);
-        self.push(key.is_some() && !opens, 7, start);
-        self.push(overlap, 8, start);
-        self.push(told.not_under, 9, start);
-    }
-
-    fn mark(&mut self, start: usize, mark: Mark<'a>, told: Told) {
-        self.settle("");
-        self.last = Some((start, mark, told));
-    }
-
-    fn leaf(&mut self, start: usize, mark: Mark<'a>, inside: Inside<'a>) {
-        let first = if mark.closing {
-            Some(1)
+    /// Takes a finding back. The places of those before it stay.
+    fn take_back(&mut self, place: usize) {
+        if place + 1 == self.findings.len() {
+            self.findings.pop();
         } else {
-            match self.sheet.style_of(mark.name) {
-                None => Some(0),
-                Some(style) if inside.depth >= 64 && begins(&style, &mark) => Some(4),
-                Some(_) => None,
-            }
-        };
-        self.mark(start, mark, Told { first, ..Told::default() });
+            self.findings[place].code = Code::TakenBack;
+        }
     }
 
-    fn branch(&mut self, branch: &Branch<'a>, inside: Inside<'a>) {
-        let kind = branch.kind;
-        let unclosed = match (kind, branch.close) {
-            (Kind::Character, None) if !inside.in_note => Some(2),
-            (Kind::Note, None) => Some(3),
+    /// Which open node a closing mark ends.
+    fn closed_by(&self, mark: &Mark<'_>) -> Option<usize> {
+        for (place, open) in self.open.iter().enumerate().rev() {
+            if open.kind == Kind::Paragraph {
+                return None;
+            }
+            if open.closer == Some(mark.name) && open.mark.nested == mark.nested {
+                return Some(place);
+            }
+            if open.kind == Kind::Note {
+                return None;
+            }
+        }
+        None
+    }
+
+    fn closing(&mut self, start: usize, mark: &Mark<'_>) {
+        let Some(place) = self.closed_by(mark) else { return self.push(Code::StrayClose, start) };
+        if let Some(finding) = self.open[place].unclosed {
+            self.take_back(finding);
+        }
+        self.open.truncate(place);
+    }
+
+    /// Takes the number after the mark of a verse or a chapter. Answers what is found at it.
+    fn take_number(&mut self, after: &str, is_verse: bool) -> [Option<Code>; 2] {
+        let Some((own, rest)) = number_after(after, is_verse) else { return [Some(Code::BadNumber), None] };
+        let bridge = if is_verse { rest.strip_prefix(b"-") } else { None };
+        let last = bridge.and_then(|rest| number(rest, true)).map(|(last, _)| last);
+        let key = match is_verse {
+            true => Key { chapter: self.key.chapter, verse: Some(own) },
+            false => Key { chapter: own.0, verse: None },
+        };
+        let is_bad = bridge.is_some() && last.is_none_or(|last| own >= last);
+        let bad_bridge = is_bad.then_some(Code::BadBridge);
+        if key <= self.key {
+            return [bad_bridge, Some(Code::NotRising)];
+        }
+        let overlap = is_verse && self.reach.is_some_and(|reach| reaches(reach, own));
+        self.reach = self.reach.filter(|_| is_verse).into_iter().chain(last).max_by_key(|verse| end_order(*verse));
+        self.key = key;
+        [bad_bridge, overlap.then_some(Code::Overlap)]
+    }
+
+    /// Ends the nodes that a node of a kind does not lie in.
+    fn make_room(&mut self, kind: Kind, nested: bool) {
+        let left = match kind {
+            Kind::Paragraph => 0,
+            Kind::Note => self.open.iter().position(|open| open.kind == Kind::Note).unwrap_or(self.open.len()),
+            Kind::Character if !nested => {
+                self.open.iter().rposition(|open| open.kind != Kind::Character).map_or(0, |place| place + 1)
+            }
+            _ => return,
+        };
+        self.open.truncate(left);
+    }
+
+    /// Whether OccursUnder of a style has words, none of which allows a node of the kind here.
+    fn forbids(&self, style: &Style<'_>, kind: Kind) -> bool {
+        if style.under.is_empty() {
+            return false;
+        }
+        // A note goes by its paragraph, which is never within another node, and a character by what is directly around it.
+        let around = match kind {
+            Kind::Note => self.open.first().filter(|open| open.kind == Kind::Paragraph),
+            _ => self.open.last(),
+        };
+        let Some(around) = around else { return true };
+        let may_nest = kind == Kind::Character && around.kind == Kind::Character;
+        !(style.has_under(around.mark.name) || may_nest && style.has_under("NEST"))
+    }
+
+    /// Opens the node of a kind that a mark begins, where there is room. Answers whether it may not be here.
+    fn enter(&mut self, start: usize, mark: &Mark<'a>, style: &Style<'s>, kind: Kind) -> bool {
+        let unclosed = match kind {
+            Kind::Character if !self.open.iter().any(|open| open.kind == Kind::Note) => Some(Code::UnclosedChar),
+            Kind::Note => Some(Code::UnclosedNote),
             _ => None,
         };
-        let under = || self.sheet.style_of(branch.mark.name).map_or("", |style| style.under);
-        let not_under = is_restricted(Some(kind)) && forbids(under(), Some(kind), inside);
-        self.mark(branch.start, branch.mark, Told { first: None, unclosed, not_under });
-        let name = Some(branch.mark.name);
-        let mut within = Inside { depth: inside.depth + 1, character: None, ..inside };
-        match kind {
-            Kind::Paragraph => (within.holder, within.paragraph) = (name, name),
-            Kind::Character => within.character = name,
-            Kind::Note => (within.in_note, within.holder) = (true, name),
-            Kind::Milestone => (),
-        }
-        self.nodes(&branch.kids, within);
-        if branch.close.is_some() {
-            self.settle("");
-        }
+        let unclosed = unclosed.map(|code| {
+            self.push(code, start);
+            self.findings.len() - 1
+        });
+        let not_under = kind != Kind::Paragraph && self.forbids(style, kind);
+        self.open.push(Open { kind, mark: *mark, closer: style.closer, unclosed });
+        not_under
     }
 
-    fn nodes(&mut self, nodes: &[Node<'a>], inside: Inside<'a>) {
-        for node in nodes {
-            match node {
-                Node::Text(_, text) => self.settle(text),
-                Node::Leaf(start, mark) => self.leaf(*start, *mark, inside),
-                Node::Branch(branch) => self.branch(branch, inside),
+    /// Takes a mark that is not closing. Answers where the walk goes on.
+    fn opening(&mut self, start: usize, mark: &Mark<'a>, after: usize) -> usize {
+        let numbers = match mark.slice {
+            "\\c" => self.take_number(&self.text[after..], false),
+            "\\v" => self.take_number(&self.text[after..], true),
+            _ => [None; 2],
+        };
+        let mut not_under = false;
+        let mut end = after;
+        let style = self.sheet.style_of(mark.name);
+        match style.map(|style| (style, begun_by(style, mark))) {
+            None => self.push(Code::UnknownMarker, start),
+            Some((_, None)) => {}
+            Some((style, Some(kind))) => {
+                self.make_room(kind, mark.nested);
+                if self.open.len() >= 64 {
+                    self.push(Code::TooDeep, start);
+                } else if kind == Kind::Milestone {
+                    end = self.milestone_end(after);
+                } else {
+                    not_under = self.enter(start, mark, style, kind);
+                }
             }
         }
+        let last = not_under.then_some(Code::NotUnder);
+        for code in numbers.into_iter().chain([last]).flatten() {
+            self.push(code, start);
+        }
+        end
     }
-}
 
-fn super_number(rest: &[u8]) -> Option<Verse> {
-    number(rest, true).map(|(verse, _)| verse)
-}
+    fn milestone_end(&self, after: usize) -> usize {
+        let rest = &self.text[after..];
+        let length = rest.find('\\').unwrap_or(rest.len());
+        if rest[length..].starts_with("\\*") { after + length + 2 } else { after }
+    }
 
-fn begins(style: &Style<'_>, mark: &Mark<'_>) -> bool {
-    match style.kind {
-        None => false,
-        Some(Kind::Character) => style.closer.is_some(),
-        Some(_) => !mark.nested,
+    fn all(mut self) -> Vec<Finding> {
+        let mut at = 0;
+        while let Some(length) = self.text[at..].find('\\') {
+            let start = at + length;
+            let (mark, length) = split_mark(&self.text[start..]);
+            at = start + length;
+            if mark.closing {
+                self.closing(start, &mark);
+            } else {
+                at = self.opening(start, &mark, at);
+            }
+        }
+        self.findings.retain(|finding| finding.code != Code::TakenBack);
+        self.findings
     }
 }
 
 fn check(text: &str, sheet: &Sheet<'_>) -> Vec<Finding> {
-    let tree = read_tree(text, sheet);
     let key = Key { chapter: 0, verse: None };
-    let mut checker = Checker { sheet, key, reach: None, last: None, findings: Vec::new() };
-    checker.nodes(&tree, Inside::default());
-    checker.settle("");
-    checker.findings
+    Walk { text, sheet, open: Vec::with_capacity(64), key, reach: None, findings: Vec::new() }.all()
 }
 
 fn main() {
@@ -229,16 +272,16 @@ fn main() {
     let text = fs::read_to_string(&words[1]).unwrap();
     let sheet = Sheet::read(&sheet_text).unwrap();
     let mut time = Duration::MAX;
-    let mut counts = [0; 10];
+    let mut counts = [0; CODES];
     let mut sum = 0;
     for _ in 0..words[2].parse::<u32>().unwrap() {
         let start = Instant::now();
         let findings = check(&text, &sheet);
         time = time.min(start.elapsed());
-        counts = [0; 10];
+        counts = [0; CODES];
         sum = 0;
         for finding in &findings {
-            counts[finding.code] += 1;
+            counts[finding.code as usize] += 1;
             let verse = finding.key.verse.map_or(0, |verse| u64::from(verse.0));
             sum += finding.start as u64 + u64::from(finding.key.chapter) + verse;
         }

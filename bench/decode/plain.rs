@@ -1,12 +1,11 @@
 //! The job of `bundle_codec::decode` in plain Rust, to be measured against: judges the bundle that bytes begin with.
 //!
 //! `plain FILE ROUNDS` prints the least time of a round in nanoseconds, and how many operations and bytes the bundle has.
-//! Built by `rustc -O`, without crates.
 
 #[path = "../judging.rs"]
 mod judging;
 
-use judging::{MAGIC, Reader};
+use judging::{FRONT, Reader};
 use std::env;
 use std::fs;
 use std::process::ExitCode;
@@ -20,7 +19,7 @@ fn main() -> ExitCode {
     let mut found = (0, 0);
     for _ in 0..rounds {
         let start = Instant::now();
-        let mut length = MAGIC.len() + 8;
+        let mut length = FRONT;
         let count = match (Reader { rest: &bytes }).bundle(|op| length += op.bytes.len()) {
             Ok(count) => count,
             Err((number, details)) => {

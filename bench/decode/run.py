@@ -3,10 +3,10 @@
 
     run.py [OPERATIONS ..]      by default 10000 100000: how many the bundle has
 
-The proved call is built by `rt run` (bench.rt.txt, in a folder of its own), the plain one by `rustc -O` (plain.rs).
-Both judge every field, that each text is UTF-8, and that it fits its book and key; neither copies anything. The least
-time of a round counts. The exit status is 1 where the two find different bundles, or the proved one takes more than 1.5
-times as long.
+The proved call is built by `rt run` (bench.rt.txt, in a folder of its own), the plain one by bench/build_plain.sh
+(plain.rs). Both judge every field, that each text is UTF-8, and that it fits its book and key; neither copies anything.
+The least time of a round counts. The exit status is 1 where the two find different bundles, or the proved one takes
+more than twice as long.
 """
 import os
 import sys
@@ -25,7 +25,7 @@ def compare(count, programs, name):
     least, _ = turn_about(programs, [name, ROUNDS], TURNS)
     ratio = least[0] / least[1]
     print("%7d: proved %8.3f ms   plain %8.3f ms   time %.2f" % (count, least[0] / 1e6, least[1] / 1e6, ratio))
-    return ratio <= 1.5
+    return ratio <= 2
 
 
 def main():

@@ -2,8 +2,7 @@
 //!
 //! `plain PROJECT EDITS JOB ROUNDS`, with two bundles: one holds the project and the edits, the other one the project
 //! alone. The job `delta` writes what the second lacks, the job `receive` takes that in. It prints the least time of a
-//! round in nanoseconds, the length and a sum of the delta, and how many operations were new. Built by `rustc -O`,
-//! without crates.
+//! round in nanoseconds, the length and a sum of the delta, and how many operations were new.
 
 #[path = "../held.rs"]
 mod held;

@@ -17,6 +17,9 @@ struct Hit<'a> {
 
 fn find<'a>(text: &'a str, sheet: &Sheet<'_>, needle: &str) -> Vec<Hit<'a>> {
     let mut hits = Vec::new();
+    if !text.contains(needle) {
+        return hits;
+    }
     plain_leaves(text, sheet, |start, leaf, key| {
         for (at, found) in leaf.match_indices(needle) {
             hits.push(Hit { key, start: start + at, text: found });

@@ -3,9 +3,9 @@
 
     run.py [OPERATIONS ..]      by default 10000 100000
 
-The program is the one that `./usfm_team` builds; the plain one, built here by `rustc -O`, lends names and texts
-from what it read, holds the operations by their ids, and looks at the segments of the one book alone. Each job runs
-several times, and the least wall time counts. The peak of resident memory is that of one more run below
+The program is the one that `./usfm_team` builds; the plain one, built by bench/build_plain.sh, lends names and texts
+from what it read, judges each bundle, walks all of them side by side, and keeps the operations of the one book alone.
+Each job runs several times, and the least wall time counts. The peak of resident memory is that of one more run below
 `/usr/bin/time`: a child of this script would begin with the script's own. The job `read and join` asks for a book that
 has no operation, so that both programs read, judge and join all and write nothing; `whole` also exports the first book.
 """
@@ -16,8 +16,9 @@ import tempfile
 import time
 
 HERE = os.path.dirname(os.path.abspath(__file__))
-TOP = os.path.dirname(os.path.dirname(HERE))
-PROGRAM = os.path.join(TOP, "crates/usfm_team/out/usfm_team")
+sys.path.insert(0, os.path.dirname(HERE))
+from programs import PROGRAM, TOP, peak, plain_program
+
 TURNS = 15
 
 
@@ -31,12 +32,9 @@ def once(command, stream):
         return wall, (out.read(), status)
 
 
-def peak(command, stream):
-    """Peak kilobytes of one run."""
-    with open(stream, "rb") as source, tempfile.NamedTemporaryFile("r") as told:
-        subprocess.run(["/usr/bin/time", "-q", "-f", "%M", "-o", told.name] + command, stdin=source,
-                       stdout=subprocess.DEVNULL, stderr=subprocess.DEVNULL)
-        return int(told.read().split()[-1])
+def peak_on(command, stream):
+    with open(stream, "rb") as source:
+        return peak(command, source)
 
 
 def compare(label, ours, plain, stream):
@@ -50,7 +48,7 @@ def compare(label, ours, plain, stream):
     if answers["ours"] != answers["plain"]:
         sys.exit("%s: the two programs answer differently" % label)
     ours_wall, plain_wall = min(walls["ours"]), min(walls["plain"])
-    ours_peak, plain_peak = peak(ours, stream), peak(plain, stream)
+    ours_peak, plain_peak = peak_on(ours, stream), peak_on(plain, stream)
     print("%-28s %8.3f s %7d KB   plain %8.3f s %7d KB   wall %.2f  memory %.2f"
           % (label, ours_wall, ours_peak, plain_wall, plain_peak, ours_wall / plain_wall, ours_peak / plain_peak))
 
@@ -60,8 +58,7 @@ def main():
     with open(os.path.join(TOP, "samples/first.bundle"), "rb") as sample:
         subprocess.run([os.path.join(TOP, "usfm_team"), "fold", "MAT"], stdin=sample, stdout=subprocess.DEVNULL, check=True)
     with tempfile.TemporaryDirectory() as work:
-        plain = os.path.join(work, "plain")
-        subprocess.run(["rustc", "-O", "--edition", "2021", "-o", plain, os.path.join(HERE, "plain.rs")], check=True)
+        plain = plain_program(work, HERE)
         for count in counts:
             stream = os.path.join(work, "stream")
             with open(stream, "wb") as out:

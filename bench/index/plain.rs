@@ -1,7 +1,7 @@
 //! The jobs of bench.rt.txt in plain Rust, to be measured against: sets of operations with what each segment shows,
 //! made by single inserts and joined. Names and texts are lent by whoever makes an operation.
 
-use std::collections::{BTreeMap, HashMap, HashSet};
+use std::collections::{HashMap, HashSet};
 use std::time::{Duration, Instant};
 
 #[derive(Clone, Copy, PartialEq, Eq, PartialOrd, Ord, Hash)]
@@ -27,22 +27,29 @@ struct Register {
     named: HashSet<Id>,
 }
 
+/// Operations that rise by id, and what each segment shows.
 #[derive(Default)]
 struct Set {
-    ops: BTreeMap<Id, Op>,
+    ops: Vec<Op>,
     registers: HashMap<Segment, Register>,
 }
 
+/// Where an operation of an id is, or would be. Most that come are after all that are held.
+fn place(ops: &[Op], id: Id) -> Result<usize, usize> {
+    match ops.last() {
+        Some(last) if id <= last.id => ops.binary_search_by_key(&id, |op| op.id),
+        _ => Err(ops.len()),
+    }
+}
+
 impl Set {
-    fn insert(&mut self, op: Op) {
-        if let Some(held) = self.ops.get(&op.id) {
-            assert!(*held == op, "a clash");
-            return;
-        }
+    /// Shows an operation that is not held, in place of those that it names, if none that is held names it.
+    fn note(&mut self, op: &Op) {
         let register = self.registers.entry(op.segment).or_default();
         for named in &op.replaced {
-            register.shown.retain(|id| id != named);
-            if !self.ops.contains_key(named) {
+            if let Some(at) = register.shown.iter().position(|id| id == named) {
+                register.shown.remove(at);
+            } else if place(&self.ops, *named).is_err() {
                 register.named.insert(*named);
             }
         }
@@ -50,13 +57,36 @@ impl Set {
             let at = register.shown.partition_point(|id| *id < op.id);
             register.shown.insert(at, op.id);
         }
-        self.ops.insert(op.id, op);
     }
 
-    fn join(&mut self, other: Set) {
-        for op in other.ops.into_values() {
-            self.insert(op);
+    fn insert(&mut self, op: Op) {
+        match place(&self.ops, op.id) {
+            Ok(at) => assert!(self.ops[at] == op, "a clash"),
+            Err(at) => {
+                self.note(&op);
+                self.ops.insert(at, op);
+            }
         }
+    }
+
+    /// Takes in a set: its registers too where nothing is held; else its operations, by one merge of the two lists.
+    fn join(&mut self, other: Set) {
+        if self.ops.is_empty() {
+            *self = other;
+            return;
+        }
+        let mut new = Vec::new();
+        for op in other.ops {
+            match place(&self.ops, op.id) {
+                Ok(at) => assert!(self.ops[at] == op, "a clash"),
+                Err(_) => {
+                    self.note(&op);
+                    new.push(op);
+                }
+            }
+        }
+        self.ops.append(&mut new);
+        self.ops.sort_by_key(|op| op.id);
     }
 
     fn sum(&self) -> u64 {

@@ -2,18 +2,17 @@
 //! bundle of their union out of the bytes that spell its operations.
 //!
 //! `plain FIRST SECOND ROUNDS` prints the least time of a round in nanoseconds, and the length and a sum of the joined
-//! bytes. Built by `rustc -O`, without crates.
+//! bytes.
 
 #[path = "../operations.rs"]
 mod operations;
 
+use operations::judging::FRONT;
 use operations::{Fault, join, whole_bundle, write_front};
 use std::env;
 use std::fs;
 use std::process::ExitCode;
 use std::time::{Duration, Instant};
-
-const FRONT: usize = 16;
 
 fn join_bundles(first: &[u8], second: &[u8]) -> Result<Vec<u8>, Fault> {
     let left = whole_bundle(first)?;

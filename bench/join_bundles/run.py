@@ -3,35 +3,28 @@
 
     run.py [OPERATIONS ..]      by default 10000 100000: how many each of the two bundles has
 
-The proved call is built by `rt run` (bench.rt.txt, in a folder of its own), the plain one by `rustc -O` (plain.rs).
-Half of the operations are in both bundles. The least time of a round counts, and the greatest resident memory of a
-process that joins once, beside what the inputs and the output fill (no peak shows below the 19 MB or so that this
-script itself holds). The exit status is 1 where the two programs join
-to different bytes, or the proved one takes more than 1.5 times as long.
+The proved call is built by `rt run` (bench.rt.txt, in a folder of its own), the plain one by bench/build_plain.sh
+(plain.rs). Half of the operations are in both bundles. The least time of a round counts, and the greatest resident
+memory of a process that joins once, beside what the inputs and the output fill. The exit status is 1 where the two
+programs join to different bytes, or the proved one takes more than 1.5 times as long.
 """
 import os
-import subprocess
 import sys
 import tempfile
 
 HERE = os.path.dirname(os.path.abspath(__file__))
 sys.path.insert(0, os.path.dirname(HERE))
-from pairs import build, once, turn_about, write_bundles
+from pairs import build, turn_about, write_bundles
+from programs import peak
 
 TURNS = 7
 ROUNDS = "10"
 
 
-def two_bundles(work, count):
-    """The names of two bundles. Another process makes them, since what this one holds counts as its children's memory."""
-    names = [os.path.join(work, "first"), os.path.join(work, "second")]
-    subprocess.run([sys.executable, os.path.abspath(__file__), "--make", str(count), *names], check=True)
-    return names
-
-
 def compare(count, programs, names):
+    write_bundles(count, names)
     least, joined = turn_about(programs, [*names, ROUNDS], TURNS)
-    peaks = [once(program, [*names, "1"])[2] for program in programs]
+    peaks = [peak([program, *names, "1"]) for program in programs]
     held = (sum(os.path.getsize(name) for name in names) + int(joined[0])) // 1024
     ratio = least[0] / least[1]
     print("%7d twice: proved %8.3f ms %7d KB   plain %8.3f ms %7d KB   time %.2f   inputs and output %d KB"
@@ -40,12 +33,12 @@ def compare(count, programs, names):
 
 
 def main():
-    if sys.argv[1:2] == ["--make"]:
-        return write_bundles(int(sys.argv[2]), sys.argv[3:])
     counts = [int(word) for word in sys.argv[1:]] or [10_000, 100_000]
     with tempfile.TemporaryDirectory() as work:
-        programs = build(work, HERE, "bundle_codec", [*two_bundles(work, counts[0]), "1"])
-        held = [compare(count, programs, two_bundles(work, count)) for count in counts]
+        names = [os.path.join(work, "first"), os.path.join(work, "second")]
+        write_bundles(counts[0], names)
+        programs = build(work, HERE, "bundle_codec", [*names, "1"])
+        held = [compare(count, programs, names) for count in counts]
     sys.exit(not all(held))
 
 

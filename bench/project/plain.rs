@@ -5,15 +5,14 @@
 //!
 //! `plain import PROJECT FILE`, `plain receive PROJECT BUNDLE`, `plain export PROJECT BOOK`. Beside these, `plain load
 //! PROJECT` only loads, and `plain index PROJECT` then makes a register of what each segment shows, as a replica that
-//! is asked again and again would keep it: what the two take apart is the share of an index. Built by `rustc -O`,
-//! without crates.
+//! is asked again and again would keep it: what the two take apart is the share of an index.
 
 #[path = "../operations.rs"]
 mod operations;
 #[path = "../projects.rs"]
 mod projects;
 
-use operations::fitting::{Key, Place, code_ends, code_of_head, key_at};
+use operations::fitting::{Key, Place, after_backslashes, code_ends, code_of_head, key_at};
 use operations::{Fault, Id, Op, export, picked, shown_in, whole_bundle};
 use projects::{Project, answer, fault, read, receive};
 use std::collections::{BTreeMap, BTreeSet, HashMap};
@@ -29,7 +28,7 @@ fn book_in(file: &[u8]) -> Result<([u8; 3], &str), Fault> {
 }
 
 fn book_of(text: &str) -> Result<[u8; 3], Fault> {
-    let code = code_of_head(text).ok_or(fault(30))?;
+    let code = code_of_head(text.as_bytes()).ok_or(fault(30))?;
     let (book, after) = code.split_first_chunk().ok_or(fault(20))?;
     if code_ends(after) && book.iter().all(|b| b.is_ascii_uppercase() || b.is_ascii_digit()) {
         Ok(*book)
@@ -44,10 +43,11 @@ fn cut(text: &str) -> BTreeMap<Key, &str> {
     let mut chapter = 0;
     let mut start = 0;
     let mut last = Key { chapter, place: Place::Head };
-    for (at, _) in text.match_indices('\\') {
-        let Some(key) = key_at(&text.as_bytes()[at + 1..], chapter) else {
+    for after in after_backslashes(text.as_bytes()) {
+        let Some(key) = key_at(after, chapter) else {
             continue;
         };
+        let at = text.len() - after.len() - 1;
         chapter = chapter.max(key.chapter);
         if key > last {
             pieces.insert(last, &text[start..at]);
@@ -70,8 +70,8 @@ struct Change<'a> {
 /// without a text of its own, which is picked as its chapter's line, is changed too where there is no verse that would
 /// go on giving it that line.
 fn changes<'a>(ops: Vec<Op<'a>>, pieces: &BTreeMap<Key, &'a str>) -> Vec<Change<'a>> {
+    let picked = picked(&ops);
     let shown = shown_in(ops);
-    let picked = picked(&shown);
     let verses = pieces.keys().filter(|key| key.place != Place::Head);
     let with_verses: BTreeSet<u16> = verses.map(|key| key.chapter).collect();
     let keys: BTreeSet<Key> = picked.keys().chain(pieces.keys()).copied().collect();
@@ -159,7 +159,7 @@ fn export_book(path: &str, book: [u8; 3]) -> Result<Vec<u8>, Fault> {
             ops.push(op);
         }
     })?;
-    export(ops)
+    export(&ops)
 }
 
 /// How many ids are shown, counted in a register for each segment.

@@ -3,7 +3,7 @@
 
     run.py [PROGRAM]      by default the program that `./usfm_team` builds
 
-The plain program is built here by `rustc -O`, the files are those of generate.py: a book of about 1,000 verses is
+The plain program is built by bench/build_plain.sh, the files are those of generate.py: a book of about 1,000 verses is
 imported into a project of 66 books, a bundle of 100 operations is received by it, and a book is exported from it. Each
 job runs several times on a fresh copy of the project. The table has the least wall time, the least time of the
 processor, which other work disturbs less, and the peak of resident memory of one more run below `/usr/bin/time`: a

@@ -1,8 +1,7 @@
 //! The job of `Replica::summary` in plain Rust, to be measured against.
 //!
 //! `plain BUNDLES ROUNDS` takes in bundles that come one after the other, and makes the summary of all. It prints the
-//! least time of a round in nanoseconds, and the length and a sum of the summary's bytes. Built by `rustc -O`, without
-//! crates.
+//! least time of a round in nanoseconds, and the length and a sum of the summary's bytes.
 
 #[path = "../held.rs"]
 mod held;

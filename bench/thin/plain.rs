@@ -2,8 +2,7 @@
 //!
 //! `plain thin PROJECT` leaves out the texts that were replaced, `plain receive PROJECT BUNDLE` receives a bundle, and
 //! `plain send PROJECT` writes the bundle of all operations. Names and texts are lent by the files that were read, and
-//! operations are written by their bytes. A project has the bytes that `send` writes, so it only judges them. Built by
-//! `rustc -O`, without crates.
+//! operations are written by their bytes. A project has the bytes that `send` writes, so it only judges them.
 
 #[path = "../operations.rs"]
 mod operations;

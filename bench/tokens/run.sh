@@ -18,23 +18,9 @@ echo "building"
 make_text prose "$bytes" >"$work/prose"
 make_text marks "$bytes" >"$work/marks"
 build_plain
-build_proved token_bench usfm_token "usfm_token anyhow" "$work/prose" 1
+build_proved token_bench "usfm_token anyhow" "$work/prose" 1
 
-status=0
 for text in prose marks; do
-    for _ in $(seq "$turns"); do
-        "$plain" "$work/$text" "$rounds" >>"$work/$text.plain"
-        "$proved" "$work/$text" "$rounds" >>"$work/$text.proved"
-    done
-    if [ "$(cut -d' ' -f2- "$work/$text".{plain,proved} | sort -u | wc -l)" != 1 ]; then
-        echo "$text: the two count different tokens"
-        status=1
-    fi
-    awk -v text="$text" -v size="$(wc -c <"$work/$text")" -v plain="$(least "$work/$text.plain")" \
-        -v proved="$(least "$work/$text.proved")" 'BEGIN {
-            printf "%s: %d bytes, plain %d us, proved %d us, ratio %.2f\n",
-                text, size, plain / 1000, proved / 1000, proved / plain
-            exit proved > 1.5 * plain
-        }' || status=1
+    compare "$text" "$work/$text"
 done
 exit "$status"
