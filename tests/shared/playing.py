@@ -1,0 +1,268 @@
+r"""Rows: commands that are played in a new folder, with what each of them has to write.
+
+A file of rows is a page. A line that begins with '# ' begins a play, which has a folder of its own. What is indented by four
+are its rows; all else says what they are there for.
+
+    # A bundle that clashes
+
+        + first bens
+        $ usfm_team init p ana
+        $ usfm_team receive p first
+        new 2
+        + other: bundle 2:ana MAT 1:1 "\v 1 Xx\n"
+        $ usfm_team receive p bens other
+        ! fault 51 2 ana
+        ! in other
+        = p: project ana first
+        = ./: bens first other p
+
+    $ COMMAND         a line for bash, with the program in the path and the words of tests/shared/playing.sh. Under it stand the
+                      lines that it has to write on standard output ('|' is an empty one, and '| LINE' one that looks like a
+                      row), then those of standard error ('! LINE', or '! ..' for any), and its status ('[2]') where that is
+                      not 1 after '! fault ..', and else 0
+    + FILE: CONTENT   makes a file; contents.py says how contents are written. '+ NAME ..' makes bundles with names
+    = FILE: CONTENT   the file has to have this content; `output` is what the command before wrote on standard output
+    = FOLDER/: NAME ..   the folder has to have these names, and no other
+    each NAME ..: WORD ..   the first row: the play is played for each word, or for each so many of them, with $NAME in its place
+    needs COMMAND     where this command fails, the play is not played, and that is said
+
+A row goes on in the lines under it. Plays are played side by side, and the rows of one in their order.
+"""
+import argparse
+import difflib
+import os
+import re
+import shlex
+import shutil
+import subprocess
+import sys
+import tempfile
+from concurrent.futures import ThreadPoolExecutor
+from dataclasses import dataclass, field
+from pathlib import Path
+
+sys.path.insert(1, str(Path(__file__).resolve().parent.parent / "fuzz"))
+
+from contents import Named, told
+from repository import program_of_repository
+
+SHARED = Path(__file__).resolve().parent
+INDENT = "    "
+ROW = re.compile(r"[$+=] |(each|needs) ")
+# Far more than any command takes: one that waits for ever is shown as one that fails.
+SECONDS = 60
+
+
+@dataclass(frozen=True)
+class Row:
+    """A row, where it stands, and the lines under it."""
+
+    line: int
+    text: str
+    under: list[str]
+
+    @property
+    def whole(self) -> str:
+        return " ".join([self.text, *self.under])
+
+    def with_values(self, values: dict[str, str]) -> "Row":
+        """The row with values in the place of their names."""
+
+        def put(text: str) -> str:
+            return re.sub(r"\$([A-Z]+)\b", lambda found: values.get(found[1], found[0]), text)
+
+        return Row(self.line, put(self.text), [put(it) for it in self.under])
+
+
+@dataclass(frozen=True)
+class Play:
+    """Rows that are played one after another in a folder."""
+
+    path: Path
+    line: int
+    title: str
+    rows: list[Row]
+
+    def each(self) -> list["Play"]:
+        """The play for each of the values that its first row has."""
+        if not self.rows or not self.rows[0].text.startswith("each "):
+            return [self]
+        names, words = self.rows[0].whole[5:].split(":", 1)
+        names, words = names.split(), shlex.split(words)
+        if len(words) % len(names):
+            raise SystemExit(f"{self.path}:{self.rows[0].line}: {len(words)} words, for {len(names)} names each time")
+        return [self.with_values(dict(zip(names, words[at:]))) for at in range(0, len(words), len(names))]
+
+    def with_values(self, values: dict[str, str]) -> "Play":
+        title = ", ".join([self.title, *(f"{name} {value!r}" for name, value in values.items())])
+        return Play(self.path, self.line, title, [it.with_values(values) for it in self.rows[1:]])
+
+
+def read(path: Path) -> list[Play]:
+    """The plays of a file."""
+    plays: list[Play] = []
+    for number, line in enumerate(path.read_text().splitlines(), 1):
+        text = line.removeprefix(INDENT)
+        if line.startswith("# "):
+            plays.append(Play(path, number, line[2:], []))
+        elif line.startswith(INDENT) and text.strip():
+            if ROW.match(text):
+                plays[-1].rows.append(Row(number, text, []))
+            else:
+                plays[-1].rows[-1].under.append(text)
+        elif re.match(r"\s*[$+=!] ", line):
+            raise SystemExit(f"{path}:{number}: a row that is not indented by four")
+    return [one for play in plays for one in play.each()]
+
+
+@dataclass
+class Answer:
+    """What a command answers, or has to answer: standard error is None where it may be any."""
+
+    status: int
+    output: bytes
+    error: bytes | None
+
+    def lines(self) -> list[str]:
+        """The answer in the lines of rows."""
+        output = ["|" if not it else f"| {it}" if ROW.match(it) or it[0] in "![|" else it for it in lines_of(self.output)]
+        error = [".."] if self.error is None else lines_of(self.error)
+        return [*output, *(f"! {it}" for it in error), f"[{self.status}]"]
+
+
+def lines_of(data: bytes) -> list[str]:
+    lines = data.decode(errors="backslashreplace").split("\n")
+    return lines[:-1] if not lines[-1] else [*lines[:-1], lines[-1] + " (without an end of the line)"]
+
+
+def wanted_of(row: Row) -> Answer:
+    """What the command of a row has to answer."""
+    marked = [it for it in row.under if it.startswith("! ")]
+    status = [it for it in row.under if re.fullmatch(r"\[\d+\]", it)]
+    output = [re.sub(r"^\| ?", "", it) for it in row.under if it not in marked + status]
+    is_refused = any(it.startswith("! fault ") for it in marked)
+    error = None if marked == ["! .."] else "".join(it[2:] + "\n" for it in marked).encode()
+    return Answer(int(status[0][1:-1]) if status else int(is_refused), "".join(it + "\n" for it in output).encode(), error)
+
+
+def beside(wanted: list[str], came: list[str]) -> str:
+    """What was wanted beside what came, with a mark where they differ."""
+    rows = [("", "wanted", "came")]
+    for tag, a, b, c, d in difflib.SequenceMatcher(None, wanted, came, False).get_opcodes():
+        for at in range(max(b - a, d - c)):
+            left, right = (lines[first + at] if first + at < last else "" for lines, first, last in ((wanted, a, b), (came, c, d)))
+            rows.append(("" if tag == "equal" else ">", left, right))
+    width = min(60, max(len(left) for _, left, _ in rows))
+    return "\n".join(f"    {mark:1} {left:{width}}  {right}".rstrip() for mark, left, right in rows)
+
+
+@dataclass
+class Stage:
+    """A folder in which a play is played, and what comes of it."""
+
+    play: Play
+    folder: Path
+    environment: dict[str, str]
+    named: Named
+    output: bytes = b""
+    passed: int = 0
+    failures: list[str] = field(default_factory=list)
+    skipped: list[str] = field(default_factory=list)
+
+    def all(self) -> "Stage":
+        """Plays the rows, up to one that cannot be read."""
+        self.folder.mkdir()
+        rows = self.play.rows
+        for row, later in zip(rows, [*rows[1:], None]):
+            try:
+                if row.text.startswith("needs ") and self.run(row.whole[6:]).status != 0:
+                    self.skipped.append(f"not played, since `{row.whole[6:]}` fails: {self.place(row)}")
+                    break
+                self.do(row, later is not None and later.text.startswith("= output:"))
+            except (ValueError, IndexError, KeyError, OSError, subprocess.TimeoutExpired) as wrong:
+                self.failures.append(f"{self.place(row)}\n    {row.text}\n    {type(wrong).__name__}: {wrong}")
+                break
+        return self
+
+    def do(self, row: Row, is_output_said: bool) -> None:
+        said, _, content = row.whole[2:].partition(":")
+        if row.text.startswith("$ "):
+            wanted, came = wanted_of(row), self.run(row.text[2:])
+            self.output = came.output
+            if is_output_said and not wanted.output:
+                wanted.output = came.output
+            if wanted.error is None and came.error:
+                wanted.error = came.error
+            self.check(row, wanted == came, wanted.lines(), came.lines())
+        elif row.text.startswith("+ "):
+            for name in [said] if content else said.split():
+                (self.folder / name).write_bytes(self.named.content(content or f"bundle {name}"))
+        elif row.text.startswith("= ") and said.endswith("/"):
+            wanted_names, names = sorted(content.split()), sorted(os.listdir(self.folder / said))
+            self.check(row, wanted_names == names, wanted_names, names)
+        elif row.text.startswith("each "):
+            raise ValueError("it is not the first row")
+        elif row.text.startswith("= "):
+            wanted_bytes = self.named.content(content)
+            data = self.output if said == "output" else (self.folder / said).read_bytes()
+            self.check(row, wanted_bytes == data, told(wanted_bytes), told(data))
+
+    def run(self, command: str) -> Answer:
+        words = ["bash", "-o", "pipefail", "-c", command]
+        ran = subprocess.run(
+            words, cwd=self.folder, env=self.environment, stdin=subprocess.DEVNULL, capture_output=True, timeout=SECONDS
+        )
+        return Answer(ran.returncode, ran.stdout, ran.stderr)
+
+    def check(self, row: Row, is_right: bool, wanted: list[str], came: list[str]) -> None:
+        if is_right:
+            self.passed += 1
+        else:
+            self.failures.append(f"{self.place(row)}\n    {row.text}\n{beside(wanted, came)}")
+
+    def place(self, row: Row) -> str:
+        return f"{os.path.relpath(self.play.path)}:{row.line}, {self.play.title}"
+
+
+def chosen(folder: Path, words: list[str]) -> list[Play]:
+    """The plays of the files that are named, or of one line of them; without a word all of the folder."""
+    plays = []
+    for word in words or sorted(map(str, folder.rglob("*.rows"))):
+        name, _, line = word.partition(":")
+        path = Path(name) if Path(name).is_file() else folder / f"{name.removesuffix('.rows')}.rows"
+        found = read(path)
+        at = max((it.line for it in found if it.line <= int(line)), default=0) if line else 0
+        plays += [it for it in found if not line or it.line == at]
+    return plays
+
+
+def played(plays: list[Play], folder: Path, program: Path, kind: type[Stage] = Stage) -> list[Stage]:
+    """What comes of plays, side by side, with the names of the folder that they are from."""
+    named = Named(folder / "named")
+    os.umask(0o022)
+    with tempfile.TemporaryDirectory() as place:
+        work = Path(place)
+        work.chmod(0o755)
+        work.joinpath("bin").mkdir()
+        shutil.copy(program, work / "bin/usfm_team")
+        paths = {"PATH": f"{work}/bin:{os.environ['PATH']}", "BASH_ENV": str(SHARED / "playing.sh")}
+        environment = {**os.environ, **paths, "LC_ALL": "C"}
+        stages = [kind(it, work / str(number), environment, named) for number, it in enumerate(plays)]
+        with ThreadPoolExecutor(os.cpu_count()) as pool:
+            list(pool.map(Stage.all, stages))
+        subprocess.run(["chmod", "-R", "u+rwX", work], check=False)
+    return stages
+
+
+def play_all(name: str, folder: Path) -> int:
+    """Plays the rows of a folder as the command line says, and answers the exit status."""
+    parser = argparse.ArgumentParser(usage=f"tests/{folder.name}/run [--program PATH] [FILE[:LINE] ..]")
+    parser.add_argument("--program", type=Path, help="the program, else the one of this repository")
+    parser.add_argument("files", nargs="*", help="the files of rows, or the play of a line of one, else all")
+    options = parser.parse_args()
+    stages = played(chosen(folder, options.files), folder, options.program or program_of_repository())
+    for said in [it for stage in stages for it in stage.failures + stage.skipped]:
+        print(f"{name}: {said}")
+    passed, failed = sum(it.passed for it in stages), sum(len(it.failures) for it in stages)
+    print(f"{name}: {passed} passed, {failed or int(not passed)} failed")
+    return 1 if failed or not passed else 0
