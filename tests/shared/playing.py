@@ -40,6 +40,7 @@ import tempfile
 from concurrent.futures import ThreadPoolExecutor
 from dataclasses import dataclass, field
 from pathlib import Path
+from typing import Optional
 
 sys.path.insert(1, str(Path(__file__).resolve().parent.parent / "fuzz"))
 
@@ -121,7 +122,7 @@ class Answer:
 
     status: int
     output: bytes
-    error: bytes | None
+    error: Optional[bytes]
 
     def lines(self) -> list[str]:
         """The answer in the lines of rows."""
