@@ -6,8 +6,6 @@ mod folder;
 mod placing;
 mod project;
 mod sync;
-#[cfg(test)]
-mod tests;
 mod turns;
 
 use crate::files::read_file;
