@@ -23,7 +23,8 @@ are its rows; all else says what they are there for.
     + FILE: CONTENT   makes a file; contents.py says how contents are written. '+ NAME ..' makes bundles with names
     = FILE: CONTENT   the file has to have this content; `output` is what the command before wrote on standard output
     = FOLDER/: NAME ..   the folder has to have these names, and no other
-    each NAME ..: WORD ..   the first row: the play is played for each word, or for each so many of them, with $NAME in its place
+    each NAME ..: WORD ..   the first row: the play is played for each word, with it in the place of $NAME; where there are two
+                      names, for each two words, and so on
     needs COMMAND     where this command fails, the play is not played, and that is said
 
 A row goes on in the lines under it. Plays are played side by side, and the rows of one in their order.
