@@ -46,6 +46,7 @@ from typing import Optional
 sys.path.insert(1, str(Path(__file__).resolve().parent.parent / "fuzz"))
 
 from contents import Named, told
+from reporting import Tally
 from repository import program_of_repository
 
 SHARED = Path(__file__).resolve().parent
@@ -263,8 +264,9 @@ def play_all(name: str, folder: Path) -> int:
     parser.add_argument("files", nargs="*", help="the files of rows, or the play of a line of one, else all")
     options = parser.parse_args()
     stages = played(chosen(folder, options.files), folder, options.program or program_of_repository())
-    for said in [it for stage in stages for it in stage.failures + stage.skipped]:
-        print(f"{name}: {said}")
-    passed, failed = sum(it.passed for it in stages), sum(len(it.failures) for it in stages)
-    print(f"{name}: {passed} passed, {failed or int(not passed)} failed")
-    return 1 if failed or not passed else 0
+    tally = Tally()
+    for stage in stages:
+        tally.add(stage.passed, stage.failures)
+        for said in stage.skipped:
+            print(f"{name}: {said}")
+    return tally.end(name)
