@@ -1,4 +1,4 @@
-"""The second implementation in the place of the program, in the rows of worked examples (tests/program/worked)."""
+"""The second implementation in the place of the program, in rows (tests/program/worked)."""
 import shlex
 from pathlib import Path
 
@@ -12,7 +12,9 @@ class SecondStage(Stage):
     """A folder in which the second implementation answers for the program."""
 
     def run(self, command: str) -> Answer:
-        """The answer of a line that runs the program once, with files as its streams; bash has the other lines."""
+        """The answer of a line that runs the program once, with files as its streams.
+
+        Bash has the other lines."""
         line = shlex.shlex(command, posix=True, punctuation_chars="<>")
         line.whitespace_split = True
         words = list(line)
@@ -24,7 +26,8 @@ class SecondStage(Stage):
             if mark == ">":
                 output = self.folder / name
             else:
-                given = name.encode() + b"\n" if mark == "<<<" else (self.folder / name).read_bytes()
+                text = name.encode() + b"\n"
+                given = text if mark == "<<<" else (self.folder / name).read_bytes()
         answer = self.answer(words[1:], given)
         if output is None:
             return answer
@@ -33,8 +36,9 @@ class SecondStage(Stage):
 
     def answer(self, words: list[str], given: bytes) -> Answer:
         """The answer of these words, with the files as they are then in the folder."""
-        before: Folder = {str(it.relative_to(self.folder)): it.read_bytes() for it in self.folder.rglob("*") if it.is_file()}
-        after = dict(before)
+        files = [it for it in self.folder.rglob("*") if it.is_file()]
+        before = {str(it.relative_to(self.folder)): it.read_bytes() for it in files}
+        after: Folder = dict(before)
         answer = run(after, words, given)
         for name in [it for it in after if after[it] != before.get(it)]:
             (self.folder / name).write_bytes(after[name])
@@ -42,7 +46,7 @@ class SecondStage(Stage):
 
 
 def play_worked(program: Path) -> tuple[int, list[str]]:
-    """How many rows of the worked examples the second implementation meets, and what is wrong of the others."""
+    """How many rows the second implementation meets, and what is wrong of the others."""
     plays = [it for it in chosen(ROWS, []) if it.path.parent.name == "worked"]
     stages = played(plays, ROWS, program, SecondStage)
     return sum(it.passed for it in stages), [wrong for it in stages for wrong in it.failures]

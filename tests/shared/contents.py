@@ -1,12 +1,15 @@
 r"""What rows say of files: texts, bundles, project files and summaries in words.
 
-    "\id MAT\n\c 1\n" "a"*4000                  these bytes; \n, \\, \" and \xFF (in hexadecimal) are one each, and before
-                                                any other letter a backslash is itself
+    "\id MAT\n\c 1\n" "a"*4000
+        These bytes, the second text so often. \n, \\, \" and \xff (in hexadecimal) are one byte
+        each; before any other letter a backslash is itself.
     bundle 1:ana MAT 0 "\id MAT\n" 2:ana MAT 1:1 over 1:ben "\v 1 In\n" 3:cy MAT 1:2 thinned
-    bundle first 3:ben MAT 1:1 "\v 1 At\n"      operations with names, which the page `named` gives them, and others
-    sheet                                       a text with a name, likewise
-    project ana first                           the project file of ana that holds them
-    summary ana 1-3 5 ben 3                     the numbers that are held under each name
+    bundle first 3:ben MAT 1:1 "\v 1 At\n"
+    project ana first
+        A bundle of operations, and the project file of ana that holds some. A name stands for
+        operations, or for a text, that the page `named` gives it.
+    summary ana 1-3 5 ben 3
+        The numbers that are held under each name.
 
 The bytes are made, and read, by the second implementation of the rules (tests/fuzz/model).
 """
@@ -76,7 +79,7 @@ def read_operation(words: list[str]) -> tuple[Operation, list[str]]:
 def text_of(word: str) -> bytes:
     """The bytes of a text between quotes."""
     if not word.startswith('"'):
-        raise ValueError(f"not a text between quotes: {word}")
+        raise ValueError(f"neither a name nor a text between quotes: {word}")
     text, times = word[1:].rsplit('"', 1)
     return ESCAPE.sub(lambda found: escaped(found[1]), text.encode()) * int(times[1:] or 1)
 
@@ -100,7 +103,7 @@ def summary_of(words: list[str]) -> bundles.Summary:
 
 
 def told(data: bytes) -> list[str]:
-    """What the bytes are, in the words of rows: a line for each operation, or for each line of a text."""
+    """What the bytes are, in the words of rows: a line for each operation, or for each of a text."""
     try:
         name, held = bundles.read_project(data)
         return [f"project {name}", *map(told_operation, held.values())]
@@ -111,17 +114,22 @@ def told(data: bytes) -> list[str]:
     except Fault:
         pass
     try:
-        summary = bundles.read_summary(data)
-        return ["summary", *(f"{name} " + " ".join(f"{a}-{b}" for a, b in ranges) for name, ranges in summary.items())]
+        summary = bundles.read_summary(data).items()
+        return ["summary", *(f"{name} {told_ranges(ranges)}" for name, ranges in summary)]
     except Fault:
         return [quoted(line) for line in data.splitlines(keepends=True)]
 
 
 def told_operation(it: Operation) -> str:
     """An operation in the words of rows."""
-    over = " over " + " ".join(f"{id.number}:{id.name}" for id in it.replaced) if it.replaced else ""
+    ids = " ".join(f"{id.number}:{id.name}" for id in it.replaced)
     text = "thinned" if it.text is None else quoted(it.text)
-    return f"{it.id.number}:{it.id.name} {write_ref(it.book, it.key)}{over} {text}"
+    at = f"{it.id.number}:{it.id.name} {write_ref(it.book, it.key)}"
+    return f"{at} over {ids} {text}" if ids else f"{at} {text}"
+
+
+def told_ranges(ranges: list[tuple[int, int]]) -> str:
+    return " ".join(f"{first}-{last}" for first, last in ranges)
 
 
 def quoted(data: bytes) -> str:

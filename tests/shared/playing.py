@@ -1,7 +1,7 @@
 r"""Rows: commands that are played in a new folder, with what each of them has to write.
 
-A file of rows is a page. A line that begins with '# ' begins a play, which has a folder of its own. What is indented by four
-are its rows; all else says what they are there for.
+A file of rows is a page. A line that begins with '# ' begins a play, which has a folder of its own.
+What is indented by four are its rows; all else says what they are there for.
 
     # A bundle that clashes
 
@@ -16,18 +16,23 @@ are its rows; all else says what they are there for.
         = p: project ana first
         = ./: bens first other p
 
-    $ COMMAND         a line for bash, with the program in the path and the words of tests/shared/playing.sh. Under it stand the
-                      lines that it has to write on standard output ('|' is an empty one, and '| LINE' one that looks like a
-                      row), then those of standard error ('! LINE', or '! ..' for any), and its status ('[2]') where that is
-                      not 1 after '! fault ..', and else 0
-    + FILE: CONTENT   makes a file; contents.py says how contents are written. '+ NAME ..' makes bundles with names
-    = FILE: CONTENT   the file has to have this content; `output` is what the command before wrote on standard output
-    = FOLDER/: NAME ..   the folder has to have these names, and no other
-    each NAME ..: WORD ..   the first row: the play is played for each word, with it in the place of $NAME; where there are two
-                      names, for each two words, and so on
-    needs COMMAND     where this command fails, the play is not played, and that is said
+    $ COMMAND
+        A line for bash, with the program in the path, and the words of tests/shared/playing.sh.
+        Under it stand the lines that it has to write on standard output ('|' for an empty one, and
+        '| LINE' for one that looks like a row), then those of standard error ('! LINE', or '! ..'
+        for any), and its status ('[2]') where that is not 1 after '! fault ..', and else 0.
+    + FILE: CONTENT
+        Makes a file; contents.py says how contents are written. '+ NAME ..' makes bundles with names.
+    = FILE: CONTENT
+        The file has to have this content. `output` is what the command before wrote on standard
+        output. '= FOLDER/: NAME ..': the folder has to have these names, and no other.
+    each NAME: WORD ..
+        The first row: the play is played for each word, with it in the place of $NAME. Where there
+        are two names, it is played for each two words, and so on.
+    needs COMMAND
+        Where this command fails, what follows is not played, and that is said.
 
-A row goes on in the lines under it. Plays are played side by side, and the rows of one in their order.
+A row goes on in the lines under it. Plays are played side by side, and the rows of one in order.
 """
 import argparse
 import difflib
@@ -43,13 +48,13 @@ from dataclasses import dataclass, field
 from pathlib import Path
 from typing import Optional
 
-sys.path.insert(1, str(Path(__file__).resolve().parent.parent / "fuzz"))
+SHARED = Path(__file__).resolve().parent
+sys.path.insert(1, str(SHARED.parent / "fuzz"))
 
 from contents import Named, told
 from reporting import Tally
 from repository import program_of_repository
 
-SHARED = Path(__file__).resolve().parent
 INDENT = "    "
 ROW = re.compile(r"[$+=] |(each|needs) ")
 # Far more than any command takes: one that waits for ever is shown as one that fails.
@@ -93,12 +98,15 @@ class Play:
         names, words = self.rows[0].whole[5:].split(":", 1)
         names, words = names.split(), shlex.split(words)
         if len(words) % len(names):
-            raise SystemExit(f"{self.path}:{self.rows[0].line}: {len(words)} words, for {len(names)} names each time")
-        return [self.with_values(dict(zip(names, words[at:]))) for at in range(0, len(words), len(names))]
+            place = f"{self.path}:{self.rows[0].line}"
+            raise SystemExit(f"{place}: {len(words)} words, for {len(names)} names each time")
+        starts = range(0, len(words), len(names))
+        return [self.with_values(dict(zip(names, words[start:]))) for start in starts]
 
     def with_values(self, values: dict[str, str]) -> "Play":
         title = ", ".join([self.title, *(f"{name} {value!r}" for name, value in values.items())])
-        return Play(self.path, self.line, title, [it.with_values(values) for it in self.rows[1:]])
+        rows = [it.with_values(values) for it in self.rows[1:]]
+        return Play(self.path, self.line, title, rows)
 
 
 def read(path: Path) -> list[Play]:
@@ -128,33 +136,39 @@ class Answer:
 
     def lines(self) -> list[str]:
         """The answer in the lines of rows."""
-        output = ["|" if not it else f"| {it}" if ROW.match(it) or it[0] in "![|" else it for it in lines_of(self.output)]
         error = [".."] if self.error is None else lines_of(self.error)
+        output = [f"| {it}".rstrip() if not it or ROW.match(it) else it for it in lines_of(self.output)]
         return [*output, *(f"! {it}" for it in error), f"[{self.status}]"]
 
 
 def lines_of(data: bytes) -> list[str]:
-    lines = data.decode(errors="backslashreplace").split("\n")
-    return lines[:-1] if not lines[-1] else [*lines[:-1], lines[-1] + " (without an end of the line)"]
+    *lines, last = data.decode(errors="backslashreplace").split("\n")
+    return [*lines, f"{last} (without an end of the line)"] if last else lines
 
 
 def wanted_of(row: Row) -> Answer:
     """What the command of a row has to answer."""
-    marked = [it for it in row.under if it.startswith("! ")]
+    error = [it for it in row.under if it.startswith("! ")]
     status = [it for it in row.under if re.fullmatch(r"\[\d+\]", it)]
-    output = [re.sub(r"^\| ?", "", it) for it in row.under if it not in marked + status]
-    is_refused = any(it.startswith("! fault ") for it in marked)
-    error = None if marked == ["! .."] else "".join(it[2:] + "\n" for it in marked).encode()
-    return Answer(int(status[0][1:-1]) if status else int(is_refused), "".join(it + "\n" for it in output).encode(), error)
+    output = [re.sub(r"^\| ?", "", it) for it in row.under if it not in error + status]
+    is_refused = any(it.startswith("! fault ") for it in error)
+    return Answer(
+        int(status[0][1:-1]) if status else int(is_refused),
+        "".join(it + "\n" for it in output).encode(),
+        None if error == ["! .."] else "".join(it[2:] + "\n" for it in error).encode(),
+    )
 
 
 def beside(wanted: list[str], came: list[str]) -> str:
     """What was wanted beside what came, with a mark where they differ."""
     rows = [("", "wanted", "came")]
-    for tag, a, b, c, d in difflib.SequenceMatcher(None, wanted, came, False).get_opcodes():
-        for at in range(max(b - a, d - c)):
-            left, right = (lines[first + at] if first + at < last else "" for lines, first, last in ((wanted, a, b), (came, c, d)))
-            rows.append(("" if tag == "equal" else ">", left, right))
+    parts = difflib.SequenceMatcher(None, wanted, came, False).get_opcodes()
+    for kind, left, left_end, right, right_end in parts:
+        mark = "" if kind == "equal" else ">"
+        count = max(left_end - left, right_end - right)
+        lefts = wanted[left:left_end] + [""] * count
+        rights = came[right:right_end] + [""] * count
+        rows += [(mark, *pair) for pair in list(zip(lefts, rights))[:count]]
     width = min(60, max(len(left) for _, left, _ in rows))
     return "\n".join(f"    {mark:1} {left:{width}}  {right}".rstrip() for mark, left, right in rows)
 
@@ -172,48 +186,58 @@ class Stage:
     failures: list[str] = field(default_factory=list)
     skipped: list[str] = field(default_factory=list)
 
-    def all(self) -> "Stage":
-        """Plays the rows, up to one that cannot be read."""
+    def all(self) -> None:
+        """Plays the rows, up to one that cannot be played."""
         self.folder.mkdir()
         rows = self.play.rows
         for row, later in zip(rows, [*rows[1:], None]):
             try:
                 if row.text.startswith("needs ") and self.run(row.whole[6:]).status != 0:
-                    self.skipped.append(f"not played, since `{row.whole[6:]}` fails: {self.place(row)}")
-                    break
+                    self.skipped.append(f"{self.place(row)}: not played, for want of what it needs")
+                    return
                 self.do(row, later is not None and later.text.startswith("= output:"))
             except (ValueError, IndexError, KeyError, OSError, subprocess.TimeoutExpired) as wrong:
-                self.failures.append(f"{self.place(row)}\n    {row.text}\n    {type(wrong).__name__}: {wrong}")
-                break
-        return self
+                said = f"{type(wrong).__name__}: {wrong}"
+                self.failures.append(f"{self.place(row)}\n    {row.text}\n    {said}")
+                return
 
     def do(self, row: Row, is_output_said: bool) -> None:
+        """Plays a row. The next one may say what this one's command writes."""
         said, _, content = row.whole[2:].partition(":")
         if row.text.startswith("$ "):
-            wanted, came = wanted_of(row), self.run(row.text[2:])
-            self.output = came.output
-            if is_output_said and not wanted.output:
-                wanted.output = came.output
-            if wanted.error is None and came.error:
-                wanted.error = came.error
-            self.check(row, wanted == came, wanted.lines(), came.lines())
+            self.command(row, is_output_said)
         elif row.text.startswith("+ "):
             for name in [said] if content else said.split():
-                (self.folder / name).write_bytes(self.named.content(content or f"bundle {name}"))
+                data = self.named.content(content or f"bundle {name}")
+                (self.folder / name).write_bytes(data)
         elif row.text.startswith("= ") and said.endswith("/"):
-            wanted_names, names = sorted(content.split()), sorted(os.listdir(self.folder / said))
-            self.check(row, wanted_names == names, wanted_names, names)
+            wanted, came = sorted(content.split()), sorted(os.listdir(self.folder / said))
+            self.check(row, wanted == came, wanted, came)
+        elif row.text.startswith("= "):
+            data = self.output if said == "output" else (self.folder / said).read_bytes()
+            wanted_data = self.named.content(content)
+            self.check(row, wanted_data == data, told(wanted_data), told(data))
         elif row.text.startswith("each "):
             raise ValueError("it is not the first row")
-        elif row.text.startswith("= "):
-            wanted_bytes = self.named.content(content)
-            data = self.output if said == "output" else (self.folder / said).read_bytes()
-            self.check(row, wanted_bytes == data, told(wanted_bytes), told(data))
+
+    def command(self, row: Row, is_output_said: bool) -> None:
+        wanted, came = wanted_of(row), self.run(row.text[2:])
+        self.output = came.output
+        if is_output_said and not wanted.output:
+            wanted.output = came.output
+        if wanted.error is None and came.error:
+            wanted.error = came.error
+        self.check(row, wanted == came, wanted.lines(), came.lines())
 
     def run(self, command: str) -> Answer:
-        words = ["bash", "-o", "pipefail", "-c", command]
+        """What bash answers to a line."""
         ran = subprocess.run(
-            words, cwd=self.folder, env=self.environment, stdin=subprocess.DEVNULL, capture_output=True, timeout=SECONDS
+            ["bash", "-o", "pipefail", "-c", command],
+            cwd=self.folder,
+            env=self.environment,
+            stdin=subprocess.DEVNULL,
+            capture_output=True,
+            timeout=SECONDS,
         )
         return Answer(ran.returncode, ran.stdout, ran.stderr)
 
@@ -228,18 +252,20 @@ class Stage:
 
 
 def chosen(folder: Path, words: list[str]) -> list[Play]:
-    """The plays of the files that are named, or of one line of them; without a word all of the folder."""
+    """The plays of the files that are named, or of a line of one; without a word all of the folder."""
     plays = []
     for word in words or sorted(map(str, folder.rglob("*.rows"))):
         name, _, line = word.partition(":")
-        path = Path(name) if Path(name).is_file() else folder / f"{name.removesuffix('.rows')}.rows"
-        found = read(path)
+        is_path = Path(name).is_file()
+        found = read(Path(name) if is_path else folder / f"{name.removesuffix('.rows')}.rows")
         at = max((it.line for it in found if it.line <= int(line)), default=0) if line else 0
         plays += [it for it in found if not line or it.line == at]
     return plays
 
 
-def played(plays: list[Play], folder: Path, program: Path, kind: type[Stage] = Stage) -> list[Stage]:
+def played(
+    plays: list[Play], folder: Path, program: Path, kind: type[Stage] = Stage
+) -> list[Stage]:
     """What comes of plays, side by side, with the names of the folder that they are from."""
     named = Named(folder / "named")
     os.umask(0o022)
@@ -248,9 +274,11 @@ def played(plays: list[Play], folder: Path, program: Path, kind: type[Stage] = S
         work.chmod(0o755)
         work.joinpath("bin").mkdir()
         shutil.copy(program, work / "bin/usfm_team")
-        paths = {"PATH": f"{work}/bin:{os.environ['PATH']}", "BASH_ENV": str(SHARED / "playing.sh")}
-        environment = {**os.environ, **paths, "LC_ALL": "C"}
-        stages = [kind(it, work / str(number), environment, named) for number, it in enumerate(plays)]
+        paths = f"{work}/bin:{os.environ['PATH']}"
+        words = {"PATH": paths, "BASH_ENV": str(SHARED / "playing.sh"), "LC_ALL": "C"}
+        environment = {**os.environ, **words}
+        places = enumerate(plays)
+        stages = [kind(it, work / str(number), environment, named) for number, it in places]
         with ThreadPoolExecutor(os.cpu_count()) as pool:
             list(pool.map(Stage.all, stages))
         subprocess.run(["chmod", "-R", "u+rwX", work], check=False)
@@ -259,13 +287,14 @@ def played(plays: list[Play], folder: Path, program: Path, kind: type[Stage] = S
 
 def play_all(name: str, folder: Path) -> int:
     """Plays the rows of a folder as the command line says, and answers the exit status."""
-    parser = argparse.ArgumentParser(usage=f"tests/{folder.name}/run [--program PATH] [FILE[:LINE] ..]")
-    parser.add_argument("--program", type=Path, help="the program, else the one of this repository")
-    parser.add_argument("files", nargs="*", help="the files of rows, or the play of a line of one, else all")
+    usage = f"tests/{folder.name}/run [--program PATH] [FILE[:LINE] ..]"
+    parser = argparse.ArgumentParser(usage=usage)
+    parser.add_argument("--program", type=Path, help="the program, else this repository's")
+    parser.add_argument("files", nargs="*", help="files of rows, or the play of a line, else all")
     options = parser.parse_args()
-    stages = played(chosen(folder, options.files), folder, options.program or program_of_repository())
+    plays = chosen(folder, options.files)
     tally = Tally()
-    for stage in stages:
+    for stage in played(plays, folder, options.program or program_of_repository()):
         tally.add(stage.passed, stage.failures)
         for said in stage.skipped:
             print(f"{name}: {said}")
