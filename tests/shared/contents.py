@@ -63,7 +63,11 @@ class Named:
 
 def read_operation(words: list[str]) -> tuple[Operation, list[str]]:
     """The operation that the words begin with, and the words after it."""
-    id, (book, key), words = read_id(words[0]), read_ref(" ".join(words[1:3])), words[3:]
+    try:
+        id, (book, key) = read_id(words[0]), read_ref(" ".join(words[1:3]))
+    except Fault:
+        raise ValueError(f"neither an operation nor a name: {' '.join(words[:3])}") from None
+    words = words[3:]
     replaced = []
     if words[0] == "over":
         words = words[1:]
