@@ -21,7 +21,7 @@ def text_of(path):
 
 def pages():
     """The pages that a reader opens."""
-    return [TOP / "README.md", TOP / "PROMISES.md", *sorted((TOP / "docs").glob("*.md"))]
+    return [TOP / "README.md", TOP / "PROMISES.md", TOP / "CONTRIBUTING.md", *sorted((TOP / "docs").glob("*.md"))]
 
 
 def kept_files():
