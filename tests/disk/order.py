@@ -49,9 +49,16 @@ PLACED = [
     renamed("texts/.usfm_team/MAT.bundle.new", "texts/.usfm_team/MAT.bundle"),
     synced(".usfm_team"),
 ]
+# Which file is which book's, where that is not written down by then.
+NAMED = [
+    written("names.new"),
+    synced("names.new"),
+    renamed("texts/.usfm_team/names.new", "texts/.usfm_team/names"),
+    synced(".usfm_team"),
+]
 # A file that is written first, and one that is replaced, after the project.
 INTO_FOLDER = [
-    (["export", "p", "--into", "texts"], [*STAGED, *PLACED, ANSWERED]),
+    (["export", "p", "--into", "texts"], [*STAGED, *PLACED, *NAMED, ANSWERED]),
     (["sync", "p", "texts", "bens"], [*STAGED, *REPLACED, *PLACED, ANSWERED]),
 ]
 

@@ -10,7 +10,7 @@ from order import BOOK, CHANGES, HELD, with_a_replaced_text
 from rows.vectors import FIRST
 from stage import Answer, Tally, run
 
-MODES = (0o600, 0o640, 0o664, 0o400, 0o604)
+MODES = (0o600, 0o640, 0o664, 0o604)
 UMASKS = (0o000, 0o022, 0o077)
 TEXT = b"\\v 1 As\n"
 EDIT = ["edit", "p", "MAT 1:1"]
@@ -65,7 +65,7 @@ def check_new(tally: Tally, between: Between, folder: Path) -> None:
     given = folder.parent / "text"
     given.write_bytes(TEXT)
     for mode in MODES:
-        for refused in ("write:1", "look:4", "look:5", "mode:1", "sync:1", "rename:1"):
+        for refused in ("write:1", "look:5", "look:6", "mode:1", "sync:1", "rename:1"):
             if (mode == 0o600) and refused == "mode:1":
                 # It has that mode by then.
                 continue

@@ -30,7 +30,8 @@ run export p --into t
 wants 0 'wrote t/MAT.usfm\n' ''
 has t/MAT.usfm "$first"
 keeps t .usfm_team MAT.usfm
-keeps $own MAT.bundle
+keeps $own MAT.bundle names
+has $own/names 'MAT MAT.usfm\n'
 # It is what the book shows, and folds into the file.
 has $own/MAT.bundle "$b1"
 input "$b1"
@@ -49,7 +50,7 @@ run export p --into t MAT
 wants 0 'wrote t/MAT.usfm\n' ''
 has t/MAT.usfm "$after"
 has $own/MAT.bundle "$magic"'\002'"$mark$at_op"
-keeps $own MAT.bundle
+keeps $own MAT.bundle names
 # A changed file is refused, and so is each book that is not there.
 printf "$to" >t/MAT.usfm
 run export p --into t
@@ -98,7 +99,7 @@ has t/41MATana.SFM "$after"
 [ "$(stat -c %a t/41MATana.SFM)" = 640 ]
 told 'a file keeps its mode' $?
 keeps t .usfm_team 41MATana.SFM
-keeps $own MAT.bundle
+keeps $own MAT.bundle names
 run sync p t y
 wants 0 'new 0\nconflicts 1\n' ''
 # Both at once, in one line.
@@ -132,13 +133,13 @@ mv t/$'\377'.sfm t/$'\377'.txt
 printf '\\id MRK\n' >t/$'\377'.sfm
 run sync p t
 wants 0 'conflicts 1\n' 'passed over a file whose name is not UTF-8\npassed over a file whose name is not UTF-8\n'
-keeps $own MAT.bundle
+keeps $own MAT.bundle names
 rm t/$'\377'.sfm t/$'\377'.txt
 # A new book, one of which the file is not text, and two files of one book.
 printf '\\id MRK\n' >t/new.usfm
 run sync p t
 wants 0 'added 1 MRK\nconflicts 1\n' ''
-keeps $own MAT.bundle MRK.bundle
+keeps $own MAT.bundle MRK.bundle names
 cp p was
 printf '\\id LUK\n' >t/LUK.usfm
 printf '\\id MRK \377' >t/new.usfm
@@ -161,7 +162,7 @@ run sync missing t
 wants 1 '' 'fault 120\n'
 cmp -s p was
 told 'a refused sync changes nothing' $?
-keeps $own MAT.bundle MRK.bundle
+keeps $own MAT.bundle MRK.bundle names
 # A file that is gone is written again.
 rm t/LUK.usfm t/MAT.usfm
 run sync p t
@@ -199,16 +200,16 @@ for damage in '' "$to" "$unnamed" "$b1"'\0'; do
     printf "$damage" >$own/MAT.bundle
     run sync p t
     case $damage in
-        '') wants 1 '' 'fault 61\nin t/MAT.usfm\n' ;;
-        "$to") wants 1 '' 'fault 60\nin t/MAT.usfm\n' ;;
-        "$unnamed") wants 1 '' 'fault 69 1\nin t/MAT.usfm\n' ;;
-        *) wants 1 '' 'fault 70\nin t/MAT.usfm\n' ;;
+        '') wants 1 '' "fault 61\nin $own/MAT.bundle\n" ;;
+        "$to") wants 1 '' "fault 60\nin $own/MAT.bundle\n" ;;
+        "$unnamed") wants 1 '' "fault 69 1\nin $own/MAT.bundle\n" ;;
+        *) wants 1 '' "fault 70\nin $own/MAT.bundle\n" ;;
     esac
     rm $own/MAT.bundle
     run sync p t
     wants 0 '' ''
     has t/MAT.usfm "$to"
-    keeps $own MAT.bundle
+    keeps $own MAT.bundle names
 done
 # Another file stands where a book is to go.
 rm -r $own
@@ -239,7 +240,7 @@ for made in "$first" "$after" "$to"; do
     esac
     has t/MAT.usfm "$after"
     has $own/MAT.bundle "$magic"'\002'"$mark$at_op"
-    keeps $own MAT.bundle
+    keeps $own MAT.bundle names
 done
 
 # --- Links, and a folder that is one ---
@@ -251,30 +252,36 @@ ln -s real t
 printf "$first" >far/matthew
 ln -s ../far/matthew t/MAT.usfm
 run sync p t y
-wants 0 'new 1\nwrote t/MAT.usfm\n' ''
-has far/matthew "$after"
-[ -L t/MAT.usfm ]
+wants 1 '' 'passed over t/MAT.usfm: it is a link\nfault 131\nin t/MAT.usfm\n'
+mv t/MAT.usfm t/41MAT.SFM
+run sync p t y
+wants 0 'new 1\nwrote t/MAT.usfm\n' 'passed over t/41MAT.SFM: it is a link\n'
+has far/matthew "$first"
+[ -L t/41MAT.SFM ]
 told 'a link stays' $?
+rm t/41MAT.SFM
 keeps far matthew
 keeps real .usfm_team MAT.usfm
 ln -s missing t/b.usfm
 run sync p t
-wants 1 '' 'fault 120\nin t/b.usfm\n'
+wants 0 '' 'passed over t/b.usfm: it is a link\n'
 rm t/b.usfm
-# Two names of one file are two files of one book.
-ln -s MAT.usfm t/Z.usfm
+ln t/MAT.usfm t/Z.usfm
 run sync p t
-wants 1 '' 'fault 131\nin t/Z.usfm\n'
+wants 1 '' 'passed over t/MAT.usfm: it is a file that has another name too (a hard link)\npassed over t/Z.usfm: it is a file that has another name too (a hard link)\nfault 131\nin t/MAT.usfm\n'
 rm t/Z.usfm
-# What belongs to the program may be a link to a folder, and nothing else that is none.
+# What belongs to the program is a folder, and no link to one.
 mv t/.usfm_team own
 ln -s ../own t/.usfm_team
 run sync p t z
-wants 0 'new 1\nconflicts 1\n' ''
-has own/MAT.bundle "$magic"'\003'"$mark$to_op$at_op"
+wants 1 '' 'fault 131\nin t/.usfm_team\n'
 rm t/.usfm_team
 printf 'notes' >t/.usfm_team
 run sync p t
-wants 1 '' 'fault 120\nin t/MAT.usfm\n'
+wants 1 '' 'fault 131\nin t/.usfm_team\n'
 has t/.usfm_team notes
-has far/matthew "$after"
+rm t/.usfm_team
+mv own t/.usfm_team
+run sync p t z
+wants 0 'new 1\nconflicts 1\n' ''
+has far/matthew "$first"

@@ -85,30 +85,12 @@ if [ "$(id -u)" -ne 0 ] || "${as_nobody[@]}" true 2>/dev/null; then
     has p "$begun$b1"
     has t/MAT.usfm "$first"
     has $own/MAT.bundle "$b1"
-    keeps $own MAT.bundle
+    keeps $own MAT.bundle names
     # A file that may not be read.
     chmod 000 t/MAT.usfm
     reading sync p t
     wants 1 '' 'fault 120\nin t/MAT.usfm\n'
     chmod -R u+w,a+r t
-    # A link out of a folder that may be written, to a file beside which nothing may be.
-    begin
-    bundles
-    printf "$begun$b1" >p
-    chmod 777 .
-    chmod 666 p
-    mkdir t far
-    printf "$first" >far/matthew
-    ln -s ../far/matthew t/MAT.usfm
-    run sync p t
-    chmod -R a+w t
-    chmod 555 far
-    reading sync p t y
-    wants 1 '' 'fault 130\nin t/MAT.usfm\n'
-    has p "$begun$b1"
-    has far/matthew "$first"
-    has $own/MAT.bundle "$b1"
-    keeps $own MAT.bundle
 fi
 chmod -R u+w .
 chmod 755 .

@@ -13,7 +13,7 @@ from between import Between, Run
 from stage import Answer, Tally, run, wanted
 
 # The calls that matter to what stands on the disk, and those that read.
-KINDS = ("open", "read", "write", "sync", "look", "follow", "remove", "rename", "lock", "mode")
+KINDS = ("open", "read", "write", "sync", "look", "remove", "rename", "lock", "mode")
 # Those of them by which a file gets its bytes, its place and its rights, and is on the disk: where one fails, so does the command.
 KEEPING = ("write", "sync", "rename", "mode")
 FILES = {
@@ -21,8 +21,6 @@ FILES = {
     "MRK.usfm": ("\\id MRK\n\\c 1\n\\v 1 The\n", "\\id MRK\n\\c 1\n\\v 1 The\n"),
     "luke.sfm": ("\\id LUK\n\\c 1\n\\v 1 Forasmuch\n", "\\id LUK\n\\c 1\n\\v 1 ana too\n"),
 }
-# A file in the folder that is a link, and where it leads.
-LINK = ("MRK.usfm", "far/mark")
 SYNC = ["sync", "p", "texts", "bundle"]
 EXPORT = ["export", "p", "--into", "texts"]
 
@@ -77,19 +75,21 @@ def is_right(way: str, answer: Answer, whole: Answer) -> bool:
     if way.endswith("kill"):
         return answer.status == -signal.SIGKILL
     is_refused = answer.status == 1 and answer.output == b"" and answer.error.startswith(b"fault ")
+    is_all_told = answer.output.replace(b"left ", b"wrote ") == whole.output
+    if kind in ("memory", "rename") and is_all_told and answer.status == 1:
+        # One file could not be put in its place; the others are.
+        fault = b"fault 1" if kind == "memory" else b"fault 130"
+        return answer.error.startswith(fault + b"\nin texts/") and answer.output.count(b"left ") == 1
     if kind == "memory":
         return answer == whole or is_refused and answer.error.startswith(b"fault 1\n")
-    is_done = answer.status == 0 and answer.error == b"" and answer.output.replace(b"left ", b"wrote ") == whole.output
+    is_done = answer.status == 0 and answer.error == b"" and is_all_told
     return is_refused or is_done and kind not in KEEPING
 
 
 def begun(program: Path, home: Path) -> Path:
-    """A project and a folder that was written, files of which two were changed since, and another's work on two books, one of
-    which is in a file that is a link."""
+    """A project and a folder that was written, files of which two were changed since, and another's work on two books."""
     texts = home / "texts"
     texts.mkdir(parents=True)
-    home.joinpath(LINK[1]).parent.mkdir()
-    texts.joinpath(LINK[0]).symlink_to(Path("..") / LINK[1])
     for name, (before, _) in FILES.items():
         texts.joinpath(name).write_text(before)
     wanted(run(program, home, ["init", "p", "ana"]))

@@ -1,13 +1,114 @@
 // Files of the program, and the folders that they are in.
-use std::fs::{File, OpenOptions};
+use std::fs::{File, Metadata, OpenOptions};
 use std::io::ErrorKind;
-use std::os::unix::fs::OpenOptionsExt;
+use std::os::unix::fs::{FileTypeExt, MetadataExt, OpenOptionsExt};
 use std::path::Path;
 use std::{fs, io};
 use usfm_cli::{Fault, StdSink, StdSource, read_to_end, write_all};
 
 // What only its owner may read and write.
 const OWNER_ALONE: u32 = 0o600;
+
+// How often a file is opened anew that is replaced by another one while it is opened.
+const MOST_TRIES: usize = 8;
+
+// What stands under a name where a plain file may stand: one that has no other name.
+#[derive(Drop)]
+pub(crate) enum Found {
+    Nothing,
+    Plain(File),
+    Folder,
+    Other(Other),
+}
+
+// What is no plain file with one name.
+#[derive(Clone, Copy, Drop)]
+pub(crate) enum Other {
+    Link,
+    Pipe,
+    Socket,
+    Device,
+    SecondName,
+}
+
+impl Other {
+    // Words that follow "it is".
+    pub(crate) fn words(self) -> &'static str {
+        match self {
+            Other::Link => "a link",
+            Other::Pipe => "a pipe",
+            Other::Socket => "a socket",
+            Other::Device => "a device",
+            Other::SecondName => "a file that has another name too (a hard link)",
+        }
+    }
+}
+
+// Opens the plain file of this name, and no other: what a link leads to is not opened, and a pipe is not waited for.
+//
+// The file that was opened is the one that was looked at before; where another one took its place, it is looked at anew.
+pub(crate) fn open_plain(rt: &HostRuntime, path: &str) -> Result<Found, Fault> {
+    for _ in 0..MOST_TRIES {
+        let seen = match fs::symlink_metadata(rt, path) {
+            Ok(seen) => seen,
+            Err(error) if error.kind() == ErrorKind::NotFound => return Ok(Found::Nothing),
+            Err(_) => return Err(Fault::ReadFailed),
+        };
+        if seen.is_dir() {
+            return Ok(Found::Folder);
+        }
+        if let Some(other) = not_plain(&seen) {
+            return Ok(Found::Other(other));
+        }
+        if let Some(file) = open_same(rt, path, &seen)? {
+            return Ok(Found::Plain(file));
+        }
+    }
+    Err(Fault::ReadFailed)
+}
+
+// What it is, where it is no plain file with one name.
+fn not_plain(found: &Metadata) -> Option<Other> {
+    let kind = found.file_type();
+    if kind.is_symlink() {
+        Some(Other::Link)
+    } else if kind.is_fifo() {
+        Some(Other::Pipe)
+    } else if kind.is_socket() {
+        Some(Other::Socket)
+    } else if !kind.is_file() {
+        Some(Other::Device)
+    } else if found.nlink() > 1 {
+        Some(Other::SecondName)
+    } else {
+        None
+    }
+}
+
+// Opens a file, if it is still the one that was seen.
+fn open_same(rt: &HostRuntime, path: &str, seen: &Metadata) -> Result<Option<File>, Fault> {
+    let file = match open_at_once(rt, path) {
+        Ok(file) => file,
+        Err(error) if error.kind() == ErrorKind::NotFound => return Ok(None),
+        Err(_) => return Err(Fault::ReadFailed),
+    };
+    let opened = file.metadata().map_err(|_| Fault::ReadFailed)?;
+    Ok(is_same_file(&opened, seen).then_some(file))
+}
+
+// Whether it is one file that was looked at twice.
+pub(crate) fn is_same_file(one: &Metadata, other: &Metadata) -> bool {
+    one.dev() == other.dev() && one.ino() == other.ino()
+}
+
+// Opens a file to read it, where the rights allow it in a way that waits for nobody at the other end of a pipe, and by which a
+// network's folder gives a lock: for writing too.
+pub(crate) fn open_at_once(rt: &HostRuntime, path: &str) -> io::Result<File> {
+    match OpenOptions::new().read(true).write(true).open(rt, path) {
+        Ok(file) => Ok(file),
+        Err(_) => File::open(rt, path),
+    }
+}
 
 // The bytes of a file.
 pub(crate) fn read_file(rt: &HostRuntime, path: &str) -> Result<Vec<u8>, Fault> {

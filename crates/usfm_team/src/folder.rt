@@ -1,28 +1,27 @@
 // The books' files of a folder, and what each was written from, as they stand on the disk.
-use crate::files::{is_there, read_file, read_open};
-use crate::project::real_path;
+use crate::files::{Found, Other, is_there, open_plain, read_open};
+use crate::own::Kept;
 use crate::turns::Refusal;
 use std::fs::File;
 use std::io::{ErrorKind, Write};
 use std::{fs, io};
-use usfm_cli::{Fault, book_begun, may_be_book};
+use usfm_cli::{Fault, StandingBook, book_begun, may_be_book};
 use usfm_ref::Book;
 
 // The folder in the folder that belongs to the program.
 pub(crate) const OWN: &str = ".usfm_team";
 
-// A book's file as it was read, with the bundle that it was written from, and one that it may have been written
-// from since, where they are there.
+// A book's file as it was read.
 #[derive(Drop)]
 pub(crate) struct BookFile {
     pub(crate) path: String,
+    // Its name in the folder.
+    pub(crate) name: String,
     pub(crate) book: Book,
     pub(crate) bytes: Vec<u8>,
-    pub(crate) base: Option<Vec<u8>>,
-    pub(crate) newer: Option<Vec<u8>>,
     // Whether a new file was written and not put in its place.
     pub(crate) is_unplaced: bool,
-    // Whether it was written from the newer one.
+    // Whether it was written from the newer of the book's bundles.
     pub(crate) is_newer: bool,
     // Whether it is what the bundle makes that it was written from.
     pub(crate) is_unchanged: bool,
@@ -30,18 +29,25 @@ pub(crate) struct BookFile {
 
 impl BookFile {
     // The bundle that the file was written from, where that is known.
-    pub(crate) fn from(&self) -> Option<&[u8]> {
+    pub(crate) fn from<'k>(&self, kept: &'k Kept) -> Option<&'k [u8]> {
         if self.is_newer {
-            self.newer.as_deref()
+            kept.newer_of(self.book)
         } else {
-            self.base.as_deref()
+            kept.base_of(self.book)
         }
     }
 
     // Whether this is the bundle that the file was written from, with no newer one beside it.
-    pub(crate) fn keeps(&self, base: &[u8]) -> bool {
-        self.newer.is_none() && self.base.as_deref() == Some(base)
+    pub(crate) fn keeps(&self, kept: &Kept, base: &[u8]) -> bool {
+        kept.newer_of(self.book).is_none() && kept.base_of(self.book) == Some(base)
     }
+}
+
+// The files of a folder that may be books': those that are, and the paths of those that were passed over.
+#[derive(Drop)]
+pub(crate) struct Books {
+    pub(crate) files: Vec<BookFile>,
+    pub(crate) passed_over: Vec<String>,
 }
 
 // Waits for a folder until no other command writes its books. Where the lock is refused, for whatever reason, the command
@@ -75,34 +81,41 @@ pub(crate) fn own_path(
 }
 
 // Reads the books' files of a folder, in the order of their names, and says which files of such names it passes over.
-pub(crate) fn read_books(rt: &HostRuntime, folder: &str) -> Result<Vec<BookFile>, Refusal> {
-    let mut files = Vec::new(rt.alloc());
-    for path in paths_in(rt, folder)? {
-        match read_book(rt, folder, &path) {
-            Ok(Some(file)) => files.push(file).map_err(Fault::from)?,
-            Ok(None) => {}
-            Err(fault) => return Err(Refusal {
+pub(crate) fn read_books(rt: &HostRuntime, folder: &str, kept: &Kept) -> Result<Books, Refusal> {
+    let mut books = Books {
+        files: Vec::new(rt.alloc()),
+        passed_over: Vec::new(rt.alloc()),
+    };
+    for name in names_in(rt, folder)? {
+        let path = path_in(rt, folder, &name)?;
+        if let Err(fault) = read_book(rt, folder, &path, name, kept, &mut books) {
+            return Err(Refusal {
                 fault,
                 file: Some(path),
-            }),
+            });
         }
     }
-    Ok(files)
+    refuse_two_of_one_book(rt, kept, &books.files)?;
+    refuse_no_longer_books(rt, folder, kept, &books.files)?;
+    Ok(books)
 }
 
-// The paths of the files that may be books', in the order of their names.
-fn paths_in(rt: &HostRuntime, folder: &str) -> Result<Vec<String>, Refusal> {
+// The names of the files that may be books', in their order.
+fn names_in(rt: &HostRuntime, folder: &str) -> Result<Vec<String>, Refusal> {
     let entries = match fs::read_dir(rt, folder) {
         Ok(entries) => entries,
         Err(error) => return Err(unread_folder(rt, &error, folder)),
     };
-    let mut paths = Vec::new(rt.alloc());
+    let mut names = Vec::new(rt.alloc());
     for entry in entries {
         match entry {
             Ok(entry) if may_be_book(entry.file_name()) => {
-                paths
-                    .push(path_in(rt, folder, entry.file_name())?)
-                    .map_err(Fault::from)?;
+                if entry.file_name().contains('\n') {
+                    say(rt, "passed over a file whose name has more than one line\n");
+                } else {
+                    let name = String::from_str(rt.alloc(), entry.file_name());
+                    names.push(name.map_err(Fault::from)?).map_err(Fault::from)?;
+                }
             }
             Ok(_) => {}
             Err(error) if error.kind() == ErrorKind::InvalidFilename => {
@@ -111,74 +124,67 @@ fn paths_in(rt: &HostRuntime, folder: &str) -> Result<Vec<String>, Refusal> {
             Err(error) => return Err(unread_folder(rt, &error, folder)),
         }
     }
-    paths.sort().map_err(Fault::from)?;
-    Ok(paths)
+    names.sort().map_err(Fault::from)?;
+    Ok(names)
 }
 
 // The refusal of a folder whose names were not read. To read them takes memory.
-fn unread_folder(rt: &HostRuntime, error: &io::Error, folder: &str) -> Refusal {
+pub(crate) fn unread_folder(rt: &HostRuntime, error: &io::Error, folder: &str) -> Refusal {
     match error.kind() {
         ErrorKind::OutOfMemory => Refusal::from(Fault::Memory),
         _ => Refusal::at(rt, Fault::ReadFailed, folder),
     }
 }
 
-// The file at a path, if it is a book's. What is no file, as a folder, is none.
-fn read_book(rt: &HostRuntime, folder: &str, path: &String) -> Result<Option<BookFile>, Fault> {
-    let found = fs::metadata(rt, path.as_str()).map_err(|_| Fault::ReadFailed)?;
-    if !found.is_file() {
-        return Ok(None);
-    }
-    let bytes = read_file(rt, path)?;
+// Puts the file at a path beside those that were read, if it is a book's. A plain file alone is read.
+fn read_book(
+    rt: &HostRuntime,
+    folder: &str,
+    path: &String,
+    name: String,
+    kept: &Kept,
+    books: &mut Books,
+) -> Result<(), Fault> {
+    let file = match open_plain(rt, path)? {
+        Found::Plain(file) => file,
+        Found::Other(other) => {
+            say_other(rt, path, other);
+            return pass_over(path, books);
+        }
+        Found::Folder | Found::Nothing => return Ok(()),
+    };
+    let bytes = read_open(rt, &file)?;
     let Some(book) = book_begun(&bytes) else {
         say_passed_over(rt, path);
-        return Ok(None);
+        return pass_over(path, books);
     };
-    let newer = read_if_there(rt, &own_path(rt, folder, book, "bundle.new")?)?;
-    let is_unplaced = newer.is_some() && is_unplaced(rt, folder, book, path)?;
-    Ok(Some(BookFile {
+    let is_unplaced = kept.newer_of(book).is_some() && is_unplaced(rt, folder, book)?;
+    books.files.push(BookFile {
         path: path.clone()?,
+        name,
         book,
         bytes,
-        base: read_if_there(rt, &own_path(rt, folder, book, "bundle")?)?,
-        newer,
         is_unplaced,
         is_newer: false,
         is_unchanged: false,
-    }))
+    })?;
+    Ok(())
+}
+
+fn pass_over(path: &String, books: &mut Books) -> Result<(), Fault> {
+    books.passed_over.push(path.clone()?)?;
+    Ok(())
 }
 
 // Whether a new file of a book was written and not put in its place.
-fn is_unplaced(rt: &HostRuntime, folder: &str, book: Book, path: &str) -> Result<bool, Fault> {
-    let (new, _) = places_of(rt, folder, book, path)?;
+fn is_unplaced(rt: &HostRuntime, folder: &str, book: Book) -> Result<bool, Fault> {
+    let new = new_path(rt, folder, book)?;
     is_there(rt, &new).map_err(|_| Fault::ReadFailed)
 }
 
-// Where a book's new file is written, and where it goes: beside the file that a link leads to, which may be on another
-// disk, and else into the program's own folder.
-pub(crate) fn places_of(
-    rt: &HostRuntime,
-    folder: &str,
-    book: Book,
-    path: &str,
-) -> Result<(String, String), Fault> {
-    let end = real_path(rt, path)?;
-    let end = end.as_str();
-    let new = if end == path {
-        own_path(rt, folder, book, "usfm.new")?
-    } else {
-        format!(in rt.alloc(); "{end}.new")?
-    };
-    Ok((new, String::from_str(rt.alloc(), end)?))
-}
-
-// The bytes of a file, if there is one.
-pub(crate) fn read_if_there(rt: &HostRuntime, path: &str) -> Result<Option<Vec<u8>>, Fault> {
-    match File::open(rt, path) {
-        Ok(file) => Ok(Some(read_open(rt, &file)?)),
-        Err(error) if error.kind() == ErrorKind::NotFound => Ok(None),
-        Err(_) => Err(Fault::ReadFailed),
-    }
+// Where a book's new file is written.
+pub(crate) fn new_path(rt: &HostRuntime, folder: &str, book: Book) -> Result<String, Fault> {
+    own_path(rt, folder, book, "usfm.new")
 }
 
 // The first file of a book, if there is one.
@@ -186,15 +192,86 @@ pub(crate) fn file_of(files: &[BookFile], book: Book) -> Option<&BookFile> {
     files.iter().find(|file| file.book == book)
 }
 
-// Refuses two files of one book: the later one is named.
-pub(crate) fn refuse_two_of_one_book(rt: &HostRuntime, files: &[BookFile]) -> Result<(), Refusal> {
+// Refuses two files of one book: the one that is not written down as the book's is named, else the later one.
+fn refuse_two_of_one_book(
+    rt: &HostRuntime,
+    kept: &Kept,
+    files: &[BookFile],
+) -> Result<(), Refusal> {
     for (at, file) in files.iter().enumerate() {
         let (before, _) = files.split_at(at);
-        if file_of(before, file.book).is_some() {
-            return Err(Refusal::at(rt, Fault::FileChanged, &file.path));
+        if let Some(first) = file_of(before, file.book) {
+            let is_known = kept.name_of(file.book) == Some(file.name.as_str());
+            let path = if is_known { &first.path } else { &file.path };
+            return Err(Refusal::at(rt, Fault::FileChanged, path));
         }
     }
     Ok(())
+}
+
+// Refuses what stands under the name of a book's file and is no longer that book's: its text would be lost from sight, and the
+// book written anew beside it.
+fn refuse_no_longer_books(
+    rt: &HostRuntime,
+    folder: &str,
+    kept: &Kept,
+    files: &[BookFile],
+) -> Result<(), Refusal> {
+    for named in &kept.names {
+        let is_still = files
+            .iter()
+            .any(|file| file.book == named.book && file.name == named.name);
+        if is_still {
+            continue;
+        }
+        let path = path_in(rt, folder, &named.name)?;
+        match is_there(rt, &path) {
+            Ok(false) => {}
+            Ok(true) => return Err(Refusal::at(rt, Fault::FileChanged, &path)),
+            Err(_) => return Err(Refusal::at(rt, Fault::ReadFailed, &path)),
+        }
+    }
+    Ok(())
+}
+
+// Whether a book's text begins with its `\id`, by which its file is found again. Its head may not have come yet.
+pub(crate) fn is_whole(book: &StandingBook) -> bool {
+    book_begun(book.text()) == Some(book.book())
+}
+
+pub(crate) fn say_headless(rt: &HostRuntime, book: Book) {
+    let _ = writeln!(
+        rt.stderr(),
+        "no file is written for {book}: the project does not have the book's head, which begins with \\id"
+    );
+}
+
+// Refuses to write a book's file anew where it is not known which file was the book's, and one that is no book's may be it.
+pub(crate) fn refuse_unknown(
+    rt: &HostRuntime,
+    kept: &Kept,
+    found: &Books,
+    book: Book,
+) -> Result<(), Refusal> {
+    let is_lost = kept.base_of(book).is_some() && kept.name_of(book).is_none();
+    match found.passed_over.first() {
+        Some(path) if is_lost => Err(Refusal::at(rt, Fault::FileChanged, path)),
+        _ => Ok(()),
+    }
+}
+
+// The name of the file of a book that has none: the one that it had.
+pub(crate) fn name_for(rt: &HostRuntime, kept: &Kept, book: Book) -> Result<String, Fault> {
+    match kept.name_of(book) {
+        Some(name) => Ok(String::from_str(rt.alloc(), name)?),
+        None => Ok(format!(in rt.alloc(); "{book}.usfm")?),
+    }
+}
+
+// Says that what is no plain file is passed over.
+pub(crate) fn say_other(rt: &HostRuntime, path: &str, other: Other) {
+    let words = other.words();
+    let _ = writeln!(rt.stderr(), "passed over {path}: it is {words}");
 }
 
 fn say_passed_over(rt: &HostRuntime, path: &str) {
@@ -204,6 +281,6 @@ fn say_passed_over(rt: &HostRuntime, path: &str) {
     );
 }
 
-fn say(rt: &HostRuntime, line: &str) {
+pub(crate) fn say(rt: &HostRuntime, line: &str) {
     let _ = rt.stderr().write_all(line.as_bytes());
 }

@@ -3,8 +3,10 @@
 
 mod files;
 mod folder;
+mod own;
 mod placing;
 mod project;
+mod rights;
 mod sync;
 #[cfg(test)]
 mod tests;
@@ -15,7 +17,9 @@ use crate::project::{begin_project, lock_project};
 use crate::sync::{export_into, sync};
 use crate::turns::{Refusal, import, receive};
 use op_core::{OpId, ReplicaName};
+use std::fs::File;
 use std::io::{ErrorKind, IsTerminal, Write};
+use std::os::fd::AsRawFd;
 use std::process::ExitCode;
 use std::{io, mem};
 use usfm_cli::{
@@ -28,6 +32,9 @@ const REFUSED: u8 = 1;
 
 const USAGE: u8 = 2;
 
+// How many standard streams there are: input, output and error, of the numbers 0 to 2.
+const STREAMS: i32 = 3;
+
 // What a person at a terminal reads who is to type a text, or to give bundles.
 const TYPE_A_TEXT: &str =
     "usfm_team: type the segment's text with its mark, and end it with control-D on a new line\n";
@@ -36,6 +43,9 @@ const GIVE_BUNDLES: &str =
     "usfm_team: waiting for bundles on standard input, which control-D on a new line ends\n";
 
 fn main(rt: HostRuntime) -> ExitCode {
+    if hold_streams(&rt).is_err() {
+        return refuse(&rt, &Fault::ReadFailed);
+    }
     match read_line(&rt) {
         Ok(line) => match run(&rt, line) {
             Ok(()) => ExitCode::SUCCESS,
@@ -49,6 +59,19 @@ fn main(rt: HostRuntime) -> ExitCode {
         Err(LineFault::Usage(text)) => tell_usage(&rt, &text),
         Err(LineFault::Refused(fault)) => refuse(&rt, &fault),
     }
+}
+
+// Has something open under each of the numbers of the standard streams, so that no file is opened under one of them, and a
+// message written into it. A stream that was closed is a folder then, which gives no bytes and takes none.
+fn hold_streams(rt: &HostRuntime) -> io::Result<()> {
+    for _ in 0..STREAMS {
+        let held = File::open(rt, "/")?;
+        if held.as_raw_fd() >= STREAMS {
+            break;
+        }
+        mem::forget(held);
+    }
+    Ok(())
 }
 
 // What the words of the command line ask for. The first is the program's own name.

@@ -2,11 +2,15 @@
 // own folder, so that a full disk changes nothing; then each file is renamed into its place, between the bundle that it
 // was written from and the new one.
 use crate::files::{
-    is_there, make_file, make_private, read_file, remove_if_there, sync_file, sync_folder,
-    write_made,
+    Found, is_there, make_file, make_private, open_plain, read_open, remove_if_there, sync_file,
+    sync_folder, write_made,
 };
-use crate::folder::{BookFile, OWN, file_of, own_path, path_in, places_of};
-use crate::project::keep_rights;
+use crate::folder::{
+    BookFile, Books, OWN, file_of, is_whole, name_for, new_path, own_path, path_in, refuse_unknown,
+    say_headless,
+};
+use crate::own::Kept;
+use crate::rights::keep_rights;
 use crate::turns::Refusal;
 use std::fs;
 use std::fs::File;
@@ -19,12 +23,18 @@ use usfm_ref::Book;
 pub(crate) struct Staged {
     pub(crate) book: Book,
     pub(crate) path: String,
-    // The new file, and where it goes: to the path, or where a link there leads.
-    file: Option<(String, String)>,
+    // The name of its file in the folder.
+    pub(crate) name: String,
+    // Whether the book had no file.
+    pub(crate) is_new: bool,
+    // The new file.
+    file: Option<String>,
     // The new bundle.
     bundle: Option<String>,
-    // Whether the old file was left, since it had changed meanwhile.
+    // Whether the old file was left, since it had changed meanwhile, or could not be replaced.
     pub(crate) is_left: bool,
+    // Why it could not be replaced.
+    pub(crate) failed: Option<Fault>,
 }
 
 impl Staged {
@@ -38,19 +48,26 @@ impl Staged {
 pub(crate) fn stage(
     rt: &HostRuntime,
     folder: &str,
-    files: &[BookFile],
+    kept: &Kept,
+    found: &Books,
     books: &[&StandingBook],
 ) -> Result<Vec<Staged>, Refusal> {
+    let files = &found.files;
     for book in books {
-        if file_of(files, book.book()).is_none() {
-            let path = path_for(rt, folder, book.book())?;
+        if file_of(files, book.book()).is_none() && is_whole(book) {
+            refuse_unknown(rt, kept, found, book.book())?;
+            let path = path_in(rt, folder, &name_for(rt, kept, book.book())?)?;
             refuse_another(rt, &path).map_err(|fault| Refusal::at(rt, fault, &path))?;
         }
     }
     let mut staged = Vec::new(rt.alloc());
     for book in books {
+        if !is_whole(book) {
+            say_headless(rt, book.book());
+            continue;
+        }
         let file = file_of(files, book.book());
-        if let Err(refusal) = stage_book(rt, folder, file, book, &mut staged) {
+        if let Err(refusal) = stage_book(rt, folder, kept, file, book, &mut staged) {
             unstage(rt, folder, &staged);
             return Err(refusal);
         }
@@ -61,7 +78,7 @@ pub(crate) fn stage(
 // Takes away what was written to be put in place.
 pub(crate) fn unstage(rt: &HostRuntime, folder: &str, staged: &[Staged]) {
     for book in staged {
-        if let Some((new, _)) = &book.file {
+        if let Some(new) = &book.file {
             let _ = fs::remove_file(rt, new.as_str());
         }
         if let Some(made) = &book.bundle {
@@ -79,20 +96,38 @@ pub(crate) fn unstage(rt: &HostRuntime, folder: &str, staged: &[Staged]) {
 fn stage_book(
     rt: &HostRuntime,
     folder: &str,
+    kept: &Kept,
     file: Option<&BookFile>,
     book: &StandingBook,
     staged: &mut Vec<Staged>,
 ) -> Result<(), Refusal> {
     let is_written = file.is_some_and(|file| file.bytes.as_slice() == book.text());
-    let is_kept = file.is_some_and(|file| file.keeps(book.base()));
+    let is_kept = file.is_some_and(|file| file.keeps(kept, book.base()));
     if is_written && is_kept {
         return Ok(clear(rt, folder, book.book())?);
     }
-    let path = match file {
-        Some(file) => file.path.clone().map_err(Fault::from)?,
-        None => path_for(rt, folder, book.book())?,
+    let name = match file {
+        Some(file) => file.name.clone().map_err(Fault::from)?,
+        None => name_for(rt, kept, book.book())?,
     };
-    match stage_at(rt, folder, file, book, &path, (is_written, is_kept), staged) {
+    let path = path_in(rt, folder, &name)?;
+    let mut parts = Staged {
+        book: book.book(),
+        path: path.clone().map_err(Fault::from)?,
+        name,
+        is_new: file.is_none(),
+        file: Some(new_path(rt, folder, book.book())?),
+        bundle: Some(own_path(rt, folder, book.book(), "bundle.made")?),
+        is_left: false,
+        failed: None,
+    };
+    if is_written {
+        parts.file = None;
+    }
+    if is_kept {
+        parts.bundle = None;
+    }
+    match stage_at(rt, folder, kept, file, book, parts, staged) {
         Ok(()) => Ok(()),
         Err(fault) => Err(Refusal {
             fault,
@@ -109,47 +144,36 @@ fn clear(rt: &HostRuntime, folder: &str, book: Book) -> Result<(), Fault> {
     Ok(())
 }
 
-// The path of a book that has no file.
-fn path_for(rt: &HostRuntime, folder: &str, book: Book) -> Result<String, Fault> {
-    let name = format!(in rt.alloc(); "{book}.usfm")?;
-    path_in(rt, folder, &name)
-}
-
 fn stage_at(
     rt: &HostRuntime,
     folder: &str,
+    kept: &Kept,
     file: Option<&BookFile>,
     book: &StandingBook,
-    path: &str,
-    (is_written, is_kept): (bool, bool),
+    parts: Staged,
     staged: &mut Vec<Staged>,
 ) -> Result<(), Fault> {
     make_own(rt, folder)?;
     if let Some(file) = file {
-        settle_cut(rt, folder, file)?;
+        settle_cut(rt, folder, kept, file)?;
     }
     clear(rt, folder, book.book())?;
     let old = match file {
-        Some(file) => Some(File::open(rt, file.path.as_str()).map_err(|_| Fault::FileFailed)?),
+        Some(file) => Some(open_old(rt, &file.path)?),
         None => None,
     };
-    let mut parts = Staged {
-        book: book.book(),
-        path: String::from_str(rt.alloc(), path)?,
-        file: None,
-        bundle: None,
-        is_left: false,
-    };
-    if !is_written {
-        parts.file = Some(places_for(rt, folder, file, book.book(), path)?);
-    }
-    if !is_kept {
-        parts.bundle = Some(own_path(rt, folder, book.book(), "bundle.made")?);
-    }
     staged.push(parts)?;
     match staged.last() {
         Some(parts) => write_parts(rt, parts, book, &old),
         None => Ok(()),
+    }
+}
+
+// Opens a file that is to be replaced, for its rights.
+fn open_old(rt: &HostRuntime, path: &str) -> Result<File, Fault> {
+    match open_plain(rt, path) {
+        Ok(Found::Plain(file)) => Ok(file),
+        _ => Err(Fault::FileFailed),
     }
 }
 
@@ -160,7 +184,7 @@ fn write_parts(
     book: &StandingBook,
     old: &Option<File>,
 ) -> Result<(), Fault> {
-    if let Some((new, _)) = &parts.file {
+    if let Some(new) = &parts.file {
         write_beside(rt, new, book.text(), old)?;
     }
     if let Some(made) = &parts.bundle {
@@ -169,26 +193,9 @@ fn write_parts(
     Ok(())
 }
 
-// Where the new file of a book is written, and where it goes.
-fn places_for(
-    rt: &HostRuntime,
-    folder: &str,
-    file: Option<&BookFile>,
-    book: Book,
-    path: &str,
-) -> Result<(String, String), Fault> {
-    match file {
-        Some(_) => places_of(rt, folder, book, path),
-        None => Ok((
-            own_path(rt, folder, book, "usfm.new")?,
-            String::from_str(rt.alloc(), path)?,
-        )),
-    }
-}
-
 // Settles what a writing that was cut short has left: the bundle that the file was written from is kept.
-fn settle_cut(rt: &HostRuntime, folder: &str, file: &BookFile) -> Result<(), Fault> {
-    if file.newer.is_none() {
+fn settle_cut(rt: &HostRuntime, folder: &str, kept: &Kept, file: &BookFile) -> Result<(), Fault> {
+    if kept.newer_of(file.book).is_none() {
         return Ok(());
     }
     let newer = own_path(rt, folder, file.book, "bundle.new")?;
@@ -239,12 +246,12 @@ fn write_beside(
     };
     write_made(&file, bytes)?;
     if let Some(old) = old {
-        keep_rights(old, &file)?;
+        keep_rights(rt, old, &file)?;
     }
     sync_file(&file)
 }
 
-// Puts in place what was written. A file that changed meanwhile is left, and marked so.
+// Puts in place what was written. A file that changed meanwhile is left, and one that cannot be replaced, and marked so.
 pub(crate) fn place(
     rt: &HostRuntime,
     folder: &str,
@@ -261,7 +268,10 @@ pub(crate) fn place(
     for book in staged.iter_mut() {
         match put(rt, folder, files, book) {
             Ok(is_put) => book.is_left = !is_put,
-            Err(fault) => return Err(Refusal::at(rt, fault, &book.path)),
+            Err(fault) => {
+                book.is_left = true;
+                book.failed = Some(fault);
+            }
         }
     }
     sync_path(rt, folder, ".")?;
@@ -269,6 +279,16 @@ pub(crate) fn place(
         settle(rt, folder, book).map_err(|fault| Refusal::at(rt, fault, &book.path))?;
     }
     Ok(sync_path(rt, folder, OWN)?)
+}
+
+// The refusal of the first file that could not be replaced.
+pub(crate) fn refusal_of_failed(rt: &HostRuntime, staged: &[Staged]) -> Result<(), Refusal> {
+    for one in staged {
+        if let Some(fault) = one.failed {
+            return Err(Refusal::at(rt, fault, &one.path));
+        }
+    }
+    Ok(())
 }
 
 // Puts a new bundle beside the one that a book's file was written from; in its place, where the file stays.
@@ -287,38 +307,47 @@ fn announce(rt: &HostRuntime, folder: &str, book: &Staged) -> Result<(), Fault> 
 
 // Puts a new file, if there is one, in its place, unless the old one is no longer what was read.
 fn put(rt: &HostRuntime, folder: &str, files: &[BookFile], book: &Staged) -> Result<bool, Fault> {
-    let Some((new, end)) = &book.file else {
+    let Some(new) = &book.file else {
         return Ok(true);
     };
     let is_same = match file_of(files, book.book) {
-        Some(file) => is_still(rt, end, &file.bytes)?,
-        None => is_free(rt, end)?,
+        Some(file) => is_still(rt, &book.path, &file.bytes)?,
+        None => is_free(rt, &book.path)?,
     };
     if is_same {
-        rename(rt, new, end)?;
-        return Ok(true);
+        rename(rt, new, &book.path)?;
     }
-    remove_if_there(rt, new)?;
-    remove_if_there(rt, &own_path(rt, folder, book.book, "bundle.new")?)?;
-    Ok(false)
+    Ok(is_same)
 }
 
 // Whether a file still has these bytes. One that cannot be read any more was changed.
 fn is_still(rt: &HostRuntime, path: &str, bytes: &[u8]) -> Result<bool, Fault> {
-    match read_file(rt, path) {
+    let read = match open_plain(rt, path) {
+        Ok(Found::Plain(file)) => read_open(rt, &file),
+        _ => return Ok(false),
+    };
+    match read {
         Ok(found) => Ok(found.as_slice() == bytes),
         Err(Fault::Memory) => Err(Fault::Memory),
         Err(_) => Ok(false),
     }
 }
 
-// Puts the new bundle of a file that is in its place in the place of the old one.
+// Puts the new bundle of a file that is in its place in the place of the old one. Of a file that was left the old one stays:
+// the new one goes before the new file does, by which it is known that the file was not replaced.
 fn settle(rt: &HostRuntime, folder: &str, book: &Staged) -> Result<(), Fault> {
-    if book.file.is_none() || book.bundle.is_none() || book.is_left {
+    let Some(new) = &book.file else {
         return Ok(());
-    }
+    };
     let newer = own_path(rt, folder, book.book, "bundle.new")?;
-    rename(rt, &newer, &own_path(rt, folder, book.book, "bundle")?)
+    if book.is_left {
+        remove_if_there(rt, &newer)?;
+        return remove_if_there(rt, new);
+    }
+    if book.bundle.is_some() {
+        rename(rt, &newer, &own_path(rt, folder, book.book, "bundle")?)?;
+    }
+    Ok(())
 }
 
 // Puts a bundle in the place of the one that a book's file was written from, and waits until it is on the disk.
@@ -329,9 +358,26 @@ pub(crate) fn put_base(
     base: &[u8],
 ) -> Result<(), Fault> {
     let made = own_path(rt, folder, file.book, "bundle.made")?;
-    let old = File::open(rt, file.path.as_str()).ok();
+    let old = open_old(rt, &file.path).ok();
     write_beside(rt, &made, base, &old)?;
     rename(rt, &made, &own_path(rt, folder, file.book, "bundle")?)?;
+    sync_path(rt, folder, OWN)
+}
+
+// Writes a file of the program's own folder, which is made where it is not there, and puts it in the place of the one that is.
+pub(crate) fn write_own(
+    rt: &HostRuntime,
+    folder: &str,
+    name: &str,
+    bytes: &[u8],
+) -> Result<(), Fault> {
+    make_own(rt, folder)?;
+    let own = path_in(rt, folder, OWN)?;
+    let path = path_in(rt, &own, name)?;
+    let new = format!(in rt.alloc(); "{path}.new")?;
+    let old = open_old(rt, &path).ok();
+    write_beside(rt, &new, bytes, &old)?;
+    rename(rt, &new, &path)?;
     sync_path(rt, folder, OWN)
 }
 

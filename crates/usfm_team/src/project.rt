@@ -1,12 +1,17 @@
 // A project's file. One command at a time changes it, and what a command changed is on the disk before it answers.
 use crate::files::{
-    link_fault, lock_file, make_private, open_folder, read_open, sync_file, sync_folder, write_made,
+    is_same_file, link_fault, lock_file, make_private, open_at_once, open_folder, read_open,
+    sync_file, sync_folder, write_made,
 };
+use crate::rights::{keep_rights, look_at};
 use std::fs;
-use std::fs::{File, Metadata, OpenOptions, Permissions};
-use std::os::unix::fs::{MetadataExt, PermissionsExt, fchown};
+use std::fs::File;
+use std::os::unix::fs::MetadataExt;
 use std::path::PathBuf;
 use usfm_cli::Fault;
+
+// The bits of a mode by which somebody may write.
+const MAY_WRITE: u32 = 0o222;
 
 // A project's file that no other command changes until this value is dropped.
 #[derive(Drop)]
@@ -22,7 +27,7 @@ pub(crate) struct Project {
 // to lead to this file still, else the new one is waited for.
 pub(crate) fn lock_project(rt: &HostRuntime, path: &str) -> Result<Project, Fault> {
     for _ in 0..u64::MAX {
-        let file = open_project(rt, path)?;
+        let file = open_at_once(rt, path).map_err(|_| Fault::ReadFailed)?;
         lock_file(&file)?;
         let place = real_path(rt, path)?;
         if stands_at(rt, &file, &place)? {
@@ -61,24 +66,26 @@ impl Project {
     // Gives the project these bytes: writes them to `PLACE.new` and renames that to `PLACE`, so that the file has
     // either its old bytes or the new ones. The folder is opened first: where that cannot be, the project stays.
     pub(crate) fn replace(&self, rt: &HostRuntime, bytes: &[u8]) -> Result<(), Fault> {
+        self.refuse_kept()?;
         let place = self.place.as_str();
         let new = format!(in rt.alloc(); "{place}.new")?;
         let folder = open_folder(rt, place)?;
         let file = make_private(rt, new.as_str())?;
         write_made(&file, bytes)?;
-        keep_rights(&self.file, &file)?;
+        keep_rights(rt, &self.file, &file)?;
         sync_file(&file)?;
         fs::rename(rt, new.as_str(), place).map_err(|_| Fault::FileFailed)?;
         sync_folder(&folder)
     }
-}
 
-// Opens a project's file for writing, which a lock on a network's folder wants, or for reading where that is refused.
-// It is only read.
-fn open_project(rt: &HostRuntime, path: &str) -> Result<File, Fault> {
-    match OpenOptions::new().read(true).write(true).open(rt, path) {
-        Ok(file) => Ok(file),
-        Err(_) => File::open(rt, path).map_err(|_| Fault::ReadFailed),
+    // Refuses a change of a file that is kept as it is, since nobody may write it, and of one that has another name too: that
+    // one would stay as it was, and be a second project of one copy from then on.
+    fn refuse_kept(&self) -> Result<(), Fault> {
+        let found = look_at(&self.file)?;
+        if found.mode() & MAY_WRITE == 0 || found.nlink() > 1 {
+            return Err(Fault::FileFailed);
+        }
+        Ok(())
     }
 }
 
@@ -100,32 +107,5 @@ fn stands_at(rt: &HostRuntime, file: &File, place: &PathBuf) -> Result<bool, Fau
         return Err(Fault::ReadFailed);
     }
     let found = fs::metadata(rt, place).map_err(|_| Fault::FileFailed)?;
-    Ok(opened.dev() == found.dev() && opened.ino() == found.ino())
-}
-
-fn look_at(file: &File) -> Result<Metadata, Fault> {
-    file.metadata().map_err(|_| Fault::FileFailed)
-}
-
-// Gives a file the group and the mode of the one that it will replace. A new file's mode is no more than that of its
-// owner's by then.
-pub(crate) fn keep_rights(old: &File, new: &File) -> Result<(), Fault> {
-    let old = look_at(old)?;
-    let made = look_at(new)?;
-    let is_kept = made.gid() == old.gid() || fchown(new, None, Some(old.gid())).is_ok();
-    let mode = if is_kept {
-        old.mode()
-    } else {
-        mode_without_group(old.mode())
-    };
-    if made.mode() == mode {
-        return Ok(());
-    }
-    let rights = Permissions::from_mode(mode);
-    new.set_permissions(rights).map_err(|_| Fault::FileFailed)
-}
-
-// A mode in which the file's group may do what all others may: that of a file whose group is another one now.
-fn mode_without_group(mode: u32) -> u32 {
-    mode & !0o070 | (mode & 0o007) << 3
+    Ok(is_same_file(&opened, &found))
 }

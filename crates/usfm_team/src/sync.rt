@@ -1,7 +1,8 @@
 // A folder of books' files: what was changed in it comes into the project, and the project's books go into it.
 use crate::files::read_file;
-use crate::folder::{BookFile, file_of, lock_books, read_books, refuse_two_of_one_book};
-use crate::placing::{Staged, place, put_base, stage, unstage};
+use crate::folder::{BookFile, file_of, lock_books, read_books};
+use crate::own::{Kept, read_kept, write_names};
+use crate::placing::{Staged, place, put_base, refusal_of_failed, stage, unstage};
 use crate::project::lock_project;
 use crate::turns::{Refusal, read_files, refusal_in};
 use crate::write_output;
@@ -26,13 +27,14 @@ pub(crate) fn sync(
     let locked = lock_project(rt, project)?;
     let before = locked.read(rt)?;
     let _held = lock_books(rt, folder)?;
-    let mut files = read_books(rt, folder)?;
+    let kept = read_kept(rt, folder)?;
+    let mut books = read_books(rt, folder, &kept)?;
     let given = read_files(rt, &bundles).map_err(|fault| refusal_in(rt, fault, &bundles))?;
-    refuse_two_of_one_book(rt, &files)?;
-    find_bases(rt, &mut files)?;
-    let (outcomes, stands) = take_in(rt, &before, &files, &bundles, &given)?;
-    let books = all_books(rt, &stands)?;
-    let mut staged = stage(rt, folder, &files, &books)?;
+    find_bases(rt, &kept, &mut books.files)?;
+    let files = &books.files;
+    let (outcomes, stands) = take_in(rt, &before, &kept, files, &bundles, &given)?;
+    let chosen = all_books(rt, &stands)?;
+    let mut staged = stage(rt, folder, &kept, &books, &chosen)?;
     if outcomes.project() != before.as_slice() {
         if let Err(fault) = locked.replace(rt, outcomes.project()) {
             unstage(rt, folder, &staged);
@@ -40,12 +42,14 @@ pub(crate) fn sync(
         }
     }
     drop(locked);
-    place(rt, folder, &files, &mut staged)?;
-    keep_left(rt, folder, &before, &files, &staged)?;
-    let told = told(rt, &files, &outcomes, &staged, &stands)?;
+    place(rt, folder, files, &mut staged)?;
+    keep_left(rt, folder, &before, &kept, files, &staged)?;
+    write_names(rt, folder, &kept, files, &staged)?;
+    let told = told(rt, &kept, files, &outcomes, &staged, &stands)?;
     let written = write_output(rt, &told);
     mem::forget(outcomes);
-    Ok(written?)
+    written?;
+    refusal_of_failed(rt, &staged)
 }
 
 // Writes books into a folder, all where none is named. A file of theirs that was changed is refused.
@@ -60,28 +64,29 @@ pub(crate) fn export_into(
     let bytes = read_file(rt, project)?;
     let stands = project_standing(rt.alloc(), &bytes)?;
     let chosen = chosen_books(rt, &stands, books)?;
-    let mut files = read_books(rt, folder)?;
-    refuse_two_of_one_book(rt, &files)?;
-    find_bases(rt, &mut files)?;
-    let replaced = replaced_files(rt, &files, &chosen)?;
+    let kept = read_kept(rt, folder)?;
+    let mut found = read_books(rt, folder, &kept)?;
+    find_bases(rt, &kept, &mut found.files)?;
+    let replaced = replaced_files(rt, &kept, &found.files, &chosen)?;
     refuse_lost(rt, &bytes, &replaced)?;
-    let mut staged = stage(rt, folder, &files, &chosen)?;
-    place(rt, folder, &files, &mut staged)?;
+    let mut staged = stage(rt, folder, &kept, &found, &chosen)?;
+    place(rt, folder, &found.files, &mut staged)?;
+    write_names(rt, folder, &kept, &found.files, &staged)?;
     let mut told = Vec::new(rt.alloc());
     tell_placed(&mut told, &staged)?;
-    Ok(write_output(rt, &told)?)
+    write_output(rt, &told)?;
+    refusal_of_failed(rt, &staged)
 }
 
 // Finds out which of its bundles each file was written from, where there are two, and whether it is what that one makes.
-fn find_bases(rt: &HostRuntime, files: &mut Vec<BookFile>) -> Result<(), Refusal> {
+fn find_bases(rt: &HostRuntime, kept: &Kept, files: &mut Vec<BookFile>) -> Result<(), Refusal> {
     for file in files.iter_mut() {
-        let base = file.base.as_deref();
-        let newer = file.newer.as_deref();
+        let newer = kept.newer_of(file.book);
         let found = written_from(
             rt.alloc(),
             file.book,
             &file.bytes,
-            base,
+            kept.base_of(file.book),
             newer,
             file.is_unplaced,
         );
@@ -89,7 +94,7 @@ fn find_bases(rt: &HostRuntime, files: &mut Vec<BookFile>) -> Result<(), Refusal
             Ok(from) => file.is_newer = newer.is_some() && from == newer,
             Err(fault) => return Err(Refusal::at(rt, fault, &file.path)),
         }
-        file.is_unchanged = match file.from() {
+        file.is_unchanged = match file.from(kept) {
             Some(from) => { makes(rt.alloc(), from, file.book, &file.bytes).map_err(Fault::from)? }
             None => false,
         };
@@ -97,30 +102,55 @@ fn find_bases(rt: &HostRuntime, files: &mut Vec<BookFile>) -> Result<(), Refusal
     Ok(())
 }
 
+// A file that is taken in, and the bundle that it was written from, where that is known.
+#[derive(Drop)]
+struct Taken<'a> {
+    file: &'a BookFile,
+    from: Option<&'a [u8]>,
+}
+
+fn taken_files<'a>(
+    rt: &HostRuntime,
+    kept: &'a Kept,
+    files: &'a [BookFile],
+) -> Result<Vec<Taken<'a>>, Refusal> {
+    let mut taken = Vec::new(rt.alloc());
+    for file in files {
+        let from = file.from(kept);
+        taken.push(Taken { file, from }).map_err(Fault::from)?;
+    }
+    Ok(taken)
+}
+
 // The command that takes in a file: the whole of a new one, of one that was changed what was changed. Of one that was not, the
-// bundle that it was written from is received, which the project mostly has.
-fn take_of(file: &BookFile) -> Command<'_> {
-    match file.from() {
-        None => Command::ImportNew(&file.bytes),
-        Some(base) if file.is_unchanged => Command::Receive(base),
+// bundle that it was written from is received once more.
+fn take_of<'a>(taken: &Taken<'a>) -> Command<'a> {
+    match taken.from {
+        None => Command::ImportNew(&taken.file.bytes),
+        Some(base) if taken.file.is_unchanged => Command::Receive(base),
         Some(base) => Command::ImportSince {
-            file: &file.bytes,
+            file: &taken.file.bytes,
             base,
         },
     }
 }
 
-// Does what takes in the files, and then receives the bundles, and says how the books stand then.
+// Receives the bundles that files were written from, so that no id of theirs is given once more, then takes in the files and
+// receives the bundles that are given; and says how the books stand then.
 fn take_in<'a>(
     rt: &HostRuntime,
     before: &[u8],
+    kept: &'a Kept,
     files: &'a [BookFile],
     bundles: &[String],
     given: &'a [Vec<u8>],
 ) -> Result<(Outcomes, Standing), Refusal> {
-    let commands: Vec<Command<'a>> = files
+    let bases = &kept.bundles;
+    let taken = taken_files(rt, kept, files)?;
+    let commands: Vec<Command<'a>> = bases
         .iter()
-        .map(|file| take_of(file))
+        .map(|base| Command::Receive(&base.bytes))
+        .chain(taken.iter().map(|one| take_of(one)))
         .chain(given.iter().map(|bundle| Command::Receive(bundle)))
         .collect(rt.alloc())
         .map_err(Fault::from)?;
@@ -128,9 +158,13 @@ fn take_in<'a>(
         Ok(made) => Ok(made),
         Err(TurnFault::Project(fault)) => Err(Refusal::from(fault)),
         Err(TurnFault::Turn(at, fault)) => {
-            let name = match files.get(at) {
-                Some(file) => Some(&file.path),
-                None => bundles.get(at.saturating_sub(files.len())),
+            let of_file = at.saturating_sub(bases.len());
+            let name = if let Some(base) = bases.get(at) {
+                Some(&base.path)
+            } else if let Some(file) = files.get(of_file) {
+                Some(&file.path)
+            } else {
+                bundles.get(of_file.saturating_sub(files.len()))
             };
             Err(match name {
                 Some(name) => Refusal::at(rt, fault, name),
@@ -140,19 +174,19 @@ fn take_in<'a>(
     }
 }
 
-// For each file that was left, since it was changed after it was taken in: what it was then becomes what its next change
-// is looked at from.
+// For each file that was left: what it was when it was taken in becomes what its next change is looked at from.
 fn keep_left(
     rt: &HostRuntime,
     folder: &str,
     before: &[u8],
+    kept: &Kept,
     files: &[BookFile],
     staged: &[Staged],
 ) -> Result<(), Refusal> {
     if !staged.iter().any(|one| one.is_left) {
         return Ok(());
     }
-    let (_outcomes, stands) = match take_in(rt, before, files, &[], &[]) {
+    let (_outcomes, stands) = match take_in(rt, before, kept, files, &[], &[]) {
         Ok(made) => made,
         Err(refusal) => return memory_alone(refusal),
     };
@@ -160,8 +194,8 @@ fn keep_left(
         let stood = stands.books().iter().find(|book| book.book() == one.book);
         if let (Some(file), Some(stood)) = (file_of(files, one.book), stood) {
             if file.bytes.as_slice() == stood.text() {
-                let kept = put_base(rt, folder, file, stood.base());
-                kept.map_err(|fault| Refusal::at(rt, fault, &one.path))?;
+                let put = put_base(rt, folder, file, stood.base());
+                put.map_err(|fault| Refusal::at(rt, fault, &one.path))?;
             }
         }
     }
@@ -217,6 +251,7 @@ struct Replaced<'a> {
 // The files of books that are other than they are to be. One that was changed since it was written is refused.
 fn replaced_files<'a>(
     rt: &HostRuntime,
+    kept: &'a Kept,
     files: &'a [BookFile],
     books: &[&StandingBook],
 ) -> Result<Vec<Replaced<'a>>, Refusal> {
@@ -226,7 +261,7 @@ fn replaced_files<'a>(
             if file.bytes.as_slice() == book.text() {
                 continue;
             }
-            match file.from() {
+            match file.from(kept) {
                 Some(from) if file.is_unchanged => {
                     found.push(Replaced { file, from }).map_err(Fault::from)?;
                 }
@@ -270,14 +305,19 @@ fn refuse_lost(rt: &HostRuntime, project: &[u8], replaced: &[Replaced<'_>]) -> R
 // segments are in conflict.
 fn told(
     rt: &HostRuntime,
+    kept: &Kept,
     files: &[BookFile],
     outcomes: &Outcomes,
     staged: &[Staged],
     stands: &Standing,
 ) -> Result<Vec<u8>, Refusal> {
     let mut told = Vec::new(rt.alloc());
+    let bases = kept.bundles.len();
     for (at, output) in outcomes.outputs().iter().enumerate() {
-        match files.get(at) {
+        if at < bases {
+            continue;
+        }
+        match files.get(at - bases) {
             Some(file) => tell_added(&mut told, output, file)?,
             None => told.extend_from_slice(output).map_err(Fault::from)?,
         }

@@ -5,11 +5,20 @@ from typing import Callable, Optional, Sequence
 from .bundles import read_whole_bundle, write_bundle
 from .faults import Fault, text_of
 from .operations import Set, awaited, conflict, export, has_book, keys_of, set_of, shown
-from .references import book_rank
+from .references import book_rank, read_book
 from .replicas import Replica
 from .tokens import book_of
 
 ENDINGS = (".usfm", ".sfm")
+
+
+@dataclass
+class Kept:
+    """What the program keeps in a folder: of each book the bundles that its file may have been written from, by their paths, and
+    the names of the files."""
+
+    bundles: dict[str, bytes]
+    names: dict[str, str]
 
 
 @dataclass
@@ -36,6 +45,42 @@ def within(path: str, call: Callable[..., bytes], *given: object) -> bytes:
 def own(place: str, book: str, ending: str) -> str:
     """The path of what the program keeps of a book."""
     return f"{place}/.usfm_team/{book}.{ending}"
+
+
+def read_kept(folder: dict, place: str) -> Kept:
+    """What the program keeps in a place."""
+    own_place = f"{place}/.usfm_team"
+    if own_place in folder:
+        raise changed(own_place)
+    found = sorted((it for it in folder if it.startswith(own_place + "/")), key=str.encode)
+    bundles = {it: folder[it] for it in found if is_own_bundle(it[len(own_place) + 1 :])}
+    return Kept(bundles, read_names(folder.get(f"{own_place}/names", b"")))
+
+
+def is_own_bundle(name: str) -> bool:
+    code, _, ending = name.partition(".")
+    return is_code(code) and ending in ("bundle", "bundle.new")
+
+
+def is_code(word: str) -> bool:
+    try:
+        return read_book(word) == word
+    except Fault:
+        return False
+
+
+def read_names(data: bytes) -> dict[str, str]:
+    """The name of each book's file, as it was written down."""
+    names: dict[str, str] = {}
+    for line in data.decode().split("\n"):
+        code, _, name = line.partition(" ")
+        if is_code(code) and may_be_book(name):
+            names.setdefault(code, name)
+    return names
+
+
+def write_names(folder: dict, place: str, names: dict[str, str]) -> None:
+    folder[f"{place}/.usfm_team/names"] = "".join(f"{book} {names[book]}\n" for book in sorted(names)).encode()
 
 
 def names_in(folder: dict, place: str) -> list[str]:
@@ -76,25 +121,39 @@ def makes(bundle: bytes, book: str, data: bytes) -> bool:
         return False
 
 
-def read_books(folder: dict, place: str, read: Callable[[dict, str], bytes], notes: list[bytes]) -> list[BookFile]:
-    """The books' files of a place. What is passed over is noted. Two of one book are refused."""
-    files = []
+def read_books(
+    folder: dict, place: str, kept: Kept, read: Callable[[dict, str], bytes], notes: list[bytes]
+) -> tuple[list[BookFile], list[str]]:
+    """The books' files of a place, and the paths of those that are passed over, which is noted."""
+    files, passed_over = [], []
     for path in names_in(folder, place):
         data = within(path, read, folder, path)
         book = book_begun(data)
         if book is None:
             notes.append(b"passed over %s: it does not begin with \\id and a book's code\n" % path.encode())
+            passed_over.append(path)
             continue
         files.append(BookFile(path, book, data, folder.get(own(place, book, "bundle")), True))
-    return files
+    refuse_two_of_one_book(place, kept, files)
+    for book, name in sorted(kept.names.items()):
+        path = f"{place}/{name}"
+        if is_there(folder, path) and not any((it.book, it.path) == (book, path) for it in files):
+            raise changed(path)
+    return files, passed_over
 
 
-def refuse_two_of_one_book(files: Sequence[BookFile]) -> None:
-    seen = set()
+def refuse_two_of_one_book(place: str, kept: Kept, files: Sequence[BookFile]) -> None:
+    """Of two files of one book the one that is not known as the book's is refused, else the later one."""
+    seen: dict[str, str] = {}
     for file in files:
         if file.book in seen:
-            raise changed(file.path)
-        seen.add(file.book)
+            known = f"{place}/{kept.names.get(file.book)}"
+            raise changed(seen[file.book] if file.path == known else file.path)
+        seen[file.book] = file.path
+
+
+def is_there(folder: dict, path: str) -> bool:
+    return any(it == path or it.startswith(path + "/") for it in folder)
 
 
 def changed(path: str) -> Fault:
@@ -122,7 +181,6 @@ def take(replica: Replica, file: BookFile) -> bytes:
     if file.base is None:
         added = take_new(replica, file)
     elif makes(file.base, file.book, file.data):
-        replica.receive(file.base)
         return b""
     else:
         added = replica.import_since(file.data, file.base)
@@ -146,13 +204,30 @@ def books_of(held: Set) -> list[str]:
     return sorted({it.book for it in held.values()}, key=book_rank)
 
 
-def put_books(folder: dict, place: str, files: Sequence[BookFile], held: Set, books: Sequence[str]) -> bytes:
-    """Writes books into their files, and says which were written. One whose file's name another file has is refused."""
+def put_books(
+    folder: dict,
+    place: str,
+    kept: Kept,
+    found: tuple[list[BookFile], list[str]],
+    held: Set,
+    books: Sequence[str],
+    notes: list[bytes],
+) -> bytes:
+    """Writes books into their files, and says which were written. One whose file's name another file has is refused, and one of
+    which it is not known which file it had, where a file is passed over. A book without its head gets no file."""
+    files, passed_over = found
     by_book = {it.book: it for it in files}
-    paths = {book: by_book[book].path if book in by_book else f"{place}/{book}.usfm" for book in books}
+    whole = [it for it in books if book_begun(export(held, it)) == it]
+    paths = {book: by_book[book].path if book in by_book else f"{place}/{kept.names.get(book, book + '.usfm')}" for book in whole}
     for book, path in paths.items():
-        if book not in by_book and any(it == path or it.startswith(path + "/") for it in folder):
-            raise changed(path)
+        if book not in by_book:
+            if passed_over and book not in kept.names and own(place, book, "bundle") in kept.bundles:
+                raise changed(passed_over[0])
+            if is_there(folder, path):
+                raise changed(path)
+    for book in books:
+        if book not in whole:
+            notes.append(b"no file is written for %s: the project does not have the book's head, which begins with \\id\n" % book.encode())
     told = b""
     for book, path in paths.items():
         text, base = export(held, book), base_of(held, book)
@@ -165,6 +240,10 @@ def put_books(folder: dict, place: str, files: Sequence[BookFile], held: Set, bo
         if file is None or not file.is_settled or file.base != base:
             folder[own(place, book, "bundle")] = base
             folder.pop(own(place, book, "bundle.new"), None)
+    named = {it.book: it.path[len(place) + 1 :] for it in files}
+    named.update((book, path[len(place) + 1 :]) for book, path in paths.items())
+    if {**kept.names, **named} != kept.names:
+        write_names(folder, place, {**kept.names, **named})
     return told
 
 

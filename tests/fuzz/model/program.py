@@ -142,14 +142,17 @@ def take_in(folder: Folder, command: str, project: str, names: Sequence[str], ba
 def sync(folder: Folder, project: str, place: str, names: Sequence[str], notes: list[bytes]) -> bytes:
     """Takes in what was changed in a folder of files, and bundles, and writes the books there."""
     before = read_file(folder, project)
-    files = folders.read_books(folder, place, read_file, notes)
+    kept = folders.read_kept(folder, place)
+    found = folders.read_books(folder, place, kept, read_file, notes)
+    files, _ = found
     bundles = [folders.within(it, read_file, folder, it) for it in names]
-    folders.refuse_two_of_one_book(files)
     folders.find_bases(folder, place, files)
     replica = load(before)
+    for path, bundle in kept.bundles.items():
+        folders.within(path, replica.receive, bundle)
     told = b"".join(folders.within(it.path, folders.take, replica, it) for it in files)
     told += b"".join(folders.within(name, replica.receive, it) for name, it in zip(names, bundles))
-    told += folders.put_books(folder, place, files, replica.held, folders.books_of(replica.held))
+    told += folders.put_books(folder, place, kept, found, replica.held, folders.books_of(replica.held), notes)
     folder[project] = save(replica)
     return told + folders.conflicts(replica.held)
 
@@ -162,12 +165,13 @@ def export_into(folder: Folder, project: str, place: str, named: Sequence[str], 
     begun = folders.books_of(held)
     if not set(named) <= set(begun):
         raise Fault(82)
-    files = folders.read_books(folder, place, read_file, notes)
-    folders.refuse_two_of_one_book(files)
+    kept = folders.read_kept(folder, place)
+    found = folders.read_books(folder, place, kept, read_file, notes)
+    files, _ = found
     folders.find_bases(folder, place, files)
     books = [it for it in begun if it in named or not named]
     folders.refuse_changed(held, files, books)
-    return folders.put_books(folder, place, files, held, books)
+    return folders.put_books(folder, place, kept, found, held, books, notes)
 
 
 def of_file(names: Sequence[str], name: str, call: Callable[..., bytes], *given: object) -> bytes:

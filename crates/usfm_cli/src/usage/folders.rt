@@ -26,11 +26,13 @@ pub(crate) fn sync<'a>(alloc: Global) -> Result<Command<'a>, AllocError> {
 const SYNC: &str = "\
 A book's file is the one whose name ends in .usfm or .sfm and that begins with
 \\id and the book's code; it keeps its name. A book without one becomes
-CODE.usfm. Of a file only what was changed since it was written is taken in, so
-that what came from others stays. Save and close the files in the editor before:
-one that is open there still has the old text, and saving that undoes what came
-in. All is taken in, or nothing: then a second line `in FILE` on standard error
-says where. Writes
+CODE.usfm, or gets the name that its file had. Of a file only what was changed
+since it was written is taken in, so that what came from others stays. Save and
+close the files in the editor before: one that is open there still has the old
+text, and saving that undoes what came in. So does an older copy of a file that
+is put back. Links are passed over, and files with a second name. All is taken
+in, or nothing: then a second line `in FILE` on standard error says where.
+Writes
   added N CODE     for each file in which something was changed
   new N            for each BUNDLE
   wrote FILE       for each file that was written
@@ -44,13 +46,15 @@ file replaces that one alone. To settle it, see them with `usfm_team report`,
 give the right text by `usfm_team edit`, and sync: that edit replaces
 them all, and the file is written.
 
-After fault 131 look at FILE: two files may be of one book (move one away). Or
-it is not known what FILE was written from. Then move it away and sync, and make
-its changes in the file that is written; or, to have FILE replace what the book
-has, `usfm_team import PROJECT FILE`, and sync.
+After fault 131 look at FILE. It may have lost its first line, with \\id and the
+code, or be saved as something else than UTF-8: mend it. Two files may be of one
+book: move one away. Or it is not known what FILE was written from. Then move it
+away and sync, and make its changes in the file that is written; or, to have
+FILE replace what the book has, `usfm_team import PROJECT FILE`, and sync.
 
-After fault 60 to 70 in a book's FILE, the bundle that FILE was written from is
-damaged: remove FOLDER/.usfm_team/CODE.bundle, and sync.
+After fault 130 in a book's FILE, that file could not be replaced, and all else
+is done: look at its rights, and sync again. After fault 60 to 70 in a file of
+FOLDER/.usfm_team, that file is damaged: remove it, and sync.
 
 Faults: those of `import`, `receive` and `export`.";
 

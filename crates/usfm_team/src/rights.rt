@@ -1,0 +1,79 @@
+// Who may read and write a file that takes the place of another one.
+use crate::files::read_file;
+use std::fs::{File, Metadata, Permissions};
+use std::os::unix::fs::{MetadataExt, PermissionsExt, fchown};
+use std::str;
+use usfm_cli::Fault;
+
+// The bits of a mode that are given to a file. Those beyond them have programs run as somebody else.
+const RIGHTS: u32 = 0o777;
+
+// The bits of a mode that a file may have besides, which a file that was made has not.
+const ALL_BITS: u32 = 0o7777;
+
+// The rights that a new file has at most, and those that its owner has in any case.
+const NEW: u32 = 0o666;
+
+const OWNERS: u32 = 0o600;
+
+// What the system takes from the mode of a new file where it does not say what that is.
+const STRICTEST_MASK: u32 = 0o077;
+
+// Where the system says what it takes from the mode of a new file, in a line that begins so.
+const STATUS: &str = "/proc/self/status";
+
+const MASK_LINE: &str = "Umask:";
+
+pub(crate) fn look_at(file: &File) -> Result<Metadata, Fault> {
+    file.metadata().map_err(|_| Fault::FileFailed)
+}
+
+// Gives a file the owner and the group of the one that it will replace, where the system allows it, and its mode. Of a file of
+// another owner no more of its mode is taken than a new file would have. A new file's mode is no more than that of its owner's
+// by then.
+pub(crate) fn keep_rights(rt: &HostRuntime, old: &File, new: &File) -> Result<(), Fault> {
+    let old = look_at(old)?;
+    let made = look_at(new)?;
+    let has_owner = made.uid() == old.uid() || fchown(new, Some(old.uid()), None).is_ok();
+    let has_group = made.gid() == old.gid() || fchown(new, None, Some(old.gid())).is_ok();
+    let rights = old.mode() & RIGHTS;
+    let rights = if has_group {
+        rights
+    } else {
+        without_group(rights)
+    };
+    let rights = if has_owner {
+        rights
+    } else {
+        rights & NEW & !mask(rt)? | OWNERS
+    };
+    if made.mode() & ALL_BITS == rights {
+        return Ok(());
+    }
+    let rights = Permissions::from_mode(rights);
+    new.set_permissions(rights).map_err(|_| Fault::FileFailed)
+}
+
+// Rights by which the file's group may do what all others may: those of a file whose group is another one now.
+fn without_group(rights: u32) -> u32 {
+    rights & !0o070 | (rights & 0o007) << 3
+}
+
+// The bits that the system takes from the mode of a file that this process makes.
+fn mask(rt: &HostRuntime) -> Result<u32, Fault> {
+    match read_file(rt, STATUS) {
+        Ok(status) => Ok(mask_of(&status).unwrap_or(STRICTEST_MASK)),
+        Err(Fault::Memory) => Err(Fault::Memory),
+        Err(_) => Ok(STRICTEST_MASK),
+    }
+}
+
+fn mask_of(status: &[u8]) -> Option<u32> {
+    let text = str::from_utf8(status).ok()?;
+    for line in text.lines() {
+        if let Some(digits) = line.strip_prefix(MASK_LINE) {
+            return u32::from_str_radix(digits.trim(), 8).ok();
+        }
+    }
+    None
+}
