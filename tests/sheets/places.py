@@ -15,7 +15,11 @@ class Row(NamedTuple):
 
 
 ROWS = [
-    Row("a footnote within a cross reference", r"\p a\x - \xo 1.1 \f + \ft b\f* \xt c\x*", (r"unclosed-note \x", r"unclosed-char \xt", r"stray-close \x*")),
+    Row(
+        "a footnote within a cross reference",
+        r"\p a\x - \xo 1.1 \f + \ft b\f* \xt c\x*",
+        (r"unclosed-note \x", r"unclosed-char \xt", r"stray-close \x*"),
+    ),
     Row("a cross reference within a footnote", r"\p a\f + \ft b\x - \xt c\x* d\f*", (r"unclosed-note \f", r"stray-close \f*")),
     Row("a footnote that goes on over a paragraph", r"\p a\f + \ft b \q1 c\f*", (r"unclosed-note \f", r"stray-close \f*")),
     Row("a footnote where a blank line stands", r"\b a\f + \ft b\f*", (r"not-under \f",)),
@@ -44,5 +48,9 @@ ROWS = [
     Row("words of Jesus in a table of contents", r"\toc1 \wj a\wj*", (r"not-under \wj",)),
     Row("a milestone without an end of its own", r"\p a \qt-s |who='b' c\qt-e\*", ()),
     Row("an end of a milestone's mark without it", r"\p a \nd b\nd*\* c", (r"stray-close \*",)),
-    Row("a marker that the standard does not have", r"\p a \z b\z* \s5 c", (r"unknown-marker \z", r"stray-close \z*", r"unknown-marker \s5")),
+    Row(
+        "markers that the standard does not have",
+        r"\p a \zx b\zx* \ps c",
+        (r"unknown-marker \zx", r"stray-close \zx*", r"unknown-marker \ps"),
+    ),
 ]
