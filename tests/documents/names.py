@@ -1,12 +1,13 @@
 """What the documents name: files, calls, laws, clauses, tests and edits."""
 import os
 import re
+import shutil
 
 from tally import TOP, check, kept_files, pages, sources_of, text_of
 from toolchain import load_rt
 
 # A path of the repository between backticks, perhaps with words after it.
-PATH = re.compile(r"`((?:\./)?(?:\.ci|bench|compile-fail|completions|crates|docs|edits|samples|tests|usfm_team)(?:/[\w./-]+)?)((?: [^`]*)?)`")
+PATH = re.compile(r"`((?:\./)?(?:\.ci|bench|build|compile-fail|completions|crates|docs|edits|release|samples|tests)(?:/[\w./-]+)?)((?: [^`]*)?)`")
 CALL = re.compile(r"`([a-z]+_[a-z]+|concordance)::((?:\w+::)*)(\{[^}]*\}|\w+)`")
 CLAUSES = re.compile(r"`(\w+)::(?:\w+::)*(\w+)`, clauses? ((?:`\w+`(?:, | and )?)+)")
 ROW = re.compile(r"^\| .* \|$", re.M)
@@ -75,6 +76,9 @@ def check_tests(page):
 
 def check_edits():
     """Each edit that the prover has to refuse still fits the sources that it edits, as rt reads it for the gate."""
+    if shutil.which("rt") is None:
+        print("documents: the toolchain is not installed, so not checked: whether each edit fits the sources")
+        return
     rt, wrong = load_rt(), []
     for path in kept_files():
         if path.endswith(".edit"):
