@@ -1,0 +1,88 @@
+"""What the program is built from: one digest over it, and what release/SOURCES states."""
+from __future__ import annotations
+
+import hashlib
+import re
+import shutil
+import subprocess
+from pathlib import Path
+
+RELEASE = Path(__file__).resolve().parent
+TOP = RELEASE.parent
+# The program as the gate and ./build leave it.
+BUILT = TOP / "crates/usfm_team/out/usfm_team"
+TESTS = re.compile(r"^#\[cfg\(test\)\]\nmod (\w+);$", re.M)
+
+
+def tests_of(crate: Path) -> set[str]:
+    """The modules of a crate that are built for its tests alone."""
+    roots = [it for it in (crate / "src/lib.rt", crate / "src/main.rt") if it.is_file()]
+    return {name for root in roots for name in TESTS.findall(root.read_text())}
+
+
+def files() -> list[str]:
+    """The files that a build of the program reads, by their paths, in the order of the paths' bytes.
+
+    Of the sources those of the tests are left out, since a build leaves them out.
+    """
+    found = ["HANDLES", "crates.txt"]
+    for crate in (TOP / "crates").iterdir():
+        tests = tests_of(crate)
+        for part in ("src", "specs", "proofs"):
+            for path in (crate / part).rglob("*"):
+                module = path.relative_to(crate / part).parts[0].split(".")[0]
+                if path.is_file() and module not in tests:
+                    found.append(path.relative_to(TOP).as_posix())
+    return sorted(found, key=str.encode)
+
+
+def digest() -> str:
+    """The SHA-256 of what `sha256sum` writes of these files, given at the top of the repository."""
+    lines = (f"{hashlib.sha256((TOP / path).read_bytes()).hexdigest()}  {path}\n" for path in files())
+    return hashlib.sha256("".join(lines).encode()).hexdigest()
+
+
+def toolchain() -> str | None:
+    """The line of `rt version`, or nothing where there is no toolchain."""
+    if shutil.which("rt") is None:
+        return None
+    return subprocess.run(["rt", "version"], stdout=subprocess.PIPE, text=True, check=True).stdout.strip()
+
+
+def stated() -> dict[str, str]:
+    """The lines of release/SOURCES, each by its first word, or nothing where no version was made."""
+    path = RELEASE / "SOURCES"
+    return dict(line.split(" ", 1) for line in path.read_text().splitlines()) if path.is_file() else {}
+
+
+def commits_since() -> str:
+    """How many commits came after that of release/SOURCES, in words, where Git can say it."""
+    git = ["git", "-c", "safe.directory=*", "-C", TOP]
+    try:
+        last = subprocess.check_output([*git, "log", "-1", "--format=%H", "--", RELEASE / "SOURCES"], text=True).strip()
+        return f", {subprocess.check_output([*git, 'rev-list', '--count', f'{last}..HEAD'], text=True).strip()} commits ago" if last else ""
+    except (OSError, subprocess.CalledProcessError):
+        return ""
+
+
+def difference() -> str | None:
+    """What differs between what the release was built from and what stands here; of the toolchain only where there is one."""
+    said, here = stated(), toolchain()
+    if said.get("sources") != digest():
+        return f"release is of other sources{commits_since()}"
+    if here not in (None, said.get("toolchain")):
+        return f"release is of other sources: its toolchain was {said.get('toolchain')}"
+    return None
+
+
+def version_of(program: Path) -> str:
+    """The version that a program prints."""
+    said = subprocess.run([program, "--version"], stdout=subprocess.PIPE, text=True, check=True).stdout
+    return said.split()[1]
+
+
+def versions() -> dict[str, tuple[str, str]]:
+    """The versions of release/CHANGES.md, the latest first: of each its date and what changed."""
+    text = (RELEASE / "CHANGES.md").read_text()
+    parts = re.split(r"^## (\S+), (\d{4}-\d\d-\d\d)$", text, flags=re.M)[1:]
+    return {number: (date, what.strip()) for number, date, what in zip(parts[::3], parts[1::3], parts[2::3])}
