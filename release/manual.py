@@ -48,7 +48,7 @@ def paragraphs(text: str) -> list[list[str]]:
 
 def block(lines: list[str]) -> list[str]:
     """The lines of a paragraph as roff: rows of a table, lines as they stand, which are indented, and prose."""
-    made, literal = [], False
+    made, literal, is_table = [], False, False
     widest = max((len(row[1]) for row in map(ROW.match, lines) if row), default=0)
     for line in lines:
         row = ROW.match(line)
@@ -57,6 +57,8 @@ def block(lines: list[str]) -> list[str]:
             made.append(".RS 4\n.EX" if stands else ".EE\n.RE")
             literal = stands
         if row:
+            made += [".PD 0"] * (not is_table)
+            is_table = True
             made += [f".TP {widest + 3}", at_line(rf"\fB{plain(row[1])}\fR"), at_line(sentence(row[2]))]
         elif stands:
             made.append(at_line(plain(line.strip())))
@@ -64,7 +66,7 @@ def block(lines: list[str]) -> list[str]:
             made += ["Example:", ".RS 4\n.EX", at_line(plain(line.removeprefix("Example: "))), ".EE\n.RE"]
         else:
             made.append(at_line(sentence(line)))
-    return made + [".EE\n.RE"] * literal
+    return made + [".EE\n.RE"] * literal + [".PD"] * is_table
 
 
 def page_of(program: Path, *words: str) -> tuple[str, str, list[list[str]]]:
@@ -99,7 +101,7 @@ def listed_commands(program: Path) -> list[str]:
 
 
 def manual(program: Path) -> str:
-    """The whole page. CHANGES.md has to have the program's version."""
+    """The whole page."""
     version = version_of(program)
     about, used, more = page_of(program)
     _, more = tables(more, "Commands:")

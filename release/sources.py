@@ -5,6 +5,7 @@ import hashlib
 import re
 import shutil
 import subprocess
+import sys
 from pathlib import Path
 
 RELEASE = Path(__file__).resolve().parent
@@ -46,7 +47,7 @@ def toolchain() -> str | None:
     """The line of `rt version`, or nothing where there is no toolchain."""
     if shutil.which("rt") is None:
         return None
-    return subprocess.run(["rt", "version"], stdout=subprocess.PIPE, text=True, check=True).stdout.strip()
+    return subprocess.check_output(["rt", "version"], text=True).strip()
 
 
 def stated() -> dict[str, str]:
@@ -57,10 +58,12 @@ def stated() -> dict[str, str]:
 
 def commits_since() -> str:
     """How many commits came after that of release/SOURCES, in words, where Git can say it."""
-    git = ["git", "-c", "safe.directory=*", "-C", TOP]
+    def git(*words: str) -> str:
+        return subprocess.check_output(["git", "-c", "safe.directory=*", "-C", TOP, *words], text=True, stderr=subprocess.DEVNULL).strip()
+
     try:
-        last = subprocess.check_output([*git, "log", "-1", "--format=%H", "--", RELEASE / "SOURCES"], text=True).strip()
-        return f", {subprocess.check_output([*git, 'rev-list', '--count', f'{last}..HEAD'], text=True).strip()} commits ago" if last else ""
+        last = git("log", "-1", "--format=%H", "--", "release/SOURCES")
+        return f", {git('rev-list', '--count', f'{last}..HEAD')} commits ago" if last else ""
     except (OSError, subprocess.CalledProcessError):
         return ""
 
@@ -75,14 +78,16 @@ def difference() -> str | None:
     return None
 
 
-def version_of(program: Path) -> str:
-    """The version that a program prints."""
-    said = subprocess.run([program, "--version"], stdout=subprocess.PIPE, text=True, check=True).stdout
-    return said.split()[1]
-
-
 def versions() -> dict[str, tuple[str, str]]:
     """The versions of release/CHANGES.md, the latest first: of each its date and what changed."""
     text = (RELEASE / "CHANGES.md").read_text()
     parts = re.split(r"^## (\S+), (\d{4}-\d\d-\d\d)$", text, flags=re.M)[1:]
     return {number: (date, what.strip()) for number, date, what in zip(parts[::3], parts[1::3], parts[2::3])}
+
+
+def version_of(program: Path) -> str:
+    """The version that a program prints, which has to be one of those."""
+    version = subprocess.check_output([program, "--version"], text=True).split()[1]
+    if version not in versions():
+        sys.exit(f"release/CHANGES.md has not the version {version} of {program}")
+    return version
