@@ -15,6 +15,19 @@ BUILT = TOP / "crates/usfm_team/out/usfm_team"
 TESTS = re.compile(r"^#\[cfg\(test\)\]\nmod (\w+);$", re.M)
 
 
+def crates() -> list[Path]:
+    """The crates that the program is built of: its own, and those of this repository below it."""
+    lines = [line.split("#")[0].partition(":") for line in (TOP / "crates.txt").read_text().splitlines()]
+    below = {before.split()[0]: re.findall(r"\w+", after) for before, _, after in lines if before.strip()}
+    found, waiting = set(), ["usfm_team"]
+    while waiting:
+        crate = waiting.pop()
+        if crate in below and crate not in found:
+            found.add(crate)
+            waiting += below[crate]
+    return [TOP / "crates" / crate for crate in found]
+
+
 def tests_of(crate: Path) -> set[str]:
     """The modules of a crate that are built for its tests alone."""
     roots = [it for it in (crate / "src/lib.rt", crate / "src/main.rt") if it.is_file()]
@@ -27,7 +40,7 @@ def files() -> list[str]:
     Of the sources those of the tests are left out, since a build leaves them out.
     """
     found = ["HANDLES", "crates.txt"]
-    for crate in (TOP / "crates").iterdir():
+    for crate in crates():
         tests = tests_of(crate)
         for part in ("src", "specs", "proofs"):
             for path in (crate / part).rglob("*"):
@@ -59,7 +72,8 @@ def stated() -> dict[str, str]:
 def commits_since() -> str:
     """How many commits came after that of release/SOURCES, in words, where Git can say it."""
     def git(*words: str) -> str:
-        return subprocess.check_output(["git", "-c", "safe.directory=*", "-C", TOP, *words], text=True, stderr=subprocess.DEVNULL).strip()
+        command = ["git", "-c", "safe.directory=*", "-C", TOP, *words]
+        return subprocess.check_output(command, text=True, stderr=subprocess.DEVNULL).strip()
 
     try:
         last = git("log", "-1", "--format=%H", "--", "release/SOURCES")
