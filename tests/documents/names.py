@@ -5,7 +5,7 @@ import re
 from tally import TOP, check, kept_files, pages, sources_of, text_of
 
 # A path of the repository between backticks, perhaps with words after it.
-PATH = re.compile(r"`((?:\./)?(?:\.ci|bench|compile-fail|completions|crates|docs|edits|samples|tests|usfm_team)(?:/[\w./-]+)?)((?: [^`]*)?)`")
+PATH = re.compile(r"`((?:\./)?(?:\.ci|bench|build|compile-fail|completions|crates|docs|edits|release|samples|tests)(?:/[\w./-]+)?)((?: [^`]*)?)`")
 CALL = re.compile(r"`([a-z]+_[a-z]+|concordance)::((?:\w+::)*)(\{[^}]*\}|\w+)`")
 CLAUSES = re.compile(r"`(\w+)::(?:\w+::)*(\w+)`, clauses? ((?:`\w+`(?:, | and )?)+)")
 ROW = re.compile(r"^\| .* \|$", re.M)
