@@ -16,6 +16,3 @@ mod since;
 pub use fault::{EditFault, ImportFault, ReceiveFault, SinceFault};
 pub use gathering::Gathering;
 pub use replica::Replica;
-
-#[cfg(test)]
-mod tests;
