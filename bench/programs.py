@@ -85,7 +85,7 @@ def built(words):
     """The program of the words, or the one of this repository, built where it has to be."""
     if words:
         return os.path.abspath(words[0])
-    subprocess.run([os.path.join(TOP, "usfm_team"), "--help"], stdout=subprocess.DEVNULL, check=True)
+    subprocess.run([os.path.join(TOP, "build")], check=True)
     return PROGRAM
 
 

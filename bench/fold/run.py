@@ -3,7 +3,7 @@
 
     run.py [OPERATIONS ..]      by default 10000 100000
 
-The program is the one that `./usfm_team` builds; the plain one, built by bench/build_plain.sh, lends names and texts
+The program is the one that `./build` leaves; the plain one, built by bench/build_plain.sh, lends names and texts
 from what it read, judges each bundle, walks all of them side by side, and keeps the operations of the one book alone.
 Each job runs several times, and the least wall time counts. The peak of resident memory is that of one more run below
 `/usr/bin/time`: a child of this script would begin with the script's own. The job `read and join` asks for a book that
@@ -55,8 +55,7 @@ def compare(label, ours, plain, stream):
 
 def main():
     counts = [int(word) for word in sys.argv[1:]] or [10_000, 100_000]
-    with open(os.path.join(TOP, "samples/first.bundle"), "rb") as sample:
-        subprocess.run([os.path.join(TOP, "usfm_team"), "fold", "MAT"], stdin=sample, stdout=subprocess.DEVNULL, check=True)
+    subprocess.run([os.path.join(TOP, "build")], check=True)
     with tempfile.TemporaryDirectory() as work:
         plain = plain_program(work, HERE)
         for count in counts:

@@ -3,7 +3,7 @@
 
     run.py [--program PATH] [WORD ..]      the inputs whose names have all these words, or all inputs
 
-The program is the one that is named, else the one that `./usfm_team` builds. For each input the table has the bytes and
+The program is the one that is named, else the one that `./build` leaves. For each input the table has the bytes and
 the least processor's time of several runs, of the small one and of the great one, and how many times as long the great
 one took. More than 15 times is marked, and the exit status is then 1. Times below a hundredth of a second are mostly
 those of beginning a program.
@@ -74,8 +74,7 @@ def measure(program: str, family: Family, folder: str) -> bool:
 
 def program_of_repository() -> str:
     """The program that is in this repository, built if need be."""
-    with open(os.path.join(TOP, "samples/first.bundle"), "rb") as sample:
-        subprocess.run([os.path.join(TOP, "usfm_team"), "fold", "MAT"], stdin=sample, stdout=subprocess.DEVNULL, check=True)
+    subprocess.run([os.path.join(TOP, "build")], check=True)
     return os.path.join(TOP, "crates/usfm_team/out/usfm_team")
 
 

@@ -1,7 +1,7 @@
 #!/usr/bin/env python3
 """Measures `usfm_team` on a project against a plain Rust program of the same jobs, turn about in one run.
 
-    run.py [PROGRAM]      by default the program that `./usfm_team` builds
+    run.py [PROGRAM]      by default the program that `./build` leaves
 
 The plain program is built by bench/build_plain.sh, the files are those of generate.py: a book of about 1,000 verses is
 imported into a project of 66 books, a bundle of 100 operations is received by it, and a book is exported from it. Each

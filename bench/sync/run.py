@@ -1,7 +1,7 @@
 #!/usr/bin/env python3
 """Measures a team's day with folders of books' files: `usfm_team sync` beside git, turn about in one run.
 
-    run.py CORPUS [PROGRAM]      by default the program that `./usfm_team` builds
+    run.py CORPUS [PROGRAM]      by default the program that `./build` leaves
 
 CORPUS is a folder with the books of a Bible as USFM files, which are copied under the names that Paratext gives. Measured
 are: the first sync of all books into a new project, beside `import` of the same files and git's first commit; a sync of
@@ -138,7 +138,7 @@ def main() -> int:
     corpus = Path(sys.argv[1])
     program = Path(sys.argv[2] if len(sys.argv) > 2 else TOP / "crates/usfm_team/out/usfm_team").resolve()
     if len(sys.argv) < 3:
-        subprocess.run([TOP / "usfm_team", "--help"], stdout=subprocess.DEVNULL, check=True)
+        subprocess.run([TOP / "build"], check=True)
     tools = {"usfm_team": Team(program), "git": Git()}
     least: dict[str, list[float]] = {}
     lost = []

@@ -1,7 +1,7 @@
 #!/usr/bin/env python3
 """Measures `usfm_team` where texts are left out against a plain Rust program of the same jobs, turn about in one run.
 
-    run.py [PROGRAM]      by default the program that `./usfm_team` builds
+    run.py [PROGRAM]      by default the program that `./build` leaves
 
 The files are those of generate.py: a project of 100,000 operations, half of them replaced. The job `thin` leaves out
 the replaced texts; `receive` takes in the bundle of another copy that did; `send` writes all operations of the thinned

@@ -3,10 +3,9 @@ import os
 import re
 
 from tally import TOP, check, kept_files, pages, sources_of, text_of
-from toolchain import load_rt
 
 # A path of the repository between backticks, perhaps with words after it.
-PATH = re.compile(r"`((?:\./)?(?:\.ci|bench|compile-fail|completions|crates|docs|edits|samples|tests|usfm_team)(?:/[\w./-]+)?)((?: [^`]*)?)`")
+PATH = re.compile(r"`((?:\./)?(?:\.ci|bench|build|compile-fail|completions|crates|docs|edits|release|samples|tests)(?:/[\w./-]+)?)((?: [^`]*)?)`")
 CALL = re.compile(r"`([a-z]+_[a-z]+|concordance)::((?:\w+::)*)(\{[^}]*\}|\w+)`")
 CLAUSES = re.compile(r"`(\w+)::(?:\w+::)*(\w+)`, clauses? ((?:`\w+`(?:, | and )?)+)")
 ROW = re.compile(r"^\| .* \|$", re.M)
@@ -77,10 +76,22 @@ def check_tests(page):
 
 
 def check_edits():
-    """Each edit that the prover has to refuse still fits the sources that it edits, as rt reads it for the gate."""
-    rt, wrong = load_rt(), []
-    for path in kept_files():
-        if path.endswith(".edit"):
-            why = rt.read_edit(str(TOP / path), str(TOP / "crates" / path.split("/")[1]))[1]
-            wrong += [f"{path}: {why}"] if why else []
+    """Each edit that the prover has to refuse still fits the sources that it edits."""
+    wrong = [f"{path}: {why}" for path in kept_files() if path.endswith(".edit") for why in misfits(path)]
     check(not wrong, "\n".join(wrong))
+
+
+def misfits(path):
+    """Why an edit does not fit: its crate has no such file, or a text that it replaces does not stand there once."""
+    lines = text_of(path).splitlines()
+    files = [it[len("file: ") :] for it in lines if it.startswith("file: ")]
+    pairs = [it for it in lines if it.startswith(("old: ", "new: "))]
+    file = TOP / "crates" / path.split("/")[1] / (files[0] if files else "")
+    if len(files) != 1 or not file.is_file() or not pairs or len(pairs) % 2:
+        yield "it is no edit of a file of its crate"
+        return
+    text = file.read_text()
+    for old, new in zip(pairs[::2], pairs[1::2]):
+        if not (old.startswith("old: ") and new.startswith("new: ") and text.count(old[len("old: ") :]) == 1):
+            yield f"{old!r}, {new!r}"
+        text = text.replace(old[len("old: ") :], new[len("new: ") :], 1)

@@ -3,7 +3,7 @@ import os
 import re
 import subprocess
 
-from repository import TOP
+from repository import TOP, program_given
 
 counts = [0, 0]
 
@@ -21,12 +21,12 @@ def text_of(path):
 
 def pages():
     """The pages that a reader opens."""
-    return [TOP / "README.md", TOP / "PROMISES.md", *sorted((TOP / "docs").glob("*.md"))]
+    return [TOP / "README.md", TOP / "PROMISES.md", TOP / "CONTRIBUTING.md", *sorted((TOP / "docs").glob("*.md"))]
 
 
 def kept_files():
-    """The files that git keeps, by their paths, without packed branches that are not merged."""
-    words = ["ls-files", "-co", "-z", "--exclude-standard", "--", ":!parked"]
+    """The files that git keeps, by their paths, without packed branches that are not merged and the program."""
+    words = ["ls-files", "-co", "-z", "--exclude-standard", "--", ":!parked", ":!release/usfm_team"]
     # The repository may be another user's than who looks at it.
     listed = subprocess.run(["git", "-c", "safe.directory=*", "-C", TOP, *words], stdout=subprocess.PIPE, check=True)
     return [path for path in map(os.fsdecode, listed.stdout.split(b"\0")) if (TOP / path).is_file()]
@@ -38,8 +38,8 @@ def sources_of(crate):
 
 
 def program(*words):
-    """What the program prints, which is built first where it was not."""
-    return subprocess.run([TOP / "usfm_team", *words], stdout=subprocess.PIPE, text=True, check=True).stdout
+    """What the program prints."""
+    return subprocess.run([program_given(), *words], stdout=subprocess.PIPE, text=True, check=True).stdout
 
 
 def numbers_in(text):

@@ -16,7 +16,7 @@ use std::alloc::{AllocError, Global};
 use usfm_ref::read_ref;
 
 /// The version of this workspace, which `usfm_team --version` prints. It is here alone.
-pub const VERSION: &str = "0.1.0";
+pub const VERSION: &str = "0.9.0";
 
 // What an argument is called, and what is to be given for it.
 type Words<'a> = &'a [(&'static str, &'static str)];

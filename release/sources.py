@@ -1,0 +1,107 @@
+"""What the program is built from: one digest over it, and what release/SOURCES states."""
+from __future__ import annotations
+
+import hashlib
+import re
+import shutil
+import subprocess
+import sys
+from pathlib import Path
+
+RELEASE = Path(__file__).resolve().parent
+TOP = RELEASE.parent
+# The program as the gate and ./build leave it.
+BUILT = TOP / "crates/usfm_team/out/usfm_team"
+TESTS = re.compile(r"^#\[cfg\(test\)\]\nmod (\w+);$", re.M)
+
+
+def crates() -> list[Path]:
+    """The crates that the program is built of: its own, and those of this repository below it."""
+    lines = [line.split("#")[0].partition(":") for line in (TOP / "crates.txt").read_text().splitlines()]
+    below = {before.split()[0]: re.findall(r"\w+", after) for before, _, after in lines if before.strip()}
+    found, waiting = set(), ["usfm_team"]
+    while waiting:
+        crate = waiting.pop()
+        if crate in below and crate not in found:
+            found.add(crate)
+            waiting += below[crate]
+    return [TOP / "crates" / crate for crate in found]
+
+
+def tests_of(crate: Path) -> set[str]:
+    """The modules of a crate that are built for its tests alone."""
+    roots = [it for it in (crate / "src/lib.rt", crate / "src/main.rt") if it.is_file()]
+    return {name for root in roots for name in TESTS.findall(root.read_text())}
+
+
+def files() -> list[str]:
+    """The files that a build of the program reads, by their paths, in the order of the paths' bytes.
+
+    Of the sources those of the tests are left out, since a build leaves them out.
+    """
+    found = ["HANDLES", "crates.txt"]
+    for crate in crates():
+        tests = tests_of(crate)
+        for part in ("src", "specs", "proofs"):
+            for path in (crate / part).rglob("*"):
+                module = path.relative_to(crate / part).parts[0].split(".")[0]
+                if path.is_file() and module not in tests:
+                    found.append(path.relative_to(TOP).as_posix())
+    return sorted(found, key=str.encode)
+
+
+def digest() -> str:
+    """The SHA-256 of what `sha256sum` writes of these files, given at the top of the repository."""
+    lines = (f"{hashlib.sha256((TOP / path).read_bytes()).hexdigest()}  {path}\n" for path in files())
+    return hashlib.sha256("".join(lines).encode()).hexdigest()
+
+
+def toolchain() -> str | None:
+    """The line of `rt version`, or nothing where there is no toolchain."""
+    if shutil.which("rt") is None:
+        return None
+    return subprocess.check_output(["rt", "version"], text=True).strip()
+
+
+def stated() -> dict[str, str]:
+    """The lines of release/SOURCES, each by its first word, or nothing where no version was made."""
+    path = RELEASE / "SOURCES"
+    return dict(line.split(" ", 1) for line in path.read_text().splitlines()) if path.is_file() else {}
+
+
+def commits_since() -> str:
+    """How many commits came after that of release/SOURCES, in words, where Git can say it."""
+    def git(*words: str) -> str:
+        command = ["git", "-c", "safe.directory=*", "-C", TOP, *words]
+        return subprocess.check_output(command, text=True, stderr=subprocess.DEVNULL).strip()
+
+    try:
+        last = git("log", "-1", "--format=%H", "--", "release/SOURCES")
+        return f", {git('rev-list', '--count', f'{last}..HEAD')} commits ago" if last else ""
+    except (OSError, subprocess.CalledProcessError):
+        return ""
+
+
+def difference() -> str | None:
+    """What differs between what the release was built from and what stands here; of the toolchain only where there is one."""
+    said, here = stated(), toolchain()
+    if said.get("sources") != digest():
+        return f"release is of other sources{commits_since()}"
+    if here not in (None, said.get("toolchain")):
+        return f"release is of other sources: its toolchain was {said.get('toolchain')}"
+    return None
+
+
+def versions() -> dict[str, tuple[str, str]]:
+    """The versions of release/CHANGES.md, the latest first: of each its date and what changed."""
+    text = (RELEASE / "CHANGES.md").read_text()
+    parts = re.split(r"^## (\S+), (\d{4}-\d\d-\d\d)$", text, flags=re.M)[1:]
+    return {number: (date, what.strip()) for number, date, what in zip(parts[::3], parts[1::3], parts[2::3])}
+
+
+def version_of(program: Path) -> str:
+    """The version that a program prints, which has to be one of those."""
+    version = subprocess.check_output([program, "--version"], text=True).split()[1]
+    if version not in versions():
+        sys.exit(f"release/CHANGES.md has not the version {version} of {program}")
+    return version
