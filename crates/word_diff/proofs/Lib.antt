@@ -1,0 +1,4 @@
+pub mod Lengths
+pub mod Subsequences
+pub mod WordLaws
+pub mod WordLemmas

@@ -1,0 +1,4 @@
+pub mod Words
+pub mod Common
+pub mod Parts
+pub mod Table
