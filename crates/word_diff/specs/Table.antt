@@ -24,5 +24,5 @@ table_of [] ys = row_of [] ys ∷ []
 table_of (x ∷ xs) ys = table_of xs ys ++ row_of (x ∷ xs) ys ∷ []
 
 -- the numbers of each row
-abbrev pub rows : {A : Type 0} → List (Vec ℕ A) → List (List ℕ)
+abbrev pub rows : List (Vec ℕ) → List (List ℕ)
 rows list = map (λ row. row.items) list

@@ -3,8 +3,10 @@
 
 mod ends;
 mod part;
+mod steps;
 mod table;
 mod word;
 
 pub use part::{Kind, Part};
+pub use table::MAX_WORDS;
 pub use word::words;
