@@ -1,6 +1,6 @@
 -- What two lists of words have in common at their front and at their end.
 use Rattle.std.proofs.Common.{◌≡◌, ℕ, suc, ◌+◌, ◌-◌, ◌<◌, ◌≤◌, Bool, true, false, List, [], ◌∷◌, ◌++◌, length, take, drop, reverse, get_or, sym, refl, ap, ◌∙◌, subst, arith, cond, Bor, length-drop, length-append, take-append-drop}
-use Rattle.std.proofs.lemmas.List.{get_or-map, get_or-reverse, reverse-append, reverse-reverse, length-reverse, length-map, drop_at}
+use Rattle.std.proofs.lemmas.List.{get_or-map, get_or-reverse, reverse-append, reverse-reverse, length-reverse, length-map, drop_at, take_rest, take-map, drop-map}
 use Rattle.std.proofs.lemmas.List.Sums.{common_prefix_len-le, common_prefix_len-drop_yes, common_prefix_len-drop_no}
 use Rattle.std.specs.Cmp.Lexicographic.{same_text}
 use Rattle.word_diff.specs.Common.{front_len, end_len}
@@ -16,6 +16,18 @@ no_text = record { ref_ptr = (0, 0); now = [] }
 -- there are as many texts by their bytes
 pub length-texts : (list : List (Bor (List ℕ))) → length (texts list) ≡ length list
 length-texts list = length-map list (λ (text : Bor (List ℕ)). text.now)
+
+-- the first texts of a list
+pub texts-take : (n : ℕ) (list : List (Bor (List ℕ))) → texts (take n list) ≡ take n (texts list)
+texts-take n list = sym (take-map (λ (text : Bor (List ℕ)). text.now) n list)
+
+-- and those after them
+pub texts-drop : (n : ℕ) (list : List (Bor (List ℕ))) → texts (drop n list) ≡ drop n (texts list)
+texts-drop n list = sym (drop-map (λ (text : Bor (List ℕ)). text.now) n list)
+
+-- the words of an end
+pub end_texts : (list : List (Bor (List ℕ))) (a : ℕ) → texts (take (length list - a) (drop a list)) ≡ drop a (texts list)
+end_texts list a = ap texts (take_rest list a) ∙ texts-drop a list
 
 -- the bytes of a text of a list
 pub text_at : (list : List (Bor (List ℕ))) (k : ℕ) → k < length list → (get_or list k no_text).now ≡ get_or (texts list) k []

@@ -1,6 +1,9 @@
 pub mod EndLemmas
 pub mod Lengths
+pub mod PartLemmas
 pub mod Rows
+pub mod StepLemmas
 pub mod Subsequences
+pub mod Walks
 pub mod WordLaws
 pub mod WordLemmas

@@ -1,19 +1,31 @@
 -- The rows of the table.
 use Rattle.std.proofs.Common.{◌≡◌, ℕ, zero, suc, ◌+◌, ◌-◌, ◌<◌, ◌≤◌, Bool, true, false, List, [], ◌∷◌, ◌++◌, length, drop, get_or, sym, refl, ap, ◌∙◌, subst, ⊎_elim, arith, cond, replicate, length-append, length-drop}
 use Rattle.std.specs.Prelude.{max}
+use Rattle.std.specs.Global.{Vec}
 use Rattle.std.proofs.str.Laws.{order}
-use Rattle.std.proofs.lemmas.List.{get_or_append_left, get_or_at, drop_more, replicate_more}
+use Rattle.std.proofs.lemmas.List.{get_or_append_left, get_or_at, get_or-map, length-map, drop_more, replicate_more}
 use Rattle.word_diff.specs.Words.{same_word}
-use Rattle.word_diff.specs.Table.{row_len, common_len, row_of, table_of}
+use Rattle.word_diff.specs.Table.{row_len, common_len, row_of, rows, table_of}
 
 abbrev Words : Type 0
 Words = List (List ℕ)
+
+-- by the first words of both
+pub common_len-cons : (x y : List ℕ) (xs ys : Words) → common_len (x ∷ xs) (y ∷ ys)
+    ≡ cond (same_word x y) (common_len xs ys + 1) (max (common_len xs (y ∷ ys)) (common_len (x ∷ xs) ys))
+unfolding common_len row_len
+common_len-cons x y xs ys = refl
 
 -- no words are in common with none
 pub common_len-nil : (xs : Words) → common_len xs [] ≡ 0
 unfolding common_len row_len
 common_len-nil [] = refl
 common_len-nil (x ∷ xs) = refl
+
+-- and none with any
+pub common_len-none : (ys : Words) → common_len [] ys ≡ 0
+unfolding common_len
+common_len-none ys = refl
 
 -- the row for no words
 pub row_of-nil : (xs : Words) → row_of xs [] ≡ 0 ∷ []
@@ -110,11 +122,6 @@ first_and_rest : (xs : Words) → 0 < length xs → xs ≡ get_or xs 0 [] ∷ dr
 first_and_rest [] some = absurd (omega arith)
 first_and_rest (x ∷ xs) some = refl
 
-common_len-cons : (x y : List ℕ) (xs ys : Words) → common_len (x ∷ xs) (y ∷ ys)
-    ≡ cond (same_word x y) (common_len xs ys + 1) (max (common_len xs (y ∷ ys)) (common_len (x ∷ xs) ys))
-unfolding common_len row_len
-common_len-cons x y xs ys = refl
-
 -- the next number of a row, by two of the row below and the last of its own
 entry_is : (xs ys : Words) (k : ℕ) → 0 < length xs → k < length ys → common_len xs (drop (length ys - (k + 1)) ys)
     ≡ cond (same_word (get_or xs 0 []) (get_or ys (length ys - 1 - k) [])) (get_or (row_of (drop 1 xs) ys) k 0 + 1)
@@ -151,3 +158,23 @@ pub entry_other : (xs ys : Words) (k : ℕ) → 0 < length xs → k < length ys
     ≡ common_len xs (drop (length ys - (k + 1)) ys)
 entry_other xs ys k some lt other = sym (entry_is xs ys k some lt ∙ ap (λ (b : Bool). cond b (get_or (row_of (drop 1 xs) ys) k 0 + 1)
     (max (get_or (row_of (drop 1 xs) ys) (k + 1) 0) (get_or (row_of xs (drop (length ys - k) ys)) k 0))) other)
+
+-- a row that an index reads
+pub read_row : (list : List (Vec ℕ)) (k : ℕ) (d : Vec ℕ) → k < length list → d ≡ get_or list k d → d.items ≡ get_or (rows list) k []
+read_row list k d lt is =
+    ap (λ (row : Vec ℕ). row.items) is ∙ sym (get_or-map (λ (row : Vec ℕ). row.items) list k d [] lt)
+
+-- the row that a table has for the end from i on
+pub table_row : (xs ys : Words) (list : List (Vec ℕ)) (row : Vec ℕ) (a i : ℕ) → rows list ≡ table_of xs ys → a + i ≡ length xs
+    → row ≡ get_or list a row → row.items ≡ row_of (drop i xs) ys
+table_row xs ys list row a i table place is =
+    let long = length-map list (λ (one : Vec ℕ). one.items) in
+    let within : a < length list = omega (arith, ap length table, length-table_of xs ys, long) in
+    let from : length xs - a ≡ i = omega arith in
+    read_row list a row within is ∙ ap (λ (l : Words). get_or l a []) table ∙ table_of-at xs ys a (omega arith)
+    ∙ ap (λ (n : ℕ). row_of (drop n xs) ys) from
+
+-- a table has a row more than words
+pub table_rows : (xs ys : Words) (list : List (Vec ℕ)) → rows list ≡ table_of xs ys → length list ≡ length xs + 1
+table_rows xs ys list table =
+    omega (arith, ap length table, length-table_of xs ys, length-map list (λ (one : Vec ℕ). one.items))

@@ -1,6 +1,7 @@
 -- Common subsequences of two lists of words.
-use Rattle.std.specs.Prelude.{◌≡◌, ℕ, ◌+◌, ◌-◌, ◌≤◌, List, [], ◌∷◌, ◌++◌, ◌⊎◌, length, take, drop, reverse}
+use Rattle.std.specs.Prelude.{◌≡◌, ℕ, ◌-◌, ◌<◌, ◌≤◌, max, List, [], ◌∷◌, ◌++◌, ◌⊎◌, length, take, drop, reverse}
 use Rattle.std.specs.List.{common_prefix_len}
+use Rattle.word_diff.specs.declared.table.TheConstants.{MAX_WORDS}
 use Rattle.word_diff.specs.Words.{same_word}
 
 -- zs is ys with some words left out, in the same order: it is taken from what follows the first of ys, or it is that first
@@ -34,3 +35,10 @@ abbrev pub common_ends : List (List ℕ) → List (List ℕ) → List (List ℕ)
 common_ends xs ys =
     let front = front_len xs ys in
     let end = end_len (drop front xs) (drop front ys) in take front xs ++ drop (length xs - end) xs
+
+-- What is kept of two lists is common to both. No common subsequence is longer, where neither list has more than 2,000 words;
+-- else it is their common front and end.
+pub record IsKept (kept xs ys : List (List ℕ)) : Type 0 where
+  pub common : IsCommonSubsequence kept xs ys
+  pub longest : max (length xs) (length ys) ≤ MAX_WORDS → IsLongestCommonSubsequence kept xs ys
+  pub ends : MAX_WORDS < max (length xs) (length ys) → kept ≡ common_ends xs ys

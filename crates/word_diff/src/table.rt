@@ -1,5 +1,5 @@
 ghost use Rattle.std.specs.Prelude.{◌≡◌, ◌+◌, ◌<◌, ◌≤◌, length, drop, IfOk};
-ghost use Rattle.word_diff.specs.Table.{row_of, rows, table_of};
+ghost use Rattle.word_diff.specs.Table.{common_len, row_of, rows, table_of};
 ghost use Rattle.word_diff.specs.Words.{texts};
 
 use std::alloc::{AllocError, Global};
@@ -51,4 +51,14 @@ pub(crate) fn table(
         rows.push(row)?;
     }
     Ok(rows)
+}
+
+// How many words a longest common subsequence of the ends from `i` and from `j` on has.
+pub(crate) fn len_from(list: &[Vec<u16>], old: &[&str], new: &[&str], i: usize, j: usize) -> u16
+    requires table { rows list.now ≡ table_of (texts old.now) (texts new.now) }
+    requires in_old { i ≤ length old.now }
+    requires in_new { j ≤ length new.now }
+    ensures { result ≡ common_len (drop i (texts old.now)) (drop j (texts new.now)) }
+{
+    list[old.len() - i][new.len() - j]
 }

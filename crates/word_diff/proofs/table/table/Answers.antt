@@ -1,19 +1,11 @@
 use Rattle.std.proofs.Common.{◌≡◌, ℕ, ◌+◌, ◌-◌, ◌<◌, List, [], ◌∷◌, ◌++◌, length, take, drop, get_or, map, sym, ap, ◌∙◌, arith, Bor, length-drop, replicate}
 use Rattle.std.specs.Global.{Vec}
-use Rattle.std.proofs.lemmas.List.{get_or-map, length-map, take_rest, drop-map, drop-drop, drop_all, map_push}
+use Rattle.std.proofs.lemmas.List.{length-map, drop-drop, drop_all, map_push}
 use Rattle.word_diff.specs.Table.{row_of, rows, table_of}
 use Rattle.word_diff.specs.Words.{texts}
-use Rattle.word_diff.proofs.EndLemmas.{length-texts}
-use Rattle.word_diff.proofs.Rows.{row_of-none, length-table_of, last_row, table_more, table_of-nil}
+use Rattle.word_diff.proofs.EndLemmas.{length-texts, end_texts}
+use Rattle.word_diff.proofs.Rows.{read_row, row_of-none, length-table_of, last_row, table_more, table_of-nil}
 use Rattle.word_diff.proofs.table.table.Goals as goal
-
--- the words of an end
-end_texts : (list : List (Bor (List ℕ))) (a : ℕ) → texts (take (length list - a) (drop a list)) ≡ drop a (texts list)
-end_texts list a = ap texts (take_rest list a) ∙ sym (drop-map (λ (text : Bor (List ℕ)). text.now) a list)
-
-read_row : (list : List (Vec ℕ)) (k : ℕ) (d : Vec ℕ) → k < length list → d ≡ get_or list k d → d.items ≡ get_or (rows list) k []
-read_row list k d lt is =
-    ap (λ (row : Vec ℕ). row.items) is ∙ sym (get_or-map (λ (row : Vec ℕ). row.items) list k d [] lt)
 
 row_count : (old new : List (Bor (List ℕ))) (list : List (Vec ℕ)) (k : ℕ) → k < length old
     → rows list ≡ table_of (drop (length (texts old) - k) (texts old)) (texts new) → length list ≡ k + 1
@@ -25,7 +17,7 @@ pub loop-k-init : goal.loop-k-init
 loop-k-init c =
     let xs = texts c.args.old.now in
     let ys = texts c.args.new.now in
-    ap rows (c.in_ok-push.ensures.items ∙ ap (λ (l : List (Vec ℕ)). l ++ c.in_ok-vec.field-0 ∷ []) c.in_ok-rows.ensures.items)
+    ap {B = List (List ℕ)} rows (c.in_ok-push.ensures.items ∙ ap (λ (l : List (Vec ℕ)). l ++ c.in_ok-vec.field-0 ∷ []) c.in_ok-rows.ensures.items)
     ∙ ap (λ (row : List ℕ). row ∷ []) (c.in_ok-vec.ensures.items_if_clones_equal (λ y e. e)
     ∙ ap (λ (n : ℕ). replicate (n + 1) 0) (sym (length-texts c.args.new.now)) ∙ sym (row_of-none ys))
     ∙ sym (ap (λ (l : List (List ℕ)). table_of l ys) (drop_all (length xs - 0) xs (omega arith)) ∙ table_of-nil ys)
