@@ -7,7 +7,8 @@ use Rattle.std.proofs.lemmas.List.Sums.{common_prefix_len-le}
 use Rattle.word_diff.specs.declared.part.Kind.{Kind}
 use Rattle.word_diff.specs.declared.part.Kind.TheVariants.{Kept, Removed, Added}
 use Rattle.word_diff.specs.Common.{IsSubsequence, IsCommonSubsequence, IsLongestCommonSubsequence, front_len, end_len, common_ends}
-use Rattle.word_diff.specs.Parts.{Span, texts_of, is_old, is_new, is_kept}
+use Rattle.word_diff.specs.Kinds.{is_kept, is_new, is_old}
+use Rattle.word_diff.specs.Parts.{Span, texts_of}
 use Rattle.word_diff.specs.Steps.{AddsEach, AddsLongest, Compares}
 use Rattle.word_diff.specs.Table.{common_len}
 use Rattle.word_diff.specs.Words.{same_word, texts}

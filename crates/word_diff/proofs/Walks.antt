@@ -6,7 +6,8 @@ use Rattle.std.specs.Cmp.Lexicographic.{same_text}
 use Rattle.word_diff.specs.declared.part.Kind.{Kind}
 use Rattle.word_diff.specs.declared.part.Kind.TheVariants.{Kept, Removed, Added}
 use Rattle.word_diff.specs.declared.part.Part.{Part}
-use Rattle.word_diff.specs.Parts.{Span, span, spans, texts_of, is_old, is_new, is_kept}
+use Rattle.word_diff.specs.Kinds.{is_kept, is_new, is_old}
+use Rattle.word_diff.specs.Parts.{Span, span, spans, texts_of}
 use Rattle.word_diff.specs.Steps.{AddsEach, AddsLongest}
 use Rattle.word_diff.specs.Table.{common_len}
 use Rattle.word_diff.specs.Words.{same_word}

@@ -1,5 +1,7 @@
 pub mod Words
 pub mod Common
+pub mod Joins
+pub mod Kinds
 pub mod Parts
 pub mod Steps
 pub mod Table

@@ -1,6 +1,7 @@
 -- What a comparison adds to the steps that it has: parts of one word each. No public contract cites it.
 use Rattle.std.specs.Prelude.{◌≡◌, ℕ, ◌+◌, Bool, List, [], ◌++◌, length, if◌then◌else◌}
-use Rattle.word_diff.specs.Parts.{Span, is_kept, is_new, is_old, texts_of}
+use Rattle.word_diff.specs.Kinds.{is_kept, is_new, is_old}
+use Rattle.word_diff.specs.Parts.{Span, texts_of}
 use Rattle.word_diff.specs.Common.{IsKept}
 use Rattle.word_diff.specs.Table.{common_len}
 use Rattle.word_diff.specs.declared.part.Kind.{Kind}

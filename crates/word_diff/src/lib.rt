@@ -2,6 +2,7 @@
 #![tactic(auto)]
 
 mod ends;
+mod joining;
 mod part;
 mod steps;
 mod table;
