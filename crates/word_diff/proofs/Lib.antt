@@ -1,9 +1,12 @@
 pub mod EndLemmas
+pub mod JoinLemmas
+pub mod JoinSteps
 pub mod Lengths
 pub mod PartLemmas
 pub mod Rows
 pub mod StepLemmas
 pub mod Subsequences
+pub mod Utf8
 pub mod Walks
 pub mod WordLaws
 pub mod WordLemmas

@@ -55,16 +55,18 @@ pub(crate) fn join_neighbours<'a>(
 {
     let mut parts = Vec::new(alloc);
     let (mut old_rest, mut new_rest) = (old, new);
-    let mut rest = steps;
-    while !rest.is_empty() {
-        let kind = rest[0].kind;
-        let (run, after) = rest.split_at(run_len(rest, kind));
-        let len = total_len(run);
+    let mut at = 0;
+    while at < steps.len() {
+        let kind = steps[at].kind;
+        let end = at + run_len(&steps[at..], kind);
+        let len = total_len(&steps[at..end]);
         let (old_text, old_after) = old_rest.split_at(len_on(kind.is_old(), len));
         let (new_text, new_after) = new_rest.split_at(len_on(kind.is_new(), len));
         let text = lent(kind.is_old(), old_text, new_text);
         parts.push(Part { kind, text })?;
-        (old_rest, new_rest, rest) = (old_after, new_after, after);
+        old_rest = old_after;
+        new_rest = new_after;
+        at = end;
     }
     Ok(parts)
 }
