@@ -1,5 +1,5 @@
 -- Runs of steps of one kind, joined.
-use Rattle.std.proofs.Common.{◌≡◌, ℕ, suc, ◌+◌, ◌-◌, ◌<◌, ◌≤◌, Bool, true, false, List, [], ◌∷◌, ◌++◌, length, take, drop, sym, refl, ap, ◌∙◌, subst, arith, cond, IsUtf8, append_assoc, length-append, take-append-drop}
+use Rattle.std.proofs.Common.{◌≡◌, ℕ, zero, suc, ◌+◌, ◌-◌, ◌<◌, ◌≤◌, Bool, true, false, List, [], ◌∷◌, ◌++◌, length, take, drop, sym, refl, ap, ◌∙◌, subst, arith, cond, IsUtf8, append_assoc, length-append, take-append-drop}
 use Rattle.std.proofs.lemmas.List.{append-nil, drop_at, take_at}
 use Rattle.std.proofs.lemmas.List.Concat.{flat_map-append}
 use Rattle.std.proofs.lemmas.Str.{IsCharBoundary-start, IsCharBoundary-at_seam}
@@ -9,10 +9,12 @@ use Rattle.word_diff.specs.declared.part.Kind.{Kind}
 use Rattle.word_diff.specs.declared.part.Kind.TheVariants.{Kept, Removed, Added}
 use Rattle.word_diff.specs.declared.part.Part.{Part}
 use Rattle.word_diff.specs.Joins.{Joins, all_bytes}
-use Rattle.word_diff.specs.Kinds.{is_kept, is_new, is_old, same_kind}
-use Rattle.word_diff.specs.Parts.{Span, spans, texts_of, words_by, GoesOnOtherwise, AreApart}
+use Rattle.word_diff.specs.Kinds.{is_kept, is_new, is_old, may_follow}
+use Rattle.word_diff.specs.Parts.{Span, spans, texts_of, words_by, GoesOn, AreApart}
+use Rattle.word_diff.specs.Steps.{same_kind, may_stand, StandsBefore, AreOrdered, AtLast}
 use Rattle.word_diff.specs.Words.{words_of, joined}
-use Rattle.word_diff.proofs.PartLemmas.{texts_of-append}
+use Rattle.word_diff.proofs.OrderLemmas.{follows_by}
+use Rattle.word_diff.proofs.PartLemmas.{nothing, one_text, texts_of-append}
 use Rattle.word_diff.proofs.Utf8.{utf8_rest}
 use Rattle.word_diff.proofs.WordLaws.{joined-append, joined-words_of, words_part}
 use Rattle.word_diff.proofs.WordLemmas.{words_of-nil}
@@ -40,29 +42,10 @@ same_is Added Kept h = absurd (cc)
 same_is Added Removed h = absurd (cc)
 same_is Added Added h = refl
 
-same_comm : (a b : Kind) → same_kind a b ≡ same_kind b a
-same_comm Kept Kept = refl
-same_comm Kept Removed = refl
-same_comm Kept Added = refl
-same_comm Removed Kept = refl
-same_comm Removed Removed = refl
-same_comm Removed Added = refl
-same_comm Added Kept = refl
-same_comm Added Removed = refl
-same_comm Added Added = refl
-
 same_self : (a : Kind) → same_kind a a ≡ true
 same_self Kept = refl
 same_self Removed = refl
 same_self Added = refl
-
-nothing : (b : Bool) → [] ≡ cond {A = Words} b [] []
-nothing true = refl
-nothing false = refl
-
-one_text : (b : Bool) (w : List ℕ) (ws : Words) → cond b (w ∷ cond b ws []) (cond b ws []) ≡ cond b (w ∷ ws) []
-one_text true w ws = refl
-one_text false w ws = refl
 
 run_by : (p : Kind → Bool) (k : Kind) (s : Span) (ss : List Span) (n : ℕ) (b : Bool) → same_kind s.kind k ≡ b
     → texts_of p (take n ss) ≡ cond (p k) (all_bytes (take n ss)) []
@@ -87,39 +70,34 @@ rest_texts p k ss =
     ap (texts_of p) (sym (take-append-drop (run_of k ss) ss)) ∙ texts_of-append p (take (run_of k ss) ss) (drop (run_of k ss) ss)
     ∙ ap (λ (l : Words). l ++ texts_of p (drop (run_of k ss) ss)) (run_texts p k ss)
 
-otherwise_by : (k : Kind) (s : Span) (ss : List Span) (n : ℕ) (b : Bool) → same_kind s.kind k ≡ b → GoesOnOtherwise k (drop n ss)
-    → GoesOnOtherwise k (drop (cond b (1 + n) 0) (s ∷ ss))
-otherwise_by k s ss n true h on = let next : 1 + n ≡ suc n = omega arith in rw next on
-otherwise_by k s ss n false h on = same_comm k s.kind ∙ h
+goes_by : (k : Kind) (s : Span) (ss : List Span) (n : ℕ) (b : Bool) → same_kind s.kind k ≡ b → may_stand k s.kind ≡ true
+    → (same_kind s.kind k ≡ true → GoesOn k (drop n ss)) → GoesOn k (drop (cond b (1 + n) 0) (s ∷ ss))
+goes_by k s ss n true h stands on = let next : 1 + n ≡ suc n = omega arith in rw next (on h)
+goes_by k s ss n false h stands on = follows_by k s.kind stands h
 
--- what follows a run is of another kind
-pub run_ends : (k : Kind) (ss : List Span) → GoesOnOtherwise k (drop (run_of k ss) ss)
-run_ends k [] = tt
-run_ends k (s ∷ ss) = otherwise_by k s ss (run_of k ss) (same_kind s.kind k) refl (run_ends k ss)
+-- what follows a run may follow it
+pub run_ends : (k : Kind) (ss : List Span) → StandsBefore k ss → AreOrdered ss → GoesOn k (drop (run_of k ss) ss)
+run_ends k [] stands are = tt
+run_ends k (s ∷ ss) stands are = goes_by k s ss (run_of k ss) (same_kind s.kind k) refl stands
+    (λ same. run_ends k ss (subst (λ (l : Kind). StandsBefore l ss) (same_is s.kind k same) are.0) are.1)
+
+-- and is in order
+pub ordered_drop : (n : ℕ) (ss : List Span) → AreOrdered ss → AreOrdered (drop n ss)
+ordered_drop zero ss are = are
+ordered_drop (suc n) [] are = tt
+ordered_drop (suc n) (s ∷ ss) are = ordered_drop n ss are.1
 
 -- a run has the step that it begins with
 pub run_some : (s : Span) (ss : List Span) → run_of s.kind (s ∷ ss) ≡ suc (run_of s.kind ss)
 run_some s ss = let next : 1 + run_of s.kind ss ≡ suc (run_of s.kind ss) = omega arith in
     ap (λ (b : Bool). cond b (1 + run_of s.kind ss) 0) (same_self s.kind) ∙ next
 
--- the last part is of another kind than the first of these
-abbrev pub LastDiffers : List Span → List Span → Type 0
-LastDiffers [] rest = Unit {0}
-LastDiffers (s ∷ []) rest = GoesOnOtherwise s.kind rest
-LastDiffers (s ∷ t ∷ ss) rest = LastDiffers (t ∷ ss) rest
-
--- a part after the others, where it is of another kind than the last
-pub apart_push : (parts rest : List Span) (x r : Span) → AreApart parts → 0 < length x.bytes → x.kind ≡ r.kind → LastDiffers parts (r ∷ rest)
-    → AreApart (parts ++ x ∷ [])
+-- a part after the others, where it may follow the last
+pub apart_push : (parts rest : List Span) (x r : Span) → AreApart parts → 0 < length x.bytes → x.kind ≡ r.kind
+    → AtLast (λ (k : Kind). GoesOn k (r ∷ rest)) parts → AreApart (parts ++ x ∷ [])
 apart_push [] rest x r h some kind last = (some, tt, tt)
-apart_push (s ∷ []) rest x r h some kind last = (h.0, ap (same_kind s.kind) kind ∙ last, (some, tt, tt))
+apart_push (s ∷ []) rest x r h some kind last = (h.0, ap (may_follow s.kind) kind ∙ last, (some, tt, tt))
 apart_push (s ∷ t ∷ ss) rest x r h some kind last = (h.0, h.1, apart_push (t ∷ ss) rest x r h.2 some kind last)
-
--- the part that is last then
-pub last_push : (parts after : List Span) (x : Span) → GoesOnOtherwise x.kind after → LastDiffers (parts ++ x ∷ []) after
-last_push [] after x on = on
-last_push (s ∷ []) after x on = on
-last_push (s ∷ t ∷ ss) after x on = last_push (t ∷ ss) after x on
 
 -- a side's words up to here, those of a run, and those after it
 record Around (p : Kind → Bool) (k : Kind) (parts rest : List Span) (text : List ℕ) : Type 0 where
@@ -160,12 +138,13 @@ pub record Joining (parts rest steps : List Span) (old new old_rest new_rest : L
   pub old_left : old_rest ≡ joined (texts_of is_old rest)
   pub new_left : new_rest ≡ joined (texts_of is_new rest)
   pub apart : AreApart parts
-  pub goes_on : LastDiffers parts rest
+  pub goes_on : AtLast (λ k. GoesOn k rest) parts
+  pub ordered : AreOrdered rest
 
 -- nothing is joined before the first run
 pub joining_none : (steps : List Span) (old new : List ℕ) → texts_of is_old steps ≡ words_of old → texts_of is_new steps ≡ words_of new
-    → Joining [] steps steps old new old new
-joining_none steps old new old_are new_are = record {
+    → AreOrdered steps → Joining [] steps steps old new old new
+joining_none steps old new old_are new_are ordered = record {
   old_words = refl;
   new_words = refl;
   kept_words = refl;
@@ -173,6 +152,7 @@ joining_none steps old new old_are new_are = record {
   new_left = sym (ap joined new_are ∙ joined-words_of new);
   apart = tt;
   goes_on = tt;
+  ordered = ordered;
 }
 
 -- and all is joined where no steps are left

@@ -8,12 +8,14 @@ use Rattle.word_diff.specs.declared.part.Kind.{Kind}
 use Rattle.word_diff.specs.declared.part.Kind.TheVariants.{Kept, Removed, Added}
 use Rattle.word_diff.specs.declared.part.Part.{Part}
 use Rattle.word_diff.specs.Joins.{all_bytes}
-use Rattle.word_diff.specs.Kinds.{is_kept, is_new, is_old, same_kind}
-use Rattle.word_diff.specs.Parts.{Span, span, spans, texts_of, words_by, GoesOnOtherwise}
+use Rattle.word_diff.specs.Kinds.{is_kept, is_new, is_old}
+use Rattle.word_diff.specs.Parts.{Span, span, spans, texts_of, words_by, GoesOn}
+use Rattle.word_diff.specs.Steps.{same_kind}
 use Rattle.word_diff.specs.Words.{words_of, joined}
+use Rattle.word_diff.proofs.OrderLemmas.{stand_same, at_last_push}
 use Rattle.word_diff.proofs.PartLemmas.{texts_of-append}
 use Rattle.word_diff.proofs.WordLemmas.{words_of-nil}
-use Rattle.word_diff.proofs.JoinLemmas.{run_of, run_of-spans, run_some, run_ends, rest_texts, apart_push, last_push, Joining, OfTexts, joined_words, cut_by, left_by}
+use Rattle.word_diff.proofs.JoinLemmas.{run_of, run_of-spans, run_some, run_ends, rest_texts, apart_push, ordered_drop, Joining, OfTexts, joined_words, cut_by, left_by}
 
 abbrev Words : Type 0
 Words = List (List ℕ)
@@ -66,8 +68,9 @@ join_step r rs parts steps old new old_rest new_rest old_after new_after x t j k
       old_left = old_is;
       new_left = new_is;
       apart = apart_push parts rs x r j.apart some kind j.goes_on;
-      goes_on = last_push parts (drop (run_of r.kind rest) rest) x
-        (subst (λ (a : Kind). GoesOnOtherwise a (drop (run_of r.kind rest) rest)) (sym kind) (run_ends r.kind rest));
+      goes_on = at_last_push (λ (k : Kind). GoesOn k (drop (run_of r.kind rest) rest)) parts x
+        (subst (λ (a : Kind). GoesOn a (drop (run_of r.kind rest) rest)) (sym kind) (run_ends r.kind rest (stand_same r.kind) j.ordered));
+      ordered = ordered_drop (run_of r.kind rest) rest j.ordered;
     }
 
 -- the same, where the steps that are left begin with that one
@@ -137,3 +140,10 @@ run_after k steps at n is =
 pub step_at : (steps : List Part) (at : ℕ) (d : Part) → at < length steps
     → spans (drop at steps) ≡ span (get_or steps at d) ∷ spans (drop (at + 1) steps)
 step_at steps at d lt = ap spans (drop_more steps at d lt)
+
+-- a run is not empty
+pub run_positive : (steps : List Part) (at : ℕ) (d : Part) → at < length steps → 0 < run_of (get_or steps at d).kind (spans (drop at steps))
+run_positive steps at d lt =
+    let r = span (get_or steps at d) in
+    let rs = spans (drop (at + 1) steps) in
+    omega (arith, ap (run_of r.kind) (step_at steps at d lt), run_some r rs)

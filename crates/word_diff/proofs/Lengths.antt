@@ -54,3 +54,20 @@ pub common_len-most : (xs ys : List (List ℕ)) → AtMost xs ys (common_len xs 
 unfolding common_len
 common_len-most [] ys = none_left ys
 common_len-most (x ∷ xs) ys = row_most x xs (common_len-most xs) ys
+
+row_grows : (x : List ℕ) (f : List (List ℕ) → ℕ) → ((y : List ℕ) (ys : List (List ℕ)) → f ys ≤ f (y ∷ ys)) → (ys : List (List ℕ)) → row_len x f ys ≤ f ys + 1
+unfolding row_len
+row_grows x f grows [] = omega arith
+row_grows x f grows (y ∷ ys) = elim (same_word x y) as (λ b. cond b (f ys + 1) (max (f (y ∷ ys)) (row_len x f ys)) ≤ f (y ∷ ys) + 1) [
+    true ↦ omega (arith, grows y ys)
+    | false ↦ omega (arith, grows y ys, row_grows x f grows ys)
+]
+
+-- one word more leaves no less in common
+pub common_len-grows : (xs : List (List ℕ)) (y : List ℕ) (ys : List (List ℕ)) → common_len xs ys ≤ common_len xs (y ∷ ys)
+unfolding common_len row_len
+common_len-grows [] y ys = omega arith
+common_len-grows (x ∷ xs) y ys = elim (same_word x y) as (λ b. row_len x (common_len xs) ys ≤ cond b (common_len xs ys + 1) (max (common_len xs (y ∷ ys)) (row_len x (common_len xs) ys))) [
+    true ↦ row_grows x (common_len xs) (common_len-grows xs) ys
+    | false ↦ omega arith
+]

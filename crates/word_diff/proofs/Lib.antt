@@ -2,6 +2,7 @@ pub mod EndLemmas
 pub mod JoinLemmas
 pub mod JoinSteps
 pub mod Lengths
+pub mod OrderLemmas
 pub mod PartLemmas
 pub mod Rows
 pub mod StepLemmas

@@ -3,6 +3,7 @@ use Rattle.std.proofs.Common.{◌≡◌, ℕ, ◌+◌, ◌<◌, Bool, true, fals
 use Rattle.std.proofs.lemmas.List.{append-nil, map_push, take_more}
 use Rattle.word_diff.specs.declared.part.Kind.{Kind}
 use Rattle.word_diff.specs.declared.part.Part.{Part}
+use Rattle.word_diff.specs.Steps.{AddsEach, each}
 use Rattle.word_diff.specs.Parts.{Span, span, spans, texts_of}
 
 
@@ -21,8 +22,23 @@ pub texts_of-push : (p : Kind → Bool) (items : List Part) (part : Part)
     → texts_of p (spans (items ++ part ∷ [])) ≡ texts_of p (spans items) ++ cond (p part.kind) (part.text.now ∷ []) []
 texts_of-push p items part = ap (texts_of p) (map_push span items part) ∙ texts_of-append p (spans items) (span part ∷ [])
 
--- words added one by one
-pub each_more : (b : Bool) (before ws : List (List ℕ)) (i : ℕ) → i < length ws
-    → (before ++ cond b (take i ws) []) ++ cond b (get_or ws i [] ∷ []) [] ≡ before ++ cond b (take (i + 1) ws) []
-each_more true before ws i lt = append_assoc before (take i ws) (get_or ws i [] ∷ []) ∙ ap (λ (l : List (List ℕ)). before ++ l) (sym (take_more ws i [] lt))
-each_more false before ws i lt = append-nil (before ++ [])
+-- no texts, on either side
+pub nothing : (b : Bool) → [] ≡ cond {A = List (List ℕ)} b [] []
+nothing true = refl
+nothing false = refl
+
+-- a text before others, on either side
+pub one_text : (b : Bool) (w : List ℕ) (ws : List (List ℕ)) → cond b (w ∷ cond b ws []) (cond b ws []) ≡ cond b (w ∷ ws) []
+one_text true w ws = refl
+one_text false w ws = refl
+
+texts_of-each : (p : Kind → Bool) (kind : Kind) (ws : List (List ℕ)) → texts_of p (each kind ws) ≡ cond (p kind) ws []
+texts_of-each p kind [] = nothing (p kind)
+texts_of-each p kind (w ∷ ws) =
+    ap (λ (l : List (List ℕ)). cond (p kind) (w ∷ l) l) (texts_of-each p kind ws) ∙ one_text (p kind) w ws
+
+-- the texts after words are added
+pub each_texts : {before now : List Span} {kind : Kind} {ws : List (List ℕ)} → AddsEach before now kind ws → (p : Kind → Bool)
+    → texts_of p now ≡ texts_of p before ++ cond (p kind) ws []
+each_texts {before} {now} {kind} {ws} added p =
+    ap (texts_of p) added.now_is ∙ texts_of-append p before (each kind ws) ∙ ap (λ (l : List (List ℕ)). texts_of p before ++ l) (texts_of-each p kind ws)

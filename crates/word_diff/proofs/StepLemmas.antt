@@ -9,11 +9,13 @@ use Rattle.word_diff.specs.declared.part.Kind.TheVariants.{Kept, Removed, Added}
 use Rattle.word_diff.specs.Common.{IsSubsequence, IsCommonSubsequence, IsLongestCommonSubsequence, front_len, end_len, common_ends}
 use Rattle.word_diff.specs.Kinds.{is_kept, is_new, is_old}
 use Rattle.word_diff.specs.Parts.{Span, texts_of}
-use Rattle.word_diff.specs.Steps.{AddsEach, AddsLongest, Compares}
+use Rattle.word_diff.specs.Steps.{AddsEach, AddsLongest, Compares, AreOrdered, may_stand}
 use Rattle.word_diff.specs.Table.{common_len}
 use Rattle.word_diff.specs.Words.{same_word, texts}
 use Rattle.word_diff.proofs.EndLemmas.{front_same, end_len-le, end_same, length-texts, texts-take, texts-drop}
 use Rattle.word_diff.proofs.Lengths.{common_len-most}
+use Rattle.word_diff.proofs.OrderLemmas.{stand_kept, stand_added, at_last_all, added_ordered, front_last, front_ordered}
+use Rattle.word_diff.proofs.PartLemmas.{each_texts}
 use Rattle.word_diff.proofs.Subsequences.{AtMost, at_most-front, at_most-back}
 
 abbrev Words : Type 0
@@ -91,9 +93,9 @@ steps_common ss xs ys are = record {
 pub longest_steps : (a b c : List Span) (xs ys front left right end : Words) → Framed xs ys front left right end
     → AddsEach [] a Kept front → AddsLongest a b left right → AddsEach b c Kept end → AreSteps c xs ys
 longest_steps a b c xs ys front left right end f first middle last = record {
-  old = last.adds is_old ∙ ap (λ (l : Words). l ++ end) (middle.old ∙ ap (λ (l : Words). l ++ left) (first.adds is_old))
+  old = each_texts last is_old ∙ ap (λ (l : Words). l ++ end) (middle.old ∙ ap (λ (l : Words). l ++ left) (each_texts first is_old))
   ∙ three front left end ∙ sym f.old;
-  new = last.adds is_new ∙ ap (λ (l : Words). l ++ end) (middle.new ∙ ap (λ (l : Words). l ++ right) (first.adds is_new))
+  new = each_texts last is_new ∙ ap (λ (l : Words). l ++ end) (middle.new ∙ ap (λ (l : Words). l ++ right) (each_texts first is_new))
   ∙ three front right end ∙ sym f.new;
 }
 
@@ -106,7 +108,7 @@ longest_kept a b c xs ys front left right end f first middle last =
     at_most-front front (left ++ end) (right ++ end) (common_len left right + length end)
     (at_most-back end left right (common_len left right) (common_len-most left right)) in
     let counted : length (texts_of is_kept c) ≡ length front + (common_len left right + length end) =
-    omega (arith, ap length (last.adds is_kept), length-append (texts_of is_kept b) end, middle.kept, ap length (first.adds is_kept)) in record {
+    omega (arith, ap length (each_texts last is_kept), length-append (texts_of is_kept b) end, middle.kept, ap length (each_texts first is_kept)) in record {
       common = steps_common c xs ys (longest_steps a b c xs ys front left right end f first middle last);
       none_longer = λ other common.
         let le = most.bound other (subst (IsSubsequence other) f.old common.of_first) (subst (IsSubsequence other) f.new common.of_second) in
@@ -117,12 +119,12 @@ longest_kept a b c xs ys front left right end f first middle last =
 pub ends_steps : (a b c d : List Span) (xs ys front left right end : Words) → Framed xs ys front left right end
     → AddsEach [] a Kept front → AddsEach a b Removed left → AddsEach b c Added right → AddsEach c d Kept end → AreSteps d xs ys
 ends_steps a b c d xs ys front left right end f first removed added last = record {
-  old = last.adds is_old
-  ∙ ap (λ (l : Words). l ++ end) (added.adds is_old ∙ append-nil (texts_of is_old b) ∙ removed.adds is_old ∙ ap (λ (l : Words). l ++ left) (first.adds is_old))
+  old = each_texts last is_old
+  ∙ ap (λ (l : Words). l ++ end) (each_texts added is_old ∙ append-nil (texts_of is_old b) ∙ each_texts removed is_old ∙ ap (λ (l : Words). l ++ left) (each_texts first is_old))
   ∙ three front left end ∙ sym f.old;
-  new = last.adds is_new
+  new = each_texts last is_new
   ∙ ap (λ (l : Words). l ++ end)
-  (added.adds is_new ∙ ap (λ (l : Words). l ++ right) (removed.adds is_new ∙ append-nil (texts_of is_new a) ∙ first.adds is_new))
+  (each_texts added is_new ∙ ap (λ (l : Words). l ++ right) (each_texts removed is_new ∙ append-nil (texts_of is_new a) ∙ each_texts first is_new))
   ∙ three front right end ∙ sym f.new;
 }
 
@@ -131,9 +133,9 @@ pub ends_kept : (a b c d : List Span) (front left right end : Words)
     → AddsEach [] a Kept front → AddsEach a b Removed left → AddsEach b c Added right → AddsEach c d Kept end
     → texts_of is_kept d ≡ front ++ end
 ends_kept a b c d front left right end first removed added last =
-    last.adds is_kept
+    each_texts last is_kept
     ∙ ap (λ (l : Words). l ++ end)
-    (added.adds is_kept ∙ append-nil (texts_of is_kept b) ∙ removed.adds is_kept ∙ append-nil (texts_of is_kept a) ∙ first.adds is_kept)
+    (each_texts added is_kept ∙ append-nil (texts_of is_kept b) ∙ each_texts removed is_kept ∙ append-nil (texts_of is_kept a) ∙ each_texts first is_kept)
 
 -- the parts that a comparison cuts both lists into
 pub record Cut (old new front left right end : List (Bor (List ℕ))) : Type 0 where
@@ -192,6 +194,8 @@ compares_longest a b c xs ys front left right end f first middle last few =
         longest = λ _. longest_kept a b c xs ys front left right end f first middle last;
         ends = λ many. absurd (omega (arith, few, many));
       };
+      ordered = added_ordered b c Kept end last (middle.ordered (front_ordered a front first) (front_last a front first))
+        (at_last_all (λ (k : Kind). may_stand k Kept ≡ true) stand_kept b);
     }
 
 -- and the middle left as it is
@@ -207,4 +211,9 @@ compares_ends a b c d xs ys front left right end f ends first removed added last
         longest = λ few. absurd (omega (arith, few, many));
         ends = λ _. ends_kept a b c d front left right end first removed added last ∙ sym ends;
       };
+      ordered = added_ordered c d Kept end last
+        (added_ordered b c Added right added
+        (added_ordered a b Removed left removed (front_ordered a front first) (front_last a front first))
+        (at_last_all (λ (k : Kind). may_stand k Added ≡ true) stand_added b))
+        (at_last_all (λ (k : Kind). may_stand k Kept ≡ true) stand_kept c);
     }

@@ -21,14 +21,15 @@ is_kept Kept = true
 is_kept Removed = false
 is_kept Added = false
 
--- whether two kinds are one
-abbrev pub same_kind : Kind → Kind → Bool
-same_kind Kept Kept = true
-same_kind Kept Removed = false
-same_kind Kept Added = false
-same_kind Removed Kept = false
-same_kind Removed Removed = true
-same_kind Removed Added = false
-same_kind Added Kept = false
-same_kind Added Removed = false
-same_kind Added Added = true
+-- Whether a part of the second kind may come directly after one of the first: no two neighbours are of one kind, and what is
+-- removed comes before what is added in its place.
+abbrev pub may_follow : Kind → Kind → Bool
+may_follow Kept Kept = false
+may_follow Kept Removed = true
+may_follow Kept Added = true
+may_follow Removed Kept = true
+may_follow Removed Removed = false
+may_follow Removed Added = true
+may_follow Added Kept = true
+may_follow Added Removed = false
+may_follow Added Added = false

@@ -1,7 +1,7 @@
 -- What a contract sees of the parts of two texts.
-use Rattle.std.specs.Prelude.{◌≡◌, ℕ, ◌<◌, Bool, false, List, [], ◌∷◌, length, map, if◌then◌else◌}
+use Rattle.std.specs.Prelude.{◌≡◌, ℕ, ◌<◌, Bool, true, List, [], ◌∷◌, length, map, if◌then◌else◌}
 use Rattle.std.specs.List.{flat_map}
-use Rattle.word_diff.specs.Kinds.{same_kind}
+use Rattle.word_diff.specs.Kinds.{may_follow}
 use Rattle.word_diff.specs.Words.{words_of}
 use Rattle.word_diff.specs.declared.part.Kind.{Kind}
 use Rattle.word_diff.specs.declared.part.Part.{Part}
@@ -28,12 +28,12 @@ texts_of p (s ∷ ss) = if p s.kind then s.bytes ∷ texts_of p ss else texts_of
 abbrev pub words_by : (Kind → Bool) → List Span → List (List ℕ)
 words_by p ss = flat_map words_of (texts_of p ss)
 
--- the next part, if there is one, is of another kind
-abbrev pub GoesOnOtherwise : Kind → List Span → Type 0
-GoesOnOtherwise kind [] = Unit {0}
-GoesOnOtherwise kind (s ∷ ss) = same_kind kind s.kind ≡ false
+-- the next part, if there is one, may follow one of this kind
+abbrev pub GoesOn : Kind → List Span → Type 0
+GoesOn kind [] = Unit {0}
+GoesOn kind (s ∷ ss) = may_follow kind s.kind ≡ true
 
--- no part is empty, and no two neighbours are of one kind
+-- no part is empty, and each may follow the one before it
 abbrev pub AreApart : List Span → Type 0
 AreApart [] = Unit {0}
-AreApart (s ∷ ss) = (0 < length s.bytes) × GoesOnOtherwise s.kind ss × AreApart ss
+AreApart (s ∷ ss) = (0 < length s.bytes) × GoesOn s.kind ss × AreApart ss

@@ -2,8 +2,9 @@ ghost use Rattle.std.specs.Prelude.{◌≡◌, ◌^◌, ◌<◌, IfOk, length, i
 ghost use Rattle.std.specs.List.{prefix_len};
 ghost use Rattle.std.specs.Str.{IsCharBoundary};
 ghost use Rattle.word_diff.specs.Joins.{Joins, all_bytes};
-ghost use Rattle.word_diff.specs.Kinds.{is_new, is_old, same_kind};
+ghost use Rattle.word_diff.specs.Kinds.{is_new, is_old};
 ghost use Rattle.word_diff.specs.Parts.{spans, texts_of};
+ghost use Rattle.word_diff.specs.Steps.{AreOrdered, same_kind};
 ghost use Rattle.word_diff.specs.Words.{joined, words_of};
 
 use crate::part::{Kind, Part};
@@ -51,6 +52,7 @@ pub(crate) fn join_neighbours<'a>(
 ) -> Result<Vec<Part<'a>>, AllocError>
     requires old_words { texts_of is_old (spans steps.now) ≡ words_of old.now }
     requires new_words { texts_of is_new (spans steps.now) ≡ words_of new.now }
+    requires ordered { AreOrdered (spans steps.now) }
     ensures { IfOk result (λ list. Joins (spans list.items) (spans steps.now)) }
 {
     let mut parts = Vec::new(alloc);

@@ -10,7 +10,7 @@ use Rattle.word_diff.specs.Kinds.{is_new, is_old}
 use Rattle.word_diff.specs.Parts.{Span, span, spans, texts_of}
 use Rattle.word_diff.specs.Words.{joined, words_of}
 use Rattle.word_diff.proofs.JoinLemmas.{run_of, Joining, OfTexts, joining_none, joined_fits, side_utf8, side_boundary}
-use Rattle.word_diff.proofs.JoinSteps.{run_bytes, join_run, lent_is, after_is, run_at, run_within, run_part, run_after, step_at}
+use Rattle.word_diff.proofs.JoinSteps.{run_bytes, join_run, lent_is, after_is, run_at, run_within, run_part, run_after, run_positive, step_at}
 use Rattle.word_diff.proofs.joining.join_neighbours.Goals as goal
 
 abbrev no_part : Part
@@ -24,7 +24,7 @@ loop-at-init c = (
   subst
     (λ (l : List Span). Joining l (spans c.args.steps.now) (spans c.args.steps.now) c.args.old.now c.args.new.now c.args.old.now c.args.new.now)
     (sym (ap spans c.new-parts.ensures.items))
-    (joining_none (spans c.args.steps.now) c.args.old.now c.args.new.now c.requires.old_words c.requires.new_words),
+    (joining_none (spans c.args.steps.now) c.args.old.now c.args.new.now c.requires.old_words c.requires.new_words c.requires.ordered),
 )
 
 pub overflow_add-end : goal.overflow_add-end
@@ -82,6 +82,14 @@ split_at-requires-in-loop-at c =
     subst (IsCharBoundary c.loop-at.new_rest.now) (sym len)
     (side_boundary is_new k (spans c.loop-at.parts.items) (spans (drop at steps)) (spans steps) c.args.new.now c.loop-at.new_rest.now
     j.new_left c.requires.new_words j.new_words c.utf8.new c.loop-at.invariant.1)
+
+pub loop-at-smaller : goal.loop-at-smaller
+loop-at-smaller c =
+    let steps = c.args.steps.now in
+    let at = c.loop-at.at in
+    let k = (get_or steps at no_part).kind in
+    omega (arith, c.run_len.ensures ∙ run_at k steps at, run_within k steps at c.loop-at.invariant.2, run_positive steps at no_part c.loop-at-test.true,
+    c.loop-at-test.true)
 
 pub loop-at-preserved : goal.loop-at-preserved
 loop-at-preserved c =

@@ -23,6 +23,9 @@ pushed : (before : List Span) (items now : List Part) (part : Part) (xs ys : Lis
 pushed before items now part xs ys i j is w =
     subst (λ (l : List Span). Walked before l xs ys i j) (sym (ap spans is ∙ map_push span items part)) w
 
+pub loop-i-init : goal.loop-i-init
+loop-i-init c = walked_none (spans c.args.steps.now.items) (texts c.args.old.now) (texts c.args.new.now)
+
 pub loop-i-preserved-then-eq : goal.loop-i-preserved-then-eq
 loop-i-preserved-then-eq c =
     let old = c.args.old.now in
@@ -56,12 +59,12 @@ loop-i-preserved c =
     let i = c.loop-i.i in
     let j = c.loop-i.j in
     let part : Part = record { kind = Added; text = get_or new j no_text } in
-    let no_less : common_len (drop (i + 1) (texts old)) (drop j (texts new)) ≤ common_len (drop i (texts old)) (drop (j + 1) (texts new)) =
+    let less : common_len (drop (i + 1) (texts old)) (drop j (texts new)) < common_len (drop i (texts old)) (drop (j + 1) (texts new)) =
     omega (arith, c.len_from.ensures, c.len_from-else-eq.ensures, c.if-len_from.false) in
     pushed _ c.loop-i.steps.items c.push-else-len_from.new.self.items part (texts old) (texts new) i (j + 1) c.in_ok-push-3.ensures.items
     (walked_added _ _ (texts old) (texts new) i j (span part) c.loop-i.invariant
     (omega (arith, length-texts old)) (omega (arith, length-texts new))
-    (tested old new i j false c.loop-i-test.true c.if-j-new_len.true (sym c.eq.ensures ∙ c.if-eq.false)) no_less refl (text_at new j c.if-j-new_len.true))
+    (tested old new i j false c.loop-i-test.true c.if-j-new_len.true (sym c.eq.ensures ∙ c.if-eq.false)) less refl (text_at new j c.if-j-new_len.true))
 
 pub returns : goal.returns
 returns c =
