@@ -1,5 +1,5 @@
 -- What two lists of words have in common at their front and at their end.
-use Rattle.std.proofs.Common.{◌≡◌, ℕ, suc, ◌+◌, ◌-◌, ◌<◌, ◌≤◌, Bool, true, false, List, [], ◌∷◌, ◌++◌, length, take, drop, reverse, get_or, sym, refl, ap, ◌∙◌, subst, arith, cond, Bor, length-drop, length-append, take-append-drop}
+use Rattle.std.proofs.Common.{◌≡◌, ℕ, suc, ◌+◌, ◌-◌, ◌<◌, ◌≤◌, Bool, true, false, List, [], ◌∷◌, ◌++◌, length, take, drop, reverse, get_or, sym, refl, ap, ◌∙◌, arith, cond, Bor, length-drop, take-append-drop}
 use Rattle.std.proofs.lemmas.List.{get_or-map, get_or-reverse, reverse-append, reverse-reverse, length-reverse, length-map, drop_at, take_rest, take-map, drop-map}
 use Rattle.std.proofs.lemmas.List.Sums.{common_prefix_len-le, common_prefix_len-drop_yes, common_prefix_len-drop_no}
 use Rattle.std.specs.Cmp.Lexicographic.{same_text}

@@ -1,7 +1,6 @@
 -- Runs of steps of one kind, joined.
-use Rattle.std.proofs.Common.{◌≡◌, ℕ, zero, suc, ◌+◌, ◌-◌, ◌<◌, ◌≤◌, Bool, true, false, List, [], ◌∷◌, ◌++◌, length, take, drop, sym, refl, ap, ◌∙◌, subst, arith, cond, IsUtf8, append_assoc, length-append, take-append-drop}
+use Rattle.std.proofs.Common.{◌≡◌, ℕ, zero, suc, ◌+◌, ◌<◌, ◌≤◌, Bool, true, false, List, [], ◌∷◌, ◌++◌, length, take, drop, sym, refl, ap, ◌∙◌, subst, arith, cond, IsUtf8, append_assoc, length-append, take-append-drop}
 use Rattle.std.proofs.lemmas.List.{append-nil, drop_at, take_at}
-use Rattle.std.proofs.lemmas.List.Concat.{flat_map-append}
 use Rattle.std.proofs.lemmas.Str.{IsCharBoundary-start, IsCharBoundary-at_seam}
 use Rattle.std.specs.List.{prefix_len}
 use Rattle.std.specs.Str.{IsCharBoundary}
@@ -17,7 +16,6 @@ use Rattle.word_diff.proofs.OrderLemmas.{follows_by}
 use Rattle.word_diff.proofs.PartLemmas.{nothing, one_text, texts_of-append}
 use Rattle.word_diff.proofs.Utf8.{utf8_rest}
 use Rattle.word_diff.proofs.WordLaws.{joined-append, joined-words_of, words_part}
-use Rattle.word_diff.proofs.WordLemmas.{words_of-nil}
 
 abbrev Words : Type 0
 Words = List (List ℕ)
@@ -107,9 +105,9 @@ around : (p : Kind → Bool) (k : Kind) (parts rest steps : List Span) (text : L
     → words_by p parts ++ texts_of p rest ≡ texts_of p steps → Around p k parts rest text
 around p k parts rest steps text here are so_far = record {
   before = sym are ∙ sym so_far
-  ∙ ap (λ (l : Words). words_by p parts ++ l)
-  (rest_texts p k rest
-  ∙ ap (λ (b : Bool). cond b (all_bytes (take (run_of k rest) rest)) [] ++ texts_of p (drop (run_of k rest) rest)) here);
+      ∙ ap (λ (l : Words). words_by p parts ++ l)
+      (rest_texts p k rest
+      ∙ ap (λ (b : Bool). cond b (all_bytes (take (run_of k rest) rest)) [] ++ texts_of p (drop (run_of k rest) rest)) here);
 }
 
 -- the words of a joined run are its texts
@@ -198,9 +196,10 @@ joined_fits Added parts rest steps old new old_rest new_rest limit t j a b =
 pub cut_by : (b : Bool) (B A : Words) (left : List ℕ) → left ≡ joined (cond b B [] ++ A)
     → (take (cond b (length (joined B)) 0) left ≡ cond b (joined B) []) × (drop (cond b (length (joined B)) 0) left ≡ joined A)
 cut_by true B A left is =
-    let parted = is ∙ joined-append B A in
-    (ap (take (length (joined B))) parted ∙ take_at (joined B) (joined A) (length (joined B)) refl,
-    ap (drop (length (joined B))) parted ∙ drop_at (joined B) (joined A) (length (joined B)) refl)
+    let parted = is ∙ joined-append B A in (
+      ap (take (length (joined B))) parted ∙ take_at (joined B) (joined A) (length (joined B)) refl,
+      ap (drop (length (joined B))) parted ∙ drop_at (joined B) (joined A) (length (joined B)) refl,
+    )
 cut_by false B A left is = (refl, is)
 
 boundary_by : (b : Bool) (B A : Words) (left : List ℕ) → left ≡ joined (cond b B [] ++ A) → IsUtf8 left → IsUtf8 (joined A)

@@ -1,5 +1,5 @@
 -- One run more.
-use Rattle.std.proofs.Common.{◌≡◌, ℕ, suc, ◌+◌, ◌-◌, ◌<◌, ◌≤◌, Bool, true, false, List, [], ◌∷◌, ◌++◌, length, take, drop, get_or, sym, refl, ap, ◌∙◌, subst, arith, cond, append_assoc, length-drop}
+use Rattle.std.proofs.Common.{◌≡◌, ℕ, ◌+◌, ◌-◌, ◌<◌, ◌≤◌, Bool, true, false, List, [], ◌∷◌, ◌++◌, length, take, drop, get_or, sym, refl, ap, ◌∙◌, subst, arith, cond, append_assoc, length-drop}
 use Rattle.std.specs.List.{flat_map, prefix_len}
 use Rattle.std.proofs.lemmas.List.{append-nil, length-map, take_rest, take-map, drop-map, drop-drop, drop_more}
 use Rattle.std.proofs.lemmas.List.Concat.{flat_map-append}
@@ -69,7 +69,7 @@ join_step r rs parts steps old new old_rest new_rest old_after new_after x t j k
       new_left = new_is;
       apart = apart_push parts rs x r j.apart some kind j.goes_on;
       goes_on = at_last_push (λ (k : Kind). GoesOn k (drop (run_of r.kind rest) rest)) parts x
-        (subst (λ (a : Kind). GoesOn a (drop (run_of r.kind rest) rest)) (sym kind) (run_ends r.kind rest (stand_same r.kind) j.ordered));
+          (subst (λ (a : Kind). GoesOn a (drop (run_of r.kind rest) rest)) (sym kind) (run_ends r.kind rest (stand_same r.kind) j.ordered));
       ordered = ordered_drop (run_of r.kind rest) rest j.ordered;
     }
 

@@ -1,5 +1,5 @@
 -- The length of a longest common subsequence, as a table gives it.
-use Rattle.std.proofs.Common.{◌≡◌, ◌≢◌, ℕ, suc, ◌+◌, ◌<◌, ◌≤◌, Bool, true, false, List, [], ◌∷◌, ◌++◌, length, sym, refl, ap, ◌∙◌, subst, ⊎_elim, inl, inr, arith, cond}
+use Rattle.std.proofs.Common.{◌≡◌, ℕ, ◌+◌, ◌≤◌, Bool, true, false, List, [], ◌∷◌, length, refl, ap, subst, ⊎_elim, arith, cond}
 use Rattle.std.specs.Prelude.{max}
 use Rattle.std.specs.Cmp.Lexicographic.{same_text, other_text}
 use Rattle.word_diff.specs.Words.{same_word}
@@ -11,8 +11,8 @@ row_le : (x : List ℕ) (f : List (List ℕ) → ℕ) (n : ℕ) → ((ys : List 
 unfolding row_len
 row_le x f n le [] = omega arith
 row_le x f n le (y ∷ ys) = elim (same_word x y) as (λ b. cond b (f ys + 1) (max (f (y ∷ ys)) (row_len x f ys)) ≤ n + 1) [
-    true ↦ omega (arith, le ys)
-    | false ↦ omega (arith, le (y ∷ ys), row_le x f n le ys)
+  | true ↦ omega (arith, le ys)
+  | false ↦ omega (arith, le (y ∷ ys), row_le x f n le ys)
 ]
 
 -- it has no more than the first list
@@ -33,14 +33,16 @@ by_test x y xs ys n left right true is both skip_x skip_y =
     let same : x ≡ y = same_text x y is in
     let one : 1 + n ≡ n + 1 = omega arith in
     subst (λ (w : List ℕ). AtMost (x ∷ xs) (w ∷ ys) (n + 1)) same (subst (AtMost (x ∷ xs) (x ∷ ys)) one (at_most-front (x ∷ []) xs ys n both))
-by_test x y xs ys n left right false is both skip_x skip_y = record { bound = λ zs h k.
-    ⊎_elim (λ skipped. omega (arith, skip_x.bound zs skipped k))
-    (λ (s : (rest : List (List ℕ)) × (zs ≡ x ∷ rest) × IsSubsequence rest xs). ⊎_elim
-    (λ skipped. omega (arith, skip_y.bound zs h skipped))
-    (λ (t : (rest : List (List ℕ)) × (zs ≡ y ∷ rest) × IsSubsequence rest ys).
-    let p = s.1 in let q = t.1 in let same : x ≡ y = cc in absurd (other_text x y is same))
-    k)
-    h }
+by_test x y xs ys n left right false is both skip_x skip_y = record {
+  bound = λ zs h k.
+      ⊎_elim (λ skipped. omega (arith, skip_x.bound zs skipped k))
+      (λ (s : (rest : List (List ℕ)) × (zs ≡ x ∷ rest) × IsSubsequence rest xs). ⊎_elim
+      (λ skipped. omega (arith, skip_y.bound zs h skipped))
+      (λ (t : (rest : List (List ℕ)) × (zs ≡ y ∷ rest) × IsSubsequence rest ys).
+      let p = s.1 in let q = t.1 in let same : x ≡ y = cc in absurd (other_text x y is same))
+      k)
+      h;
+}
 
 row_most : (x : List ℕ) (xs : List (List ℕ)) → ((ys : List (List ℕ)) → AtMost xs ys (common_len xs ys))
     → (ys : List (List ℕ)) → AtMost (x ∷ xs) ys (row_len x (common_len xs) ys)
@@ -59,8 +61,8 @@ row_grows : (x : List ℕ) (f : List (List ℕ) → ℕ) → ((y : List ℕ) (ys
 unfolding row_len
 row_grows x f grows [] = omega arith
 row_grows x f grows (y ∷ ys) = elim (same_word x y) as (λ b. cond b (f ys + 1) (max (f (y ∷ ys)) (row_len x f ys)) ≤ f (y ∷ ys) + 1) [
-    true ↦ omega (arith, grows y ys)
-    | false ↦ omega (arith, grows y ys, row_grows x f grows ys)
+  | true ↦ omega (arith, grows y ys)
+  | false ↦ omega (arith, grows y ys, row_grows x f grows ys)
 ]
 
 -- one word more leaves no less in common
@@ -68,6 +70,6 @@ pub common_len-grows : (xs : List (List ℕ)) (y : List ℕ) (ys : List (List �
 unfolding common_len row_len
 common_len-grows [] y ys = omega arith
 common_len-grows (x ∷ xs) y ys = elim (same_word x y) as (λ b. row_len x (common_len xs) ys ≤ cond b (common_len xs ys + 1) (max (common_len xs (y ∷ ys)) (row_len x (common_len xs) ys))) [
-    true ↦ row_grows x (common_len xs) (common_len-grows xs) ys
-    | false ↦ omega arith
+  | true ↦ row_grows x (common_len xs) (common_len-grows xs) ys
+  | false ↦ omega arith
 ]

@@ -1,11 +1,11 @@
 -- The order of steps: what is removed does not come after what is added.
-use Rattle.std.proofs.Common.{◌≡◌, ℕ, Bool, true, false, List, [], ◌∷◌, ◌++◌, sym, refl, ap, ◌∙◌, subst, append_assoc}
+use Rattle.std.proofs.Common.{◌≡◌, ℕ, true, false, List, [], ◌∷◌, ◌++◌, sym, refl, subst, append_assoc}
 use Rattle.std.proofs.lemmas.List.{append-nil}
 use Rattle.word_diff.specs.declared.part.Kind.{Kind}
 use Rattle.word_diff.specs.declared.part.Kind.TheVariants.{Kept, Removed, Added}
 use Rattle.word_diff.specs.Kinds.{may_follow}
 use Rattle.word_diff.specs.Parts.{Span}
-use Rattle.word_diff.specs.Steps.{same_kind, may_stand, StandsBefore, AreOrdered, AtLast, MayRemove, each, AddsEach}
+use Rattle.word_diff.specs.Steps.{same_kind, may_stand, AreOrdered, AtLast, MayRemove, each, AddsEach}
 
 -- what is kept may come after any
 pub stand_kept : (k : Kind) → may_stand k Kept ≡ true

@@ -1,11 +1,10 @@
 -- The texts of parts of some kinds.
-use Rattle.std.proofs.Common.{◌≡◌, ℕ, ◌+◌, ◌<◌, Bool, true, false, List, [], ◌∷◌, ◌++◌, length, take, get_or, sym, refl, ap, ◌∙◌, cond, append_assoc}
-use Rattle.std.proofs.lemmas.List.{append-nil, map_push, take_more}
+use Rattle.std.proofs.Common.{◌≡◌, ℕ, Bool, true, false, List, [], ◌∷◌, ◌++◌, refl, ap, ◌∙◌, cond}
+use Rattle.std.proofs.lemmas.List.{map_push}
 use Rattle.word_diff.specs.declared.part.Kind.{Kind}
 use Rattle.word_diff.specs.declared.part.Part.{Part}
 use Rattle.word_diff.specs.Steps.{AddsEach, each}
 use Rattle.word_diff.specs.Parts.{Span, span, spans, texts_of}
-
 
 one_more : (b : Bool) (w : List ℕ) (ss ts : List (List ℕ)) → cond b (w ∷ (ss ++ ts)) (ss ++ ts) ≡ cond b (w ∷ ss) ss ++ ts
 one_more true w ss ts = refl

@@ -1,15 +1,13 @@
 -- What the steps of a comparison make of both lists of words.
-use Rattle.std.proofs.Common.{◌≡◌, ℕ, ◌+◌, ◌-◌, ◌≤◌, Bool, true, false, List, [], ◌∷◌, ◌++◌, length, take, drop, sym, refl, ap, ◌∙◌, subst, inl, inr, arith, cond, append_assoc, length-append, length-drop, take-append-drop, Bor}
-use Rattle.std.specs.Prelude.{◌<◌, max}
-use Rattle.word_diff.specs.declared.table.TheConstants.{MAX_WORDS}
+use Rattle.std.proofs.Common.{◌≡◌, ℕ, ◌+◌, ◌-◌, true, List, [], ◌∷◌, ◌++◌, length, take, drop, sym, refl, ap, ◌∙◌, subst, inl, inr, arith, cond, append_assoc, length-append, length-drop, take-append-drop, Bor}
 use Rattle.std.proofs.lemmas.List.{append-nil, drop-drop}
 use Rattle.std.proofs.lemmas.List.Sums.{common_prefix_len-le}
 use Rattle.word_diff.specs.declared.part.Kind.{Kind}
 use Rattle.word_diff.specs.declared.part.Kind.TheVariants.{Kept, Removed, Added}
-use Rattle.word_diff.specs.Common.{IsSubsequence, IsCommonSubsequence, IsLongestCommonSubsequence, front_len, end_len, common_ends}
+use Rattle.word_diff.specs.Common.{IsSubsequence, IsCommonSubsequence, IsLongest, AreFew, AreMany, front_len, end_len, common_ends}
 use Rattle.word_diff.specs.Kinds.{is_kept, is_new, is_old}
 use Rattle.word_diff.specs.Parts.{Span, texts_of}
-use Rattle.word_diff.specs.Steps.{AddsEach, AddsLongest, Compares, AreOrdered, may_stand}
+use Rattle.word_diff.specs.Steps.{AddsEach, AddsLongest, Compares, may_stand}
 use Rattle.word_diff.specs.Table.{common_len}
 use Rattle.word_diff.specs.Words.{same_word, texts}
 use Rattle.word_diff.proofs.EndLemmas.{front_same, end_len-le, end_same, length-texts, texts-take, texts-drop}
@@ -61,7 +59,7 @@ framed xs ys =
     let e = end_len (drop n xs) (drop n ys) in record {
       old = framed_at xs n e;
       new = framed_at ys n e
-      ∙ (λ i. sym (front_same xs ys) i ++ (take (length (drop n ys) - e) (drop n ys) ++ sym (end_same (drop n xs) (drop n ys)) i));
+          ∙ (λ i. sym (front_same xs ys) i ++ (take (length (drop n ys) - e) (drop n ys) ++ sym (end_same (drop n xs) (drop n ys)) i));
     }
 
 -- they are the front and the end that a long text is compared by
@@ -94,38 +92,35 @@ pub longest_steps : (a b c : List Span) (xs ys front left right end : Words) →
     → AddsEach [] a Kept front → AddsLongest a b left right → AddsEach b c Kept end → AreSteps c xs ys
 longest_steps a b c xs ys front left right end f first middle last = record {
   old = each_texts last is_old ∙ ap (λ (l : Words). l ++ end) (middle.old ∙ ap (λ (l : Words). l ++ left) (each_texts first is_old))
-  ∙ three front left end ∙ sym f.old;
+      ∙ three front left end ∙ sym f.old;
   new = each_texts last is_new ∙ ap (λ (l : Words). l ++ end) (middle.new ∙ ap (λ (l : Words). l ++ right) (each_texts first is_new))
-  ∙ three front right end ∙ sym f.new;
+      ∙ three front right end ∙ sym f.new;
 }
 
 -- no common subsequence is longer than what they keep
 pub longest_kept : (a b c : List Span) (xs ys front left right end : Words) → Framed xs ys front left right end
     → AddsEach [] a Kept front → AddsLongest a b left right → AddsEach b c Kept end
-    → IsLongestCommonSubsequence (texts_of is_kept c) xs ys
-longest_kept a b c xs ys front left right end f first middle last =
+    → IsLongest (texts_of is_kept c) xs ys
+longest_kept a b c xs ys front left right end f first middle last other common =
     let most : AtMost (front ++ (left ++ end)) (front ++ (right ++ end)) (length front + (common_len left right + length end)) =
     at_most-front front (left ++ end) (right ++ end) (common_len left right + length end)
     (at_most-back end left right (common_len left right) (common_len-most left right)) in
     let counted : length (texts_of is_kept c) ≡ length front + (common_len left right + length end) =
-    omega (arith, ap length (each_texts last is_kept), length-append (texts_of is_kept b) end, middle.kept, ap length (each_texts first is_kept)) in record {
-      common = steps_common c xs ys (longest_steps a b c xs ys front left right end f first middle last);
-      none_longer = λ other common.
-        let le = most.bound other (subst (IsSubsequence other) f.old common.of_first) (subst (IsSubsequence other) f.new common.of_second) in
-        omega (arith, le, counted);
-    }
+    omega (arith, ap length (each_texts last is_kept), length-append (texts_of is_kept b) end, middle.kept, ap length (each_texts first is_kept)) in
+    let le = most.bound other (subst (IsSubsequence other) f.old common.of_first) (subst (IsSubsequence other) f.new common.of_second) in
+    omega (arith, le, counted)
 
 -- a front, what is between on either side, and an end
 pub ends_steps : (a b c d : List Span) (xs ys front left right end : Words) → Framed xs ys front left right end
     → AddsEach [] a Kept front → AddsEach a b Removed left → AddsEach b c Added right → AddsEach c d Kept end → AreSteps d xs ys
 ends_steps a b c d xs ys front left right end f first removed added last = record {
   old = each_texts last is_old
-  ∙ ap (λ (l : Words). l ++ end) (each_texts added is_old ∙ append-nil (texts_of is_old b) ∙ each_texts removed is_old ∙ ap (λ (l : Words). l ++ left) (each_texts first is_old))
-  ∙ three front left end ∙ sym f.old;
+      ∙ ap (λ (l : Words). l ++ end) (each_texts added is_old ∙ append-nil (texts_of is_old b) ∙ each_texts removed is_old ∙ ap (λ (l : Words). l ++ left) (each_texts first is_old))
+      ∙ three front left end ∙ sym f.old;
   new = each_texts last is_new
-  ∙ ap (λ (l : Words). l ++ end)
-  (each_texts added is_new ∙ ap (λ (l : Words). l ++ right) (each_texts removed is_new ∙ append-nil (texts_of is_new a) ∙ each_texts first is_new))
-  ∙ three front right end ∙ sym f.new;
+      ∙ ap (λ (l : Words). l ++ end)
+      (each_texts added is_new ∙ ap (λ (l : Words). l ++ right) (each_texts removed is_new ∙ append-nil (texts_of is_new a) ∙ each_texts first is_new))
+      ∙ three front right end ∙ sym f.new;
 }
 
 -- keep the front and the end
@@ -176,44 +171,40 @@ cut_is old new front rest new_rest left right end f e f_is long front_is rest_is
     let left_part = take (length (drop n xs) - end_len (drop n xs) (drop n ys)) (drop n xs) in
     record {
       framed = subst (λ (w : Words). Framed xs ys (texts front) (texts left) (texts right) w) d
-        (subst (λ (w : Words). Framed xs ys (texts front) (texts left) w last) c
-        (subst (λ (w : Words). Framed xs ys (texts front) w right_part last) b
-        (subst (λ (w : Words). Framed xs ys w left_part right_part last) a (framed xs ys))));
+          (subst (λ (w : Words). Framed xs ys (texts front) (texts left) w last) c
+          (subst (λ (w : Words). Framed xs ys (texts front) w right_part last) b
+          (subst (λ (w : Words). Framed xs ys w left_part right_part last) a (framed xs ys))));
       ends = ends_are xs ys ∙ (λ i. a i ++ d i);
     }
 
 -- the middle compared by the table
 pub compares_longest : (a b c : List Span) (xs ys front left right end : Words) → Framed xs ys front left right end
-    → AddsEach [] a Kept front → AddsLongest a b left right → AddsEach b c Kept end → max (length xs) (length ys) ≤ MAX_WORDS → Compares c xs ys
+    → AddsEach [] a Kept front → AddsLongest a b left right → AddsEach b c Kept end → AreFew xs ys → Compares c xs ys
 compares_longest a b c xs ys front left right end f first middle last few =
     let steps = longest_steps a b c xs ys front left right end f first middle last in record {
       old = steps.old;
       new = steps.new;
-      kept = record {
-        common = steps_common c xs ys steps;
-        longest = λ _. longest_kept a b c xs ys front left right end f first middle last;
-        ends = λ many. absurd (omega (arith, few, many));
-      };
+      common = steps_common c xs ys steps;
+      longest = λ _. longest_kept a b c xs ys front left right end f first middle last;
+      ends = λ many. absurd (omega (arith, few, many));
       ordered = added_ordered b c Kept end last (middle.ordered (front_ordered a front first) (front_last a front first))
-        (at_last_all (λ (k : Kind). may_stand k Kept ≡ true) stand_kept b);
+          (at_last_all (λ (k : Kind). may_stand k Kept ≡ true) stand_kept b);
     }
 
 -- and the middle left as it is
 pub compares_ends : (a b c d : List Span) (xs ys front left right end : Words) → Framed xs ys front left right end
     → common_ends xs ys ≡ front ++ end → AddsEach [] a Kept front → AddsEach a b Removed left → AddsEach b c Added right
-    → AddsEach c d Kept end → MAX_WORDS < max (length xs) (length ys) → Compares d xs ys
+    → AddsEach c d Kept end → AreMany xs ys → Compares d xs ys
 compares_ends a b c d xs ys front left right end f ends first removed added last many =
     let steps = ends_steps a b c d xs ys front left right end f first removed added last in record {
       old = steps.old;
       new = steps.new;
-      kept = record {
-        common = steps_common d xs ys steps;
-        longest = λ few. absurd (omega (arith, few, many));
-        ends = λ _. ends_kept a b c d front left right end first removed added last ∙ sym ends;
-      };
+      common = steps_common d xs ys steps;
+      longest = λ few. absurd (omega (arith, few, many));
+      ends = λ _. ends_kept a b c d front left right end first removed added last ∙ sym ends;
       ordered = added_ordered c d Kept end last
-        (added_ordered b c Added right added
-        (added_ordered a b Removed left removed (front_ordered a front first) (front_last a front first))
-        (at_last_all (λ (k : Kind). may_stand k Added ≡ true) stand_added b))
-        (at_last_all (λ (k : Kind). may_stand k Kept ≡ true) stand_kept c);
+          (added_ordered b c Added right added
+          (added_ordered a b Removed left removed (front_ordered a front first) (front_last a front first))
+          (at_last_all (λ (k : Kind). may_stand k Added ≡ true) stand_added b))
+          (at_last_all (λ (k : Kind). may_stand k Kept ≡ true) stand_kept c);
     }

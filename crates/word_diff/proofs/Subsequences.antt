@@ -1,7 +1,7 @@
 -- Subsequences of lists of words, and that what two lists have in common at their front and end may be left off.
-use Rattle.std.proofs.Common.{◌≡◌, ◌≢◌, ℕ, suc, ◌+◌, ◌<◌, ◌≤◌, List, [], ◌∷◌, ◌++◌, length, sym, refl, ap, ◌∙◌, subst, ⊎_elim, inl, inr, arith, length-append, append_assoc}
+use Rattle.std.proofs.Common.{◌≡◌, ℕ, ◌+◌, ◌<◌, ◌≤◌, List, [], ◌∷◌, ◌++◌, length, sym, refl, ap, ◌∙◌, subst, ⊎_elim, inl, inr, arith, length-append}
 use Rattle.std.proofs.str.Laws.{order}
-use Rattle.word_diff.specs.Common.{IsSubsequence, IsCommonSubsequence}
+use Rattle.word_diff.specs.Common.{IsSubsequence}
 
 abbrev Words : Type 0
 Words = List (List ℕ)
@@ -105,34 +105,38 @@ pub record AtMost (xs ys : Words) (n : ℕ) : Type 0 where
 
 -- what both begin with adds its length, and no more
 pub at_most-front : (p xs ys : Words) (n : ℕ) → AtMost xs ys n → AtMost (p ++ xs) (p ++ ys) (length p + n)
-at_most-front p xs ys n most = record { bound = λ zs h k.
-    let s = sub_parted p xs zs h in
-    let t = sub_parted p ys zs k in
-    let same : s.front ++ s.back ≡ t.front ++ t.back = sym s.join ∙ t.join in
-    ⊎_elim
-    (λ (lt : length s.back < length t.back).
-    let more = back_in s.front s.back t.front t.back same (omega arith) in
-    let of_both : IsSubsequence s.back ys = sub_back ys more.0 s.back (subst (λ (l : Words). IsSubsequence l ys) more.1 t.of_back) in
-    omega (arith, ap length s.join, length-append s.front s.back, sub_length p s.front s.of_front, most.bound s.back s.of_back of_both))
-    (λ le.
-    let more = back_in t.front t.back s.front s.back (sym same) le in
-    let of_both : IsSubsequence t.back xs = sub_back xs more.0 t.back (subst (λ (l : Words). IsSubsequence l xs) more.1 s.of_back) in
-    omega (arith, ap length t.join, length-append t.front t.back, sub_length p t.front t.of_front, most.bound t.back of_both t.of_back))
-    (order (length s.back) (length t.back)) }
+at_most-front p xs ys n most = record {
+  bound = λ zs h k.
+      let s = sub_parted p xs zs h in
+      let t = sub_parted p ys zs k in
+      let same : s.front ++ s.back ≡ t.front ++ t.back = sym s.join ∙ t.join in
+      ⊎_elim
+      (λ (lt : length s.back < length t.back).
+      let more = back_in s.front s.back t.front t.back same (omega arith) in
+      let of_both : IsSubsequence s.back ys = sub_back ys more.0 s.back (subst (λ (l : Words). IsSubsequence l ys) more.1 t.of_back) in
+      omega (arith, ap length s.join, length-append s.front s.back, sub_length p s.front s.of_front, most.bound s.back s.of_back of_both))
+      (λ le.
+      let more = back_in t.front t.back s.front s.back (sym same) le in
+      let of_both : IsSubsequence t.back xs = sub_back xs more.0 t.back (subst (λ (l : Words). IsSubsequence l xs) more.1 s.of_back) in
+      omega (arith, ap length t.join, length-append t.front t.back, sub_length p t.front t.of_front, most.bound t.back of_both t.of_back))
+      (order (length s.back) (length t.back));
+}
 
 -- and so does what both end with
 pub at_most-back : (e xs ys : Words) (n : ℕ) → AtMost xs ys n → AtMost (xs ++ e) (ys ++ e) (n + length e)
-at_most-back e xs ys n most = record { bound = λ zs h k.
-    let s = sub_parted xs e zs h in
-    let t = sub_parted ys e zs k in
-    let same : s.front ++ s.back ≡ t.front ++ t.back = sym s.join ∙ t.join in
-    ⊎_elim
-    (λ (lt : length s.front < length t.front).
-    let more = front_in s.front s.back t.front t.back same (omega arith) in
-    let of_both : IsSubsequence s.front ys = sub_front ys s.front more.0 (subst (λ (l : Words). IsSubsequence l ys) more.1 t.of_front) in
-    omega (arith, ap length s.join, length-append s.front s.back, sub_length e s.back s.of_back, most.bound s.front s.of_front of_both))
-    (λ le.
-    let more = front_in t.front t.back s.front s.back (sym same) le in
-    let of_both : IsSubsequence t.front xs = sub_front xs t.front more.0 (subst (λ (l : Words). IsSubsequence l xs) more.1 s.of_front) in
-    omega (arith, ap length t.join, length-append t.front t.back, sub_length e t.back t.of_back, most.bound t.front of_both t.of_front))
-    (order (length s.front) (length t.front)) }
+at_most-back e xs ys n most = record {
+  bound = λ zs h k.
+      let s = sub_parted xs e zs h in
+      let t = sub_parted ys e zs k in
+      let same : s.front ++ s.back ≡ t.front ++ t.back = sym s.join ∙ t.join in
+      ⊎_elim
+      (λ (lt : length s.front < length t.front).
+      let more = front_in s.front s.back t.front t.back same (omega arith) in
+      let of_both : IsSubsequence s.front ys = sub_front ys s.front more.0 (subst (λ (l : Words). IsSubsequence l ys) more.1 t.of_front) in
+      omega (arith, ap length s.join, length-append s.front s.back, sub_length e s.back s.of_back, most.bound s.front s.of_front of_both))
+      (λ le.
+      let more = front_in t.front t.back s.front s.back (sym same) le in
+      let of_both : IsSubsequence t.front xs = sub_front xs t.front more.0 (subst (λ (l : Words). IsSubsequence l xs) more.1 s.of_front) in
+      omega (arith, ap length t.join, length-append t.front t.back, sub_length e t.back t.of_back, most.bound t.front of_both t.of_front))
+      (order (length s.front) (length t.front));
+}

@@ -1,13 +1,12 @@
 -- A walk through two lists of words along the table.
-use Rattle.std.proofs.Common.{◌≡◌, ℕ, suc, ◌+◌, ◌-◌, ◌<◌, ◌≤◌, Bool, true, false, List, [], ◌∷◌, ◌++◌, length, take, drop, get_or, sym, refl, ap, ◌∙◌, arith, cond, ◌⊎◌, append_assoc, length-append, take-append-drop, ⊎_elim, subst, inr}
+use Rattle.std.proofs.Common.{◌≡◌, ℕ, ◌+◌, ◌<◌, ◌≤◌, Bool, true, false, List, [], ◌∷◌, ◌++◌, length, take, drop, get_or, sym, refl, ap, ◌∙◌, arith, cond, ◌⊎◌, append_assoc, length-append, take-append-drop, ⊎_elim, subst, inr}
 use Rattle.std.specs.Prelude.{max}
 use Rattle.std.proofs.lemmas.List.{append-nil, take_more, drop_more, drop_all}
 use Rattle.std.specs.Cmp.Lexicographic.{same_text}
 use Rattle.word_diff.specs.declared.part.Kind.{Kind}
 use Rattle.word_diff.specs.declared.part.Kind.TheVariants.{Kept, Removed, Added}
-use Rattle.word_diff.specs.declared.part.Part.{Part}
 use Rattle.word_diff.specs.Kinds.{is_kept, is_new, is_old}
-use Rattle.word_diff.specs.Parts.{Span, span, spans, texts_of}
+use Rattle.word_diff.specs.Parts.{Span, texts_of}
 use Rattle.word_diff.specs.Steps.{AddsEach, AddsLongest, AreOrdered, AtLast, MayRemove, each, may_stand}
 use Rattle.word_diff.specs.Table.{common_len}
 use Rattle.word_diff.specs.Words.{same_word}
@@ -100,7 +99,7 @@ walked_kept before now xs ys i j part w in_xs in_ys same kind bytes =
       kept = omega (arith, w.kept, num, ap length kept, length-append (texts_of is_kept now) (get_or xs i [] ∷ []));
       order = λ are last. record {
         ordered = ordered_push now part (w.order are last).ordered
-          (at_last_all (λ (k : Kind). may_stand k part.kind ≡ true) (λ k. ap (may_stand k) kind ∙ stand_kept k) now);
+            (at_last_all (λ (k : Kind). may_stand k part.kind ≡ true) (λ k. ap (may_stand k) kind ∙ stand_kept k) now);
         last = at_last_push _ now part (λ other. not_added part.kind Kept _ kind refl other);
       };
     }
@@ -129,9 +128,9 @@ walked_removed before now xs ys i j part w in_xs in_ys other le kind bytes =
       kept = omega (arith, w.kept, num, ap length kept, length-append (texts_of is_kept now) []);
       order = λ are last. record {
         ordered = ordered_push now part (w.order are last).ordered
-          (at_last_map _ (λ (k : Kind). may_stand k part.kind ≡ true)
-          (λ k lost. ap (may_stand k) kind ∙ may_by (may_stand k Removed) (λ other. let less = lost other in omega (arith, less, num, le)))
-          now (w.order are last).last);
+            (at_last_map _ (λ (k : Kind). may_stand k part.kind ≡ true)
+            (λ k lost. ap (may_stand k) kind ∙ may_by (may_stand k Removed) (λ other. let less = lost other in omega (arith, less, num, le)))
+            now (w.order are last).last);
         last = at_last_push _ now part (λ other. not_added part.kind Removed _ kind refl other);
       };
     }
@@ -160,11 +159,11 @@ walked_added before now xs ys i j part w in_xs in_ys other le kind bytes =
       kept = omega (arith, w.kept, num, ap length kept, length-append (texts_of is_kept now) []);
       order = λ are last. record {
         ordered = ordered_push now part (w.order are last).ordered
-          (at_last_all (λ (k : Kind). may_stand k part.kind ≡ true) (λ k. ap (may_stand k) kind ∙ stand_added k) now);
+            (at_last_all (λ (k : Kind). may_stand k part.kind ≡ true) (λ k. ap (may_stand k) kind ∙ stand_added k) now);
         last = at_last_push _ now part (λ _.
-          let grows = common_len-grows (drop (i + 1) xs) (get_or ys j []) (drop (j + 1) ys) in
-          let there = ap (common_len (drop (i + 1) xs)) (drop_more ys j [] in_ys) in
-          omega (arith, le, grows, there));
+            let grows = common_len-grows (drop (i + 1) xs) (get_or ys j []) (drop (j + 1) ys) in
+            let there = ap (common_len (drop (i + 1) xs)) (drop_more ys j [] in_ys) in
+            omega (arith, le, grows, there));
       };
     }
 
@@ -197,10 +196,10 @@ pub walked_all : (before now removed added : List Span) (xs ys : Words) (i j : �
 walked_all before now removed added xs ys i j w over r a = record {
   old = each_texts a is_old ∙ append-nil (texts_of is_old removed) ∙ each_texts r is_old ∙ rest_added (texts_of is_old before) xs (texts_of is_old now) i w.old;
   new = each_texts a is_new
-  ∙ ap (λ (l : Words). l ++ drop j ys) (each_texts r is_new ∙ append-nil (texts_of is_new now))
-  ∙ rest_added (texts_of is_new before) ys (texts_of is_new now) j w.new;
+      ∙ ap (λ (l : Words). l ++ drop j ys) (each_texts r is_new ∙ append-nil (texts_of is_new now))
+      ∙ rest_added (texts_of is_new before) ys (texts_of is_new now) j w.new;
   kept = omega (arith, w.kept, none_left xs ys i j over, ap length (each_texts a is_kept ∙ append-nil (texts_of is_kept removed) ∙ each_texts r is_kept ∙ append-nil (texts_of is_kept now)));
   ordered = λ are last. added_ordered removed added Added (drop j ys) a
-    (rest_ordered before now removed xs ys i j (w.order are last) over r)
-    (at_last_all (λ (k : Kind). may_stand k Added ≡ true) stand_added removed);
+      (rest_ordered before now removed xs ys i j (w.order are last) over r)
+      (at_last_all (λ (k : Kind). may_stand k Added ≡ true) stand_added removed);
 }

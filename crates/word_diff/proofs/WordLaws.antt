@@ -1,14 +1,13 @@
 -- Each text has exactly one list of words, and neighbours among them are the words of their own bytes.
-use Rattle.std.proofs.Common.{◌≡◌, ◌≢◌, ℕ, zero, suc, ◌+◌, ◌-◌, ◌<◌, ◌≤◌, Bool, true, false, List, [], ◌∷◌, ◌++◌, length, take, drop, get_or, sym, refl, ap, ◌∙◌, subst, ⊎_elim, inl, inr, arith, IsUtf8, eqb-true, cond, ◌==◌, length-drop, length-append, append_assoc, take-append-drop}
+use Rattle.std.proofs.Common.{◌≡◌, ℕ, zero, suc, ◌+◌, ◌-◌, ◌<◌, ◌≤◌, Bool, true, false, List, [], ◌∷◌, ◌++◌, length, take, drop, get_or, sym, refl, ap, ◌∙◌, subst, ⊎_elim, inl, inr, arith, cond, ◌==◌, length-drop, length-append, append_assoc, take-append-drop}
 use Rattle.std.proofs.lemmas.Bool.Decides.{nat_tests}
-use Rattle.std.proofs.lemmas.List.{drop_at, take_at, get_or_append_left, get_or-take, get_or-drop, append-nil, get_or_past, get_or-append_right}
+use Rattle.std.proofs.lemmas.List.{take_at, get_or_append_left, get_or-take, get_or-drop, get_or-append_right}
 use Rattle.std.proofs.lemmas.List.Concat.{flat_map-append}
 use Rattle.std.proofs.lemmas.List.Folds.{length-prefix_len}
-use Rattle.std.proofs.lemmas.List.Sums.{prefix_len_is, prefix_len-le-length, prefix_len_passes, prefix_len_stops}
-use Rattle.std.proofs.str.Laws.{order}
+use Rattle.std.proofs.lemmas.List.Sums.{prefix_len_is, prefix_len_passes, prefix_len_stops}
 use Rattle.std.specs.List.{prefix_len, take_while}
 use Rattle.usfm_ref.specs.Numbers.{is_blank}
-use Rattle.usfm_token.specs.Tokens.{MarkParts, Lexeme, mark, mark_after, mark_bytes, slice_of, IsMark, IsLongest, AreLexemes, first_lexeme, tokens_of}
+use Rattle.usfm_token.specs.Tokens.{MarkParts, mark, mark_after, mark_bytes, slice_of, IsMark, IsLongest, AreLexemes, first_lexeme, tokens_of}
 use Rattle.usfm_token.proofs.TokenLemmas.{tokens_of-cons}
 use Rattle.usfm_token.proofs.TokenLaws.{first_front, one_reading, joined-tokens_of}
 use Rattle.usfm_token.proofs.Walk.{each-tokens_of}
@@ -108,8 +107,8 @@ run_is p b bs h =
       rw (len, h) (omega arith),
       (λ k lt. let below : k < n = omega arith in ap p (get_or-take n (b ∷ bs) k 0 below) ∙ prefix_len_passes p (b ∷ bs) k 0 below),
       (λ lt. let within : n < length (b ∷ bs) = omega (arith, length-drop (length (take_while p (b ∷ bs))) (b ∷ bs)) in
-      let at : length (take_while p (b ∷ bs)) + 0 ≡ n = omega arith in
-      ap p (get_or-drop (length (take_while p (b ∷ bs))) (b ∷ bs) 0 0 ∙ ap (λ k. get_or (b ∷ bs) k 0) at) ∙ prefix_len_stops p (b ∷ bs) 0 within),
+          let at : length (take_while p (b ∷ bs)) + 0 ≡ n = omega arith in
+          ap p (get_or-drop (length (take_while p (b ∷ bs))) (b ∷ bs) 0 0 ∙ ap (λ k. get_or (b ∷ bs) k 0) at) ∙ prefix_len_stops p (b ∷ bs) 0 within),
     )
 
 mark_is : (b : ℕ) (bs : List ℕ) → (b == 92) ≡ true → IsLongestMark (mark_bytes (mark_after bs)) (drop (length (mark_bytes (mark_after bs))) (b ∷ bs))
@@ -135,9 +134,10 @@ each_in (suc n) (b ∷ bs) h =
     let k = length (first_word b bs) in
     let some : 0 < length (first_word b bs) = first_positive b bs in
     let rest = drop k (b ∷ bs) in
-    subst AreWords (sym (words_of-cons b bs))
-    (subst (IsWord (first_word b bs)) (sym (joined-words_of rest)) (word_by b bs (b == 92) (is_blank b) refl refl),
-    each_in n rest (omega (arith, length-drop k (b ∷ bs))))
+    subst AreWords (sym (words_of-cons b bs)) (
+      subst (IsWord (first_word b bs)) (sym (joined-words_of rest)) (word_by b bs (b == 92) (is_blank b) refl refl),
+      each_in n rest (omega (arith, length-drop k (b ∷ bs))),
+    )
 
 -- each word of a text is as long as it can be
 pub each-words_of : (s : List ℕ) → AreWords (words_of s)
@@ -157,8 +157,13 @@ joined-append us vs = flat_map-append (λ text. text) us vs
 
 word_part : (w a b : List ℕ) → IsWord w (a ++ b) → IsWord w a
 word_part w a b is = ⊎_elim
-    (λ (is : IsLongestMark w (a ++ b)). inl (is.0, is.1, is.2, (λ other after known same. is.3 other (after ++ b) known
-    (sym (append_assoc (mark_bytes is.0) a b) ∙ ap (λ l. l ++ b) same ∙ append_assoc (mark_bytes other) after b))))
+    (λ (is : IsLongestMark w (a ++ b)). inl (
+      is.0,
+      is.1,
+      is.2,
+      (λ other after known same. is.3 other (after ++ b) known
+          (sym (append_assoc (mark_bytes is.0) a b) ∙ ap (λ l. l ++ b) same ∙ append_assoc (mark_bytes other) after b)),
+    ))
     (λ is. ⊎_elim
     (λ (is : IsLongestRun is_blank w (a ++ b)). inr (inl (run_part is_blank is)))
     (λ (is : IsLongestRun is_plain w (a ++ b)). inr (inr (run_part is_plain is)))

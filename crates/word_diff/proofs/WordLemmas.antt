@@ -1,6 +1,5 @@
 -- Words from the left, and where a text may be cut.
-use Rattle.std.proofs.Common.{◌≡◌, ◌≢◌, ℕ, zero, suc, ◌+◌, ◌-◌, ◌<◌, ◌≤◌, Bool, true, false, List, [], ◌∷◌, ◌++◌, length, take, drop, get_or, sym, refl, ap, ◌∙◌, subst, ⊎_elim, arith, IsUtf8, eqb-true, cond, ◌==◌, if◌then◌else◌, length-drop, take-append-drop, not}
-use Rattle.std.specs.Prelude.{◌&&◌}
+use Rattle.std.proofs.Common.{◌≡◌, ℕ, zero, suc, ◌+◌, ◌-◌, ◌<◌, ◌≤◌, Bool, true, false, List, [], ◌∷◌, ◌++◌, length, drop, get_or, sym, refl, ap, ◌∙◌, subst, ⊎_elim, arith, IsUtf8, cond, ◌==◌, length-drop}
 use Rattle.std.proofs.lemmas.Bool.Decides.{nat_tests}
 use Rattle.std.proofs.lemmas.List.{drop_at}
 use Rattle.std.proofs.lemmas.List.Folds.{length-prefix_len}
@@ -11,7 +10,6 @@ use Rattle.std.specs.Str.{IsCharBoundary}
 use Rattle.std.proofs.str.Laws.{order}
 use Rattle.usfm_ref.specs.Numbers.{is_blank}
 use Rattle.usfm_token.specs.Tokens.{mark_after, mark_bytes}
-use Rattle.usfm_token.proofs.TokenLemmas.{not_true}
 use Rattle.word_diff.specs.Words.{is_plain, first_word, words_in, words_of}
 
 blank_ascii : (b : ℕ) → is_blank b ≡ true → b < 128

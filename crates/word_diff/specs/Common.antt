@@ -1,7 +1,6 @@
 -- Common subsequences of two lists of words.
 use Rattle.std.specs.Prelude.{◌≡◌, ℕ, ◌-◌, ◌<◌, ◌≤◌, max, List, [], ◌∷◌, ◌++◌, ◌⊎◌, length, take, drop, reverse}
 use Rattle.std.specs.List.{common_prefix_len}
-use Rattle.word_diff.specs.declared.table.TheConstants.{MAX_WORDS}
 use Rattle.word_diff.specs.Words.{same_word}
 
 -- zs is ys with some words left out, in the same order: it is taken from what follows the first of ys, or it is that first
@@ -16,11 +15,10 @@ pub record IsCommonSubsequence (zs xs ys : List (List ℕ)) : Type 0 where
   pub of_first : IsSubsequence zs xs
   pub of_second : IsSubsequence zs ys
 
--- and no common subsequence is longer
-pub record IsLongestCommonSubsequence (zs xs ys : List (List ℕ)) : Type 0 where
-  pub common : IsCommonSubsequence zs xs ys
-  pub none_longer : (other : List (List ℕ)) → IsCommonSubsequence other xs ys
-    → length other ≤ length zs
+-- no common subsequence of xs and ys is longer than zs
+abbrev pub IsLongest : List (List ℕ) → List (List ℕ) → List (List ℕ) → Type 0
+IsLongest zs xs ys =
+    (other : List (List ℕ)) → IsCommonSubsequence other xs ys → length other ≤ length zs
 
 -- how many words two lists have in common at their front
 abbrev pub front_len : List (List ℕ) → List (List ℕ) → ℕ
@@ -36,9 +34,10 @@ common_ends xs ys =
     let front = front_len xs ys in
     let end = end_len (drop front xs) (drop front ys) in take front xs ++ drop (length xs - end) xs
 
--- What is kept of two lists is common to both. No common subsequence is longer, where neither list has more than 2,000 words;
--- else it is their common front and end.
-pub record IsKept (kept xs ys : List (List ℕ)) : Type 0 where
-  pub common : IsCommonSubsequence kept xs ys
-  pub longest : max (length xs) (length ys) ≤ MAX_WORDS → IsLongestCommonSubsequence kept xs ys
-  pub ends : MAX_WORDS < max (length xs) (length ys) → kept ≡ common_ends xs ys
+-- neither list has more than 2,000 words
+abbrev pub AreFew : List (List ℕ) → List (List ℕ) → Type 0
+AreFew xs ys = max (length xs) (length ys) ≤ 2000
+
+-- one of them has more
+abbrev pub AreMany : List (List ℕ) → List (List ℕ) → Type 0
+AreMany xs ys = 2000 < max (length xs) (length ys)

@@ -2,7 +2,7 @@
 use Rattle.std.specs.Prelude.{◌≡◌, ℕ, ◌+◌, Bool, true, false, List, [], ◌∷◌, ◌++◌, length, map}
 use Rattle.word_diff.specs.Kinds.{is_kept, is_new, is_old}
 use Rattle.word_diff.specs.Parts.{Span, texts_of}
-use Rattle.word_diff.specs.Common.{IsKept}
+use Rattle.word_diff.specs.Common.{IsCommonSubsequence, IsLongest, AreFew, AreMany, common_ends}
 use Rattle.word_diff.specs.Table.{common_len}
 use Rattle.word_diff.specs.declared.part.Kind.{Kind}
 use Rattle.word_diff.specs.declared.part.Kind.TheVariants.{Kept, Removed, Added}
@@ -62,10 +62,11 @@ pub record AddsLongest (before now : List Span) (xs ys : List (List ℕ)) : Type
   pub kept : length (texts_of is_kept now) ≡ length (texts_of is_kept before) + common_len xs ys
   pub ordered : AreOrdered before → AtLast MayRemove before → AreOrdered now
 
--- these are the words of both, in order; where neither list has more than 2,000, none longer is common, and else what is kept is their
--- common front and end
+-- these are the words of both, in order; what is kept is common, and of two short lists a longest, else their common ends
 pub record Compares (ss : List Span) (xs ys : List (List ℕ)) : Type 0 where
   pub old : texts_of is_old ss ≡ xs
   pub new : texts_of is_new ss ≡ ys
-  pub kept : IsKept (texts_of is_kept ss) xs ys
+  pub common : IsCommonSubsequence (texts_of is_kept ss) xs ys
+  pub longest : AreFew xs ys → IsLongest (texts_of is_kept ss) xs ys
+  pub ends : AreMany xs ys → texts_of is_kept ss ≡ common_ends xs ys
   pub ordered : AreOrdered ss

@@ -1,5 +1,5 @@
 ghost use Rattle.std.specs.Prelude.{◌≡◌, IfOk};
-ghost use Rattle.word_diff.specs.Common.{IsKept};
+ghost use Rattle.word_diff.specs.Common.{AreFew, AreMany, IsCommonSubsequence, IsLongest, common_ends};
 ghost use Rattle.word_diff.specs.Kinds.{is_kept, is_new, is_old};
 ghost use Rattle.word_diff.specs.Parts.{AreApart, spans, texts_of, words_by};
 ghost use Rattle.word_diff.specs.Words.{joined, words_of};
@@ -33,7 +33,11 @@ pub fn differences<'a>(
     ensures old_words { IfOk result (λ list. words_by is_old (spans list.items) ≡ words_of old.now) }
     ensures new_words { IfOk result (λ list. words_by is_new (spans list.items) ≡ words_of new.now) }
 
-    ensures kept { IfOk result (λ list. IsKept (words_by is_kept (spans list.items)) (words_of old.now) (words_of new.now)) }
+    // The words that are kept are in both texts, in order; none longer is where neither is long.
+    ensures common { IfOk result (λ list. IsCommonSubsequence (words_by is_kept (spans list.items)) (words_of old.now) (words_of new.now)) }
+    ensures longest { IfOk result (λ list. AreFew (words_of old.now) (words_of new.now) → IsLongest (words_by is_kept (spans list.items)) (words_of old.now) (words_of new.now)) }
+    ensures ends { IfOk result (λ list. AreMany (words_of old.now) (words_of new.now) → words_by is_kept (spans list.items) ≡ common_ends (words_of old.now) (words_of new.now)) }
+
     ensures apart { IfOk result (λ list. AreApart (spans list.items)) }
 {
     let old_words = words(alloc, old)?;

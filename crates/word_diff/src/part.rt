@@ -34,7 +34,7 @@ impl Kind {
     }
 }
 
-/// A part of two texts. What is kept is lent from the old one.
+/// A part of two texts, lent from one that it is in. It is whole words.
 #[derive(Clone, Copy, Debug, PartialEq, Eq)]
 pub struct Part<'a> {
     pub kind: Kind,

@@ -9,11 +9,7 @@ use crate::table::{MAX_WORDS, len_from, table};
 use std::alloc::{AllocError, Global};
 
 // Adds each of these words as a part of this kind.
-fn push_each<'a>(
-    steps: &mut Vec<Part<'a>>,
-    kind: Kind,
-    words: &[&'a str],
-) -> Result<(), AllocError>
+fn push_each<'a>(steps: &mut Vec<Part<'a>>, kind: Kind, words: &[&'a str]) -> Result<(), AllocError>
     ensures { OnOk result (AddsEach (spans steps.old.items) (spans steps.new.items) kind (texts words.now)) }
 {
     for text in words {

@@ -35,11 +35,7 @@ fn next_row(
 
 // For each end of the old list, from the empty one on, its row: for each end of the new list, from
 // the empty one on, how many words a longest common subsequence of the two ends has.
-pub(crate) fn table(
-    alloc: Global,
-    old: &[&str],
-    new: &[&str],
-) -> Result<Vec<Vec<u16>>, AllocError>
+pub(crate) fn table(alloc: Global, old: &[&str], new: &[&str]) -> Result<Vec<Vec<u16>>, AllocError>
     requires small { length old.now ≤ MAX_WORDS }
     requires few { length new.now ≤ MAX_WORDS }
     ensures { IfOk result (λ list. rows list.items ≡ table_of (texts old.now) (texts new.now)) }

@@ -1,8 +1,7 @@
 use super::*;
+use Kind::{Added, Kept, Removed};
 use std::alloc::{AllocError, Global};
 use std::process::Abort;
-
-use Kind::{Added, Kept, Removed};
 
 // That the two texts have these parts.
 fn check_parts(
@@ -61,7 +60,13 @@ fn tells_parts(rt: HostRuntime) -> Result<(), AllocError> {
         (Added, "start"),
         (Kept, " God"),
     ];
-    check_parts(&rt, alloc, "In the beginning God", "In the start God", &one_word)?;
+    check_parts(
+        &rt,
+        alloc,
+        "In the beginning God",
+        "In the start God",
+        &one_word,
+    )?;
     check_parts(&rt, alloc, "", "", &[])?;
     check_parts(&rt, alloc, "a b", "a b", &[(Kept, "a b")])?;
     check_parts(&rt, alloc, "", "é\t", &[(Added, "é\t")])?;

@@ -1,6 +1,5 @@
-use Rattle.std.proofs.Common.{◌≡◌, ◌-◌, ◌≤◌, ◌<◌, true, false, Bool, List, ℕ, Bor, length, reverse, get_or, [], sym, ap, ◌∙◌, arith}
+use Rattle.std.proofs.Common.{◌≡◌, ◌-◌, ◌<◌, true, false, Bool, List, ℕ, Bor, length, reverse, get_or, [], sym, ◌∙◌, arith}
 use Rattle.std.proofs.lemmas.List.{length-reverse}
-use Rattle.word_diff.specs.Common.{front_len}
 use Rattle.word_diff.specs.Words.{same_word, texts}
 use Rattle.word_diff.proofs.EndLemmas.{no_text, length-texts, text_at_end, front_more, front_stops, front_right}
 use Rattle.word_diff.proofs.ends.end_len.Goals as goal
@@ -17,10 +16,12 @@ pub loop-len-preserved : goal.loop-len-preserved
 loop-len-preserved c =
     let old = c.args.old.now in
     let new = c.args.new.now in
-    let n = c.loop-len.len in
-    (omega arith, omega arith,
-    front_more (reverse (texts old)) (reverse (texts new)) n _ (omega (arith, long old)) (omega (arith, long new))
-    (tested old new n true c.loop-len-test.true c.if-len-new_len.true (sym c.eq.ensures ∙ c.if-eq.true)) c.loop-len.invariant.2)
+    let n = c.loop-len.len in (
+      omega arith,
+      omega arith,
+      front_more (reverse (texts old)) (reverse (texts new)) n _ (omega (arith, long old)) (omega (arith, long new))
+          (tested old new n true c.loop-len-test.true c.if-len-new_len.true (sym c.eq.ensures ∙ c.if-eq.true)) c.loop-len.invariant.2,
+    )
 
 pub returns-else-eq : goal.returns-else-eq
 returns-else-eq c =

@@ -1,5 +1,4 @@
-use Rattle.std.proofs.Common.{◌≡◌, ◌≤◌, ◌<◌, true, false, Bool, List, ℕ, Bor, length, get_or, [], sym, ap, ◌∙◌, arith}
-use Rattle.word_diff.specs.Common.{front_len}
+use Rattle.std.proofs.Common.{◌≡◌, ◌<◌, true, false, Bool, List, ℕ, Bor, length, get_or, [], sym, ◌∙◌, arith}
 use Rattle.word_diff.specs.Words.{same_word, texts}
 use Rattle.word_diff.proofs.EndLemmas.{no_text, length-texts, text_at, front_more, front_stops, front_right}
 use Rattle.word_diff.proofs.ends.front_len.Goals as goal
@@ -12,10 +11,12 @@ pub loop-len-preserved : goal.loop-len-preserved
 loop-len-preserved c =
     let old = c.args.old.now in
     let new = c.args.new.now in
-    let n = c.loop-len.len in
-    (omega arith, omega arith,
-    front_more (texts old) (texts new) n _ (omega (arith, length-texts old)) (omega (arith, length-texts new))
-    (tested old new n true c.loop-len-test.true c.if-len-new.true (sym c.eq.ensures ∙ c.if-eq.true)) c.loop-len.invariant.2)
+    let n = c.loop-len.len in (
+      omega arith,
+      omega arith,
+      front_more (texts old) (texts new) n _ (omega (arith, length-texts old)) (omega (arith, length-texts new))
+          (tested old new n true c.loop-len-test.true c.if-len-new.true (sym c.eq.ensures ∙ c.if-eq.true)) c.loop-len.invariant.2,
+    )
 
 pub returns-else-eq : goal.returns-else-eq
 returns-else-eq c =

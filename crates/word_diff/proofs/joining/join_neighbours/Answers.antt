@@ -1,14 +1,11 @@
-use Rattle.std.proofs.Common.{◌≡◌, ℕ, ◌+◌, ◌-◌, ◌<◌, ◌≤◌, ◌^◌, Bool, List, [], ◌∷◌, ◌++◌, length, take, drop, get_or, sym, ap, ◌∙◌, subst, arith, refl, cond, IsUtf8}
+use Rattle.std.proofs.Common.{◌≡◌, ℕ, ◌+◌, ◌<◌, ◌^◌, Bool, List, [], ◌∷◌, ◌++◌, length, drop, get_or, sym, ap, ◌∙◌, subst, arith, refl, cond}
 use Rattle.std.specs.Str.{IsCharBoundary}
-use Rattle.std.proofs.lemmas.List.{map_push, drop_all}
-use Rattle.std.proofs.lemmas.Str.{IsUtf8-drop}
-use Rattle.word_diff.specs.declared.part.Kind.{Kind}
+use Rattle.std.proofs.lemmas.List.{map_push}
 use Rattle.word_diff.specs.declared.part.Kind.TheVariants.{Kept}
 use Rattle.word_diff.specs.declared.part.Part.{Part}
-use Rattle.word_diff.specs.Joins.{all_bytes}
 use Rattle.word_diff.specs.Kinds.{is_new, is_old}
-use Rattle.word_diff.specs.Parts.{Span, span, spans, texts_of}
-use Rattle.word_diff.specs.Words.{joined, words_of}
+use Rattle.word_diff.specs.Parts.{Span, span, spans}
+use Rattle.word_diff.specs.Words.{joined}
 use Rattle.word_diff.proofs.JoinLemmas.{run_of, Joining, OfTexts, joining_none, joined_fits, side_utf8, side_boundary}
 use Rattle.word_diff.proofs.JoinSteps.{run_bytes, join_run, lent_is, after_is, run_at, run_within, run_part, run_after, run_positive, step_at}
 use Rattle.word_diff.proofs.joining.join_neighbours.Goals as goal
@@ -22,9 +19,9 @@ loop-at-init c = (
   c.utf8.new,
   omega arith,
   subst
-    (λ (l : List Span). Joining l (spans c.args.steps.now) (spans c.args.steps.now) c.args.old.now c.args.new.now c.args.old.now c.args.new.now)
-    (sym (ap spans c.new-parts.ensures.items))
-    (joining_none (spans c.args.steps.now) c.args.old.now c.args.new.now c.requires.old_words c.requires.new_words c.requires.ordered),
+      (λ (l : List Span). Joining l (spans c.args.steps.now) (spans c.args.steps.now) c.args.old.now c.args.new.now c.args.old.now c.args.new.now)
+      (sym (ap spans c.new-parts.ensures.items))
+      (joining_none (spans c.args.steps.now) c.args.old.now c.args.new.now c.requires.old_words c.requires.new_words c.requires.ordered),
 )
 
 pub overflow_add-end : goal.overflow_add-end
@@ -53,8 +50,11 @@ total_len-len-requires c =
     let old_small : length old < 2 ^ 64 = omega arith in
     let new_small : length new < 2 ^ 64 = omega arith in
     let part = run_part k steps at c.run_len.result (c.run_len.ensures ∙ run_at k steps at) in
-    omega (arith, ap length (ap joined part),
-    joined_fits k (spans c.loop-at.parts.items) (spans (drop at steps)) (spans steps) old new _ _ (2 ^ 64) t c.loop-at.invariant.3 old_small new_small)
+    omega (
+      arith,
+      ap length (ap joined part),
+      joined_fits k (spans c.loop-at.parts.items) (spans (drop at steps)) (spans steps) old new _ _ (2 ^ 64) t c.loop-at.invariant.3 old_small new_small,
+    )
 
 pub split_at-requires : goal.split_at-requires
 split_at-requires c =
@@ -88,8 +88,13 @@ loop-at-smaller c =
     let steps = c.args.steps.now in
     let at = c.loop-at.at in
     let k = (get_or steps at no_part).kind in
-    omega (arith, c.run_len.ensures ∙ run_at k steps at, run_within k steps at c.loop-at.invariant.2, run_positive steps at no_part c.loop-at-test.true,
-    c.loop-at-test.true)
+    omega (
+      arith,
+      c.run_len.ensures ∙ run_at k steps at,
+      run_within k steps at c.loop-at.invariant.2,
+      run_positive steps at no_part c.loop-at-test.true,
+      c.loop-at-test.true,
+    )
 
 pub loop-at-preserved : goal.loop-at-preserved
 loop-at-preserved c =
@@ -128,7 +133,7 @@ loop-at-preserved c =
       side_utf8 is_new k (spans c.loop-at.parts.items) rest (spans steps) new c.split_at-in-loop-at.result.1.now t.new_are j.new_words c.utf8.new new_after,
       omega (arith, n_is, run_within k steps at c.loop-at.invariant.2),
       subst (λ (l : List Span). Joining l (spans (drop (at + c.run_len.result) steps)) (spans steps) old new c.split_at.result.1.now
-        c.split_at-in-loop-at.result.1.now) (sym items)
-        (subst (λ (l : List Span). Joining (spans c.loop-at.parts.items ++ span x ∷ []) l (spans steps) old new c.split_at.result.1.now
-        c.split_at-in-loop-at.result.1.now) (sym (run_after k steps at c.run_len.result n_is)) joined_more),
+          c.split_at-in-loop-at.result.1.now) (sym items)
+          (subst (λ (l : List Span). Joining (spans c.loop-at.parts.items ++ span x ∷ []) l (spans steps) old new c.split_at.result.1.now
+          c.split_at-in-loop-at.result.1.now) (sym (run_after k steps at c.run_len.result n_is)) joined_more),
     )

@@ -1,5 +1,5 @@
-use Rattle.std.proofs.Common.{◌≡◌, ℕ, ◌+◌, ◌<◌, ◌≤◌, List, [], ◌∷◌, ◌++◌, length, take, get_or, sym, ap, ◌∙◌, arith, length-append}
-use Rattle.std.proofs.lemmas.List.{get_or-map, length-map, take-map, take_more, append-nil}
+use Rattle.std.proofs.Common.{◌≡◌, ℕ, ◌+◌, ◌<◌, List, [], ◌∷◌, ◌++◌, length, take, get_or, sym, ap, ◌∙◌, arith, length-append}
+use Rattle.std.proofs.lemmas.List.{get_or-map, length-map, take-map, take_more}
 use Rattle.std.proofs.lemmas.List.Folds.{length-flat_map-take}
 use Rattle.word_diff.specs.declared.part.Kind.TheVariants.{Kept}
 use Rattle.word_diff.specs.declared.part.Part.{Part}
@@ -29,16 +29,28 @@ grown parts i lt =
     let bs = all_bytes (spans parts) in
     let more : take (i + 1) bs ≡ take i bs ++ get_or bs i [] ∷ [] = take_more bs i [] (omega (arith, bytes_len parts)) in
     let parted = ap joined (bytes_take parts (i + 1) ∙ more) ∙ joined-append (take i bs) (get_or bs i [] ∷ []) in
-    omega (arith, ap length parted, length-append (joined (take i bs)) (get_or bs i [] ++ []), length-append (get_or bs i []) [],
-    ap length (ap joined (bytes_take parts i)), ap length (bytes_at parts i lt))
+    omega (
+      arith,
+      ap length parted,
+      length-append (joined (take i bs)) (get_or bs i [] ++ []),
+      length-append (get_or bs i []) [],
+      ap length (ap joined (bytes_take parts i)),
+      ap length (bytes_at parts i lt),
+    )
 
 pub overflow_add-total : goal.overflow_add-total
 overflow_add-total c =
     let parts = c.args.parts.now in
     let bs = all_bytes (spans parts) in
     let i = c.loop-part.part-index in
-    omega (arith, c.requires, c.loop-part.invariant, ap length (ap joined (bytes_take parts i)), ap length (bytes_at parts i c.loop-part-test.true),
-    length-flat_map-take (λ (text : List ℕ). text) bs i [] (omega (arith, bytes_len parts, c.loop-part-test.true)))
+    omega (
+      arith,
+      c.requires,
+      c.loop-part.invariant,
+      ap length (ap joined (bytes_take parts i)),
+      ap length (bytes_at parts i c.loop-part-test.true),
+      length-flat_map-take (λ (text : List ℕ). text) bs i [] (omega (arith, bytes_len parts, c.loop-part-test.true)),
+    )
 
 pub loop-part-preserved : goal.loop-part-preserved
 loop-part-preserved c =

@@ -1,7 +1,6 @@
 use Rattle.std.proofs.Common.{◌≡◌, ℕ, ◌+◌, ◌-◌, ◌<◌, ◌≤◌, Bool, true, false, List, [], ◌∷◌, ◌++◌, length, take, drop, get_or, sym, ap, ◌∙◌, subst, arith, refl, inl, inr, ◌⊎◌, Bor}
 use Rattle.std.proofs.lemmas.List.{map_push}
 use Rattle.std.proofs.lemmas.Result.{on_ok_weaker}
-use Rattle.word_diff.specs.declared.part.Kind.{Kind}
 use Rattle.word_diff.specs.declared.part.Kind.TheVariants.{Kept, Removed, Added}
 use Rattle.word_diff.specs.declared.part.Part.{Part}
 use Rattle.word_diff.specs.Parts.{Span, span, spans}
@@ -69,8 +68,8 @@ loop-i-preserved c =
 pub returns : goal.returns
 returns c =
     let over : (length (texts c.args.old.now) ≤ c.loop-i.i) ⊎ (length (texts c.args.new.now) ≤ c.loop-i.j) = elim c.loop-i-test.branch [
-      then-loop-i-test+else-j-new_len w ↦ inr (omega (arith, w.if-j-new_len.false, length-texts c.args.new.now))
-    | else-loop-i-test w ↦ inl (omega (arith, w.loop-i-test.false, length-texts c.args.old.now))
+      | then-loop-i-test+else-j-new_len w ↦ inr (omega (arith, w.if-j-new_len.false, length-texts c.args.new.now))
+      | else-loop-i-test w ↦ inl (omega (arith, w.loop-i-test.false, length-texts c.args.old.now))
     ] in
     let old = c.args.old.now in
     let new = c.args.new.now in

@@ -1,4 +1,4 @@
-use Rattle.std.proofs.Common.{◌+◌, ◌-◌, ◌≤◌, length}
+use Rattle.std.proofs.Common.{◌+◌, ◌-◌}
 use Rattle.word_diff.specs.Parts.{spans}
 use Rattle.word_diff.specs.Words.{texts}
 use Rattle.word_diff.proofs.Walks.{Walked}

@@ -1,12 +1,10 @@
-use Rattle.std.proofs.Common.{◌≡◌, ◌≤◌, ◌<◌, ℕ, List, [], Bor, length, sym, ap, ◌∙◌, subst, arith}
-use Rattle.std.specs.Prelude.{max}
+use Rattle.std.proofs.Common.{◌≡◌, List, [], sym, ap, subst, arith}
 use Rattle.std.specs.Global.{Vec}
 use Rattle.std.proofs.lemmas.List.Sums.{common_prefix_len-le}
-use Rattle.word_diff.specs.declared.part.Kind.TheVariants.{Kept, Removed, Added}
+use Rattle.word_diff.specs.declared.part.Kind.TheVariants.{Kept, Added}
 use Rattle.word_diff.specs.declared.part.Part.{Part}
-use Rattle.word_diff.specs.declared.table.TheConstants.{MAX_WORDS}
 use Rattle.word_diff.specs.Parts.{Span, spans}
-use Rattle.word_diff.specs.Steps.{AddsEach, AddsLongest, Compares}
+use Rattle.word_diff.specs.Steps.{AddsEach, AddsLongest}
 use Rattle.word_diff.specs.Words.{same_word, texts}
 use Rattle.word_diff.proofs.EndLemmas.{length-texts, end_len-le}
 use Rattle.word_diff.proofs.StepLemmas.{Cut, cut_is, compares_longest, compares_ends}
@@ -50,18 +48,18 @@ returns c =
     let none : spans c.new-steps.result.items ≡ [] = ap spans c.new-steps.ensures.items in
     let first : AddsEach [] a Kept (texts front) = subst (λ (l : List Span). AddsEach l a Kept (texts front)) none c.in_ok-push_each.ensures in
     elim c.if-max-le-MAX_WORDS.branch [
-      then-max-le-MAX_WORDS+in_ok-push_longest w ↦
-    let b = spans c.if-max-le-MAX_WORDS.steps.items in
-    let middle : AddsLongest a b (texts left) (texts right) =
-    subst (λ (v : Vec Part). AddsLongest a (spans v.items) (texts left) (texts right)) (sym w.steps-is) w.in_ok-push_longest.ensures in
-    compares_longest a b done (texts old) (texts new) (texts front) (texts left) (texts right) (texts end) cut.framed first middle c.in_ok-push_each-4.ensures
-    (omega (arith, c.max.ensures, w.if-max-le-MAX_WORDS.true, length-texts old, length-texts new))
-    | else-max-le-MAX_WORDS+in_ok-push_each-2+in_ok-push_each-3 w ↦
-    let b = spans w.push_each-else-max-le-MAX_WORDS.new.steps.items in
-    let d = spans c.if-max-le-MAX_WORDS.steps.items in
-    let added : AddsEach b d Added (texts right) =
-    subst (λ (v : Vec Part). AddsEach b (spans v.items) Added (texts right)) (sym w.steps-is) w.in_ok-push_each-3.ensures in
-    compares_ends a b d done (texts old) (texts new) (texts front) (texts left) (texts right) (texts end) cut.framed cut.ends first
-    w.in_ok-push_each-2.ensures added c.in_ok-push_each-4.ensures
-    (omega (arith, c.max.ensures, w.if-max-le-MAX_WORDS.false, length-texts old, length-texts new))
+      | then-max-le-MAX_WORDS+in_ok-push_longest w ↦
+          let b = spans c.if-max-le-MAX_WORDS.steps.items in
+          let middle : AddsLongest a b (texts left) (texts right) =
+          subst (λ (v : Vec Part). AddsLongest a (spans v.items) (texts left) (texts right)) (sym w.steps-is) w.in_ok-push_longest.ensures in
+          compares_longest a b done (texts old) (texts new) (texts front) (texts left) (texts right) (texts end) cut.framed first middle c.in_ok-push_each-4.ensures
+          (omega (arith, c.max.ensures, w.if-max-le-MAX_WORDS.true, length-texts old, length-texts new))
+      | else-max-le-MAX_WORDS+in_ok-push_each-2+in_ok-push_each-3 w ↦
+          let b = spans w.push_each-else-max-le-MAX_WORDS.new.steps.items in
+          let d = spans c.if-max-le-MAX_WORDS.steps.items in
+          let added : AddsEach b d Added (texts right) =
+          subst (λ (v : Vec Part). AddsEach b (spans v.items) Added (texts right)) (sym w.steps-is) w.in_ok-push_each-3.ensures in
+          compares_ends a b d done (texts old) (texts new) (texts front) (texts left) (texts right) (texts end) cut.framed cut.ends first
+          w.in_ok-push_each-2.ensures added c.in_ok-push_each-4.ensures
+          (omega (arith, c.max.ensures, w.if-max-le-MAX_WORDS.false, length-texts old, length-texts new))
     ]

@@ -1,4 +1,4 @@
-use Rattle.std.proofs.Common.{◌≡◌, ℕ, ◌+◌, ◌-◌, ◌<◌, ◌≤◌, Bool, true, false, List, [], ◌∷◌, ◌++◌, length, drop, get_or, sym, ap, ◌∙◌, arith, Bor, length-drop}
+use Rattle.std.proofs.Common.{◌≡◌, ℕ, ◌+◌, ◌-◌, ◌<◌, Bool, true, false, List, [], ◌∷◌, ◌++◌, length, drop, get_or, sym, ap, ◌∙◌, arith, Bor, length-drop}
 use Rattle.std.specs.Prelude.{max}
 use Rattle.std.proofs.lemmas.List.{get_or_read, drop_all}
 use Rattle.word_diff.specs.Table.{common_len, row_of}
@@ -33,8 +33,14 @@ overflow_add-longest c =
     let xs = drop 1 (texts c.args.old.now) in
     let ys = texts c.args.new.now in
     let k = c.loop-k.k in
-    omega (arith, ap (λ (l : List ℕ). get_or l k 0) c.requires.below_is, row_of-at xs ys k (omega (arith, length-texts c.args.new.now)),
-    common_len-le xs (drop (length ys - k) ys), length-drop 1 (texts c.args.old.now), length-texts c.args.old.now)
+    omega (
+      arith,
+      ap (λ (l : List ℕ). get_or l k 0) c.requires.below_is,
+      row_of-at xs ys k (omega (arith, length-texts c.args.new.now)),
+      common_len-le xs (drop (length ys - k) ys),
+      length-drop 1 (texts c.args.old.now),
+      length-texts c.args.old.now,
+    )
 
 pub bounds-below-k-else-eq : goal.bounds-below-k-else-eq
 bounds-below-k-else-eq c = omega (arith, below_len _ c.args.new.now c.args.below.now c.requires.below_is)
@@ -55,15 +61,15 @@ loop-k-preserved c =
     let lt : k < length ys = omega (arith, length-texts new) in
     let some : 0 < length xs = omega (arith, length-texts old, c.requires.some) in
     let longest : c.if-eq.longest ≡ common_len xs (drop (length ys - (k + 1)) ys) = elim c.if-eq.branch [
-      then-eq w ↦ w.longest-is ∙ ap (λ (l : List ℕ). get_or l k 0 + 1) c.requires.below_is
-    ∙ entry_same xs ys k some lt (tested old new k true c.requires.some c.loop-k-test.true (sym c.eq.ensures ∙ w.if-eq.true))
-    | else-eq w ↦
-    let end = drop (length ys - k) ys in
-    let last : w.index.result.now ≡ get_or (row_of xs end) k 0 =
-    get_or_read c.loop-k.row.items k w.index.result.now
-    (omega (arith, ap length c.loop-k.invariant, length-row_of xs end, length-drop (length ys - k) ys)) w.index.ensures 0
-    ∙ ap (λ (l : List ℕ). get_or l k 0) c.loop-k.invariant in
-    w.longest-is ∙ w.max-longest.ensures ∙ (λ i. max (get_or (c.requires.below_is i) (k + 1) 0) (last i))
-    ∙ entry_other xs ys k some lt (tested old new k false c.requires.some c.loop-k-test.true (sym c.eq.ensures ∙ w.if-eq.false))
+      | then-eq w ↦ w.longest-is ∙ ap (λ (l : List ℕ). get_or l k 0 + 1) c.requires.below_is
+          ∙ entry_same xs ys k some lt (tested old new k true c.requires.some c.loop-k-test.true (sym c.eq.ensures ∙ w.if-eq.true))
+      | else-eq w ↦
+          let end = drop (length ys - k) ys in
+          let last : w.index.result.now ≡ get_or (row_of xs end) k 0 =
+          get_or_read c.loop-k.row.items k w.index.result.now
+          (omega (arith, ap length c.loop-k.invariant, length-row_of xs end, length-drop (length ys - k) ys)) w.index.ensures 0
+          ∙ ap (λ (l : List ℕ). get_or l k 0) c.loop-k.invariant in
+          w.longest-is ∙ w.max-longest.ensures ∙ (λ i. max (get_or (c.requires.below_is i) (k + 1) 0) (last i))
+          ∙ entry_other xs ys k some lt (tested old new k false c.requires.some c.loop-k-test.true (sym c.eq.ensures ∙ w.if-eq.false))
     ] in
     c.in_ok-push-2.ensures.items ∙ (λ i. c.loop-k.invariant i ++ longest i ∷ []) ∙ sym (row_more xs ys k lt)

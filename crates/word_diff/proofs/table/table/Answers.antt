@@ -1,4 +1,4 @@
-use Rattle.std.proofs.Common.{◌≡◌, ℕ, ◌+◌, ◌-◌, ◌<◌, List, [], ◌∷◌, ◌++◌, length, take, drop, get_or, map, sym, ap, ◌∙◌, arith, Bor, length-drop, replicate}
+use Rattle.std.proofs.Common.{◌≡◌, ℕ, ◌+◌, ◌-◌, ◌<◌, List, [], ◌∷◌, ◌++◌, length, take, drop, get_or, sym, ap, ◌∙◌, arith, Bor, length-drop, replicate}
 use Rattle.std.specs.Global.{Vec}
 use Rattle.std.proofs.lemmas.List.{length-map, drop-drop, drop_all, map_push}
 use Rattle.word_diff.specs.Table.{row_of, rows, table_of}
@@ -10,17 +10,29 @@ use Rattle.word_diff.proofs.table.table.Goals as goal
 row_count : (old new : List (Bor (List ℕ))) (list : List (Vec ℕ)) (k : ℕ) → k < length old
     → rows list ≡ table_of (drop (length (texts old) - k) (texts old)) (texts new) → length list ≡ k + 1
 row_count old new list k lt is =
-    omega (arith, ap length is, length-map list (λ (row : Vec ℕ). row.items), length-table_of (drop (length (texts old) - k) (texts old)) (texts new),
-    length-drop (length (texts old) - k) (texts old), length-texts old)
+    omega (
+      arith,
+      ap length is,
+      length-map list (λ (row : Vec ℕ). row.items),
+      length-table_of (drop (length (texts old) - k) (texts old)) (texts new),
+      length-drop (length (texts old) - k) (texts old),
+      length-texts old,
+    )
+
+-- one row of zeros is the table for no words
+first_rows : (xs ys : List (List ℕ)) (list before : List (Vec ℕ)) (row : Vec ℕ) → list ≡ before ++ row ∷ [] → before ≡ []
+    → row.items ≡ replicate (length ys + 1) 0 → rows list ≡ table_of (drop (length xs - 0) xs) ys
+first_rows xs ys list before row is none zeros =
+    ap rows (is ∙ ap (λ (l : List (Vec ℕ)). l ++ row ∷ []) none)
+    ∙ ap (λ (r : List ℕ). r ∷ []) (zeros ∙ sym (row_of-none ys))
+    ∙ sym (ap (λ (l : List (List ℕ)). table_of l ys) (drop_all (length xs - 0) xs (omega arith)) ∙ table_of-nil ys)
 
 pub loop-k-init : goal.loop-k-init
 loop-k-init c =
-    let xs = texts c.args.old.now in
-    let ys = texts c.args.new.now in
-    ap {B = List (List ℕ)} rows (c.in_ok-push.ensures.items ∙ ap (λ (l : List (Vec ℕ)). l ++ c.in_ok-vec.field-0 ∷ []) c.in_ok-rows.ensures.items)
-    ∙ ap (λ (row : List ℕ). row ∷ []) (c.in_ok-vec.ensures.items_if_clones_equal (λ y e. e)
-    ∙ ap (λ (n : ℕ). replicate (n + 1) 0) (sym (length-texts c.args.new.now)) ∙ sym (row_of-none ys))
-    ∙ sym (ap (λ (l : List (List ℕ)). table_of l ys) (drop_all (length xs - 0) xs (omega arith)) ∙ table_of-nil ys)
+    let zeros : c.in_ok-vec.field-0.items ≡ replicate (length (texts c.args.new.now) + 1) 0 =
+    c.in_ok-vec.ensures.items_if_clones_equal (λ y e. e) ∙ ap (λ (n : ℕ). replicate (n + 1) 0) (sym (length-texts c.args.new.now)) in
+    first_rows (texts c.args.old.now) (texts c.args.new.now) c.push.new.self.items c.in_ok-rows.rows.items c.in_ok-vec.field-0
+    c.in_ok-push.ensures.items c.in_ok-rows.ensures.items zeros
 
 pub index-requires : goal.index-requires
 index-requires c =

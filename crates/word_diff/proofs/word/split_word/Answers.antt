@@ -1,4 +1,4 @@
-use Rattle.std.proofs.Common.{◌≡◌, ◌≢◌, ◌==◌, ◌++◌, false, length, take, drop, get_or, sym, ap, ◌∙◌, subst, eqb-true, take-append-drop}
+use Rattle.std.proofs.Common.{◌++◌, take, get_or, sym, ap, ◌∙◌, subst, eqb-true, take-append-drop}
 use Rattle.std.specs.List.{prefix_len}
 use Rattle.std.specs.Str.{IsCharBoundary}
 use Rattle.usfm_ref.specs.Numbers.{is_blank}
