@@ -83,7 +83,8 @@ end_of xs n le =
     let back = reverse xs in
     let parts : xs ≡ reverse (drop n back) ++ reverse (take n back) =
     sym (reverse-reverse xs) ∙ ap reverse (sym (take-append-drop n back)) ∙ reverse-append (take n back) (drop n back) in
-    let len : length (reverse (drop n back)) ≡ length xs - n = length-reverse (drop n back) ∙ length-drop n back ∙ ap (λ (k : ℕ). k - n) (length-reverse xs) in
+    let len : length (reverse (drop n back)) ≡ length xs - n = length-reverse (drop n back) ∙ length-drop n back
+    ∙ ap (λ (k : ℕ). k - n) (length-reverse xs) in
     ap (drop (length xs - n)) parts ∙ drop_at (reverse (drop n back)) (reverse (take n back)) (length xs - n) len
 
 -- the common end is no longer than either

@@ -57,7 +57,8 @@ run_by p k s ss n true h is =
 run_by p k s ss n false h is = nothing (p k)
 
 -- on each side the texts of a run are all of it, or none
-run_texts : (p : Kind → Bool) (k : Kind) (ss : List Span) → texts_of p (take (run_of k ss) ss) ≡ cond (p k) (all_bytes (take (run_of k ss) ss)) []
+run_texts : (p : Kind → Bool) (k : Kind) (ss : List Span) → texts_of p (take (run_of k ss) ss) ≡ cond (p k) (all_bytes (take
+    (run_of k ss) ss)) []
 run_texts p k [] = nothing (p k)
 run_texts p k (s ∷ ss) = run_by p k s ss (run_of k ss) (same_kind s.kind k) refl (run_texts p k ss)
 
@@ -154,12 +155,16 @@ joining_none steps old new old_are new_are ordered = record {
 }
 
 -- and all is joined where no steps are left
-pub joining_all : (parts rest steps : List Span) (old new old_rest new_rest : List ℕ) → rest ≡ [] → Joining parts rest steps old new old_rest new_rest
+pub joining_all : (parts rest steps : List Span) (old new old_rest new_rest : List ℕ) → rest ≡ []
+    → Joining parts rest steps old new old_rest new_rest
     → Joins parts steps
 joining_all parts rest steps old new old_rest new_rest none j = record {
-  old = sym (append-nil (words_by is_old parts)) ∙ ap (λ (l : List Span). words_by is_old parts ++ texts_of is_old l) (sym none) ∙ j.old_words;
-  new = sym (append-nil (words_by is_new parts)) ∙ ap (λ (l : List Span). words_by is_new parts ++ texts_of is_new l) (sym none) ∙ j.new_words;
-  kept = sym (append-nil (words_by is_kept parts)) ∙ ap (λ (l : List Span). words_by is_kept parts ++ texts_of is_kept l) (sym none) ∙ j.kept_words;
+  old = sym (append-nil (words_by is_old parts)) ∙ ap (λ (l : List Span). words_by is_old parts ++ texts_of is_old l) (sym none)
+      ∙ j.old_words;
+  new = sym (append-nil (words_by is_new parts)) ∙ ap (λ (l : List Span). words_by is_new parts ++ texts_of is_new l) (sym none)
+      ∙ j.new_words;
+  kept = sym (append-nil (words_by is_kept parts)) ∙ ap (λ (l : List Span). words_by is_kept parts ++ texts_of is_kept l) (sym none)
+      ∙ j.kept_words;
   apart = j.apart;
 }
 
@@ -214,7 +219,8 @@ left_by p k rest left is = is ∙ ap joined (rest_texts p k rest)
 
 -- what comes after a run is a text
 pub side_utf8 : (p : Kind → Bool) (k : Kind) (parts rest steps : List Span) (text after : List ℕ) → texts_of p steps ≡ words_of text
-    → words_by p parts ++ texts_of p rest ≡ texts_of p steps → IsUtf8 text → after ≡ joined (texts_of p (drop (run_of k rest) rest)) → IsUtf8 after
+    → words_by p parts ++ texts_of p rest ≡ texts_of p steps → IsUtf8 text → after ≡ joined (texts_of p (drop (run_of k rest) rest))
+    → IsUtf8 after
 side_utf8 p k parts rest steps text after are so_far utf8 is =
     let B = cond (p k) (all_bytes (take (run_of k rest) rest)) [] in
     let A = texts_of p (drop (run_of k rest) rest) in
@@ -227,5 +233,6 @@ pub side_boundary : (p : Kind → Bool) (k : Kind) (parts rest steps : List Span
     → left ≡ joined (texts_of p rest) → texts_of p steps ≡ words_of text → words_by p parts ++ texts_of p rest ≡ texts_of p steps
     → IsUtf8 text → IsUtf8 left → IsCharBoundary left (cond (p k) (length (joined (all_bytes (take (run_of k rest) rest)))) 0)
 side_boundary p k parts rest steps text left is are so_far utf8 left_utf8 =
-    boundary_by (p k) (all_bytes (take (run_of k rest) rest)) (texts_of p (drop (run_of k rest) rest)) left (left_by p k rest left is) left_utf8
+    boundary_by (p k) (all_bytes (take (run_of k rest) rest)) (texts_of p (drop (run_of k rest) rest)) left
+    (left_by p k rest left is) left_utf8
     (side_utf8 p k parts rest steps text _ are so_far utf8 refl)

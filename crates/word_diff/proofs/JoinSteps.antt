@@ -53,14 +53,16 @@ run_first : (r : Span) (rs : List Span) → run_bytes r.kind (r ∷ rs) ≡ r.by
 run_first r rs = ap (λ (n : ℕ). all_bytes (take n (r ∷ rs))) (run_some r rs)
 
 -- a run is joined
-pub join_step : (r : Span) (rs parts steps : List Span) (old new old_rest new_rest old_after new_after : List ℕ) (x : Span) → OfTexts steps old new
+pub join_step : (r : Span) (rs parts steps : List Span) (old new old_rest new_rest old_after new_after : List ℕ) (x : Span)
+    → OfTexts steps old new
     → Joining parts (r ∷ rs) steps old new old_rest new_rest → x.kind ≡ r.kind → x.bytes ≡ joined (run_bytes r.kind (r ∷ rs))
     → old_after ≡ joined (texts_of is_old (drop (run_of r.kind (r ∷ rs)) (r ∷ rs)))
     → new_after ≡ joined (texts_of is_new (drop (run_of r.kind (r ∷ rs)) (r ∷ rs)))
     → Joining (parts ++ x ∷ []) (drop (run_of r.kind (r ∷ rs)) (r ∷ rs)) steps old new old_after new_after
 join_step r rs parts steps old new old_rest new_rest old_after new_after x t j kind bytes old_is new_is =
     let rest = r ∷ rs in
-    let words : words_of x.bytes ≡ run_bytes r.kind rest = ap words_of bytes ∙ joined_words r.kind parts rest steps old new old_rest new_rest t j in
+    let words : words_of x.bytes ≡ run_bytes r.kind rest = ap words_of bytes
+    ∙ joined_words r.kind parts rest steps old new old_rest new_rest t j in
     let some : 0 < length x.bytes = some_bytes x.bytes r.bytes _ (words ∙ run_first r rs) in record {
       old_words = side_step is_old r.kind parts rest steps x kind words j.old_words;
       new_words = side_step is_new r.kind parts rest steps x kind words j.new_words;
@@ -74,8 +76,10 @@ join_step r rs parts steps old new old_rest new_rest old_after new_after x t j k
     }
 
 -- the same, where the steps that are left begin with that one
-pub join_run : (r : Span) (rs rest parts steps : List Span) (old new old_rest new_rest old_after new_after : List ℕ) (x : Span) → rest ≡ r ∷ rs
-    → OfTexts steps old new → Joining parts rest steps old new old_rest new_rest → x.kind ≡ r.kind → x.bytes ≡ joined (run_bytes r.kind rest)
+pub join_run : (r : Span) (rs rest parts steps : List Span) (old new old_rest new_rest old_after new_after : List ℕ) (x : Span)
+    → rest ≡ r ∷ rs
+    → OfTexts steps old new → Joining parts rest steps old new old_rest new_rest → x.kind ≡ r.kind
+    → x.bytes ≡ joined (run_bytes r.kind rest)
     → old_after ≡ joined (texts_of is_old (drop (run_of r.kind rest) rest))
     → new_after ≡ joined (texts_of is_new (drop (run_of r.kind rest) rest))
     → Joining (parts ++ x ∷ []) (drop (run_of r.kind rest) rest) steps old new old_after new_after
@@ -100,7 +104,8 @@ lent_is k rest old_rest new_rest old_text new_text text a b old_left new_left a_
     let first = cut_by (is_old k) B (texts_of is_old (drop (run_of k rest) rest)) old_rest (left_by is_old k rest old_rest old_left) in
     let second = cut_by (is_new k) B (texts_of is_new (drop (run_of k rest) rest)) new_rest (left_by is_new k rest new_rest new_left) in
     text_is
-    ∙ (λ i. cond (is_old k) ((old_is ∙ ap (λ (n : ℕ). take n old_rest) a_is ∙ first.0) i) ((new_is ∙ ap (λ (n : ℕ). take n new_rest) b_is ∙ second.0) i))
+    ∙ (λ i. cond (is_old k) ((old_is ∙ ap (λ (n : ℕ). take n old_rest) a_is ∙ first.0) i) ((new_is
+    ∙ ap (λ (n : ℕ). take n new_rest) b_is ∙ second.0) i))
     ∙ chosen_by k (joined B)
 
 -- and what is left of a side is what comes after it
@@ -121,14 +126,20 @@ run_at k steps at = ap (prefix_len (λ (part : Part). same_kind part.kind k)) (t
 -- no more than there are
 pub run_within : (k : Kind) (steps : List Part) (at : ℕ) → at ≤ length steps → at + run_of k (spans (drop at steps)) ≤ length steps
 run_within k steps at le =
-    omega (arith, prefix_len-le-length (λ (s : Span). same_kind s.kind k) (spans (drop at steps)), length-map (drop at steps) span, length-drop at steps)
+    omega (
+      arith,
+      prefix_len-le-length (λ (s : Span). same_kind s.kind k) (spans (drop at steps)),
+      length-map (drop at steps) span,
+      length-drop at steps,
+    )
 
 -- the run there
 pub run_part : (k : Kind) (steps : List Part) (at n : ℕ) → n ≡ run_of k (spans (drop at steps))
     → all_bytes (spans (take (at + n - at) (drop at steps))) ≡ run_bytes k (spans (drop at steps))
 run_part k steps at n is =
     let len : at + n - at ≡ n = omega arith in
-    ap (λ (m : ℕ). all_bytes (spans (take m (drop at steps)))) (len ∙ is) ∙ ap all_bytes (sym (take-map span (run_of k (spans (drop at steps))) (drop at steps)))
+    ap (λ (m : ℕ). all_bytes (spans (take m (drop at steps)))) (len ∙ is)
+    ∙ ap all_bytes (sym (take-map span (run_of k (spans (drop at steps))) (drop at steps)))
 
 -- what follows the run
 pub run_after : (k : Kind) (steps : List Part) (at n : ℕ) → n ≡ run_of k (spans (drop at steps))

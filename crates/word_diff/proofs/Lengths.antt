@@ -32,7 +32,8 @@ by_test : (x y : List ℕ) (xs ys : List (List ℕ)) (n left right : ℕ) (b : B
 by_test x y xs ys n left right true is both skip_x skip_y =
     let same : x ≡ y = same_text x y is in
     let one : 1 + n ≡ n + 1 = omega arith in
-    subst (λ (w : List ℕ). AtMost (x ∷ xs) (w ∷ ys) (n + 1)) same (subst (AtMost (x ∷ xs) (x ∷ ys)) one (at_most-front (x ∷ []) xs ys n both))
+    subst (λ (w : List ℕ). AtMost (x ∷ xs) (w ∷ ys) (n + 1)) same (subst (AtMost (x ∷ xs) (x ∷ ys)) one (at_most-front
+    (x ∷ []) xs ys n both))
 by_test x y xs ys n left right false is both skip_x skip_y = record {
   bound = λ zs h k.
       ⊎_elim (λ skipped. omega (arith, skip_x.bound zs skipped k))
@@ -57,7 +58,8 @@ unfolding common_len
 common_len-most [] ys = none_left ys
 common_len-most (x ∷ xs) ys = row_most x xs (common_len-most xs) ys
 
-row_grows : (x : List ℕ) (f : List (List ℕ) → ℕ) → ((y : List ℕ) (ys : List (List ℕ)) → f ys ≤ f (y ∷ ys)) → (ys : List (List ℕ)) → row_len x f ys ≤ f ys + 1
+row_grows : (x : List ℕ) (f : List (List ℕ) → ℕ) → ((y : List ℕ) (ys : List (List ℕ)) → f ys ≤ f (y ∷ ys)) → (ys : List (List ℕ))
+    → row_len x f ys ≤ f ys + 1
 unfolding row_len
 row_grows x f grows [] = omega arith
 row_grows x f grows (y ∷ ys) = elim (same_word x y) as (λ b. cond b (f ys + 1) (max (f (y ∷ ys)) (row_len x f ys)) ≤ f (y ∷ ys) + 1) [
@@ -69,7 +71,8 @@ row_grows x f grows (y ∷ ys) = elim (same_word x y) as (λ b. cond b (f ys + 1
 pub common_len-grows : (xs : List (List ℕ)) (y : List ℕ) (ys : List (List ℕ)) → common_len xs ys ≤ common_len xs (y ∷ ys)
 unfolding common_len row_len
 common_len-grows [] y ys = omega arith
-common_len-grows (x ∷ xs) y ys = elim (same_word x y) as (λ b. row_len x (common_len xs) ys ≤ cond b (common_len xs ys + 1) (max (common_len xs (y ∷ ys)) (row_len x (common_len xs) ys))) [
-  | true ↦ row_grows x (common_len xs) (common_len-grows xs) ys
-  | false ↦ omega arith
-]
+common_len-grows (x ∷ xs) y ys = elim (same_word x y) as (λ b. row_len x (common_len xs) ys ≤ cond b (common_len xs ys + 1) (max
+    (common_len xs (y ∷ ys)) (row_len x (common_len xs) ys))) [
+      | true ↦ row_grows x (common_len xs) (common_len-grows xs) ys
+      | false ↦ omega arith
+    ]

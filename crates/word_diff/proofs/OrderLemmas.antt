@@ -62,7 +62,8 @@ at_last_each P k h (w ∷ []) = h
 at_last_each P k h (w ∷ v ∷ ws) = at_last_each P k h (v ∷ ws)
 
 -- one step more that may come next
-pub ordered_push : (ss : List Span) (x : Span) → AreOrdered ss → AtLast (λ (k : Kind). may_stand k x.kind ≡ true) ss → AreOrdered (ss ++ x ∷ [])
+pub ordered_push : (ss : List Span) (x : Span) → AreOrdered ss → AtLast (λ (k : Kind). may_stand k x.kind ≡ true) ss
+    → AreOrdered (ss ++ x ∷ [])
 ordered_push [] x are last = (tt, tt)
 ordered_push (s ∷ []) x are last = (last, (tt, tt))
 ordered_push (s ∷ t ∷ ss) x are last = (are.0, ordered_push (t ∷ ss) x are.1 last)

@@ -14,7 +14,8 @@ one_more false w ss ts = refl
 pub texts_of-append : (p : Kind → Bool) (ss ts : List Span) → texts_of p (ss ++ ts) ≡ texts_of p ss ++ texts_of p ts
 texts_of-append p [] ts = refl
 texts_of-append p (a ∷ ss) ts =
-    ap (λ (l : List (List ℕ)). cond (p a.kind) (a.bytes ∷ l) l) (texts_of-append p ss ts) ∙ one_more (p a.kind) a.bytes (texts_of p ss) (texts_of p ts)
+    ap (λ (l : List (List ℕ)). cond (p a.kind) (a.bytes ∷ l) l) (texts_of-append p ss ts)
+    ∙ one_more (p a.kind) a.bytes (texts_of p ss) (texts_of p ts)
 
 -- one part more
 pub texts_of-push : (p : Kind → Bool) (items : List Part) (part : Part)
@@ -40,4 +41,5 @@ texts_of-each p kind (w ∷ ws) =
 pub each_texts : {before now : List Span} {kind : Kind} {ws : List (List ℕ)} → AddsEach before now kind ws → (p : Kind → Bool)
     → texts_of p now ≡ texts_of p before ++ cond (p kind) ws []
 each_texts {before} {now} {kind} {ws} added p =
-    ap (texts_of p) added.now_is ∙ texts_of-append p before (each kind ws) ∙ ap (λ (l : List (List ℕ)). texts_of p before ++ l) (texts_of-each p kind ws)
+    ap (texts_of p) added.now_is ∙ texts_of-append p before (each kind ws)
+    ∙ ap (λ (l : List (List ℕ)). texts_of p before ++ l) (texts_of-each p kind ws)

@@ -99,7 +99,8 @@ last_row xs ys k le =
     table_of-at end ys k (omega arith) ∙ ap (λ (n : ℕ). row_of (drop n end) ys) none
 
 -- the end with one word more
-pub end_more : (ys : Words) (k : ℕ) → k < length ys → drop (length ys - (k + 1)) ys ≡ get_or ys (length ys - 1 - k) [] ∷ drop (length ys - k) ys
+pub end_more : (ys : Words) (k : ℕ) → k < length ys → drop (length ys - (k + 1)) ys ≡ get_or ys (length ys - 1 - k) [] ∷ drop
+    (length ys - k) ys
 end_more ys k lt =
     let here : length ys - 1 - k ≡ length ys - (k + 1) = omega arith in
     let next : length ys - (k + 1) + 1 ≡ length ys - k = omega arith in

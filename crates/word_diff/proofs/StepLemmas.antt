@@ -46,7 +46,8 @@ pub record Framed (xs ys front left right end : Words) : Type 0 where
   pub old : xs ≡ front ++ (left ++ end)
   pub new : ys ≡ front ++ (right ++ end)
 
-framed_at : (xs : Words) (n e : ℕ) → xs ≡ take n xs ++ (take (length (drop n xs) - e) (drop n xs) ++ drop (length (drop n xs) - e) (drop n xs))
+framed_at : (xs : Words) (n e : ℕ) → xs ≡ take n xs ++ (take (length (drop n xs) - e) (drop n xs) ++ drop (length (drop n xs) - e)
+    (drop n xs))
 framed_at xs n e = sym
     (ap (λ (l : Words). take n xs ++ l) (take-append-drop (length (drop n xs) - e) (drop n xs)) ∙ take-append-drop n xs)
 
@@ -106,7 +107,13 @@ longest_kept a b c xs ys front left right end f first middle last other common =
     at_most-front front (left ++ end) (right ++ end) (common_len left right + length end)
     (at_most-back end left right (common_len left right) (common_len-most left right)) in
     let counted : length (texts_of is_kept c) ≡ length front + (common_len left right + length end) =
-    omega (arith, ap length (each_texts last is_kept), length-append (texts_of is_kept b) end, middle.kept, ap length (each_texts first is_kept)) in
+    omega (
+      arith,
+      ap length (each_texts last is_kept),
+      length-append (texts_of is_kept b) end,
+      middle.kept,
+      ap length (each_texts first is_kept),
+    ) in
     let le = most.bound other (subst (IsSubsequence other) f.old common.of_first) (subst (IsSubsequence other) f.new common.of_second) in
     omega (arith, le, counted)
 
@@ -115,11 +122,13 @@ pub ends_steps : (a b c d : List Span) (xs ys front left right end : Words) → 
     → AddsEach [] a Kept front → AddsEach a b Removed left → AddsEach b c Added right → AddsEach c d Kept end → AreSteps d xs ys
 ends_steps a b c d xs ys front left right end f first removed added last = record {
   old = each_texts last is_old
-      ∙ ap (λ (l : Words). l ++ end) (each_texts added is_old ∙ append-nil (texts_of is_old b) ∙ each_texts removed is_old ∙ ap (λ (l : Words). l ++ left) (each_texts first is_old))
+      ∙ ap (λ (l : Words). l ++ end) (each_texts added is_old ∙ append-nil (texts_of is_old b) ∙ each_texts removed is_old
+      ∙ ap (λ (l : Words). l ++ left) (each_texts first is_old))
       ∙ three front left end ∙ sym f.old;
   new = each_texts last is_new
       ∙ ap (λ (l : Words). l ++ end)
-      (each_texts added is_new ∙ ap (λ (l : Words). l ++ right) (each_texts removed is_new ∙ append-nil (texts_of is_new a) ∙ each_texts first is_new))
+      (each_texts added is_new ∙ ap (λ (l : Words). l ++ right) (each_texts removed is_new ∙ append-nil (texts_of is_new a)
+      ∙ each_texts first is_new))
       ∙ three front right end ∙ sym f.new;
 }
 
@@ -130,7 +139,8 @@ pub ends_kept : (a b c d : List Span) (front left right end : Words)
 ends_kept a b c d front left right end first removed added last =
     each_texts last is_kept
     ∙ ap (λ (l : Words). l ++ end)
-    (each_texts added is_kept ∙ append-nil (texts_of is_kept b) ∙ each_texts removed is_kept ∙ append-nil (texts_of is_kept a) ∙ each_texts first is_kept)
+    (each_texts added is_kept ∙ append-nil (texts_of is_kept b) ∙ each_texts removed is_kept ∙ append-nil (texts_of is_kept a)
+    ∙ each_texts first is_kept)
 
 -- the parts that a comparison cuts both lists into
 pub record Cut (old new front left right end : List (Bor (List ℕ))) : Type 0 where
@@ -140,7 +150,8 @@ pub record Cut (old new front left right end : List (Bor (List ℕ))) : Type 0 w
 -- the ends of what follows the front
 pub rests_are : (old new front rest new_rest : List (Bor (List ℕ))) (f : ℕ) → f ≡ front_len (texts old) (texts new)
     → length front ≡ f → rest ≡ drop f old → new_rest ≡ drop (length front) new
-    → (texts rest ≡ drop (front_len (texts old) (texts new)) (texts old)) × (texts new_rest ≡ drop (front_len (texts old) (texts new)) (texts new))
+    → (texts rest ≡ drop (front_len (texts old) (texts new)) (texts old)) × (texts new_rest ≡ drop (front_len (texts old) (texts new))
+    (texts new))
 rests_are old new front rest new_rest f f_is front_len rest_is new_rest_is = (
   ap texts rest_is ∙ texts-drop f old ∙ ap (λ (k : ℕ). drop k (texts old)) f_is,
   ap texts new_rest_is ∙ texts-drop (length front) new ∙ ap (λ (k : ℕ). drop k (texts new)) (front_len ∙ f_is),

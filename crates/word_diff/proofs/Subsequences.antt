@@ -39,7 +39,14 @@ pub sub_parted : (xs ys zs : Words) → IsSubsequence zs (xs ++ ys) → Parted z
 sub_parted [] ys zs h = record { front = []; back = zs; join = refl; of_front = refl; of_back = h }
 sub_parted (x ∷ xs) ys zs h = ⊎_elim
     (λ skipped. let p = sub_parted xs ys zs skipped in
-    let r : Parted zs (x ∷ xs) ys = record { front = p.front; back = p.back; join = p.join; of_front = inl p.of_front; of_back = p.of_back } in r)
+    let r : Parted zs (x ∷ xs) ys = record {
+      front = p.front;
+      back = p.back;
+      join = p.join;
+      of_front = inl p.of_front;
+      of_back =
+          p.of_back;
+    } in r)
     (λ (t : (rest : Words) × (zs ≡ x ∷ rest) × IsSubsequence rest (xs ++ ys)).
     let p = sub_parted xs ys t.0 t.2 in
     let r : Parted zs (x ∷ xs) ys = record {

@@ -67,7 +67,8 @@ walked_none before xs ys = record {
   };
 }
 
-taken_more : (before ws : Words) (now : Words) (i : ℕ) → i < length ws → now ≡ before ++ take i ws → now ++ get_or ws i [] ∷ [] ≡ before ++ take (i + 1) ws
+taken_more : (before ws : Words) (now : Words) (i : ℕ) → i < length ws → now ≡ before ++ take i ws
+    → now ++ get_or ws i [] ∷ [] ≡ before ++ take (i + 1) ws
 taken_more before ws now i lt is =
     ap (λ (l : Words). l ++ get_or ws i [] ∷ []) is ∙ append_assoc before (take i ws) (get_or ws i [] ∷ [])
     ∙ ap (λ (l : Words). before ++ l) (sym (take_more ws i [] lt))
@@ -95,7 +96,8 @@ walked_kept before now xs ys i j part w in_xs in_ys same kind bytes =
       in_old = omega arith;
       in_new = omega arith;
       old = old ∙ taken_more (texts_of is_old before) xs (texts_of is_old now) i in_xs w.old;
-      new = new ∙ ap (λ (x : List ℕ). texts_of is_new now ++ x ∷ []) equal ∙ taken_more (texts_of is_new before) ys (texts_of is_new now) j in_ys w.new;
+      new = new ∙ ap (λ (x : List ℕ). texts_of is_new now ++ x ∷ []) equal
+          ∙ taken_more (texts_of is_new before) ys (texts_of is_new now) j in_ys w.new;
       kept = omega (arith, w.kept, num, ap length kept, length-append (texts_of is_kept now) (get_or xs i [] ∷ []));
       order = λ are last. record {
         ordered = ordered_push now part (w.order are last).ordered
@@ -129,7 +131,8 @@ walked_removed before now xs ys i j part w in_xs in_ys other le kind bytes =
       order = λ are last. record {
         ordered = ordered_push now part (w.order are last).ordered
             (at_last_map _ (λ (k : Kind). may_stand k part.kind ≡ true)
-            (λ k lost. ap (may_stand k) kind ∙ may_by (may_stand k Removed) (λ other. let less = lost other in omega (arith, less, num, le)))
+            (λ k lost. ap (may_stand k) kind ∙ may_by (may_stand k Removed) (λ other. let less = lost other in
+            omega (arith, less, num, le)))
             now (w.order are last).last);
         last = at_last_push _ now part (λ other. not_added part.kind Removed _ kind refl other);
       };
@@ -176,7 +179,8 @@ none_left xs ys i j over = ⊎_elim
 
 rest_added : (before ws now : Words) (i : ℕ) → now ≡ before ++ take i ws → now ++ drop i ws ≡ before ++ ws
 rest_added before ws now i is =
-    ap (λ (l : Words). l ++ drop i ws) is ∙ append_assoc before (take i ws) (drop i ws) ∙ ap (λ (l : Words). before ++ l) (take-append-drop i ws)
+    ap (λ (l : Words). l ++ drop i ws) is ∙ append_assoc before (take i ws) (drop i ws)
+    ∙ ap (λ (l : Words). before ++ l) (take-append-drop i ws)
 
 -- where nothing is left of the old list, or nothing is left to be lost, what is removed may come last
 rest_ordered : (before now removed : List Span) (xs ys : Words) (i j : ℕ) → OrderedOn now xs ys i j
@@ -194,11 +198,18 @@ pub walked_all : (before now removed added : List Span) (xs ys : Words) (i j : �
     → (length xs ≤ i) ⊎ (length ys ≤ j) → AddsEach now removed Removed (drop i xs) → AddsEach removed added Added (drop j ys)
     → AddsLongest before added xs ys
 walked_all before now removed added xs ys i j w over r a = record {
-  old = each_texts a is_old ∙ append-nil (texts_of is_old removed) ∙ each_texts r is_old ∙ rest_added (texts_of is_old before) xs (texts_of is_old now) i w.old;
+  old = each_texts a is_old ∙ append-nil (texts_of is_old removed) ∙ each_texts r is_old
+      ∙ rest_added (texts_of is_old before) xs (texts_of is_old now) i w.old;
   new = each_texts a is_new
       ∙ ap (λ (l : Words). l ++ drop j ys) (each_texts r is_new ∙ append-nil (texts_of is_new now))
       ∙ rest_added (texts_of is_new before) ys (texts_of is_new now) j w.new;
-  kept = omega (arith, w.kept, none_left xs ys i j over, ap length (each_texts a is_kept ∙ append-nil (texts_of is_kept removed) ∙ each_texts r is_kept ∙ append-nil (texts_of is_kept now)));
+  kept = omega (
+    arith,
+    w.kept,
+    none_left xs ys i j over,
+    ap length (each_texts a is_kept ∙ append-nil (texts_of is_kept removed)
+        ∙ each_texts r is_kept ∙ append-nil (texts_of is_kept now)),
+  );
   ordered = λ are last. added_ordered removed added Added (drop j ys) a
       (rest_ordered before now removed xs ys i j (w.order are last) over r)
       (at_last_all (λ (k : Kind). may_stand k Added ≡ true) stand_added removed);

@@ -82,7 +82,8 @@ plain_not_blank b h = grind (arith, nat_tests)
 -- a word that stands before others is the first of the text that they make
 pub words_of-front : (w rest : List ℕ) → IsWord w rest → words_of (w ++ rest) ≡ w ∷ words_of rest
 words_of-front w rest is = ⊎_elim
-    (λ (is : IsLongestMark w rest). subst (λ (x : List ℕ). words_of (x ++ rest) ≡ x ∷ words_of rest) (sym is.1) (mark_read is.0 rest is.2 is.3))
+    (λ (is : IsLongestMark w rest). subst (λ (x : List ℕ). words_of (x ++ rest) ≡ x ∷ words_of rest) (sym is.1)
+    (mark_read is.0 rest is.2 is.3))
     (λ is. ⊎_elim
     (λ (is : IsLongestRun is_blank w rest). words_of-blanks (w ++ rest) rest w refl (omega (arith, length-append w rest, is.0))
     (ap is_blank (get_or_append_left w rest 0 0 is.0) ∙ is.1 0 is.0) (sym (run_read is_blank w rest is)))
@@ -100,7 +101,8 @@ words_reading (w ∷ ws) each = ap (λ r. w ∷ r) (words_reading ws each.1) ∙
 
 -- What is read are words.
 
-run_is : (p : ℕ → Bool) (b : ℕ) (bs : List ℕ) → p b ≡ true → IsLongestRun p (take_while p (b ∷ bs)) (drop (length (take_while p (b ∷ bs))) (b ∷ bs))
+run_is : (p : ℕ → Bool) (b : ℕ) (bs : List ℕ) → p b ≡ true → IsLongestRun p (take_while p (b ∷ bs)) (drop (length (take_while p
+    (b ∷ bs))) (b ∷ bs))
 run_is p b bs h =
     let n = prefix_len p (b ∷ bs) in
     let len : length (take_while p (b ∷ bs)) ≡ n = length-prefix_len p (b ∷ bs) in (
@@ -108,10 +110,12 @@ run_is p b bs h =
       (λ k lt. let below : k < n = omega arith in ap p (get_or-take n (b ∷ bs) k 0 below) ∙ prefix_len_passes p (b ∷ bs) k 0 below),
       (λ lt. let within : n < length (b ∷ bs) = omega (arith, length-drop (length (take_while p (b ∷ bs))) (b ∷ bs)) in
           let at : length (take_while p (b ∷ bs)) + 0 ≡ n = omega arith in
-          ap p (get_or-drop (length (take_while p (b ∷ bs))) (b ∷ bs) 0 0 ∙ ap (λ k. get_or (b ∷ bs) k 0) at) ∙ prefix_len_stops p (b ∷ bs) 0 within),
+          ap p (get_or-drop (length (take_while p (b ∷ bs))) (b ∷ bs) 0 0 ∙ ap (λ k. get_or (b ∷ bs) k 0) at)
+          ∙ prefix_len_stops p (b ∷ bs) 0 within),
     )
 
-mark_is : (b : ℕ) (bs : List ℕ) → (b == 92) ≡ true → IsLongestMark (mark_bytes (mark_after bs)) (drop (length (mark_bytes (mark_after bs))) (b ∷ bs))
+mark_is : (b : ℕ) (bs : List ℕ) → (b == 92) ≡ true → IsLongestMark (mark_bytes (mark_after bs)) (drop (length (mark_bytes
+    (mark_after bs))) (b ∷ bs))
 mark_is b bs h =
     let rest = drop (length (mark_bytes (mark_after bs))) (b ∷ bs) in
     let first : first_lexeme b bs ≡ mark (mark_after bs) = rw h refl in

@@ -3,8 +3,8 @@ use Rattle.std.specs.Prelude.{◌≡◌, ℕ, ◌-◌, ◌<◌, ◌≤◌, max, 
 use Rattle.std.specs.List.{common_prefix_len}
 use Rattle.word_diff.specs.Words.{same_word}
 
--- zs is ys with some words left out, in the same order: it is taken from what follows the first of ys, or it is that first
--- one and then taken from what follows
+-- zs is ys with some words left out, in the same order: it is taken from what follows the first of ys,
+-- or it is that first one and then taken from what follows
 abbrev pub IsSubsequence : List (List ℕ) → List (List ℕ) → Type 0
 IsSubsequence zs [] = zs ≡ []
 IsSubsequence zs (y ∷ ys) =

@@ -1,5 +1,6 @@
 pub mod Words
 pub mod Common
+pub mod Differences
 pub mod Joins
 pub mod Kinds
 pub mod Parts

@@ -10,8 +10,8 @@ use Rattle.usfm_token.specs.Tokens.{MarkParts, is_backslash, mark_after, mark_by
 abbrev pub is_plain : ℕ → Bool
 is_plain b = not (is_blank b) && not (is_backslash b)
 
--- The word that begins with the byte b and then bs: the mark where b is a backslash (92), else the longest run of blanks,
--- or of bytes that are neither.
+-- The word that begins with the byte b and then bs: the mark where b is a backslash (92), else the longest
+-- run of blanks, or of bytes that are neither.
 abbrev pub first_word : ℕ → List ℕ → List ℕ
 first_word b bs =
     if b == 92 then mark_bytes (mark_after bs)

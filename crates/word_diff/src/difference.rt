@@ -1,8 +1,6 @@
-ghost use Rattle.std.specs.Prelude.{◌≡◌, IfOk};
-ghost use Rattle.word_diff.specs.Common.{AreFew, AreMany, IsCommonSubsequence, IsLongest, common_ends};
-ghost use Rattle.word_diff.specs.Kinds.{is_kept, is_new, is_old};
-ghost use Rattle.word_diff.specs.Parts.{AreApart, spans, texts_of, words_by};
-ghost use Rattle.word_diff.specs.Words.{joined, words_of};
+ghost use Rattle.std.specs.Prelude.{IfOk};
+ghost use Rattle.word_diff.specs.Differences.{CutsNew, CutsOld, JoinsToNew, JoinsToOld, KeepsCommon, KeepsEnds, KeepsLongest};
+ghost use Rattle.word_diff.specs.Parts.{AreApart, spans};
 
 use crate::joining::join_neighbours;
 use crate::part::Part;
@@ -10,13 +8,14 @@ use crate::steps::steps;
 use crate::word::words;
 use std::alloc::{AllocError, Global};
 
-/// What differs between two texts, in parts of whole words: what both have, what the old one alone
-/// has, and what the new one alone has.
+/// What differs between two texts: parts of whole words that are in both, in the old one alone, or
+/// in the new one alone.
 ///
-/// The parts in the old text join to it, and so do those in the new one. Of texts of at most
-/// `MAX_WORDS` words each no more words could be kept: what is kept is a longest common subsequence.
-/// Of longer ones the words that they have in common at their front and then at their end are kept,
-/// and no others.
+/// The parts that are in a text join to it. Of texts of at most `MAX_WORDS` words each no more words
+/// could be kept: these are a longest common subsequence. Of longer ones the words that they have in
+/// common at their front and then at their end are kept, and no others. No part is empty, no two
+/// neighbours are of one kind, and between two kept parts what is removed comes before what is
+/// added.
 ///
 /// # Errors
 ///
@@ -26,17 +25,14 @@ pub fn differences<'a>(
     old: &'a str,
     new: &'a str,
 ) -> Result<Vec<Part<'a>>, AllocError>
-    ensures old_text { IfOk result (λ list. joined (texts_of is_old (spans list.items)) ≡ old.now) }
-    ensures new_text { IfOk result (λ list. joined (texts_of is_new (spans list.items)) ≡ new.now) }
+    ensures old_text { IfOk result (λ list. JoinsToOld list.items old.now) }
+    ensures new_text { IfOk result (λ list. JoinsToNew list.items new.now) }
+    ensures old_words { IfOk result (λ list. CutsOld list.items old.now) }
+    ensures new_words { IfOk result (λ list. CutsNew list.items new.now) }
 
-    // Each part is made of whole words of its texts.
-    ensures old_words { IfOk result (λ list. words_by is_old (spans list.items) ≡ words_of old.now) }
-    ensures new_words { IfOk result (λ list. words_by is_new (spans list.items) ≡ words_of new.now) }
-
-    // The words that are kept are in both texts, in order; none longer is where neither is long.
-    ensures common { IfOk result (λ list. IsCommonSubsequence (words_by is_kept (spans list.items)) (words_of old.now) (words_of new.now)) }
-    ensures longest { IfOk result (λ list. AreFew (words_of old.now) (words_of new.now) → IsLongest (words_by is_kept (spans list.items)) (words_of old.now) (words_of new.now)) }
-    ensures ends { IfOk result (λ list. AreMany (words_of old.now) (words_of new.now) → words_by is_kept (spans list.items) ≡ common_ends (words_of old.now) (words_of new.now)) }
+    ensures common { IfOk result (λ list. KeepsCommon list.items old.now new.now) }
+    ensures longest { IfOk result (λ list. KeepsLongest list.items old.now new.now) }
+    ensures ends { IfOk result (λ list. KeepsEnds list.items old.now new.now) }
 
     ensures apart { IfOk result (λ list. AreApart (spans list.items)) }
 {

@@ -2,8 +2,8 @@
 
 ghost use Rattle.word_diff.specs.Words.{OneList, WordsPart};
 
-/// Each text is cut in exactly one way: `words_of` is the one list of longest marks, longest runs of
-/// blanks and longest runs of other bytes.
+/// Each text is cut in exactly one way: `words_of` is the one list of longest marks, longest runs
+/// of blanks and longest runs of other bytes.
 pub fn one_list()
     ensures { OneList }
 {}

@@ -1,6 +1,6 @@
 ghost use Rattle.std.specs.Prelude.{◌≤◌, IfOk, OnOk, length};
 ghost use Rattle.word_diff.specs.Parts.{spans};
-ghost use Rattle.word_diff.specs.Steps.{AddsEach, AddsLongest, Compares};
+ghost use Rattle.word_diff.specs.Steps.{AddsLongestParts, AddsParts, Compares};
 ghost use Rattle.word_diff.specs.Words.{texts};
 
 use crate::ends::{end_len, front_len};
@@ -10,7 +10,7 @@ use std::alloc::{AllocError, Global};
 
 // Adds each of these words as a part of this kind.
 fn push_each<'a>(steps: &mut Vec<Part<'a>>, kind: Kind, words: &[&'a str]) -> Result<(), AllocError>
-    ensures { OnOk result (AddsEach (spans steps.old.items) (spans steps.new.items) kind (texts words.now)) }
+    ensures { OnOk result (AddsParts steps.old.items steps.new.items kind words.now) }
 {
     for text in words {
         steps.push(Part { kind, text: *text })?;
@@ -27,7 +27,7 @@ fn push_longest<'a>(
 ) -> Result<(), AllocError>
     requires small { length old.now ≤ MAX_WORDS }
     requires few { length new.now ≤ MAX_WORDS }
-    ensures { OnOk result (AddsLongest (spans steps.old.items) (spans steps.new.items) (texts old.now) (texts new.now)) }
+    ensures { OnOk result (AddsLongestParts steps.old.items steps.new.items old.now new.now) }
 {
     let rows = table(alloc, old, new)?;
     let (old_len, new_len) = (old.len(), new.len());

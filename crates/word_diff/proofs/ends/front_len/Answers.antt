@@ -4,7 +4,8 @@ use Rattle.word_diff.proofs.EndLemmas.{no_text, length-texts, text_at, front_mor
 use Rattle.word_diff.proofs.ends.front_len.Goals as goal
 
 tested : (old new : List (Bor (List ℕ))) (n : ℕ) (b : Bool) → n < length old → n < length new
-    → same_word (get_or old n no_text).now (get_or new n no_text).now ≡ b → same_word (get_or (texts old) n []) (get_or (texts new) n []) ≡ b
+    → same_word (get_or old n no_text).now (get_or new n no_text).now ≡ b
+    → same_word (get_or (texts old) n []) (get_or (texts new) n []) ≡ b
 tested old new n b in_old in_new is = sym (λ i. same_word (text_at old n in_old i) (text_at new n in_new i)) ∙ is
 
 pub loop-len-preserved : goal.loop-len-preserved
@@ -28,4 +29,7 @@ returns-else-eq c =
 
 pub returns-else-len-new : goal.returns-else-len-new
 returns-else-len-new c =
-    front_right (texts c.args.old.now) (texts c.args.new.now) c.loop-len.len _ (omega (arith, length-texts c.args.new.now)) c.loop-len.invariant.2
+    front_right (texts c.args.old.now) (texts c.args.new.now) c.loop-len.len _ (omega (
+      arith,
+      length-texts c.args.new.now,
+    )) c.loop-len.invariant.2

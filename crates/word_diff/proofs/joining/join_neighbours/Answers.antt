@@ -19,7 +19,8 @@ loop-at-init c = (
   c.utf8.new,
   omega arith,
   subst
-      (λ (l : List Span). Joining l (spans c.args.steps.now) (spans c.args.steps.now) c.args.old.now c.args.new.now c.args.old.now c.args.new.now)
+      (λ (l : List Span). Joining l (spans c.args.steps.now)
+      (spans c.args.steps.now) c.args.old.now c.args.new.now c.args.old.now c.args.new.now)
       (sym (ap spans c.new-parts.ensures.items))
       (joining_none (spans c.args.steps.now) c.args.old.now c.args.new.now c.requires.old_words c.requires.new_words c.requires.ordered),
 )
@@ -53,7 +54,8 @@ total_len-len-requires c =
     omega (
       arith,
       ap length (ap joined part),
-      joined_fits k (spans c.loop-at.parts.items) (spans (drop at steps)) (spans steps) old new _ _ (2 ^ 64) t c.loop-at.invariant.3 old_small new_small,
+      joined_fits k (spans c.loop-at.parts.items) (spans (drop at steps)) (spans steps) old new _ _
+          (2 ^ 64) t c.loop-at.invariant.3 old_small new_small,
     )
 
 pub split_at-requires : goal.split_at-requires
@@ -64,7 +66,8 @@ split_at-requires c =
     let part = run_part k steps at c.run_len.result (c.run_len.ensures ∙ run_at k steps at) in
     let j = c.loop-at.invariant.3 in
     let len : c.len_on.result ≡ cond (is_old k) (length (joined (run_bytes k (spans (drop at steps))))) 0 =
-    c.len_on.ensures ∙ (λ i. cond (c.is_old.ensures i) ((c.total_len-len.ensures ∙ ap (λ (l : List (List ℕ)). length (joined l)) part) i) 0) in
+    c.len_on.ensures ∙ (λ i. cond (c.is_old.ensures i) ((c.total_len-len.ensures
+    ∙ ap (λ (l : List (List ℕ)). length (joined l)) part) i) 0) in
     subst (IsCharBoundary c.loop-at.old_rest.now) (sym len)
     (side_boundary is_old k (spans c.loop-at.parts.items) (spans (drop at steps)) (spans steps) c.args.old.now c.loop-at.old_rest.now
     j.old_left c.requires.old_words j.old_words c.utf8.old c.loop-at.invariant.0)
@@ -118,19 +121,24 @@ loop-at-preserved c =
     let text : c.lent-text.result.now ≡ joined (run_bytes k rest) =
     lent_is k rest c.loop-at.old_rest.now c.loop-at.new_rest.now c.split_at.result.0.now c.split_at-in-loop-at.result.0.now c.lent-text.result.now
     c.len_on.result c.len_on-in-loop-at.result j.old_left j.new_left old_len new_len c.split_at.ensures.front c.split_at-in-loop-at.ensures.front
-    (c.lent-text.ensures ∙ ap (λ (b : Bool). cond b c.split_at.result.0.now c.split_at-in-loop-at.result.0.now) c.is_old-in-loop-at.ensures) in
+    (c.lent-text.ensures
+    ∙ ap (λ (b : Bool). cond b c.split_at.result.0.now c.split_at-in-loop-at.result.0.now) c.is_old-in-loop-at.ensures) in
     let x : Part = record { kind = k; text = c.lent-text.result } in
     let old_after = after_is is_old k rest c.loop-at.old_rest.now c.split_at.result.1.now c.len_on.result j.old_left old_len c.split_at.ensures.back in
     let new_after = after_is is_new k rest c.loop-at.new_rest.now c.split_at-in-loop-at.result.1.now c.len_on-in-loop-at.result j.new_left new_len
     c.split_at-in-loop-at.ensures.back in
     let joined_more : Joining (spans c.loop-at.parts.items ++ span x ∷ []) (drop (run_of k rest) rest) (spans steps) old new
     c.split_at.result.1.now c.split_at-in-loop-at.result.1.now =
-    join_run r (spans (drop (at + 1) steps)) rest (spans c.loop-at.parts.items) (spans steps) old new c.loop-at.old_rest.now c.loop-at.new_rest.now
-    c.split_at.result.1.now c.split_at-in-loop-at.result.1.now (span x) (step_at steps at no_part c.loop-at-test.true) t j refl text old_after new_after in
+    join_run r (spans (drop (at + 1) steps)) rest (spans c.loop-at.parts.items)
+    (spans steps) old new c.loop-at.old_rest.now c.loop-at.new_rest.now
+    c.split_at.result.1.now c.split_at-in-loop-at.result.1.now (span x)
+    (step_at steps at no_part c.loop-at-test.true) t j refl text old_after new_after in
     let items : spans c.push.new.self.items ≡ spans c.loop-at.parts.items ++ span x ∷ [] =
     ap spans c.in_ok-push.ensures.items ∙ map_push span c.loop-at.parts.items x in (
-      side_utf8 is_old k (spans c.loop-at.parts.items) rest (spans steps) old c.split_at.result.1.now t.old_are j.old_words c.utf8.old old_after,
-      side_utf8 is_new k (spans c.loop-at.parts.items) rest (spans steps) new c.split_at-in-loop-at.result.1.now t.new_are j.new_words c.utf8.new new_after,
+      side_utf8 is_old k (spans c.loop-at.parts.items) rest
+          (spans steps) old c.split_at.result.1.now t.old_are j.old_words c.utf8.old old_after,
+      side_utf8 is_new k (spans c.loop-at.parts.items) rest
+          (spans steps) new c.split_at-in-loop-at.result.1.now t.new_are j.new_words c.utf8.new new_after,
       omega (arith, n_is, run_within k steps at c.loop-at.invariant.2),
       subst (λ (l : List Span). Joining l (spans (drop (at + c.run_len.result) steps)) (spans steps) old new c.split_at.result.1.now
           c.split_at-in-loop-at.result.1.now) (sym items)

@@ -24,7 +24,8 @@ bytes_at parts i lt =
     ∙ ap (λ (s : Span). s.bytes) (get_or-map span parts i no_part (span no_part) lt)
 
 grown : (parts : List Part) (i : ℕ) → i < length parts
-    → length (joined (all_bytes (spans (take (i + 1) parts)))) ≡ length (joined (all_bytes (spans (take i parts)))) + length (get_or parts i no_part).text.now
+    → length (joined (all_bytes (spans (take (i + 1) parts)))) ≡ length (joined (all_bytes (spans (take i parts)))) + length
+    (get_or parts i no_part).text.now
 grown parts i lt =
     let bs = all_bytes (spans parts) in
     let more : take (i + 1) bs ≡ take i bs ++ get_or bs i [] ∷ [] = take_more bs i [] (omega (arith, bytes_len parts)) in

@@ -15,7 +15,8 @@ loop-text-preserved c =
     let kind = c.args.kind in
     let before = spans c.args.steps.now.items in
     let part : Part = record { kind = kind; text = get_or words i no_text } in
-    let here : span part ≡ record { kind = kind; bytes = get_or ws i [] } = ap (λ (w : List ℕ). record { kind = kind; bytes = w }) (text_at words i c.loop-text-test.true) in
+    let here : span part ≡ record { kind = kind; bytes = get_or ws i [] } = ap (λ (w : List ℕ). record { kind = kind; bytes = w })
+    (text_at words i c.loop-text-test.true) in
     ap spans c.in_ok-push.ensures.items ∙ map_push span c.loop-text.steps.items part
     ∙ (λ k. c.loop-text.invariant k ++ here k ∷ [])
     ∙ append_assoc before (each kind (take i ws)) (record { kind = kind; bytes = get_or ws i [] } ∷ [])

@@ -13,7 +13,8 @@ use Rattle.word_diff.proofs.steps.push_longest.Goals as goal
 use Rattle.word_diff.proofs.steps.push_longest.Goals.{then-loop-i-test+else-j-new_len, else-loop-i-test}
 
 tested : (old new : List (Bor (List ℕ))) (i j : ℕ) (b : Bool) → i < length old → j < length new
-    → same_word (get_or old i no_text).now (get_or new j no_text).now ≡ b → same_word (get_or (texts old) i []) (get_or (texts new) j []) ≡ b
+    → same_word (get_or old i no_text).now (get_or new j no_text).now ≡ b
+    → same_word (get_or (texts old) i []) (get_or (texts new) j []) ≡ b
 tested old new i j b in_old in_new is = sym (λ k. same_word (text_at old i in_old k) (text_at new j in_new k)) ∙ is
 
 -- a walk goes on by one part
@@ -35,7 +36,8 @@ loop-i-preserved-then-eq c =
     pushed _ c.loop-i.steps.items c.push.new.self.items part (texts old) (texts new) (i + 1) (j + 1) c.in_ok-push.ensures.items
     (walked_kept _ _ (texts old) (texts new) i j (span part) c.loop-i.invariant
     (omega (arith, length-texts old)) (omega (arith, length-texts new))
-    (tested old new i j true c.loop-i-test.true c.if-j-new_len.true (sym c.eq.ensures ∙ c.if-eq.true)) refl (text_at old i c.loop-i-test.true))
+    (tested old new i j true c.loop-i-test.true c.if-j-new_len.true (sym c.eq.ensures
+    ∙ c.if-eq.true)) refl (text_at old i c.loop-i-test.true))
 
 pub loop-i-preserved-then-len_from : goal.loop-i-preserved-then-len_from
 loop-i-preserved-then-len_from c =
@@ -49,7 +51,8 @@ loop-i-preserved-then-len_from c =
     pushed _ c.loop-i.steps.items c.push-then-len_from.new.self.items part (texts old) (texts new) (i + 1) j c.in_ok-push-2.ensures.items
     (walked_removed _ _ (texts old) (texts new) i j (span part) c.loop-i.invariant
     (omega (arith, length-texts old)) (omega (arith, length-texts new))
-    (tested old new i j false c.loop-i-test.true c.if-j-new_len.true (sym c.eq.ensures ∙ c.if-eq.false)) no_less refl (text_at old i c.loop-i-test.true))
+    (tested old new i j false c.loop-i-test.true c.if-j-new_len.true (sym c.eq.ensures
+    ∙ c.if-eq.false)) no_less refl (text_at old i c.loop-i-test.true))
 
 pub loop-i-preserved : goal.loop-i-preserved
 loop-i-preserved c =
@@ -63,7 +66,8 @@ loop-i-preserved c =
     pushed _ c.loop-i.steps.items c.push-else-len_from.new.self.items part (texts old) (texts new) i (j + 1) c.in_ok-push-3.ensures.items
     (walked_added _ _ (texts old) (texts new) i j (span part) c.loop-i.invariant
     (omega (arith, length-texts old)) (omega (arith, length-texts new))
-    (tested old new i j false c.loop-i-test.true c.if-j-new_len.true (sym c.eq.ensures ∙ c.if-eq.false)) less refl (text_at new j c.if-j-new_len.true))
+    (tested old new i j false c.loop-i-test.true c.if-j-new_len.true (sym c.eq.ensures
+    ∙ c.if-eq.false)) less refl (text_at new j c.if-j-new_len.true))
 
 pub returns : goal.returns
 returns c =

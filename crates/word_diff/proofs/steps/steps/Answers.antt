@@ -46,13 +46,16 @@ returns c =
     let a = spans c.push_each.new.steps.items in
     let done = spans c.push_each-2.new.steps.items in
     let none : spans c.new-steps.result.items ≡ [] = ap spans c.new-steps.ensures.items in
-    let first : AddsEach [] a Kept (texts front) = subst (λ (l : List Span). AddsEach l a Kept (texts front)) none c.in_ok-push_each.ensures in
+    let first : AddsEach [] a Kept (texts front) = subst (λ (l : List Span). AddsEach l a Kept
+    (texts front)) none c.in_ok-push_each.ensures in
     elim c.if-max-le-MAX_WORDS.branch [
       | then-max-le-MAX_WORDS+in_ok-push_longest w ↦
           let b = spans c.if-max-le-MAX_WORDS.steps.items in
           let middle : AddsLongest a b (texts left) (texts right) =
-          subst (λ (v : Vec Part). AddsLongest a (spans v.items) (texts left) (texts right)) (sym w.steps-is) w.in_ok-push_longest.ensures in
-          compares_longest a b done (texts old) (texts new) (texts front) (texts left) (texts right) (texts end) cut.framed first middle c.in_ok-push_each-4.ensures
+          subst (λ (v : Vec Part). AddsLongest a (spans v.items) (texts left) (texts right))
+          (sym w.steps-is) w.in_ok-push_longest.ensures in
+          compares_longest a b done (texts old) (texts new) (texts front) (texts left) (texts right)
+          (texts end) cut.framed first middle c.in_ok-push_each-4.ensures
           (omega (arith, c.max.ensures, w.if-max-le-MAX_WORDS.true, length-texts old, length-texts new))
       | else-max-le-MAX_WORDS+in_ok-push_each-2+in_ok-push_each-3 w ↦
           let b = spans w.push_each-else-max-le-MAX_WORDS.new.steps.items in

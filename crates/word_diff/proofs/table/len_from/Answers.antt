@@ -20,7 +20,13 @@ pub index-requires : goal.index-requires
 index-requires c =
     let row = c.index-list-old.result in
     let is = row_is c.args.old.now c.args.new.now c.args.list.now row c.args.i c.requires.table c.requires.in_old c.index-list-old.is in
-    omega (arith, row.ok.0, ap length is, length-row_of (drop c.args.i (texts c.args.old.now)) (texts c.args.new.now), length-texts c.args.new.now)
+    omega (
+      arith,
+      row.ok.0,
+      ap length is,
+      length-row_of (drop c.args.i (texts c.args.old.now)) (texts c.args.new.now),
+      length-texts c.args.new.now,
+    )
 
 pub returns : goal.returns
 returns c =

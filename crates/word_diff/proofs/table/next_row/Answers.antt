@@ -16,7 +16,8 @@ tested old new k b some lt is =
     ap (λ (n : ℕ). same_word (get_or (texts old) 0 []) (get_or (texts new) (n - 1 - k) [])) (length-texts new)
     ∙ sym (λ i. same_word (text_at old 0 some i) (text_at new (length new - 1 - k) (omega arith) i)) ∙ is
 
-below_len : (xs : List (List ℕ)) (new : List (Bor (List ℕ))) (below : List ℕ) → below ≡ row_of xs (texts new) → length below ≡ length new + 1
+below_len : (xs : List (List ℕ)) (new : List (Bor (List ℕ))) (below : List ℕ) → below ≡ row_of xs (texts new)
+    → length below ≡ length new + 1
 below_len xs new below is = omega (arith, ap length is, length-row_of xs (texts new), length-texts new)
 
 pub loop-k-init : goal.loop-k-init
@@ -49,7 +50,14 @@ pub index-requires : goal.index-requires
 index-requires c =
     let ys = texts c.args.new.now in
     let len = length-row_of (texts c.args.old.now) (drop (length ys - c.loop-k.k) ys) in
-    omega (arith, c.loop-k.row.ok.0, ap length c.loop-k.invariant, len, length-drop (length ys - c.loop-k.k) ys, length-texts c.args.new.now)
+    omega (
+      arith,
+      c.loop-k.row.ok.0,
+      ap length c.loop-k.invariant,
+      len,
+      length-drop (length ys - c.loop-k.k) ys,
+      length-texts c.args.new.now,
+    )
 
 pub loop-k-preserved : goal.loop-k-preserved
 loop-k-preserved c =

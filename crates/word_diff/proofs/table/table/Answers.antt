@@ -36,7 +36,11 @@ loop-k-init c =
 
 pub index-requires : goal.index-requires
 index-requires c =
-    omega (arith, c.loop-k.rows.ok.0, row_count c.args.old.now c.args.new.now c.loop-k.rows.items c.loop-k.k c.loop-k-test.true c.loop-k.invariant)
+    omega (
+      arith,
+      c.loop-k.rows.ok.0,
+      row_count c.args.old.now c.args.new.now c.loop-k.rows.items c.loop-k.k c.loop-k-test.true c.loop-k.invariant,
+    )
 
 pub next_row-requires-clause-below_is : goal.next_row-requires-clause-below_is
 next_row-requires-clause-below_is c =
