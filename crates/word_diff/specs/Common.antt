@@ -1,4 +1,5 @@
--- Common subsequences of two lists of words.
+-- Common subsequences of two lists of words, as the literature on comparing texts has them. That long texts are compared
+-- by their ends alone, and from how many words on, is this project's own rule.
 use Rattle.std.specs.Prelude.{◌≡◌, ℕ, ◌-◌, ◌<◌, ◌≤◌, max, List, [], ◌∷◌, ◌++◌, ◌⊎◌, length, take, drop, reverse}
 use Rattle.std.specs.List.{common_prefix_len}
 use Rattle.word_diff.specs.Words.{same_word}

@@ -1,4 +1,4 @@
--- What differs between two texts.
+-- What differs between two texts, by this project's own rules.
 use Rattle.std.specs.Prelude.{◌≡◌, ℕ, List}
 use Rattle.word_diff.specs.Common.{IsCommonSubsequence, IsLongest, AreFew, AreMany, common_ends}
 use Rattle.word_diff.specs.Kinds.{is_kept, is_new, is_old}

@@ -1,4 +1,4 @@
--- The kinds of parts.
+-- The kinds of parts that two texts are compared by, and their order: this project's own rule.
 use Rattle.std.specs.Prelude.{Bool, true, false}
 use Rattle.word_diff.specs.declared.part.Kind.{Kind}
 use Rattle.word_diff.specs.declared.part.Kind.TheVariants.{Kept, Removed, Added}

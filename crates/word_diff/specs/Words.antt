@@ -1,4 +1,5 @@
--- The words of a text. A blank is one of usfm_ref's, and a mark is one of usfm_token's.
+-- The words of a text, by which two texts are compared. What a word is, is this project's own rule; marks are those of
+-- usfm_token, which has the backslash, the '+' and the '*' of USFM 3.0, and blanks are those of usfm_ref.
 use Rattle.std.specs.Prelude.{◌≡◌, ℕ, zero, suc, ◌<◌, ◌==◌, Bool, true, false, not, ◌&&◌, List, [], ◌∷◌, ◌++◌, length, drop, take_while, slice_index, if◌then◌else◌, EachIndex, ◌⊎◌, ◌↔◌, map}
 use Rattle.std.specs.Borrow.{Bor}
 use Rattle.std.specs.List.{flat_map}

@@ -31,7 +31,7 @@ fn kept_count(alloc: Global, old: &str, new: &str) -> Result<usize, AllocError> 
     Ok(count)
 }
 
-// A front, so many times the mark, and nothing more.
+// A front, and this many marks after it.
 fn padded(alloc: Global, front: &str, mark: &str, count: usize) -> Result<String, AllocError> {
     let mut text = String::from_str(alloc, front)?;
     for _ in 0..count {

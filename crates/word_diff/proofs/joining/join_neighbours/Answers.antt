@@ -119,13 +119,17 @@ loop-at-preserved c =
     let new_len : c.len_on-in-loop-at.result ≡ cond (is_new k) (length (joined (run_bytes k rest))) 0 =
     c.len_on-in-loop-at.ensures ∙ (λ i. cond (c.is_new.ensures i) (total i) 0) in
     let text : c.lent-text.result.now ≡ joined (run_bytes k rest) =
-    lent_is k rest c.loop-at.old_rest.now c.loop-at.new_rest.now c.split_at.result.0.now c.split_at-in-loop-at.result.0.now c.lent-text.result.now
-    c.len_on.result c.len_on-in-loop-at.result j.old_left j.new_left old_len new_len c.split_at.ensures.front c.split_at-in-loop-at.ensures.front
+    lent_is k rest c.loop-at.old_rest.now c.loop-at.new_rest.now c.split_at.result.0.now c.split_at-in-loop-at.result.0.now
+    c.lent-text.result.now
+    c.len_on.result c.len_on-in-loop-at.result j.old_left j.new_left old_len new_len c.split_at.ensures.front
+    c.split_at-in-loop-at.ensures.front
     (c.lent-text.ensures
     ∙ ap (λ (b : Bool). cond b c.split_at.result.0.now c.split_at-in-loop-at.result.0.now) c.is_old-in-loop-at.ensures) in
     let x : Part = record { kind = k; text = c.lent-text.result } in
-    let old_after = after_is is_old k rest c.loop-at.old_rest.now c.split_at.result.1.now c.len_on.result j.old_left old_len c.split_at.ensures.back in
-    let new_after = after_is is_new k rest c.loop-at.new_rest.now c.split_at-in-loop-at.result.1.now c.len_on-in-loop-at.result j.new_left new_len
+    let old_after = after_is is_old k rest c.loop-at.old_rest.now c.split_at.result.1.now c.len_on.result j.old_left old_len
+    c.split_at.ensures.back in
+    let new_after = after_is is_new k rest c.loop-at.new_rest.now c.split_at-in-loop-at.result.1.now c.len_on-in-loop-at.result
+    j.new_left new_len
     c.split_at-in-loop-at.ensures.back in
     let joined_more : Joining (spans c.loop-at.parts.items ++ span x ∷ []) (drop (run_of k rest) rest) (spans steps) old new
     c.split_at.result.1.now c.split_at-in-loop-at.result.1.now =
