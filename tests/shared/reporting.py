@@ -2,6 +2,9 @@
 import threading
 from dataclasses import dataclass, field
 
+# More failures are not shown one by one.
+MOST_SHOWN = 60
+
 
 @dataclass
 class Tally:
@@ -20,10 +23,14 @@ class Tally:
             self.failures += failures
 
     def end(self, name: str) -> int:
-        """Prints what failed, and the line by which a script of this name ends, and answers its exit status."""
+        """Prints what failed and the line by which a script of this name ends.
+
+        The answer is its exit status."""
         if not self.passed and not self.failures:
             self.failures.append("nothing was tried")
-        for failure in self.failures:
+        for failure in self.failures[:MOST_SHOWN]:
             print(f"{name}: {failure}")
+        if len(self.failures) > MOST_SHOWN:
+            print(f"{name}: and {len(self.failures) - MOST_SHOWN} more")
         print(f"{name}: {self.passed} passed, {len(self.failures)} failed")
         return 1 if self.failures else 0
