@@ -1,6 +1,6 @@
 // The worked rows of edits and imports.
 use super::player::Refusal::{BadSegment, NoBook, NotShown, NumbersUsedUp};
-use super::player::Step::{Edit, Hold, Import, Line, Nothing, Over, Picks, Shown};
+use super::player::Step::{Changes, Edit, Hold, Import, Line, Nothing, Over, Picks, Shown};
 use super::player::Who::Ana;
 use super::player::{Parts, Row, play};
 use crate::ImportFault;
@@ -48,6 +48,55 @@ const OVER: &[Row<'static>] = &[
 #[test]
 fn an_edit_over_given_ids(rt: HostRuntime) -> Result<(), Fail> {
     play(&rt, rt.alloc(), &[], OVER)
+}
+
+const CHANGED: &[Row<'static>] = &[
+    (Ana, Hold(THREE_SHOWN)),
+    (
+        Ana,
+        Changes(
+            &[
+                ("MAT 1:1", "\\v 1 As\n", &["3:cy"]),
+                ("MAT 1:2", "\\v 2 b\n", &["3:cy"]),
+            ],
+            Err(NotShown("3:cy")),
+        ),
+    ),
+    (
+        Ana,
+        Changes(
+            &[
+                ("MAT 1:1", "\\v 2 b\n", &["9:cy"]),
+                ("MAT 1:2", "\\v 1 As\n", &[]),
+            ],
+            Err(BadSegment),
+        ),
+    ),
+    (Ana, Nothing("MAT 1:2")),
+    (
+        Ana,
+        Changes(
+            &[
+                ("MAT 1:1", "\\v 1 As\n", &["3:cy", "3:ana", "3:cy"]),
+                ("MAT 1:2", "\\v 2 b\n", &[]),
+            ],
+            Ok(2),
+        ),
+    ),
+    (
+        Ana,
+        Shown(
+            "MAT 1:1",
+            &[("3:ben", "\\v 1 At\n"), ("4:ana", "\\v 1 As\n")],
+        ),
+    ),
+    (Ana, Shown("MAT 1:2", &[("5:ana", "\\v 2 b\n")])),
+    (Ana, Changes(&[], Ok(0))),
+];
+
+#[test]
+fn changes_are_made_together(rt: HostRuntime) -> Result<(), Fail> {
+    play(&rt, rt.alloc(), &[], CHANGED)
 }
 
 const FILE: &str = "\u{FEFF}\\id MAT\r\n\\c 1\r\n\\v 1 a\r\n";
@@ -119,6 +168,11 @@ const LAST_NUMBER: &[Row<'static>] = &[
         Hold(&[("1000000000000000:zed", "MAT 0", &[], "\\id MAT\n")]),
     ),
     (Ana, Edit("MAT 1", "\\c 1\n", Err(NumbersUsedUp))),
+    (Ana, Changes(&[], Ok(0))),
+    (
+        Ana,
+        Changes(&[("MAT 1", "\\c 1\n", &[])], Err(NumbersUsedUp)),
+    ),
     (Ana, Import("\\id MAT\n", Ok(0))),
     (
         Ana,

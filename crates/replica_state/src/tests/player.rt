@@ -1,5 +1,5 @@
 // Replicas that do what a table says, row by row.
-use crate::{EditFault, ImportFault, ReceiveFault, Replica};
+use crate::{Change, EditFault, ImportFault, ReceiveFault, Replica};
 use bundle_codec::{Summary, decode, encode};
 use op_core::{Op, OpId, OpSet, Picked, ReplicaName};
 use std::alloc::Global;
@@ -50,6 +50,8 @@ pub(crate) enum Step<'a> {
     Edit(&'a str, &'a str, Made<'a>),
     // A segment's text, and the ids that it is over.
     Over(&'a str, &'a str, &'a [&'a str], Made<'a>),
+    // Changes of a book, each a segment, its text and the ids that it is over, and how many edits they take.
+    Changes(&'a [(&'a str, &'a str, &'a [&'a str])], Result<u64, Refusal<'a>>),
     // How many texts a thinning leaves out.
     Thin(u64),
     Named(&'a str),
@@ -183,6 +185,30 @@ fn edits_over(
     is_made(own.edit_over(book, key, text, &over), wanted)
 }
 
+// The changes are of Matthew.
+fn changes(
+    alloc: Global,
+    own: &mut Replica,
+    parts: &[(&str, &str, &[&str])],
+    wanted: Result<u64, Refusal<'_>>,
+) -> Result<bool, Fail> {
+    let mut changes = Vec::new(alloc);
+    for (at, text, ids) in parts {
+        let (_, key) = read_ref(*at)?;
+        let ids = ids_of(alloc, *ids)?;
+        changes.push(Change {
+            key,
+            text: *text,
+            ids,
+        })?;
+    }
+    let made = own.change(Book::read("MAT")?, &changes);
+    match wanted {
+        Ok(count) => Ok(made == Ok(count)),
+        Err(refusal) => Ok(made == Err(fault_of(refusal)?)),
+    }
+}
+
 // Whether the replica answers as the step says.
 fn does(alloc: Global, own: &mut Replica, other: &Replica, step: &Step<'_>) -> Result<bool, Fail> {
     match *step {
@@ -195,6 +221,7 @@ fn does(alloc: Global, own: &mut Replica, other: &Replica, step: &Step<'_>) -> R
         Step::Since(base, file, count) => Ok(imported_since(alloc, own, base, file)? == count),
         Step::Edit(at, text, wanted) => edits(own, at, text, wanted),
         Step::Over(at, text, over, wanted) => edits_over(alloc, own, at, text, over, wanted),
+        Step::Changes(parts, wanted) => changes(alloc, own, parts, wanted),
         Step::Thin(count) => Ok(own.thin() == count),
         _ => tells(alloc, own, other, step),
     }
