@@ -5,7 +5,7 @@ use Rattle.std.specs.Cmp.{tied_itself}
 use Rattle.std.specs.List.{list_all, list_any, find, AllByRecursion}
 use Rattle.std.specs.Option.{option_or}
 use Rattle.std.specs.Ordering.{is_eq, is_lt}
-use Rattle.std.proofs.lemmas.Bool.{and_parts, and_right, or_left, or_right, cond-true, cond-false, le-leb}
+use Rattle.std.proofs.lemmas.Bool.{and_parts, and_from, and_right, or_left, or_right, cond-true, cond-false, le-leb}
 use Rattle.std.proofs.lemmas.List.Folds.{list_any-append}
 use Rattle.usfm_ref.specs.Books.{same_bytes}
 use Rattle.usfm_ref.specs.Keys.{KeyParts, key_cmp, book_head, same_key}
@@ -22,6 +22,7 @@ use Rattle.op_core.specs.Sets.{rises, join}
 use Rattle.op_core.specs.Lists.{ids_of, shown_ids}
 use Rattle.op_core.specs.NextIds.{greatest_number, next_number, is_among}
 use Rattle.op_core.specs.Export.{of_book, has_book}
+use Rattle.op_core.proofs.FilteredLists.{filter_all}
 use Rattle.op_core.proofs.Union.{rises-join}
 use Rattle.replica_state.specs.States.{State}
 use Rattle.replica_state.specs.Edits.{has_numbers, edit_fault, first_not_shown, own_id, first_number, next_id, edit_by, unless}
@@ -48,19 +49,14 @@ among_passing p (x ∷ ids) q = by (among_passing p ids q) (same_id q x) refl (p
     by rest false e true f = ap (λ b. b || is_among (filter p ids) q) e ∙ rest
     by rest false e false f = rest
 
-same_filters : (f g : Id → Bool) (ids : List Id) → ((q : Id) → is_among ids q ≡ true → f q ≡ g q) → filter f ids ≡ filter g ids
-same_filters f g [] h = refl
-same_filters f g (x ∷ ids) h =
-    let rest = same_filters f g ids (λ q a. h q (or_right (same_id q x) (is_among ids q) a)) in
-    (λ i. cond (h x (ap (λ b. b || is_among ids x) (same_id-refl x)) i) (x ∷ rest i) (rest i))
-
 -- of all ids all are given
 pub all_given : (ids : List Id) → filter (is_among ids) ids ≡ ids
-all_given ids = same_filters (is_among ids) (λ q. true) ids (λ q h. h) ∙ all_pass ids
+all_given ids = filter_all (is_among ids) ids (all_among ids ids (λ q a. a))
   where
-    all_pass : (ids : List Id) → filter (λ q. true) ids ≡ ids
-    all_pass [] = refl
-    all_pass (x ∷ ids) = ap (λ (rest : List Id). x ∷ rest) (all_pass ids)
+    all_among : (given ids : List Id) → ((q : Id) → is_among ids q ≡ true → is_among given q ≡ true) → list_all (is_among given) ids ≡ true
+    all_among given [] h = refl
+    all_among given (x ∷ ids) h =
+        and_from _ _ (h x (or_left _ _ (same_id-refl x))) (all_among given ids (λ q a. h q (or_right (same_id q x) _ a)))
 
 pub none_outside : (ids given : List Id) → ((q : Id) → is_among given q ≡ true → is_among ids q ≡ true)
     → find (λ id. not (is_among ids id)) given ≡ None

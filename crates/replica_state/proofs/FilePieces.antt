@@ -17,6 +17,8 @@ use Rattle.verse_cut.proofs.BookLaws.{books_are_joins}
 use Rattle.verse_cut.proofs.FitLaws.{fits_is_read, fits_other}
 use Rattle.verse_cut.proofs.Headings.{book_reads}
 use Rattle.verse_cut.proofs.PieceLaws.{pieces_fit}
+use Rattle.verse_cut.specs.Views.{pieces_view}
+use Rattle.verse_cut.specs.declared.cutter.Piece.{Piece}
 use Rattle.op_core.specs.Ids.{Id}
 use Rattle.replica_state.specs.Changes.{ChangeParts}
 use Rattle.replica_state.specs.Imports.{piece_own_text, piece_of, piece_at}
@@ -85,6 +87,12 @@ piece_fits book text key code headed = by (piece_of (pieces_of text) key) refl
     by (Some p) e =
         let h = piece_has (λ q. Fits book q.key q.text) key (pieces_of text) p (pieces_fit book text code headed) e in
         subst (λ k. Fits book k p.text) (sym h.1) h.0
+
+pub all_pieces_fit : (book file : List ℕ) → Ok book ≡ book_in file → (ps : List Piece) → pieces_view ps ≡ pieces_of file → (key : KeyParts)
+    → Fits book key (piece_at (pieces_view ps) key)
+all_pieces_fit book file named ps same key =
+    subst (λ (view : List PieceParts). Fits book key (piece_at view key)) (sym same)
+    (piece_fits book file key (book_is_code file book (sym named)) (book_is_headed file book (sym named)))
 
 -- changes of keys to texts that fit them fit their segments
 pub all_fit : (book : List ℕ) (text : KeyParts → List ℕ) (ids : KeyParts → List Id) → ((key : KeyParts) → Fits book key (text key))

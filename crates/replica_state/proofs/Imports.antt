@@ -20,11 +20,6 @@ module _ (held : List Operation) (book : List ℕ) (pieces : List PieceParts) (k
       by false None e = absurd (cc)
       by false (Some o) e = absurd (cc)
 
-  pub line_differs : same_bytes (chapter_line chapter) (piece_at pieces key) ≡ false → true ≡ is_due held book pieces key
-  line_differs h =
-      sym (ap (λ t. not (same_bytes (picked_text t) (piece_at pieces key)) || loses_line held book pieces key) (sym line)
-      ∙ ap (λ b. not b || loses_line held book pieces key) h)
-
   pub line_stays : (v : Bool) → same_bytes (chapter_line chapter) (piece_at pieces key) ≡ true → v ≡ has_verse pieces key.chapter
       → not v ≡ is_due held book pieces key
   line_stays v h e =

@@ -4,14 +4,12 @@ use Rattle.std.proofs.Common.{Option, None, Some, Result, Ok, refl, sym, ap, ◌
 use Rattle.std.specs.List.{list_all, list_any}
 use Rattle.std.specs.Option.{is_some}
 use Rattle.std.proofs.Math.Bool.{and-true}
-use Rattle.std.proofs.lemmas.Bool.{and_from, or_left, or_right}
 use Rattle.usfm_ref.specs.Books.{same_bytes}
 use Rattle.usfm_ref.specs.Keys.{KeyParts}
 use Rattle.usfm_ref.specs.Segments.{segment}
 use Rattle.verse_cut.specs.Pieces.{PieceParts, pieces_of}
 use Rattle.verse_cut.specs.declared.fault.BookFault.{BookFault}
-use Rattle.op_core.specs.Equal.{same_id-refl}
-use Rattle.op_core.specs.Ids.{Id, same_id, is_none_left}
+use Rattle.op_core.specs.Ids.{Id, is_none_left}
 use Rattle.op_core.specs.Ops.{Operation, own_text}
 use Rattle.op_core.specs.Shown.{shown}
 use Rattle.op_core.specs.Lists.{ids_of, shown_ids}
@@ -28,12 +26,7 @@ use Rattle.replica_state.specs.Since.{changed, changed_after, changed_in, import
 use Rattle.replica_state.specs.SinceLaws.{IsImportWhereNothingCame}
 use Rattle.replica_state.specs.declared.fault.ImportFault.TheVariants as importing
 use Rattle.replica_state.specs.declared.fault.SinceFault.TheVariants.{NumbersUsedUp}
-
--- where each id of some is among those that are given, all pass that test
-all_among : (given ids : List Id) → ((q : Id) → is_among ids q ≡ true → is_among given q ≡ true) → list_all (is_among given) ids ≡ true
-all_among given [] h = refl
-all_among given (x ∷ ids) h =
-    and_from _ _ (h x (or_left _ _ (same_id-refl x))) (all_among given ids (λ q a. h q (or_right (same_id q x) _ a)))
+use Rattle.replica_state.proofs.ChangeRuns.{all_given}
 
 module _ (held base : List Operation) (book : List ℕ) (same : ShowSame held base book)
     (alike : (key : KeyParts) → list_all (has_greatest_text base (segment book key)) (shown base (segment book key)) ≡ true) where
@@ -47,7 +40,7 @@ module _ (held base : List Operation) (book : List ℕ) (same : ShowSame held ba
       let ids = shown_ids held (segment book key) in
       ap (λ (ops : List Operation). filter (is_among (ids_of ops)) ids)
       (filter_all (has_greatest_text base (segment book key)) (shown base (segment book key)) (alike key) ∙ sym (same key))
-      ∙ filter_all (is_among ids) ids (all_among ids ids (λ q a. a))
+      ∙ all_given ids
 
   none_doubled : (text : List ℕ) (ops : List Operation)
       → (is_none_left (ids_of ops) && list_any (λ o. same_bytes (own_text o) text) ops) ≡ false

@@ -19,11 +19,6 @@ still_made : (b c s x : State) (r : Result (List Operation) SinceFault) (n : ℕ
 still_made b c s x (Ok ops) n e = e
 still_made b c s x (Err fault) n e = cc (ap (λ (y : SinceStep). y.answer) e)
 
-still_refused : (b c s x : State) (r : Result (List Operation) SinceFault) (fault : SinceFault)
-    → edited_all b s r ≡ record { after = x; answer = Err fault } → edited_all c s r ≡ record { after = c; answer = Err fault }
-still_refused b c s x (Ok ops) fault e = cc (ap (λ (y : SinceStep). y.answer) e)
-still_refused b c s x (Err f) fault e = ap (λ (r : Result ℕ SinceFault). record { after = c; answer = r }) (ap (λ (y : SinceStep). y.answer) e)
-
 module _ (s : State) (base was : List Operation) (file book : List ℕ) (pieces : List PieceParts)
     (held : was ≡ base) (cut : pieces ≡ pieces_of file) (named : book_in file ≡ Ok book) (none : clash s.held base ≡ None) where
   since_is : (t : State) → t ≡ with_ops s base → imported_since s base file ≡ changed s t book (since_changes t.held was book pieces)
@@ -38,12 +33,6 @@ module _ (s : State) (base was : List Operation) (file book : List ℕ) (pieces 
   made_as t x y n received is e =
       since_is t received ∙ still_made t s t x (edits_or NumbersUsedUp t book (since_changes t.held was book pieces)) n e
       ∙ (λ i. record { after = sym is i; answer = Ok n })
-
-  pub refused_in : (t x : State) (fault : SinceFault) → t ≡ with_ops s base
-      → changed t t book (since_changes t.held was book pieces) ≡ record { after = x; answer = Err fault }
-      → imported_since s base file ≡ record { after = s; answer = Err fault }
-  refused_in t x fault received e =
-      since_is t received ∙ still_refused t s t x (edits_or NumbersUsedUp t book (since_changes t.held was book pieces)) fault e
 
   -- where there is nothing to be received, the edits are those of the replica as it is
   pub unreceived : with_ops s base ≡ s → (x : SinceStep) → changed s s book (since_changes s.held was book pieces) ≡ x

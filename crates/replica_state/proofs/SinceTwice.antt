@@ -107,11 +107,6 @@ module _ (t : State) (set : IsOpSet t.held) (base : List Operation) (book : List
   abbrev new : ℕ → List KeyParts → List Operation
   new n keys = edits_from n t book (map change keys)
 
-  -- a key without an edit has none
-  none_of : (q : KeyParts) (n : ℕ) (keys : List KeyParts) → is_there q keys ≡ false
-      → list_any (in_segment (segment book q)) (new n keys) ≡ false
-  none_of q n keys h = appended.none_of t set book (piece_at pieces) (λ key. seen_ids t.held base (segment book key)) q n keys h
-
   here : (q k : KeyParts) (n : ℕ) → is_eq (key_cmp q k) ≡ true → in_segment (segment book q) (edit_at t book n (change k)) ≡ true
   here q k n e = appended.here t set book (piece_at pieces) (λ key. seen_ids t.held base (segment book key)) q k n e
 
@@ -290,7 +285,8 @@ module _ (s : State) (base : List Operation) (file book : List ℕ) (count : ℕ
           ap (λ (ops : List Operation). is_due base book pieces q
           && not (is_none_left (filter (is_among (stood_ids base (segment book q))) (ids_of ops))
           && list_any (λ o. same_bytes (own_text o) (piece_at pieces q)) ops))
-          (shown_after t.held edits (segment book q) (none_of t t_set base book pieces q (next_number t.held) keys e))
+          (shown_after t.held edits (segment book q) (appended.none_of t t_set book (piece_at pieces)
+          (λ key. seen_ids t.held base (segment book key)) q (next_number t.held) keys e))
           ∙ not_changed s.held base book pieces state.set.rising set.rising taken.none q e
 
   edits_apart : AgreeAtAll edits base

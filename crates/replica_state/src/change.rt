@@ -30,11 +30,11 @@ pub struct Change<'a> {
 }
 
 impl Replica {
-    /// Makes changes of a book, by an edit for each, and says how many they are. In the order of the
-    /// changes each edit gives its segment the text, by an operation of the replica that names the
-    /// ids, each once. The first one's number is the greatest held number and one, and the others'
-    /// follow on. What a segment shows is that of the replica before the call: of two changes of one
-    /// key both texts are shown after it. Where there are no changes, it takes no memory.
+    /// Makes changes of a book, and says how many edits that is: for each, in their order, an operation
+    /// of the replica that gives the segment the text and names the ids, each once. The first one's
+    /// number is the greatest held number and one, and those of the others follow on. No edit names
+    /// another: where two changes have one key, both texts are shown. Where there are no changes, it
+    /// takes no memory.
     ///
     /// # Errors
     /// - `BadSegment` or `NotShown` for the first of the changes that may not be made: where its text

@@ -161,7 +161,7 @@ fn given_among(alloc: Global, shown: &[OpId], given: &[OpId]) -> Result<Vec<OpId
     ensures { IfOk result (λ ids. ids.items ≡ filter (is_among given.now) shown.now) }
 {
     if given == shown {
-        // To look for each among all takes long where a segment shows many.
+        // Looking for each among all takes long where a segment shows many.
         return shown.to_vec(alloc);
     }
     shown

@@ -16,7 +16,7 @@ use Rattle.replica_state.specs.Imports.{piece_at, due_keys, due_changes, import_
 use Rattle.replica_state.specs.Steps.{EditsStep, Imported, imported}
 use Rattle.replica_state.specs.declared.fault.ImportFault.{ImportFault}
 use Rattle.replica_state.proofs.ChangeLists.{made_is}
-use Rattle.replica_state.proofs.FilePieces.{book_is_code, piece_fits, all_fit}
+use Rattle.replica_state.proofs.FilePieces.{all_fit, all_pieces_fit}
 use Rattle.replica_state.proofs.KeyLists.{piece_keys_rise}
 use Rattle.replica_state.proofs.replica.Replica.import.Goals as goal
 
@@ -30,13 +30,11 @@ pub make-requires-clause-fits : goal.make-requires-clause-fits
 make-requires-clause-fits c =
     let held = c.args.self.now.held in
     let book = c.in_ok-book.book in
-    let pieces = pieces_of c.args.file.now in
-    subst (AllByRecursion (λ (p : ChangeParts). Fits book p.key p.text))
-    (sym (ap changes_view c.deref-2.ensures.value ∙ c.in_ok-changes.ensures
-    ∙ ap (due_changes held book) (ap pieces_view c.deref.ensures.value ∙ c.in_ok-pieces.ensures.value)))
+    let pieces = pieces_view c.deref.result.now in
+    subst (AllByRecursion (λ (p : ChangeParts). Fits book p.key p.text)) (sym (ap changes_view c.deref-2.ensures.value ∙ c.in_ok-changes.ensures))
     (all_fit book (piece_at pieces) (λ key. shown_ids held (segment book key))
-    (λ key. piece_fits book c.args.file.now key (book_is_code c.args.file.now book (sym c.in_ok-book.ensures.value)) c.in_ok-book.ensures.reads)
-    (due_keys held book pieces))
+    (all_pieces_fit book c.args.file.now c.in_ok-book.ensures.value c.deref.result.now
+    (ap pieces_view c.deref.ensures.value ∙ c.in_ok-pieces.ensures.value)) (due_keys held book pieces))
 
 pub returns-clause-step : goal.returns-clause-step
 returns-clause-step c = λ _.

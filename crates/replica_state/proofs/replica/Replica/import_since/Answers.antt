@@ -1,17 +1,14 @@
-use Rattle.std.proofs.Common.{◌≡◌, List, length, arith, sym, ap, ◌∙◌, subst}
+use Rattle.std.proofs.Common.{◌≡◌, length, arith, sym, ap, ◌∙◌}
 use Rattle.std.proofs.lemmas.Bool.{eqb-true}
 use Rattle.std.proofs.lemmas.List.{nil_from_length}
 use Rattle.usfm_ref.specs.Keys.{key_cmp}
 use Rattle.usfm_ref.specs.Rising.{rises_by}
-use Rattle.verse_cut.specs.Pieces.{PieceParts}
-use Rattle.verse_cut.specs.Fits.{Fits}
 use Rattle.verse_cut.specs.Views.{pieces_view}
 use Rattle.verse_cut.specs.declared.cutter.Piece.{Piece}
-use Rattle.replica_state.specs.Imports.{piece_at}
 use Rattle.op_core.specs.Sets.{clash}
 use Rattle.replica_state.specs.States.{State}
 use Rattle.replica_state.specs.Steps.{with_ops}
-use Rattle.replica_state.proofs.FilePieces.{book_is_code, piece_fits}
+use Rattle.replica_state.proofs.FilePieces.{all_pieces_fit}
 use Rattle.replica_state.proofs.KeyLists.{piece_keys_rise}
 use Rattle.replica_state.proofs.Lacking.{nothing_received}
 use Rattle.replica_state.proofs.SinceSteps.{made_as, unreceived}
@@ -22,22 +19,18 @@ make_since-requires-clause-rising c = ap (rises_by key_cmp (λ (p : Piece). p.ke
     ∙ sym (piece_keys_rise c.in_ok-pieces.pieces.items) ∙ c.in_ok-pieces.ensures.rise
 
 pub make_since-requires-clause-fits : goal.make_since-requires-clause-fits
-make_since-requires-clause-fits c = λ key.
-    subst (λ (ps : List Piece). Fits c.in_ok-book.book key (piece_at (pieces_view ps) key)) (sym c.deref.ensures.value)
-    (subst (λ (ps : List PieceParts). Fits c.in_ok-book.book key (piece_at ps key)) (sym c.in_ok-pieces.ensures.value)
-    (piece_fits c.in_ok-book.book c.args.file.now key
-    (book_is_code c.args.file.now c.in_ok-book.book (sym c.in_ok-book.ensures.value)) c.in_ok-book.ensures.reads))
+make_since-requires-clause-fits c =
+    all_pieces_fit c.in_ok-book.book c.args.file.now c.in_ok-book.ensures.value c.deref.result.now
+    (ap pieces_view c.deref.ensures.value ∙ c.in_ok-pieces.ensures.value)
 
 pub make_since-requires-2-clause-rising : goal.make_since-requires-2-clause-rising
 make_since-requires-2-clause-rising c = ap (rises_by key_cmp (λ (p : Piece). p.key)) c.deref-2.ensures.value
     ∙ sym (piece_keys_rise c.in_ok-pieces.pieces.items) ∙ c.in_ok-pieces.ensures.rise
 
 pub make_since-requires-2-clause-fits : goal.make_since-requires-2-clause-fits
-make_since-requires-2-clause-fits c = λ key.
-    subst (λ (ps : List Piece). Fits c.in_ok-book.book key (piece_at (pieces_view ps) key)) (sym c.deref-2.ensures.value)
-    (subst (λ (ps : List PieceParts). Fits c.in_ok-book.book key (piece_at ps key)) (sym c.in_ok-pieces.ensures.value)
-    (piece_fits c.in_ok-book.book c.args.file.now key
-    (book_is_code c.args.file.now c.in_ok-book.book (sym c.in_ok-book.ensures.value)) c.in_ok-book.ensures.reads))
+make_since-requires-2-clause-fits c =
+    all_pieces_fit c.in_ok-book.book c.args.file.now c.in_ok-book.ensures.value c.deref-2.result.now
+    (ap pieces_view c.deref-2.ensures.value ∙ c.in_ok-pieces.ensures.value)
 
 pub returns-then-is_full-clause-step : goal.returns-then-is_full-clause-step
 returns-then-is_full-clause-step c =
