@@ -10,8 +10,7 @@ use Rattle.op_core.proofs.Enrolled.{at_item, more_items}
 use Rattle.op_core.proofs.Walk.{kept_yes, kept_no}
 use Rattle.replica_state.specs.States.{State}
 use Rattle.replica_state.specs.Edits.{first_number}
-use Rattle.replica_state.specs.Changes.{ChangeParts, edits_from, edits_by, edits_or, change_fault, first_fault}
-use Rattle.replica_state.specs.ChangeViews.{change_view, changes_view}
+use Rattle.replica_state.specs.Changes.{ChangeParts, edits_from, edits_by, edits_or, change_fault, first_fault, change_view, changes_view}
 use Rattle.replica_state.specs.Steps.{with_ops, edited_all}
 use Rattle.replica_state.specs.declared.change.Change.{Change}
 use Rattle.replica_state.specs.declared.fault.EditFault.{EditFault}

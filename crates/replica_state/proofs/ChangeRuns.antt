@@ -86,10 +86,26 @@ pub begins_held : (held : List Operation) (book : List ℕ) (changes : List Chan
 begins_held held book [] h = refl
 begins_held held book (c ∷ changes) h = or_left _ _ h
 
--- a change that may be made: its text fits, and its ids are shown
-pub record MayBeMade (held : List Operation) (book : List ℕ) (c : ChangeParts) : Type 0 where
-  pub fits : text_fits book c.key c.text ≡ true
-  pub shown : first_not_shown held (segment book c.key) c.ids ≡ None
+-- where nothing is wrong with changes, the first one's text fits, its ids are shown, and nothing is wrong with the others
+none_wrong : (held : List Operation) (book : List ℕ) (c : ChangeParts) (later : List ChangeParts) → first_fault held book (c ∷ later) ≡ None
+    → (text_fits book c.key c.text ≡ true)
+    × ((first_not_shown held (segment book c.key) c.ids ≡ None) × (first_fault held book later ≡ None))
+none_wrong held book c later e = by (text_fits book c.key c.text) refl (first_not_shown held (segment book c.key) c.ids) refl e
+  where
+    by : (b : Bool) → text_fits book c.key c.text ≡ b → (id : Option Id) → first_not_shown held (segment book c.key) c.ids ≡ id
+        → option_or (cond (not b) (Some BadSegment) (option_map NotShown id)) (first_fault held book later) ≡ None
+        → (text_fits book c.key c.text ≡ true)
+        × ((first_not_shown held (segment book c.key) c.ids ≡ None) × (first_fault held book later ≡ None))
+    by true f None i e = (f, (i, e))
+    by true f (Some id) i e = cc e
+    by false f id i e = cc e
+
+pub all_fit : (held : List Operation) (book : List ℕ) (changes : List ChangeParts) → first_fault held book changes ≡ None
+    → AllByRecursion (λ (c : ChangeParts). Fits book c.key c.text) changes
+all_fit held book [] e = tt
+all_fit held book (c ∷ changes) e =
+    let none = none_wrong held book c changes e in
+    ((fits_is_read book c.key c.text).0 none.0, all_fit held book changes none.1.1)
 
 abbrev keys : List ChangeParts → List KeyParts
 keys changes = map (λ c. c.key) changes
@@ -100,19 +116,20 @@ module _ (t : State) (book : List ℕ) where
 
   -- the edit of a change, of a replica that shows there what was seen
   one : (s : State) (n : ℕ) (c : ChangeParts) → s.name ≡ t.name → n ≡ next_number s.held → has_numbers s.held 1 ≡ true
-      → (has_book s.held book || same_key c.key book_head) ≡ true → MayBeMade t.held book c
+      → (has_book s.held book || same_key c.key book_head) ≡ true → text_fits book c.key c.text ≡ true
+      → first_not_shown t.held (segment book c.key) c.ids ≡ None
       → shown_ids s.held (segment book c.key) ≡ shown_ids t.held (segment book c.key)
       → step s (over c)
       ≡ record { after = with_ops s (edit_at t book n c ∷ []); reply = Edited (Ok (own_id t n)) }
-  one s n c named next room begun may same =
+  one s n c named next room begun fits shown same =
       ap (edited s) (λ i. unless (fault i)
       (unless (option_map NotShown (all_shown i)) (edit_by (id i) (segment book c.key) (filter (is_among c.ids) (same i)) c.text)))
     where
       fault : edit_fault s.held (segment book c.key) c.text ≡ None
-      fault = cond-false _ _ _ (ap not may.fits) ∙ cond-true _ _ _ begun
+      fault = cond-false _ _ _ (ap not fits) ∙ cond-true _ _ _ begun
 
       all_shown : first_not_shown s.held (segment book c.key) c.ids ≡ None
-      all_shown = ap (λ ids. find (λ id. not (is_among ids id)) c.ids) same ∙ may.shown
+      all_shown = ap (λ ids. find (λ id. not (is_among ids id)) c.ids) same ∙ shown
 
       id : next_id s ≡ Some (own_id t n)
       id = ap (option_map (own_id s)) (cond-true _ _ _ room) ∙ (λ i. Some (record { number = sym next i; name = named i }))
@@ -120,13 +137,13 @@ module _ (t : State) (book : List ℕ) where
   -- the edits over ids one after the other
   pub run : (changes : List ChangeParts) (s : State) (n : ℕ) → s.name ≡ t.name → rises s.held ≡ true → n ≡ next_number s.held
       → greatest_number s.held + length changes ≤ 1000000000000000 → rises_by key_cmp (λ k. k) (keys changes) ≡ true
-      → begins s.held book changes ≡ true → AllByRecursion (MayBeMade t.held book) changes
+      → begins s.held book changes ≡ true → first_fault t.held book changes ≡ None
       → ((q : KeyParts) → is_there q (keys changes) ≡ true → shown_ids s.held (segment book q) ≡ shown_ids t.held (segment book q))
       → NoneRefused s (edits_over book changes) × (after_all s (edits_over book changes) ≡ with_ops s (edits_from n t book changes))
-  run [] s n named rising next room rise begun may same = (tt, refl)
-  run (c ∷ changes) s n named rising next room rise begun may same =
+  run [] s n named rising next room rise begun right same = (tt, refl)
+  run (c ∷ changes) s n named rising next room rise begun right same =
       let rest = run changes u (suc n) named (rises-join s.held (change ∷ []) rising) (ap suc (sym greatest))
-      (omega (arith, room, greatest, next)) p.1 (begins_held u.held book changes still) may.1 others in (
+      (omega (arith, room, greatest, next)) p.1 (begins_held u.held book changes still) none.1.1 others in (
         (
           subst (λ (x : Step). IsTaken x.reply) (sym done) refl,
           subst (λ (x : Step). NoneRefused x.after (edits_over book changes)) (sym done) rest.0,
@@ -135,6 +152,10 @@ module _ (t : State) (book : List ℕ) where
             ∙ ap (λ (held : List Operation). record { name = s.name; held = held }) joined,
       )
     where
+      none : (text_fits book c.key c.text ≡ true)
+          × ((first_not_shown t.held (segment book c.key) c.ids ≡ None) × (first_fault t.held book changes ≡ None))
+      none = none_wrong t.held book c changes right
+
       change : Operation
       change = edit_at t book n c
 
@@ -159,7 +180,7 @@ module _ (t : State) (book : List ℕ) where
 
       done : step s (over c) ≡ record { after = u; reply = Edited (Ok (own_id t n)) }
       done = one s n c named next (le-leb (greatest_number s.held + 1) 1000000000000000 (omega (arith, room)))
-          begun may.0 (same c.key (or_left _ _ (ap is_eq (tied_itself key_total c.key))))
+          begun none.0 none.1.0 (same c.key (or_left _ _ (ap is_eq (tied_itself key_total c.key))))
 
       others : (q : KeyParts) → is_there q (keys changes) ≡ true → shown_ids u.held (segment book q) ≡ shown_ids t.held (segment book q)
       others q h =
@@ -176,27 +197,6 @@ module _ (t : State) (book : List ℕ) where
           ∙ ap (λ (held : List Operation). held ++ rest) at ∙ append_assoc s.held (change ∷ []) rest
           ∙ sym (edits_after t book s.held n (c ∷ changes) rising beyond)
 
--- ---- changes in which nothing is wrong
-
-may_be_made : (held : List Operation) (book : List ℕ) (c : ChangeParts) → change_fault held book c ≡ None → MayBeMade held book c
-may_be_made held book c e = by (text_fits book c.key c.text) refl (first_not_shown held (segment book c.key) c.ids) refl e
-  where
-    by : (b : Bool) → text_fits book c.key c.text ≡ b → (id : Option Id) → first_not_shown held (segment book c.key) c.ids ≡ id
-        → cond (not b) (Some BadSegment) (option_map NotShown id) ≡ None → MayBeMade held book c
-    by true f None i e = record { fits = f; shown = i }
-    by true f (Some id) i e = cc e
-    by false f id i e = cc e
-
-pub all_may : (held : List Operation) (book : List ℕ) (changes : List ChangeParts) → first_fault held book changes ≡ None
-    → AllByRecursion (MayBeMade held book) changes
-all_may held book [] e = tt
-all_may held book (c ∷ changes) e = by (λ f. all_may held book changes f) (change_fault held book c) refl e
-  where
-    by : (first_fault held book changes ≡ None → AllByRecursion (MayBeMade held book) changes) → (r : Option EditFault)
-        → change_fault held book c ≡ r → option_or r (first_fault held book changes) ≡ None → AllByRecursion (MayBeMade held book) (c ∷ changes)
-    by rest None f e = (may_be_made held book c f, rest e)
-    by rest (Some fault) f e = cc e
-
 pub changes_are_edits : ChangesAreEdits
 changes_are_edits s book changes ops state rise begun made =
     by (first_fault s.held book changes) refl (first_number s.held (length changes)) refl made
@@ -209,15 +209,6 @@ changes_are_edits s book changes ops state rise begun made =
     by None e (Some first) g h =
         let given = is_first s.held (length changes) first (sym g) in
         let all = run s book changes s first refl state.set.rising given.is given.room rise begun
-        (all_may s.held book changes e) (λ q h. refl) in
+        e (λ q h. refl) in
         let same : edits_from first s book changes ≡ ops = cc h in
         (all.0, all.1 ∙ ap (with_ops s) same)
-
-pub all_fit : (held : List Operation) (book : List ℕ) (changes : List ChangeParts) → first_fault held book changes ≡ None
-    → AllByRecursion (λ (c : ChangeParts). Fits book c.key c.text) changes
-all_fit held book changes e = by changes (all_may held book changes e)
-  where
-    by : (changes : List ChangeParts) → AllByRecursion (MayBeMade held book) changes
-        → AllByRecursion (λ (c : ChangeParts). Fits book c.key c.text) changes
-    by [] h = tt
-    by (c ∷ changes) h = ((fits_is_read book c.key c.text).0 h.0.fits, by changes h.1)

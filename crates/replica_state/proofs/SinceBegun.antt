@@ -42,7 +42,7 @@ use Rattle.replica_state.proofs.Appended.{is_there, not_there}
 use Rattle.replica_state.proofs.ChangeRuns.{begins_held, run}
 use Rattle.replica_state.proofs.DueKeys.{piece_there, there_kept, walked}
 use Rattle.replica_state.proofs.FilePieces.{book_is_code, book_is_headed, head_has_piece, piece_fits}
-use Rattle.replica_state.proofs.SinceRuns.{Accepted, accepted, all_since, any_received, changed_rise, keys_back}
+use Rattle.replica_state.proofs.SinceRuns.{Accepted, accepted, any_received, changed_rise, keys_back, none_wrong}
 
 -- a book without operations shows nothing
 none_shown : (ops : List Operation) (book : List ℕ) (key : KeyParts) → has_book ops book ≡ false → shown ops (segment book key) ≡ []
@@ -145,7 +145,7 @@ is_receiving_and_edits s base file book count state set named answered = (
         ∙ changed_rise t.held base book (pieces_of file))
         (begun t.held base file book named
         (any_received s.held base (λ g. same_bytes g.book book) state.set.rising set.rising taken.none))
-        (all_since t.held base book (pieces_of file)
+        (none_wrong t.held base book (pieces_of file)
         (λ key. (fits_is_read book key _).1 (piece_fits book file key (book_is_code file book named) (book_is_headed file book named)))
         (changed_keys t.held base book (pieces_of file)))
         (λ q h. refl)

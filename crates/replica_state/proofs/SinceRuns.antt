@@ -1,7 +1,8 @@
 -- The changes of an import since a base: they may be made, and they are made where the import is not refused.
-use Rattle.std.proofs.Common.{◌≡◌, ℕ, ◌+◌, ◌≤◌, Bool, true, List, [], ◌∷◌, ◌++◌, map, length}
-use Rattle.std.proofs.Common.{Option, Some, None, Result, Ok, refl, sym, ap, ◌∙◌}
-use Rattle.std.specs.List.{AllByRecursion, list_any}
+use Rattle.std.proofs.Common.{◌≡◌, ℕ, ◌+◌, ◌≤◌, Bool, true, not, cond, List, [], ◌∷◌, ◌++◌, map, filter, length}
+use Rattle.std.proofs.Common.{Option, Some, None, option_map, Result, Ok, refl, sym, ap, ◌∙◌}
+use Rattle.std.specs.List.{list_any}
+use Rattle.std.specs.Option.{option_or}
 use Rattle.std.proofs.lemmas.Bool.{and_parts}
 use Rattle.usfm_ref.specs.Keys.{KeyParts, key_cmp, head_of}
 use Rattle.usfm_ref.specs.Rising.{rises_by}
@@ -21,14 +22,15 @@ use Rattle.op_core.proofs.Gets.{AnyHeld, any_held, any_from}
 use Rattle.op_core.proofs.Union.{agree_from_no_clash, get-join}
 use Rattle.replica_state.specs.States.{State}
 use Rattle.replica_state.specs.Edits.{first_number}
-use Rattle.replica_state.specs.Changes.{ChangeParts, edits_from, edits_by}
+use Rattle.replica_state.specs.Changes.{ChangeParts, edits_from, edits_by, first_fault}
 use Rattle.replica_state.specs.Imports.{piece_at, walked_keys}
 use Rattle.replica_state.specs.Steps.{with_ops, edited_all}
 use Rattle.replica_state.specs.Since.{SinceStep, stood_ids, seen_ids, is_changed, changed_keys, since_change, since_changes}
 use Rattle.replica_state.specs.Since.{changed_after, changed_in, imported_since}
 use Rattle.replica_state.specs.SinceLaws.{changes_of}
+use Rattle.replica_state.specs.declared.fault.EditFault.TheVariants.{BadSegment, NotShown}
 use Rattle.replica_state.specs.declared.fault.SinceFault.TheVariants.{NumbersUsedUp}
-use Rattle.replica_state.proofs.ChangeRuns.{MayBeMade, among_passing, none_outside}
+use Rattle.replica_state.proofs.ChangeRuns.{among_passing, none_outside}
 use Rattle.replica_state.proofs.Changes.{is_first}
 
 -- the keys that were changed rise
@@ -44,20 +46,16 @@ module _ (held base : List Operation) (book : List ℕ) (pieces : List PiecePart
   keys_back [] = refl
   keys_back (key ∷ keys) = ap (λ (ks : List KeyParts). key ∷ ks) (keys_back keys)
 
-  -- they may be made
-  pub all_since : ((key : KeyParts) → text_fits book key (piece_at pieces key) ≡ true) → (keys : List KeyParts)
-      → AllByRecursion (MayBeMade held book) (map (since_change held base book pieces) keys)
-  all_since fits [] = tt
-  all_since fits (key ∷ keys) =
-      let g = segment book key in
-      let stood : Id → Bool = is_among (stood_ids base g) in (
-        record {
-          fits = fits key;
-          shown = none_outside (shown_ids held g) (seen_ids held base g)
-              (λ q h. (and_parts (is_among (shown_ids held g) q) (stood q) (sym (among_passing stood (shown_ids held g) q) ∙ h)).0);
-        },
-        all_since fits keys,
-      )
+  -- nothing is wrong with them
+  pub none_wrong : ((key : KeyParts) → text_fits book key (piece_at pieces key) ≡ true) → (keys : List KeyParts)
+      → first_fault held book (map (since_change held base book pieces) keys) ≡ None
+  none_wrong fits [] = refl
+  none_wrong fits (key ∷ keys) =
+      let shown = shown_ids held (segment book key) in
+      let stood = is_among (stood_ids base (segment book key)) in
+      let among = none_outside shown (filter stood shown)
+      (λ q h. (and_parts (is_among shown q) (stood q) (sym (among_passing stood shown q) ∙ h)).0) in
+      (λ i. option_or (cond (not (fits key i)) (Some BadSegment) (option_map NotShown (among i))) (none_wrong fits keys i))
 
 -- ---- what is received
 

@@ -1,5 +1,5 @@
 -- Changes of segments, and the edits that make them (this project's own rule): what an import is, however its changes were found.
-use Rattle.std.specs.Prelude.{ℕ, suc, not, List, [], ◌∷◌, length, Option, None, Some, option_map, Result, Ok, Err, if◌then◌else◌}
+use Rattle.std.specs.Prelude.{ℕ, suc, not, List, [], ◌∷◌, map, length, Option, None, Some, option_map, Result, Ok, Err, if◌then◌else◌}
 use Rattle.std.specs.Option.{option_or}
 use Rattle.usfm_ref.specs.Keys.{KeyParts}
 use Rattle.usfm_ref.specs.Segments.{segment}
@@ -9,6 +9,7 @@ use Rattle.op_core.specs.Ops.{Operation}
 use Rattle.op_core.specs.NextIds.{given_ids}
 use Rattle.replica_state.specs.States.{State}
 use Rattle.replica_state.specs.Edits.{edit_with, own_id, first_number, first_not_shown, unless}
+use Rattle.replica_state.specs.declared.change.Change.{Change}
 use Rattle.replica_state.specs.declared.fault.EditFault.{EditFault}
 use Rattle.replica_state.specs.declared.fault.EditFault.TheVariants.{BadSegment, NotShown, NumbersUsedUp}
 
@@ -17,6 +18,14 @@ pub record ChangeParts : Type 0 where
   pub key : KeyParts
   pub text : List ℕ
   pub ids : List Id
+
+-- what a contract sees of a change
+abbrev pub change_view : Change → ChangeParts
+change_view c = record { key = c.key; text = c.text.now; ids = c.ids.items }
+
+-- changes, each as a contract sees it
+abbrev pub changes_view : List Change → List ChangeParts
+changes_view changes = map change_view changes
 
 -- The edits of some changes of a book, numbered one after the other: each gives its segment the text, and names the ids of the
 -- change, in whatever order they are given, that the segment shows.

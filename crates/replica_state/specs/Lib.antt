@@ -3,7 +3,6 @@ pub mod OneBook
 pub mod Receives
 pub mod Edits
 pub mod Changes
-pub mod ChangeViews
 pub mod Imports
 pub mod Steps
 pub mod Since

@@ -4,7 +4,7 @@ ghost use Rattle.std.specs.List.{AllByRecursion};
 ghost use Rattle.usfm_ref.specs.Segments.{segment};
 ghost use Rattle.verse_cut.specs.Fits.{Fits};
 ghost use Rattle.op_core.specs.NextIds.{given_ids, greatest_number};
-ghost use Rattle.replica_state.specs.ChangeViews.{change_view, changes_view};
+ghost use Rattle.replica_state.specs.Changes.{change_view, changes_view};
 ghost use Rattle.replica_state.specs.Changes as changing;
 ghost use Rattle.replica_state.specs.Edits as edits;
 ghost use Rattle.replica_state.specs.States.{IsState};

@@ -6,7 +6,7 @@ ghost use Rattle.usfm_ref.specs.Rising.{rises_by};
 ghost use Rattle.verse_cut.specs.Reading.{book_in};
 ghost use Rattle.verse_cut.specs.Views.{pieces_view};
 ghost use Rattle.op_core.specs.Lists.{keys_of};
-ghost use Rattle.replica_state.specs.ChangeViews.{changes_view};
+ghost use Rattle.replica_state.specs.Changes.{changes_view};
 ghost use Rattle.replica_state.specs.Imports as imports;
 ghost use Rattle.replica_state.specs.Steps.{step, Import, Imported};
 

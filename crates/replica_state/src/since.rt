@@ -11,7 +11,7 @@ ghost use Rattle.verse_cut.specs.Views.{pieces_view};
 ghost use Rattle.op_core.specs.Ops.{own_text};
 ghost use Rattle.op_core.specs.Shown.{last, text_if_any};
 ghost use Rattle.op_core.specs.Sets.{clash};
-ghost use Rattle.replica_state.specs.ChangeViews.{change_view, changes_view};
+ghost use Rattle.replica_state.specs.Changes.{change_view, changes_view};
 ghost use Rattle.replica_state.specs.Imports as imports;
 ghost use Rattle.replica_state.specs.Receives as receives;
 ghost use Rattle.replica_state.specs.Since as since;

@@ -5,7 +5,7 @@ ghost use Rattle.std.specs.Prelude.{◌≡◌, ◌≢◌, ◌∷◌, Err, IfOk, 
 ghost use Rattle.usfm_ref.specs.Segments.{segment};
 ghost use Rattle.op_core.specs.Lists.{is_held};
 ghost use Rattle.bundle_codec.specs.Summaries.{outside};
-ghost use Rattle.replica_state.specs.ChangeViews.{changes_view};
+ghost use Rattle.replica_state.specs.Changes.{changes_view};
 ghost use Rattle.replica_state.specs.Steps.{Edited, Imported, Received, Thin, Thinned, step};
 ghost use Rattle.replica_state.specs.World as world;
 ghost use Rattle.replica_state.specs.World.Calls as calls;

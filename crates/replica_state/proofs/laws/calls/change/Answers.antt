@@ -1,4 +1,4 @@
-use Rattle.replica_state.specs.ChangeViews.{changes_view}
+use Rattle.replica_state.specs.Changes.{changes_view}
 use Rattle.replica_state.proofs.World.SinceEvents.{changing}
 use Rattle.replica_state.proofs.laws.calls.change.Goals as goal
 

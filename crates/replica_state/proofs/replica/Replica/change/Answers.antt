@@ -1,7 +1,6 @@
 use Rattle.std.proofs.Common.{Option, List, length, refl, sym, ap, ◌∙◌}
 use Rattle.std.proofs.lemmas.List.{length-map}
-use Rattle.replica_state.specs.ChangeViews.{change_view, changes_view}
-use Rattle.replica_state.specs.Changes.{edits_or}
+use Rattle.replica_state.specs.Changes.{edits_or, change_view, changes_view}
 use Rattle.replica_state.specs.Edits.{first_number, unless}
 use Rattle.replica_state.specs.Steps.{edited_all}
 use Rattle.replica_state.specs.declared.change.Change.{Change}

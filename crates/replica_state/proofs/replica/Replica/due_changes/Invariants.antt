@@ -1,6 +1,6 @@
 use Rattle.std.proofs.Common.{◌≡◌, map, take, filter}
 use Rattle.verse_cut.specs.Views.{pieces_view}
-use Rattle.replica_state.specs.ChangeViews.{changes_view}
+use Rattle.replica_state.specs.Changes.{changes_view}
 use Rattle.replica_state.specs.Imports.{is_due, due_change}
 use Rattle.replica_state.proofs.replica.Replica.due_changes.Given as goal
 

@@ -4,8 +4,7 @@ use Rattle.usfm_ref.specs.Segments.{segment}
 use Rattle.verse_cut.specs.Fits.{Fits}
 use Rattle.op_core.specs.Ids.{Id}
 use Rattle.op_core.specs.NextIds.{given_ids}
-use Rattle.replica_state.specs.ChangeViews.{change_view}
-use Rattle.replica_state.specs.Changes.{ChangeParts}
+use Rattle.replica_state.specs.Changes.{ChangeParts, change_view}
 use Rattle.replica_state.specs.Edits.{edit_with}
 use Rattle.replica_state.proofs.ChangeLists.{holds_at}
 use Rattle.replica_state.proofs.Changes.{edit_at, edits_more}

@@ -1,6 +1,5 @@
 use Rattle.std.proofs.Common.{◌≡◌, ◌+◌, take}
-use Rattle.replica_state.specs.ChangeViews.{changes_view}
-use Rattle.replica_state.specs.Changes.{edits_from}
+use Rattle.replica_state.specs.Changes.{edits_from, changes_view}
 use Rattle.replica_state.proofs.replica.Replica.edits_of.Given as goal
 
 abbrev pub invariant-loop-change : goal.invariant-loop-change

@@ -1,6 +1,5 @@
 use Rattle.std.proofs.Common.{◌≡◌, None, take}
-use Rattle.replica_state.specs.ChangeViews.{changes_view}
-use Rattle.replica_state.specs.Changes.{first_fault}
+use Rattle.replica_state.specs.Changes.{first_fault, changes_view}
 use Rattle.replica_state.proofs.replica.Replica.first_fault.Given as goal
 
 abbrev pub invariant-loop-change : goal.invariant-loop-change

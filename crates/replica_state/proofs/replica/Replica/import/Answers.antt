@@ -10,8 +10,7 @@ use Rattle.verse_cut.specs.Views.{pieces_view}
 use Rattle.verse_cut.specs.declared.cutter.Piece.{Piece}
 use Rattle.verse_cut.specs.declared.fault.BookFault.{BookFault}
 use Rattle.op_core.specs.Lists.{shown_ids}
-use Rattle.replica_state.specs.ChangeViews.{change_view, changes_view}
-use Rattle.replica_state.specs.Changes.{ChangeParts}
+use Rattle.replica_state.specs.Changes.{ChangeParts, change_view, changes_view}
 use Rattle.replica_state.specs.Imports.{piece_at, due_keys, due_changes, import_into}
 use Rattle.replica_state.specs.Steps.{EditsStep, Imported, imported}
 use Rattle.replica_state.specs.declared.fault.ImportFault.{ImportFault}

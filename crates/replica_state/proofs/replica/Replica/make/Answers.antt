@@ -5,7 +5,7 @@ use Rattle.std.proofs.lemmas.List.{length-map}
 use Rattle.op_core.specs.Ops.{Operation}
 use Rattle.op_core.specs.Sets.{rises, get, join}
 use Rattle.op_core.specs.Thinned.{is_legal}
-use Rattle.replica_state.specs.ChangeViews.{change_view, changes_view}
+use Rattle.replica_state.specs.Changes.{change_view, changes_view}
 use Rattle.replica_state.proofs.Changes.{edits_rise, edits_beyond, edits_legal, edits_count}
 use Rattle.replica_state.proofs.replica.Replica.make.Goals as goal
 

@@ -4,8 +4,7 @@ use Rattle.std.proofs.lemmas.List.{length-map}
 use Rattle.usfm_ref.specs.Segments.{segment}
 use Rattle.verse_cut.specs.Fits.{Fits}
 use Rattle.verse_cut.specs.Views.{pieces_view}
-use Rattle.replica_state.specs.ChangeViews.{change_view, changes_view}
-use Rattle.replica_state.specs.Changes.{ChangeParts}
+use Rattle.replica_state.specs.Changes.{ChangeParts, change_view, changes_view}
 use Rattle.replica_state.specs.Imports.{piece_at}
 use Rattle.replica_state.specs.Since.{changed_keys, seen_ids}
 use Rattle.replica_state.proofs.ChangeLists.{made_is}

@@ -1,6 +1,6 @@
 use Rattle.std.proofs.Common.{option_map, sym, ap, ◌∙◌, Vec, Global}
 use Rattle.verse_cut.specs.Views.{pieces_view}
-use Rattle.replica_state.specs.ChangeViews.{change_view, changes_view}
+use Rattle.replica_state.specs.Changes.{change_view, changes_view}
 use Rattle.replica_state.specs.Since.{is_changed, since_change}
 use Rattle.replica_state.specs.declared.change.Change.{Change}
 use Rattle.replica_state.proofs.ChangeLists.{change_pushed, change_skipped}
