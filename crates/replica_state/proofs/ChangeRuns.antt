@@ -26,7 +26,7 @@ use Rattle.op_core.proofs.FilteredLists.{filter_all}
 use Rattle.op_core.proofs.Union.{rises-join}
 use Rattle.replica_state.specs.States.{State}
 use Rattle.replica_state.specs.Edits.{has_numbers, edit_fault, first_not_shown, own_id, first_number, next_id, edit_by, unless}
-use Rattle.replica_state.specs.Changes.{ChangeParts, edits_from, edits_by, change_fault, first_fault}
+use Rattle.replica_state.specs.Changes.{ChangeParts, edits_from, edits_by, first_fault}
 use Rattle.replica_state.specs.ChangeLaws.{edits_over, begins, ChangesAreEdits}
 use Rattle.replica_state.specs.Steps.{Command, EditOver, Edited, Step, edited, step, with_ops}
 use Rattle.replica_state.specs.Runs.{after_all, NoneRefused, IsTaken}

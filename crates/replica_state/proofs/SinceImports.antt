@@ -74,7 +74,8 @@ is_import_where_nothing_came s base file book count state set none named same al
     keys_are = λ i. filter (λ key. changed_is_due t.held base book same alike pieces key i) (walked_keys t.held book pieces)
 
     changes_are : since_changes t.held base book pieces ≡ changes
-    changes_are = λ i. map (λ key. record { key = key; text = piece_at pieces key; ids = all_seen t.held base book same alike key i }) (keys_are i)
+    changes_are = λ i.
+        map (λ key. record { key = key; text = piece_at pieces key; ids = all_seen t.held base book same alike key i }) (keys_are i)
 
     since_is : imported_since s base file ≡ changed s t book changes
     since_is =

@@ -102,7 +102,8 @@ names_stood n s base book pieces (key ∷ keys) edit id h i =
     elim (first_or_later (edit_at s book n (change key)) (edits_from (suc n) s book (map change keys)) edit h) [
       | inl here ↦ subst (λ (o : Operation). StoodInFile base o.segment id) here
           (seen_stood s.held base g id
-          (passed (is_among (seen_ids s.held base g)) (shown_ids s.held g) id (subst (λ (o : Operation). Contains o.replaced id) (sym here) i)).1)
+          (passed (is_among (seen_ids s.held base g)) (shown_ids s.held g) id
+          (subst (λ (o : Operation). Contains o.replaced id) (sym here) i)).1)
       | inr later ↦ names_stood (suc n) s base book pieces keys edit id later i
     ]
 

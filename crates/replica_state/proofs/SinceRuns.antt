@@ -25,7 +25,7 @@ use Rattle.replica_state.specs.Edits.{first_number}
 use Rattle.replica_state.specs.Changes.{ChangeParts, edits_from, edits_by, first_fault}
 use Rattle.replica_state.specs.Imports.{piece_at, walked_keys}
 use Rattle.replica_state.specs.Steps.{with_ops, edited_all}
-use Rattle.replica_state.specs.Since.{SinceStep, stood_ids, seen_ids, is_changed, changed_keys, since_change, since_changes}
+use Rattle.replica_state.specs.Since.{SinceStep, stood_ids, is_changed, changed_keys, since_change, since_changes}
 use Rattle.replica_state.specs.Since.{changed_after, changed_in, imported_since}
 use Rattle.replica_state.specs.SinceLaws.{changes_of}
 use Rattle.replica_state.specs.declared.fault.EditFault.TheVariants.{BadSegment, NotShown}
@@ -80,7 +80,8 @@ any_received held base test hh hb none h =
 -- an import since a base that is not refused
 pub record Accepted (s : State) (base : List Operation) (file book : List ℕ) : Type 0 where
   pub none : clash s.held base ≡ None
-  pub room : greatest_number (with_ops s base).held + length (since_changes (with_ops s base).held base book (pieces_of file)) ≤ 1000000000000000
+  pub room : greatest_number (with_ops s base).held + length (since_changes (with_ops s base).held base book (pieces_of file))
+      ≤ 1000000000000000
   pub is : (imported_since s base file).after ≡ with_ops (with_ops s base) (changes_of (with_ops s base) base book (pieces_of file))
 
 pub accepted : (s : State) (base : List Operation) (file book : List ℕ) (count : ℕ) → book_in file ≡ Ok book

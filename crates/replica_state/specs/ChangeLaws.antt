@@ -24,6 +24,7 @@ begins held book (c ∷ later) = has_book held book || same_key c.key book_head
 abbrev pub ChangesAreEdits : Type 0
 ChangesAreEdits =
     (s : State) (book : List ℕ) (changes : List ChangeParts) (ops : List Operation) → IsState s →
-    rises_by key_cmp (λ k. k) (map (λ c. c.key) changes) ≡ true → begins s.held book changes ≡ true →
-    changes_ops s book changes ≡ Ok ops →
-    NoneRefused s (edits_over book changes) × (after_all s (edits_over book changes) ≡ with_ops s ops)
+    rises_by key_cmp (λ k. k) (map (λ c. c.key) changes) ≡ true →
+    begins s.held book changes ≡ true → changes_ops s book changes ≡ Ok ops →
+    NoneRefused s (edits_over book changes)
+    × (after_all s (edits_over book changes) ≡ with_ops s ops)

@@ -43,7 +43,8 @@ edits_by full None s book changes = Err full
 edits_by full (Some first) s book changes = Ok (edits_from first s book changes)
 
 -- the edits of some changes by the replica's next numbers, or the fault that no numbers are left for them
-abbrev pub edits_or : {F : Type 0} → F → State → List ℕ → List ChangeParts → Result (List Operation) F
+abbrev pub edits_or : {F : Type 0} → F → State → List ℕ → List ChangeParts
+    → Result (List Operation) F
 edits_or full s book changes = edits_by full (first_number s.held (length changes)) s book changes
 
 -- why a change may not be made: its text does not fit its segment; or else the segment does not show one of its ids, the first such
@@ -55,7 +56,8 @@ change_fault held book c =
 -- why the first of some changes that may not be made may not
 abbrev pub first_fault : List Operation → List ℕ → List ChangeParts → Option EditFault
 first_fault held book [] = None
-first_fault held book (c ∷ later) = option_or (change_fault held book c) (first_fault held book later)
+first_fault held book (c ∷ later) =
+    option_or (change_fault held book c) (first_fault held book later)
 
 -- the edits of some changes of a book; or why one may not be made, or else that no numbers are left for them
 abbrev pub changes_ops : State → List ℕ → List ChangeParts → Result (List Operation) EditFault

@@ -60,7 +60,8 @@ changed_keys held base book pieces =
     filter (is_changed held base book pieces) (walked_keys held book pieces)
 
 -- the change of a key to the file's piece, which replaces what the segment shows of that which stood in the file
-abbrev pub since_change : List Operation → List Operation → List ℕ → List PieceParts → KeyParts → ChangeParts
+abbrev pub since_change : List Operation → List Operation → List ℕ → List PieceParts → KeyParts
+    → ChangeParts
 since_change held base book pieces key = record {
   key = key;
   text = piece_at pieces key;
@@ -68,7 +69,8 @@ since_change held base book pieces key = record {
 }
 
 -- what was changed in the file, of rising keys
-abbrev pub since_changes : List Operation → List Operation → List ℕ → List PieceParts → List ChangeParts
+abbrev pub since_changes : List Operation → List Operation → List ℕ → List PieceParts
+    → List ChangeParts
 since_changes held base book pieces =
     map (since_change held base book pieces) (changed_keys held base book pieces)
 

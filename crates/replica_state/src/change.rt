@@ -125,7 +125,8 @@ impl Replica {
         requires beyond { greatest_number self.old.held < first }
         requires room { first + length changes.now ≤ LAST_NUMBER + 1 }
         requires fits { AllByRecursion (λ c. Fits book c.key c.text) (changes_view changes.now) }
-        ensures ok { let made = changing.edits_from first self.old book (changes_view changes.now) in
+        ensures ok { let made = changing.edits_from first self.old book
+            (changes_view changes.now) in
             OnOk result (self.new ≡ with_ops self.old made) }
         ensures count { IfOk result (λ n. n ≡ length changes.now) }
         ensures none { changes.now ≡ [] → IsOk result }
@@ -145,7 +146,8 @@ impl Replica {
         requires beyond { greatest_number self.now.held < first }
         requires room { first + length changes.now ≤ LAST_NUMBER + 1 }
         requires fits { AllByRecursion (λ c. Fits book c.key c.text) (changes_view changes.now) }
-        ensures ops { let made = changing.edits_from first self.now book (changes_view changes.now) in
+        ensures ops { let made = changing.edits_from first self.now book
+            (changes_view changes.now) in
             IfOk result (λ ops. ops.items ≡ made) }
         ensures none { changes.now ≡ [] → IsOk result }
         ensures state { IsState self.now }

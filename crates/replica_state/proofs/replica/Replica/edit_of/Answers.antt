@@ -9,4 +9,5 @@ pub new-requires-clause-falls : goal.new-requires-clause-falls
 new-requires-clause-falls c =
     let state : IsState c.args.self.now = subst IsState c.self.view_is c.self.invariant in
     ap (names_fall c.args.id) c.in_ok-replaced.ensures
-    ∙ given_fall c.args.self.now.held (segment c.args.book c.args.change.now.key) c.deref.result.now c.args.id state.set.rising c.requires.beyond
+    ∙ given_fall c.args.self.now.held (segment c.args.book c.args.change.now.key) c.deref.result.now c.args.id state.set.rising
+    c.requires.beyond

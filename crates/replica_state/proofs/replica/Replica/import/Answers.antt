@@ -30,7 +30,8 @@ make-requires-clause-fits c =
     let held = c.args.self.now.held in
     let book = c.in_ok-book.book in
     let pieces = pieces_view c.deref.result.now in
-    subst (AllByRecursion (λ (p : ChangeParts). Fits book p.key p.text)) (sym (ap changes_view c.deref-2.ensures.value ∙ c.in_ok-changes.ensures))
+    subst (AllByRecursion (λ (p : ChangeParts). Fits book p.key p.text))
+    (sym (ap changes_view c.deref-2.ensures.value ∙ c.in_ok-changes.ensures))
     (all_fit book (piece_at pieces) (λ key. shown_ids held (segment book key))
     (all_pieces_fit book c.args.file.now c.in_ok-book.ensures.value c.deref.result.now
     (ap pieces_view c.deref.ensures.value ∙ c.in_ok-pieces.ensures.value)) (due_keys held book pieces))

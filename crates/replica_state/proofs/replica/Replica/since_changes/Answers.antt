@@ -16,7 +16,8 @@ loop-key-preserved c =
     let f = since_change held was c.args.book pieces in
     let keys = c.deref-key-items.result.now in
     elim c.match-branch-3.branch [
-      | in-Some+in_ok-push w ↦ ap (λ (v : Vec Change Global). changes_view v.items) w.changes-is ∙ ap changes_view w.in_ok-push.ensures.items
+      | in-Some+in_ok-push w ↦
+          ap (λ (v : Vec Change Global). changes_view v.items) w.changes-is ∙ ap changes_view w.in_ok-push.ensures.items
           ∙ change_pushed p f keys c.loop-key.key-index c.key-item.result c.loop-key-test.true c.key-item.is c.loop-key.changes.items
           c.loop-key.invariant w.in-Some.change (sym (ap (option_map change_view) w.in-Some.is) ∙ c.in_ok-change.ensures)
       | in_default w ↦ ap (λ (v : Vec Change Global). changes_view v.items) w.changes-is
