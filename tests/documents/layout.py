@@ -6,7 +6,7 @@ from tally import TOP, check, kept_files, text_of
 
 MOST_LINES, WIDEST_CLAUSE, WIDEST_PROOF = 400, 100, 140
 CODE = re.compile(r"\.(rt|antt|py|sh|bash|fish|awk|rs|c)$")
-TESTS = re.compile(r"^crates/\w+/src/tests\b")
+TESTS = re.compile(r"^crates/(usfm_team|\w+/src/tests)\b")
 # Lines that may be as wide as they are: comments, imports and attributes.
 WIDE = re.compile(r"\s*(//|--|#\[|(pub )?(ghost )?use )")
 CITED = re.compile(r"^use Rattle\.(\w+)\.proofs\.([\w.]+)\.\{([^}]*)\}", re.M)

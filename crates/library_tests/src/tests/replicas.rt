@@ -1,8 +1,8 @@
-// How many comparisons an operation costs a replica of many segments.
+// Changes that are made together, and how many comparisons an operation costs a replica of many segments.
 use super::{apart, id_of, op_of, put, since, verse};
 use bundle_codec::{decode, encode};
 use op_core::{OpSet, ReplicaName};
-use replica_state::Replica;
+use replica_state::{Change, EditFault, Replica};
 use std::alloc::Global;
 use std::test::Fail;
 use usfm_ref::Book;
@@ -35,5 +35,41 @@ fn few_comparisons(rt: HostRuntime) -> Result<(), Fail> {
     assert!(rt; made == Ok(id_of(5001)?));
     let cost = since(before, ana.compared())?;
     assert!(rt; matches!(cost, 1..=256), "{cost} comparisons of an edit");
+    Ok(())
+}
+
+// Each change replaces what it names and nothing else; one that may not be made refuses them all.
+#[test]
+fn changes_are_made_together(rt: HostRuntime) -> Result<(), Fail> {
+    let alloc = rt.alloc();
+    let book = Book::read("MAT")?;
+    let mut ana = Replica::new(alloc, ReplicaName::read("ana")?);
+    assert_eq!(rt; received(alloc, &mut ana, &apart(alloc, 4)?)?, 4);
+    let over = Change {
+        key: verse(0, 1)?,
+        text: "\\v 1 a\n",
+        ids: vec![in alloc; id_of(2)?]?,
+    };
+    let elsewhere = Change {
+        key: verse(0, 2)?,
+        text: "\\v 2 b\n",
+        ids: vec![in alloc; id_of(2)?]?,
+    };
+    let beside = Change {
+        key: verse(0, 3)?,
+        text: "\\v 3 c\n",
+        ids: Vec::new(alloc),
+    };
+    let refused = ana.change(book, &[over, elsewhere]);
+    assert!(rt; refused == Err(EditFault::NotShown(id_of(2)?)));
+    assert_eq!(rt; ana.shown(alloc, book, verse(0, 1)?)?.len(), 1);
+    let over = Change {
+        key: verse(0, 1)?,
+        text: "\\v 1 a\n",
+        ids: vec![in alloc; id_of(2)?]?,
+    };
+    assert!(rt; ana.change(book, &[over, beside]) == Ok(2));
+    assert_eq!(rt; ana.shown(alloc, book, verse(0, 1)?)?.len(), 1);
+    assert_eq!(rt; ana.shown(alloc, book, verse(0, 3)?)?.len(), 2);
     Ok(())
 }
