@@ -196,7 +196,7 @@ class Stage:
                     self.skipped.append(f"{self.place(row)}: not played, for want of what it needs")
                     return
                 self.do(row, later is not None and later.text.startswith("= output:"))
-            except (ValueError, IndexError, KeyError, OSError, subprocess.TimeoutExpired) as wrong:
+            except Exception as wrong:
                 said = f"{type(wrong).__name__}: {wrong}"
                 self.failures.append(f"{self.place(row)}\n    {row.text}\n    {said}")
                 return
