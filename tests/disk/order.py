@@ -1,5 +1,4 @@
 """The order of the program's calls at the system, as strace shows it."""
-import os
 import re
 import shutil
 import subprocess
@@ -64,8 +63,8 @@ INTO_FOLDER = [
 
 
 def check_order(tally: Tally, program: Path, work: Path) -> None:
-    if not has_strace():
-        print("disk: not run, since there is no strace: the order at the system; apt-get install strace")
+    if shutil.which("strace") is None:
+        print("disk: not run, since strace is not installed: the order of the calls to the system")
         return
     folder = work / "order"
     folder.mkdir()
@@ -88,13 +87,6 @@ def check_order(tally: Tally, program: Path, work: Path) -> None:
     for words, wanted in INTO_FOLDER:
         lines = traced(program, folder, words, b"")
         tally.check(are_these(lines, wanted), f"{' '.join(words)}: {lines}")
-
-
-def has_strace() -> bool:
-    """Whether strace is there, by then."""
-    if shutil.which("strace") is None and os.geteuid() == 0 and shutil.which("apt-get"):
-        subprocess.run(["apt-get", "install", "-y", "--no-install-recommends", "strace"], capture_output=True)
-    return shutil.which("strace") is not None
 
 
 def with_a_replaced_text(program: Path, folder: Path) -> bytes:

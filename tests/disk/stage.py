@@ -1,29 +1,14 @@
 """A folder with a project, and what is counted."""
 import shutil
 import subprocess
-import threading
-from dataclasses import dataclass, field
+from dataclasses import dataclass
 from pathlib import Path
 from typing import Optional
 
+from reporting import Tally
+
 # Far more than any command takes: one that waits for ever is shown as one that fails.
 SECONDS = 60
-
-
-@dataclass
-class Tally:
-    """What was looked at, by several threads."""
-
-    passed: int = 0
-    failures: list[str] = field(default_factory=list)
-    lock: threading.Lock = field(default_factory=threading.Lock)
-
-    def check(self, is_right: bool, what: str) -> None:
-        with self.lock:
-            if is_right:
-                self.passed += 1
-            else:
-                self.failures.append(what)
 
 
 @dataclass(frozen=True)

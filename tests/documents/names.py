@@ -65,11 +65,14 @@ def check_calls(page):
 
 
 def check_tests(page):
-    """Each test and table of tests that the last column of a table names is in a crate."""
+    """Each test and each play of rows that the last column of a table names is in a crate, or in a file of rows."""
     tests = "".join(text_of(path) for path in kept_files() if re.search(r"/src/tests.*\.rt$", path))
+    plays = [line for path in kept_files() if path.endswith(".rows") for line in text_of(path).splitlines()]
     for row in ROW.findall(text_of(page)):
         for name in re.findall(r"`(\w+)`", row.split(" | ")[-1]):
             check(re.search(rf"\b(fn|const) {name}\b", tests), f"{page}: no test has {name}")
+        for title in re.findall(r"\*([^*]+)\*", row.split(" | ")[-1]):
+            check(f"# {title}" in plays, f"{page}: no play of rows has the title {title}")
 
 
 def check_edits():

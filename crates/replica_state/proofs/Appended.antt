@@ -1,13 +1,13 @@
 -- A replica after an import: the edits come after all that it held, and each is what its segment shows last.
-use Rattle.std.proofs.Common.{◌≡◌, ℕ, suc, ◌<◌, Bool, true, false, not, cond, ◌&&◌, ◌||◌, List, [], ◌∷◌, ◌++◌}
-use Rattle.std.proofs.Common.{filter, nat_lt, Option, Some, None, arith, refl, sym, ap, ◌∙◌, append-nil}
+use Rattle.std.proofs.Common.{◌≡◌, ℕ, suc, ◌<◌, Bool, true, false, not, ◌&&◌, ◌||◌, List, [], ◌∷◌, ◌++◌, map}
+use Rattle.std.proofs.Common.{filter, arith, refl, sym, ap, ◌∙◌, append-nil}
 use Rattle.std.specs.Cmp.{Equal-is, tied_itself}
-use Rattle.std.specs.List.{AllByRecursion, list_all, list_any}
-use Rattle.std.specs.Option.{option_or}
+use Rattle.std.specs.List.{list_all, list_any}
 use Rattle.std.specs.Ordering.{is_eq, is_lt}
-use Rattle.std.proofs.lemmas.Bool.{and_parts, and_from, cond-true, cond-false}
+use Rattle.std.proofs.Math.Bool.{or-false}
+use Rattle.std.proofs.lemmas.Bool.{and_parts, and_from, and_right, or_from, or_parts, cond-true, cond-false}
 use Rattle.std.proofs.lemmas.List.Elements.{filter-append}
-use Rattle.std.proofs.lemmas.List.Folds.{list_any-append, list_all-append, find-append}
+use Rattle.std.proofs.lemmas.List.Folds.{list_any-append}
 use Rattle.usfm_ref.specs.Books.{same_bytes}
 use Rattle.usfm_ref.specs.Keys.{KeyParts, key_cmp, same_key}
 use Rattle.usfm_ref.specs.Rising.{rises_by}
@@ -15,21 +15,16 @@ use Rattle.usfm_ref.specs.Segments.{segment}
 use Rattle.usfm_ref.specs.declared.segment.Segment.{Segment}
 use Rattle.usfm_ref.proofs.Orders.{key_total, key_exact, same_bytes-refl, same_key-is, same_key-refl}
 use Rattle.usfm_ref.proofs.Sorted.{is_less}
-use Rattle.verse_cut.specs.Pieces.{PieceParts}
-use Rattle.op_core.specs.Ids.{Id, same_id, id_below, ids_rise}
-use Rattle.op_core.specs.Ops.{Operation, IsOperation, in_segment, names}
-use Rattle.op_core.specs.Sets.{rises, get, join, met}
-use Rattle.op_core.specs.Shown.{is_replaced, is_shown, last, text_if_any, text_of}
-use Rattle.op_core.specs.Lists.{shown_ids}
+use Rattle.op_core.specs.Ids.{Id}
+use Rattle.op_core.specs.Ops.{Operation, in_segment, names}
+use Rattle.op_core.specs.Sets.{IsOpSet}
+use Rattle.op_core.specs.Shown.{shown, is_replaced, is_shown, last, text_if_any, text_of}
 use Rattle.op_core.specs.NextIds.{greatest_number, next_number}
-use Rattle.op_core.proofs.Enrolled.{apart_at}
-use Rattle.op_core.proofs.NextIds.{shown_fall}
-use Rattle.op_core.proofs.Shows.{not_named, names_none}
-use Rattle.op_core.proofs.Union.{rises_parts, rises-join, get-join, same_gets}
+use Rattle.op_core.proofs.FilteredLists.{filter_none, none_of_less}
 use Rattle.op_core.proofs.Walk.{last_push}
-use Rattle.replica_state.specs.States.{State, IsState}
-use Rattle.replica_state.specs.Imports.{piece_at, edits_from}
-use Rattle.replica_state.proofs.Imports.{edit_at, numbers_above, edits_rise, edits_are_new}
+use Rattle.replica_state.specs.States.{State}
+use Rattle.replica_state.specs.Changes.{ChangeParts, edits_from}
+use Rattle.replica_state.proofs.Changes.{edit_at, held_names_none, edits_name_none}
 
 -- whether a key is among keys
 abbrev pub is_there : KeyParts → List KeyParts → Bool
@@ -46,162 +41,107 @@ keys_apart q k h = by (same_key k q) refl
 pub key_is : (q k : KeyParts) → is_eq (key_cmp q k) ≡ true → q ≡ k
 key_is q k h = key_exact q k ((Equal-is _).0 h)
 
-and_none : (a b : Bool) → b ≡ false → (a && b) ≡ false
-and_none true b h = h
-and_none false b h = refl
+-- a key below all others is not among them
+pub not_there : (key : KeyParts) (keys : List KeyParts) → list_all (λ k. is_lt (key_cmp key k)) keys ≡ true → is_there key keys ≡ false
+not_there key [] h = refl
+not_there key (k ∷ keys) h =
+    let p = and_parts (is_lt (key_cmp key k)) (list_all (λ k. is_lt (key_cmp key k)) keys) h in
+    (λ i. is_eq (is_less (key_cmp key k) p.0 i) || not_there key keys p.1 i)
 
--- where one of the two is none, the other is what is met
-pub one_of_both : (x y : Option Operation) → ((o : Operation) → y ≡ Some o → x ≡ None) → met x y ≡ option_or x y
-one_of_both None y apart = refl
-one_of_both (Some x) None apart = refl
-one_of_both (Some x) (Some y) apart = cc (apart y refl)
+-- ---- operations of other segments, after those of a set
 
--- nothing names an id where no operation that does is left
-any_none : (g : Segment) (id : Id) (ops : List Operation) → filter (λ o. in_segment g o && names o id) ops ≡ []
-    → is_replaced ops g id ≡ false
-any_none g id [] e = refl
-any_none g id (o ∷ ops) e = by (λ f. any_none g id ops f) (in_segment g o && names o id) refl e
+none_among : (g : Segment) (test : Operation → Bool) (ops : List Operation) → list_any (in_segment g) ops ≡ false
+    → list_any (λ o. in_segment g o && test o) ops ≡ false
+none_among g test ops h =
+    none_of_less (λ o. in_segment g o && test o) (in_segment g) (λ o e. (and_parts (in_segment g o) (test o) e).0) ops h
+
+-- a segment shows what it did
+pub shown_after : (held new : List Operation) (g : Segment) → list_any (in_segment g) new ≡ false → shown (held ++ new) g ≡ shown held g
+shown_after held new g h =
+    filter-append (is_shown (held ++ new) g) held new
+    ∙ (λ i. filter (λ o. in_segment g o && not (same o.id i)) held
+    ++ filter_none (is_shown (held ++ new) g) new (none_among g (λ o. not (is_replaced (held ++ new) g o.id)) new h) i)
+    ∙ append-nil (shown held g)
   where
-    by : (filter (λ o. in_segment g o && names o id) ops ≡ [] → is_replaced ops g id ≡ false) → (b : Bool)
-        → (in_segment g o && names o id) ≡ b
-        → cond b (o ∷ filter (λ o. in_segment g o && names o id) ops) (filter (λ o. in_segment g o && names o id) ops) ≡ []
-        → ((in_segment g o && names o id) || is_replaced ops g id) ≡ false
-    by rest true f e = absurd (cc)
-    by rest false f e = ap (λ b. b || is_replaced ops g id) f ∙ rest e
+    same : (id : Id) → is_replaced (held ++ new) g id ≡ is_replaced held g id
+    same id =
+        list_any-append (λ (p : Operation). in_segment g p && names p id) held new
+        ∙ ap (λ b. is_replaced held g id || b) (none_among g (λ o. names o id) new h) ∙ or-false (is_replaced held g id)
 
-module _ (s : State) (state : IsState s) (book : List ℕ) (pieces : List PieceParts) where
-  abbrev edits : ℕ → List KeyParts → List Operation
-  edits n keys = edits_from n s book pieces keys
+-- changes of some keys of a book, each to its text and over its ids
+module _ (s : State) (set : IsOpSet s.held) (book : List ℕ) (text : KeyParts → List ℕ) (ids : KeyParts → List Id) where
+  abbrev pub change_of : KeyParts → ChangeParts
+  change_of key = record { key = key; text = text key; ids = ids key }
 
-  -- ---- the edits come after
+  abbrev pub edits : ℕ → List KeyParts → List Operation
+  edits n keys = edits_from n s book (map change_of keys)
 
-  rises_with : (ops : List Operation) (n : ℕ) (keys : List KeyParts) → rises ops ≡ true → greatest_number ops < n
-      → rises (ops ++ edits n keys) ≡ true
-  rises_with [] n keys h l = edits_rise s book pieces n keys
-  rises_with (o ∷ ops) n keys h l =
-      let p = rises_parts o ops h in
-      and_from _ _ (list_all-append (λ (q : Operation). id_below o.id q.id) ops (edits n keys)
-      ∙ and_from _ _ p.0 (numbers_above s book pieces o.id n keys (omega arith)))
-      (rises_with ops n keys p.1 (omega arith))
+  abbrev pub edit_of : ℕ → KeyParts → Operation
+  edit_of n key = edit_at s book n (change_of key)
 
-  pub joined_after : (keys : List KeyParts) → join s.held (edits (next_number s.held) keys) ≡ s.held ++ edits (next_number s.held) keys
-  joined_after keys =
-      let new = edits (next_number s.held) keys in
-      same_gets _ _ (rises-join s.held new state.set.rising) (rises_with s.held (next_number s.held) keys state.set.rising (omega arith))
-      (λ q. get-join s.held new q state.set.rising (edits_rise s book pieces (next_number s.held) keys)
-      ∙ one_of_both (get s.held q) (get new q)
-      (λ o g. apart_at s.held new q o (edits_are_new s book pieces (next_number s.held) keys (omega arith)) g)
-      ∙ sym (find-append (λ (o : Operation). same_id q o.id) s.held new))
+  -- a key without an edit has none
+  pub none_of : (q : KeyParts) (n : ℕ) (keys : List KeyParts) → is_there q keys ≡ false
+      → list_any (in_segment (segment book q)) (edits n keys) ≡ false
+  none_of q n [] h = refl
+  none_of q n (k ∷ keys) h =
+      let p = or_parts (is_eq (key_cmp q k)) (is_there q keys) h in
+      or_from _ _ (and_right (same_bytes book book) (same_key k q) (keys_apart q k p.0)) (none_of q (suc n) keys p.1)
 
-  -- ---- nothing names an id beyond
-
-  held_names_none : (g : Segment) (id : Id) (ops : List Operation) → AllByRecursion IsOperation ops → greatest_number ops < id.number
-      → is_replaced ops g id ≡ false
-  held_names_none g id [] all l = refl
-  held_names_none g id (o ∷ ops) all l =
-      (λ i. and_none (in_segment g o) (names o id) (names_none o id all.0 (omega arith)) i
-      || held_names_none g id ops all.1 (omega arith) i)
-
-  edits_name_none : (g : Segment) (id : Id) (n : ℕ) (keys : List KeyParts) → greatest_number s.held < id.number
-      → is_replaced (edits n keys) g id ≡ false
-  edits_name_none g id n [] l = refl
-  edits_name_none g id n (k ∷ keys) l =
-      let at = segment book k in
-      let below : list_all (λ (i : Id). nat_lt i.number id.number) (shown_ids s.held at)
-      ≡ true =
-      (and_parts (ids_rise (shown_ids s.held at)) (list_all (λ (i : Id). nat_lt i.number id.number) (shown_ids s.held at))
-      (shown_fall s.held at id state.set.rising l)).1 in
-      (λ i. and_none (in_segment g (edit_at s book pieces n k)) (list_any (same_id id) (shown_ids s.held at))
-      (not_named id.number id (shown_ids s.held at) below (omega arith)) i || edits_name_none g id (suc n) keys l i)
+  -- and one with an edit has it
+  pub here : (q k : KeyParts) (n : ℕ) → is_eq (key_cmp q k) ≡ true → in_segment (segment book q) (edit_of n k) ≡ true
+  here q k n e = and_from _ _ (same_bytes-refl book) (ap (λ (j : KeyParts). same_key k j) (key_is q k e) ∙ same_key-refl k)
 
   -- ---- what of the edits a segment shows
 
   module _ (key : KeyParts) (all : List KeyParts) where
-    abbrev g : Segment
+    abbrev pub g : Segment
     g = segment book key
 
-    abbrev now : List Operation
+    abbrev pub now : List Operation
     now = s.held ++ edits (next_number s.held) all
 
-    unnamed : (id : Id) → greatest_number s.held < id.number → is_replaced now g id ≡ false
+    pub unnamed : (id : Id) → greatest_number s.held < id.number → is_replaced now g id ≡ false
     unnamed id l =
         list_any-append (λ (p : Operation). in_segment g p && names p id) s.held (edits (next_number s.held) all)
-        ∙ (λ i. held_names_none g id s.held state.set.each l i || edits_name_none g id (next_number s.held) all l i)
-
-    no_edit : (test : Operation → Bool) (n : ℕ) (keys : List KeyParts) → is_there key keys ≡ false
-        → filter (λ o. in_segment g o && test o) (edits n keys) ≡ []
-    no_edit test n [] h = refl
-    no_edit test n (k ∷ keys) h = by (λ g. no_edit test (suc n) keys g) (is_eq (key_cmp key k)) refl h
-      where
-        by : (is_there key keys ≡ false → filter (λ o. in_segment g o && test o) (edits (suc n) keys) ≡ []) → (b : Bool)
-            → is_eq (key_cmp key k) ≡ b → (b || is_there key keys) ≡ false
-            → filter (λ o. in_segment g o && test o) (edits n (k ∷ keys)) ≡ []
-        by rest true e h = cc h
-        by rest false e h =
-            cond-false _ _ _ (ap (λ b. b && test (edit_at s book pieces n k))
-            (and_none (same_bytes book book) (same_key k key) (keys_apart key k e)))
-            ∙ rest h
-
-    above_apart : (keys : List KeyParts) → list_all (λ k. is_lt (key_cmp key k)) keys ≡ true → is_there key keys ≡ false
-    above_apart [] h = refl
-    above_apart (k ∷ keys) h =
-        let p = and_parts (is_lt (key_cmp key k)) (list_all (λ k. is_lt (key_cmp key k)) keys) h in
-        (λ i. is_eq (is_less (key_cmp key k) p.0 i) || above_apart keys p.1 i)
+        ∙ or_from _ _ (held_names_none g id s.held set.each l)
+        (edits_name_none s book g id (next_number s.held) (map change_of all) set.rising l)
 
     one_edit : (n : ℕ) (keys : List KeyParts) → rises_by key_cmp (λ k. k) keys ≡ true → greatest_number s.held < n
-        → is_there key keys ≡ true → (m : ℕ) × (filter (is_shown now g) (edits n keys) ≡ edit_at s book pieces m key ∷ [])
+        → is_there key keys ≡ true → (m : ℕ) × (filter (is_shown now g) (edits n keys) ≡ edit_of m key ∷ [])
     one_edit n [] r l h = cc h
     one_edit n (k ∷ keys) r l h = by (λ g. one_edit (suc n) keys p.1 (omega arith) g) (is_eq (key_cmp key k)) refl h
       where
         p : (list_all (λ j. is_lt (key_cmp k j)) keys ≡ true) × (rises_by key_cmp (λ k. k) keys ≡ true)
         p = and_parts (list_all (λ j. is_lt (key_cmp k j)) keys) (rises_by key_cmp (λ k. k) keys) r
 
-        by : (is_there key keys ≡ true → (m : ℕ) × (filter (is_shown now g) (edits (suc n) keys) ≡ edit_at s book pieces m key ∷ []))
+        by : (is_there key keys ≡ true → (m : ℕ) × (filter (is_shown now g) (edits (suc n) keys) ≡ edit_of m key ∷ []))
             → (b : Bool) → is_eq (key_cmp key k) ≡ b → (b || is_there key keys) ≡ true
-            → (m : ℕ) × (filter (is_shown now g) (edits n (k ∷ keys)) ≡ edit_at s book pieces m key ∷ [])
+            → (m : ℕ) × (filter (is_shown now g) (edits n (k ∷ keys)) ≡ edit_of m key ∷ [])
         by later true e h =
             let is : key ≡ k = key_is key k e in
             let id : Id = record { number = n; name = s.name } in
-            let here : is_shown now g (edit_at s book pieces n k) ≡ true =
-            and_from _ _ (and_from _ _ (same_bytes-refl book) (ap (λ (j : KeyParts). same_key k j) is ∙ same_key-refl k))
-            (ap not (unnamed id l))
-            in
-            let none = no_edit (λ o. not (is_replaced now g o.id)) (suc n) keys
-            (above_apart keys (ap (λ (q : KeyParts). list_all (λ j. is_lt (key_cmp q j)) keys) is ∙ p.0)) in
-            (n, cond-true _ _ _ here ∙ (λ i. edit_at s book pieces n (sym is i) ∷ none i))
+            let shows : is_shown now g (edit_of n k) ≡ true = and_from _ _ (here key k n e) (ap not (unnamed id l)) in
+            let none = filter_none (is_shown now g) (edits (suc n) keys)
+            (none_among g (λ o. not (is_replaced now g o.id)) (edits (suc n) keys) (none_of key (suc n) keys (not_there key keys (ap (λ (q : KeyParts). list_all (λ j. is_lt (key_cmp q j)) keys) is ∙ p.0)))) in
+            (n, cond-true _ _ _ shows ∙ (λ i. edit_of n (sym is i) ∷ none i))
         by later false e h =
             let rest = later h in (
               rest.0,
               cond-false _ _ _ (ap (λ b. b && not (is_replaced now g (record { number = n; name = s.name })))
-                  (and_none (same_bytes book book) (same_key k key) (keys_apart key k e))) ∙ rest.1,
+                  (and_right (same_bytes book book) (same_key k key) (keys_apart key k e))) ∙ rest.1,
             )
 
-    -- a key with an edit: its text is the piece's
-    pub text_edited : rises_by key_cmp (λ k. k) all ≡ true → is_there key all ≡ true → text_of now g ≡ piece_at pieces key
+    -- a key with an edit: its text is that of the change
+    pub text_edited : rises_by key_cmp (λ k. k) all ≡ true → is_there key all ≡ true → text_of now g ≡ text key
     text_edited r h =
         let one = one_edit (next_number s.held) all r (omega arith) h in
         ap (λ (ops : List Operation). text_if_any (last ops))
         (filter-append (is_shown now g) s.held (edits (next_number s.held) all)
         ∙ ap (λ (ops : List Operation). filter (is_shown now g) s.held ++ ops) one.1)
-        ∙ ap text_if_any (last_push (filter (is_shown now g) s.held) (edit_at s book pieces one.0 key))
+        ∙ ap text_if_any (last_push (filter (is_shown now g) s.held) (edit_of one.0 key))
 
     -- a key without one: its text is as it was
     pub text_kept : is_there key all ≡ false → text_of now g ≡ text_of s.held g
     text_kept h =
         ap (λ (ops : List Operation). text_if_any (last ops))
-        (filter-append (is_shown now g) s.held (edits (next_number s.held) all)
-        ∙ ap (λ (ops : List Operation). filter (is_shown now g) s.held ++ ops)
-        (no_edit (λ o. not (is_replaced now g o.id)) (next_number s.held) all h)
-        ∙ append-nil (filter (is_shown now g) s.held)
-        ∙ (λ i. filter (λ o. in_segment g o && not (same o.id i)) s.held))
-      where
-        or_none : (b : Bool) → (b || false) ≡ b
-        or_none true = refl
-        or_none false = refl
-
-        same : (id : Id) → is_replaced now g id ≡ is_replaced s.held g id
-        same id =
-            list_any-append (λ (p : Operation). in_segment g p && names p id) s.held (edits (next_number s.held) all)
-            ∙ ap (λ b. is_replaced s.held g id || b)
-            (any_none g id (edits (next_number s.held) all) (no_edit (λ o. names o id) (next_number s.held) all h))
-            ∙ or_none (is_replaced s.held g id)
+        (shown_after s.held (edits (next_number s.held) all) g (none_of key (next_number s.held) all h))

@@ -1,6 +1,6 @@
 -- The ids of edits: the next one is new, and what an edit names has smaller numbers.
-use Rattle.std.proofs.Common.{◌≡◌, ℕ, ◌<◌, Bool, true, false, not, cond, ◌||◌, List, [], ◌∷◌}
-use Rattle.std.proofs.Common.{Option, Some, None, filter, map, arith, refl, sym, ap, subst}
+use Rattle.std.proofs.Common.{◌≡◌, ℕ, Bool, true, false, not, cond, ◌||◌, List, [], ◌∷◌}
+use Rattle.std.proofs.Common.{Option, Some, None, option_map, Ok, filter, map, refl, sym, ap, ◌∙◌}
 use Rattle.std.specs.declared.cmp.Ordering.{Ordering}
 use Rattle.std.specs.declared.cmp.Ordering.TheVariants.{Less, Equal, Greater}
 use Rattle.std.specs.FinMap.Entries.{by_order}
@@ -12,17 +12,14 @@ use Rattle.usfm_ref.specs.declared.segment.Segment.{Segment}
 use Rattle.verse_cut.specs.Fits.{Fits}
 use Rattle.verse_cut.specs.Reading.{text_fits}
 use Rattle.verse_cut.proofs.FitLaws.{fits_is_read}
-use Rattle.op_core.specs.Ids.{Id, names_fall}
+use Rattle.op_core.specs.Ids.{Id}
 use Rattle.op_core.specs.Ops.{Operation}
-use Rattle.op_core.specs.Sets.{get, join}
-use Rattle.op_core.specs.Thinned.{is_legal}
 use Rattle.op_core.specs.Export.{of_book, has_book, keys_in}
 use Rattle.op_core.specs.Lists.{shown_ids, keys_of}
-use Rattle.op_core.specs.NextIds.{greatest_number, next_number, is_among, given_ids}
-use Rattle.op_core.proofs.Left.{join_full_legal}
-use Rattle.op_core.proofs.NextIds.{beyond, shown_fall, some_fall}
-use Rattle.replica_state.specs.States.{State, IsState}
-use Rattle.replica_state.specs.Edits.{has_numbers, edit_with, edit_fault, next_id}
+use Rattle.op_core.specs.NextIds.{given_ids}
+use Rattle.replica_state.proofs.ChangeRuns.{all_given}
+use Rattle.replica_state.specs.States.{State}
+use Rattle.replica_state.specs.Edits.{own_id, first_number, next_id, edit_with, edit_by, edit_fault, edit_op, unless}
 use Rattle.replica_state.specs.declared.fault.EditFault.{EditFault}
 use Rattle.replica_state.specs.declared.fault.EditFault.TheVariants.{BadSegment}
 
@@ -34,31 +31,15 @@ may_begin held g text e = (fits_is_read g.book g.key text).0 (by (text_fits g.bo
     by true later e = refl
     by false later e = cc e
 
--- the next id is beyond all that are held
-pub next_beyond : (s : State) (id : Id) → Some id ≡ next_id s → greatest_number s.held < id.number
-next_beyond s id e = by (has_numbers s.held 1) e
-  where
-    by : (b : Bool) → Some id ≡ cond b (Some (record { number = next_number s.held; name = s.name })) None
-        → greatest_number s.held < id.number
-    by true e = let is : id ≡ record { number = next_number s.held; name = s.name } = cc in
-        subst (λ (i : Id). greatest_number s.held < i.number) (sym is) (omega arith)
-    by false e = cc e
-
-pub next_is_new : (s : State) (id : Id) → Some id ≡ next_id s → get s.held id ≡ None
-next_is_new s id e = beyond s.held id (next_beyond s id e)
-
-pub next_falls : (s : State) (g : Segment) (id : Id) → IsState s → Some id ≡ next_id s → names_fall id (shown_ids s.held g) ≡ true
-next_falls s g id is e = shown_fall s.held g id is.set.rising (next_beyond s id e)
-
-pub next_falls_given : (s : State) (g : Segment) (given : List Id) (id : Id) → IsState s → Some id ≡ next_id s
-    → names_fall id (given_ids s.held g given) ≡ true
-next_falls_given s g given id is e = some_fall id (is_among given) (shown_ids s.held g) (next_falls s g id is e)
-
--- a replica with an edit that is new is legal
-pub edit_legal : (s : State) (id : Id) (g : Segment) (replaced : List Id) (text : List ℕ) → IsState s → get s.held id ≡ None
-    → is_legal (join s.held (edit_with id g replaced text ∷ [])) ≡ true
-edit_legal s id g replaced text is none =
-    join_full_legal s.held (edit_with id g replaced text ∷ []) is.set.rising refl is.legal refl (none, tt)
+-- the operation of an edit that names all that its segment shows
+pub edit_is : (s : State) (g : Segment) (text : List ℕ) (ids : List Id) (number : ℕ) → edit_fault s.held g text ≡ None
+    → Some number ≡ first_number s.held 1 → ids ≡ shown_ids s.held g
+    → edit_op s g text ≡ Ok (edit_with (own_id s number) g (given_ids s.held g ids) text)
+edit_is s g text ids number begins given shows =
+    ap (λ (r : Option EditFault). unless r (edit_by (next_id s) g (shown_ids s.held g) text)) begins
+    ∙ ap (λ (f : Option ℕ). edit_by (option_map (own_id s) f) g (shown_ids s.held g) text) (sym given)
+    ∙ ap (λ (named : List Id). Ok (edit_with (own_id s number) g named text))
+    (sym (ap (given_ids s.held g) shows ∙ all_given (shown_ids s.held g)))
 
 -- ---- whether a book has an operation
 

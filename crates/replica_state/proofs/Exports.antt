@@ -1,6 +1,6 @@
 -- After an import the export of its book is the file.
 use Rattle.std.proofs.Common.{◌≡◌, ℕ, Bool, true, false, not, cond, ◌||◌, List, [], ◌∷◌, ◌++◌}
-use Rattle.std.proofs.Common.{filter, length, Some, Result, Ok, Err, refl, sym, ap, ◌∙◌}
+use Rattle.std.proofs.Common.{filter, length, Option, None, Some, Result, Ok, arith, refl, sym, ap, ◌∙◌}
 use Rattle.std.specs.List.{list_any, list_all}
 use Rattle.std.specs.Ordering.{is_eq}
 use Rattle.std.proofs.lemmas.Bool.{and_parts, cond-true, cond-false}
@@ -14,18 +14,21 @@ use Rattle.verse_cut.specs.Joins.{KeyText, filled, at_book_head, texts_joined}
 use Rattle.verse_cut.specs.Reading.{book_in, is_empty}
 use Rattle.verse_cut.specs.declared.fault.BookFault.{BookFault}
 use Rattle.op_core.specs.Ops.{Operation}
+use Rattle.op_core.specs.Sets.{join}
 use Rattle.op_core.specs.Export.{exported_keys, export}
 use Rattle.op_core.specs.CutsBack.{picked_at, later_texts}
+use Rattle.op_core.specs.NextIds.{next_number}
 use Rattle.op_core.proofs.CutsBack.{keys_rise, split, texts_rise}
 use Rattle.op_core.proofs.Exported.{picks_are_exported}
 use Rattle.replica_state.specs.States.{State, IsState}
-use Rattle.replica_state.specs.Edits.{has_numbers}
-use Rattle.replica_state.specs.Imports.{due_keys, edits_numbered, import_into}
+use Rattle.replica_state.specs.Edits.{first_number}
+use Rattle.replica_state.specs.Changes.{ChangeParts, edits_from, edits_by, edits_or}
+use Rattle.replica_state.specs.Imports.{due_changes, import_into}
 use Rattle.replica_state.specs.ImportLaws.{ImportsAreExported}
 use Rattle.replica_state.specs.Steps.{Step, Import, Imported, imported, step}
-use Rattle.replica_state.specs.declared.fault.ImportFault.{ImportFault}
 use Rattle.replica_state.specs.declared.fault.ImportFault.TheVariants.{NumbersUsedUp}
-use Rattle.replica_state.proofs.Appended.{is_there, key_is, joined_after}
+use Rattle.replica_state.proofs.Appended.{is_there, key_is}
+use Rattle.replica_state.proofs.Changes.{is_first, edits_after}
 use Rattle.replica_state.proofs.DueKeys.{there_kept}
 use Rattle.replica_state.proofs.ImportedTexts as imports
 use Rattle.replica_state.proofs.KeyLists.{same_key-cmp}
@@ -141,22 +144,21 @@ module _ (s : State) (state : IsState s) (book file : List ℕ) (named : book_in
 
 pub imports_are_exported : ImportsAreExported
 imports_are_exported s file book count state named reply =
-    ap (λ (t : Step). export t.after.held book) (stepped)
-    ∙ by (has_numbers s.held (length due)) refl (sym (ap (λ (t : Step). t.reply) stepped) ∙ reply)
+    ap (λ (t : Step). export t.after.held book) stepped
+    ∙ by (first_number s.held (length changes)) refl (sym (ap (λ (t : Step). t.reply) stepped) ∙ reply)
   where
-    due : List KeyParts
-    due = due_keys s.held book (pieces_of file)
+    changes : List ChangeParts
+    changes = due_changes s.held book (pieces_of file)
 
-    stepped : step s (Import file) ≡ imported s (edits_numbered s book (pieces_of file) due)
+    stepped : step s (Import file) ≡ imported s (edits_or NumbersUsedUp s book changes)
     stepped = ap (λ (r : Result (List ℕ) BookFault). imported s (import_into s (pieces_of file) r)) named
 
-    by : (b : Bool) → has_numbers s.held (length due) ≡ b
-        → (imported s (edits_numbered s book (pieces_of file) due)).reply ≡ Imported (Ok count)
-        → export (imported s (edits_numbered s book (pieces_of file) due)).after.held book ≡ file
-    by true e r =
-        ap (λ (x : Result (List Operation) ImportFault). export (imported s x).after.held book) (cond-true _ _ _ e)
-        ∙ ap (λ (ops : List Operation). export ops book) (joined_after s state book (pieces_of file) due)
+    by : (f : Option ℕ) → first_number s.held (length changes) ≡ f
+        → (imported s (edits_by NumbersUsedUp f s book changes)).reply ≡ Imported (Ok count)
+        → export (imported s (edits_by NumbersUsedUp f s book changes)).after.held book ≡ file
+    by (Some first) e r =
+        ap (λ (n : ℕ). export (join s.held (edits_from n s book changes)) book) (is_first s.held (length changes) first (sym e)).is
+        ∙ ap (λ (ops : List Operation). export ops book)
+        (edits_after s book s.held (next_number s.held) changes state.set.rising (omega arith))
         ∙ export_is_file s state book file named
-    by false e r =
-        absurd (let full : Imported (Err NumbersUsedUp)
-        ≡ Imported (Ok count) = ap (λ (x : Result (List Operation) ImportFault). (imported s x).reply) (sym (cond-false _ _ _ e)) ∙ r in cc)
+    by None e r = cc r

@@ -1,8 +1,8 @@
 -- What is at the keys of a file's pieces.
-use Rattle.std.proofs.Common.{◌≡◌, ℕ, Bool, true, false, ◌&&◌, cond, List, [], ◌∷◌, take}
+use Rattle.std.proofs.Common.{◌≡◌, ℕ, Bool, true, false, ◌&&◌, cond, List, [], ◌∷◌, map, take}
 use Rattle.std.proofs.Common.{drop, Option, None, Some, Ok, refl, sym, ap, subst, ◌∙◌}
 use Rattle.std.specs.Cmp.{Equal-is}
-use Rattle.std.specs.List.{All}
+use Rattle.std.specs.List.{All, AllByRecursion}
 use Rattle.std.specs.Ordering.{is_eq}
 use Rattle.std.proofs.lemmas.Bool.{and_parts}
 use Rattle.std.proofs.lemmas.List.Elements.{All-head, All-tail}
@@ -17,6 +17,10 @@ use Rattle.verse_cut.proofs.BookLaws.{books_are_joins}
 use Rattle.verse_cut.proofs.FitLaws.{fits_is_read, fits_other}
 use Rattle.verse_cut.proofs.Headings.{book_reads}
 use Rattle.verse_cut.proofs.PieceLaws.{pieces_fit}
+use Rattle.verse_cut.specs.Views.{pieces_view}
+use Rattle.verse_cut.specs.declared.cutter.Piece.{Piece}
+use Rattle.op_core.specs.Ids.{Id}
+use Rattle.replica_state.specs.Changes.{ChangeParts}
 use Rattle.replica_state.specs.Imports.{piece_own_text, piece_of, piece_at}
 
 -- ---- the book of a file
@@ -83,3 +87,16 @@ piece_fits book text key code headed = by (piece_of (pieces_of text) key) refl
     by (Some p) e =
         let h = piece_has (λ q. Fits book q.key q.text) key (pieces_of text) p (pieces_fit book text code headed) e in
         subst (λ k. Fits book k p.text) (sym h.1) h.0
+
+pub all_pieces_fit : (book file : List ℕ) → Ok book ≡ book_in file → (ps : List Piece) → pieces_view ps ≡ pieces_of file → (key : KeyParts)
+    → Fits book key (piece_at (pieces_view ps) key)
+all_pieces_fit book file named ps same key =
+    subst (λ (view : List PieceParts). Fits book key (piece_at view key)) (sym same)
+    (piece_fits book file key (book_is_code file book (sym named)) (book_is_headed file book (sym named)))
+
+-- changes of keys to texts that fit them fit their segments
+pub all_fit : (book : List ℕ) (text : KeyParts → List ℕ) (ids : KeyParts → List Id) → ((key : KeyParts) → Fits book key (text key))
+    → (keys : List KeyParts)
+    → AllByRecursion (λ (c : ChangeParts). Fits book c.key c.text) (map (λ key. record { key = key; text = text key; ids = ids key }) keys)
+all_fit book text ids fits [] = tt
+all_fit book text ids fits (key ∷ keys) = (fits key, all_fit book text ids fits keys)

@@ -15,13 +15,16 @@ use Rattle.verse_cut.specs.Pieces.{PieceParts, pieces_of}
 use Rattle.verse_cut.specs.Joins.{KeyText, HasHead, IsJoinOf, at_book_head, pieces_from}
 use Rattle.verse_cut.specs.Reading.{book_in, is_empty}
 use Rattle.verse_cut.proofs.BookLaws.{books_are_joins}
+use Rattle.op_core.specs.Ids.{Id}
 use Rattle.op_core.specs.Ops.{Operation}
 use Rattle.op_core.specs.Shown.{text_of, has_verse_text, wants_chapter_line}
 use Rattle.op_core.specs.CutsBack.{picked_at}
+use Rattle.op_core.specs.Lists.{shown_ids}
 use Rattle.op_core.specs.NextIds.{next_number}
 use Rattle.op_core.proofs.Exported.{filled_verse, picked_line, picked_own, wants_line, head_picked}
 use Rattle.replica_state.specs.States.{State, IsState}
-use Rattle.replica_state.specs.Imports.{piece_own_text, piece_of, piece_at, has_verse, loses_line, is_due, due_keys, edits_from}
+use Rattle.replica_state.specs.Imports.{piece_own_text, piece_of, piece_at, has_verse, loses_line, is_due, due_keys, due_changes}
+use Rattle.replica_state.specs.Changes.{edits_from}
 use Rattle.replica_state.proofs.Appended.{is_there, text_edited, text_kept}
 use Rattle.replica_state.proofs.DueKeys.{due_rise, not_due}
 use Rattle.replica_state.proofs.FilePieces.{book_is_code, book_is_headed}
@@ -53,7 +56,7 @@ module _ (s : State) (state : IsState s) (book file : List ℕ) (named : book_in
   due = due_keys s.held book pieces
 
   abbrev pub now : List Operation
-  now = s.held ++ edits_from (next_number s.held) s book pieces due
+  now = s.held ++ edits_from (next_number s.held) s book (due_changes s.held book pieces)
 
   abbrev at : KeyParts → Segment
   at key = segment book key
@@ -129,9 +132,12 @@ module _ (s : State) (state : IsState s) (book file : List ℕ) (named : book_in
   becomes : (key : KeyParts) → Becomes key
   becomes key = by (is_there key due) refl
     where
+      shows : KeyParts → List Id
+      shows k = shown_ids s.held (at k)
+
       by : (b : Bool) → is_there key due ≡ b → Becomes key
-      by true e = inl (text_edited s state book pieces key due (due_rise s.held book pieces) e)
-      by false e = inr (text_kept s state book pieces key due e, not_due_parts key (not_due s.held book pieces key e))
+      by true e = inl (text_edited s state.set book (piece_at pieces) shows key due (due_rise s.held book pieces) e)
+      by false e = inr (text_kept s state.set book (piece_at pieces) shows key due e, not_due_parts key (not_due s.held book pieces key e))
 
   verse_text : (key : KeyParts) → is_head key.place ≡ false → text_of now (at key) ≡ piece_at pieces key
   verse_text key verse = by (becomes key)

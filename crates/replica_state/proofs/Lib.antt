@@ -17,6 +17,9 @@ pub mod Thinning
 pub mod ThinnedRuns
 pub mod World
 pub mod Changes
+pub mod ChangeLists
+pub mod ChangeRuns
+pub mod SinceSteps
 pub mod SinceLaws
 pub mod SinceRuns
 pub mod SinceBegun

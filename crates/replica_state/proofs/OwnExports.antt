@@ -1,6 +1,6 @@
 -- The import of the export of a book whose head has an operation adds nothing.
 use Rattle.std.proofs.Common.{◌≡◌, ◌≢◌, ℕ, ◌+◌, ◌≤◌, Bool, true, false, not, cond, ◌&&◌, ◌||◌, nat_le, ◌==◌, List}
-use Rattle.std.proofs.Common.{[], ◌∷◌, filter, Option, None, Some, Result, Ok, arith, refl, sym, ap, subst, ◌∙◌}
+use Rattle.std.proofs.Common.{[], ◌∷◌, map, filter, Option, None, Some, Result, Ok, arith, refl, sym, ap, subst, ◌∙◌}
 use Rattle.std.specs.List.{AllByRecursion, list_any}
 use Rattle.std.specs.Ordering.{is_eq}
 use Rattle.std.specs.Option.{is_some}
@@ -25,16 +25,18 @@ use Rattle.op_core.specs.Ops.{Operation, IsOperation, MayBeText, in_segment, is_
 use Rattle.op_core.specs.Shown.{last, shown, text_if_any, wants_chapter_line}
 use Rattle.op_core.specs.Export.{exported_keys, export}
 use Rattle.op_core.specs.CutsBack.{picked_at, later_texts}
-use Rattle.op_core.specs.NextIds.{greatest_number}
+use Rattle.op_core.specs.NextIds.{greatest_number, next_number}
 use Rattle.op_core.proofs.CutsBack.{exports_cut_back, keys_rise, split, texts_fit, texts_rise}
 use Rattle.op_core.proofs.Exported.{IsOf, filled_verse, shown_last, picked_own, picks_are_exported, wants_line}
 use Rattle.op_core.proofs.Legal.{shown_full, full_last}
 use Rattle.op_core.proofs.Shows.{shows_one}
 use Rattle.replica_state.specs.States.{State, IsState}
-use Rattle.replica_state.specs.Edits.{has_numbers}
+use Rattle.replica_state.specs.Edits.{first_number}
 use Rattle.replica_state.specs.Imports as spec
 use Rattle.replica_state.specs.Imports.{piece_of, piece_at, has_verse, is_due, loses_line}
-use Rattle.replica_state.specs.Imports.{walked_keys, due_keys, edits_numbered, import_into}
+use Rattle.replica_state.specs.Imports.{walked_keys, due_keys, due_change, import_into}
+use Rattle.replica_state.specs.Changes.{edits_by, edits_or}
+use Rattle.replica_state.specs.declared.fault.ImportFault.TheVariants.{NumbersUsedUp}
 use Rattle.replica_state.specs.ImportLaws.{OwnExportsAddNothing}
 use Rattle.replica_state.specs.Steps.{Import, Imported, imported, step}
 use Rattle.replica_state.proofs.Exports.{after_head, later_at}
@@ -84,6 +86,11 @@ numbers_left (o ∷ ops) all =
     let own = leb-true o.id.number 1000000000000000 (and_parts (nat_le 1 o.id.number) (nat_le o.id.number 1000000000000000) id.0).1 in
     let rest = numbers_left ops all.1 in
     omega (arith, own, rest)
+
+-- for no operations numbers are left
+pub left_for_none : (held : List Operation) → AllByRecursion IsOperation held → first_number held 0 ≡ Some (next_number held)
+left_for_none held each =
+    let l = numbers_left held each in cond-true _ _ _ (le-leb (greatest_number held + 0) 1000000000000000 (omega (arith, l)))
 
 module _ (s : State) (state : IsState s) (book : List ℕ) (begun : list_any (in_segment (segment book book_head)) s.held ≡ true) where
   abbrev file : List ℕ
@@ -169,12 +176,9 @@ module _ (s : State) (state : IsState s) (book : List ℕ) (begun : list_any (in
   pub adds_nothing : step s (Import file) ≡ record { after = s; reply = Imported (Ok 0) }
   adds_nothing =
       ap (λ (r : Result (List ℕ) BookFault). imported s (import_into s (pieces_of file) r)) named
-      ∙ ap (λ (ks : List KeyParts). imported s (edits_numbered s book (pieces_of file) ks))
+      ∙ ap (λ (ks : List KeyParts). imported s (edits_or NumbersUsedUp s book (map (due_change s.held book (pieces_of file)) ks)))
       (none_pass (is_due s.held book (pieces_of file)) (walked_keys s.held book (pieces_of file)) none_due)
-      ∙ ap (imported s) (cond-true _ _ _ room)
-    where
-      room : has_numbers s.held 0 ≡ true
-      room = let l = numbers_left s.held state.set.each in le-leb (greatest_number s.held + 0) 1000000000000000 (omega (arith, l))
+      ∙ ap (λ (f : Option ℕ). imported s (edits_by NumbersUsedUp f s book [])) (left_for_none s.held state.set.each)
 
 pub own_exports_add_nothing : OwnExportsAddNothing
 own_exports_add_nothing s book state begun = adds_nothing s state book begun

@@ -1,6 +1,6 @@
 -- An import since a base is a receiving and then edits over given ids. Where no operation of the book is held, the first edit is
 -- that of the book's head, which begins the book.
-use Rattle.std.proofs.Common.{◌≡◌, ℕ, Bool, true, false, not, List, [], ◌∷◌, ◌++◌, length, codes}
+use Rattle.std.proofs.Common.{◌≡◌, ℕ, Bool, true, false, not, List, [], ◌∷◌, ◌++◌, map, length, codes}
 use Rattle.std.proofs.Common.{Some, Ok, refl, sym, ap, subst, ◌∙◌}
 use Rattle.std.specs.List.{list_all, list_any}
 use Rattle.std.specs.Option.{is_some}
@@ -34,12 +34,15 @@ use Rattle.replica_state.specs.Receives.{lacked}
 use Rattle.replica_state.specs.Imports.{piece_own_text, piece_of, piece_at, is_due, walked_keys}
 use Rattle.replica_state.specs.Steps.{Command, Receive, Received, Step, received, step, with_ops}
 use Rattle.replica_state.specs.Runs.{after_all, NoneRefused, IsTaken}
-use Rattle.replica_state.specs.Since.{SinceStep, seen_ids, is_changed, changed_keys, changes_from}
-use Rattle.replica_state.specs.SinceLaws.{edits_over, IsReceivingAndEdits}
-use Rattle.replica_state.proofs.Appended.{is_there}
+use Rattle.replica_state.specs.Changes.{ChangeParts, edits_from}
+use Rattle.replica_state.specs.ChangeLaws.{edits_over, begins}
+use Rattle.replica_state.specs.Since.{seen_ids, is_changed, changed_keys, since_change, since_changes}
+use Rattle.replica_state.specs.SinceLaws.{IsReceivingAndEdits}
+use Rattle.replica_state.proofs.Appended.{is_there, not_there}
+use Rattle.replica_state.proofs.ChangeRuns.{begins_held, run}
 use Rattle.replica_state.proofs.DueKeys.{piece_there, there_kept, walked}
 use Rattle.replica_state.proofs.FilePieces.{book_is_code, book_is_headed, head_has_piece, piece_fits}
-use Rattle.replica_state.proofs.SinceRuns.{Accepted, accepted, any_received, begins, begins_held, changed_rise, not_there, run}
+use Rattle.replica_state.proofs.SinceRuns.{Accepted, accepted, any_received, changed_rise, keys_back, none_wrong}
 
 -- a book without operations shows nothing
 none_shown : (ops : List Operation) (book : List ℕ) (key : KeyParts) → has_book ops book ≡ false → shown ops (segment book key) ≡ []
@@ -60,13 +63,13 @@ headed_differs book text h = ap (same_bytes []) h.begins.text_is ∙ by h.begins
     by false = refl
 
 -- the head of the book, where it is among rising keys, is the first
-head_begins : (held : List Operation) (book : List ℕ) (keys : List KeyParts) → rises_by key_cmp (λ k. k) keys ≡ true
-    → is_there book_head keys ≡ true → begins held book keys ≡ true
-head_begins held book [] rise h = refl
-head_begins held book (key ∷ keys) rise h = by (same_key key book_head) refl
+head_begins : (held : List Operation) (book : List ℕ) (f : KeyParts → ChangeParts) → ((key : KeyParts) → (f key).key ≡ key)
+    → (keys : List KeyParts) → rises_by key_cmp (λ k. k) keys ≡ true → is_there book_head keys ≡ true → begins held book (map f keys) ≡ true
+head_begins held book f of_key [] rise h = refl
+head_begins held book f of_key (key ∷ keys) rise h = by (same_key key book_head) refl
   where
-    by : (b : Bool) → same_key key book_head ≡ b → begins held book (key ∷ keys) ≡ true
-    by true e = or_right _ _ e
+    by : (b : Bool) → same_key key book_head ≡ b → begins held book (map f (key ∷ keys)) ≡ true
+    by true e = or_right _ _ (ap (λ (k : KeyParts). same_key k book_head) (of_key key) ∙ e)
     by false e =
         let above : key_below book_head key ≡ true = above_book_head key ∙ ap not e in
         let later = (and_parts (list_all (λ k. is_lt (key_cmp key k)) keys) (rises_by key_cmp (λ k. k) keys) rise).0 in
@@ -103,44 +106,46 @@ module _ (held base : List Operation) (file book : List ℕ) (named : book_in fi
           (none_shown held book book_head none)
 
   -- so the edits begin the book, where what is held has the book if the base does
-  pub begun : (has_book base book ≡ true → has_book held book ≡ true) → begins held book keys ≡ true
+  pub begun : (has_book base book ≡ true → has_book held book ≡ true) → begins held book (since_changes held base book pieces) ≡ true
   begun also = by (has_book held book) refl
     where
-      by : (b : Bool) → has_book held book ≡ b → begins held book keys ≡ true
-      by true e = begins_held held book keys e
+      by : (b : Bool) → has_book held book ≡ b → begins held book (since_changes held base book pieces) ≡ true
+      by true e = begins_held held book (since_changes held base book pieces) e
       by false e =
           let nor : has_book base book ≡ false = false_from_ne_true _ (λ f. false≢true (sym e ∙ also f)) in
-          head_begins held book keys (changed_rise held base book pieces)
+          head_begins held book (since_change held base book pieces) (λ key. refl) keys (changed_rise held base book pieces)
           (there_kept (is_changed held base book pieces) book_head (walked_keys held book pieces) (head_changed e nor)
           (walked held book pieces book_head (or_right _ _ (piece_there held book pieces book_head pieces (ap is_some piece)))))
 
 pub is_receiving_and_edits : IsReceivingAndEdits
 is_receiving_and_edits s base file book count state set named answered = (
   (subst (λ (x : Step). IsTaken x.reply) (sym first) refl, subst (λ (x : Step). NoneRefused x.after later) (sym first) all.0),
-  ap (λ (x : Step). after_all x.after later) first ∙ all.1 ∙ ap (λ (x : SinceStep). x.after) (sym taken.is),
+  ap (λ (x : Step). after_all x.after later) first ∙ all.1 ∙ sym taken.is,
 )
   where
     t : State
     t = with_ops s base
 
-    changed : List KeyParts
-    changed = changed_keys t.held base book (pieces_of file)
+    changes : List ChangeParts
+    changes = since_changes t.held base book (pieces_of file)
 
     later : List Command
-    later = edits_over t.held base book (pieces_of file) changed
+    later = edits_over book changes
 
-    taken : Accepted s base file book count
+    taken : Accepted s base file book
     taken = accepted s base file book count named answered
 
     first : step s (Receive base) ≡ record { after = t; reply = Received (Ok (length (lacked s.held base))) }
     first = ap (received s base) taken.none
 
-    all : NoneRefused t later
-        × (after_all t later ≡ with_ops t (changes_from (next_number t.held) t base book (pieces_of file) changed))
+    all : NoneRefused t later × (after_all t later ≡ with_ops t (edits_from (next_number t.held) t book changes))
     all =
-        run t base book (pieces_of file) changed t (next_number t.held) refl (rises-join s.held base state.set.rising) refl taken.room
-        (changed_rise t.held base book (pieces_of file))
+        run t book changes t (next_number t.held) refl (rises-join s.held base state.set.rising) refl taken.room
+        (ap (rises_by key_cmp (λ k. k)) (keys_back t.held base book (pieces_of file) (changed_keys t.held base book (pieces_of file)))
+        ∙ changed_rise t.held base book (pieces_of file))
         (begun t.held base file book named
         (any_received s.held base (λ g. same_bytes g.book book) state.set.rising set.rising taken.none))
+        (none_wrong t.held base book (pieces_of file)
         (λ key. (fits_is_read book key _).1 (piece_fits book file key (book_is_code file book named) (book_is_headed file book named)))
+        (changed_keys t.held base book (pieces_of file)))
         (λ q h. refl)

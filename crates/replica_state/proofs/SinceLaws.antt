@@ -1,11 +1,10 @@
 -- Laws of imports since a base.
-use Rattle.std.proofs.Common.{◌≡◌, ◌⊎◌, ℕ, zero, suc, ◌+◌, Bool, true, false, not, cond, ◌&&◌, ◌||◌, List, [], ◌∷◌, ◌++◌, inl, inr, filter}
+use Rattle.std.proofs.Common.{◌≡◌, ◌⊎◌, ℕ, zero, suc, Bool, true, false, not, cond, ◌&&◌, ◌||◌, List, [], ◌∷◌, ◌++◌, inl, inr, map, filter}
 use Rattle.std.proofs.Common.{Result, Option, refl, sym, ap, subst, ◌∙◌, arith}
-use Rattle.std.specs.List.{Contains, AllByRecursion}
-use Rattle.std.proofs.lemmas.Bool.{and_parts, and_from, cond-true, le-leb, not-true}
+use Rattle.std.specs.List.{Contains}
+use Rattle.std.proofs.lemmas.Bool.{and_parts, and_from, cond-true, not-true}
 use Rattle.std.proofs.lemmas.List.Elements.{Contains-append_left}
 use Rattle.std.proofs.lemmas.List.Folds.{list_any-append}
-use Rattle.std.proofs.lemmas.Map.Views.{Contains-from_any}
 use Rattle.usfm_ref.specs.Keys.{KeyParts}
 use Rattle.usfm_ref.specs.Segments.{segment}
 use Rattle.usfm_ref.specs.declared.segment.Segment.{Segment}
@@ -13,21 +12,24 @@ use Rattle.usfm_ref.proofs.Orders.{same_bytes-is, same_segment-is}
 use Rattle.verse_cut.specs.Pieces.{PieceParts, pieces_of}
 use Rattle.verse_cut.specs.declared.fault.BookFault.{BookFault}
 use Rattle.op_core.specs.Ids.{Id, same_id}
-use Rattle.op_core.specs.Ops.{Operation, IsOperation, own_text, in_segment, names}
+use Rattle.op_core.specs.Ops.{Operation, own_text, in_segment, names}
 use Rattle.op_core.specs.Shown.{shown, text_of, is_shown, is_replaced}
 use Rattle.op_core.specs.Lists.{ids_of, shown_ids}
-use Rattle.op_core.specs.NextIds.{greatest_number, next_number, is_among}
+use Rattle.op_core.specs.NextIds.{next_number, is_among}
 use Rattle.op_core.specs.Export.{export}
 use Rattle.op_core.specs.Equal.{id_from_same}
 use Rattle.op_core.proofs.Union.{IsOpSet-join}
 use Rattle.replica_state.specs.States.{State, IsState}
-use Rattle.replica_state.specs.Steps.{with_ops}
-use Rattle.replica_state.specs.Edits.{has_numbers}
+use Rattle.replica_state.specs.Changes.{ChangeParts, edits_from, edits_by}
+use Rattle.replica_state.specs.Steps.{with_ops, edited_all}
 use Rattle.replica_state.specs.Imports.{is_due, walked_keys}
-use Rattle.replica_state.specs.Since.{has_greatest_text, stood_ids, seen_ids, changes_from, is_changed, changed_keys, changed, changed_after, changed_in}
+use Rattle.replica_state.specs.Since.{has_greatest_text, stood_ids, seen_ids, is_changed, changed_keys, since_change, since_changes}
+use Rattle.replica_state.specs.Since.{changed, changed_after, changed_in}
 use Rattle.replica_state.specs.SinceLaws.{changes_of, StoodInFile, ReplacesNothingUnseen, UnseenStays, UnchangedFilesAddNothing}
-use Rattle.replica_state.proofs.OwnExports.{named, none_due, none_pass, numbers_left}
-use Rattle.replica_state.proofs.Changes.{change_at, changes_after}
+use Rattle.replica_state.proofs.OwnExports.{named, none_due, none_pass, left_for_none}
+use Rattle.replica_state.specs.declared.fault.SinceFault.TheVariants.{NumbersUsedUp}
+use Rattle.replica_state.proofs.ChangeRuns.{among_passing}
+use Rattle.replica_state.proofs.Changes.{edit_at, edits_after}
 
 -- what a list has is its first or in the rest
 first_or_later : {X : Type 0} (y : X) (ys : List X) (x : X) → Contains (y ∷ ys) x → (y ≡ x) ⊎ Contains ys x
@@ -80,22 +82,28 @@ of_one (o ∷ ops) id h = by (λ g. of_one ops id g) (same_id id o.id) refl h
     by rest false e h = let r = rest h in (r.0, (is_later o ops r.0 r.1.0, r.1.1))
 
 -- an id that is seen stood in the file
-seen_stood : (held base : List Operation) (g : Segment) (id : Id) → Contains (seen_ids held base g) id → StoodInFile base g id
+seen_stood : (held base : List Operation) (g : Segment) (id : Id) → is_among (seen_ids held base g) id ≡ true → StoodInFile base g id
 seen_stood held base g id h =
-    let among = passed (is_among (stood_ids base g)) (shown_ids held g) id h in
-    let one = of_one (filter (has_greatest_text base g) (shown base g)) id among.1 in
-    let stood = passed (has_greatest_text base g) (shown base g) one.0 one.1.0 in
-    record { op = one.0; shown = stood.0; of_id = one.1.1; text = same_bytes-is (own_text one.0) (text_of base g) stood.1 }
+    let stood = is_among (stood_ids base g) in
+    let among = (and_parts (is_among (shown_ids held g) id) (stood id) (sym (among_passing stood (shown_ids held g) id) ∙ h)).1 in
+    let one = of_one (filter (has_greatest_text base g) (shown base g)) id among in
+    let is = passed (has_greatest_text base g) (shown base g) one.0 one.1.0 in
+    record { op = one.0; shown = is.0; of_id = one.1.1; text = same_bytes-is (own_text one.0) (text_of base g) is.1 }
 
 names_stood : (n : ℕ) (s : State) (base : List Operation) (book : List ℕ) (pieces : List PieceParts) (keys : List KeyParts)
     (edit : Operation)
     (id : Id)
-    → Contains (changes_from n s base book pieces keys) edit → Contains edit.replaced id → StoodInFile base edit.segment id
+    → Contains (edits_from n s book (map (since_change s.held base book pieces) keys)) edit → Contains edit.replaced id
+    → StoodInFile base edit.segment id
 names_stood n s base book pieces [] edit id h i = absurd (none_there edit h)
 names_stood n s base book pieces (key ∷ keys) edit id h i =
-    elim (first_or_later (change_at s base book pieces n key) (changes_from (suc n) s base book pieces keys) edit h) [
+    let change : KeyParts → ChangeParts = since_change s.held base book pieces in
+    let g = segment book key in
+    elim (first_or_later (edit_at s book n (change key)) (edits_from (suc n) s book (map change keys)) edit h) [
       | inl here ↦ subst (λ (o : Operation). StoodInFile base o.segment id) here
-          (seen_stood s.held base (segment book key) id (subst (λ (o : Operation). Contains o.replaced id) (sym here) i))
+          (seen_stood s.held base g id
+          (passed (is_among (seen_ids s.held base g)) (shown_ids s.held g) id
+          (subst (λ (o : Operation). Contains o.replaced id) (sym here) i)).1)
       | inr later ↦ names_stood (suc n) s base book pieces keys edit id later i
     ]
 
@@ -106,7 +114,7 @@ replaces_nothing_unseen s base book pieces edit id h i = names_stood _ s base bo
 
 module _ (s : State) (state : IsState s) (base : List Operation) (book : List ℕ) (pieces : List PieceParts) where
   abbrev edits : ℕ → List KeyParts → List Operation
-  edits n keys = changes_from n s base book pieces keys
+  edits n keys = edits_from n s book (map (since_change s.held base book pieces) keys)
 
   -- an id that did not stand in the file is named by no edit
   unnamed : (g : Segment) (id : Id) (n : ℕ) (keys : List KeyParts) → (StoodInFile base g id → ⊥) → is_replaced (edits n keys) g id ≡ false
@@ -115,13 +123,16 @@ module _ (s : State) (state : IsState s) (base : List Operation) (book : List �
       by (in_segment g edit) refl (names edit id) refl (unnamed g id (suc n) keys unseen)
     where
       edit : Operation
-      edit = change_at s base book pieces n key
+      edit = edit_at s book n (since_change s.held base book pieces key)
 
       by : (b : Bool) → in_segment g edit ≡ b → (c : Bool) → names edit id ≡ c → is_replaced (edits (suc n) keys) g id ≡ false
           → ((b && c) || is_replaced (edits (suc n) keys) g id) ≡ false
       by true e true f rest =
-          absurd (unseen (subst (λ (h : Segment). StoodInFile base h id) (same_segment-is (segment book key) g e)
-          (seen_stood s.held base (segment book key) id (Contains-from_any id_from_same id (seen_ids s.held base (segment book key)) f))))
+          let at = segment book key in
+          let seen = is_among (seen_ids s.held base at) in
+          absurd (unseen (subst (λ (h : Segment). StoodInFile base h id) (same_segment-is at g e)
+          (seen_stood s.held base at id
+          (and_parts (is_among (shown_ids s.held at) id) (seen id) (sym (among_passing seen (shown_ids s.held at) id) ∙ f)).1)))
       by true e false f rest = rest
       by false e c f rest = rest
 
@@ -136,7 +147,7 @@ module _ (s : State) (state : IsState s) (base : List Operation) (book : List �
       list_any-append (λ (p : Operation). in_segment g p && names p o.id) s.held new
       ∙ (λ i. not-true (is_replaced s.held g o.id) parts.1 i || unnamed g o.id (next_number s.held) keys unseen i) in
       subst (λ (held : List Operation). Contains (shown held g) o)
-      (sym (changes_after s base book pieces s.held (next_number s.held) keys state.set.rising (omega arith)))
+      (sym (edits_after s book s.held (next_number s.held) (since_changes s.held base book pieces) state.set.rising (omega arith)))
       (passes (is_shown (s.held ++ new) g) (s.held ++ new) o (Contains-append_left s.held new o was.0)
       (and_from _ _ parts.0 (ap not still)))
 
@@ -151,19 +162,14 @@ pub unchanged_files_add_nothing : UnchangedFilesAddNothing
 unchanged_files_add_nothing s b book state base none begun =
     ap (λ (r : Result (List ℕ) BookFault). changed_in s b.held (pieces_of file) r) (named b base book begun)
     ∙ ap (λ (c : Option Id). changed_after s b.held book (pieces_of file) c) none
-    ∙ ap (λ (ks : List KeyParts). changed s t b.held book (pieces_of file) ks)
+    ∙ ap (λ (ks : List KeyParts). changed s t book (map (since_change t.held b.held book (pieces_of file)) ks))
     (none_pass (is_changed t.held b.held book (pieces_of file)) (walked_keys t.held book (pieces_of file))
     (λ q. none_changed (is_due b.held book (pieces_of file) q) (none_due b base book begun q) _))
-    ∙ cond-true _ _ _ room
+    ∙ ap (λ (f : Option ℕ). edited_all s t (edits_by NumbersUsedUp f t book []))
+    (left_for_none t.held (IsOpSet-join s.held b.held state.set base.set).each)
   where
     file : List ℕ
     file = export b.held book
 
     t : State
     t = with_ops s b.held
-
-    each : AllByRecursion IsOperation t.held
-    each = (IsOpSet-join s.held b.held state.set base.set).each
-
-    room : has_numbers t.held 0 ≡ true
-    room = let l = numbers_left t.held each in le-leb (greatest_number t.held + 0) 1000000000000000 (omega (arith, l))

@@ -1,26 +1,26 @@
 -- The same base and file taken in again add nothing.
-use Rattle.std.proofs.Common.{◌≡◌, ℕ, suc, max, ◌+◌, ◌<◌, ◌≤◌, nat_lt, Bool, true, false, not, ◌&&◌, ◌||◌, List, [], ◌∷◌, ◌++◌, map}
+use Rattle.std.proofs.Common.{◌≡◌, ℕ, suc, max, ◌+◌, ◌<◌, ◌≤◌, Bool, true, false, not, ◌&&◌, ◌||◌, List, [], ◌∷◌, ◌++◌, map}
 use Rattle.std.proofs.Common.{filter, length, Option, Some, None, Result, Ok, Err, refl, sym, ap, subst, ◌∙◌, arith}
-use Rattle.std.specs.List.{AllByRecursion, list_all, list_any}
+use Rattle.std.specs.List.{list_any}
 use Rattle.std.specs.Ordering.{is_eq}
 use Rattle.std.proofs.lemmas.Bool.{and_parts, and_from, and_right, or_parts, or_from, or_left, or_right, not-true, cond-true}
-use Rattle.std.proofs.lemmas.Bool.{false_from_ne_true, leb-true, le-leb}
+use Rattle.std.proofs.lemmas.Bool.{false_from_ne_true, le-leb}
 use Rattle.std.proofs.lemmas.List.Folds.{list_any-append}
 use Rattle.usfm_ref.specs.Books.{same_bytes}
-use Rattle.usfm_ref.specs.Keys.{KeyParts, key_cmp, head_of, same_key}
+use Rattle.usfm_ref.specs.Keys.{KeyParts, key_cmp, head_of}
 use Rattle.usfm_ref.specs.Segments.{segment}
 use Rattle.usfm_ref.specs.declared.segment.Segment.{Segment}
-use Rattle.usfm_ref.proofs.Orders.{same_bytes-refl, same_key-refl}
+use Rattle.usfm_ref.proofs.Orders.{same_bytes-refl}
 use Rattle.verse_cut.specs.Pieces.{PieceParts, pieces_of}
 use Rattle.verse_cut.specs.Reading.{book_in}
 use Rattle.verse_cut.specs.declared.fault.BookFault.{BookFault}
-use Rattle.op_core.specs.Ids.{Id, ids_rise, is_none_left}
-use Rattle.op_core.specs.Ops.{Operation, IsOperation, own_text, in_segment, names}
+use Rattle.op_core.specs.Ids.{Id, is_none_left}
+use Rattle.op_core.specs.Ops.{Operation, own_text, in_segment, names}
 use Rattle.op_core.specs.Sets.{IsOpSet, rises, get, join, met, clash}
 use Rattle.op_core.specs.Shown.{shown, is_shown, is_replaced}
 use Rattle.op_core.specs.Export.{of_book, keys_in}
 use Rattle.op_core.specs.Lists.{ids_of, shown_ids, keys_of}
-use Rattle.op_core.specs.NextIds.{greatest_number, next_number, is_among}
+use Rattle.op_core.specs.NextIds.{greatest_number, next_number, is_among, given_ids}
 use Rattle.op_core.proofs.Agreement.{Agree, agree_itself}
 use Rattle.op_core.proofs.Enrolled.{apart_at}
 use Rattle.op_core.proofs.Exported.{any-rising}
@@ -28,22 +28,25 @@ use Rattle.op_core.proofs.FilteredLists.{any_filter, any_map, filter_none}
 use Rattle.op_core.proofs.Filters.{filter_kept}
 use Rattle.op_core.proofs.Gets.{AnyHeld, any_held}
 use Rattle.op_core.proofs.Groupings.{join_agrees}
-use Rattle.op_core.proofs.NextIds.{beyond, shown_fall, some_fall}
+use Rattle.op_core.proofs.NextIds.{beyond}
 use Rattle.op_core.proofs.NoClash.{no_clash}
-use Rattle.op_core.proofs.Shows.{not_named, names_none}
 use Rattle.op_core.proofs.Union.{AgreeAtAll, IsOpSet-join, agree_from_no_clash, get-join, join_assoc, join_comm, join_itself}
 use Rattle.replica_state.specs.States.{State, IsState}
 use Rattle.replica_state.specs.Edits.{has_numbers}
+use Rattle.replica_state.specs.Changes.{ChangeParts, edits_from, edits_by}
 use Rattle.replica_state.specs.Imports.{piece_at, is_due, walked_keys}
-use Rattle.replica_state.specs.Steps.{with_ops}
-use Rattle.replica_state.specs.Since.{SinceStep, has_greatest_text, stood_ids, seen_ids, shows_text, is_changed, changed_keys, changes_from}
+use Rattle.replica_state.specs.Steps.{with_ops, edited_all}
+use Rattle.replica_state.specs.Since.{has_greatest_text, stood_ids, seen_ids, shows_text, is_changed, changed_keys, since_change, since_changes}
 use Rattle.replica_state.specs.Since.{changed, changed_after, changed_in, imported_since}
+use Rattle.replica_state.specs.declared.fault.SinceFault.TheVariants.{NumbersUsedUp}
 use Rattle.replica_state.specs.SinceLaws.{TwiceIsOnce}
-use Rattle.replica_state.proofs.Appended.{is_there, key_is, keys_apart}
-use Rattle.replica_state.proofs.Changes.{change_at, changes_after, changes_are_new, changes_rise}
+use Rattle.replica_state.proofs.Appended as appended
+use Rattle.replica_state.proofs.Appended.{is_there, key_is, shown_after}
+use Rattle.replica_state.proofs.ChangeRuns.{among_passing}
+use Rattle.replica_state.proofs.Changes.{edit_at, edits_after, edits_beyond, edits_rise, held_names_none, edits_name_none}
 use Rattle.replica_state.proofs.DueKeys.{due_among, walked, heads_map, there_kept}
 use Rattle.replica_state.proofs.OwnExports.{none_pass}
-use Rattle.replica_state.proofs.SinceRuns.{Accepted, accepted, among_passing, any_received, shown_after}
+use Rattle.replica_state.proofs.SinceRuns.{Accepted, accepted, any_received}
 use Rattle.replica_state.proofs.World.Held.{at_held, among_is_held, filter_held, not_held}
 
 -- ---- operations of which some are shown
@@ -97,20 +100,15 @@ module _ (held base : List Operation) (book : List ℕ) (pieces : List PiecePart
 
 -- ---- what a replica shows once its edits are made
 
-module _ (t : State) (base : List Operation) (book : List ℕ) (pieces : List PieceParts) where
+module _ (t : State) (set : IsOpSet t.held) (base : List Operation) (book : List ℕ) (pieces : List PieceParts) where
+  abbrev change : KeyParts → ChangeParts
+  change key = since_change t.held base book pieces key
+
   abbrev new : ℕ → List KeyParts → List Operation
-  new n keys = changes_from n t base book pieces keys
+  new n keys = edits_from n t book (map change keys)
 
-  -- a key without an edit has none
-  none_of : (q : KeyParts) (n : ℕ) (keys : List KeyParts) → is_there q keys ≡ false
-      → list_any (in_segment (segment book q)) (new n keys) ≡ false
-  none_of q n [] h = refl
-  none_of q n (k ∷ keys) h =
-      let p = or_parts (is_eq (key_cmp q k)) (is_there q keys) h in
-      or_from _ _ (and_right (same_bytes book book) (same_key k q) (keys_apart q k p.0)) (none_of q (suc n) keys p.1)
-
-  here : (q k : KeyParts) (n : ℕ) → is_eq (key_cmp q k) ≡ true → in_segment (segment book q) (change_at t base book pieces n k) ≡ true
-  here q k n e = and_from _ _ (same_bytes-refl book) (ap (λ (j : KeyParts). same_key k j) (key_is q k e) ∙ same_key-refl k)
+  here : (q k : KeyParts) (n : ℕ) → is_eq (key_cmp q k) ≡ true → in_segment (segment book q) (edit_at t book n (change k)) ≡ true
+  here q k n e = appended.here t set book (piece_at pieces) (λ key. seen_ids t.held base (segment book key)) q k n e
 
   -- what was seen is named
   seen_named : (q : KeyParts) (id : Id) (n : ℕ) (keys : List KeyParts) → is_there q keys ≡ true
@@ -119,38 +117,25 @@ module _ (t : State) (base : List Operation) (book : List ℕ) (pieces : List Pi
   seen_named q id n (k ∷ keys) h s = by (λ e. seen_named q id (suc n) keys e s) (is_eq (key_cmp q k)) refl h
     where
       edit : Operation
-      edit = change_at t base book pieces n k
+      edit = edit_at t book n (change k)
+
+      named : is_among (given_ids t.held (segment book q) (seen_ids t.held base (segment book q))) id ≡ true
+      named =
+          let shown = shown_ids t.held (segment book q) in
+          let seen = is_among (seen_ids t.held base (segment book q)) in
+          let stood = is_among (stood_ids base (segment book q)) in
+          among_passing seen shown id
+          ∙ and_from (is_among shown id) (seen id) (and_parts (is_among shown id) (stood id) (sym (among_passing stood shown id) ∙ s)).0 s
 
       by : (is_there q keys ≡ true → is_replaced (new (suc n) keys) (segment book q) id ≡ true) → (b : Bool) → is_eq (key_cmp q k) ≡ b
           → (b || is_there q keys) ≡ true
           → ((in_segment (segment book q) edit && names edit id) || is_replaced (new (suc n) keys) (segment book q) id) ≡ true
       by rest true e h =
           or_left _ _ (and_from _ _ (here q k n e)
-          (ap (λ (j : KeyParts). is_among (seen_ids t.held base (segment book j)) id) (sym (key_is q k e)) ∙ s))
+          (ap (λ (j : KeyParts). names (edit_at t book n (change j)) id) (sym (key_is q k e)) ∙ named))
       by rest false e h = or_right _ _ (rest h)
 
-  -- nothing names an id beyond
-  module _ (id : Id) (l : greatest_number t.held < id.number) (g : Segment) where
-    held_name_none : (ops : List Operation) → AllByRecursion IsOperation ops → greatest_number ops < id.number
-        → is_replaced ops g id ≡ false
-    held_name_none [] all l = refl
-    held_name_none (o ∷ ops) all l =
-        or_from _ _ (and_right (in_segment g o) (names o id) (names_none o id all.0 (omega (arith, l))))
-        (held_name_none ops all.1 (omega (arith, l)))
-
-    new_name_none : rises t.held ≡ true → (n : ℕ) (keys : List KeyParts) → is_replaced (new n keys) g id ≡ false
-    new_name_none h n [] = refl
-    new_name_none h n (k ∷ keys) =
-        let at = segment book k in
-        let seen = seen_ids t.held base at in
-        let below : list_all (λ (i : Id). nat_lt i.number id.number) seen ≡ true =
-        (and_parts (ids_rise seen) (list_all (λ (i : Id). nat_lt i.number id.number) seen)
-        (some_fall id (is_among (stood_ids base at)) (shown_ids t.held at) (shown_fall t.held at id h l))).1 in
-        or_from _ _ (and_right (in_segment g (change_at t base book pieces n k)) (is_among seen id)
-        (not_named id.number id seen below (omega arith)))
-        (new_name_none h (suc n) keys)
-
-  module _ (set : IsOpSet t.held) (q : KeyParts) (keys : List KeyParts) (there : is_there q keys ≡ true)
+  module _ (q : KeyParts) (keys : List KeyParts) (there : is_there q keys ≡ true)
       (stood_held : (id : Id) → is_among (stood_ids base (segment book q)) id ≡ true → get t.held id ≡ None → ⊥) where
     abbrev g : Segment
     g = segment book q
@@ -186,8 +171,8 @@ module _ (t : State) (base : List Operation) (book : List ℕ) (pieces : List Pi
     new_left : (n : ℕ) (ks : List KeyParts) → greatest_number t.held < n → list_any is_left (new n ks) ≡ false
     new_left n [] l = refl
     new_left n (k ∷ ks) l =
-        let id : Id = (change_at t base book pieces n k).id in
-        or_from _ _ (and_right (is_shown now g (change_at t base book pieces n k)) (is_among (stood_ids base g) id)
+        let id : Id = (edit_at t book n (change k)).id in
+        or_from _ _ (and_right (is_shown now g (edit_at t book n (change k))) (is_among (stood_ids base g) id)
         (false_from_ne_true _ (λ h. stood_held id h (beyond t.held id l)))) (new_left (suc n) ks (omega (arith, l)))
 
     none_seen : seen_ids now base g ≡ []
@@ -203,7 +188,7 @@ module _ (t : State) (base : List Operation) (book : List ℕ) (pieces : List Pi
     edit_shown n (k ∷ ks) l h = by (λ e. edit_shown (suc n) ks (omega (arith, l)) e) (is_eq (key_cmp q k)) refl h
       where
         edit : Operation
-        edit = change_at t base book pieces n k
+        edit = edit_at t book n (change k)
 
         later : Bool
         later = list_any (λ o. is_shown now g o && same_bytes (own_text o) (piece_at pieces q)) (new (suc n) ks)
@@ -211,7 +196,8 @@ module _ (t : State) (base : List Operation) (book : List ℕ) (pieces : List Pi
         unnamed : is_replaced now g edit.id ≡ false
         unnamed =
             named_in edit.id
-            ∙ or_from _ _ (held_name_none edit.id l g t.held set.each l) (new_name_none edit.id l g set.rising (next_number t.held) keys)
+            ∙ or_from _ _ (held_names_none g edit.id t.held set.each l)
+            (edits_name_none t book g edit.id (next_number t.held) (map change keys) set.rising l)
 
         by : (is_there q ks ≡ true → later ≡ true) → (b : Bool) → is_eq (key_cmp q k) ≡ b → (b || is_there q ks) ≡ true
             → ((is_shown now g edit && same_bytes (own_text edit) (piece_at pieces q)) || later) ≡ true
@@ -232,10 +218,10 @@ module _ (t : State) (base : List Operation) (book : List ℕ) (pieces : List Pi
 
 -- ---- the numbers that were given
 
-greatest_new : (t : State) (base : List Operation) (book : List ℕ) (pieces : List PieceParts) (m : ℕ) (keys : List KeyParts)
-    → greatest_number (changes_from (suc m) t base book pieces keys) ≤ m + length keys
-greatest_new t base book pieces m [] = omega arith
-greatest_new t base book pieces m (k ∷ keys) = let rest = greatest_new t base book pieces (suc m) keys in omega (arith, rest)
+greatest_new : (t : State) (book : List ℕ) (m : ℕ) (changes : List ChangeParts)
+    → greatest_number (edits_from (suc m) t book changes) ≤ m + length changes
+greatest_new t book m [] = omega arith
+greatest_new t book m (c ∷ changes) = let rest = greatest_new t book (suc m) changes in omega (arith, rest)
 
 greatest_of_both : (xs ys : List Operation) → greatest_number (xs ++ ys) ≡ max (greatest_number xs) (greatest_number ys)
 greatest_of_both [] ys = omega arith
@@ -254,23 +240,26 @@ module _ (s : State) (base : List Operation) (file book : List ℕ) (count : ℕ
   abbrev keys : List KeyParts
   keys = changed_keys t.held base book pieces
 
+  abbrev changes : List ChangeParts
+  changes = since_changes t.held base book pieces
+
   abbrev edits : List Operation
-  edits = changes_from (next_number t.held) t base book pieces keys
+  edits = edits_from (next_number t.held) t book changes
 
   abbrev u : State
   u = with_ops t edits
 
-  taken : Accepted s base file book count
+  taken : Accepted s base file book
   taken = accepted s base file book count named answered
 
   t_set : IsOpSet t.held
   t_set = IsOpSet-join s.held base state.set set
 
   at : u.held ≡ t.held ++ edits
-  at = changes_after t base book pieces t.held (next_number t.held) keys t_set.rising (omega arith)
+  at = edits_after t book t.held (next_number t.held) changes t_set.rising (omega arith)
 
   rise : rises edits ≡ true
-  rise = changes_rise t base book pieces (next_number t.held) keys
+  rise = edits_rise t book (next_number t.held) changes
 
   base_lacks : (id : Id) → get t.held id ≡ None → get base id ≡ None
   base_lacks id g = second (get s.held id) (get base id) (sym (get-join s.held base id state.set.rising set.rising) ∙ g)
@@ -291,17 +280,18 @@ module _ (s : State) (base : List Operation) (file book : List ℕ) (count : ℕ
   unchanged q = ap (λ (held : List Operation). is_changed held base book pieces q) at ∙ by (is_there q keys) refl
     where
       by : (b : Bool) → is_there q keys ≡ b → is_changed (t.held ++ edits) base book pieces q ≡ false
-      by true e = not_again t base book pieces t_set q keys e (stood_held q)
+      by true e = not_again t t_set base book pieces q keys e (stood_held q)
       by false e =
           ap (λ (ops : List Operation). is_due base book pieces q
           && not (is_none_left (filter (is_among (stood_ids base (segment book q))) (ids_of ops))
           && list_any (λ o. same_bytes (own_text o) (piece_at pieces q)) ops))
-          (shown_after t.held edits (segment book q) (none_of t base book pieces q (next_number t.held) keys e))
+          (shown_after t.held edits (segment book q) (appended.none_of t t_set book (piece_at pieces)
+          (λ key. seen_ids t.held base (segment book key)) q (next_number t.held) keys e))
           ∙ not_changed s.held base book pieces state.set.rising set.rising taken.none q e
 
   edits_apart : AgreeAtAll edits base
   edits_apart id x y gx gy =
-      let none = apart_at t.held edits id x (changes_are_new t base book pieces (next_number t.held) keys (omega arith)) gx in
+      let none = apart_at t.held edits id x (edits_beyond t book t.held (next_number t.held) changes (omega arith)) gx in
       cc (sym (base_lacks id none) ∙ gy)
 
   base_stays : join u.held base ≡ u.held
@@ -320,25 +310,24 @@ module _ (s : State) (base : List Operation) (file book : List ℕ) (count : ℕ
 
   room : has_numbers u.held 0 ≡ true
   room =
-      let m = greatest_new t base book pieces (greatest_number t.held) keys in
+      let m = greatest_new t book (greatest_number t.held) changes in
       let g : greatest_number u.held ≡ max (greatest_number t.held) (greatest_number edits) = ap greatest_number at
       ∙ greatest_of_both t.held edits in
-      let r = leb-true (greatest_number t.held + length keys) 1000000000000000 taken.room in
-      le-leb (greatest_number u.held + 0) 1000000000000000 (omega (arith, m, g, r))
+      le-leb (greatest_number u.held + 0) 1000000000000000 (omega (arith, m, g, taken.room))
 
   again : imported_since u base file ≡ record { after = u; answer = Ok 0 }
   again =
       ap (λ (r : Result (List ℕ) BookFault). changed_in u base pieces r) named
       ∙ ap (λ (c : Option Id). changed_after u base book pieces c) still_agrees
       ∙ ap (λ (held : List Operation).
-      changed u (record { name = u.name; held = held }) base book pieces (changed_keys held base book pieces)) base_stays
-      ∙ ap (λ (ks : List KeyParts). changed u u base book pieces ks)
+      changed u (record { name = u.name; held = held }) book (since_changes held base book pieces)) base_stays
+      ∙ ap (λ (ks : List KeyParts). changed u u book (map (since_change u.held base book pieces) ks))
       (none_pass (is_changed u.held base book pieces) (walked_keys u.held book pieces) unchanged)
-      ∙ cond-true _ _ _ room
+      ∙ ap (λ (f : Option ℕ). edited_all u u (edits_by NumbersUsedUp f u book [])) (cond-true _ _ _ room)
 
   twice : imported_since (imported_since s base file).after base file ≡ record { after = (imported_since s base file).after; answer = Ok 0 }
   twice = subst (λ (x : State). imported_since x base file ≡ record { after = x; answer = Ok 0 })
-      (sym (ap (λ (x : SinceStep). x.after) taken.is)) again
+      (sym taken.is) again
 
 pub twice_is_once : TwiceIsOnce
 twice_is_once s base file count state set answered = by (book_in file) refl

@@ -25,11 +25,17 @@ abbrev pub edit_with : Id → Segment → List Id → List ℕ → Operation
 edit_with id g replaced text =
     record { id = id; segment = g; replaced = replaced; text = Some text }
 
+-- the number of the first of this many operations more, if numbers are left for all of them
+abbrev pub first_number : List Operation → ℕ → Option ℕ
+first_number held count = if has_numbers held count then Some (next_number held) else None
+
+-- the id of this number with the replica's name
+abbrev pub own_id : State → ℕ → Id
+own_id s number = record { number = number; name = s.name }
+
 -- the id of the replica's next operation, if a number is left for it
 abbrev pub next_id : State → Option Id
-next_id s =
-    if has_numbers s.held 1 then Some
-    (record { number = next_number s.held; name = s.name }) else None
+next_id s = option_map (own_id s) (first_number s.held 1)
 
 -- the operation of an edit by its id, or that no number is left
 abbrev pub edit_by : Option Id → Segment → List Id → List ℕ → Result Operation EditFault
@@ -47,8 +53,8 @@ edit_fault held g text =
 abbrev pub first_not_shown : List Operation → Segment → List Id → Option Id
 first_not_shown held g ids = find (λ id. not (is_among (shown_ids held g) id)) ids
 
--- the operation of an edit, unless there is a fault
-abbrev pub unless : Option EditFault → Result Operation EditFault → Result Operation EditFault
+-- what is made, unless there is a fault
+abbrev pub unless : {X : Type 0} → Option EditFault → Result X EditFault → Result X EditFault
 unless None edit = edit
 unless (Some fault) edit = Err fault
 

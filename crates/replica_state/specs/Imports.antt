@@ -1,6 +1,6 @@
 -- Imports of a book's file into a replica (this project's own rule): the edits that make the file the export of its book.
-use Rattle.std.specs.Prelude.{ℕ, suc, Bool, not, ◌&&◌, ◌||◌, List, [], ◌∷◌, ◌++◌, length, map}
-use Rattle.std.specs.Prelude.{filter, Option, None, Some, Result, Ok, Err, if◌then◌else◌}
+use Rattle.std.specs.Prelude.{ℕ, Bool, not, ◌&&◌, ◌||◌, List, [], ◌++◌, map}
+use Rattle.std.specs.Prelude.{filter, Option, None, Some, Result, Ok, Err}
 use Rattle.std.specs.List.{find, list_any}
 use Rattle.std.specs.Option.{is_some}
 use Rattle.std.specs.Ordering.{is_eq}
@@ -15,9 +15,8 @@ use Rattle.op_core.specs.Ops.{Operation}
 use Rattle.op_core.specs.Shown.{wants_chapter_line}
 use Rattle.op_core.specs.CutsBack.{picked_at}
 use Rattle.op_core.specs.Lists.{keys_of, shown_ids}
-use Rattle.op_core.specs.NextIds.{next_number}
 use Rattle.replica_state.specs.States.{State}
-use Rattle.replica_state.specs.Edits.{has_numbers, edit_with}
+use Rattle.replica_state.specs.Changes.{ChangeParts, edits_or}
 use Rattle.replica_state.specs.declared.fault.ImportFault.{ImportFault}
 use Rattle.replica_state.specs.declared.fault.ImportFault.TheVariants.{BadFile, NumbersUsedUp}
 
@@ -63,30 +62,25 @@ walked_keys held book pieces =
 abbrev pub due_keys : List Operation → List ℕ → List PieceParts → List KeyParts
 due_keys held book pieces = filter (is_due held book pieces) (walked_keys held book pieces)
 
--- The edits of some keys of a book to the file's pieces, numbered one after the other. Each names all ids that its segment
--- shows; no other one of them is of its segment.
-abbrev pub edits_from : ℕ → State → List ℕ → List PieceParts → List KeyParts → List Operation
-edits_from number s book pieces [] = []
-edits_from number s book pieces (key ∷ keys) =
-    edit_with (record { number = number; name = s.name }) (segment book key)
-    (shown_ids s.held (segment book key)) (piece_at pieces key)
-    ∷ edits_from (suc number) s book pieces keys
+-- the change of a key to the file's piece, which replaces all that its segment shows
+abbrev pub due_change : List Operation → List ℕ → List PieceParts → KeyParts → ChangeParts
+due_change held book pieces key = record {
+  key = key;
+  text = piece_at pieces key;
+  ids = shown_ids held (segment book key);
+}
 
--- the operations of the edits, if numbers are left for them
-abbrev pub edits_numbered : State → List ℕ → List PieceParts → List KeyParts
-    → Result (List Operation) ImportFault
-edits_numbered s book pieces keys =
-    if has_numbers s.held (length keys)
-    then Ok (edits_from (next_number s.held) s book pieces keys)
-    else Err NumbersUsedUp
+-- the changes that an import makes, of rising keys
+abbrev pub due_changes : List Operation → List ℕ → List PieceParts → List ChangeParts
+due_changes held book pieces = map (due_change held book pieces) (due_keys held book pieces)
 
 -- the operations of an import of the book that its file begins with, or that it begins with none
 abbrev pub import_into : State → List PieceParts → Result (List ℕ) BookFault
     → Result (List Operation) ImportFault
 import_into s pieces (Err fault) = Err (BadFile fault)
-import_into s pieces (Ok book) = edits_numbered s book pieces (due_keys s.held book pieces)
+import_into s pieces (Ok book) = edits_or NumbersUsedUp s book (due_changes s.held book pieces)
 
--- the operations of an import: the edits of the due keys to the file's pieces, by rising numbers; or that the file
--- begins with no book, or else that no number is left
+-- the operations of an import: the edits of its changes, by rising numbers; or that the file begins with no book, or else
+-- that no number is left
 abbrev pub import_ops : State → List ℕ → Result (List Operation) ImportFault
 import_ops s file = import_into s (pieces_of file) (book_in file)

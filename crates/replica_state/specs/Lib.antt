@@ -2,12 +2,14 @@ pub mod States
 pub mod OneBook
 pub mod Receives
 pub mod Edits
+pub mod Changes
 pub mod Imports
 pub mod Steps
 pub mod Since
 pub mod Runs
 pub mod Laws
 pub mod ImportLaws
+pub mod ChangeLaws
 pub mod SinceLaws
 pub mod DeltaLaws
 pub mod ThinLaws

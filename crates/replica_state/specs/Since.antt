@@ -1,7 +1,6 @@
 -- Imports of a file that was changed since a bundle (this project's own rule): what was changed in it replaces what stood in it,
 -- and nothing else. The bundle is the base: the file was written from it, and then changed.
-use Rattle.std.specs.Prelude.{ℕ, suc, Bool, true, false, not, ◌&&◌, List, [], ◌∷◌, length, filter, Option, None, Some}
-use Rattle.std.specs.Prelude.{Result, Ok, Err, if◌then◌else◌}
+use Rattle.std.specs.Prelude.{ℕ, Bool, not, ◌&&◌, List, map, filter, Option, None, Some, Result, Ok, Err}
 use Rattle.std.specs.List.{list_any}
 use Rattle.usfm_ref.specs.Books.{same_bytes}
 use Rattle.usfm_ref.specs.Keys.{KeyParts}
@@ -15,10 +14,10 @@ use Rattle.op_core.specs.Ops.{Operation, own_text}
 use Rattle.op_core.specs.Sets.{clash}
 use Rattle.op_core.specs.Shown.{shown, text_of}
 use Rattle.op_core.specs.Lists.{ids_of}
-use Rattle.op_core.specs.NextIds.{next_number, given_ids}
+use Rattle.op_core.specs.NextIds.{given_ids}
 use Rattle.replica_state.specs.States.{State}
-use Rattle.replica_state.specs.Steps.{with_ops}
-use Rattle.replica_state.specs.Edits.{has_numbers, edit_with}
+use Rattle.replica_state.specs.Changes.{ChangeParts, edits_or}
+use Rattle.replica_state.specs.Steps.{EditsStep, with_ops, edited_all}
 use Rattle.replica_state.specs.Imports.{piece_at, is_due, walked_keys}
 use Rattle.replica_state.specs.declared.fault.ReceiveFault.{ReceiveFault}
 use Rattle.replica_state.specs.declared.fault.ReceiveFault.TheVariants as receiving
@@ -60,40 +59,34 @@ abbrev pub changed_keys : List Operation → List Operation → List ℕ → Lis
 changed_keys held base book pieces =
     filter (is_changed held base book pieces) (walked_keys held book pieces)
 
--- The edits of some keys of a book to the file's pieces, numbered one after the other. Each names the ids that its segment shows
--- of those whose text stood in the file.
-abbrev pub changes_from : ℕ → State → List Operation → List ℕ → List PieceParts → List KeyParts
-    → List Operation
-changes_from number s base book pieces [] = []
-changes_from number s base book pieces (key ∷ keys) =
-    edit_with (record { number = number; name = s.name }) (segment book key)
-    (seen_ids s.held base (segment book key)) (piece_at pieces key)
-    ∷ changes_from (suc number) s base book pieces keys
+-- the change of a key to the file's piece, which replaces what the segment shows of that which stood in the file
+abbrev pub since_change : List Operation → List Operation → List ℕ → List PieceParts → KeyParts
+    → ChangeParts
+since_change held base book pieces key = record {
+  key = key;
+  text = piece_at pieces key;
+  ids = seen_ids held base (segment book key);
+}
 
--- what a replica is after an import since a base, and what it answers: how many edits it made, or the refusal
-pub record SinceStep : Type 0 where
-  pub after : State
-  pub answer : Result ℕ SinceFault
+-- what was changed in the file, of rising keys
+abbrev pub since_changes : List Operation → List Operation → List ℕ → List PieceParts
+    → List ChangeParts
+since_changes held base book pieces =
+    map (since_change held base book pieces) (changed_keys held base book pieces)
 
--- the replica with edits, and how many they are
-abbrev pub with_edits : State → List Operation → SinceStep
-with_edits s edits = record { after = with_ops s edits; answer = Ok (length edits) }
+-- what a replica is after an import since a base, and what it answers
+abbrev pub SinceStep : Type 0
+SinceStep = EditsStep SinceFault
 
--- The edits of the keys of a replica that has received the base, if numbers are left for them; else the replica is as it was
--- before.
-abbrev pub changed : State → State → List Operation → List ℕ → List PieceParts → List KeyParts →
-    SinceStep
-changed before s base book pieces keys =
-    if has_numbers s.held (length keys)
-    then with_edits s (changes_from (next_number s.held) s base book pieces keys)
-    else record { after = before; answer = Err NumbersUsedUp }
+-- The changes of a replica that has received the base are made; where they are refused it is as it was before.
+abbrev pub changed : State → State → List ℕ → List ChangeParts → SinceStep
+changed before s book changes = edited_all before s (edits_or NumbersUsedUp s book changes)
 
 -- the same where the base is first received, unless it clashes with what is held
 abbrev pub changed_after : State → List Operation → List ℕ → List PieceParts → Option Id → SinceStep
 changed_after s base book pieces (Some id) = record { after = s; answer = Err (Clash id) }
 changed_after s base book pieces None =
-    changed s (with_ops s base) base book pieces
-    (changed_keys (with_ops s base).held base book pieces)
+    changed s (with_ops s base) book (since_changes (with_ops s base).held base book pieces)
 
 -- the same for the book that the file begins with, or that it begins with none
 abbrev pub changed_in : State → List Operation → List PieceParts → Result (List ℕ) BookFault →
@@ -101,8 +94,8 @@ abbrev pub changed_in : State → List Operation → List PieceParts → Result 
 changed_in s base pieces (Err fault) = record { after = s; answer = Err (BadFile fault) }
 changed_in s base pieces (Ok book) = changed_after s base book pieces (clash s.held base)
 
--- An import of a file since a base: the base is received, and then there is an edit for each key that was changed in the file,
--- over what the replica shows of that which stood there, by rising numbers. Refused are a file that begins with no book, then a
+-- An import of a file since a base: the base is received, and then what was changed in the file is made, by edits over what the
+-- replica shows of that which stood there, by rising numbers. Refused are a file that begins with no book, then a
 -- base that clashes with what is held, then an edit for which no number is left.
 abbrev pub imported_since : State → List Operation → List ℕ → SinceStep
 imported_since s base file = changed_in s base (pieces_of file) (book_in file)

@@ -1,5 +1,5 @@
 -- Laws of imports since a base (this project's own rule).
-use Rattle.std.specs.Prelude.{◌≡◌, ℕ, true, List, ◌∷◌, map, None, Ok}
+use Rattle.std.specs.Prelude.{◌≡◌, ℕ, true, List, ◌∷◌, None, Ok}
 use Rattle.std.specs.List.{Contains, list_all, list_any}
 use Rattle.usfm_ref.specs.Keys.{KeyParts, book_head}
 use Rattle.usfm_ref.specs.Segments.{segment}
@@ -13,16 +13,16 @@ use Rattle.op_core.specs.Shown.{shown, text_of}
 use Rattle.op_core.specs.NextIds.{next_number}
 use Rattle.op_core.specs.Export.{export}
 use Rattle.replica_state.specs.States.{State, IsState}
-use Rattle.replica_state.specs.Imports.{piece_at}
-use Rattle.replica_state.specs.Steps.{Command, Receive, EditOver, Import, Imported, step, with_ops}
+use Rattle.replica_state.specs.Steps.{Command, Receive, Import, Imported, step, with_ops}
 use Rattle.replica_state.specs.Runs.{after_all, NoneRefused}
-use Rattle.replica_state.specs.Since.{has_greatest_text, seen_ids, changed_keys, changes_from}
-use Rattle.replica_state.specs.Since.{imported_since}
+use Rattle.replica_state.specs.Changes.{edits_from}
+use Rattle.replica_state.specs.ChangeLaws.{edits_over}
+use Rattle.replica_state.specs.Since.{has_greatest_text, since_changes, imported_since}
 
 -- the edits that a replica which has received the base makes of the changed keys
 abbrev pub changes_of : State → List Operation → List ℕ → List PieceParts → List Operation
 changes_of s base book pieces =
-    changes_from (next_number s.held) s base book pieces (changed_keys s.held base book pieces)
+    edits_from (next_number s.held) s book (since_changes s.held base book pieces)
 
 -- an operation of the id stood in the file: the base shows it in the segment, with the text of the greatest one that it shows there
 pub record StoodInFile (base : List Operation) (g : Segment) (id : Id) : Type 0 where
@@ -57,18 +57,10 @@ UnchangedFilesAddNothing =
     imported_since s b.held (export b.held book)
     ≡ record { after = with_ops s b.held; answer = Ok 0 }
 
--- the edits over given ids of some keys: each gives its segment the file's piece, over what is held and stood in the file
-abbrev pub edits_over : List Operation → List Operation → List ℕ → List PieceParts → List KeyParts
-    → List Command
-edits_over held base book pieces keys =
-    map (λ key. EditOver (segment book key) (piece_at pieces key)
-    (seen_ids held base (segment book key))) keys
-
 -- the commands that an import of a book since a base is: the base is received, and then each changed key is edited
 abbrev pub since_commands : State → List Operation → List ℕ → List PieceParts → List Command
 since_commands s base book pieces =
-    Receive base ∷ edits_over (with_ops s base).held base book pieces
-    (changed_keys (with_ops s base).held base book pieces)
+    Receive base ∷ edits_over book (since_changes (with_ops s base).held base book pieces)
 
 -- An import since a base that is not refused is a receiving and then edits over given ids, of which none is refused; so all that
 -- holds of receivings and edits holds of it.

@@ -54,10 +54,22 @@ abbrev pub edited : State → Result Operation EditFault → Step
 edited s (Ok o) = record { after = with_ops s (o ∷ []); reply = Edited (Ok o.id) }
 edited s (Err fault) = record { after = s; reply = Edited (Err fault) }
 
--- the step of an import: its operations are joined to the held ones, unless it is refused
+-- what a replica is after several edits, and what is answered: how many they are, or a fault
+pub record EditsStep (F : Type 0) : Type 0 where
+  pub after : State
+  pub answer : Result ℕ F
+
+-- The step of several edits: they are joined to what the replica holds, unless they are refused; it is then as it was before.
+abbrev pub edited_all : {F : Type 0} → State → State → Result (List Operation) F → EditsStep F
+edited_all before s (Ok ops) = record { after = with_ops s ops; answer = Ok (length ops) }
+edited_all before s (Err fault) = record { after = before; answer = Err fault }
+
+-- the step of an import: its edits are joined to the held operations, unless it is refused
 abbrev pub imported : State → Result (List Operation) ImportFault → Step
-imported s (Ok ops) = record { after = with_ops s ops; reply = Imported (Ok (length ops)) }
-imported s (Err fault) = record { after = s; reply = Imported (Err fault) }
+imported s edits = record {
+  after = (edited_all s s edits).after;
+  reply = Imported (edited_all s s edits).answer;
+}
 
 -- the replica without the texts of the operations that a held one of their segment names
 abbrev pub without_replaced_texts : State → State

@@ -1,22 +1,20 @@
 // Edits of a replica.
-ghost use Rattle.std.specs.Prelude.{◌≡◌, ◌≢◌, ◌∷◌, [], None, Err, IfOk, IfErr, IsOk, IsTrue, OnOk, OnErr, filter, length, not};
+ghost use Rattle.std.specs.Prelude.{◌≡◌, ◌≢◌, [], None, Err, IfOk, IfErr, IsOk, IsTrue, OnOk, OnErr, filter, length, not};
 ghost use Rattle.std.specs.List.{AllByRecursion, find};
 ghost use Rattle.std.specs.Option.{option_copied};
 ghost use Rattle.usfm_ref.specs.Segments.{segment};
-ghost use Rattle.verse_cut.specs.Fits.{Fits};
 ghost use Rattle.op_core.specs.Export.{has_book};
-ghost use Rattle.op_core.specs.Ids.{names_fall};
 ghost use Rattle.op_core.specs.Lists.{shown_ids};
 ghost use Rattle.op_core.specs.NextIds.{given_ids, is_among};
 ghost use Rattle.op_core.specs.Sets.{get, join, rises};
 ghost use Rattle.op_core.specs.Thinned.{is_legal};
 ghost use Rattle.replica_state.specs.Edits as edits;
-ghost use Rattle.replica_state.specs.States.{IsState};
 ghost use Rattle.replica_state.specs.Steps.{step, Edit, EditOver, Edited, with_ops};
 
+use crate::change::Change;
 use crate::fault::EditFault;
 use crate::replica::Replica;
-use op_core::{LAST_NUMBER, Op, OpId};
+use op_core::{Op, OpId};
 use std::alloc::{AllocError, Global};
 use usfm_ref::{Book, Key};
 use verse_cut::fits;
@@ -44,12 +42,12 @@ impl Replica {
         if let Some(fault) = self.edit_fault(book, key, text) {
             return Err(fault);
         }
-        let Some(id) = self.next_id() else {
+        let Some(number) = self.first_number(1) else {
             return Err(EditFault::NumbersUsedUp);
         };
-        let replaced = self.shown_ids(book, key)?;
-        self.add(id, book, key, replaced, text)?;
-        Ok(id)
+        let ids = self.shown_ids(book, key)?;
+        self.make(number, book, &[Change { key, text, ids }])?;
+        Ok(self.own_id(number))
     }
 
     /// Gives a segment a text, by an operation of the replica that names the given ids, and answers
@@ -85,12 +83,12 @@ impl Replica {
         if let Some(id) = first_not_among(over, self.set.shown_ids(book, key)) {
             return Err(EditFault::NotShown(*id));
         }
-        let Some(id) = self.next_id() else {
+        let Some(number) = self.first_number(1) else {
             return Err(EditFault::NumbersUsedUp);
         };
-        let replaced = self.given_ids(book, key, over)?;
-        self.add(id, book, key, replaced, text)?;
-        Ok(id)
+        let ids = over.to_vec(self.alloc)?;
+        self.make(number, book, &[Change { key, text, ids }])?;
+        Ok(self.own_id(number))
     }
 
     // Why an edit of the segment may not begin, if it may not.
@@ -133,45 +131,6 @@ impl Replica {
         given_among(self.alloc, self.set.shown_ids(book, key), given)
     }
 
-    // The id of the replica's next operation, if a number is left for it.
-    fn next_id(&self) -> Option<OpId>
-        ensures next { result ≡ edits.next_id self.now }
-        ensures state { IsState self.now }
-    {
-        let greatest = self.set.greatest_number();
-        if greatest < LAST_NUMBER {
-            Some(OpId {
-                number: greatest + 1,
-                name: self.name,
-            })
-        } else {
-            None
-        }
-    }
-
-    // Adds an operation whose id is not held.
-    fn add(
-        &mut self,
-        id: OpId,
-        book: Book,
-        key: Key,
-        replaced: Vec<OpId>,
-        text: &str,
-    ) -> Result<(), AllocError>
-        requires new { get self.old.held id ≡ None }
-        requires falls { IsTrue (names_fall id replaced.items) }
-        requires fits { Fits book key text.now }
-        ensures ok { let edit = edits.edit_with id (segment book key) replaced.items text.now in
-            OnOk result (self.new ≡ with_ops self.old (edit ∷ [])) }
-        ensures err { OnErr result (self.new ≡ self.old) }
-    {
-        let text = String::from_str(self.alloc, text)?;
-        let op = Op::new(id, book, key, replaced, text);
-        let new = Vec::from_array(self.alloc, [op])?;
-        self.join_new(new)?;
-        Ok(())
-    }
-
     // Adds operations that rise by id and of which none is held, and says how many they are. Nothing
     // grows where there are none.
     pub(crate) fn join_new(&mut self, new: Vec<Op>) -> Result<u64, AllocError>
@@ -191,7 +150,7 @@ impl Replica {
 }
 
 // The first of the ids that is not among the shown ones.
-fn first_not_among<'a>(ids: &'a [OpId], shown: &[OpId]) -> Option<&'a OpId>
+pub(crate) fn first_not_among<'a>(ids: &'a [OpId], shown: &[OpId]) -> Option<&'a OpId>
     ensures { option_copied result ≡ find (λ id. not (is_among shown.now id)) ids.now }
 {
     ids.iter().find(|id| !is_among(shown, **id))
@@ -201,6 +160,10 @@ fn first_not_among<'a>(ids: &'a [OpId], shown: &[OpId]) -> Option<&'a OpId>
 fn given_among(alloc: Global, shown: &[OpId], given: &[OpId]) -> Result<Vec<OpId>, AllocError>
     ensures { IfOk result (λ ids. ids.items ≡ filter (is_among given.now) shown.now) }
 {
+    if given == shown {
+        // Looking for each among all takes long where a segment shows many.
+        return shown.to_vec(alloc);
+    }
     shown
         .iter()
         .copied()

@@ -1,23 +1,20 @@
 // Imports of a book's file into a replica.
-ghost use Rattle.std.specs.Prelude.{◌≡◌, ◌≢◌, ◌<◌, Err, IfOk, IfErr, IsTrue, OnErr, OnOk, ◌++◌, length, map};
+ghost use Rattle.std.specs.Prelude.{◌≡◌, ◌≢◌, Err, IfOk, IfErr, IsTrue, OnErr, OnOk, ◌++◌, map};
 ghost use Rattle.usfm_ref.specs.Books.{same_bytes};
 ghost use Rattle.usfm_ref.specs.Keys.{key_cmp, head_of};
 ghost use Rattle.usfm_ref.specs.Rising.{rises_by};
-ghost use Rattle.usfm_ref.specs.Segments.{segment};
-ghost use Rattle.verse_cut.specs.Fits.{Fits};
 ghost use Rattle.verse_cut.specs.Reading.{book_in};
 ghost use Rattle.verse_cut.specs.Views.{pieces_view};
-ghost use Rattle.op_core.specs.Lists.{keys_of, shown_ids};
-ghost use Rattle.op_core.specs.NextIds.{greatest_number, next_number};
-ghost use Rattle.replica_state.specs.Edits as edits;
+ghost use Rattle.op_core.specs.Lists.{keys_of};
+ghost use Rattle.replica_state.specs.Changes.{changes_view};
 ghost use Rattle.replica_state.specs.Imports as imports;
-ghost use Rattle.replica_state.specs.States.{IsState};
 ghost use Rattle.replica_state.specs.Steps.{step, Import, Imported};
 
+use crate::change::Change;
 use crate::fault::ImportFault;
 use crate::pieces::{has_verse, piece_at};
 use crate::replica::Replica;
-use op_core::{LAST_NUMBER, Op, OpId, Picked, chapter_line};
+use op_core::{Picked, chapter_line};
 use std::alloc::AllocError;
 use usfm_ref::{Book, Key};
 use verse_cut::{Piece, book_of, cut};
@@ -46,36 +43,37 @@ impl Replica {
     {
         let book = book_of(file)?;
         let pieces = cut(self.alloc, file)?;
-        let due = self.due_keys(book, &pieces)?;
-        if !self.has_numbers(due.len()) {
+        let changes = self.due_changes(book, &pieces)?;
+        let Some(first) = self.first_number(changes.len()) else {
             return Err(ImportFault::NumbersUsedUp);
-        }
-        let edits = self.edits_of(book, &pieces, &due)?;
-        Ok(self.join_new(edits)?)
+        };
+        Ok(self.make(first, book, &changes)?)
     }
 
-    // Whether numbers up to the last one are left for this many operations more.
-    pub(crate) fn has_numbers(&self, count: usize) -> bool
-        ensures { result ≡ edits.has_numbers self.now.held count }
-    {
-        let greatest = self.set.greatest_number();
-        greatest <= LAST_NUMBER && count as u64 <= LAST_NUMBER - greatest
-    }
-
-    // The keys that an import edits, rising.
-    fn due_keys(&self, book: Book, pieces: &[Piece<'_>]) -> Result<Vec<Key>, AllocError>
+    // The changes that an import makes, of rising keys.
+    fn due_changes<'a>(
+        &self,
+        book: Book,
+        pieces: &[Piece<'a>],
+    ) -> Result<Vec<Change<'a>>, AllocError>
         requires rising { IsTrue (rises_by key_cmp (λ p. p.key) pieces.now) }
-        ensures { IfOk result (λ keys.
-            keys.items ≡ imports.due_keys self.now.held book (pieces_view pieces.now)) }
+        ensures { let due = imports.due_changes self.now.held book (pieces_view pieces.now) in
+            IfOk result (λ changes. changes_view changes.items ≡ due) }
     {
-        let mut due = Vec::new(self.alloc);
+        let mut changes = Vec::new(self.alloc);
         let keys = self.walked_keys(book, pieces)?;
         for key in &keys {
             if self.is_due(book, pieces, *key) {
-                due.push(*key)?;
+                let text = piece_at(pieces, *key);
+                let ids = self.shown_ids(book, *key)?;
+                changes.push(Change {
+                    key: *key,
+                    text,
+                    ids,
+                })?;
             }
         }
-        Ok(due)
+        Ok(changes)
     }
 
     // The book's keys with an operation, the heads of their chapters, and the keys of the pieces,
@@ -131,51 +129,6 @@ impl Replica {
                 true
             }
         }
-    }
-
-    // The edits of some keys of a book to the pieces, numbered one after the other.
-    fn edits_of(&self, book: Book, pieces: &[Piece<'_>], due: &[Key]) -> Result<Vec<Op>, AllocError>
-        requires rising { IsTrue (rises_by key_cmp (λ p. p.key) pieces.now) }
-        requires numbers { IsTrue (edits.has_numbers self.now.held (length due.now)) }
-        requires fits { (key : _) →
-            Fits book key (imports.piece_at (pieces_view pieces.now) key) }
-        ensures ops { let first = next_number self.now.held in
-            let made = imports.edits_from first self.now book (pieces_view pieces.now) due.now in
-            IfOk result (λ ops. ops.items ≡ made) }
-        ensures state { IsState self.now }
-    {
-        let mut ops = Vec::with_capacity(self.alloc, due.len())?;
-        let mut number = self.set.greatest_number();
-        for key in due {
-            number += 1;
-            let id = OpId {
-                number,
-                name: self.name,
-            };
-            let edit = self.edit_of(id, book, pieces, *key)?;
-            ops.push(edit)?;
-        }
-        Ok(ops)
-    }
-
-    // The edit of a key to its piece.
-    fn edit_of(
-        &self,
-        id: OpId,
-        book: Book,
-        pieces: &[Piece<'_>],
-        key: Key,
-    ) -> Result<Op, AllocError>
-        requires rising { IsTrue (rises_by key_cmp (λ p. p.key) pieces.now) }
-        requires beyond { greatest_number self.now.held < id.number }
-        requires fits { Fits book key (imports.piece_at (pieces_view pieces.now) key) }
-        ensures { let shown = shown_ids self.now.held (segment book key) in
-            let text = imports.piece_at (pieces_view pieces.now) key in
-            IfOk result (λ op. op ≡ edits.edit_with id (segment book key) shown text) }
-    {
-        let replaced = self.shown_ids(book, key)?;
-        let text = String::from_str(self.alloc, piece_at(pieces, key))?;
-        Ok(Op::new(id, book, key, replaced, text))
     }
 }
 

@@ -2,6 +2,7 @@
 ghost use Rattle.replica_state.specs.Laws as laws;
 
 pub mod calls;
+pub mod changes;
 pub mod deltas;
 pub mod imports;
 pub mod since;

@@ -2,6 +2,7 @@
 //! operations from the others, edits segments, imports books, and shows and picks texts from the set of all that it holds.
 #![tactic(auto)]
 
+mod change;
 mod edit;
 mod fault;
 mod gathering;
@@ -13,9 +14,7 @@ mod receive;
 mod replica;
 mod since;
 
+pub use change::Change;
 pub use fault::{EditFault, ImportFault, ReceiveFault, SinceFault};
 pub use gathering::Gathering;
 pub use replica::Replica;
-
-#[cfg(test)]
-mod tests;

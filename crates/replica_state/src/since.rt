@@ -1,5 +1,5 @@
 // Imports of a file that was changed since a bundle.
-ghost use Rattle.std.specs.Prelude.{◌≡◌, ◌≢◌, ◌<◌, [], Err, IfOk, IfErr, IfSome, IsOk, IsTrue, OnErr, length, map};
+ghost use Rattle.std.specs.Prelude.{◌≡◌, ◌≢◌, [], None, Some, option_map, Err, IfOk, IfErr, IfSome, IsOk, IsTrue, OnErr, map, if◌then◌else◌};
 ghost use Rattle.std.specs.List.{list_any};
 ghost use Rattle.usfm_ref.specs.Books.{same_bytes};
 ghost use Rattle.usfm_ref.specs.Keys.{key_cmp};
@@ -8,16 +8,15 @@ ghost use Rattle.usfm_ref.specs.Segments.{segment};
 ghost use Rattle.verse_cut.specs.Fits.{Fits};
 ghost use Rattle.verse_cut.specs.Reading.{book_in};
 ghost use Rattle.verse_cut.specs.Views.{pieces_view};
-ghost use Rattle.op_core.specs.NextIds.{greatest_number, next_number};
 ghost use Rattle.op_core.specs.Ops.{own_text};
 ghost use Rattle.op_core.specs.Shown.{last, text_if_any};
 ghost use Rattle.op_core.specs.Sets.{clash};
-ghost use Rattle.replica_state.specs.Edits as edits;
+ghost use Rattle.replica_state.specs.Changes.{change_view, changes_view};
 ghost use Rattle.replica_state.specs.Imports as imports;
 ghost use Rattle.replica_state.specs.Receives as receives;
 ghost use Rattle.replica_state.specs.Since as since;
-ghost use Rattle.replica_state.specs.States.{IsState};
 
+use crate::change::Change;
 use crate::fault::SinceFault;
 use crate::pieces::piece_at;
 use crate::replica::Replica;
@@ -68,11 +67,11 @@ impl Replica {
         let pieces = cut(self.alloc, file)?;
         if lacked.is_empty() && base.is_full() {
             // Nothing is to be received, and so nothing to be undone where the edits are refused.
-            return self.change(&was, book, &pieces);
+            return self.make_since(&was, book, &pieces);
         }
         let mut after = self.copy()?;
         after.receive(base)?;
-        let count = after.change(&was, book, &pieces)?;
+        let count = after.make_since(&was, book, &pieces)?;
         self.replace_by(after);
         Ok(count)
     }
@@ -119,68 +118,77 @@ impl Replica {
         }
     }
 
-    // Makes the edits of what was changed in a file, and says how many they are.
-    fn change(&mut self, was: &Replica, book: Book, pieces: &[Piece<'_>]) -> Result<u64, SinceFault>
+    // Makes what was changed in a file, and says how many edits that is.
+    fn make_since(
+        &mut self,
+        was: &Replica,
+        book: Book,
+        pieces: &[Piece<'_>],
+    ) -> Result<u64, SinceFault>
         requires rising { IsTrue (rises_by key_cmp (λ p. p.key) pieces.now) }
         requires fits { (key : _) →
             Fits book key (imports.piece_at (pieces_view pieces.now) key) }
-        ensures step { let keys = since.changed_keys self.old.held was.now.held book
+        ensures step { let changes = since.since_changes self.old.held was.now.held book
             (pieces_view pieces.now) in
             result ≢ Err SinceFault.Memory →
-            since.changed self.old self.old was.now.held book (pieces_view pieces.now) keys
+            since.changed self.old self.old book changes
             ≡ record { after = self.new; answer = result } }
         ensures err { OnErr result (self.new ≡ self.old) }
     {
-        let keys = self.changed_keys(was, book, pieces)?;
-        if !self.has_numbers(keys.len()) {
+        let changes = self.since_changes(was, book, pieces)?;
+        let Some(first) = self.first_number(changes.len()) else {
             return Err(SinceFault::NumbersUsedUp);
-        }
-        let edits = self.changes_of(was, book, pieces, &keys)?;
-        Ok(self.join_new(edits)?)
+        };
+        Ok(self.make(first, book, &changes)?)
     }
 
-    // The keys that were changed in a file, rising.
-    fn changed_keys(
+    // What was changed in a file, of rising keys.
+    fn since_changes<'a>(
         &self,
         was: &Replica,
         book: Book,
-        pieces: &[Piece<'_>],
-    ) -> Result<Vec<Key>, AllocError>
+        pieces: &[Piece<'a>],
+    ) -> Result<Vec<Change<'a>>, AllocError>
         requires rising { IsTrue (rises_by key_cmp (λ p. p.key) pieces.now) }
-        ensures { let keys = since.changed_keys self.now.held was.now.held book
+        ensures { let made = since.since_changes self.now.held was.now.held book
             (pieces_view pieces.now) in
-            IfOk result (λ changed. changed.items ≡ keys) }
+            IfOk result (λ changes. changes_view changes.items ≡ made) }
     {
-        let mut changed = Vec::new(self.alloc);
+        let mut changes = Vec::new(self.alloc);
         let keys = self.walked_keys(book, pieces)?;
         for key in &keys {
-            if self.is_changed(was, book, pieces, *key)? {
-                changed.push(*key)?;
+            if let Some(change) = self.since_change(was, book, pieces, *key)? {
+                changes.push(change)?;
             }
         }
-        Ok(changed)
+        Ok(changes)
     }
 
-    // Whether a key was changed in a file.
-    fn is_changed(
+    // The change of a key, if it was changed in a file.
+    fn since_change<'a>(
         &self,
         was: &Replica,
         book: Book,
-        pieces: &[Piece<'_>],
+        pieces: &[Piece<'a>],
         key: Key,
-    ) -> Result<bool, AllocError>
+    ) -> Result<Option<Change<'a>>, AllocError>
         requires rising { IsTrue (rises_by key_cmp (λ p. p.key) pieces.now) }
-        ensures { IfOk result (λ is.
-            is ≡ since.is_changed self.now.held was.now.held book (pieces_view pieces.now) key) }
+        ensures { let base = was.now.held in
+            let view = pieces_view pieces.now in
+            IfOk result (λ change. option_map change_view change
+            ≡ (if since.is_changed self.now.held base book view key
+            then Some (since.since_change self.now.held base book view key)
+            else None)) }
     {
         if !was.is_due(book, pieces, key) {
-            return Ok(false);
+            return Ok(None);
         }
-        let seen = self.seen_ids(was, book, key)?;
-        if !seen.is_empty() {
-            return Ok(true);
+        let text = piece_at(pieces, key);
+        let ids = self.seen_ids(was, book, key)?;
+        if ids.is_empty() && self.shows_text(book, key, text)? {
+            return Ok(None);
         }
-        Ok(!self.shows_text(book, key, piece_at(pieces, key))?)
+        Ok(Some(Change { key, text, ids }))
     }
 
     // The ids that a segment shows, of those whose text stood in a file that another replica wrote.
@@ -215,59 +223,6 @@ impl Replica {
     {
         let shown = self.shown(self.alloc, book, key)?;
         Ok(has_text(&shown, text))
-    }
-
-    // The edits of some keys of a book to the pieces, numbered one after the other.
-    fn changes_of(
-        &self,
-        was: &Replica,
-        book: Book,
-        pieces: &[Piece<'_>],
-        keys: &[Key],
-    ) -> Result<Vec<Op>, AllocError>
-        requires rising { IsTrue (rises_by key_cmp (λ p. p.key) pieces.now) }
-        requires numbers { IsTrue (edits.has_numbers self.now.held (length keys.now)) }
-        requires fits { (key : _) →
-            Fits book key (imports.piece_at (pieces_view pieces.now) key) }
-        ensures ops { let first = next_number self.now.held in
-            let made = since.changes_from first self.now was.now.held book
-            (pieces_view pieces.now) keys.now in
-            IfOk result (λ ops. ops.items ≡ made) }
-        ensures state { IsState self.now }
-    {
-        let mut ops = Vec::with_capacity(self.alloc, keys.len())?;
-        let mut number = self.set.greatest_number();
-        for key in keys {
-            number += 1;
-            let id = OpId {
-                number,
-                name: self.name,
-            };
-            let edit = self.change_of(was, id, book, pieces, *key)?;
-            ops.push(edit)?;
-        }
-        Ok(ops)
-    }
-
-    // The edit of a key to its piece.
-    fn change_of(
-        &self,
-        was: &Replica,
-        id: OpId,
-        book: Book,
-        pieces: &[Piece<'_>],
-        key: Key,
-    ) -> Result<Op, AllocError>
-        requires rising { IsTrue (rises_by key_cmp (λ p. p.key) pieces.now) }
-        requires beyond { greatest_number self.now.held < id.number }
-        requires fits { Fits book key (imports.piece_at (pieces_view pieces.now) key) }
-        ensures { let seen = since.seen_ids self.now.held was.now.held (segment book key) in
-            let text = imports.piece_at (pieces_view pieces.now) key in
-            IfOk result (λ op. op ≡ edits.edit_with id (segment book key) seen text) }
-    {
-        let replaced = self.seen_ids(was, book, key)?;
-        let text = String::from_str(self.alloc, piece_at(pieces, key))?;
-        Ok(Op::new(id, book, key, replaced, text))
     }
 }
 

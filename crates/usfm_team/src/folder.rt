@@ -242,7 +242,8 @@ pub(crate) fn is_whole(book: &StandingBook) -> bool {
 pub(crate) fn say_headless(rt: &HostRuntime, book: Book) {
     let _ = writeln!(
         rt.stderr(),
-        "no file is written for {book}: the project does not have the book's head, which begins with \\id"
+        "no file is written for {book}: the project does not have the book's head, \
+        which begins with \\id"
     );
 }
 

@@ -8,8 +8,6 @@ mod placing;
 mod project;
 mod rights;
 mod sync;
-#[cfg(test)]
-mod tests;
 mod turns;
 
 use crate::files::read_file;

@@ -1,14 +1,14 @@
 """Worked examples that were computed by hand from the rules. The second implementation has to give them."""
-from . import calls, plays
+from . import calls
 
 # What a row is about, what was found, and what is wanted.
 Row = tuple[str, object, object]
 
 
 def all_rows() -> list[Row]:
-    """All rows."""
+    """All rows of single calls."""
     found: list[Row] = []
-    for part in calls.PARTS + plays.PARTS:
+    for part in calls.PARTS:
         about = part.__doc__.rstrip(".")
         found += [(f"{about}, {place}", *row) for place, row in enumerate(part(), start=1)]
     return found

@@ -1,10 +1,9 @@
-"""A sheet, bundles and a summary that the worked examples use, and the team that plays them."""
+"""A sheet, bundles and a summary that the worked examples use."""
 from typing import Callable
 
 from model.bundles import write_bundle
 from model.faults import Fault
 from model.operations import Operation, set_of
-from model.program import Folder, run
 from model.references import HEAD, Id, Key, Verse
 
 SHEET = rb"""# sheet of the worked rows
@@ -84,7 +83,6 @@ CLASHING = write_bundle(
     )
 )
 BOOK = b"\\id MAT\n\\c 1\n\\v 1 In\n"
-CONFLICT = b"conflict MAT 1:1 2\ntext 3 ben 8\n\\v 1 At\n\ntext 3 ana 8\n\\v 1 To\n\n"
 
 
 def answer_of(call: Callable, *given: object) -> object:
@@ -93,47 +91,3 @@ def answer_of(call: Callable, *given: object) -> object:
         return call(*given)
     except Fault as fault:
         return fault.line()
-
-
-class Team:
-    """Replicas in a folder, each in a file of its name."""
-
-    def __init__(self, *names: str) -> None:
-        self.folder: Folder = {}
-        for name in names:
-            self.does("init", name, name)
-
-    def does(self, *words: str, given: bytes = b"") -> bytes:
-        """What a run writes, or its fault's line."""
-        answer = run(self.folder, words, given)
-        return answer.output or answer.error
-
-    def imports(self, name: str, text: bytes) -> bytes:
-        self.folder["file"] = text
-        return self.does("import", name, "file")
-
-    def imports_since(self, name: str, text: bytes, bundle: bytes) -> bytes:
-        self.folder["file"], self.folder["base"] = text, bundle
-        return self.does("import", name, "file", "--since", "base")
-
-    def receives(self, name: str, bundle: bytes) -> bytes:
-        self.folder["file"] = bundle
-        return self.does("receive", name, "file")
-
-    def delta(self, name: str, summary: bytes) -> bytes:
-        self.folder["file"] = summary
-        return self.does("delta", name, "file")
-
-    def edits(self, name: str, ref: str, text: bytes) -> bytes:
-        return self.does("edit", name, ref, given=text)
-
-    def export(self, name: str) -> bytes:
-        return self.does("export", name, "MAT")
-
-    def report(self, name: str) -> bytes:
-        return self.does("report", name)
-
-    def by_sheet(self, *words: str) -> bytes:
-        """A command by the sheet, which comes after the book."""
-        self.folder["sheet"] = SHEET
-        return self.does(*words[:3], "sheet", *words[3:])

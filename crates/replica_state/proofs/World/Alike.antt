@@ -4,7 +4,7 @@ use Rattle.std.proofs.Common.{filter, length, is_none, refl, sym, ap, subst, ◌
 use Rattle.std.specs.List.{find}
 use Rattle.std.specs.Option.{is_some}
 use Rattle.usfm_ref.specs.Books.{same_bytes}
-use Rattle.usfm_ref.specs.Keys.{KeyParts, key_cmp, head_of, book_head, same_key}
+use Rattle.usfm_ref.specs.Keys.{key_cmp, head_of, book_head, same_key}
 use Rattle.usfm_ref.specs.Rising.{rising}
 use Rattle.usfm_ref.specs.Segments.{segment}
 use Rattle.usfm_ref.specs.declared.segment.Segment.{Segment}
@@ -17,7 +17,7 @@ use Rattle.op_core.specs.Ops.{Operation, is_full}
 use Rattle.op_core.specs.Sets.{get, join, clash}
 use Rattle.op_core.specs.Shown.{wants_chapter_line, Line, greatest, last, shown, picked_text}
 use Rattle.op_core.specs.Lists.{ids_of, is_held}
-use Rattle.op_core.specs.NextIds.{is_among, greatest_number, next_number}
+use Rattle.op_core.specs.NextIds.{is_among, greatest_number}
 use Rattle.op_core.specs.Export.{of_book, has_book}
 use Rattle.op_core.specs.Thinned.{StandsFor}
 use Rattle.op_core.specs.ThinLaws.{AnswersSame}
@@ -35,9 +35,10 @@ use Rattle.replica_state.specs.declared.fault.ImportFault.{ImportFault}
 use Rattle.replica_state.specs.declared.fault.ImportFault.TheVariants as import
 use Rattle.replica_state.specs.States.{State}
 use Rattle.replica_state.specs.Receives.{lacked}
-use Rattle.replica_state.specs.Edits.{has_numbers, edit_with, next_id, edit_by, edit_fault, unless, edit_op, edit_over_op}
+use Rattle.replica_state.specs.Edits.{edit_with, own_id, first_number, next_id, edit_by, edit_fault, unless, edit_op, edit_over_op}
+use Rattle.replica_state.specs.Changes.{ChangeParts, edits_from, edits_by, edits_or}
 use Rattle.replica_state.specs.Imports.{piece_at, piece_of, has_verse}
-use Rattle.replica_state.specs.Imports.{due_keys, edits_from, edits_numbered, import_into, import_ops}
+use Rattle.replica_state.specs.Imports.{due_keys, due_changes, import_into, import_ops}
 use Rattle.replica_state.specs.Steps.{Received, edited, imported, received}
 use Rattle.replica_state.specs.World.{edit_made, edits_made}
 use Rattle.op_core.proofs.Awaited.{held-get}
@@ -61,8 +62,11 @@ module _ (name : List ℕ) (s u : List Operation) (h : StandsFor s u) where
       let has : has_book s g.book ≡ has_book u g.book = any_same s u h.skeletons (of_book g.book) in
       ap (λ b. cond (not (text_fits g.book g.key text)) (Some BadSegment) (cond (b || same_key g.key book_head) None (Some NoBook))) has
 
+  first_same : (count : ℕ) → first_number s count ≡ first_number u count
+  first_same count = ap (λ n. cond (nat_le (n + count) 1000000000000000) (Some (suc n)) None) number_same
+
   next_same : next_id (at name s) ≡ next_id (at name u)
-  next_same = ap (λ n. cond (nat_le (n + 1) 1000000000000000) (Some (record { number = suc n; name = name })) None) number_same
+  next_same = ap (option_map (own_id (at name s))) (first_same 1)
 
   pub edit_same : (g : Segment) (text : List ℕ) → edit_op (at name s) g text ≡ edit_op (at name u) g text
   edit_same g text i = unless (fault_same g text i) (edit_by (next_same i) g (answers.shown_ids g i) text)
@@ -99,26 +103,33 @@ module _ (name : List ℕ) (s u : List Operation) (h : StandsFor s u) where
       || (line_same (segment book key) i && is_some (piece_of pieces key) && not (has_verse pieces key.chapter)))
       (rising key_cmp (map head_of keys ++ (keys ++ map (λ p. p.key) pieces)))
 
-  edits_same : (book : List ℕ) (pieces : List PieceParts) (n : ℕ) (keys : List KeyParts)
-      → edits_from n (at name s) book pieces keys ≡ edits_from n (at name u) book pieces keys
-  edits_same book pieces n [] = refl
-  edits_same book pieces n (key ∷ keys) = λ i.
-      edit_with (record { number = n; name = name }) (segment book key) (answers.shown_ids (segment book key) i) (piece_at pieces key)
-      ∷ edits_same book pieces (suc n) keys i
+  changes_same : (book : List ℕ) (pieces : List PieceParts) → due_changes s book pieces ≡ due_changes u book pieces
+  changes_same book pieces i =
+      map (λ key. record { key = key; text = piece_at pieces key; ids = answers.shown_ids (segment book key) i }) (due_same book pieces i)
 
-  numbered_same : (book : List ℕ) (pieces : List PieceParts) (keys : List KeyParts)
-      → edits_numbered (at name s) book pieces keys ≡ edits_numbered (at name u) book pieces keys
-  numbered_same book pieces keys =
-      let count = length keys in
-      ap (λ n. cond (nat_le (n + count) 1000000000000000) (Ok (edits_from (suc n) (at name s) book pieces keys)) (Err import.NumbersUsedUp))
-      number_same
-      ∙ ap (λ ops. cond (has_numbers u count) (Ok ops) (Err import.NumbersUsedUp)) (edits_same book pieces (next_number u) keys)
+  edits_same : (book : List ℕ) (n : ℕ) (changes : List ChangeParts)
+      → edits_from n (at name s) book changes ≡ edits_from n (at name u) book changes
+  edits_same book n [] = refl
+  edits_same book n (c ∷ changes) = λ i.
+      edit_with (record { number = n; name = name }) (segment book c.key)
+      (filter (is_among c.ids) (answers.shown_ids (segment book c.key) i)) c.text
+      ∷ edits_same book (suc n) changes i
 
   into_same : (pieces : List PieceParts) (r : Result (List ℕ) BookFault)
       → import_into (at name s) pieces r ≡ import_into (at name u) pieces r
   into_same pieces (Err fault) = refl
   into_same pieces (Ok book) =
-      ap (edits_numbered (at name s) book pieces) (due_same book pieces) ∙ numbered_same book pieces (due_keys u book pieces)
+      ap (edits_or import.NumbersUsedUp (at name s) book) (changes_same book pieces)
+      ∙ ap (λ (f : Option ℕ). edits_by import.NumbersUsedUp f (at name s) book changes) (first_same (length changes))
+      ∙ by (first_number u (length changes))
+    where
+      changes : List ChangeParts
+      changes = due_changes u book pieces
+
+      by : (f : Option ℕ)
+          → edits_by import.NumbersUsedUp f (at name s) book changes ≡ edits_by import.NumbersUsedUp f (at name u) book changes
+      by None = refl
+      by (Some first) = ap (λ (ops : List Operation). Ok ops) (edits_same book first changes)
 
   pub import_same : (file : List ℕ) → import_ops (at name s) file ≡ import_ops (at name u) file
   import_same file = into_same (pieces_of file) (book_in file)

@@ -1,9 +1,8 @@
 -- What a replica makes next, and chains of replacements.
 use Rattle.std.proofs.Common.{◌≡◌, ℕ, zero, suc, max, ◌+◌, ◌≤◌, ◌<◌, Bool, true, false, not, cond, ◌&&◌, ◌||◌, ◌==◌, nat_le, List}
-use Rattle.std.proofs.Common.{[], ◌∷◌, length, filter, arith, refl, sym, ap, subst, ◌∙◌, Option, Some, None, Result, Ok, Err}
+use Rattle.std.proofs.Common.{[], ◌∷◌, length, filter, arith, refl, sym, ap, subst, ◌∙◌, Option, Some, None, option_map, Result, Ok, Err}
 use Rattle.std.proofs.lemmas.Bool.{and_parts, and_from, false≢true}
 use Rattle.std.proofs.lemmas.Bool.Decides.{nat_tests}
-use Rattle.usfm_ref.specs.Keys.{KeyParts}
 use Rattle.usfm_ref.specs.Segments.{segment}
 use Rattle.usfm_ref.specs.declared.segment.Segment.{Segment}
 use Rattle.verse_cut.specs.declared.fault.BookFault.{BookFault}
@@ -17,16 +16,17 @@ use Rattle.op_core.specs.Lists.{is_held, shown_ids}
 use Rattle.op_core.specs.NextIds.{is_among, given_ids, greatest_number, next_number}
 use Rattle.op_core.proofs.Clashes.{get_cases}
 use Rattle.op_core.proofs.Gets.{AnyHeld, any_held}
-use Rattle.op_core.proofs.NextIds.{beyond, shown_fall, some_fall}
+use Rattle.op_core.proofs.NextIds.{beyond, shown_fall}
 use Rattle.replica_state.specs.declared.fault.EditFault.{EditFault}
 use Rattle.replica_state.specs.declared.fault.ImportFault.TheVariants.{NumbersUsedUp}
 use Rattle.replica_state.specs.States.{State}
-use Rattle.replica_state.specs.Edits.{has_numbers, edit_with, next_id, edit_by, edit_fault, unless}
-use Rattle.replica_state.specs.Imports.{edits_from, edits_numbered, import_into, due_keys, piece_at}
+use Rattle.replica_state.specs.Edits.{has_numbers, own_id, first_number, next_id, edit_by, edit_fault, unless}
+use Rattle.replica_state.specs.Changes.{ChangeParts, edits_from, edits_by, edits_or}
+use Rattle.replica_state.specs.Imports.{due_changes, import_into}
 use Rattle.replica_state.specs.World.{World, Event, Edits, EditsOver, Imports, Thins, Summarizes, Bundles, Receives}
 use Rattle.replica_state.specs.World.{ReceivesCut, FindsNoMemory, world, made, edit_made, edits_made, replica, replica_name}
 use Rattle.replica_state.specs.World.Schedules.{Makes, IsMade, IsChain}
-use Rattle.replica_state.proofs.Imports.{edits_rise}
+use Rattle.replica_state.proofs.Changes.{is_first, given_fall, edit_at, edits_rise}
 use Rattle.replica_state.proofs.World.Held.{among_is_held, filter_held}
 
 -- an operation that a replica makes next
@@ -59,14 +59,14 @@ edit_next : (s : State) (g : Segment) (named : List Id) (text : List ℕ)
 edit_next s g named text seen falls = by (has_numbers s.held 1) refl
   where
     by : (b : Bool) → has_numbers s.held 1 ≡ b
-        → AreNext s (edit_made (edit_by (cond b (Some (record { number = next_number s.held; name = s.name })) None) g named text))
+        → AreNext s (edit_made (edit_by (option_map (own_id s) (cond b (Some (next_number s.held)) None)) g named text))
     by true e = one_next s _ (record {
       own_name = refl;
       greater = omega arith;
       in_range = number_fits (greatest_number s.held) 0 e;
       full = refl;
       seen = seen;
-      falls = λ h. falls (record { number = next_number s.held; name = s.name }) h (omega arith);
+      falls = λ h. falls (own_id s (next_number s.held)) h (omega arith);
     })
     by false e = none_next s
 
@@ -87,44 +87,42 @@ some_among p (x ∷ ids) q h = by (some_among p ids q) (p x) (same_id q x) refl 
 
 -- ---- an import
 
-module _ (s : State) (book : List ℕ) (pieces : List PieceParts) where
-  each_next : (n : ℕ) (keys : List KeyParts) → greatest_number s.held < n → n + length keys ≤ 1000000000000001
-      → (q : Id) (o : Operation) → get (edits_from n s book pieces keys) q ≡ Some o → IsNext s o
+module _ (s : State) (book : List ℕ) where
+  each_next : (n : ℕ) (changes : List ChangeParts) → greatest_number s.held < n → n + length changes ≤ 1000000000000001
+      → (q : Id) (o : Operation) → get (edits_from n s book changes) q ≡ Some o → IsNext s o
   each_next n [] l m q o g = cc g
-  each_next n (key ∷ keys) l m q o g =
-      get_cases q _ (edits_from (suc n) s book pieces keys) o g (λ _ e. subst (IsNext s) e here)
-      (λ rest. each_next (suc n) keys (omega arith) (omega arith) q o rest)
+  each_next n (c ∷ changes) l m q o g =
+      get_cases q _ (edits_from (suc n) s book changes) o g (λ _ e. subst (IsNext s) e here)
+      (λ rest. each_next (suc n) changes (omega arith) (omega arith) q o rest)
     where
-      here : IsNext s
-          (edit_with (record { number = n; name = s.name }) (segment book key) (shown_ids s.held (segment book key)) (piece_at pieces key))
+      here : IsNext s (edit_at s book n c)
       here = record {
         own_name = refl;
         greater = l;
         in_range = within n (omega arith) (omega arith);
         full = refl;
-        seen = λ id h. h;
-        falls = λ h. shown_fall s.held (segment book key) (record { number = n; name = s.name }) h l;
+        seen = some_among (is_among c.ids) (shown_ids s.held (segment book c.key));
+        falls = λ h. given_fall s.held (segment book c.key) c.ids (own_id s n) h l;
       }
         where
           within : (n : ℕ) → 1 ≤ n → n ≤ 1000000000000000 → is_number n ≡ true
           within n h k = grind (arith, nat_tests)
 
-  room : (greatest count : ℕ) → nat_le (greatest + count) 1000000000000000 ≡ true → suc greatest + count ≤ 1000000000000001
-  room greatest count h = grind (arith, nat_tests)
-
-  numbered_next : (keys : List KeyParts) → AreNext s (edits_made (edits_numbered s book pieces keys))
-  numbered_next keys = by (has_numbers s.held (length keys)) refl
+  edits_next : {F : Type 0} (full : F) (changes : List ChangeParts) → AreNext s (edits_made (edits_or full s book changes))
+  edits_next full changes = by (first_number s.held (length changes)) refl
     where
-      by : (b : Bool) → has_numbers s.held (length keys) ≡ b
-          → AreNext s (edits_made (cond b (Ok (edits_from (next_number s.held) s book pieces keys)) (Err NumbersUsedUp)))
-      by true e = record {
-        rising = edits_rise s book pieces (next_number s.held) keys;
-        each = each_next (next_number s.held) keys (omega arith) (room (greatest_number s.held) (length keys) e);
-      }
-      by false e = none_next s
+      by : (f : Option ℕ) → f ≡ first_number s.held (length changes) → AreNext s (edits_made (edits_by full f s book changes))
+      by None e = none_next s
+      by (Some first) e =
+          let given = is_first s.held (length changes) first e in
+          let next = given.is in
+          let room = given.room in record {
+            rising = edits_rise s book first changes;
+            each = each_next first changes (omega (arith, next)) (omega (arith, next, room));
+          }
 
 import_next : (s : State) (pieces : List PieceParts) (r : Result (List ℕ) BookFault) → AreNext s (edits_made (import_into s pieces r))
-import_next s pieces (Ok book) = numbered_next s book pieces (due_keys s.held book pieces)
+import_next s pieces (Ok book) = edits_next s book NumbersUsedUp (due_changes s.held book pieces)
 import_next s pieces (Err fault) = none_next s
 
 -- ---- every event
@@ -138,7 +136,7 @@ made_next w (EditsOver name g text given) =
     let s = replica w name in
     unless_next s (edit_fault s.held g text) _ (unless_next s _ _
     (edit_next s g (given_ids s.held g given) text (some_among (is_among given) (shown_ids s.held g))
-    (λ id h l. some_fall id (is_among given) (shown_ids s.held g) (shown_fall s.held g id h l))))
+    (given_fall s.held g given)))
 made_next w (Imports name file) = import_next (replica w name) (pieces_of file) (book_in file)
 made_next w (Thins name) = none_next (replica w name)
 made_next w (Summarizes name) = none_next (replica w name)

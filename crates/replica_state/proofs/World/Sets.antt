@@ -25,7 +25,7 @@ use Rattle.op_core.specs.Ids.{Id, same_id, is_id, is_number}
 use Rattle.op_core.specs.Ops.{Operation, IsOperation, IsTextFor, MayBeText, is_segment, names}
 use Rattle.op_core.specs.Sets.{rises, get}
 use Rattle.op_core.specs.Lists.{keys_of}
-use Rattle.op_core.specs.NextIds.{is_among, next_number}
+use Rattle.op_core.specs.NextIds.{is_among}
 use Rattle.op_core.specs.Equal.{same_id-refl}
 use Rattle.op_core.specs.Export.{of_book, has_book, keys_in}
 use Rattle.op_core.specs.Thinned.{StandsFor}
@@ -35,8 +35,9 @@ use Rattle.replica_state.specs.declared.fault.EditFault.{EditFault}
 use Rattle.replica_state.specs.declared.fault.EditFault.TheVariants.{BadSegment, NoBook}
 use Rattle.replica_state.specs.declared.fault.ImportFault.TheVariants.{NumbersUsedUp}
 use Rattle.replica_state.specs.States.{State}
-use Rattle.replica_state.specs.Edits.{has_numbers, edit_with, next_id, edit_by, edit_fault, unless}
-use Rattle.replica_state.specs.Imports.{piece_own_text, piece_of, piece_at, is_due, walked_keys, due_keys, edits_from, edits_numbered, import_into}
+use Rattle.replica_state.specs.Edits.{edit_with, first_number, next_id, edit_by, edit_fault, unless}
+use Rattle.replica_state.specs.Changes.{ChangeParts, edits_from, edits_by, edits_or}
+use Rattle.replica_state.specs.Imports.{piece_own_text, piece_of, piece_at, is_due, walked_keys, due_keys, due_change, import_into}
 use Rattle.replica_state.specs.World.{World, Event, Edits, EditsOver, Imports, Thins, Summarizes, Bundles, Receives, ReceivesCut}
 use Rattle.replica_state.specs.World.{FindsNoMemory, IsWithin, world, made, edit_made, edits_made, replica, replica_name}
 use Rattle.replica_state.specs.World.Schedules.{Within, in_bundle, IsOrThinned, AreSets}
@@ -152,30 +153,31 @@ module _ (s : State) (book file : List ℕ) (code : is_book_code book ≡ true) 
   }
 
   from_fits : (n : ℕ) (keys : List KeyParts) → AreKeys keys → (q : Id) (o : Operation)
-      → get (edits_from n s book (pieces_of file) keys) q ≡ Some o → Fits o
+      → get (edits_from n s book (map (due_change s.held book (pieces_of file)) keys)) q ≡ Some o → Fits o
   from_fits n [] h q o m = cc m
   from_fits n (key ∷ keys) h q o m =
-      get_cases q _ (edits_from (suc n) s book (pieces_of file) keys) o m
+      get_cases q _ (edits_from (suc n) s book (map (due_change s.held book (pieces_of file)) keys)) o m
       (λ _ e.
       subst Fits e (record { segment = and_from (is_book_code book) (is_key key.chapter key.place) code h.0; text = piece_for key }))
       (λ rest. from_fits (suc n) keys h.1 q o rest)
 
-  numbered_fits : (keys : List KeyParts) → AreKeys keys → (q : Id) (o : Operation)
-      → get (edits_made (edits_numbered s book (pieces_of file) keys)) q ≡ Some o → Fits o
-  numbered_fits keys h q o = by (has_numbers s.held (length keys))
+  edits_fit : (keys : List KeyParts) → AreKeys keys → (q : Id) (o : Operation)
+      → get (edits_made (edits_or NumbersUsedUp s book (map (due_change s.held book (pieces_of file)) keys))) q ≡ Some o → Fits o
+  edits_fit keys h q o = by (first_number s.held (length changes))
     where
-      by : (b : Bool) →
-          get (edits_made (cond b (Ok (edits_from (next_number s.held) s book (pieces_of file) keys)) (Err NumbersUsedUp))) q ≡ Some o
-          → Fits o
-      by true m = from_fits (next_number s.held) keys h q o m
-      by false m = cc m
+      changes : List ChangeParts
+      changes = map (due_change s.held book (pieces_of file)) keys
+
+      by : (f : Option ℕ) → get (edits_made (edits_by NumbersUsedUp f s book changes)) q ≡ Some o → Fits o
+      by None m = cc m
+      by (Some first) m = from_fits first keys h q o m
 
 import_fits : (s : State) (file : List ℕ) → AllByRecursion IsOperation s.held → IsUtf8 file →
     (r : Result (List ℕ) BookFault) → book_in file ≡ r
     → (q : Id) (o : Operation) → get (edits_made (import_into s (pieces_of file) r)) q ≡ Some o → Fits o
 import_fits s file h u (Err fault) e q o m = cc m
 import_fits s file h u (Ok book) e q o m =
-    numbered_fits s book file (book_is_code file book e) (book_is_headed file book e) u (due_keys s.held book (pieces_of file))
+    edits_fit s book file (book_is_code file book e) (book_is_headed file book e) u (due_keys s.held book (pieces_of file))
     (due_are_keys s.held book file h) q o m
 
 made_fits : (w : World) (e : Event) → IsWithin e → AllByRecursion IsOperation (w.held (replica_name e))

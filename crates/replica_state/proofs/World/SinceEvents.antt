@@ -1,24 +1,25 @@
--- An import since a base as events of a world.
+-- Changes, and an import since a base, as events of a world.
 use Rattle.std.proofs.Common.{◌≡◌, ◌≢◌, ℕ, List, [], ◌∷◌, Option, Some, None, Result, Ok, Err, refl, sym, ap, subst, ◌∙◌, OnOk}
-use Rattle.usfm_ref.specs.Keys.{KeyParts}
 use Rattle.usfm_ref.specs.Segments.{segment}
-use Rattle.verse_cut.specs.Pieces.{PieceParts, pieces_of}
+use Rattle.verse_cut.specs.Pieces.{pieces_of}
 use Rattle.op_core.specs.Ids.{Id}
 use Rattle.op_core.specs.Ops.{Operation}
 use Rattle.op_core.specs.Sets.{IsOpSet, clash}
 use Rattle.replica_state.specs.declared.fault.EditFault.{EditFault}
+use Rattle.replica_state.specs.declared.fault.EditFault.TheVariants as editing
 use Rattle.replica_state.specs.declared.fault.SinceFault.{SinceFault}
 use Rattle.replica_state.specs.declared.fault.SinceFault.TheVariants.{Memory}
 use Rattle.replica_state.specs.States.{State, IsState}
 use Rattle.replica_state.specs.Edits.{edit_over_op}
-use Rattle.replica_state.specs.Imports.{piece_at}
-use Rattle.replica_state.specs.Steps.{Command, Receive, EditOver, received, edited, step, with_ops}
+use Rattle.replica_state.specs.Changes.{ChangeParts, changes_ops}
+use Rattle.replica_state.specs.ChangeLaws.{edits_over}
+use Rattle.replica_state.specs.Steps.{Command, Receive, EditOver, EditsStep, received, edited, edited_all, step, with_ops}
 use Rattle.replica_state.specs.Runs.{after_all}
-use Rattle.replica_state.specs.Since.{SinceStep, seen_ids, changed_keys, imported_since}
-use Rattle.replica_state.specs.SinceLaws.{edits_over}
+use Rattle.replica_state.specs.Since.{SinceStep, since_changes, imported_since}
 use Rattle.replica_state.specs.World as world
 use Rattle.replica_state.specs.World.{World, replica, steps, with_held}
-use Rattle.replica_state.specs.World.Calls.{IsIn, IsImportingSince, edits_since, all_happen}
+use Rattle.replica_state.specs.World.Calls.{IsIn, AreChanges, IsImportingSince, edits_of, all_happen}
+use Rattle.replica_state.proofs.ChangeRuns.{changes_are_edits}
 use Rattle.replica_state.proofs.SinceBegun.{is_receiving_and_edits}
 use Rattle.replica_state.proofs.World.Moves.{held_same}
 
@@ -39,18 +40,28 @@ stands w s c named is =
     ap (with_held w s.name ops).held named ∙ held_same w s.name ops ∙ ap (λ (x : State). (step x c).after.held) is in
     λ i. record { name = (step s c).after.name; held = held i }
 
-module _ (held base : List Operation) (book : List ℕ) (pieces : List PieceParts) where
-  edits_happen : (keys : List KeyParts) (w : World) (s : State) → IsIn w s
-      → IsIn (all_happen w (edits_since s.name held base book pieces keys)) (after_all s (edits_over held base book pieces keys))
-  edits_happen [] w s is = is
-  edits_happen (key ∷ keys) w s is =
-      let c : Command = EditOver (segment book key) (piece_at pieces key) (seen_ids held base (segment book key)) in
-      let u : State = (step s c).after in
-      let named : u.name ≡ s.name = name_edited s
-      (edit_over_op s (segment book key) (piece_at pieces key) (seen_ids held base (segment book key))) in
-      subst (λ (n : List ℕ). IsIn (all_happen (steps w s.name c) (edits_since n held base book pieces keys))
-      (after_all u (edits_over held base book pieces keys))) named
-      (edits_happen keys (steps w s.name c) u (stands w s c named is))
+edits_happen : (book : List ℕ) (changes : List ChangeParts) (w : World) (s : State) → IsIn w s
+    → IsIn (all_happen w (edits_of s.name book changes)) (after_all s (edits_over book changes))
+edits_happen book [] w s is = is
+edits_happen book (c ∷ changes) w s is =
+    let edit : Command = EditOver (segment book c.key) c.text c.ids in
+    let u : State = (step s edit).after in
+    let named : u.name ≡ s.name = name_edited s (edit_over_op s (segment book c.key) c.text c.ids) in
+    subst (λ (n : List ℕ). IsIn (all_happen (steps w s.name edit) (edits_of n book changes)) (after_all u (edits_over book changes))) named
+    (edits_happen book changes (steps w s.name edit) u (stands w s edit named is))
+
+pub changing : (s t : State) (book : List ℕ) (changes : List ChangeParts) (r : Result ℕ EditFault) → IsState s
+    → (r ≢ Err editing.Memory → edited_all s s (changes_ops s book changes) ≡ record { after = t; answer = r })
+    → OnOk r (AreChanges book changes s t)
+changing s t book changes (Err fault) state h = tt
+changing s t book changes (Ok count) state h = by (changes_ops s book changes) refl (h (λ e. cc e))
+  where
+    by : (r : Result (List Operation) EditFault) → changes_ops s book changes ≡ r
+        → edited_all s s r ≡ record { after = t; answer = Ok count } → AreChanges book changes s t
+    by (Err fault) e g = cc (ap (λ (x : EditsStep EditFault). x.answer) g)
+    by (Ok ops) e g = λ w is rise begun. subst (IsIn (all_happen w (edits_of s.name book changes)))
+        ((changes_are_edits s book changes ops state rise begun e).1 ∙ ap (λ (x : EditsStep EditFault). x.after) g)
+        (edits_happen book changes w s is)
 
 module _ (s : State) (base : List Operation) (file : List ℕ) (state : IsState s) (set : IsOpSet base) where
   import_happens : (count : ℕ) → (imported_since s base file).answer ≡ Ok count
@@ -58,20 +69,17 @@ module _ (s : State) (base : List Operation) (file : List ℕ) (state : IsState 
   import_happens count answered w k book is made named =
       let pieces = pieces_of file in
       let t : State = with_ops s base in
-      let keys = changed_keys t.held base book pieces in
+      let changes = since_changes t.held base book pieces in
       let c : Command = Receive base in
       let u : State = (step s c).after in
       let name : u.name ≡ s.name = name_received s base (clash s.held base) in
       let first : World = steps w s.name c in
-      let done : IsIn (all_happen first (edits_since s.name t.held base book pieces keys))
-      (after_all u (edits_over t.held base book pieces keys)) =
-      subst (λ (n : List ℕ). IsIn (all_happen first (edits_since n t.held base book pieces keys))
-      (after_all u (edits_over t.held base book pieces keys)))
-      name (edits_happen t.held base book pieces keys first u (stands w s c name is)) in
-      subst (λ (r : Option (List Operation)). IsIn
-      (all_happen (world.received w s.name r) (edits_since s.name t.held base book pieces keys))
+      let done : IsIn (all_happen first (edits_of s.name book changes)) (after_all u (edits_over book changes)) =
+      subst (λ (n : List ℕ). IsIn (all_happen first (edits_of n book changes)) (after_all u (edits_over book changes)))
+      name (edits_happen book changes first u (stands w s c name is)) in
+      subst (λ (r : Option (List Operation)). IsIn (all_happen (world.received w s.name r) (edits_of s.name book changes))
       (imported_since s base file).after) (sym made)
-      (subst (λ (x : State). IsIn (all_happen first (edits_since s.name t.held base book pieces keys)) x)
+      (subst (λ (x : State). IsIn (all_happen first (edits_of s.name book changes)) x)
       (is_receiving_and_edits s base file book count state set named answered).1 done)
 
   pub importing : (t : State) (r : Result ℕ SinceFault) → (r ≢ Err Memory → imported_since s base file ≡ record { after = t; answer = r })

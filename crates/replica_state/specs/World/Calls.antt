@@ -1,9 +1,10 @@
 -- How the calls of replicas are the events of a world (this project's own rule).
-use Rattle.std.specs.Prelude.{◌≡◌, ◌≢◌, ◌<◌, ◌^◌, ℕ, false, List, [], ◌∷◌, ◌++◌, map}
+use Rattle.std.specs.Prelude.{◌≡◌, ◌≢◌, ◌<◌, ◌^◌, ℕ, true, false, List, [], ◌∷◌, ◌++◌, map}
 use Rattle.std.specs.Prelude.{length, Result, Ok, Err, Some, slice_get, MatchResult}
 use Rattle.std.specs.List.{AllByRecursion}
 use Rattle.usfm_ref.specs.Books.{same_bytes}
-use Rattle.usfm_ref.specs.Keys.{KeyParts}
+use Rattle.usfm_ref.specs.Keys.{key_cmp}
+use Rattle.usfm_ref.specs.Rising.{rises_by}
 use Rattle.usfm_ref.specs.Segments.{segment}
 use Rattle.verse_cut.specs.Pieces.{PieceParts, pieces_of}
 use Rattle.verse_cut.specs.Reading.{book_in}
@@ -19,9 +20,10 @@ use Rattle.replica_state.specs.declared.fault.ReceiveFault.{ReceiveFault}
 use Rattle.replica_state.specs.declared.fault.ReceiveFault.TheVariants.{Clash}
 use Rattle.replica_state.specs.States.{State}
 use Rattle.replica_state.specs.Steps.{Reply}
-use Rattle.replica_state.specs.Imports.{piece_at}
+use Rattle.replica_state.specs.Changes.{ChangeParts}
+use Rattle.replica_state.specs.ChangeLaws.{begins}
 use Rattle.replica_state.specs.Steps.{with_ops}
-use Rattle.replica_state.specs.Since.{seen_ids, changed_keys}
+use Rattle.replica_state.specs.Since.{since_changes}
 use Rattle.replica_state.specs.World.{World, Event, Receives, EditsOver, IsWithin, world, happens, replica}
 use Rattle.replica_state.specs.World.{replica_name}
 use Rattle.replica_state.specs.World.Invisible.{reply}
@@ -53,19 +55,16 @@ pub record IsReceiving (bundle : List Operation) (s t : State) (r : Reply) : Typ
   pub reply : (w : World) (k : ℕ) → IsIn w s → slice_get w.bundles k ≡ Some bundle →
       reply w (Receives s.name k) ≡ Some r
 
--- the edits over given ids that an import since a base is, of some keys
-abbrev pub edits_since : List ℕ → List Operation → List Operation → List ℕ → List PieceParts
-    → List KeyParts → List Event
-edits_since name held base book pieces keys =
-    map (λ key. EditsOver name (segment book key) (piece_at pieces key)
-    (seen_ids held base (segment book key))) keys
+-- the edits over given ids that some changes of a book are
+abbrev pub edits_of : List ℕ → List ℕ → List ChangeParts → List Event
+edits_of name book changes = map (λ c. EditsOver name (segment book c.key) c.text c.ids) changes
 
 -- the events of an import since a base, which is named by its place among the bundles that were made: its receiving, and then an
 -- edit over given ids for each key that was changed
 abbrev pub since_events : State → ℕ → List Operation → List ℕ → List PieceParts → List Event
 since_events s k base book pieces =
-    Receives s.name k ∷ edits_since s.name (with_ops s base).held base book pieces
-    (changed_keys (with_ops s base).held base book pieces)
+    Receives s.name k
+    ∷ edits_of s.name book (since_changes (with_ops s base).held base book pieces)
 
 -- the world after some events, of which the first stands first
 abbrev pub all_happen : World → List Event → World
@@ -79,6 +78,13 @@ IsImportingSince base file s t =
     (w : World) (k : ℕ) (book : List ℕ) → IsIn w s → slice_get w.bundles k ≡ Some base →
     book_in file ≡ Ok book →
     IsIn (all_happen w (since_events s k base book (pieces_of file))) t
+
+-- In each world that has the replica, the edits over given ids that the changes of a book are make of it what the call did. Their
+-- keys rise, and the first begins the book if it has no operation.
+abbrev pub AreChanges : List ℕ → List ChangeParts → State → State → Type 0
+AreChanges book changes s t =
+    (w : World) → IsIn w s → rises_by key_cmp (λ k. k) (map (λ c. c.key) changes) ≡ true →
+    begins s.held book changes ≡ true → IsIn (all_happen w (edits_of s.name book changes)) t
 
 -- In no world in which the replica stands, and the bundle was made, is its receiving refused as a clash.
 abbrev pub NeverClashes : List Operation → State → Result ℕ ReceiveFault → Type 0

@@ -5,10 +5,12 @@ ghost use Rattle.std.specs.Prelude.{◌≡◌, ◌≢◌, ◌∷◌, Err, IfOk, 
 ghost use Rattle.usfm_ref.specs.Segments.{segment};
 ghost use Rattle.op_core.specs.Lists.{is_held};
 ghost use Rattle.bundle_codec.specs.Summaries.{outside};
+ghost use Rattle.replica_state.specs.Changes.{changes_view};
 ghost use Rattle.replica_state.specs.Steps.{Edited, Imported, Received, Thin, Thinned, step};
 ghost use Rattle.replica_state.specs.World as world;
 ghost use Rattle.replica_state.specs.World.Calls as calls;
 
+use crate::change::Change;
 use crate::fault::{EditFault, ImportFault, ReceiveFault, SinceFault};
 use crate::replica::Replica;
 use bundle_codec::{Bundle, Summary, WholeFault, decode_whole};
@@ -89,6 +91,22 @@ pub fn import_since(replica: &mut Replica, base: &Bundle<'_>, file: &str) -> Res
     let _ = replica.name();
     let _ = base.ops();
     replica.import_since(base, file)
+}
+
+/// A call of `change` that is not refused, with changes whose keys rise and of which the first begins
+/// the book if it has no operation, is the event of an edit over given ids for each.
+///
+/// # Errors
+/// Those of `change`.
+pub fn change(replica: &mut Replica, book: Book, changes: &[Change<'_>]) -> Result<u64, EditFault>
+    ensures events { OnOk result
+        (calls.AreChanges book (changes_view changes.now) replica.old replica.new) }
+    ensures refused { let e = world.FindsNoMemory replica.old.name in
+        OnErr result (calls.IsEvent e replica.old replica.new) }
+{
+    // The name shows that the replica is within its rules.
+    let _ = replica.name();
+    replica.change(book, changes)
 }
 
 /// A call of `thin` is the event of a thinning.

@@ -1,11 +1,9 @@
 use Rattle.std.proofs.Common.{◌≡◌, ◌+◌, take}
-use Rattle.verse_cut.specs.Views.{pieces_view}
-use Rattle.op_core.specs.NextIds.{greatest_number, next_number}
-use Rattle.replica_state.specs.Imports.{edits_from}
+use Rattle.replica_state.specs.Changes.{edits_from, changes_view}
 use Rattle.replica_state.proofs.replica.Replica.edits_of.Given as goal
 
-abbrev pub invariant-loop-key : goal.invariant-loop-key
-invariant-loop-key l = record {
-  counted : l.number ≡ greatest_number l.self.held + l.key-index;
-  made : l.ops.items ≡ edits_from (next_number l.self.held) l.self l.book (pieces_view l.pieces) (take l.key-index l.due);
+abbrev pub invariant-loop-change : goal.invariant-loop-change
+invariant-loop-change l = record {
+  counted : l.number ≡ l.fn.first + l.change-index;
+  made : l.ops.items ≡ edits_from l.fn.first l.self l.book (changes_view (take l.change-index l.changes));
 }

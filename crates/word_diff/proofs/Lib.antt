@@ -1,0 +1,13 @@
+pub mod EndLemmas
+pub mod JoinLemmas
+pub mod JoinSteps
+pub mod Lengths
+pub mod OrderLemmas
+pub mod PartLemmas
+pub mod Rows
+pub mod StepLemmas
+pub mod Subsequences
+pub mod Utf8
+pub mod Walks
+pub mod WordLaws
+pub mod WordLemmas

@@ -1,0 +1,29 @@
+# Words that stand before a command of a row; bash reads this before each of them (tests/shared/playing.py).
+
+# On a disk that is full for what is written beyond 1,024 bytes of a file.
+full_disk() {
+    (
+        trap '' XFSZ
+        ulimit -f 1
+        exec "$@"
+    )
+}
+
+# With an output that takes nothing: a full disk, and a pipe whose reader has ended.
+full() {
+    "$@" >/dev/full
+}
+closed() {
+    exec 3> >(true)
+    wait $!
+    "$@" >&3
+}
+
+# By a user who may not write everywhere: nobody, where this is root.
+nobody() {
+    if [ "$(id -u)" -eq 0 ]; then
+        setpriv --reuid=65534 --regid=65534 --clear-groups "$@"
+    else
+        "$@"
+    fi
+}
