@@ -33,3 +33,19 @@ abbrev pub line_ends : List ℕ → LineEnds
 line_ends text =
     if list_any (λ b. b == 10) text && each_lf_has_cr 0 text then CrLf
     else (if list_any (λ b. b == 13) text then Mixed else Lf)
+
+-- a text in which each line ends in one manner: each LF, with a CR directly before it or without, is this end
+abbrev pub with_ends : List ℕ → List ℕ → List ℕ
+with_ends end text = flat_map (λ b. if b == 10 then end else b ∷ []) (without_cr text)
+
+-- a text with its line ends in a manner; to be mixed is none, so the text stays
+abbrev pub in_line_ends : LineEnds → List ℕ → List ℕ
+in_line_ends Lf text = with_ends (10 ∷ []) text
+in_line_ends CrLf text = with_ends (13 ∷ 10 ∷ []) text
+in_line_ends Mixed text = text
+
+-- a line without a CR at its end
+unfoldable pub without_last_cr : List ℕ → List ℕ
+without_last_cr [] = []
+without_last_cr (b ∷ []) = if b == 13 then [] else b ∷ []
+without_last_cr (b ∷ c ∷ rest) = b ∷ without_last_cr (c ∷ rest)

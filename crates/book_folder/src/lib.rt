@@ -3,4 +3,4 @@
 
 mod likes;
 
-pub use likes::{LineEnds, is_like};
+pub use likes::{LineEnds, is_like, push_in_line_ends};

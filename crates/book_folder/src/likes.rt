@@ -1,9 +1,11 @@
 // Texts that are like each other, and the manner of their line ends.
-ghost use Rattle.std.specs.Prelude.{◌≡◌, ◌∷◌, ◌<◌, [], length};
+ghost use Rattle.std.specs.Prelude.{◌≡◌, ◌∷◌, ◌<◌, ◌++◌, [], length, OnOk, string_bytes};
 ghost use Rattle.std.specs.Option.{MatchOption};
 ghost use Rattle.usfm_ref.specs.Books.{same_bytes};
 ghost use Rattle.verse_cut.specs.Reading.{after_bom};
 ghost use Rattle.book_folder.specs.Likes as likes;
+
+use std::alloc::AllocError;
 
 /// The manner of a text's line ends.
 #[derive(Clone, Copy, Debug, PartialEq, Eq)]
@@ -96,4 +98,46 @@ fn next_byte(text: &[u8]) -> Option<(u8, &[u8])>
         [b'\r', b'\n', rest @ ..] => Some((b'\n', rest)),
         [byte, rest @ ..] => Some((*byte, rest)),
     }
+}
+
+/// Puts a text after another one, with its line ends in a manner; to be mixed is none, so that the text stays as it is.
+///
+/// # Errors
+/// Out of memory alone.
+pub fn push_in_line_ends(
+    made: &mut String,
+    text: &str,
+    ends: LineEnds,
+) -> Result<(), AllocError>
+    ensures { OnOk result (string_bytes made.new
+        ≡ string_bytes made.old ++ likes.in_line_ends ends text.now) }
+{
+    match ends {
+        LineEnds::Lf => push_with_ends(made, text, "\n"),
+        LineEnds::CrLf => push_with_ends(made, text, "\r\n"),
+        LineEnds::Mixed => made.push_str(text),
+    }
+}
+
+// Puts a text after another one, with this end of each line.
+#[tactic(auto, using(crate::proofs::Ends::with_ends_line, crate::proofs::Ends::with_ends_last))]
+fn push_with_ends(made: &mut String, text: &str, end: &str) -> Result<(), AllocError>
+    ensures { OnOk result (string_bytes made.new
+        ≡ string_bytes made.old ++ likes.with_ends end.now text.now) }
+{
+    let mut left = text;
+    'lines: while let Some((line, rest)) = left.split_once('\n') {
+        made.push_str(without_last_cr(line))?;
+        made.push_str(end)?;
+        left = rest;
+    }
+    made.push_str(left)
+}
+
+// A line without a CR at its end.
+#[tactic(auto, unfolding(crate::specs::Likes::without_last_cr))]
+fn without_last_cr(line: &str) -> &str
+    ensures { result.now ≡ likes.without_last_cr line.now }
+{
+    line.strip_suffix('\r').unwrap_or(line)
 }
