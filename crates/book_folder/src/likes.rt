@@ -104,11 +104,7 @@ fn next_byte(text: &[u8]) -> Option<(u8, &[u8])>
 ///
 /// # Errors
 /// Out of memory alone.
-pub fn push_in_line_ends(
-    made: &mut String,
-    text: &str,
-    ends: LineEnds,
-) -> Result<(), AllocError>
+pub fn push_in_line_ends(made: &mut String, text: &str, ends: LineEnds) -> Result<(), AllocError>
     ensures { OnOk result (string_bytes made.new
         ≡ string_bytes made.old ++ likes.in_line_ends ends text.now) }
 {
@@ -135,9 +131,11 @@ fn push_with_ends(made: &mut String, text: &str, end: &str) -> Result<(), AllocE
 }
 
 // A line without a CR at its end.
-#[tactic(auto, unfolding(crate::specs::Likes::without_last_cr))]
 fn without_last_cr(line: &str) -> &str
     ensures { result.now ≡ likes.without_last_cr line.now }
 {
-    line.strip_suffix('\r').unwrap_or(line)
+    match line.strip_suffix('\r') {
+        Some(front) => front,
+        None => line,
+    }
 }
