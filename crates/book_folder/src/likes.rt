@@ -91,7 +91,8 @@ fn is_plainly(one: &[u8], other: &[u8]) -> bool
 fn next_byte(text: &[u8]) -> Option<(u8, &[u8])>
     ensures byte { MatchOption result (likes.without_cr text.now ≡ [])
         (λ next. likes.without_cr text.now ≡ next.0 ∷ likes.without_cr next.1.now) }
-    ensures shorter { MatchOption result (text.now ≡ []) (λ next. length next.1.now < length text.now) }
+    ensures shorter { MatchOption result (text.now ≡ [])
+        (λ next. length next.1.now < length text.now) }
 {
     match text {
         [] => None,

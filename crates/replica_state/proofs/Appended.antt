@@ -122,7 +122,8 @@ module _ (s : State) (set : IsOpSet s.held) (book : List ℕ) (text : KeyParts �
             let id : Id = record { number = n; name = s.name } in
             let shows : is_shown now g (edit_of n k) ≡ true = and_from _ _ (here key k n e) (ap not (unnamed id l)) in
             let none = filter_none (is_shown now g) (edits (suc n) keys)
-            (none_among g (λ o. not (is_replaced now g o.id)) (edits (suc n) keys) (none_of key (suc n) keys (not_there key keys (ap (λ (q : KeyParts). list_all (λ j. is_lt (key_cmp q j)) keys) is ∙ p.0)))) in
+            (none_among g (λ o. not (is_replaced now g o.id)) (edits (suc n) keys)
+            (none_of key (suc n) keys (not_there key keys (ap (λ (q : KeyParts). list_all (λ j. is_lt (key_cmp q j)) keys) is ∙ p.0)))) in
             (n, cond-true _ _ _ shows ∙ (λ i. edit_of n (sym is i) ∷ none i))
         by later false e h =
             let rest = later h in (
