@@ -3,7 +3,7 @@
 
     release/manual.py PROGRAM
 
-Every line of the help is in it. The date is that of the program's version in CHANGES.md.
+It has every line of the help. Its date is that of the program's version in CHANGES.md.
 """
 import sys
 

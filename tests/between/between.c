@@ -1,13 +1,13 @@
-/* Stands between the program and the C library: refuses calls, or has them move one byte alone, and writes down at the
+/* Stands between the program and the C library: makes calls fail, or move only one byte, and records at the
  * end which calls the program made and how much memory it held. It is loaded by LD_PRELOAD.
  *
- *     REFUSE=KIND:NUMBER:HOW   the call of this kind that is refused, counted from 1, and each one after it where a `+`
+ *     REFUSE=KIND:NUMBER:HOW   the call of this kind that fails, counted from 1, and also each later one if a `+`
  *                              follows the number; HOW is an error's number, `none` for a write that takes nothing,
- *                              `short` for a read or a write of several bytes that moves one, `kill` for the end of the
- *                              program in its place
- *     TOLD=FILE                where the calls are written down, a line each: kind, handle or path, bytes asked for or
- *                              how a file is opened, answer; the last line is `memory`, how often it was asked for, and the most bytes that
- *                              were held at one time
+ *                              `short` for a read or a write of several bytes that moves one, `kill` to end the
+ *                              program instead of the call
+ *     TOLD=FILE                where the calls are recorded, a line each: kind, handle or path, bytes requested or
+ *                              how a file is opened, answer; the last line is `memory`, the number of allocations, and
+ *                              the most bytes that were held at one time
  */
 #define _GNU_SOURCE
 #include <dlfcn.h>

@@ -1,4 +1,4 @@
-"""The program with a library between it and the C library, which refuses calls and says which ones were made."""
+"""The program with a library between it and the C library, which makes calls fail and records which ones were made."""
 import os
 import shutil
 import subprocess

@@ -1,6 +1,6 @@
 """Bundles, project files and summaries with one thing changed, each with the fault that has to be reported.
 
-The values are those of docs/FORMATS.md: which byte is which field, and which fault a field has.
+The values follow docs/FORMATS.md: which byte belongs to which field, and which fault a field has.
 """
 from model.bundles import write_bundle
 from rows.vectors import BENS, BOOK, EMPTY, FIRST, SUMMARY, THINNED

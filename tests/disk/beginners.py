@@ -1,4 +1,4 @@
-"""Two commands that begin one project at once."""
+"""Two commands that begin the same project at once."""
 import subprocess
 from pathlib import Path
 

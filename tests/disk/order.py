@@ -1,4 +1,4 @@
-"""The order of the program's calls at the system, as strace shows it."""
+"""The order of the program's system calls, as strace shows it."""
 import re
 import shutil
 import subprocess

@@ -1,4 +1,4 @@
-"""What is said where a person types a command's input, and where none does."""
+"""What a command says if a person types its input, and if nobody does."""
 import os
 import pty
 import subprocess

@@ -1,7 +1,7 @@
 """The faults of the code, and what the pages and the help say of each.
 
-The table of them is the code's own: the variants of `Fault` in usfm_cli and of the faults inside it. A variant has its
-number at the front of its comment, its details as its fields, and its sentence as what `#[error]` has.
+The table comes from the code itself: the variants of `Fault` in usfm_cli and of the faults inside it. A variant has its
+number at the front of its comment, its details as its fields, and its sentence in `#[error]`.
 """
 import re
 

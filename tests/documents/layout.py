@@ -1,4 +1,4 @@
-"""How the crates' files are laid out: their lengths and widths, and comments of what other crates cite."""
+"""The layout of the crates' files: their lengths and widths, and comments on what other crates cite."""
 import re
 from collections import defaultdict
 

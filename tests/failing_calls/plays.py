@@ -1,4 +1,4 @@
-"""What the program is asked to do while calls fail: each subcommand, on the worked examples."""
+"""What the program has to do while calls fail: each subcommand, on the worked examples."""
 from dataclasses import dataclass, field
 
 from model.bundles import write_bundle, write_project

@@ -1,4 +1,4 @@
-"""Plays on the program, compared with what has to come of them."""
+"""Plays on the program, compared with what they have to give."""
 import os
 import shlex
 import shutil

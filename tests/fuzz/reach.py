@@ -1,4 +1,4 @@
-"""Counts what plays meet, so that a part of the rules that no play reaches is seen."""
+"""Counts what plays meet, to show any part of the rules that no play reaches."""
 from collections import Counter
 
 from making.plays import Play, Wanted

@@ -1,4 +1,4 @@
-"""The second implementation in the place of the program, in rows (tests/program/worked)."""
+"""The second implementation in place of the program, in rows (tests/program/worked)."""
 import shlex
 from pathlib import Path
 

@@ -1,7 +1,7 @@
-r"""What rows say of files: texts, bundles, project files and summaries in words.
+r"""What rows say about files: texts, bundles, project files and summaries in words.
 
     "\id MAT\n\c 1\n" "a"*4000
-        These bytes, the second text so often. \n, \\, \" and \xff (in hexadecimal) are one byte
+        These bytes, the second text 4000 times. \n, \\, \" and \xff (in hexadecimal) are one byte
         each; before any other letter a backslash is itself.
     bundle 1:ana MAT 0 "\id MAT\n" 2:ana MAT 1:1 over 1:ben "\v 1 In\n" 3:cy MAT 1:2 thinned
     bundle first 3:ben MAT 1:1 "\v 1 At\n"
@@ -11,7 +11,7 @@ r"""What rows say of files: texts, bundles, project files and summaries in words
     summary ana 1-3 5 ben 3
         The numbers that are held under each name.
 
-The bytes are made, and read, by the second implementation of the rules (tests/fuzz/model).
+The second implementation of the rules (tests/fuzz/model) makes and reads the bytes.
 """
 import re
 from pathlib import Path

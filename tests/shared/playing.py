@@ -1,7 +1,7 @@
 r"""Rows: commands that are played in a new folder, with what each of them has to write.
 
 A file of rows is a page. A line that begins with '# ' begins a play, which has a folder of its own.
-What is indented by four are its rows; all else says what they are there for.
+Lines indented by four spaces are its rows; all others say what the rows are for.
 
     # A bundle that clashes
 
@@ -18,21 +18,21 @@ What is indented by four are its rows; all else says what they are there for.
 
     $ COMMAND
         A line for bash, with the program in the path, and the words of tests/shared/playing.sh.
-        Under it stand the lines that it has to write on standard output ('|' for an empty one, and
+        Under it are the lines that it has to write to standard output ('|' for an empty one, and
         '| LINE' for one that looks like a row), then those of standard error ('! LINE', or '! ..'
-        for any), and its status ('[2]') where that is not 1 after '! fault ..', and else 0.
+        for any), and its status ('[2]') if it is not the usual one: 1 after '! fault ..', else 0.
     + FILE: CONTENT
         Makes a file; contents.py says how contents are written. '+ NAME ..' makes bundles with names.
     = FILE: CONTENT
-        The file has to have this content. `output` is what the command before wrote on standard
-        output. '= FOLDER/: NAME ..': the folder has to have these names, and no other.
+        The file has to have this content. `output` is what the last command wrote to standard
+        output. '= FOLDER/: NAME ..': the folder has to have these names, and no others.
     each NAME: WORD ..
-        The first row: the play is played for each word, with it in the place of $NAME. Where there
-        are two names, it is played for each two words, and so on.
+        As the first row: the play is played for each word, which replaces $NAME. With two names, it
+        is played for each two words, and so on.
     needs COMMAND
-        Where this command fails, what follows is not played, and that is said.
+        If this command fails, what follows is skipped, and a line says so.
 
-A row goes on in the lines under it. Plays are played side by side, and the rows of one in order.
+A row continues in the lines under it. Plays are played in parallel, and the rows of one in order.
 """
 import argparse
 import difflib

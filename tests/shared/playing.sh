@@ -1,6 +1,6 @@
-# Words that stand before a command of a row; bash reads this before each of them (tests/shared/playing.py).
+# Words that a row may put before its command; bash reads this file before each command (tests/shared/playing.py).
 
-# On a disk that is full for what is written beyond 1,024 bytes of a file.
+# On a disk that takes only the first 1,024 bytes of a file.
 full_disk() {
     (
         trap '' XFSZ

@@ -10,7 +10,7 @@ TOP = Path(__file__).resolve().parent.parent.parent
 
 
 def program_of_repository() -> Path:
-    """The program of this repository, which is built first where it is older than its sources."""
+    """The program of this repository, which is built first if it is older than its sources."""
     if subprocess.run([TOP / "build"]).returncode != 0:
         sys.exit(2)
     return TOP / "crates/usfm_team/out/usfm_team"

@@ -1,6 +1,6 @@
 """Marks at places where USFM 3.0 does not have them, and what a check finds there.
 
-A row is what is wrong with it, a text that begins with a paragraph's mark, and what is found: for each finding its code
+A row says what is wrong, has a text that begins with a paragraph's mark, and lists what a check finds: for each finding its code
 and its mark. The paragraph's text is put into a verse of its own.
 """
 from typing import NamedTuple

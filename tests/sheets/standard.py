@@ -1,7 +1,7 @@
 """The markers of USFM 3.0 by the chapters of its documentation: the type of each, and what ends it.
 
-Where the documentation writes `#` for a level or a column, the numbers are those that books use: those of Paratext's sheet
-for 3.0, and a fifth value of a list's item and a fifth heading.
+Where the documentation writes `#` for a level or a column, the numbers are those that books use: those in Paratext's sheet
+for 3.0, a fifth value of a list item, and a fifth heading.
 """
 from dataclasses import dataclass
 from typing import Optional

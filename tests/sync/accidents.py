@@ -1,5 +1,5 @@
-"""What goes wrong with folders and projects on a disk in daily work, and by somebody's will: no text is lost, no other file is
-read or written, and the next command goes on."""
+"""What goes wrong with folders and projects on a disk, in daily work or because somebody wants it: no text is lost, no other file
+is read or written, and the next command goes on."""
 import errno
 import os
 import shutil

@@ -1,5 +1,5 @@
-"""Commands on a folder whose calls to the system fail, or at which they are killed, or to which memory is refused: given again, a
-command makes what one makes that is not disturbed."""
+"""Commands on a folder that are killed at a system call, or of which a system call or an allocation fails: when repeated, such a
+command makes what an undisturbed one makes."""
 import concurrent.futures
 import errno
 import os

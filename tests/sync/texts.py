@@ -1,8 +1,8 @@
 """What people wrote in files, and who has seen it: a second implementation that knows only files and texts.
 
-A file is a list of segments: its head, the line of each chapter, and its verses. Whoever changes a segment in a file
-replaces what stood there, and nothing else: so a text may be gone from a copy only where the copy has a change of it
-by somebody whose file had that very text there.
+A file is a list of segments: its head, the line of each chapter, and its verses. A person who changes a segment in a file
+replaces what was there, and nothing else: so a text may be gone from a copy only if the copy has a change of it
+by somebody whose file had exactly that text there.
 """
 import re
 from dataclasses import dataclass, field

@@ -1,1 +1,1 @@
-"""Makes plays from seeds: texts, style sheets, bundles and commands that are built to hurt."""
+"""Makes plays from seeds: adversarial texts, style sheets, bundles and commands."""

@@ -1,4 +1,4 @@
-"""Bundles, summaries and projects that were cut, changed or forged."""
+"""Bundles, summaries and projects that were truncated, changed or forged."""
 from random import Random
 from typing import Sequence
 

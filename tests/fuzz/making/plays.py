@@ -1,4 +1,4 @@
-"""Plays: lines of the program one after another, with the files that they read."""
+"""Plays: command lines of the program one after another, with the files that they read."""
 from dataclasses import dataclass
 from typing import Optional
 

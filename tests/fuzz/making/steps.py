@@ -1,4 +1,4 @@
-"""The steps of a play that is being made, each done in a folder of its own to know what the next ones can build on."""
+"""The steps of a play that is being made, each done in a folder of its own, which shows what the next ones can build on."""
 from functools import lru_cache
 from random import Random
 from typing import Optional

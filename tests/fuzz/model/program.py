@@ -1,4 +1,4 @@
-"""The program: the words of a line, the files of a folder, and what comes of them."""
+"""The program: the words of a line, the files of a folder, and what the program makes of them."""
 from dataclasses import dataclass
 from typing import Callable, Optional, Sequence, Union
 

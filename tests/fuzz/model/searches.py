@@ -1,4 +1,4 @@
-"""Where a needle is in the text of Scripture that a book has, and its words."""
+"""Where a needle occurs in a book's text of Scripture, and the words of that text."""
 import unicodedata
 from typing import Iterator, NamedTuple
 

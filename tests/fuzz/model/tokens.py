@@ -1,4 +1,4 @@
-"""Tokens of a USFM text, the keys of its marks, its pieces, and what text fits a segment."""
+"""Tokens of a USFM text, the keys of its marks, its pieces, and which texts fit a segment."""
 import re
 from dataclasses import dataclass
 from typing import NamedTuple, Optional, Sequence
