@@ -109,7 +109,7 @@ def traced(program: Path, folder: Path, words: list[str], given: bytes) -> list[
 def is_changed_in_order(lines: list[str]) -> bool:
     """Whether the project was locked, and what was written to PROJECT.new was synced, renamed, and its folder synced,
     before others could go on and a byte of the answer was written."""
-    locks = [place for place, line in enumerate(lines) if re.match(r"flock\(\d+<[^>]*/p>, LOCK_EX\) += 0", line)]
+    locks = [place for place, line in enumerate(lines) if re.match(r"flock\(\d+<[^>]*/p>, LOCK_EX\|LOCK_NB\) += 0", line)]
     if len(locks) != 1:
         return False
     return in_order(lines[locks[0] :], [*REPLACED, r"close\(\d+<[^>]*/p>", ANSWERED])

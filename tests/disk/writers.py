@@ -10,6 +10,8 @@ from books import Book
 from stage import Answer, Tally, begin, run, wanted
 
 WRITERS, EDITS, READERS = 4, 50, 2
+# What an edit says on standard error: nothing, or that it waits.
+SAID = {b"", *(b"waiting for %s, which another command is using\n" % name for name in (b"p", b"linked"))}
 
 
 @dataclass(frozen=True)
@@ -50,7 +52,9 @@ def check_writers(tally: Tally, program: Path, work: Path, book: Book) -> None:
     numbers = sorted(edit.number for edit in edits)
     first = numbers[0]
     for edit in edits:
-        tally.check(edit.number > 0 and not edit.answer.error, f"an edit: {edit.answer}")
+        tally.check(edit.number > 0 and edit.answer.error in SAID, f"an edit: {edit.answer}")
+    waits = sum(bool(edit.answer.error) for edit in edits)
+    tally.check(waits > 0, "no edit said that it waits")
     tally.check(numbers == list(range(first, first + WRITERS * EDITS)), f"the ids that were answered: {numbers}")
     last = run(program, folder, ["export", "p", book.code])
     moment = time.monotonic()

@@ -1,6 +1,7 @@
 """What goes wrong with folders and projects on a disk, in daily work or because somebody wants it: no text is lost, no other file
 is read or written, and the next command goes on."""
 import errno
+import fcntl
 import os
 import shutil
 import subprocess
@@ -74,6 +75,7 @@ def check_accidents(tally: Tally, between: Between, work: Path) -> None:
         check_second_name,
         check_kept,
         check_modes,
+        check_waits,
     ]
     for play in plays:
         play(tally, between, work / play.__name__)
@@ -325,6 +327,23 @@ def check_modes(tally: Tally, between: Between, home: Path) -> None:
         for path in (place.folder / MATTHEW, place.home / "p", place.own / "MAT.bundle"):
             found = path.stat().st_mode & 0o7777
             tally.check(found == mode & 0o777, f"{path.name}, of mode {mode:o} before: {found:o}")
+
+
+def check_waits(tally: Tally, between: Between, home: Path) -> None:
+    """Who may only read a project or a folder can hold its lock: a command that waits for it says so, and goes on after it."""
+    place = Place(between.program, home)
+    for held in ("p", "texts"):
+        handle = os.open(home / held, os.O_RDONLY)
+        fcntl.flock(handle, fcntl.LOCK_EX)
+        words = [between.program, "sync", "p", "texts"]
+        command = subprocess.Popen(words, cwd=home, stdout=subprocess.PIPE, stderr=subprocess.PIPE)
+        line = command.stderr.readline()
+        tally.check(line == f"waiting for {held}, which another command is using\n".encode(), f"{held} is locked: {line}")
+        tally.check(command.poll() is None, f"{held} is locked: it does not wait")
+        os.close(handle)
+        answer = (*command.communicate(timeout=SECONDS), command.returncode)
+        tally.check(answer == (b"", b"", 0), f"{held} was locked: {answer}")
+    tally.check(place.sync() == DONE, "nothing is locked, and it says something")
 
 
 def check_owners(tally: Tally, between: Between, home: Path) -> None:

@@ -1,6 +1,6 @@
 // Files of the program, and the folders that they are in.
-use std::fs::{File, Metadata, OpenOptions};
-use std::io::ErrorKind;
+use std::fs::{File, Metadata, OpenOptions, TryLockError};
+use std::io::{ErrorKind, Write};
 use std::os::unix::fs::{FileTypeExt, MetadataExt, OpenOptionsExt};
 use std::path::Path;
 use std::{fs, io};
@@ -188,10 +188,38 @@ pub(crate) fn sync_folder(folder: &File) -> Result<(), Fault> {
 }
 
 // Waits until no other command has this file. A file system without locks lets each command go on.
-pub(crate) fn lock_file(file: &File) -> Result<(), Fault> {
-    match file.lock() {
+pub(crate) fn lock_file(
+    rt: &HostRuntime,
+    file: &File,
+    path: &str,
+    is_said: &mut bool,
+) -> Result<(), Fault> {
+    match lock_after_others(rt, file, path, is_said) {
         Err(error) if error.kind() != ErrorKind::Unsupported => Err(Fault::FileFailed),
         _ => Ok(()),
+    }
+}
+
+// Locks a file or a folder. Where another command has the lock, a line says what is waited for, if it was not said by then.
+pub(crate) fn lock_after_others(
+    rt: &HostRuntime,
+    file: &File,
+    path: &str,
+    is_said: &mut bool,
+) -> io::Result<()> {
+    match file.try_lock() {
+        Ok(()) => Ok(()),
+        Err(TryLockError::Error(error)) => Err(error),
+        Err(TryLockError::WouldBlock) => {
+            if !*is_said {
+                let _ = writeln!(
+                    rt.stderr(),
+                    "waiting for {path}, which another command is using"
+                );
+            }
+            *is_said = true;
+            file.lock()
+        }
     }
 }
 

@@ -1,5 +1,5 @@
 // The books' files of a folder, and what each was written from, as they stand on the disk.
-use crate::files::{Found, Other, is_there, open_plain, read_open};
+use crate::files::{Found, Other, is_there, lock_after_others, open_plain, read_open};
 use crate::own::Kept;
 use crate::turns::Refusal;
 use std::fs::File;
@@ -56,7 +56,7 @@ pub(crate) fn lock_books(rt: &HostRuntime, folder: &str) -> Result<File, Refusal
     let is_folder = fs::metadata(rt, folder).is_ok_and(|found| found.is_dir());
     match File::open(rt, folder) {
         Ok(handle) if is_folder => {
-            let _ = handle.lock();
+            let _ = lock_after_others(rt, &handle, folder, &mut false);
             Ok(handle)
         }
         _ => Err(Refusal::at(rt, Fault::ReadFailed, folder)),

@@ -26,9 +26,10 @@ pub(crate) struct Project {
 // The command that was waited for may have put a new file in the place of the one that was opened. So the name has
 // to lead to this file still, else the new one is waited for.
 pub(crate) fn lock_project(rt: &HostRuntime, path: &str) -> Result<Project, Fault> {
+    let mut is_said = false;
     for _ in 0..u64::MAX {
         let file = open_at_once(rt, path).map_err(|_| Fault::ReadFailed)?;
-        lock_file(&file)?;
+        lock_file(rt, &file, path, &mut is_said)?;
         let place = real_path(rt, path)?;
         if stands_at(rt, &file, &place)? {
             return Ok(Project { file, place });
@@ -42,7 +43,7 @@ pub(crate) fn lock_project(rt: &HostRuntime, path: &str) -> Result<Project, Faul
 pub(crate) fn begin_project(rt: &HostRuntime, path: &str, bytes: &[u8]) -> Result<(), Fault> {
     let folder = open_folder(rt, path)?;
     let file = File::create_new(rt, path).map_err(|_| Fault::FileFailed)?;
-    let begun = write_begun(&file, bytes, &folder);
+    let begun = write_begun(rt, path, &file, bytes, &folder);
     if begun.is_err() {
         let _ = fs::remove_file(rt, path);
     }
@@ -50,8 +51,14 @@ pub(crate) fn begin_project(rt: &HostRuntime, path: &str, bytes: &[u8]) -> Resul
 }
 
 // A command that finds the new file waits for its bytes.
-fn write_begun(file: &File, bytes: &[u8], folder: &File) -> Result<(), Fault> {
-    lock_file(file)?;
+fn write_begun(
+    rt: &HostRuntime,
+    path: &str,
+    file: &File,
+    bytes: &[u8],
+    folder: &File,
+) -> Result<(), Fault> {
+    lock_file(rt, file, path, &mut false)?;
     write_made(file, bytes)?;
     sync_file(file)?;
     sync_folder(folder)
