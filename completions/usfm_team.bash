@@ -1,17 +1,17 @@
 # Completes the words of usfm_team in bash: put the line `. PATH/completions/usfm_team.bash` into ~/.bashrc.
 
 _usfm_team() {
-    local commands="init import edit edit-over shown receive sync send export summary delta report check find words thin fold help"
+    local commands="init import edit edit-over settle shown receive sync send export summary delta report check find words thin fold faults help"
     local books="GEN EXO LEV NUM DEU JOS JDG RUT 1SA 2SA 1KI 2KI 1CH 2CH EZR NEH EST JOB PSA PRO ECC SNG
         ISA JER LAM EZK DAN HOS JOL AMO OBA JON MIC NAM HAB ZEP HAG ZEC MAL MAT MRK LUK JHN ACT
         ROM 1CO 2CO GAL EPH PHP COL 1TH 2TH 1TI 2TI TIT PHM HEB JAS 1PE 2PE 1JN 2JN 3JN JUD REV"
-    local word=${COMP_WORDS[COMP_CWORD]} command=${COMP_WORDS[1]} options="--help" asked=() more="" kind at place=0 ended=""
+    local word=${COMP_WORDS[COMP_CWORD]} command=${COMP_WORDS[1]} options="--explain --help" asked=() more="" kind at place=0 ended=""
     COMPREPLY=()
     # How many words stand before this one, without options and what is given to them. After `--` no word is an option.
     for ((at = 1; at < COMP_CWORD; at++)); do
         case $ended${COMP_WORDS[at]} in
             # In bash `--into=texts` is three words.
-            --since | --into) at=$((at + 1)); [ "${COMP_WORDS[at]}" != = ] || at=$((at + 1)) ;;
+            --since | --into | --text-of | --sheet) at=$((at + 1)); [ "${COMP_WORDS[at]}" != = ] || at=$((at + 1)) ;;
             --) ended=yes ;;
             -?*) ;;
             *) place=$((place + 1)) ;;
@@ -19,18 +19,21 @@ _usfm_team() {
     done
     # What each command asks for, word by word, and then for each word more; what is not listed is free text.
     case $command in
-        init | edit | edit-over | shown | send | summary | report | thin) asked=(file) ;;
-        import) asked=(file) more=file options="--since --help" ;;
+        init | edit | shown | send | summary | report | thin) asked=(file) ;;
+        edit-over) asked=(file) options="--text-of --explain --help" ;;
+        settle) asked=(file) more=book ;;
+        import) asked=(file) more=file options="--since --explain --help" ;;
         receive | sync) asked=(file) more=file ;;
         delta) asked=(file file) ;;
-        export) asked=(file) more=book options="--into --help" ;;
-        check | find | words) asked=(file book file) ;;
+        export) asked=(file) more=book options="--into --explain --help" ;;
+        check | find) asked=(file book file) options="--sheet --text --explain --help" ;;
+        words) asked=(file book file) options="--sheet --explain --help" ;;
         fold) asked=(book) ;;
         help) asked=(command) options="" ;;
     esac
     if [ "$at" -gt "$COMP_CWORD" ]; then
-        # What is given to an option.
-        kind="file"
+        # What is given to an option: a file, but for an id.
+        [[ " ${COMP_WORDS[*]:COMP_CWORD - 2:2} " == *" --text-of "* ]] || kind="file"
     elif [ "$place" -eq 0 ]; then
         kind="program" options="--help --version"
     else

@@ -1,6 +1,6 @@
 # Completes the words of usfm_team in fish: copy it to ~/.config/fish/completions/.
 
-set -g __usfm_team_commands init import edit edit-over shown receive sync send export summary delta report check find words thin fold
+set -g __usfm_team_commands init import edit edit-over settle shown receive sync send export summary delta report check find words thin fold faults
 set -g __usfm_team_books GEN EXO LEV NUM DEU JOS JDG RUT 1SA 2SA 1KI 2KI 1CH 2CH EZR NEH EST JOB PSA PRO ECC SNG \
     ISA JER LAM EZK DAN HOS JOL AMO OBA JON MIC NAM HAB ZEP HAG ZEC MAL MAT MRK LUK JHN ACT \
     ROM 1CO 2CO GAL EPH PHP COL 1TH 2TH 1TI 2TI TIT PHM HEB JAS 1PE 2PE 1JN 2JN 3JN JUD REV
@@ -14,7 +14,7 @@ function __usfm_team_place
     set -l at 2
     while test $at -le (count $words)
         switch "$ended$words[$at]"
-            case --since --into
+            case --since --into --text-of --sheet
                 set at (math $at + 1)
             case --
                 set ended yes
@@ -44,6 +44,7 @@ complete -c usfm_team -n __fish_use_subcommand -a init -d 'Begins a project'
 complete -c usfm_team -n __fish_use_subcommand -a import -d 'Takes in the files of books'
 complete -c usfm_team -n __fish_use_subcommand -a edit -d 'Gives a segment the text of standard input'
 complete -c usfm_team -n __fish_use_subcommand -a edit-over -d 'The same, in the place of given operations alone'
+complete -c usfm_team -n __fish_use_subcommand -a settle -d 'Asks which text of each conflict is right'
 complete -c usfm_team -n __fish_use_subcommand -a shown -d 'Shows a segment'
 complete -c usfm_team -n __fish_use_subcommand -a receive -d 'Takes in bundles'
 complete -c usfm_team -n __fish_use_subcommand -a sync -d 'Takes in a folder and bundles, and writes the books there'
@@ -57,17 +58,22 @@ complete -c usfm_team -n __fish_use_subcommand -a find -d 'Finds a text in the v
 complete -c usfm_team -n __fish_use_subcommand -a words -d 'Lists the words of a book'
 complete -c usfm_team -n __fish_use_subcommand -a thin -d 'Leaves out the texts that were replaced'
 complete -c usfm_team -n __fish_use_subcommand -a fold -d 'Joins bundles and writes a book'
+complete -c usfm_team -n __fish_use_subcommand -a faults -d 'Lists the faults, and what to do'
 complete -c usfm_team -n __fish_use_subcommand -a help -d 'Prints the help of a command'
 complete -c usfm_team -n __fish_use_subcommand -l help -d 'Prints help'
 complete -c usfm_team -n __fish_use_subcommand -l version -d 'Prints the version'
 complete -c usfm_team -n "__usfm_team_from 0 $__usfm_team_commands" -l help -d 'Prints the help of the command'
-complete -c usfm_team -n '__usfm_team_at 0 init import edit edit-over shown receive sync send export summary delta report check find words thin' -F
+complete -c usfm_team -n "__usfm_team_from 0 $__usfm_team_commands" -l explain -d 'Says what a fault means, and what to do'
+complete -c usfm_team -n '__usfm_team_at 0 init import edit edit-over settle shown receive sync send export summary delta report check find words thin' -F
 complete -c usfm_team -n '__usfm_team_from 1 import receive sync' -F
 complete -c usfm_team -n '__usfm_team_from 0 import' -l since -rF -d 'Takes in what was changed since this bundle'
+complete -c usfm_team -n '__usfm_team_from 0 edit-over' -l text-of -xd 'Takes the text of this operation'
 complete -c usfm_team -n '__usfm_team_from 0 export' -l into -rF -d 'Into the files of a folder'
+complete -c usfm_team -n '__usfm_team_from 0 check find words' -l sheet -rF -d 'By this style sheet'
+complete -c usfm_team -n '__usfm_team_from 0 check find' -l text -d 'With the line of the text'
 complete -c usfm_team -n '__usfm_team_at 1 delta' -F
 complete -c usfm_team -n '__usfm_team_at 2 check find words' -F
 complete -c usfm_team -n '__usfm_team_at 1 check find words' -a "$__usfm_team_books"
-complete -c usfm_team -n '__usfm_team_from 1 export' -a "$__usfm_team_books"
+complete -c usfm_team -n '__usfm_team_from 1 export settle' -a "$__usfm_team_books"
 complete -c usfm_team -n '__usfm_team_at 0 fold' -a "$__usfm_team_books"
 complete -c usfm_team -n '__usfm_team_at 0 help' -a "$__usfm_team_commands"

@@ -4,9 +4,10 @@ The table comes from the code itself: the variants of `Fault` in usfm_cli and of
 number at the front of its comment, its details as its fields, and its sentence in `#[error]`.
 """
 import re
+import subprocess
 
-from repository import commands_in
-from tally import check, numbers_in, program, text_of
+from repository import commands_in, program_given
+from tally import TOP, check, numbers_in, program, text_of
 
 FAULT = "crates/usfm_cli/src/fault.rt"
 # The faults that a variant of `Fault` may hold, and where they are.
@@ -18,7 +19,7 @@ INSIDE = {
 # The details of a variant, by its fields.
 DETAILS = {"": [], "(OpId)": ["number", "name"], "(u64)": ["place"], "valid": ["length"], "line": ["line"], "gone": ["bytes"]}
 # The commands of the program whose names are not those of the code's, or their first words.
-COMMANDS = {"ImportNew": "sync"}
+COMMANDS = {"ImportNew": "sync", "EditWith": "edit-over"}
 # The words that README, for readers who write no code, has for some of them.
 README_DETAILS = {"length": "bytes"}
 VARIANT = re.compile(r"((?:^    ///.*\n)+)    #\[error\(\"((?:[^\"\\]|\\.)+)\".*\)\]\n    (\w+)(.*),$", re.M)
@@ -80,13 +81,13 @@ def check_formats(code):
 
 
 def check_readme(code):
-    rows = text_of("README.md").split("| Fault | What happened")[1].split("\n\n")[0].splitlines()[2:]
+    rows = text_of("README.md").split("| Fault | What it means |\n")[1].split("\n\n")[0].splitlines()[1:]
     named = set()
     for row in rows:
         cell, *said = [it.strip() for it in row.strip("|").split(" | ")]
         numbers = numbers_in(cell)
         named |= numbers
-        check(len(said) == 2 and all(said), f"README.md: {cell} says not what happened or what to do")
+        check(len(said) == 1 and all(said), f"README.md: {cell} says not what it means")
         if len(numbers & set(code)) == 1:
             wanted = [README_DETAILS.get(it, it) for it in code[min(numbers)][2]]
             check(re.findall(r"\*(\w+)\*", cell) == wanted, f"README.md: the details of {cell} are {wanted}")
@@ -172,8 +173,22 @@ def pages_of_help():
     return found
 
 
+def check_sentences(code):
+    """The program lists each fault with its details and its sentences, and the pages have their first sentences from there."""
+    listed = re.findall(r"^fault (\d+)((?: [A-Z]+)*)\n((?:  .+\n)+)", program("faults"), re.M)
+    check([int(it[0]) for it in listed] == sorted(code), f"the program lists the faults {[it[0] for it in listed]}")
+    for number, details, sentences in listed:
+        wanted = [README_DETAILS.get(it, it).upper() for it in code.get(int(number), ("", "", []))[2]]
+        check(details.split() == wanted, f"usfm_team faults: the details of {number} are {wanted}")
+        check(len(sentences.splitlines()) > 1, f"usfm_team faults: {number} says what to do")
+        check(all(len(it) <= 80 for it in sentences.splitlines()), f"usfm_team faults: {number} is wider than 80 columns")
+    written = subprocess.run([TOP / "docs/faults", "--program", program_given(), "--check"], stdout=subprocess.PIPE, text=True, check=False)
+    check(written.returncode == 0, f"docs/faults: {written.stdout}")
+
+
 def check_faults():
     code, pages = table(), pages_of_help()
+    check_sentences(code)
     check_formats(code)
     check_readme(code)
     check_help(code, pages)

@@ -104,14 +104,14 @@ def check_no_longer_a_book(tally: Tally, between: Between, home: Path) -> None:
         before = place.all()
         for words in (["sync", "p", "texts", "bundle"], ["export", "p", "--into", "texts"]):
             answer = place.run(*words)
-            passed = b"" if how == "another book" else b"passed over texts/41MAT.SFM: it does not begin with \\id and a book's code\n"
+            passed = b"" if how == "another book" else b"skipped texts/41MAT.SFM: it does not begin with \\id and a book's code\n"
             is_refused = answer == Answer(1, b"", passed + b"fault 131\nin texts/41MAT.SFM\n")
             tally.check(is_refused and place.all() == before, f"{how}: {answer}")
         place.write(MATTHEW, text)
         answer = place.sync("bundle")
         tally.check(answer.status == 0 and place.read(MATTHEW) == text.replace("And", "ben"), f"{how}, mended: {answer}")
         tally.check(wanted(place.run("report", "p")) == b"", f"{how}, mended: there is a conflict")
-    # Where it is not written down which file was the book's, one that is passed over may be it.
+    # Where it is not written down which file was the book's, one that is skipped may be it.
     place = Place(between.program, home / "unknown")
     place.own.joinpath("names").unlink()
     place.folder.joinpath(MATTHEW).write_bytes(b"\n" + text.encode())
@@ -192,20 +192,20 @@ def check_links(tally: Tally, between: Between, home: Path) -> None:
     place.folder.joinpath("luke.sfm").symlink_to("../private")
     answer = place.sync("bundle")
     wrote = b"new 2\nwrote texts/41MAT.SFM\nwrote texts/42MRK.SFM\n"
-    tally.check(answer == Answer(0, wrote, b"passed over texts/luke.sfm: it is a link\n"), f"a link: {answer}")
+    tally.check(answer == Answer(0, wrote, b"skipped texts/luke.sfm: it is a link\n"), f"a link: {answer}")
     tally.check(b"private" not in home.joinpath("p").read_bytes(), "what a link leads to is in the project")
     place.folder.joinpath("luke.sfm").unlink()
     # A link in the place of a book's file.
     place.folder.joinpath(MARK).unlink()
     place.folder.joinpath(MARK).symlink_to("../private")
     answer = place.sync()
-    tally.check(answer == refused(f"texts/{MARK}", said=f"passed over texts/{MARK}: it is a link\n"), f"a link for a file: {answer}")
+    tally.check(answer == refused(f"texts/{MARK}", said=f"skipped texts/{MARK}: it is a link\n"), f"a link for a file: {answer}")
     # A link in the place of a bundle that a file was written from.
     place.folder.joinpath(MARK).unlink()
     place.own.joinpath("MRK.bundle").unlink()
     place.own.joinpath("MRK.bundle").symlink_to("../../bundle")
     answer = place.sync()
-    tally.check(answer.error == b"passed over texts/.usfm_team/MRK.bundle: it is a link\n", f"a link for a bundle: {answer}")
+    tally.check(answer.error == b"skipped texts/.usfm_team/MRK.bundle: it is a link\n", f"a link for a bundle: {answer}")
     tally.check(private.read_bytes() == b"\\id LUK\n\\c 1\n\\v 1 private\n", "what a link leads to was written")
 
 
@@ -214,13 +214,13 @@ def check_pipes(tally: Tally, between: Between, home: Path) -> None:
     place = Place(between.program, home)
     os.mkfifo(place.folder / "luke.sfm")
     answer = place.sync()
-    tally.check(answer == Answer(0, b"", b"passed over texts/luke.sfm: it is a pipe\n"), f"a pipe: {answer}")
+    tally.check(answer == Answer(0, b"", b"skipped texts/luke.sfm: it is a pipe\n"), f"a pipe: {answer}")
     place.folder.joinpath("luke.sfm").unlink()
     for name in ("MAT.bundle", "MAT.bundle.new", "names"):
         place.own.joinpath(name).unlink(missing_ok=True)
         os.mkfifo(place.own / name)
         answer = place.sync()
-        is_said = answer.error == f"passed over texts/.usfm_team/{name}: it is a pipe\n".encode()
+        is_said = answer.error == f"skipped texts/.usfm_team/{name}: it is a pipe\n".encode()
         tally.check(answer.status == 0 and is_said, f"a pipe as {name}: {answer}")
         place.own.joinpath(name).unlink(missing_ok=True)
 

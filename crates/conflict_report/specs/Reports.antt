@@ -22,6 +22,10 @@ is_repeated ops o = list_any (λ p. id_below o.id p.id && same_bytes (own_text p
 abbrev pub distinct_texts : List Operation → Segment → List Operation
 distinct_texts held g = reverse (filter (λ o. not (is_repeated (shown held g) o)) (shown held g))
 
+-- the other operations that a segment shows: those with whose text one of a greater id is shown, ids falling
+abbrev pub repeated_texts : List Operation → Segment → List Operation
+repeated_texts held g = reverse (filter (λ o. is_repeated (shown held g) o) (shown held g))
+
 -- ---- the lines
 
 -- `conflict`, the segment's reference, and how many texts there are

@@ -7,7 +7,7 @@ ghost use Rattle.conflict_report.specs.Loops.Parts.{bytes_of};
 ghost use Rattle.conflict_report.specs.Reports as reports;
 
 use crate::part::{Part, awaited_line, conflict_line, text_line};
-use crate::texts::distinct_texts;
+use crate::texts::shown_texts;
 use op_core::Op;
 use replica_state::Replica;
 use std::alloc::{AllocError, Global};
@@ -65,7 +65,7 @@ fn push_segment<'a>(
     ensures { OnOk result (bytes_of parts.new.items ≡ bytes_of parts.old.items
         ++ reports.conflict_at replica.now.held (segment book key)) }
 {
-    let texts = distinct_texts(alloc, replica, book, key)?;
+    let texts = shown_texts(alloc, replica, book, key)?.distinct;
     let count = texts.len();
     if count < 2 {
         return Ok(());

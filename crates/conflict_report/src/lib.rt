@@ -11,6 +11,7 @@ mod texts;
 
 pub use fault::ReportFault;
 pub use report::{report_text, write_report};
+pub use texts::{ShownTexts, shown_texts};
 
 #[cfg(test)]
 mod tests;

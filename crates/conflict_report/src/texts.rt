@@ -1,4 +1,4 @@
-// The distinct texts that a segment shows. What is shown is not replaced, so it has its text.
+// The texts that a segment shows. What is shown is not replaced, so it has its text.
 ghost use Rattle.std.specs.Prelude.{◌≡◌, IfOk, map};
 ghost use Rattle.usfm_ref.specs.Segments.{segment};
 ghost use Rattle.conflict_report.specs.Reports as reports;
@@ -9,27 +9,44 @@ use std::alloc::{AllocError, Global};
 use std::collections::BTreeSet;
 use usfm_ref::{Book, Key};
 
-// The distinct texts that the segment shows, each by the operation with the greatest id that has it,
-// by falling id.
-pub(crate) fn distinct_texts(
+/// The operations that a segment shows, lent from the replica, in two lists by falling id.
+#[derive(Debug, Drop)]
+pub struct ShownTexts<'a> {
+    /// Of each distinct text the operation with the greatest id that has it.
+    pub distinct: Vec<&'a Op>,
+    /// The others. Each has the text of a distinct one with a greater id.
+    pub repeated: Vec<&'a Op>,
+}
+
+/// The texts that a segment shows, each once, and the operations that repeat one of them.
+///
+/// # Errors
+/// Out of memory alone.
+pub fn shown_texts(
     alloc: Global,
     replica: &Replica,
     book: Book,
     key: Key,
-) -> Result<Vec<&Op>, AllocError>
-    ensures { IfOk result (λ ops.
-        map (λ op. op.now) ops.items
+) -> Result<ShownTexts<'_>, AllocError>
+    ensures distinct { IfOk result (λ texts.
+        map (λ op. op.now) texts.distinct.items
         ≡ reports.distinct_texts replica.now.held (segment book key)) }
+    ensures repeated { IfOk result (λ texts.
+        map (λ op. op.now) texts.repeated.items
+        ≡ reports.repeated_texts replica.now.held (segment book key)) }
 {
     // The name shows that the replica holds a set, whose shown ids rise.
     let _ = replica.name();
     let mut shown = replica.shown(alloc, book, key)?;
     let mut distinct = Vec::new(alloc);
+    let mut repeated = Vec::new(alloc);
     let mut texts: BTreeSet<&str> = BTreeSet::new(alloc);
     'falling: while let Some(op) = shown.pop() {
         if texts.insert(op.text_or_empty())? {
             distinct.push(op)?;
+        } else {
+            repeated.push(op)?;
         }
     }
-    Ok(distinct)
+    Ok(ShownTexts { distinct, repeated })
 }

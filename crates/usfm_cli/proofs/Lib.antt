@@ -20,3 +20,4 @@ pub mod ShownByKeys
 pub mod Conflicts
 pub mod Received
 pub mod DeltasMade
+pub mod OverBooks

@@ -16,11 +16,12 @@ use Rattle.concordance.specs.Hits.{hits_of}
 use Rattle.concordance.specs.Words.{words_of}
 use Rattle.usfm_cli.specs.Commands.{Done, done_if, shown_line, outcome, only_tells, MayWantMemory}
 use Rattle.usfm_cli.specs.Projects.{written, of_loaded, executed, state_or}
-use Rattle.usfm_cli.specs.SheetReports.{by_sheet, by_book_text, finding_lines, unless_empty, hit_lines, word_lines}
+use Rattle.book_reports.specs.Lines.{finding_lines, hit_lines, word_lines}
+use Rattle.usfm_cli.specs.SheetReports.{by_sheet, by_book_text, unless_empty}
 use Rattle.usfm_cli.specs.Seen.{looked_at, seen_of, goes_by_bytes, IsSeen}
 use Rattle.usfm_cli.specs.declared.command.Command.{Command}
 use Rattle.usfm_cli.specs.declared.command.Command.TheVariants.{Import, ImportSince, ImportNew}
-use Rattle.usfm_cli.specs.declared.command.Command.TheVariants.{Edit, EditOver, Receive}
+use Rattle.usfm_cli.specs.declared.command.Command.TheVariants.{Edit, EditOver, EditWith, Receive}
 use Rattle.usfm_cli.specs.declared.command.Command.TheVariants.{Thin, Shown, Send, Export, Summary}
 use Rattle.usfm_cli.specs.declared.command.Command.TheVariants.{Delta, Report, Check, Find, Words}
 use Rattle.usfm_cli.specs.declared.fault.Fault.{Fault}
@@ -42,7 +43,7 @@ told_alike : (s t : State) (told other : Result (List ℕ) Fault) → told ≡ o
 told_alike s t told other same = told_done s told ∙ same ∙ sym (told_done t other)
 
 -- what is made of a book's text, is made of it where the operations of the book are all
-text_same : (held : List Operation) (book : List ℕ) (next : List ℕ → Result (List ℕ) Fault)
+pub text_same : (held : List Operation) (book : List ℕ) (next : List ℕ → Result (List ℕ) Fault)
     → by_book_text (ops_of_book held book) book next ≡ by_book_text held book next
 text_same held book next = λ i. cond (has_book_same held book i) (next (export_same held book i)) (Err NoBook)
 
@@ -53,6 +54,7 @@ told_same (ImportSince file base) s = refl
 told_same (ImportNew file) s = refl
 told_same (Edit book key text) s = refl
 told_same (EditOver book key text ids) s = refl
+told_same (EditWith book key of ids) s = refl
 told_same (Receive bytes) s = refl
 told_same Thin s = refl
 told_same (Shown book key) s = λ i. Ok (flat_map shown_line (shown_same s.held book (segment book key) refl i))
@@ -80,6 +82,7 @@ stays (ImportSince file base) s e = cc e
 stays (ImportNew file) s e = cc e
 stays (Edit book key text) s e = cc e
 stays (EditOver book key text ids) s e = cc e
+stays (EditWith book key of ids) s e = cc e
 stays (Receive bytes) s e = cc e
 stays Thin s e = cc e
 stays (Shown book key) s e = refl
@@ -99,6 +102,7 @@ sees_all (ImportSince file base) s e = refl
 sees_all (ImportNew file) s e = refl
 sees_all (Edit book key text) s e = refl
 sees_all (EditOver book key text ids) s e = refl
+sees_all (EditWith book key of ids) s e = refl
 sees_all (Receive bytes) s e = refl
 sees_all Thin s e = refl
 sees_all (Shown book key) s e = cc e
@@ -119,6 +123,7 @@ copies (ImportSince file base) r s d = refl
 copies (ImportNew file) r s d = refl
 copies (Edit book key text) r s d = refl
 copies (EditOver book key text ids) r s d = refl
+copies (EditWith book key of ids) r s d = refl
 copies (Receive bytes) r s d = absurd (r bytes refl)
 copies Thin r s d = refl
 copies (Shown book key) r s d = refl

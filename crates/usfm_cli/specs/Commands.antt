@@ -1,8 +1,8 @@
 -- What a command does to a replica, and what it answers (this project's own rule, over the steps of a replica).
-use Rattle.std.specs.Prelude.{◌≡◌, ℕ, List, [], ◌∷◌, ◌++◌, length, codes, Option, None, Some}
+use Rattle.std.specs.Prelude.{◌≡◌, ℕ, List, [], ◌∷◌, ◌++◌, length, codes, Option, None, Some, option_map}
 use Rattle.std.specs.Prelude.{Result, Ok, Err, Vec, Bool, true, false, not, ◌&&◌, IsTrue, if◌then◌else◌}
 use Rattle.std.specs.Fmt.{decimal}
-use Rattle.std.specs.List.{flat_map}
+use Rattle.std.specs.List.{flat_map, find}
 use Rattle.std.specs.Str.{is_utf8}
 use Rattle.std.specs.Str.Lossy.{utf8_valid_len}
 use Rattle.usfm_ref.specs.Books.{same_bytes}
@@ -10,7 +10,7 @@ use Rattle.usfm_ref.specs.Segments.{segment}
 use Rattle.usfm_ref.specs.declared.segment.Segment.{Segment}
 use Rattle.verse_cut.specs.Reading.{book_in}
 use Rattle.verse_cut.specs.declared.fault.BookFault.{BookFault}
-use Rattle.op_core.specs.Ids.{Id}
+use Rattle.op_core.specs.Ids.{Id, same_id}
 use Rattle.op_core.specs.Ops.{Operation, own_text}
 use Rattle.op_core.specs.Shown.{shown}
 use Rattle.op_core.specs.Export.{has_book, export}
@@ -32,11 +32,11 @@ use Rattle.usfm_cli.specs.Faults.{of_receiving, of_edit, of_import, of_since, of
 use Rattle.usfm_cli.specs.SheetReports.{checked, searched, listed, is_after_sheet}
 use Rattle.usfm_cli.specs.declared.command.Command.{Command}
 use Rattle.usfm_cli.specs.declared.command.Command.TheVariants.{Import, ImportSince, ImportNew}
-use Rattle.usfm_cli.specs.declared.command.Command.TheVariants.{Edit, EditOver, Receive}
+use Rattle.usfm_cli.specs.declared.command.Command.TheVariants.{Edit, EditOver, EditWith, Receive}
 use Rattle.usfm_cli.specs.declared.command.Command.TheVariants.{Thin, Shown, Send, Export, Summary}
 use Rattle.usfm_cli.specs.declared.command.Command.TheVariants.{Delta, Report, Check, Find, Words}
 use Rattle.usfm_cli.specs.declared.fault.Fault.{Fault}
-use Rattle.usfm_cli.specs.declared.fault.Fault.TheVariants.{Memory, NotText, NoBook}
+use Rattle.usfm_cli.specs.declared.fault.Fault.TheVariants.{Memory, NotText, NoBook, NotShown}
 use Rattle.usfm_cli.specs.declared.fault.Fault.TheVariants.{BadSummary, Clash, NumbersUsedUp}
 use Rattle.usfm_cli.specs.declared.fault.Fault.TheVariants.{FileChanged}
 
@@ -131,6 +131,19 @@ edit_done s g text = with_text text (done (step s (steps.Edit g text)))
 abbrev pub edit_over_done : State → Segment → List ℕ → List Id → Result Done Fault
 edit_over_done s g text ids = with_text text (done (step s (steps.EditOver g text ids)))
 
+-- the text of the operation of an id, if the segment shows it
+abbrev pub text_shown : List Operation → Segment → Id → Option (List ℕ)
+text_shown held g of = option_map (λ o. own_text o) (find (λ o. same_id o.id of) (shown held g))
+
+-- the step of an edit over given ids by the text of an operation, if there is that
+abbrev pub edit_by_text : State → Segment → Id → List Id → Option (List ℕ) → Result Done Fault
+edit_by_text s g of ids None = Err (NotShown of)
+edit_by_text s g of ids (Some text) = done (step s (steps.EditOver g text ids))
+
+-- the step of an edit over given ids by the text of an operation that the segment shows
+abbrev pub edit_with_done : State → Segment → Id → List Id → Result Done Fault
+edit_with_done s g of ids = edit_by_text s g of ids (text_shown s.held g of)
+
 -- the step of a thinning
 abbrev pub thin_done : State → Result Done Fault
 thin_done s = done (step s steps.Thin)
@@ -156,6 +169,7 @@ outcome s (ImportSince file base) = since_done s file.now (whole_at base.now)
 outcome s (ImportNew file) = import_new_done s file.now
 outcome s (Edit book key text) = edit_done s (segment book key) text.now
 outcome s (EditOver book key text ids) = edit_over_done s (segment book key) text.now ids.now
+outcome s (EditWith book key of ids) = edit_with_done s (segment book key) of ids.now
 outcome s (Receive bytes) = with_bundle s (whole_at bytes.now)
 outcome s Thin = thin_done s
 outcome s (Shown book key) = done_if s (Ok (shown_text s.held (segment book key)))
@@ -175,6 +189,7 @@ only_tells (ImportSince file base) = false
 only_tells (ImportNew file) = false
 only_tells (Edit book key text) = false
 only_tells (EditOver book key text ids) = false
+only_tells (EditWith book key of ids) = false
 only_tells (Receive bytes) = false
 only_tells Thin = false
 only_tells (Shown book key) = true
@@ -192,6 +207,10 @@ only_tells (Words book sheet) = true
 -- none of the faults
 abbrev pub no_fault : Fault → Bool
 no_fault fault = false
+
+-- each of the faults
+abbrev pub any_fault : Fault → Bool
+any_fault fault = true
 
 -- whether an operation is thinned, of those that are right each by itself
 abbrev pub has_thinned : Result ((Bool × List Operation) × List ℕ) BundleFault → Bool
@@ -222,13 +241,15 @@ is_late_new fault = false
 
 -- The refusals of a command that are found only with memory: a clash, since what a bundle brings is copied before all of
 -- it was looked at; what is wrong with a bundle that has a thinned operation, once each field was right; that an import has
--- no number left, since its edits are counted from its pieces; and what comes after a sheet was read, or after two records of it.
+-- no number left, since its edits are counted from its pieces; what an edit by the text of an operation is refused for, since
+-- that text is looked up first; and what comes after a sheet was read, or after two records of it.
 abbrev pub is_late : Command → Fault → Bool
 is_late (Import file) = is_numbers_used_up
 is_late (ImportSince file base) = is_late_since base.now
 is_late (ImportNew file) = is_late_new
 is_late (Edit book key text) = no_fault
 is_late (EditOver book key text ids) = no_fault
+is_late (EditWith book key of ids) = any_fault
 is_late (Receive bytes) = is_late_in bytes.now
 is_late Thin = no_fault
 is_late (Shown book key) = no_fault

@@ -18,6 +18,8 @@ use Rattle.bundle_codec.specs.declared.fault.JoinFault.{JoinFault}
 use Rattle.bundle_codec.specs.declared.fault.JoinFault.TheVariants as joining
 use Rattle.replica_state.specs.declared.fault.ReceiveFault.{ReceiveFault}
 use Rattle.replica_state.specs.declared.fault.ReceiveFault.TheVariants as receiving
+use Rattle.conflict_settling.specs.declared.asked.SettleFault.{SettleFault}
+use Rattle.conflict_settling.specs.declared.asked.SettleFault.TheVariants as settling
 use Rattle.replica_state.specs.declared.fault.EditFault.{EditFault}
 use Rattle.replica_state.specs.declared.fault.EditFault.TheVariants as edit
 use Rattle.replica_state.specs.declared.fault.ImportFault.{ImportFault}
@@ -73,6 +75,11 @@ of_joining (joining.Clash id) = Clash id
 abbrev pub of_receiving : ReceiveFault → Fault
 of_receiving receiving.Memory = Memory
 of_receiving (receiving.Clash id) = Clash id
+
+-- the fault of a conflict that is not asked
+abbrev pub of_settling : SettleFault → Fault
+of_settling settling.Memory = Memory
+of_settling settling.NoBook = NoBook
 
 -- the fault of an edit that is refused
 abbrev pub of_edit : EditFault → Fault

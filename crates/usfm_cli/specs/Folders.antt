@@ -31,6 +31,10 @@ abbrev pub may_be_book : List ℕ → Bool
 may_be_book name =
     not (is_hidden name) && (ends_in name (codes ".usfm") || ends_in name (codes ".sfm"))
 
+-- a file has another ending than books' files have that is not hidden and whose name ends in `.txt`
+abbrev pub is_text_name : List ℕ → Bool
+is_text_name name = not (is_hidden name) && ends_in name (codes ".txt")
+
 -- a book that was read, or none
 abbrev pub book_if : Result (List ℕ) BookFault → Option (List ℕ)
 book_if (Ok book) = Some book

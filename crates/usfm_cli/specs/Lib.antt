@@ -1,9 +1,12 @@
 pub mod Reading
 pub mod Faults
 pub mod Lines
+pub mod Settling
 pub mod SheetReports
 pub mod Commands
 pub mod Seen
+pub mod EveryBook
+pub mod OverBooks
 pub mod Projects
 pub mod Turns
 pub mod Folders
@@ -17,3 +20,5 @@ pub mod Headline
 pub mod Books
 pub mod TreeLaws
 pub mod Loops
+pub mod Circumstances
+pub mod Explaining

@@ -6,7 +6,7 @@ use Rattle.replica_state.specs.States.{State}
 use Rattle.project_file.specs.Projects.{project_at}
 use Rattle.usfm_cli.specs.declared.command.Command.{Command}
 use Rattle.usfm_cli.specs.declared.command.Command.TheVariants.{Import, ImportSince, ImportNew}
-use Rattle.usfm_cli.specs.declared.command.Command.TheVariants.{Edit, EditOver, Receive}
+use Rattle.usfm_cli.specs.declared.command.Command.TheVariants.{Edit, EditOver, EditWith, Receive}
 use Rattle.usfm_cli.specs.declared.command.Command.TheVariants.{Thin, Shown, Send, Export, Summary}
 use Rattle.usfm_cli.specs.declared.command.Command.TheVariants.{Delta, Report, Check, Find, Words}
 
@@ -17,6 +17,7 @@ looked_at (ImportSince file base) = None
 looked_at (ImportNew file) = None
 looked_at (Edit book key text) = None
 looked_at (EditOver book key text ids) = None
+looked_at (EditWith book key of ids) = None
 looked_at (Receive bytes) = None
 looked_at Thin = None
 looked_at (Shown book key) = Some book
@@ -41,6 +42,7 @@ goes_by_bytes (ImportSince file base) = false
 goes_by_bytes (ImportNew file) = false
 goes_by_bytes (Edit book key text) = false
 goes_by_bytes (EditOver book key text ids) = false
+goes_by_bytes (EditWith book key of ids) = false
 goes_by_bytes (Receive bytes) = true
 goes_by_bytes Thin = false
 goes_by_bytes (Shown book key) = false

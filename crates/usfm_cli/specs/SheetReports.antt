@@ -1,23 +1,18 @@
 -- What commands report of a book by a style sheet (this project's own rule): its findings, the hits of a needle, and its
 -- words.
-use Rattle.std.specs.Prelude.{ℕ, Bool, true, false, List, [], ◌∷◌}
-use Rattle.std.specs.Prelude.{◌++◌, Result, Ok, Err, if◌then◌else◌}
-use Rattle.std.specs.Fmt.{decimal}
-use Rattle.std.specs.List.{flat_map}
+use Rattle.std.specs.Prelude.{ℕ, Bool, true, false, List, [], ◌∷◌, Result, Ok, Err, if◌then◌else◌}
 use Rattle.std.specs.Str.{is_utf8}
 use Rattle.std.specs.Str.Lossy.{utf8_valid_len}
-use Rattle.usfm_ref.specs.References.{key_text, ref_text}
 use Rattle.sty_sheet.specs.Records.{Record}
 use Rattle.sty_sheet.specs.Memory.{takes_memory}
 use Rattle.sty_sheet.specs.Sheets.{sheet_of}
 use Rattle.sty_sheet.specs.declared.fault.SheetFault.{SheetFault}
 use Rattle.op_core.specs.Ops.{Operation}
 use Rattle.op_core.specs.Export.{has_book, export}
-use Rattle.segment_check.specs.Codes.{code_name}
 use Rattle.segment_check.specs.Findings.{findings}
-use Rattle.segment_check.specs.declared.finding.Finding.{Finding}
-use Rattle.concordance.specs.Hits.{HitParts, hits_of}
-use Rattle.concordance.specs.Words.{WordParts, words_of}
+use Rattle.concordance.specs.Hits.{hits_of}
+use Rattle.concordance.specs.Words.{words_of}
+use Rattle.book_reports.specs.Lines.{finding_lines, hit_lines, word_lines}
 use Rattle.usfm_cli.specs.Faults.{of_sheet}
 use Rattle.usfm_cli.specs.declared.fault.Fault.{Fault}
 use Rattle.usfm_cli.specs.declared.fault.Fault.TheVariants.{NotText, NoBook, EmptyNeedle}
@@ -38,32 +33,13 @@ abbrev pub by_book_text : List Operation → List ℕ →
     (List ℕ → Result (List ℕ) Fault) → Result (List ℕ) Fault
 by_book_text held book next = if has_book held book then next (export held book) else Err NoBook
 
--- ---- findings
-
--- a finding: the reference of its key, its code and its start, as a line
-abbrev pub finding_line : List ℕ → Finding → List ℕ
-finding_line book f =
-    ref_text book f.key ++ 32 ∷ code_name f.code ++ 32 ∷ decimal f.start ++ 10 ∷ []
-
--- a line for each finding
-abbrev pub finding_lines : List ℕ → List Finding → List ℕ
-finding_lines book found = flat_map (finding_line book) found
+-- ---- findings, hits and words
 
 -- the findings in a book by a sheet, a line for each
 abbrev pub checked : List Operation → List ℕ → List ℕ → Result (List ℕ) Fault
 checked held book sheet =
     by_sheet sheet (λ records.
     by_book_text held book (λ text. Ok (finding_lines book (findings records text))))
-
--- ---- hits
-
--- a hit: the reference of its key and its start, as a line
-abbrev pub hit_line : List ℕ → HitParts → List ℕ
-hit_line book h = ref_text book h.key ++ 32 ∷ decimal h.start ++ 10 ∷ []
-
--- a line for each hit
-abbrev pub hit_lines : List ℕ → List HitParts → List ℕ
-hit_lines book hits = flat_map (hit_line book) hits
 
 -- what is found of a needle, unless it is empty
 abbrev pub unless_empty : List ℕ → Result (List ℕ) Fault → Result (List ℕ) Fault
@@ -75,16 +51,6 @@ abbrev pub searched : List Operation → List ℕ → List ℕ → List ℕ → 
 searched held book sheet needle =
     by_sheet sheet (λ records. by_book_text held book
     (λ text. unless_empty needle (Ok (hit_lines book (hits_of records text needle)))))
-
--- ---- words
-
--- a word: its form, and each of its keys after one space, as a line
-abbrev pub word_line : WordParts → List ℕ
-word_line w = w.form ++ flat_map (λ k. 32 ∷ key_text k) w.keys ++ 10 ∷ []
-
--- a line for each word
-abbrev pub word_lines : List WordParts → List ℕ
-word_lines words = flat_map word_line words
 
 -- the words of a book by a sheet, a line for each
 abbrev pub listed : List Operation → List ℕ → List ℕ → Result (List ℕ) Fault

@@ -33,6 +33,13 @@ pub enum Command<'a> {
         text: &'a [u8],
         ids: &'a [OpId],
     },
+    /// Gives a segment the text of one of the operations that it shows, in the place of some: `made NUMBER NAME`.
+    EditWith {
+        book: Book,
+        key: Key,
+        of: OpId,
+        ids: &'a [OpId],
+    },
     /// Takes in a bundle: `new N`.
     Receive(&'a [u8]),
     /// Leaves out the texts of the operations that another one of their segment replaces:
@@ -71,6 +78,7 @@ impl Command<'_> {
             | Command::ImportNew(_)
             | Command::Edit { .. }
             | Command::EditOver { .. }
+            | Command::EditWith { .. }
             | Command::Receive(_)
             | Command::Thin => false,
             Command::Shown(_, _)
@@ -95,6 +103,7 @@ impl Command<'_> {
             | Command::ImportNew(_)
             | Command::Edit { .. }
             | Command::EditOver { .. }
+            | Command::EditWith { .. }
             | Command::Receive(_)
             | Command::Thin
             | Command::Send

@@ -6,6 +6,7 @@ ghost use Rattle.usfm_cli.specs.declared.fault.Fault.TheVariants.{Naming, WriteF
 use crate::ReadFault;
 use bundle_codec::{BundleFault, JoinFault, SummaryFault, WholeFault};
 use concordance::FindFault;
+use conflict_settling::SettleFault;
 use op_core::{IdFault, OpId};
 use project_file::{CreateFault, LoadFault};
 use replica_state::{EditFault, ImportFault, ReceiveFault, SinceFault};
@@ -106,6 +107,17 @@ impl<T: Drop> From<AllocFailed<T>> for Fault {
 
     fn from(_: AllocFailed<T>) -> Self {
         Fault::Memory
+    }
+}
+
+impl From<SettleFault> for Fault {
+    ghost from_gives = { λ from fault. fault ≡ faults.of_settling from };
+
+    fn from(fault: SettleFault) -> Self {
+        match fault {
+            SettleFault::Memory => Fault::Memory,
+            SettleFault::NoBook => Fault::NoBook,
+        }
     }
 }
 

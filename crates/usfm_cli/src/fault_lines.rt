@@ -91,7 +91,7 @@ fn push_place(line: &mut ShortLine, fault: &BundleFault)
     }
 }
 
-fn fault_number(fault: &Fault) -> u64
+pub(crate) fn fault_number(fault: &Fault) -> u64
     ensures number { result ≡ lines.fault_number fault.now }
     ensures short { result < 1000 }
 {

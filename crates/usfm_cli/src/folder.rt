@@ -25,6 +25,15 @@ pub fn may_be_book(name: &str) -> bool
     !name.starts_with(b".") && ENDINGS.iter().any(|ending| ends_in(name, ending))
 }
 
+/// Whether a file of this name in a folder is a text that an editor gave another ending than books' files have: it is not
+/// hidden, and the name ends in `.txt`, in any case. It takes no memory.
+pub fn is_text_name(name: &str) -> bool
+    ensures { result ≡ folders.is_text_name name.now }
+{
+    let name = name.as_bytes();
+    !name.starts_with(b".") && ends_in(name, b".txt")
+}
+
 // Whether the name ends so, in any case of the letters A to Z.
 fn ends_in(name: &[u8], ending: &[u8]) -> bool
     ensures { result ≡ folders.ends_in name.now ending.now }

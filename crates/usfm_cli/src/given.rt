@@ -1,9 +1,11 @@
 // What a subcommand was given for its arguments.
+use crate::fault::Fault;
 use crate::words::LineFault;
 use clap::ArgMatches;
+use conflict_settling::Wanted;
 use op_core::OpId;
 use std::alloc::{AllocError, Global};
-use usfm_ref::Book;
+use usfm_ref::{Book, Key, RefFault, read_ref};
 
 // The ids that the words of an argument spell.
 pub(crate) fn ids(
@@ -18,6 +20,33 @@ pub(crate) fn ids(
     Ok(ids)
 }
 
+// The books and segments that the words of an argument name.
+pub(crate) fn wanted(
+    alloc: Global,
+    given: &ArgMatches<'_>,
+    argument: &str,
+) -> Result<Vec<Wanted>, LineFault> {
+    let mut wanted = Vec::new(alloc);
+    for word in given.get_strs(argument).unwrap_or(&[]) {
+        match Wanted::read(*word) {
+            Ok(named) => wanted.push(named)?,
+            Err(fault) => return Err(refused_word(alloc, fault, *word)),
+        }
+    }
+    Ok(wanted)
+}
+
+// The id that the word of an argument spells, which may be left out.
+pub(crate) fn id_if_given(
+    given: &ArgMatches<'_>,
+    argument: &str,
+) -> Result<Option<OpId>, LineFault> {
+    match given.get_str(argument) {
+        Some(word) => Ok(Some(OpId::read(word)?)),
+        None => Ok(None),
+    }
+}
+
 // The books that the words of an argument name.
 pub(crate) fn books(
     alloc: Global,
@@ -26,9 +55,56 @@ pub(crate) fn books(
 ) -> Result<Vec<Book>, LineFault> {
     let mut books = Vec::new(alloc);
     for word in given.get_strs(argument).unwrap_or(&[]) {
-        books.push(Book::read(*word)?)?;
+        books.push(book_of(alloc, *word)?)?;
     }
     Ok(books)
+}
+
+// The book that a word names, if there is one.
+pub(crate) fn book_if_given(alloc: Global, word: Option<&str>) -> Result<Option<Book>, LineFault> {
+    match word {
+        Some(word) => Ok(Some(book_of(alloc, word)?)),
+        None => Ok(None),
+    }
+}
+
+// The book that the word of an argument names.
+pub(crate) fn book(
+    alloc: Global,
+    given: &ArgMatches<'_>,
+    argument: &str,
+) -> Result<Book, LineFault> {
+    book_of(alloc, word(given, argument))
+}
+
+// The book of a code.
+pub(crate) fn book_of(alloc: Global, word: &str) -> Result<Book, LineFault> {
+    match Book::read(word) {
+        Ok(book) => Ok(book),
+        Err(fault) => Err(refused_word(alloc, fault, word)),
+    }
+}
+
+// The segment that the word of an argument refers to.
+pub(crate) fn reference(
+    alloc: Global,
+    given: &ArgMatches<'_>,
+    argument: &str,
+) -> Result<(Book, Key), LineFault> {
+    let word = word(given, argument);
+    match read_ref(word) {
+        Ok(segment) => Ok(segment),
+        Err(fault) => Err(refused_word(alloc, fault, word)),
+    }
+}
+
+// The refusal of a word. Where out of memory keeps it from being copied, the fault alone is told.
+fn refused_word(alloc: Global, fault: RefFault, word: &str) -> LineFault {
+    let fault = Fault::from(fault);
+    match String::from_str(alloc, word) {
+        Ok(word) => LineFault::RefusedWord(fault, word),
+        Err(_) => LineFault::Refused(fault),
+    }
 }
 
 // The word of an argument. Each that is required was given.

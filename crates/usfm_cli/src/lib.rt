@@ -7,6 +7,8 @@
 #![tactic(auto)]
 
 mod command;
+mod every_book;
+mod explaining;
 mod fault;
 mod fault_lines;
 mod fold;
@@ -14,8 +16,10 @@ mod folder;
 mod gathered;
 mod given;
 pub mod laws;
+mod over_books;
 mod projects;
 mod reading;
+mod settling;
 mod sheet_reports;
 mod source;
 mod standing;
@@ -24,18 +28,28 @@ mod turns;
 mod usage;
 mod words;
 
+pub use book_reports::SetOff;
 pub use command::Command;
+pub use conflict_settling::{Answer, Asked, Manner, Wanted, ends_text};
+pub use explaining::circumstances::{
+    Circumstances, Expected, FRONT_BYTES, Found, Input, book_meant, found_file, refused_input,
+};
+pub use explaining::explanation::{Explanation, explained};
+pub use explaining::listing::list_faults;
+pub use explaining::remarks::{NO_BOOK_FILE, TEXT_NAME, remark, sheet_remark};
 pub use fault::Fault;
 pub use fault_lines::fault_line;
 pub use fold::fold_stream;
-pub use folder::{book_begun, makes, may_be_book, written_from};
+pub use folder::{book_begun, is_text_name, makes, may_be_book, written_from};
 pub use op_core::{MOST_LINE_BYTES, ShortLine as FaultLine};
+pub use over_books::{check_project, find_project, word_project};
 pub use project_file::create;
 pub use projects::{Outcome, exec, exec_each};
 pub use reading::{MOST_BYTES, ReadFault, read_to_end};
+pub use settling::{conflict_count, next_question, settling_edit};
 pub use source::{ByteSource, StdSource};
 pub use standing::{Standing, StandingBook, project_standing};
 pub use turns::{Outcomes, TurnFault, exec_in_turn, stand_in_turn};
 pub use usage::VERSION;
 pub use usfm_export::{ByteSink, StdSink, WriteFault, write_all, write_more};
-pub use words::{Line, LineFault, read_words};
+pub use words::{Line, LineFault, asks_for_words, has_split_reference, read_words};

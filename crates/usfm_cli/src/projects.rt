@@ -72,6 +72,7 @@ impl Outcome {
 ///   has the book and the file is not its export, `NumbersUsedUp` (81).
 /// - `Edit`: `NotText` (10), `BadSegment` (80), `NoBook` (82), `NumbersUsedUp` (81).
 /// - `EditOver`: the same, with `NotShown` (83) before `NumbersUsedUp`.
+/// - `EditWith`: `NotShown` (83), first of the operation whose text it is, `NumbersUsedUp` (81).
 /// - `Receive`: `Bundle` (60 to 69), `Trailing` (70), `Clash` (51).
 /// - `Export`: `NoBook` (82).
 /// - `Delta`: `BadSummary` (71).
@@ -84,7 +85,7 @@ impl Outcome {
 /// `Memory` (1) where a growth was refused; of bytes that are no project only where an operation of
 /// their bundle is thinned, since the other refusals take no memory. Nor do those of the command once
 /// the project was read, but for `NumbersUsedUp` and `FileChanged` of an import, `Clash`, 69 and 70 of
-/// a bundle with a thinned operation, `NoId` and `Reference` of an `ImportSince` whose base has one, and
+/// a bundle with a thinned operation, `NoId` and `Reference` of an `ImportSince` whose base has one, those of an `EditWith`, and
 /// what is found after records of a sheet were kept. The project is the bytes that were given, so that a
 /// refused command leaves it as it is.
 pub fn exec(alloc: Global, project: &[u8], command: &Command<'_>) -> Result<Outcome, Fault>

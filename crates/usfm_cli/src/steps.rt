@@ -1,9 +1,11 @@
 // What commands do to a replica, and what they write.
-ghost use Rattle.std.specs.Prelude.{◌≡◌, true, false, ◌++◌, IfOk, IfErr, OnOk, codes};
+ghost use Rattle.std.specs.Prelude.{◌≡◌, true, false, ◌++◌, IfOk, IfErr, OnOk, codes, map, option_map, string_bytes};
 ghost use Rattle.std.specs.Fmt.{decimal};
+ghost use Rattle.std.specs.List.{find};
 ghost use Rattle.std.specs.Str.{is_utf8};
 ghost use Rattle.std.specs.Str.Lossy.{utf8_valid_len};
 ghost use Rattle.usfm_ref.specs.Segments.{segment};
+ghost use Rattle.op_core.specs.Ids.{same_id};
 ghost use Rattle.bundle_codec.specs.Joining.{whole_at};
 ghost use Rattle.bundle_codec.specs.SummaryReading.{read_summary};
 ghost use Rattle.usfm_cli.specs.Commands as commands;
@@ -41,6 +43,9 @@ pub(crate) fn obey(
             text,
             ids,
         } => edit_over(alloc, replica, book, key, text, ids),
+        Command::EditWith { book, key, of, ids } => {
+            edit_with(alloc, replica, book, key, of, ids)
+        }
         Command::Receive(bytes) => receive(alloc, replica, bytes),
         Command::Thin => thin(alloc, replica),
         Command::Shown(book, key) => Ok(shown_lines(alloc, replica, book, key)?),
@@ -134,6 +139,56 @@ fn edit_over(
 {
     let made = replica.edit_over(book, key, text_in(text)?, ids)?;
     Ok(made_line(alloc, &made)?)
+}
+
+// Gives a segment the text of a shown operation, in the place of some.
+fn edit_with(
+    alloc: Global,
+    replica: &mut Replica,
+    book: Book,
+    key: Key,
+    of: OpId,
+    ids: &[OpId],
+) -> Result<Vec<u8>, Fault>
+    ensures { commands.Answers commands.any_fault
+        (commands.edit_with_done replica.old (segment book key) of ids.now) replica.new result }
+{
+    let Some(text) = shown_text(alloc, replica, book, key, of)? else {
+        return Err(Fault::NotShown(of));
+    };
+    let made = replica.edit_over(book, key, &text, ids)?;
+    Ok(made_line(alloc, &made)?)
+}
+
+// A copy of the text of the operation of an id, if the segment shows it.
+fn shown_text(
+    alloc: Global,
+    replica: &Replica,
+    book: Book,
+    key: Key,
+    of: OpId,
+) -> Result<Option<String>, AllocError>
+    ensures { IfOk result (λ text. option_map (λ t. string_bytes t) text
+        ≡ commands.text_shown replica.now.held (segment book key) of) }
+{
+    let ops = replica.shown(alloc, book, key)?;
+    match op_of(&ops, of) {
+        Some(op) => Ok(Some(String::from_str(alloc, op.text_or_empty())?)),
+        None => Ok(None),
+    }
+}
+
+// The operation of an id, if it is one of these.
+fn op_of<'a>(ops: &[&'a Op], of: OpId) -> Option<&'a Op>
+    ensures { option_map (λ op. op.now) result
+        ≡ find (λ o. same_id o.id of) (map (λ op. op.now) ops.now) }
+{
+    for op in ops {
+        if op.id() == of {
+            return Some(*op);
+        }
+    }
+    None
 }
 
 // Takes in a bundle.

@@ -2,21 +2,24 @@
 // `line_of` name them all.
 mod folders;
 mod reports;
+mod settling;
+mod sheets;
 
 use self::folders::{export, export_line, sync, sync_line};
 use self::reports::{
-    check, check_line, delta, delta_line, find, find_line, fold, fold_line, report, report_line,
-    send, send_line, shown, shown_line, summary, summary_line, words, words_line,
+    delta, delta_line, fold, fold_line, report, report_line, send, send_line, shown, shown_line,
+    summary, summary_line,
 };
-use crate::given::{ids, text, text_if_given, texts, word};
+use self::settling::{settle, settle_line};
+use self::sheets::{check, check_line, find, find_line, words, words_line};
+use crate::given::{id_if_given, ids, reference, text, text_if_given, texts, word};
 use crate::words::{Line, LineFault};
-use clap::{Arg, ArgMatches, Command};
+use clap::{Arg, ArgAction, ArgMatches, Command};
 use op_core::ReplicaName;
 use std::alloc::{AllocError, Global};
-use usfm_ref::read_ref;
 
 /// The version of this workspace, which `usfm_team --version` prints. It is here alone.
-pub const VERSION: &str = "0.9.0";
+pub const VERSION: &str = "0.10.0";
 
 // What an argument is called, and what is to be given for it.
 type Words<'a> = &'a [(&'static str, &'static str)];
@@ -30,12 +33,7 @@ pub(crate) const REF: (&str, &str) = (
 
 pub(crate) const BOOK: (&str, &str) = (
     "BOOK",
-    "The book's code: three of A to Z and 0 to 9, as MAT",
-);
-
-pub(crate) const SHEET: (&str, &str) = (
-    "SHEET",
-    "A style sheet in the manner of Paratext's usfm.sty",
+    "The book's code: three of A to Z and 0 to 9, such as MAT",
 );
 
 /// The program's subcommands and their words.
@@ -51,6 +49,7 @@ pub(crate) fn program<'a>(alloc: Global) -> Result<Command<'a>, AllocError> {
     let program = with(program, import(alloc))?;
     let program = with(program, edit(alloc))?;
     let program = with(program, edit_over(alloc))?;
+    let program = with(program, settle(alloc))?;
     let program = with(program, shown(alloc))?;
     let program = with(program, receive(alloc))?;
     let program = with(program, sync(alloc))?;
@@ -63,7 +62,8 @@ pub(crate) fn program<'a>(alloc: Global) -> Result<Command<'a>, AllocError> {
     let program = with(program, find(alloc))?;
     let program = with(program, words(alloc))?;
     let program = with(program, thin(alloc))?;
-    with(program, fold(alloc))
+    let program = with(program, fold(alloc))?;
+    with(program, faults(alloc))
 }
 
 /// The line of a subcommand, by what it was given.
@@ -77,6 +77,7 @@ pub(crate) fn line_of(
         "import" => import_line(alloc, given),
         "edit" => edit_line(alloc, given),
         "edit-over" => edit_over_line(alloc, given),
+        "settle" => settle_line(alloc, given),
         "shown" => shown_line(alloc, given),
         "receive" => receive_line(alloc, given),
         "sync" => sync_line(alloc, given),
@@ -89,7 +90,8 @@ pub(crate) fn line_of(
         "find" => find_line(alloc, given),
         "words" => words_line(alloc, given),
         "thin" => thin_line(alloc, given),
-        "fold" => fold_line(given),
+        "fold" => fold_line(alloc, given),
+        "faults" => Ok(Line::Faults),
         _ => Err(LineFault::Usage(String::from_str(alloc, NO_SUBCOMMAND)?)),
     }
 }
@@ -120,12 +122,14 @@ id is a number and a copy's name. A segment is a verse, or a head: what comes
 before the first verse of a chapter, or before the first chapter of a book.
 
 A command that is refused writes `fault NUMBER ..` to standard error, and exits
-with status 1; the help of a subcommand lists its faults. A wrong command line
-exits with status 2. A change is written to PROJECT.new and renamed; where
-PROJECT is a link, so is the file that it leads to. A project of more than
-268,435,456 bytes is written, and cannot be read again.";
+with status 1; the help of a subcommand lists its faults. At a terminal, or with
+--explain, it also says what that means and what to do; `usfm_team faults` lists
+this for all faults. A wrong command line exits with status 2. A change is
+written to PROJECT.new and renamed; if PROJECT is a link, so is the file that it
+leads to. A project of more than 268,435,456 bytes is written, but cannot be
+read again.";
 
-// A subcommand with its words, each of them required.
+// A subcommand with its words, each of them required, and with `--explain`, which `read_words` takes out of every line.
 pub(crate) fn command<'a>(
     alloc: Global,
     name: &'a str,
@@ -137,7 +141,11 @@ pub(crate) fn command<'a>(
     for (word, help) in words {
         made = made.arg(Arg::new(alloc, *word).required(true).help(*help))?;
     }
-    Ok(made)
+    let explain = Arg::new(alloc, "explain")
+        .long("explain")
+        .action(ArgAction::SetTrue)
+        .help("Say what a fault means and what to do, as at a terminal");
+    made.arg(explain)
 }
 
 fn init<'a>(alloc: Global) -> Result<Command<'a>, AllocError> {
@@ -153,8 +161,8 @@ Example: usfm_team init ana.project ana
 
 Faults:
   fault 1      out of memory
-  fault 50     NAME is no name for a copy: see above
-  fault 130    PROJECT is there already, or was not written";
+  fault 50     NAME is not a name for a copy: see above
+  fault 130    PROJECT is there already, or could not be written";
 
 fn init_line(alloc: Global, given: &ArgMatches<'_>) -> Result<Line, LineFault> {
     Ok(Line::Init {
@@ -182,13 +190,12 @@ fn import<'a>(alloc: Global) -> Result<Command<'a>, AllocError> {
 }
 
 const IMPORT: &str = "\
-Writes `added N` for each FILE, N the number of edits. All are taken in, or
-none: where one of several is refused, a second line `in FILE` on standard error
-names it.
+Writes `added N` for each FILE, N the number of edits. Takes in all, or none: if
+it refuses one of several, a second line `in FILE` on standard error names it.
 
-Where FILE differs from the book, it replaces all that is shown there, also what
-came from others. Where it was exported from PROJECT and others' work was
-received since, give the bundle of that time:
+If FILE differs from the book, it replaces all that is shown there, also what
+came from others. If it was exported from PROJECT and others' work was received
+since, give the bundle of that time:
   usfm_team send ana.project > ana.bundle
   usfm_team export ana.project MAT > matthew.usfm
   usfm_team import ana.project matthew.usfm --since ana.bundle
@@ -201,11 +208,12 @@ Faults:
   fault 10 BYTES           FILE is not UTF-8 after this many bytes
   fault 20, fault 30       FILE does not begin with \\id and a book's code
   fault 51 NUMBER NAME     two operations that differ have this id
-  fault 60 to 70, 110      PROJECT is no project, or BUNDLE no bundle
+  fault 60 to 70, 110      PROJECT is not a project, or BUNDLE not a bundle
   fault 81                 no number is left for the edits
   fault 90 BYTES           writing the output failed; the project is changed
-  fault 120, fault 121     a file was not read, or is over 268,435,456 bytes
-  fault 130                the project was not written";
+  fault 120                a file could not be read
+  fault 121                a file has more than 268,435,456 bytes
+  fault 130                the project could not be written";
 
 fn import_line(alloc: Global, given: &ArgMatches<'_>) -> Result<Line, LineFault> {
     Ok(Line::Import {
@@ -227,7 +235,7 @@ fn edit<'a>(alloc: Global) -> Result<Command<'a>, AllocError> {
 
 const EDIT: &str = "\
 The text is the whole segment, with its mark: `\\v 1 In the beginning` for
-verse 1. The empty text takes the segment out of its book. Writes
+verse 1. An empty text removes the segment from its book. Writes
 `made NUMBER NAME`, the edit's id.
 
 Example: printf '\\\\v 1 At\\n' | usfm_team edit ana.project 'MAT 1:1'
@@ -235,18 +243,19 @@ Example: printf '\\\\v 1 At\\n' | usfm_team edit ana.project 'MAT 1:1'
 Faults:
   fault 1                  out of memory
   fault 10 BYTES           the text is not UTF-8 after this many bytes
-  fault 20, fault 21       REF is no segment
-  fault 60 to 70, 110      PROJECT is no project
+  fault 20, fault 21       REF is not a reference to a segment
+  fault 60 to 70, 110      PROJECT is not a project
   fault 80                 the text begins with another mark, or has a later one
   fault 81                 no number is left for the edit
   fault 82                 no such book yet: import it, or edit its head `MAT 0`
   fault 90 BYTES           writing the output failed; the project is changed
-  fault 120, fault 121     a file was not read, or is over 268,435,456 bytes
-  fault 130                the project was not written";
+  fault 120                a file could not be read
+  fault 121                a file has more than 268,435,456 bytes
+  fault 130                the project could not be written";
 
 fn edit_line(alloc: Global, given: &ArgMatches<'_>) -> Result<Line, LineFault> {
     let project = text(alloc, given, "PROJECT")?;
-    let (book, key) = read_ref(word(given, "REF"))?;
+    let (book, key) = reference(alloc, given, "REF")?;
     Ok(Line::Edit { project, book, key })
 }
 
@@ -254,6 +263,10 @@ fn edit_over<'a>(alloc: Global) -> Result<Command<'a>, AllocError> {
     let ids = Arg::new(alloc, "ID").num_args(0..).help(
         "The operations to replace: 3:ana for `op 3 ana` of `shown`",
     );
+    let text_of = Arg::new(alloc, "TEXT")
+        .long("text-of")
+        .value_name("ID")
+        .help("The operation whose text to take, not standard input");
     command(
         alloc,
         "edit-over",
@@ -261,29 +274,33 @@ fn edit_over<'a>(alloc: Global) -> Result<Command<'a>, AllocError> {
         EDIT_OVER,
         &[PROJECT, REF],
     )?
-    .arg(ids)
+    .arg(ids)?
+    .arg(text_of)
 }
 
 const EDIT_OVER: &str = "\
-What it does not name stays shown beside the new text; with no ID it replaces
-nothing.
+Operations that are not named stay shown beside the new text; with no ID it
+replaces nothing. --text-of names an operation that the segment shows, which may
+be one of those that are replaced.
 
 Example:
   printf '\\\\v 1 As\\n' | usfm_team edit-over ana.project 'MAT 1:1' 3:ana 3:ben
+  usfm_team edit-over ana.project 'MAT 1:1' 3:ana 3:ben --text-of 3:ben
 
 Faults: those of `edit`, and
-  fault 52                 ID is no operation's id
+  fault 52                 ID is not the id of an operation
   fault 83 NUMBER NAME     the segment does not show this operation";
 
 fn edit_over_line(alloc: Global, given: &ArgMatches<'_>) -> Result<Line, LineFault> {
     let project = text(alloc, given, "PROJECT")?;
-    let (book, key) = read_ref(word(given, "REF"))?;
+    let (book, key) = reference(alloc, given, "REF")?;
     let ids = ids(alloc, given, "ID")?;
     Ok(Line::EditOver {
         project,
         book,
         key,
         ids,
+        text_of: id_if_given(given, "TEXT")?,
     })
 }
 
@@ -297,19 +314,20 @@ fn receive<'a>(alloc: Global) -> Result<Command<'a>, AllocError> {
 
 const RECEIVE: &str = "\
 Writes `new N` for each BUNDLE, N the number of operations that the project did
-not have. All are taken in, or none: where one of several is refused, a second
-line `in BUNDLE` on standard error names it.
+not have. Takes in all, or none: if it refuses one of several, a second line
+`in BUNDLE` on standard error names it.
 
 Example: usfm_team receive ana.project ben.bundle cy.bundle
 
 Faults:
   fault 1                  out of memory
   fault 51 NUMBER NAME     two operations that differ have this id
-  fault 60 to 70           BUNDLE is no bundle, or PROJECT is no project
+  fault 60 to 70           BUNDLE is not a bundle, or PROJECT not a project
   fault 90 BYTES           writing the output failed; the project is changed
-  fault 110                PROJECT is no project
-  fault 120, fault 121     a file was not read, or is over 268,435,456 bytes
-  fault 130                the project was not written";
+  fault 110                PROJECT is not a project
+  fault 120                a file could not be read
+  fault 121                a file has more than 268,435,456 bytes
+  fault 130                the project could not be written";
 
 fn receive_line(alloc: Global, given: &ArgMatches<'_>) -> Result<Line, LineFault> {
     Ok(Line::Receive {
@@ -330,7 +348,7 @@ fn thin<'a>(alloc: Global) -> Result<Command<'a>, AllocError> {
 
 const THIN: &str = "\
 The project then has no text that another operation of its segment replaced,
-and nobody can read those texts there again. Books and reports stay the same,
+and nobody can read those texts there any more. Books and reports stay the same,
 and a copy that receives the project's bundle leaves these texts out too.
 Writes `thinned N`, N the number of texts that were left out now.
 
@@ -338,13 +356,34 @@ Example: usfm_team thin ana.project
 
 Faults:
   fault 1                  out of memory
-  fault 60 to 70, 110      PROJECT is no project
+  fault 60 to 70, 110      PROJECT is not a project
   fault 90 BYTES           writing the output failed; the project is changed
-  fault 120, fault 121     the file was not read, or is over 268,435,456 bytes
-  fault 130                the project was not written";
+  fault 120                the file could not be read
+  fault 121                the file has more than 268,435,456 bytes
+  fault 130                the project could not be written";
 
 fn thin_line(alloc: Global, given: &ArgMatches<'_>) -> Result<Line, LineFault> {
     Ok(Line::Thin {
         project: text(alloc, given, "PROJECT")?,
     })
 }
+
+fn faults<'a>(alloc: Global) -> Result<Command<'a>, AllocError> {
+    command(
+        alloc,
+        "faults",
+        "Lists the faults: what each means, and what to do",
+        FAULTS,
+        &[],
+    )
+}
+
+const FAULTS: &str = "\
+A command that is refused says this of its own fault at a terminal, and with
+--explain wherever its standard error goes.
+
+Example: usfm_team faults
+
+Faults:
+  fault 1          out of memory
+  fault 90 BYTES   writing failed after this many bytes";

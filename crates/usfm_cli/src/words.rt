@@ -1,11 +1,22 @@
 // The words of the command line.
+ghost use Rattle.std.specs.Prelude.{◌≡◌, not, take_while, string_bytes};
+ghost use Rattle.std.specs.List.{list_any};
+ghost use Rattle.std.specs.Str.{bytes_eq};
+
 use crate::Fault;
 use crate::usage::{NO_SUBCOMMAND, line_of, program};
 use clap::Error;
 use clap::error::ErrorKind;
+use conflict_settling::Wanted;
 use op_core::{IdFault, OpId, ReplicaName};
 use std::alloc::{AllocError, AllocFailed, Global};
 use usfm_ref::{Book, Key, RefFault};
+
+// The word that asks for what a fault means in words.
+const EXPLAIN: &str = "--explain";
+
+// The word after which no word is an option.
+const END: &str = "--";
 
 /// What the words ask for: a subcommand with its values. Files are named as they were given.
 #[derive(Debug, Drop)]
@@ -28,12 +39,20 @@ pub enum Line {
         book: Book,
         key: Key,
     },
-    /// `edit-over PROJECT REF [ID..]`: the same, in the place of these operations alone.
+    /// `edit-over PROJECT REF [ID..]`: the same, in the place of these operations alone; with `--text-of ID` by the
+    /// text of this one.
     EditOver {
         project: String,
         book: Book,
         key: Key,
         ids: Vec<OpId>,
+        text_of: Option<OpId>,
+    },
+    /// `settle PROJECT [REF|BOOK]..`: ask the conflicts, all where none is named, and make the edits that are
+    /// answered.
+    Settle {
+        project: String,
+        wanted: Vec<Wanted>,
     },
     /// `shown PROJECT REF`: list what a segment shows.
     Shown {
@@ -77,24 +96,28 @@ pub enum Line {
         project: String,
         summary: String,
     },
-    /// `check PROJECT BOOK SHEET`: report what is found in a book by a style sheet.
+    /// `check PROJECT [BOOK [SHEET]]`: report what is found in a book by a style sheet, or in all; with
+    /// `--text` with the lines of the text.
     Check {
         project: String,
-        book: Book,
-        sheet: String,
+        book: Option<Book>,
+        sheet: Option<String>,
+        with_text: bool,
     },
-    /// `find PROJECT BOOK SHEET NEEDLE`: find a needle in a book by a style sheet.
+    /// `find PROJECT [BOOK [SHEET]] NEEDLE`: find a needle in a book by a style sheet, or in all; with
+    /// `--text` with the lines of the text.
     Find {
         project: String,
-        book: Book,
-        sheet: String,
+        book: Option<Book>,
+        sheet: Option<String>,
         needle: String,
+        with_text: bool,
     },
-    /// `words PROJECT BOOK SHEET`: list the words of a book by a style sheet.
+    /// `words PROJECT [BOOK [SHEET]]`: list the words of a book by a style sheet, or of all.
     Words {
         project: String,
-        book: Book,
-        sheet: String,
+        book: Option<Book>,
+        sheet: Option<String>,
     },
     /// `thin PROJECT`: leave out the texts that were replaced.
     Thin {
@@ -106,7 +129,40 @@ pub enum Line {
     },
     /// `fold BOOK`: fold the bundles of standard input into the book.
     Fold(Book),
+    /// `faults`: list the faults.
+    Faults,
 }
+
+impl Line {
+    /// What is said at a terminal of a line whose answer is bytes and no text: that it goes into a file. Other lines answer
+    /// text.
+    pub fn only_into_file(&self) -> Option<&'static str> {
+        match self {
+            Line::Send { .. } => Some(SEND_INTO_FILE),
+            Line::Summary { .. } => Some(SUMMARY_INTO_FILE),
+            Line::Delta { .. } => Some(DELTA_INTO_FILE),
+            _ => None,
+        }
+    }
+}
+
+const SEND_INTO_FILE: &str = "\
+error: a bundle is not written to a terminal: direct it into a file
+
+Example: usfm_team send ana.project > ana.bundle
+";
+
+const SUMMARY_INTO_FILE: &str = "\
+error: a summary is not written to a terminal: direct it into a file
+
+Example: usfm_team summary ben.project > ben.summary
+";
+
+const DELTA_INTO_FILE: &str = "\
+error: a bundle is not written to a terminal: direct it into a file
+
+Example: usfm_team delta ana.project ben.summary > ana.bundle
+";
 
 /// Why the words ask for nothing that is done.
 #[derive(Debug, Drop)]
@@ -117,6 +173,8 @@ pub enum LineFault {
     Usage(String),
     /// The line has its shape, and a value of it is refused; or out of memory.
     Refused(Fault),
+    /// The same, where a word was to begin with a book's code: the fault and the word.
+    RefusedWord(Fault, String),
 }
 
 impl From<AllocError> for LineFault {
@@ -143,25 +201,74 @@ impl From<IdFault> for LineFault {
     }
 }
 
+/// Whether a command line asks for what a fault means in words: by the word `--explain` before any `--`.
+pub fn asks_for_words(words: &[String]) -> bool
+    ensures { result ≡ list_any (λ word. bytes_eq (string_bytes word) EXPLAIN.now)
+        (take_while (λ word. not (bytes_eq (string_bytes word) END.now)) words.now) }
+{
+    words
+        .iter()
+        .take_while(|word| !is_word(word, END))
+        .any(|word| is_word(word, EXPLAIN))
+}
+
+// Whether a word is this one.
+fn is_word(word: &String, wanted: &str) -> bool
+    ensures { result ≡ bytes_eq (string_bytes word.now) wanted.now }
+{
+    word.as_str() == wanted
+}
+
 /// Reads the words of a command line, without the program's own name: first its shape, which is the
-/// subcommand and the number of its words, and then its values from left to right.
+/// subcommand and the number of its words, and then its values from left to right. `--explain` may stand
+/// anywhere before `--`; it says nothing of the line.
 ///
 /// Tests alone show what it answers; no contract says it.
 ///
 /// # Errors
 /// - `Help` where `--help`, `-h` or `help` asks for it, or `--version` or `-V` for the version.
 /// - `Usage` where the words have the shape of no subcommand.
-/// - `Refused` with `Reference` (20, 21) where a book is no code or a reference is none, with `Naming`
-///   (50, 52) where a name is no replica's or an id is none, with `Memory` (1) where a growth was
-///   refused.
+/// - `RefusedWord` with `Reference` (20, 21) where a book is no code or a reference is none; `Refused` with
+///   `Naming` (50, 52) where a name is no replica's or an id is none, with `Memory` (1) where a growth
+///   was refused.
 pub fn read_words(alloc: Global, words: &[String]) -> Result<Line, LineFault> {
-    match program(alloc)?.try_get_matches_from(words) {
+    let words = without_explain(alloc, words)?;
+    match program(alloc)?.try_get_matches_from(&words) {
         Ok(matches) => match matches.subcommand() {
             Some((name, given)) => line_of(alloc, name, given),
             None => Err(LineFault::Usage(String::from_str(alloc, NO_SUBCOMMAND)?)),
         },
         Err(error) => Err(line_fault(alloc, &error)?),
     }
+}
+
+/// Whether a reference stands in the words as two of them, as it does without quotes: a book's code and
+/// then a key. It takes no memory.
+///
+/// Tests alone show what it answers.
+pub fn has_split_reference(words: &[String]) -> bool {
+    let mut is_after_book = false;
+    for word in words {
+        let word = word.as_str();
+        if is_after_book && word.parse::<Key>().is_ok() {
+            return true;
+        }
+        is_after_book = Book::read(word).is_ok();
+    }
+    false
+}
+
+// The words without those before `--` that ask for an explanation.
+fn without_explain(alloc: Global, words: &[String]) -> Result<Vec<String>, AllocError> {
+    let mut kept = Vec::new(alloc);
+    let mut is_ended = false;
+    for word in words {
+        is_ended |= is_word(word, END);
+        if is_ended || !is_word(word, EXPLAIN) {
+            kept.push(word.clone()?)?;
+        }
+    }
+    Ok(kept)
 }
 
 // What is to be said of words that are no line.

@@ -1,6 +1,7 @@
 // Files of the program, and the folders that they are in.
+use crate::telling::say_of;
 use std::fs::{File, Metadata, OpenOptions, TryLockError};
-use std::io::{ErrorKind, Write};
+use std::io::ErrorKind;
 use std::os::unix::fs::{FileTypeExt, MetadataExt, OpenOptionsExt};
 use std::path::Path;
 use std::{fs, io};
@@ -32,14 +33,14 @@ pub(crate) enum Other {
 }
 
 impl Other {
-    // Words that follow "it is".
+    // What follows the name in a line that says so.
     pub(crate) fn words(self) -> &'static str {
         match self {
-            Other::Link => "a link",
-            Other::Pipe => "a pipe",
-            Other::Socket => "a socket",
-            Other::Device => "a device",
-            Other::SecondName => "a file that has another name too (a hard link)",
+            Other::Link => ": it is a link",
+            Other::Pipe => ": it is a pipe",
+            Other::Socket => ": it is a socket",
+            Other::Device => ": it is a device",
+            Other::SecondName => ": it is a file that has another name too (a hard link)",
         }
     }
 }
@@ -212,10 +213,7 @@ pub(crate) fn lock_after_others(
         Err(TryLockError::Error(error)) => Err(error),
         Err(TryLockError::WouldBlock) => {
             if !*is_said {
-                let _ = writeln!(
-                    rt.stderr(),
-                    "waiting for {path}, which another command is using"
-                );
+                say_of(rt, "waiting for ", path, ", which another command is using");
             }
             *is_said = true;
             file.lock()

@@ -1,11 +1,14 @@
 // The books' files of a folder, and what each was written from, as they stand on the disk.
 use crate::files::{Found, Other, is_there, lock_after_others, open_plain, read_open};
 use crate::own::Kept;
+use crate::telling::{say, say_of};
 use crate::turns::Refusal;
 use std::fs::File;
 use std::io::{ErrorKind, Write};
 use std::{fs, io};
-use usfm_cli::{Fault, StandingBook, book_begun, may_be_book};
+use usfm_cli::{
+    Expected, Fault, NO_BOOK_FILE, StandingBook, TEXT_NAME, book_begun, is_text_name, may_be_book,
+};
 use usfm_ref::Book;
 
 // The folder in the folder that belongs to the program.
@@ -43,11 +46,13 @@ impl BookFile {
     }
 }
 
-// The files of a folder that may be books': those that are, and the paths of those that were passed over.
+// The files of a folder that may be books': those that are, and the paths of those that were skipped.
 #[derive(Drop)]
 pub(crate) struct Books {
     pub(crate) files: Vec<BookFile>,
     pub(crate) passed_over: Vec<String>,
+    // The paths of those whose names end in .txt.
+    pub(crate) texts: Vec<String>,
 }
 
 // Waits for a folder until no other command writes its books. Where the lock is refused, for whatever reason, the command
@@ -59,7 +64,17 @@ pub(crate) fn lock_books(rt: &HostRuntime, folder: &str) -> Result<File, Refusal
             let _ = lock_after_others(rt, &handle, folder, &mut false);
             Ok(handle)
         }
-        _ => Err(Refusal::at(rt, Fault::ReadFailed, folder)),
+        _ => Err(Refusal::expecting(rt, Fault::ReadFailed, folder, Expected::Folder)),
+    }
+}
+
+// Says of a folder in which no file is a book's that there is none, and which names may have the wrong ending.
+pub(crate) fn say_no_book(rt: &HostRuntime, folder: &str, books: &Books) {
+    if books.files.is_empty() {
+        say_of(rt, "no file of ", folder, NO_BOOK_FILE);
+        for path in &books.texts {
+            say_of(rt, "skipped ", path, TEXT_NAME);
+        }
     }
 }
 
@@ -80,19 +95,17 @@ pub(crate) fn own_path(
     Ok(format!(in rt.alloc(); "{own}/{book}.{ending}")?)
 }
 
-// Reads the books' files of a folder, in the order of their names, and says which files of such names it passes over.
+// Reads the books' files of a folder, in the order of their names, and says which files of such names it skips.
 pub(crate) fn read_books(rt: &HostRuntime, folder: &str, kept: &Kept) -> Result<Books, Refusal> {
     let mut books = Books {
         files: Vec::new(rt.alloc()),
         passed_over: Vec::new(rt.alloc()),
+        texts: Vec::new(rt.alloc()),
     };
-    for name in names_in(rt, folder)? {
+    for name in names_in(rt, folder, &mut books.texts)? {
         let path = path_in(rt, folder, &name)?;
         if let Err(fault) = read_book(rt, folder, &path, name, kept, &mut books) {
-            return Err(Refusal {
-                fault,
-                file: Some(path),
-            });
+            return Err(Refusal::of(fault, path));
         }
     }
     refuse_two_of_one_book(rt, kept, &books.files)?;
@@ -101,7 +114,11 @@ pub(crate) fn read_books(rt: &HostRuntime, folder: &str, kept: &Kept) -> Result<
 }
 
 // The names of the files that may be books', in their order.
-fn names_in(rt: &HostRuntime, folder: &str) -> Result<Vec<String>, Refusal> {
+fn names_in(
+    rt: &HostRuntime,
+    folder: &str,
+    texts: &mut Vec<String>,
+) -> Result<Vec<String>, Refusal> {
     let entries = match fs::read_dir(rt, folder) {
         Ok(entries) => entries,
         Err(error) => return Err(unread_folder(rt, &error, folder)),
@@ -111,15 +128,19 @@ fn names_in(rt: &HostRuntime, folder: &str) -> Result<Vec<String>, Refusal> {
         match entry {
             Ok(entry) if may_be_book(entry.file_name()) => {
                 if entry.file_name().contains('\n') {
-                    say(rt, "passed over a file whose name has more than one line\n");
+                    say(rt, "skipped a file whose name has more than one line");
                 } else {
                     let name = String::from_str(rt.alloc(), entry.file_name());
                     names.push(name.map_err(Fault::from)?).map_err(Fault::from)?;
                 }
             }
+            Ok(entry) if is_text_name(entry.file_name()) => {
+                let path = path_in(rt, folder, entry.file_name())?;
+                texts.push(path).map_err(Fault::from)?;
+            }
             Ok(_) => {}
             Err(error) if error.kind() == ErrorKind::InvalidFilename => {
-                say(rt, "passed over a file whose name is not UTF-8\n");
+                say(rt, "skipped a file whose name is not UTF-8");
             }
             Err(error) => return Err(unread_folder(rt, &error, folder)),
         }
@@ -155,7 +176,7 @@ fn read_book(
     };
     let bytes = read_open(rt, &file)?;
     let Some(book) = book_begun(&bytes) else {
-        say_passed_over(rt, path);
+        say_skipped(rt, path, ": it does not begin with \\id and a book's code");
         return pass_over(path, books);
     };
     let is_unplaced = kept.newer_of(book).is_some() && is_unplaced(rt, folder, book)?;
@@ -269,19 +290,11 @@ pub(crate) fn name_for(rt: &HostRuntime, kept: &Kept, book: Book) -> Result<Stri
     }
 }
 
-// Says that what is no plain file is passed over.
+// Says that what is no plain file is skipped.
 pub(crate) fn say_other(rt: &HostRuntime, path: &str, other: Other) {
-    let words = other.words();
-    let _ = writeln!(rt.stderr(), "passed over {path}: it is {words}");
+    say_skipped(rt, path, other.words());
 }
 
-fn say_passed_over(rt: &HostRuntime, path: &str) {
-    let _ = writeln!(
-        rt.stderr(),
-        "passed over {path}: it does not begin with \\id and a book's code"
-    );
-}
-
-pub(crate) fn say(rt: &HostRuntime, line: &str) {
-    let _ = rt.stderr().write_all(line.as_bytes());
+fn say_skipped(rt: &HostRuntime, path: &str, reason: &str) {
+    say_of(rt, "skipped ", path, reason);
 }

@@ -3,26 +3,34 @@
 
 mod files;
 mod folder;
+mod looks;
 mod own;
 mod placing;
 mod project;
+mod refusal;
 mod rights;
+mod settle;
 mod sync;
+mod telling;
 mod turns;
 
-use crate::files::read_file;
+use crate::looks::{check, find, words};
 use crate::project::{begin_project, lock_project};
+use crate::refusal::{Given, Refusal, read_named};
+use crate::settle::settle;
 use crate::sync::{export_into, sync};
-use crate::turns::{Refusal, import, receive};
+use crate::telling::{say, say_lines, tell_refusal, tell_refused_word, with_tip};
+use crate::turns::{import, receive};
 use op_core::{OpId, ReplicaName};
+use plain_line::push_lines;
 use std::fs::File;
 use std::io::{ErrorKind, IsTerminal, Write};
 use std::os::fd::AsRawFd;
 use std::process::ExitCode;
-use std::{io, mem};
+use std::{io, mem, str};
 use usfm_cli::{
-    Command, Fault, Line, LineFault, StdSink, StdSource, create, exec, fault_line, fold_stream,
-    read_to_end, read_words, write_all,
+    Command, Expected, Fault, Line, LineFault, Outcome, StdSink, StdSource, asks_for_words, create,
+    exec, fold_stream, list_faults, read_to_end, read_words, remark, write_all,
 };
 use usfm_ref::{Book, Key};
 
@@ -41,21 +49,28 @@ const GIVE_BUNDLES: &str =
     "usfm_team: waiting for bundles on standard input, which control-D on a new line ends\n";
 
 fn main(rt: HostRuntime) -> ExitCode {
+    let mut explains = rt.stderr().is_terminal();
     if hold_streams(&rt).is_err() {
-        return refuse(&rt, &Fault::ReadFailed);
+        return refuse(&rt, &Refusal::from(Fault::ReadFailed), explains);
     }
-    match read_line(&rt) {
-        Ok(line) => match run(&rt, line) {
-            Ok(()) => ExitCode::SUCCESS,
-            Err(refusal) => {
-                let status = refuse(&rt, &refusal.fault);
-                tell_file(&rt, &refusal);
-                status
-            }
+    match read_line(&rt, &mut explains) {
+        Ok(line) => match line.only_into_file() {
+            Some(message) if rt.stdout().is_terminal() => tell_usage(&rt, message),
+            _ => match run(&rt, line, explains) {
+                Ok(()) => ExitCode::SUCCESS,
+                Err(refusal) => refuse(&rt, &refusal, explains),
+            },
         },
-        Err(LineFault::Help(text)) => tell_help(&rt, text.as_bytes()),
+        Err(LineFault::Help(text)) => match write_output(&rt, text.as_bytes()) {
+            Ok(()) => ExitCode::SUCCESS,
+            Err(fault) => refuse(&rt, &Refusal::from(fault), explains),
+        },
         Err(LineFault::Usage(text)) => tell_usage(&rt, &text),
-        Err(LineFault::Refused(fault)) => refuse(&rt, &fault),
+        Err(LineFault::Refused(fault)) => refuse(&rt, &Refusal::from(fault), explains),
+        Err(LineFault::RefusedWord(fault, word)) => {
+            tell_refused_word(&rt, &fault, &word, explains);
+            ExitCode::from(REFUSED)
+        }
     }
 }
 
@@ -72,13 +87,20 @@ fn hold_streams(rt: &HostRuntime) -> io::Result<()> {
     Ok(())
 }
 
-// What the words of the command line ask for. The first is the program's own name.
-fn read_line(rt: &HostRuntime) -> Result<Line, LineFault> {
+// What the words of the command line ask for, and whether they ask for what a fault means. The first is the program's own name.
+fn read_line(rt: &HostRuntime, explains: &mut bool) -> Result<Line, LineFault> {
     let alloc = rt.alloc();
     match std::env::args(rt) {
         Ok(args) => {
             let words: Vec<String> = args.skip(1).collect(alloc)?;
-            read_words(alloc, &words)
+            if asks_for_words(&words) {
+                *explains = true;
+            }
+            let line = read_words(alloc, &words);
+            if let Err(LineFault::Usage(text)) = line {
+                return Err(LineFault::Usage(with_tip(text, &words, *explains)?));
+            }
+            line
         }
         Err(error) if error.kind() == ErrorKind::OutOfMemory => {
             Err(LineFault::Refused(Fault::Memory))
@@ -92,7 +114,7 @@ fn read_line(rt: &HostRuntime) -> Result<Line, LineFault> {
 
 // Does what a line asks for. Files are read in the order of the words, and standard input last. An edit, an import and a
 // receive read the project again when no other command can change it: who types a text holds up nobody.
-fn run(rt: &HostRuntime, line: Line) -> Result<(), Refusal> {
+fn run(rt: &HostRuntime, line: Line, explains: bool) -> Result<(), Refusal> {
     match line {
         Line::Init { project, name } => init(rt, &project, &name),
         Line::Import {
@@ -106,56 +128,71 @@ fn run(rt: &HostRuntime, line: Line) -> Result<(), Refusal> {
             book,
             key,
             ids,
-        } => edit_over(rt, &project, book, key, &ids),
+            text_of,
+        } => match text_of {
+            None => edit_over(rt, &project, book, key, &ids),
+            Some(of) => edit_with(rt, &project, book, key, of, &ids),
+        },
+        Line::Settle { project, wanted } => settle(rt, &project, &wanted),
         Line::Receive { project, bundles } => receive(rt, &project, bundles),
-        Line::Shown { project, book, key } => ask(rt, &project, &Command::Shown(book, key)),
-        Line::Send { project } => ask(rt, &project, &Command::Send),
-        Line::Export { project, book } => ask(rt, &project, &Command::Export(book)),
+        Line::Shown { project, book, key } => {
+            ask(rt, &project, &Command::Shown(book, key), explains)
+        }
+        Line::Send { project } => ask(rt, &project, &Command::Send, explains),
+        Line::Export { project, book } => ask(rt, &project, &Command::Export(book), explains),
         Line::ExportInto {
             project,
             folder,
             books,
-        } => export_into(rt, &project, &folder, &books),
+        } => export_into(rt, &project, &folder, &books, explains),
         Line::Sync {
             project,
             folder,
             bundles,
-        } => sync(rt, &project, &folder, bundles),
-        Line::Summary { project } => ask(rt, &project, &Command::Summary),
+        } => sync(rt, &project, &folder, bundles, explains),
+        Line::Summary { project } => ask(rt, &project, &Command::Summary, explains),
         Line::Delta { project, summary } => delta(rt, &project, &summary),
-        Line::Thin { project } => change(rt, &project, &Command::Thin),
-        Line::Report { project } => ask(rt, &project, &Command::Report),
+        Line::Thin { project } => change(rt, &project, &Command::Thin, None),
+        Line::Report { project } => ask(rt, &project, &Command::Report, explains),
         Line::Check {
             project,
             book,
             sheet,
-        } => check(rt, &project, book, &sheet),
+            with_text,
+        } => check(rt, &project, book, sheet, with_text, explains),
         Line::Find {
             project,
             book,
             sheet,
             needle,
-        } => find(rt, &project, book, &sheet, &needle),
+            with_text,
+        } => find(rt, &project, book, sheet, &needle, with_text, explains),
         Line::Words {
             project,
             book,
             sheet,
-        } => words(rt, &project, book, &sheet),
+        } => words(rt, &project, book, sheet, explains),
         Line::Fold(book) => fold(rt, book),
+        Line::Faults => faults(rt),
     }
 }
 
 // Begins a project.
 fn init(rt: &HostRuntime, project: &str, name: &ReplicaName) -> Result<(), Refusal> {
     let bytes = create(rt.alloc(), name.text()).map_err(Fault::from)?;
-    Ok(begin_project(rt, project, &bytes)?)
+    begin_project(rt, project, &bytes).map_err(|fault| Refusal::alone(
+        rt,
+        fault,
+        project,
+        Expected::NewProject,
+    ))
 }
 
 // Gives a segment the text of standard input.
 fn edit(rt: &HostRuntime, project: &str, book: Book, key: Key) -> Result<(), Refusal> {
-    read_file(rt, project)?;
+    read_named(rt, project, Expected::Project)?;
     let text = &read_text(rt)?;
-    change(rt, project, &Command::Edit { book, key, text })
+    change(rt, project, &Command::Edit { book, key, text }, None)
 }
 
 // Gives a segment the text of standard input, in the place of some operations.
@@ -166,7 +203,7 @@ fn edit_over(
     key: Key,
     ids: &[OpId],
 ) -> Result<(), Refusal> {
-    read_file(rt, project)?;
+    read_named(rt, project, Expected::Project)?;
     let text = &read_text(rt)?;
     let command = Command::EditOver {
         book,
@@ -174,78 +211,121 @@ fn edit_over(
         text,
         ids,
     };
-    change(rt, project, &command)
+    change(rt, project, &command, None)
+}
+
+// Gives a segment the text of one of its operations, in the place of some.
+fn edit_with(
+    rt: &HostRuntime,
+    project: &str,
+    book: Book,
+    key: Key,
+    of: OpId,
+    ids: &[OpId],
+) -> Result<(), Refusal> {
+    let command = Command::EditWith { book, key, of, ids };
+    change(rt, project, &command, None)
 }
 
 // Writes what another project lacks by its summary.
 fn delta(rt: &HostRuntime, project: &str, summary: &str) -> Result<(), Refusal> {
-    let bytes = read_file(rt, project)?;
-    let summary = read_file(rt, summary)?;
-    answer(rt, &bytes, &Command::Delta(&summary))
-}
-
-// Reports what is found in a book by a style sheet.
-fn check(rt: &HostRuntime, project: &str, book: Book, sheet: &str) -> Result<(), Refusal> {
-    let bytes = read_file(rt, project)?;
-    let sheet = read_file(rt, sheet)?;
-    answer(rt, &bytes, &Command::Check(book, &sheet))
-}
-
-// Finds a needle in a book by a style sheet.
-fn find(
-    rt: &HostRuntime,
-    project: &str,
-    book: Book,
-    sheet: &str,
-    needle: &str,
-) -> Result<(), Refusal> {
-    let bytes = read_file(rt, project)?;
-    let sheet = read_file(rt, sheet)?;
-    answer(rt, &bytes, &Command::Find(book, &sheet, needle))
-}
-
-// Lists the words of a book by a style sheet.
-fn words(rt: &HostRuntime, project: &str, book: Book, sheet: &str) -> Result<(), Refusal> {
-    let bytes = read_file(rt, project)?;
-    let sheet = read_file(rt, sheet)?;
-    answer(rt, &bytes, &Command::Words(book, &sheet))
+    let bytes = read_named(rt, project, Expected::Project)?;
+    let given = read_named(rt, summary, Expected::Summary)?;
+    let other = Some((summary, Expected::Summary));
+    let project = Given::of(project, &bytes);
+    answer(rt, &project, &Command::Delta(&given), other, false)
 }
 
 // Does a command on a project's file that it reads first.
-fn ask(rt: &HostRuntime, project: &str, command: &Command<'_>) -> Result<(), Refusal> {
-    answer(rt, &read_file(rt, project)?, command)
+fn ask(
+    rt: &HostRuntime,
+    project: &str,
+    command: &Command<'_>,
+    explains: bool,
+) -> Result<(), Refusal> {
+    let bytes = read_named(rt, project, Expected::Project)?;
+    let project = Given::of(project, &bytes);
+    answer(rt, &project, command, None, explains)
 }
 
 // Does a command that changes nothing on the bytes of a project's file. What it made is not freed, since
 // the program ends.
-fn answer(rt: &HostRuntime, bytes: &[u8], command: &Command<'_>) -> Result<(), Refusal> {
-    let outcome = exec(rt.alloc(), bytes, command)?;
+pub(crate) fn answer(
+    rt: &HostRuntime,
+    project: &Given<'_>,
+    command: &Command<'_>,
+    other: Option<(&str, Expected)>,
+    explains: bool,
+) -> Result<(), Refusal> {
+    let outcome = match exec(rt.alloc(), project.bytes, command) {
+        Ok(outcome) => outcome,
+        Err(fault) => return Err(Refusal::of_inputs(rt, fault, project, other)),
+    };
     let written = write_output(rt, outcome.output());
-    mem::forget(outcome);
-    Ok(written?)
-}
-
-// Does a command on a project's file while no other command changes it. The file is replaced where its bytes are
-// others, and only then, when others may go on, the output is written.
-fn change(rt: &HostRuntime, path: &str, command: &Command<'_>) -> Result<(), Refusal> {
-    let project = lock_project(rt, path)?;
-    let bytes = project.read(rt)?;
-    let outcome = exec(rt.alloc(), &bytes, command)?;
-    if outcome.project() != bytes.as_slice() {
-        project.replace(rt, outcome.project())?;
+    if explains {
+        if let Some(line) = remark(rt.alloc(), command, outcome.output()) {
+            say(rt, line);
+        }
     }
-    drop(project);
+    mem::forget(outcome);
+    Ok(written?)
+}
+
+// Does a command on a project's file while no other command changes it. Only then, when others may go on, the output is
+// written.
+fn change(
+    rt: &HostRuntime,
+    path: &str,
+    command: &Command<'_>,
+    other: Option<(&str, Expected)>,
+) -> Result<(), Refusal> {
+    let outcome = done(rt, path, command, other)?;
     let written = write_output(rt, outcome.output());
     mem::forget(outcome);
     Ok(written?)
 }
 
-// Folds the bundles of standard input into a book.
+// What a command made that was done on a project's file while no other command changed it. The file is replaced where its
+// bytes are others.
+fn done(
+    rt: &HostRuntime,
+    path: &str,
+    command: &Command<'_>,
+    other: Option<(&str, Expected)>,
+) -> Result<Outcome, Refusal> {
+    let of_project = |fault| Refusal::of_project(rt, fault, path);
+    let project = lock_project(rt, path).map_err(of_project)?;
+    let bytes = project.read(rt).map_err(of_project)?;
+    let outcome = match exec(rt.alloc(), &bytes, command) {
+        Ok(outcome) => outcome,
+        Err(fault) => {
+            let project = Given::of(path, &bytes);
+            return Err(Refusal::of_inputs(rt, fault, &project, other));
+        }
+    };
+    if outcome.project() != bytes.as_slice() {
+        project.replace(rt, outcome.project()).map_err(of_project)?;
+    }
+    Ok(outcome)
+}
+
+// Folds the bundles of standard input into a book. What is written to a terminal is written when it is whole.
 fn fold(rt: &HostRuntime, book: Book) -> Result<(), Refusal> {
     say_at_terminal(rt, GIVE_BUNDLES);
     let mut source = StdSource::new(rt.reader());
+    if rt.stdout().is_terminal() {
+        let mut text = Vec::new(rt.alloc());
+        fold_stream(rt.alloc(), &mut source, &mut StdSink::new(&mut text), book)?;
+        return Ok(write_output(rt, &text)?);
+    }
     let mut sink = StdSink::new(io::writer(rt));
     Ok(fold_stream(rt.alloc(), &mut source, &mut sink, book)?)
+}
+
+// Lists the faults.
+fn faults(rt: &HostRuntime) -> Result<(), Refusal> {
+    let list = list_faults(rt.alloc()).map_err(Fault::from)?;
+    Ok(write_output(rt, list.as_bytes())?)
 }
 
 // The text that standard input has.
@@ -262,36 +342,33 @@ fn say_at_terminal(rt: &HostRuntime, line: &str) {
     }
 }
 
-// Writes to standard output. It has no buffer here, so nothing is left to flush.
-fn write_output(rt: &HostRuntime, bytes: &[u8]) -> Result<(), Fault> {
+// Writes to standard output; to a terminal without the control characters of others' texts. It has no buffer here, so nothing
+// is left to flush.
+pub(crate) fn write_output(rt: &HostRuntime, bytes: &[u8]) -> Result<(), Fault> {
+    if rt.stdout().is_terminal() {
+        if let Ok(text) = str::from_utf8(bytes) {
+            let mut plain = String::new(rt.alloc());
+            push_lines(&mut plain, text)?;
+            return write_as_it_is(rt, plain.as_bytes());
+        }
+    }
+    write_as_it_is(rt, bytes)
+}
+
+// Writes to standard output what has no control characters but those that set something off at a terminal.
+pub(crate) fn write_as_it_is(rt: &HostRuntime, bytes: &[u8]) -> Result<(), Fault> {
     let mut sink = StdSink::new(io::writer(rt));
     Ok(write_all(&mut sink, bytes)?)
 }
 
-// Writes the help that was asked for to standard output.
-fn tell_help(rt: &HostRuntime, text: &[u8]) -> ExitCode {
-    match write_output(rt, text) {
-        Ok(()) => ExitCode::SUCCESS,
-        Err(fault) => refuse(rt, &fault),
-    }
-}
-
-// Writes to standard error why the words are no command line of the program.
+// Says why the words are no command line of the program.
 fn tell_usage(rt: &HostRuntime, text: &str) -> ExitCode {
-    let _ = rt.stderr().write_all(text.as_bytes());
+    say_lines(rt, text);
     ExitCode::from(USAGE)
 }
 
-// Writes a fault to standard error. Where that fails, the status alone shows it.
-fn refuse(rt: &HostRuntime, fault: &Fault) -> ExitCode {
-    let line = fault_line(fault);
-    let _ = rt.stderr().write_all(line.bytes());
+// Says why a command was refused.
+fn refuse(rt: &HostRuntime, refusal: &Refusal, explains: bool) -> ExitCode {
+    tell_refusal(rt, refusal, explains);
     ExitCode::from(REFUSED)
-}
-
-// Writes to standard error which file a fault is of, where the line names several, or a folder.
-fn tell_file(rt: &HostRuntime, refusal: &Refusal) {
-    if let Some(file) = &refusal.file {
-        let _ = writeln!(rt.stderr(), "in {file}");
-    }
 }

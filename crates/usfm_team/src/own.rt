@@ -141,7 +141,7 @@ fn read_one(rt: &HostRuntime, path: &str, name: &str, kept: &mut Kept) -> Result
     Ok(())
 }
 
-// The bytes of a plain file. What else stands there is passed over, and said.
+// The bytes of a plain file. What else stands there is skipped, and said.
 fn read_plain(rt: &HostRuntime, path: &str) -> Result<Option<Vec<u8>>, Fault> {
     match open_plain(rt, path)? {
         Found::Plain(file) => Ok(Some(read_open(rt, &file)?)),
@@ -153,7 +153,7 @@ fn read_plain(rt: &HostRuntime, path: &str) -> Result<Option<Vec<u8>>, Fault> {
     }
 }
 
-// The names that are written down. A line that is none is passed over.
+// The names that are written down. A line that is none is skipped.
 fn names_of(rt: &HostRuntime, bytes: &[u8]) -> Result<Vec<Named>, AllocError> {
     let mut names = Vec::new(rt.alloc());
     let Ok(text) = str::from_utf8(bytes) else {

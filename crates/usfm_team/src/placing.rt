@@ -129,10 +129,7 @@ fn stage_book(
     }
     match stage_at(rt, folder, kept, file, book, parts, staged) {
         Ok(()) => Ok(()),
-        Err(fault) => Err(Refusal {
-            fault,
-            file: Some(path),
-        }),
+        Err(fault) => Err(Refusal::of(fault, path)),
     }
 }
 

@@ -1,15 +1,15 @@
 // A folder of books' files: what was changed in it comes into the project, and the project's books go into it.
-use crate::files::read_file;
-use crate::folder::{BookFile, file_of, lock_books, read_books};
+use crate::folder::{BookFile, file_of, lock_books, read_books, say_no_book};
 use crate::own::{Kept, read_kept, write_names};
 use crate::placing::{Staged, place, put_base, refusal_of_failed, stage, unstage};
 use crate::project::lock_project;
+use crate::refusal::read_named;
 use crate::turns::{Refusal, read_files, refusal_in};
 use crate::write_output;
 use std::io::Write;
 use std::mem;
 use usfm_cli::{
-    Command, Fault, Outcomes, Standing, StandingBook, TurnFault, exec_in_turn, makes,
+    Command, Expected, Fault, Outcomes, Standing, StandingBook, TurnFault, exec_in_turn, makes,
     project_standing, stand_in_turn, written_from,
 };
 use usfm_ref::Book;
@@ -23,12 +23,17 @@ pub(crate) fn sync(
     project: &str,
     folder: &str,
     bundles: Vec<String>,
+    explains: bool,
 ) -> Result<(), Refusal> {
-    let locked = lock_project(rt, project)?;
-    let before = locked.read(rt)?;
+    let of_project = |fault| Refusal::of_project(rt, fault, project);
+    let locked = lock_project(rt, project).map_err(of_project)?;
+    let before = locked.read(rt).map_err(of_project)?;
     let _held = lock_books(rt, folder)?;
     let kept = read_kept(rt, folder)?;
     let mut books = read_books(rt, folder, &kept)?;
+    if explains {
+        say_no_book(rt, folder, &books);
+    }
     let given = read_files(rt, &bundles).map_err(|fault| refusal_in(rt, fault, &bundles))?;
     find_bases(rt, &kept, &mut books.files)?;
     let files = &books.files;
@@ -38,7 +43,7 @@ pub(crate) fn sync(
     if outcomes.project() != before.as_slice() {
         if let Err(fault) = locked.replace(rt, outcomes.project()) {
             unstage(rt, folder, &staged);
-            return Err(Refusal::from(fault));
+            return Err(Refusal::of_project(rt, fault, project));
         }
     }
     drop(locked);
@@ -58,14 +63,18 @@ pub(crate) fn export_into(
     project: &str,
     folder: &str,
     books: &[Book],
+    explains: bool,
 ) -> Result<(), Refusal> {
-    read_file(rt, project)?;
+    read_named(rt, project, Expected::Project)?;
     let _held = lock_books(rt, folder)?;
-    let bytes = read_file(rt, project)?;
+    let bytes = read_named(rt, project, Expected::Project)?;
     let stands = project_standing(rt.alloc(), &bytes)?;
     let chosen = chosen_books(rt, &stands, books)?;
     let kept = read_kept(rt, folder)?;
     let mut found = read_books(rt, folder, &kept)?;
+    if explains {
+        say_no_book(rt, folder, &found);
+    }
     find_bases(rt, &kept, &mut found.files)?;
     let replaced = replaced_files(rt, &kept, &found.files, &chosen)?;
     refuse_lost(rt, &bytes, &replaced)?;
@@ -202,7 +211,7 @@ fn keep_left(
     Ok(())
 }
 
-// A refusal for which there is nothing to keep is passed over; out of memory is not.
+// A refusal for which there is nothing to keep is skipped; out of memory is not.
 fn memory_alone(refusal: Refusal) -> Result<(), Refusal> {
     match refusal.fault {
         Fault::Memory => Err(refusal),

@@ -2,31 +2,10 @@
 use crate::change;
 use crate::files::read_file;
 use crate::project::lock_project;
+pub(crate) use crate::refusal::Refusal;
+use crate::refusal::read_named;
 use std::{io, mem};
-use usfm_cli::{Command, Fault, StdSink, TurnFault, exec_in_turn, write_more};
-
-// Why a line was refused: the fault, and the file that it is of where the line names several files, or a folder.
-#[derive(Debug, Drop)]
-pub(crate) struct Refusal {
-    pub(crate) fault: Fault,
-    pub(crate) file: Option<String>,
-}
-
-impl From<Fault> for Refusal {
-    fn from(fault: Fault) -> Self {
-        Refusal { fault, file: None }
-    }
-}
-
-impl Refusal {
-    // The refusal of a file. Where out of memory keeps its name from being copied, the fault alone is said.
-    pub(crate) fn at(rt: &HostRuntime, fault: Fault, file: &str) -> Refusal {
-        Refusal {
-            fault,
-            file: String::from_str(rt.alloc(), file).ok(),
-        }
-    }
-}
+use usfm_cli::{Command, Expected, Fault, StdSink, TurnFault, exec_in_turn, write_more};
 
 // Takes in the files of books, or what was changed in them since a bundle.
 pub(crate) fn import(
@@ -35,13 +14,9 @@ pub(crate) fn import(
     files: Vec<String>,
     since: Option<String>,
 ) -> Result<(), Refusal> {
-    let done = match since {
+    match since {
         None => import_all(rt, project, &files),
         Some(base) => import_since(rt, project, &files, &base),
-    };
-    match done {
-        Ok(()) => Ok(()),
-        Err(fault) => Err(refusal_of(told_of_base(fault), files)),
     }
 }
 
@@ -56,11 +31,18 @@ pub(crate) fn receive(
     }
     match receive_all(rt, project, &bundles) {
         Ok(()) => Ok(()),
-        Err(fault) => Err(refusal_of(fault, bundles)),
+        Err(fault) => Err(Refusal::of_turn(rt, fault, project, &bundles, Expected::Bundle)),
     }
 }
 
-fn import_all(rt: &HostRuntime, project: &str, names: &[String]) -> Result<(), TurnFault> {
+fn import_all(rt: &HostRuntime, project: &str, names: &[String]) -> Result<(), Refusal> {
+    match import_in_turn(rt, project, names) {
+        Ok(()) => Ok(()),
+        Err(fault) => Err(Refusal::of_turn(rt, fault, project, names, Expected::BookFile)),
+    }
+}
+
+fn import_in_turn(rt: &HostRuntime, project: &str, names: &[String]) -> Result<(), TurnFault> {
     read_file(rt, project)?;
     let files = read_files(rt, names)?;
     let commands: Vec<Command<'_>> = files
@@ -70,29 +52,41 @@ fn import_all(rt: &HostRuntime, project: &str, names: &[String]) -> Result<(), T
     change_in_turn(rt, project, &commands)
 }
 
+// The first command judges the base, and a book's file has none of the faults of a bundle, so these are of no file.
 fn import_since(
     rt: &HostRuntime,
     project: &str,
     names: &[String],
     base: &str,
+) -> Result<(), Refusal> {
+    read_named(rt, project, Expected::Project)?;
+    let files = match read_files(rt, names) {
+        Ok(files) => files,
+        Err(fault) => {
+            return Err(Refusal::of_turn(rt, fault, project, names, Expected::BookFile));
+        }
+    };
+    let bundle = &read_named(rt, base, Expected::Bundle)?;
+    match since_in_turn(rt, project, &files, bundle) {
+        Ok(()) => Ok(()),
+        Err(TurnFault::Turn(_, fault)) if is_of_bundle(&fault) => {
+            Err(Refusal::alone(rt, fault, base, Expected::Bundle))
+        }
+        Err(fault) => Err(Refusal::of_turn(rt, fault, project, names, Expected::BookFile)),
+    }
+}
+
+fn since_in_turn(
+    rt: &HostRuntime,
+    project: &str,
+    files: &[Vec<u8>],
+    base: &[u8],
 ) -> Result<(), TurnFault> {
-    read_file(rt, project)?;
-    let files = read_files(rt, names)?;
-    let base = &read_file(rt, base)?;
     let commands: Vec<Command<'_>> = files
         .iter()
         .map(|file| Command::ImportSince { file, base })
         .collect(rt.alloc())?;
     change_in_turn(rt, project, &commands)
-}
-
-// A refusal with what the base is refused for apart from the files. The first command judges the base, and a book's file
-// has none of the faults of a bundle, so they are of no file.
-fn told_of_base(fault: TurnFault) -> TurnFault {
-    match fault {
-        TurnFault::Turn(_, fault) if is_of_bundle(&fault) => TurnFault::Project(fault),
-        _ => fault,
-    }
 }
 
 // Whether a bundle alone is refused for this.
@@ -101,9 +95,10 @@ fn is_of_bundle(fault: &Fault) -> bool {
 }
 
 fn receive_one(rt: &HostRuntime, project: &str, name: &str) -> Result<(), Refusal> {
-    read_file(rt, project)?;
-    let bundle = read_file(rt, name)?;
-    change(rt, project, &Command::Receive(&bundle))
+    read_named(rt, project, Expected::Project)?;
+    let bundle = read_named(rt, name, Expected::Bundle)?;
+    let other = Some((name, Expected::Bundle));
+    change(rt, project, &Command::Receive(&bundle), other)
 }
 
 fn receive_all(rt: &HostRuntime, project: &str, names: &[String]) -> Result<(), TurnFault> {
@@ -159,19 +154,8 @@ pub(crate) fn refusal_in(rt: &HostRuntime, fault: TurnFault, names: &[String]) -
     match fault {
         TurnFault::Project(fault) => Refusal::from(fault),
         TurnFault::Turn(at, fault) => match names.get(at) {
-            Some(name) => Refusal::at(rt, fault, name),
+            Some(name) => Refusal::expecting(rt, fault, name, Expected::Bundle),
             None => Refusal::from(fault),
         },
-    }
-}
-
-// The refusal of a line that names these files.
-fn refusal_of(fault: TurnFault, names: Vec<String>) -> Refusal {
-    match fault {
-        TurnFault::Turn(at, fault) if names.len() > 1 => Refusal {
-            fault,
-            file: names.into_iter().nth(at),
-        },
-        TurnFault::Project(fault) | TurnFault::Turn(_, fault) => Refusal::from(fault),
     }
 }

@@ -98,6 +98,8 @@ class Editing(Steps):
         if ids and self.rng.random() < 0.1:
             ids.append(self.rng.choice(ids))
         words = [f"{it.number}:{it.name}" for it in ids]
+        if ids and self.rng.random() < 0.2:
+            words += ["--text-of", self.rng.choice(words)]
         self.step("edit-over", project, write_ref(book, key), *words, given=self.any_text(book, key))
 
     def fork(self) -> None:

@@ -20,8 +20,9 @@ WRONG_REFS = ["MAT 05", "mat 5", "MAT", "MAT 1000", "MAT 1:3A", "MAT  1", "MAT 1
 WRONG_IDS = ["03:ana", "0:ana", "1:Ana", "1000000000000001:ana", "ana:1", "1", "1:", ":ana", ""]
 WRONG_NAMES = ["Ana", "", "a b", "\u00e4", "a" * 33, "ana_"]
 # Lines that have too many words, too few, or no subcommand.
-WRONG_LINES = ["", "unfold MAT", "fold", "send", "send p q", "init p", "check p MAT", "find p mat s", "edit p"]
+WRONG_LINES = ["", "unfold MAT", "fold", "send", "send p q", "init p", "check p MAT s t", "find p", "edit p"]
 WRONG_LINES += ["edit-over p", "export p mat MAT", "fold mat LUK", "sync p", "export p --into", "sync p t --into t"]
+WRONG_LINES += ["edit-over p --text-of 1:ana", "edit p 0 --text-of 1:ana"]
 NEEDLES = WORDS + ["a", "n", "a ", "n", " ", "\n", "", "", "", "|", "\\", "1", "-", "\u0301"]
 
 
@@ -133,11 +134,11 @@ class Maker(Forging, Syncing):
 
     def check(self) -> None:
         project = self.any_project()
-        self.step("check", project, self.any_book(project), "sheet", sheet=self.any_sheet())
+        self.look("check", project, self.any_book(project))
 
     def words(self) -> None:
         project = self.any_project()
-        self.step("words", project, self.any_book(project), "sheet", sheet=self.any_sheet())
+        self.look("words", project, self.any_book(project))
 
     def find(self) -> None:
         project = self.any_project()
@@ -148,7 +149,17 @@ class Maker(Forging, Syncing):
             needle = self.part_of_book(project, book) or needle
         elif chance < 0.5:
             needle = "aa"
-        self.step("find", project, book, "sheet", needle, sheet=self.any_sheet())
+        self.look("find", project, book, needle)
+
+    def look(self, command: str, project: str, book: str, *needle: str) -> None:
+        """A look at a book by a sheet, now and then at all books, by the program's own sheet, or with the lines of the text."""
+        words = [project, book, "sheet"]
+        # Options end before a needle that begins with a hyphen.
+        is_plain = "".join(needle).startswith("-")
+        if self.rng.random() < 0.5 and not is_plain:
+            words = self.rng.choice([[project], [project, book], [project, "--sheet", "sheet"], [project, book, "--sheet", "sheet"]])
+        options = ["--text"] if command != "words" and self.rng.random() < 0.4 and not is_plain else []
+        self.step(command, *options, *words, *needle, sheet=self.any_sheet())
 
     def part_of_book(self, project: str, book: str) -> str:
         """Some characters of a book, as they are there."""

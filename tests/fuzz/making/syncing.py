@@ -12,7 +12,7 @@ from .editing import Editing
 from .steps import BOOKS
 from .texts import broken_text, changed_book, make_book
 
-# Names of files: of books, and of what is passed over.
+# Names of files: of books, and of what is skipped.
 BOOK_NAMES = ["{}.usfm", "{}.sfm", "41{}ana.SFM", "{} a.Usfm", "a.{}.sFm", "\u00e9{}.usfm"]
 OTHER_NAMES = [".{}.usfm", "{}.txt", "{}.usfm.new", "{}usfm", "below/{}.usfm", "{}.usfm~"]
 

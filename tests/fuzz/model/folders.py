@@ -124,13 +124,13 @@ def makes(bundle: bytes, book: str, data: bytes) -> bool:
 def read_books(
     folder: dict, place: str, kept: Kept, read: Callable[[dict, str], bytes], notes: list[bytes]
 ) -> tuple[list[BookFile], list[str]]:
-    """The books' files of a place, and the paths of those that are passed over, which is noted."""
+    """The books' files of a place, and the paths of those that are skipped, which is noted."""
     files, passed_over = [], []
     for path in names_in(folder, place):
         data = within(path, read, folder, path)
         book = book_begun(data)
         if book is None:
-            notes.append(b"passed over %s: it does not begin with \\id and a book's code\n" % path.encode())
+            notes.append(b"skipped %s: it does not begin with \\id and a book's code\n" % path.encode())
             passed_over.append(path)
             continue
         files.append(BookFile(path, book, data, folder.get(own(place, book, "bundle")), True))
@@ -214,7 +214,7 @@ def put_books(
     notes: list[bytes],
 ) -> bytes:
     """Writes books into their files, and says which were written. One whose file's name another file has is refused, and one of
-    which it is not known which file it had, where a file is passed over. A book without its head gets no file."""
+    which it is not known which file it had, where a file is skipped. A book without its head gets no file."""
     files, passed_over = found
     by_book = {it.book: it for it in files}
     whole = [it for it in books if book_begun(export(held, it)) == it]

@@ -3,6 +3,7 @@ from dataclasses import dataclass
 from typing import Callable, Optional, Sequence, Union
 
 from . import folders
+from . import looks
 from .bundles import write_project
 from .faults import Fault
 from .references import read_book, read_id, read_name, read_ref
@@ -35,8 +36,8 @@ class Answer:
 
 USAGE = Answer(2, b"", None)
 
-# How the words of each subcommand are read. A file's name and a needle are taken as they are.
-FILE = NEEDLE = str
+# How the words of each subcommand are read, but for those that look at books by a sheet (looks.py). A file's name is taken as it is.
+FILE = str
 SHAPES: dict[str, tuple[Callable, ...]] = {
     "init": (FILE, read_name),
     "import": (FILE, FILE),
@@ -50,22 +51,22 @@ SHAPES: dict[str, tuple[Callable, ...]] = {
     "delta": (FILE, FILE),
     "export": (FILE, read_book),
     "report": (FILE,),
-    "check": (FILE, read_book, FILE),
-    "find": (FILE, read_book, FILE, NEEDLE),
-    "words": (FILE, read_book, FILE),
     "thin": (FILE,),
     "fold": (read_book,),
 }
 # The subcommands that take more words of the last kind, or ids.
 OPEN_ENDED = ("import", "receive", "sync", "edit-over")
 # The option that a subcommand has, and the least number of words beside it.
-OPTIONS = {"import": ("--since", 2), "export": ("--into", 1)}
+OPTIONS = {"import": ("--since", 2), "export": ("--into", 1), "edit-over": ("--text-of", 2)}
 
 
 def run(folder: Folder, words: Sequence[str], given: Content) -> Answer:
     """What the program answers to these words in a folder, which it may change, with this standard input."""
-    values, option = parted([it for it in words if it != "--"])
-    if any(it in ("--since", "--into") for it in values) or not has_shape(values, option):
+    words = [it for it in words if it != "--"]
+    if words and words[0] in looks.COMMANDS:
+        return look(folder, words)
+    values, option = parted(words)
+    if any(it in ("--since", "--into", "--text-of") for it in values) or not has_shape(values, option):
         return USAGE
     # What is said on standard error beside a refusal.
     notes: list[bytes] = []
@@ -75,8 +76,21 @@ def run(folder: Folder, words: Sequence[str], given: Content) -> Answer:
         return Answer(1, b"", b"".join(notes) + fault.line())
 
 
+def look(folder: Folder, words: Sequence[str]) -> Answer:
+    """What is reported of a project's books by a sheet."""
+    try:
+        asked = looks.look_of(words)
+        if asked is None:
+            return USAGE
+        before = read_file(folder, asked.project)
+        sheet = None if asked.sheet is None else read_file(folder, asked.sheet)
+        return Answer(0, looks.reported(asked, load(before).held, sheet), b"")
+    except Fault as fault:
+        return Answer(1, b"", fault.line())
+
+
 def parted(words: Sequence[str]) -> tuple[list[str], Optional[str]]:
-    """The words of a line without its option, and the bundle or the folder that this names."""
+    """The words of a line without its option, and the bundle, the folder or the id that this names."""
     name, _ = OPTIONS.get(words[0] if words else "", ("", 0))
     if name in words[1:-1]:
         place = words.index(name)
@@ -101,11 +115,12 @@ def act(
         return take_in(folder, command, words[0], words[1:], option)
     if command == "sync":
         return sync(folder, *words[:2], words[2:], notes)
-    if option is not None:
+    if command == "export" and option is not None:
         return export_into(folder, words[0], option, [read_book(it) for it in words[1:]], notes)
     shape = SHAPES[command]
     values = [read(word) for read, word in zip(shape, words)]
     ids = [read_id(word) for word in words[len(shape) :]]
+    of = None if option is None else read_id(option)
     if command == "fold":
         return fold(read_content(given), values[0])
     if command == "init":
@@ -114,12 +129,13 @@ def act(
     before = read_file(folder, project)
     if command == "delta":
         values[1] = read_file(folder, values[1])
-    elif command in ("check", "find", "words"):
-        values[2] = read_file(folder, values[2])
-    elif command in ("edit", "edit-over"):
+    elif command in ("edit", "edit-over") and of is None:
         given = read_content(given)
     replica = load(before)
-    output = execute(replica, command, values[1:], given, ids)
+    if of is not None:
+        output = replica.edit_with(*values[1], of, ids)
+    else:
+        output = execute(replica, command, values[1:], given, ids)
     folder[project] = save(replica)
     return output
 
@@ -210,9 +226,6 @@ def execute(replica: Replica, command: str, values: Sequence, given: bytes, ids:
         "delta": replica.delta,
         "export": replica.export,
         "report": replica.report,
-        "check": replica.check,
-        "find": replica.find,
-        "words": replica.words,
         "thin": replica.thin,
     }
     return calls[command](*values)

@@ -2,7 +2,6 @@
 from dataclasses import dataclass
 from typing import Sequence
 
-from . import searches
 from .bundles import (
     outside,
     read_bundle,
@@ -15,12 +14,10 @@ from .bundles import (
     write_summary,
     Source,
 )
-from .checks import check
 from .faults import Fault, text_of
 from .operations import Operation, Set, export, has_book, has_chapter_line, join, pick, picked_keys, report
 from .operations import set_of, shown, thin
-from .references import BOOK_HEAD, GREATEST_NUMBER, Id, Key, write_key, write_ref
-from .sheets import read_sheet
+from .references import BOOK_HEAD, GREATEST_NUMBER, Id, Key
 from .tokens import book_of, cut, fits
 
 
@@ -108,6 +105,13 @@ class Replica:
                 raise Fault(83, *id)
         return self.make_edit(book, key, text, ids)
 
+    def edit_with(self, book: str, key: Key, of: Id, ids: Sequence[Id]) -> bytes:
+        """Gives a segment the text of an operation that it shows, over given ids that it shows."""
+        for it in shown(self.held, book, key):
+            if it.id == of:
+                return self.edit_over(book, key, it.text, ids)
+        raise Fault(83, *of)
+
     def judge_edit(self, book: str, key: Key, text: bytes) -> None:
         """Refuses a text that does not fit, and a segment of a book that is not begun."""
         if not fits(book, key, text):
@@ -165,30 +169,6 @@ class Replica:
     def report(self) -> bytes:
         """The conflict report."""
         return report(self.held)
-
-    def check(self, book: str, data: bytes) -> bytes:
-        """What is found in a book by a style sheet."""
-        sheet = read_sheet(data)
-        told = b""
-        for code, start, key in check(export(self.held, book), sheet):
-            told += f"{write_ref(book, key)} {code} {start}\n".encode()
-        return told
-
-    def find(self, book: str, data: bytes, needle: str) -> bytes:
-        """Where a needle is in a book."""
-        sheet = read_sheet(data)
-        told = b""
-        for key, start in searches.find(export(self.held, book), sheet, needle.encode()):
-            told += f"{write_ref(book, key)} {start}\n".encode()
-        return told
-
-    def words(self, book: str, data: bytes) -> bytes:
-        """The words of a book."""
-        sheet = read_sheet(data)
-        told = b""
-        for form, keys in searches.words(export(self.held, book), sheet):
-            told += b" ".join([form] + [write_key(it).encode() for it in keys]) + b"\n"
-        return told
 
 
 def load(data: bytes) -> Replica:

@@ -14,6 +14,7 @@ use Rattle.replica_state.specs.World.{Event, IsWithin, world}
 use Rattle.replica_state.specs.World.Bytes.{IsReadWhole, IsRefusedAsCut}
 use Rattle.replica_state.proofs.World.Sets.{hold_sets}
 
+-- the bytes of a bundle that was made, if a slice can have as many, are read as what it holds, and a proper front of them is cut
 pub bundles_are_read : (events : List Event) → AllByRecursion IsWithin events → (k : ℕ) (ops : List Operation)
     → slice_get (world events).bundles k ≡ Some ops → length (bundle ops) < 2 ^ 64 → IsReadWhole ops
 bundles_are_read events h k ops e short =

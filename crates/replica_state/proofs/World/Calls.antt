@@ -34,10 +34,11 @@ others_stay w e s h is = ap (of_name s.name) (apart w s.name e (not_there s.name
     of_name : List ℕ → List Operation → State
     of_name name ops = record { name = name; held = ops }
 
--- the ids of what a summary lacks give it, and it is legal
+-- the ids of what a summary lacks give it
 pub lacking_ids : (ops : List Operation) (s : List NameRanges) → rises ops ≡ true → of_ids (is_held (outside s ops)) ops ≡ outside s ops
 lacking_ids ops s h = of_its_ids (is_sent ops (covers s)) ops h
 
+-- what a summary lacks is legal
 pub lacking_legal : (ops : List Operation) (s : List NameRanges) → rises ops ≡ true → is_legal ops ≡ true → is_legal (outside s ops) ≡ true
 lacking_legal ops s h legal = delta_legal ops (covers s) h legal
 

@@ -14,6 +14,7 @@ use Rattle.op_core.specs.Sets.{rises, get, join}
 use Rattle.op_core.specs.Lists.{is_held}
 use Rattle.op_core.specs.Thinned.{is_legal, is_sent, skeleton, of_ids, delta, StandsFor}
 use Rattle.op_core.proofs.Bare.{held_same as ids_held}
+use Rattle.op_core.proofs.Clashes.{get_id}
 use Rattle.op_core.proofs.Groupings.{get_bare}
 use Rattle.op_core.proofs.Legal.{delta_legal}
 use Rattle.op_core.proofs.Union.{same_gets}
@@ -22,13 +23,13 @@ use Rattle.bundle_codec.proofs.Told.{covers_its_ids}
 use Rattle.replica_state.specs.World.{Event, Bundles, Receives, world, replica_name, is_apart}
 use Rattle.replica_state.specs.World.Schedules.{Holds, Where, At, Within, found, in_bundle, IsMade, IsOrThinned}
 use Rattle.replica_state.specs.World.Exchanges.{HoldUnion, Request, Whole, Lacking, Hearing}
-use Rattle.replica_state.specs.World.Exchanges.{bundled, wanted, IsAsked, Hears, heard, IsRelay}
+use Rattle.replica_state.specs.World.Exchanges.{IsBefore, hearing, bundled, wanted, IsAsked, Hears, heard, IsRelay}
 use Rattle.replica_state.specs.World.Agreement.{HoldsAll, EndsInRelays}
 use Rattle.replica_state.proofs.World.Flights.{apart, all_apart, all_both, all_parts, bundles_stay}
 use Rattle.op_core.proofs.Awaited.{held-get}
 use Rattle.replica_state.proofs.World.Held.{join_left, join_right, held_at, at_held, delta_holds}
 use Rattle.replica_state.proofs.World.Held.{delta_joins, join_turned, join_back, same_delta, of_its_ids, all_ids}
-use Rattle.replica_state.proofs.World.Moments.{the_twin, whole, holds_of, InFull, of_bare, whole_of, stands, one_in_twin, found_whole}
+use Rattle.replica_state.proofs.World.Moments.{the_twin, whole, holds_of, InFull, of_bare, stands, one_in_twin, found_whole}
 use Rattle.replica_state.proofs.World.Moves.{Sound, received_is}
 use Rattle.replica_state.proofs.World.Next.{names_shown, shown_held}
 use Rattle.replica_state.proofs.World.Runs.{grown_to, was_made, made_held, relay, all_held, holds_within, held_same}
@@ -167,6 +168,15 @@ can_be_heard later sent teller hearer request =
     (ap is_legal e ∙ bundled_legal sent teller hearer request) in
     (r.0, r.1 ∙ ap Some e)
 
+pub any_bundle_tells : (later made sent : List Event) (teller maker hearer : List ℕ) (request : Request) (kept : Id → Bool)
+    → IsAsked request sent → IsBefore sent (later ++ Bundles maker kept ∷ made)
+    → is_legal (of_ids kept ((world made).held maker)) ≡ true
+    → ((o : Operation) → Holds (bundled hearer request ((world sent).held teller)) o → Holds (of_ids kept ((world made).held maker)) o)
+    → (k : ℕ) × Hears teller (hearing hearer request sent k (later ++ Bundles maker kept ∷ made))
+any_bundle_tells later made sent teller maker hearer request kept asked before legal has =
+    let r = bundles_stay later made maker kept legal in
+    (r.0, record { asked = asked; later = before; ops = of_ids kept ((world made).held maker); is = r.1; has = has })
+
 -- ---- hearings
 
 -- the bundle of a hearing at the twin
@@ -184,28 +194,30 @@ bundle_there h b e = by (slice_get (whole h.got).bundles h.bundle) refl
     by None f both = absurd both
     by (Some u) f both = record { ops = u; is = f; stands_for = both }
 
+-- what is held in full or without its text is held, perhaps without its text
+in_skeleton : (s : List Operation) (q : Id) (o : Operation) → get s q ≡ Some o → Holds s o
+in_skeleton s q o g = get_bare s o.id ∙ ap (λ i. option_map bare (get s i)) (get_id s q o g) ∙ ap (option_map bare) g
+
 -- the hearer of a bundle holds what the teller held
 hears : (a : List ℕ) (h : Hearing) → Hears a h → (q : Id) (o : Operation) → get ((whole h.sent).held a) q ≡ Some o
     → get ((whole (heard h)).held h.hearer) q ≡ Some o
 hears a h r q o g = ap (λ xs. get xs q) now ∙ held (get ((whole h.got).held h.hearer) q) refl
   where
-    b : List Operation
-    b = bundled h.hearer h.request ((world h.sent).held a)
+    asked_for : List Operation
+    asked_for = bundled h.hearer h.request ((world h.sent).held a)
 
     s : Sound (whole h.got)
     s = (twins h.got).sound
 
-    there : Bundle h b
-    there = bundle_there h b r.is
+    there : Bundle h r.ops
+    there = bundle_there h r.ops r.is
 
     now : (whole (heard h)).held h.hearer ≡ join ((whole h.got).held h.hearer) there.ops
     now = received_is (whole h.got) h.hearer (slice_get (whole h.got).bundles h.bundle) there.ops there.is
         (sound_no_clash (whole h.got) s h.hearer h.bundle there.ops there.is)
 
     sent : (name : List ℕ) (x : Operation) → get ((whole h.sent).held name) q ≡ Some x → get ((whole h.got).held name) q ≡ Some x
-    sent name x g =
-        let made = Bundles a (wanted h.hearer h.request ((world h.sent).held a)) in
-        grown_to the_twin (made ∷ h.sent) h.got r.sends name q x ((the_twin.moves made h.sent).grows name q x g)
+    sent name x g = grown_to the_twin h.sent h.got r.later name q x g
 
     -- what is found there under the id is the same one
     same : (x : Operation) (at : Where) → found (whole h.got) at q ≡ Some x → x ≡ o
@@ -244,10 +256,15 @@ hears a h r q o g = ap (λ xs. get xs q) now ∙ held (get ((whole h.got).held h
         join_left ((whole h.got).held h.hearer) there.ops (s.rising h.hearer) (s.bundles_rise h.bundle there.ops there.is)
         (λ i y f. s.full i.name i y (s.bundles_own h.bundle there.ops there.is i y f)) q o (e ∙ ap Some (same x (At h.hearer) e))
     held None e =
-        let w = whole_of b there.ops there.stands_for q held_here.op (here held_here.op held_here.here h.request r.asked e) in
+        let x = held_here.op in
+        let asked = here x held_here.here h.request r.asked e in
+        let had : get (skeleton r.ops) q ≡ Some (bare x) =
+        ap (get (skeleton r.ops)) (sym (get_id asked_for q x asked)) ∙ r.has x (in_skeleton asked_for q x asked) in
+        let w = of_bare r.ops there.ops there.stands_for q (bare x) had in
         join_right ((whole h.got).held h.hearer) there.ops (s.rising h.hearer) (s.bundles_rise h.bundle there.ops there.is) q e
-        ∙ w.1 ∙ ap Some (same w.0 (Within h.bundle) (in_bundle_there w.0 w.1))
+        ∙ w.here ∙ ap Some (same w.op (Within h.bundle) (in_bundle_there w.op w.here))
 
+-- where a relay leads, what was held is held, perhaps without its text
 pub relay_tells : (a b : List ℕ) (from to : List Event) (hearings : List Hearing) → IsRelay a from hearings b to → (o : Operation)
     → Holds ((world from).held a) o → Holds ((world to).held b) o
 relay_tells a b from to hearings r o g =

@@ -4,14 +4,17 @@ use Rattle.std.proofs.Common.{◌++◌, arith, refl, sym, ap, subst, ◌∙◌, 
 use Rattle.std.specs.Prelude.{slice_get}
 use Rattle.std.specs.Option.{option_map, is_some}
 use Rattle.std.proofs.lemmas.Bool.{true≢false}
+use Rattle.usfm_ref.specs.Keys.{book_head}
+use Rattle.usfm_ref.specs.Segments.{segment}
 use Rattle.usfm_ref.proofs.Orders.{same_segment-refl}
 use Rattle.op_core.specs.Ids.{Id}
 use Rattle.op_core.specs.Ops.{Operation, is_full, bare, with_text, agree, texts_agree, names}
 use Rattle.op_core.specs.Sets.{get}
 use Rattle.op_core.specs.NextIds.{greatest_number}
-use Rattle.op_core.specs.Thinned.{skeleton, StandsFor}
+use Rattle.op_core.specs.Thinned.{skeleton, StandsFor, IsOf}
 use Rattle.op_core.proofs.Agreement.{Agree, agree-from, agree_itself}
 use Rattle.op_core.proofs.Clashes.{get_id}
+use Rattle.op_core.proofs.Families.{stands_of}
 use Rattle.op_core.proofs.Groupings.{get_bare}
 use Rattle.replica_state.specs.World.{World, Event, world, replica_name}
 use Rattle.replica_state.specs.World.Twin.{twin}
@@ -127,6 +130,7 @@ found_was_made events a id x g =
     let r = found_whole events a id x g in
     (r.0, was_made the_twin events id.name id r.0 (at_maker (whole events) (twins events).sound a id r.0 r.1), r.2)
 
+-- what is found under one id, anywhere, agrees
 pub one_for_each : (events : List Event) (a b : Where) (id : Id) (x y : Operation) → found (world events) a id ≡ Some x
     → found (world events) b id ≡ Some y → agree x y ≡ true
 one_for_each events a b id x y gx gy =
@@ -135,6 +139,7 @@ one_for_each events a b id x y gx gy =
     let same : q.0 ≡ p.0 = one_in_twin events b a id q.0 p.0 q.1 p.1 in
     thinned_agree p.0 x y p.2 (subst (IsOrThinned y) same q.2)
 
+-- from a held operation a chain of replacements leads to a shown one
 pub shown_in_the_end : (events : List Event) (name : List ℕ) (id : Id) (o : Operation) → get ((world events).held name) id ≡ Some o
     → (chain : List Operation) × IsChain ((world events).held name) o.segment o chain
 shown_in_the_end events name id o g =
@@ -143,3 +148,18 @@ shown_in_the_end events name id o g =
     chain ((world events).held name) (stands events name).rising
     (λ p h. let m = found_was_made events (At name) p.id p h in thinned_falls p m.0 m.2 (falls events m.0 m.1)) o.segment
     (suc (greatest_number ((world events).held name))) o (omega arith) here (same_segment-refl o.segment)
+
+-- ---- the family of what was made
+
+abbrev pub or_empty : Id → Option Operation → Operation
+or_empty id None = record { id = id; segment = segment [] book_head; replaced = []; text = None }
+or_empty id (Some o) = o
+
+-- of each id the operation that its maker holds in full at the twin
+abbrev pub family_at : List Event → Id → Operation
+family_at events id = or_empty id (get ((whole events).held id.name) id)
+
+-- what each replica holds is of the family
+pub of_family : (events : List Event) (name : List ℕ) → IsOf (family_at events) ((world events).held name)
+of_family events name = stands_of (family_at events) ((world events).held name) ((whole events).held name) (stands events name)
+    (λ id o g. ap (or_empty id) (at_maker (whole events) (twins events).sound (At name) id o g))

@@ -40,6 +40,8 @@ use Rattle.replica_state.specs.Changes.{ChangeParts, edits_from, edits_by, edits
 use Rattle.replica_state.specs.Imports.{piece_own_text, piece_of, piece_at, is_due, walked_keys, due_keys, due_change, import_into}
 use Rattle.replica_state.specs.World.{World, Event, Edits, EditsOver, Imports, Thins, Summarizes, Bundles, Receives, ReceivesCut}
 use Rattle.replica_state.specs.World.{FindsNoMemory, IsWithin, world, made, edit_made, edits_made, replica, replica_name}
+use Rattle.replica_state.specs.Since.{is_changed, changed_keys, since_change, since_changes}
+use Rattle.replica_state.specs.World.Calls.{edits_of}
 use Rattle.replica_state.specs.World.Schedules.{Within, in_bundle, IsOrThinned, AreSets}
 use Rattle.replica_state.proofs.FilePieces.{book_is_code, book_is_headed, piece_fits}
 use Rattle.replica_state.proofs.World.Held.{held_at}
@@ -95,14 +97,18 @@ held_keys held book h =
 head_key : (k : KeyParts) → IsKey k → IsKey (head_of k)
 head_key k h = and_from (nat_le k.chapter 999) true (and_parts (nat_le k.chapter 999) _ h).0 refl
 
+walked_are_keys : (held : List Operation) (book file : List ℕ) → AllByRecursion IsOperation held →
+    AreKeys (walked_keys held book (pieces_of file))
+walked_are_keys held book file h =
+    let keys = held_keys held book h in
+    keys_rising _ (all_append IsKey (map head_of (keys_of held book)) _ (all_map IsKey IsKey head_of head_key (keys_of held book) keys)
+    (all_append IsKey (keys_of held book) _ keys
+    (all_map (λ (p : PieceParts). IsKey p.key) IsKey (λ p. p.key) (λ p is. is) (pieces_of file) (pieces_have_keys file))))
+
 due_are_keys : (held : List Operation) (book file : List ℕ) → AllByRecursion IsOperation held →
     AreKeys (due_keys held book (pieces_of file))
 due_are_keys held book file h =
-    let keys = held_keys held book h in
-    all_filter IsKey (is_due held book (pieces_of file)) (walked_keys held book (pieces_of file))
-    (keys_rising _ (all_append IsKey (map head_of (keys_of held book)) _ (all_map IsKey IsKey head_of head_key (keys_of held book) keys)
-    (all_append IsKey (keys_of held book) _ keys
-    (all_map (λ (p : PieceParts). IsKey p.key) IsKey (λ p. p.key) (λ p is. is) (pieces_of file) (pieces_have_keys file)))))
+    all_filter IsKey (is_due held book (pieces_of file)) (walked_keys held book (pieces_of file)) (walked_are_keys held book file h)
 
 text_at : (ps : List PieceParts) (key : KeyParts) → AllByRecursion (λ (p : PieceParts). IsUtf8 p.text) ps → IsUtf8 (piece_at ps key)
 text_at [] key h = IsUtf8-nil
@@ -290,3 +296,27 @@ module _ (events : List Event) (h : AllByRecursion IsWithin events) where
     bundles = λ k bundle e. record { rising = (bundle_stands k bundle e).1.rising; each = bundle_each k bundle e };
     bundles_legal = λ k bundle e. (bundle_stands k bundle e).1.legal;
   }
+
+-- ---- the edits of an import since a base
+
+-- the edits that an import of a book's file since a base is are within their ranges
+module _ (name book file : List ℕ) (named : is_name name ≡ true) (begins : book_in file ≡ Ok book) (u : IsUtf8 file)
+    (held base : List Operation) where
+  keys_within : (keys : List KeyParts) → AreKeys keys
+      → AllByRecursion IsWithin (edits_of name book (map (since_change held base book (pieces_of file)) keys))
+  keys_within [] h = tt
+  keys_within (key ∷ keys) h =
+      let code = book_is_code file book begins in (
+        record {
+          name = named;
+          segment = and_from (is_book_code book) (is_key key.chapter key.place) code h.0;
+          text = text_at (pieces_of file) key (pieces_are_text book file code (book_is_headed file book begins) u);
+        },
+        keys_within keys h.1,
+      )
+
+  pub since_within : AllByRecursion IsOperation held
+      → AllByRecursion IsWithin (edits_of name book (since_changes held base book (pieces_of file)))
+  since_within h = keys_within (changed_keys held base book (pieces_of file))
+      (all_filter IsKey (is_changed held base book (pieces_of file)) (walked_keys held book (pieces_of file))
+      (walked_are_keys held book file h))

@@ -79,6 +79,12 @@ IsImportingSince base file s t =
     book_in file ≡ Ok book →
     IsIn (all_happen w (since_events s k base book (pieces_of file))) t
 
+-- An import since a base answers how many keys were changed: so many edits come after the receiving of the base.
+abbrev pub CountsChanges : List Operation → List ℕ → State → ℕ → Type 0
+CountsChanges base file s count =
+    (book : List ℕ) → book_in file ≡ Ok book →
+    count ≡ length (since_changes (with_ops s base).held base book (pieces_of file))
+
 -- In each world that has the replica, the edits over given ids that the changes of a book are make of it what the call did. Their
 -- keys rise, and the first begins the book if it has no operation.
 abbrev pub AreChanges : List ℕ → List ChangeParts → State → State → Type 0

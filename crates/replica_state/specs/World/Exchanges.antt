@@ -67,14 +67,19 @@ pub data Request : Type 0 where
   Whole : Request
   Lacking : (asked : List Event) → Request
 
--- one hearing: the hearer, what it asked for, the moment before the bundle is made, the bundle, and the moment before
--- the hearer receives it
+-- one hearing: the hearer, what it asks for, the moment whose holdings it asks for, the bundle, and the moment before the hearer
+-- receives it
 pub record Hearing : Type 0 where
   pub hearer : List ℕ
   pub request : Request
   pub sent : List Event
   pub bundle : ℕ
   pub got : List Event
+
+-- a hearing of these parts
+abbrev pub hearing : List ℕ → Request → List Event → ℕ → List Event → Hearing
+hearing hearer request sent bundle got =
+    record { hearer = hearer; request = request; sent = sent; bundle = bundle; got = got }
 
 -- what the bundle is to hold, of what is held
 abbrev pub bundled : List ℕ → Request → List Operation → List Operation
@@ -85,20 +90,22 @@ bundled hearer (Lacking asked) held = outside (summary_of ((world asked).held he
 abbrev pub wanted : List ℕ → Request → List Operation → Id → Bool
 wanted hearer request held id = is_held (bundled hearer request held) id
 
--- the summary that is asked with is that of a moment before the bundle is made
+-- the summary that is asked with is that of a moment before
 abbrev pub IsAsked : Request → List Event → Type 0
 IsAsked Whole sent = Unit {0}
 IsAsked (Lacking asked) sent = IsBefore asked sent
 
--- the teller makes the bundle, whole or for a summary that the hearer made before, and the hearer then receives it
+-- The hearer receives a bundle that has what the teller is asked for, each operation perhaps without its text. Who made the bundle,
+-- when, and what else it has, does not matter.
 pub record Hears (teller : List ℕ) (h : Hearing) : Type 0 where
   pub asked : IsAsked h.request h.sent
-  pub sends : let held = (world h.sent).held teller in
-      IsBefore (Bundles teller (wanted h.hearer h.request held) ∷ h.sent) h.got
-  pub is : let held = (world h.sent).held teller in
-      slice_get (world h.got).bundles h.bundle ≡ Some (bundled h.hearer h.request held)
+  pub later : IsBefore h.sent h.got
+  pub ops : List Operation
+  pub is : slice_get (world h.got).bundles h.bundle ≡ Some ops
+  pub has : (o : Operation) → Holds (bundled h.hearer h.request ((world h.sent).held teller)) o →
+      Holds ops o
 
--- At every moment such a bundle is made, and there to be received from then on.
+-- At every moment the teller makes a bundle of exactly that, which is there to be received from then on.
 abbrev pub CanBeHeard : Type 0
 CanBeHeard =
     (later sent : List Event) (teller hearer : List ℕ) (request : Request) →
@@ -106,6 +113,18 @@ CanBeHeard =
     (k : ℕ)
     × (slice_get (world (later ++ Bundles teller (wanted hearer request held) ∷ sent)).bundles k
     ≡ Some (bundled hearer request held))
+
+-- A bundle of any ids that is legal, and that has what the teller is asked for, tells it, at whatever replica it was made.
+abbrev pub AnyBundleTells : Type 0
+AnyBundleTells =
+    (later made sent : List Event) (teller maker hearer : List ℕ) (request : Request)
+    (kept : Id → Bool) →
+    let held = (world made).held maker in
+    let got = later ++ Bundles maker kept ∷ made in
+    IsAsked request sent → IsBefore sent got → is_legal (of_ids kept held) ≡ true →
+    ((o : Operation) → Holds (bundled hearer request ((world sent).held teller)) o →
+    Holds (of_ids kept held) o) →
+    (k : ℕ) × Hears teller (hearing hearer request sent k got)
 
 -- the moment after the hearing
 abbrev pub heard : Hearing → List Event

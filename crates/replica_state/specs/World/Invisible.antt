@@ -1,4 +1,5 @@
--- Thinning is invisible (this project's own rule): replicas that thin show, export and answer what they would if none did.
+-- Thinning is invisible (this project's own rule): replicas that thin show, export and answer what they do in the twin, where none
+-- thins and each bundle has the operations of the same ids. A delta made after a thinning may have more ids than one made without it.
 use Rattle.std.specs.Prelude.{◌≡◌, ℕ, true, List, [], ◌∷◌, Option, Some, None, slice_get, IsTrue}
 use Rattle.std.specs.List.{list_all}
 use Rattle.op_core.specs.Ops.{Operation}

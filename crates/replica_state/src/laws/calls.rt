@@ -1,7 +1,8 @@
-//! Laws of calls: each call of a replica is an event of every world that has the replica, and an import
-//! since a base several. Each function makes the call that it is named after, and its contract says which
-//! event that is.
-ghost use Rattle.std.specs.Prelude.{◌≡◌, ◌≢◌, ◌∷◌, Err, IfOk, OnErr, OnOk};
+//! Laws of calls: each call that changes a replica, or makes bytes that travel, is an event of every world that
+//! has the replica: a receiving where the bundle was made in that world; changes made together, and an import
+//! since a base, are several. Each function makes the call that it is named after, `read` that of `decode_whole`,
+//! and its contract says which event that is.
+ghost use Rattle.std.specs.Prelude.{◌≡◌, ◌≢◌, ◌∷◌, Err, IfOk, OnErr, OnOk, length};
 ghost use Rattle.usfm_ref.specs.Segments.{segment};
 ghost use Rattle.op_core.specs.Lists.{is_held};
 ghost use Rattle.bundle_codec.specs.Summaries.{outside};
@@ -77,13 +78,14 @@ pub fn import(replica: &mut Replica, file: &str) -> Result<u64, ImportFault>
 }
 
 /// A call of `import_since` that is not refused is the event of the receiving of its base, and then that
-/// of an edit over given ids for each key that was changed.
+/// of an edit over given ids for each key that was changed. It answers how many these are.
 ///
 /// # Errors
 /// Those of `import_since`.
 pub fn import_since(replica: &mut Replica, base: &Bundle<'_>, file: &str) -> Result<u64, SinceFault>
     ensures events { OnOk result
         (calls.IsImportingSince base.now file.now replica.old replica.new) }
+    ensures count { IfOk result (calls.CountsChanges base.now file.now replica.old) }
     ensures refused { let e = world.FindsNoMemory replica.old.name in
         OnErr result (calls.IsEvent e replica.old replica.new) }
 {
@@ -94,13 +96,15 @@ pub fn import_since(replica: &mut Replica, base: &Bundle<'_>, file: &str) -> Res
 }
 
 /// A call of `change` that is not refused, with changes whose keys rise and of which the first begins
-/// the book if it has no operation, is the event of an edit over given ids for each.
+/// the book if it has no operation, is the event of an edit over given ids for each. It answers how many
+/// these are.
 ///
 /// # Errors
 /// Those of `change`.
 pub fn change(replica: &mut Replica, book: Book, changes: &[Change<'_>]) -> Result<u64, EditFault>
     ensures events { OnOk result
         (calls.AreChanges book (changes_view changes.now) replica.old replica.new) }
+    ensures count { IfOk result (λ count. count ≡ length changes.now) }
     ensures refused { let e = world.FindsNoMemory replica.old.name in
         OnErr result (calls.IsEvent e replica.old replica.new) }
 {

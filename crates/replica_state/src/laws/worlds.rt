@@ -72,6 +72,11 @@ pub fn can_be_heard()
     ensures { exchanges.CanBeHeard }
 {}
 
+/// A bundle that has what a teller is asked for tells it, at whatever replica it was made.
+pub fn any_bundle_tells()
+    ensures { exchanges.AnyBundleTells }
+{}
+
 /// Where a relay leads, what was held is held.
 pub fn relay_tells()
     ensures { exchanges.RelayTells }

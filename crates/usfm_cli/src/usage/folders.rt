@@ -1,11 +1,10 @@
 // The subcommands on a folder of books' files, and the export of one book: of each its words, its help, and
 // the line that it is read as.
 use super::{BOOK, PROJECT, command};
-use crate::given::{books, text, text_if_given, texts};
+use crate::given::{book_of, books, text, text_if_given, texts};
 use crate::words::{Line, LineFault};
 use clap::{Arg, ArgMatches, Command};
 use std::alloc::{AllocError, Global};
-use usfm_ref::Book;
 
 const FOLDER: (&str, &str) = ("FOLDER", "The folder with the files of the books");
 
@@ -28,10 +27,10 @@ A book's file is the one whose name ends in .usfm or .sfm and that begins with
 \\id and the book's code; it keeps its name. A book without one becomes
 CODE.usfm, or gets the name that its file had. Of a file only what was changed
 since it was written is taken in, so that what came from others stays. Save and
-close the files in the editor before: one that is open there still has the old
-text, and saving that undoes what came in. So does an older copy of a file that
-is put back. Links are passed over, and files with a second name. All is taken
-in, or nothing: then a second line `in FILE` on standard error says where.
+close the files in the editor first: an open file still has the old text, and
+saving it undoes what came in. Putting back an older copy does the same. Links
+are skipped, and files with a second name. Takes in all, or nothing: then a
+second line `in FILE` on standard error says where.
 Writes
   added N CODE     for each file in which something was changed
   new N            for each BUNDLE
@@ -47,10 +46,10 @@ give the right text by `usfm_team edit`, and sync: that edit replaces
 them all, and the file is written.
 
 After fault 131 look at FILE. It may have lost its first line, with \\id and the
-code, or be saved as something else than UTF-8: mend it. Two files may be of one
-book: move one away. Or it is not known what FILE was written from. Then move it
-away and sync, and make its changes in the file that is written; or, to have
-FILE replace what the book has, `usfm_team import PROJECT FILE`, and sync.
+code, or be saved as something else than UTF-8: correct it. Two files may be of
+one book: move one away. Or it is not known what FILE was written from. Then
+move it away and sync, and make its changes in the file that is written; or, to
+have FILE replace what the book has, `usfm_team import PROJECT FILE`, and sync.
 
 After fault 130 in a book's FILE, that file could not be replaced, and all else
 is done: look at its rights, and sync again. After fault 60 to 70 in a file of
@@ -74,7 +73,7 @@ pub(crate) fn export<'a>(alloc: Global) -> Result<Command<'a>, AllocError> {
         .help(help);
     let folder = Arg::new(alloc, "FOLDER")
         .long("into")
-        .help("Into the files of a folder, all where no BOOK is given");
+        .help("Write into a folder's files; all books without BOOK");
     command(
         alloc,
         "export",
@@ -87,7 +86,7 @@ pub(crate) fn export<'a>(alloc: Global) -> Result<Command<'a>, AllocError> {
 }
 
 const EXPORT: &str = "\
-Where a segment shows several texts, the one of the greatest id is written.
+If a segment shows several texts, the one with the greatest id is written.
 
 With --into the books go into the files of FOLDER, as `usfm_team help sync`
 says, but nothing is taken in: a file that was changed is refused.
@@ -97,14 +96,15 @@ Example: usfm_team export ana.project --into texts
 
 Faults:
   fault 1                  out of memory
-  fault 20                 BOOK is no book's code
+  fault 20                 BOOK is not a book's code
   fault 51 NUMBER NAME     two operations that differ have this id
-  fault 60 to 70, 110      PROJECT is no project
+  fault 60 to 70, 110      PROJECT is not a project
   fault 82                 the project has no operation of the book
   fault 90 BYTES           writing failed after this many bytes
-  fault 120, fault 121     a file was not read, or is over 268,435,456 bytes
-  fault 130                a file of FOLDER was not written
-  fault 131                a file would lose what stands in it: see `sync`";
+  fault 120                a file could not be read
+  fault 121                a file has more than 268,435,456 bytes
+  fault 130                a file of FOLDER could not be written
+  fault 131                a file would lose its text: see `sync`";
 
 pub(crate) fn export_line(alloc: Global, given: &ArgMatches<'_>) -> Result<Line, LineFault> {
     let project = text(alloc, given, "PROJECT")?;
@@ -120,7 +120,7 @@ pub(crate) fn export_line(alloc: Global, given: &ArgMatches<'_>) -> Result<Line,
     match books {
         [book] => Ok(Line::Export {
             project,
-            book: Book::read(*book)?,
+            book: book_of(alloc, *book)?,
         }),
         _ => Err(LineFault::Usage(String::from_str(alloc, ONE_BOOK)?)),
     }

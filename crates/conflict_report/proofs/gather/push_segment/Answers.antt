@@ -9,11 +9,11 @@ use Rattle.conflict_report.proofs.gather.push_segment.Goals as goal
 
 pub returns : goal.returns
 returns c =
-    let texts = c.in_ok-texts.texts in
+    let texts = c.in_ok-texts.field-0.distinct in
     let line = c.in_ok-conflict_line.field-0 in
     let middle = ap bytes_of c.in_ok-push.ensures.items ∙ bytes_push c.args.parts.now.items (Line line) in
     conflict_told (segment c.args.book c.args.key) c.deref.result.now
     (distinct_texts c.args.replica.now.held (segment c.args.book c.args.key)) c.len-count.result (string_bytes line)
     (bytes_of c.args.parts.now.items) (bytes_of c.push.new.self.items) (bytes_of c.push_texts.new.parts.items) c.push_texts.result
-    (ap now_of c.deref.ensures.value ∙ c.in_ok-texts.ensures) (omega (arith, c.len-count.ensures, c.deref.ensures.len)) (omega arith)
-    c.in_ok-conflict_line.ensures middle c.push_texts.ensures
+    (ap now_of c.deref.ensures.value ∙ c.in_ok-texts.ensures.distinct) (omega (arith, c.len-count.ensures, c.deref.ensures.len))
+    (omega arith) c.in_ok-conflict_line.ensures middle c.push_texts.ensures

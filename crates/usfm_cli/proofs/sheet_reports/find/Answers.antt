@@ -6,7 +6,8 @@ use Rattle.sty_sheet.specs.Views.{records_of}
 use Rattle.concordance.specs.Hits.{hits_of}
 use Rattle.concordance.specs.Views.{hits_view}
 use Rattle.usfm_cli.specs.Commands.{MayWantMemory}
-use Rattle.usfm_cli.specs.SheetReports.{hit_lines, is_after_sheet}
+use Rattle.book_reports.specs.Lines.{hit_lines}
+use Rattle.usfm_cli.specs.SheetReports.{is_after_sheet}
 use Rattle.usfm_cli.proofs.Searched.{is_told_as_text, searched_is, some_needle, search_is_late, search_refused, search_without_text, book_wanted, sheet_refused}
 use Rattle.usfm_cli.proofs.sheet_reports.find.Goals as goal
 

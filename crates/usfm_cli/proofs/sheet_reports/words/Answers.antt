@@ -1,7 +1,7 @@
 use Rattle.std.proofs.Common.{Global, Ok, Err, ap}
 use Rattle.std.proofs.lemmas.Result.{err_from_is_err_and}
 use Rattle.concordance.specs.Words.{words_of}
-use Rattle.usfm_cli.specs.SheetReports.{word_lines}
+use Rattle.book_reports.specs.Lines.{word_lines}
 use Rattle.usfm_cli.proofs.Searched.{is_told_as_text, book_wanted, sheet_refused}
 use Rattle.usfm_cli.proofs.sheet_reports.words.Goals as goal
 

@@ -1,0 +1,3 @@
+pub mod FormOrder
+pub mod Marks
+pub mod Places

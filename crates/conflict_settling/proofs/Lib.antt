@@ -1,0 +1,5 @@
+mod Compared
+mod Escaped
+mod Joined
+mod Listed
+mod Walked

@@ -1,0 +1,9 @@
+pub mod Wanted
+pub mod Pending
+pub mod Before
+pub mod Entries
+pub mod Escapes
+pub mod Questions
+pub mod Answers
+pub mod Asked
+pub mod Laws

@@ -1,0 +1,2 @@
+pub mod ControlLemmas
+pub mod SignLemmas

@@ -1,0 +1,161 @@
+-- What is reported of a project by a sheet: where memory may be wanted, and that it is what is seen of it.
+use Rattle.std.proofs.Common.{◌≡◌, ◌≢◌, ℕ, Bool, true, List, Option, Some, None, Result, Ok, Err, Vec, refl, sym, ap, subst, ◌∙◌}
+use Rattle.std.specs.Str.{is_utf8}
+use Rattle.std.proofs.lemmas.Bool.{cond-true, cond-false}
+use Rattle.sty_sheet.specs.Records.{Record}
+use Rattle.sty_sheet.specs.Sheets.{sheet_of}
+use Rattle.line_excerpt.specs.declared.excerpt.SetOff.{SetOff}
+use Rattle.op_core.specs.Ops.{Operation}
+use Rattle.op_core.specs.Export.{has_book, export}
+use Rattle.usfm_export.specs.Books.{AnswersText}
+use Rattle.usfm_export.specs.declared.fault.TextFault.{TextFault}
+use Rattle.usfm_export.specs.declared.fault.TextFault.TheVariants as giving
+use Rattle.replica_state.specs.States.{State}
+use Rattle.project_file.specs.Projects.{project_at}
+use Rattle.project_file.specs.Answers.{RefusesLoad}
+use Rattle.project_file.specs.declared.fault.LoadFault.{LoadFault}
+use Rattle.project_file.specs.declared.fault.LoadFault.TheVariants as loading
+use Rattle.book_reports.specs.Reports as reports
+use Rattle.usfm_cli.specs.Commands.{MayWantMemory, Gives}
+use Rattle.usfm_cli.specs.Faults.{of_loading, of_book_text}
+use Rattle.usfm_cli.specs.EveryBook.{all_searched}
+use Rattle.usfm_cli.specs.OverBooks.{findings_of, checked, hits_of, searched, of_loaded, told_by, AnswersProject, IsSeenOf}
+use Rattle.usfm_cli.specs.Seen.{seen_of}
+use Rattle.usfm_cli.specs.SheetReports.{by_records, by_sheet, unless_empty, is_after_sheet}
+use Rattle.usfm_cli.specs.declared.fault.Fault.{Fault}
+use Rattle.usfm_cli.specs.declared.fault.Fault.TheVariants.{Memory, NotText, Reference, NoId, FieldBeforeMarker, EmptyMarker, BadStyleType}
+use Rattle.usfm_cli.specs.declared.fault.Fault.TheVariants.{Naming, Clash, Bundle, Trailing, BadSummary, BadSegment, NumbersUsedUp, NoBook}
+use Rattle.usfm_cli.specs.declared.fault.Fault.TheVariants.{NotShown, WriteFailed, EmptyNeedle, BadProject, ReadFailed, TooLong}
+use Rattle.usfm_cli.specs.declared.fault.Fault.TheVariants.{FileFailed, FileChanged}
+use Rattle.usfm_cli.proofs.Searched.{book_wanted, search_is_late}
+use Rattle.usfm_cli.proofs.Seen.{text_same}
+
+-- ---- where memory may be wanted
+
+-- nothing but a book's missing operations is refused once the sheet was read
+pub findings_wanted : (sheet : List ℕ) (held : List Operation) (set_off : Option SetOff) (book : Option (List ℕ)) (records : List Record)
+    → MayWantMemory (is_after_sheet sheet) (findings_of held set_off book records)
+findings_wanted sheet held set_off None records = tt
+findings_wanted sheet held set_off (Some book) records =
+    book_wanted sheet held book (λ text. Ok (reports.checked set_off records book text)) (λ text. tt)
+
+-- and an empty needle
+pub hits_wanted : (sheet : List ℕ) (held : List Operation) (set_off : Option SetOff) (book : Option (List ℕ)) (needle : List ℕ)
+    (records : List Record) → MayWantMemory (is_after_sheet sheet) (hits_of held set_off book needle records)
+hits_wanted sheet held set_off None needle records = search_is_late sheet needle (all_searched set_off records needle held)
+hits_wanted sheet held set_off (Some book) needle records =
+    book_wanted sheet held book (λ text. unless_empty needle (Ok (reports.searched set_off records needle book text)))
+    (λ text. search_is_late sheet needle (reports.searched set_off records needle book text))
+
+-- what is found in a book where the sheet is one and the book has an operation
+pub hits_are : (held : List Operation) (set_off : Option SetOff) (book needle sheet : List ℕ) (records : List Record)
+    → is_utf8 sheet ≡ true → sheet_of sheet ≡ Ok records → has_book held book ≡ true
+    → searched held set_off (Some book) needle sheet
+    ≡ unless_empty needle (Ok (reports.searched set_off records needle book (export held book)))
+hits_are held set_off book needle sheet records is read has =
+    cond-true _ _ _ is ∙ ap (λ r. by_records r (hits_of held set_off (Some book) needle)) read ∙ cond-true _ _ _ has
+
+-- a book without an operation is refused, and of one that has some out of memory may be answered
+pub hits_without_text : (A B : Type 0) (held : List Operation) (set_off : Option SetOff) (book needle sheet : List ℕ)
+    (records : List Record) (fault : TextFault) → is_utf8 sheet ≡ true → sheet_of sheet ≡ Ok records
+    → AnswersText {A = A} held book (Err fault)
+    → Gives {A = B} (is_after_sheet sheet) (searched held set_off (Some book) needle sheet) (Err (of_book_text fault))
+hits_without_text A B held set_off book needle sheet records giving.NoBook is read has =
+    cond-true _ _ _ is ∙ ap (λ r. by_records r (hits_of held set_off (Some book) needle)) read ∙ cond-false _ _ _ has
+hits_without_text A B held set_off book needle sheet records giving.Memory is read has =
+    let due = hits_are held set_off book needle sheet records is read has in
+    subst (MayWantMemory (is_after_sheet sheet)) (sym due) (search_is_late sheet needle _)
+
+-- the same of the findings
+pub findings_without_text : (A B : Type 0) (held : List Operation) (set_off : Option SetOff) (book sheet : List ℕ)
+    (records : List Record) (fault : TextFault) → is_utf8 sheet ≡ true → sheet_of sheet ≡ Ok records
+    → AnswersText {A = A} held book (Err fault)
+    → Gives {A = B} (is_after_sheet sheet) (checked held set_off (Some book) sheet) (Err (of_book_text fault))
+findings_without_text A B held set_off book sheet records giving.NoBook is read has =
+    cond-true _ _ _ is ∙ ap (λ r. by_records r (findings_of held set_off (Some book))) read ∙ cond-false _ _ _ has
+findings_without_text A B held set_off book sheet records giving.Memory is read has =
+    let due = cond-true _ _ _ is ∙ ap (λ r. by_records r (findings_of held set_off (Some book))) read in
+    subst (MayWantMemory (is_after_sheet sheet)) (sym due) (findings_wanted sheet held set_off (Some book) records)
+
+-- ---- what is seen
+
+checked_same : (book : Option (List ℕ)) (s : State) (set_off : Option SetOff) (sheet : List ℕ)
+    → checked (seen_of book s).held set_off book sheet ≡ checked s.held set_off book sheet
+checked_same None s set_off sheet = refl
+checked_same (Some book) s set_off sheet =
+    λ i. by_sheet sheet (λ records. text_same s.held book (λ text. Ok (reports.checked set_off records book text)) i)
+
+searched_same : (book : Option (List ℕ)) (s : State) (set_off : Option SetOff) (needle sheet : List ℕ)
+    → searched (seen_of book s).held set_off book needle sheet ≡ searched s.held set_off book needle sheet
+searched_same None s set_off needle sheet = refl
+searched_same (Some book) s set_off needle sheet = λ i. by_sheet sheet (λ records.
+    text_same s.held book (λ text. unless_empty needle (Ok (reports.searched set_off records needle book text))) i)
+
+-- what is given is what is wanted, where it is not that memory ended
+given_for : (A : Type 0) (late : Fault → Bool) (wanted : Result (List ℕ) Fault) (result : Result (Vec ℕ A) Fault)
+    → Gives late wanted result → result ≢ Err Memory → wanted ≡ told_by result
+given_for A late wanted (Ok lines) h other = h
+given_for A late wanted (Err Memory) h other = absurd (other refl)
+given_for A late wanted (Err (NotText valid)) h other = h
+given_for A late wanted (Err (Reference fault)) h other = h
+given_for A late wanted (Err NoId) h other = h
+given_for A late wanted (Err (FieldBeforeMarker line)) h other = h
+given_for A late wanted (Err (EmptyMarker line)) h other = h
+given_for A late wanted (Err (BadStyleType line)) h other = h
+given_for A late wanted (Err (Naming fault)) h other = h
+given_for A late wanted (Err (Clash id)) h other = h
+given_for A late wanted (Err (Bundle fault)) h other = h
+given_for A late wanted (Err Trailing) h other = h
+given_for A late wanted (Err BadSummary) h other = h
+given_for A late wanted (Err BadSegment) h other = h
+given_for A late wanted (Err NumbersUsedUp) h other = h
+given_for A late wanted (Err NoBook) h other = h
+given_for A late wanted (Err (NotShown id)) h other = h
+given_for A late wanted (Err (WriteFailed gone)) h other = h
+given_for A late wanted (Err EmptyNeedle) h other = h
+given_for A late wanted (Err BadProject) h other = h
+given_for A late wanted (Err ReadFailed) h other = h
+given_for A late wanted (Err TooLong) h other = h
+given_for A late wanted (Err FileFailed) h other = h
+given_for A late wanted (Err FileChanged) h other = h
+
+-- what is given of what is seen of a project is what is wanted of all of it
+seen_given : (A : Type 0) (bytes : List ℕ) (book : Option (List ℕ)) (seen : State) (late : Fault → Bool)
+    (reported : List Operation → Result (List ℕ) Fault) (result : Result (Vec ℕ A) Fault) → IsSeenOf bytes book seen
+    → ((s : State) → reported (seen_of book s).held ≡ reported s.held) → Gives late (reported seen.held) result
+    → AnswersProject bytes reported result
+seen_given A bytes book seen late reported result is same gives other =
+    ap (λ r. of_loaded r reported) is.loads ∙ sym (same is.whole) ∙ ap (λ (s : State). reported s.held) (sym is.seen_is)
+    ∙ given_for A late (reported seen.held) result gives other
+
+-- the findings in what is seen of a project
+pub checked_given : (A : Type 0) (bytes : List ℕ) (book : Option (List ℕ)) (seen : State) (set_off : Option SetOff) (sheet : List ℕ)
+    (result : Result (Vec ℕ A) Fault) → IsSeenOf bytes book seen
+    → Gives (is_after_sheet sheet) (checked seen.held set_off book sheet) result
+    → AnswersProject bytes (λ held. checked held set_off book sheet) result
+checked_given A bytes book seen set_off sheet result is gives =
+    seen_given A bytes book seen (is_after_sheet sheet) (λ held. checked held set_off book sheet) result is
+    (λ s. checked_same book s set_off sheet) gives
+
+-- the hits in what is seen of a project
+pub searched_given : (A : Type 0) (bytes : List ℕ) (book : Option (List ℕ)) (seen : State) (set_off : Option SetOff)
+    (needle sheet : List ℕ) (result : Result (Vec ℕ A) Fault) → IsSeenOf bytes book seen
+    → Gives (is_after_sheet sheet) (searched seen.held set_off book needle sheet) result
+    → AnswersProject bytes (λ held. searched held set_off book needle sheet) result
+searched_given A bytes book seen set_off needle sheet result is gives =
+    seen_given A bytes book seen (is_after_sheet sheet) (λ held. searched held set_off book needle sheet) result is
+    (λ s. searched_same book s set_off needle sheet) gives
+
+-- what is reported of a project that is seen whole
+pub whole_given : (A : Type 0) (bytes : List ℕ) (seen : State) (late : Fault → Bool) (reported : List Operation → Result (List ℕ) Fault)
+    (result : Result (Vec ℕ A) Fault) → IsSeenOf bytes None seen → Gives late (reported seen.held) result
+    → AnswersProject bytes reported result
+whole_given A bytes seen late reported result is gives =
+    seen_given A bytes None seen late reported result is (λ s. refl) gives
+
+-- a project that is not read is refused for that
+pub not_read : (A : Type 0) (bytes : List ℕ) (reported : List Operation → Result (List ℕ) Fault) (fault : LoadFault)
+    → RefusesLoad bytes fault → AnswersProject {A = A} bytes reported (Err (of_loading fault))
+not_read A bytes reported loading.Memory refused other = absurd (other refl)
+not_read A bytes reported loading.BadProject refused other = ap (λ r. of_loaded r reported) refused
+not_read A bytes reported (loading.Bundle fault) refused other = ap (λ r. of_loaded r reported) refused

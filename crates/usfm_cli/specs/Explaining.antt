@@ -1,0 +1,164 @@
+-- What a person reads of a fault (this project's own rule): the sentences of
+-- `src/explaining/sentences.rt`, each by its name.
+use Rattle.std.specs.Prelude.{ℕ, List, [], ◌∷◌, ◌++◌, Option, Some, None}
+use Rattle.usfm_ref.specs.declared.fault.RefFault.TheVariants.{BadBook, BadRef}
+use Rattle.op_core.specs.declared.fault.IdFault.TheVariants.{BadName, BadOpId}
+use Rattle.bundle_codec.specs.declared.fault.BundleFault.{BundleFault}
+use Rattle.bundle_codec.specs.declared.fault.BundleFault.TheVariants as bundle
+use Rattle.usfm_cli.specs.declared.fault.Fault.{Fault}
+use Rattle.usfm_cli.specs.declared.fault.Fault.TheVariants.{Memory, NotText, Reference, NoId}
+use Rattle.usfm_cli.specs.declared.fault.Fault.TheVariants.{FieldBeforeMarker, EmptyMarker}
+use Rattle.usfm_cli.specs.declared.fault.Fault.TheVariants.{BadStyleType, Naming, Clash, Bundle}
+use Rattle.usfm_cli.specs.declared.fault.Fault.TheVariants.{Trailing, BadSummary, BadSegment}
+use Rattle.usfm_cli.specs.declared.fault.Fault.TheVariants.{NumbersUsedUp, NoBook, NotShown}
+use Rattle.usfm_cli.specs.declared.fault.Fault.TheVariants.{WriteFailed, EmptyNeedle, BadProject}
+use Rattle.usfm_cli.specs.declared.fault.Fault.TheVariants.{ReadFailed, TooLong, FileFailed}
+use Rattle.usfm_cli.specs.declared.fault.Fault.TheVariants.{FileChanged}
+use Rattle.usfm_cli.specs.declared.explaining.circumstances.Circumstances.{Circumstances}
+use Rattle.usfm_cli.specs.declared.explaining.circumstances.Expected.{Expected}
+use Rattle.usfm_cli.specs.declared.explaining.circumstances.Expected.TheVariants as expected
+use Rattle.usfm_cli.specs.declared.explaining.circumstances.Found.{Found}
+use Rattle.usfm_cli.specs.declared.explaining.circumstances.Found.TheVariants as found
+use Rattle.usfm_cli.specs.declared.explaining.explanation.Explanation.{Explanation}
+use Rattle.usfm_cli.specs.declared.explaining.explanation.Explanation.TheVariants.{Sentences, InCapitals}
+use Rattle.usfm_cli.specs.declared.explaining.sentences.TheConstants as say
+
+-- the lines of an explanation
+abbrev pub explanation_text : Explanation → List ℕ
+explanation_text (Sentences text) = text.now ++ 10 ∷ []
+explanation_text (InCapitals book) = say.IN_CAPITALS.now ++ book ++ 10 ∷ []
+
+-- the sentences of a fault of a bundle
+abbrev pub of_bundle : BundleFault → List ℕ
+of_bundle bundle.Memory = say.MEMORY.now
+of_bundle bundle.Magic = say.NO_BUNDLE.now
+of_bundle bundle.Truncated = say.TRUNCATED.now
+of_bundle (bundle.NotRising at) = say.NOT_RISING.now
+of_bundle (bundle.BadId at) = say.BAD_OPERATION.now
+of_bundle (bundle.BadKey at) = say.BAD_KEY.now
+of_bundle (bundle.BadReplaced at) = say.BAD_REPLACED.now
+of_bundle (bundle.BadTag at) = say.BAD_TAG.now
+of_bundle (bundle.NotUtf8 at) = say.TEXT_NOT_UTF8.now
+of_bundle (bundle.BadText at) = say.BAD_TEXT.now
+of_bundle (bundle.Unsupported at) = say.UNSUPPORTED.now
+
+-- the sentences of a fault of which nothing more is known
+abbrev pub general : Fault → List ℕ
+general Memory = say.MEMORY.now
+general (NotText valid) = say.NOT_TEXT.now
+general (Reference BadBook) = say.NO_CODE.now
+general (Reference BadRef) = say.NO_REFERENCE.now
+general NoId = say.NO_ID.now
+general (FieldBeforeMarker line) = say.FIELD_BEFORE_MARKER.now
+general (EmptyMarker line) = say.EMPTY_MARKER.now
+general (BadStyleType line) = say.BAD_STYLE_TYPE.now
+general (Naming BadName) = say.BAD_NAME.now
+general (Naming BadOpId) = say.BAD_ID.now
+general (Clash id) = say.CLASH.now
+general (Bundle fault) = of_bundle fault
+general Trailing = say.TRAILING.now
+general BadSummary = say.NO_SUMMARY.now
+general BadSegment = say.BAD_SEGMENT.now
+general NumbersUsedUp = say.NUMBERS_USED_UP.now
+general NoBook = say.NO_BOOK.now
+general (NotShown id) = say.NOT_SHOWN.now
+general (WriteFailed gone) = say.WRITE_FAILED.now
+general EmptyNeedle = say.EMPTY_NEEDLE.now
+general BadProject = say.NO_PROJECT.now
+general ReadFailed = say.READ_FAILED.now
+general TooLong = say.TOO_LONG.now
+general FileFailed = say.FILE_FAILED.now
+general FileChanged = say.FILE_CHANGED.now
+
+-- of bytes that are no bundle, by what they are
+abbrev pub no_bundle : Found → List ℕ
+no_bundle found.BookFile = say.BOOK_NOT_BUNDLE.now
+no_bundle found.Project = say.PROJECT_NOT_BUNDLE.now
+no_bundle found.Summary = say.SUMMARY_NOT_BUNDLE.now
+no_bundle _ = say.NO_BUNDLE.now
+
+-- of a bundle's fault, by what the file was to be
+abbrev pub of_bytes : BundleFault → Expected → Found → List ℕ
+of_bytes _ expected.Project _ = say.DAMAGED_PROJECT.now
+of_bytes bundle.Magic _ stands = no_bundle stands
+of_bytes fault _ _ = of_bundle fault
+
+-- of a file that is to be a book's, by what it is
+abbrev pub no_book : Fault → Found → List ℕ
+no_book _ found.Bundle = say.BUNDLE_NOT_BOOK.now
+no_book fault _ = general fault
+
+-- of a file that is to be a project's, by what it is
+abbrev pub no_project : Found → List ℕ
+no_project found.Bundle = say.BUNDLE_NOT_PROJECT.now
+no_project found.BookFile = say.BOOK_NOT_PROJECT.now
+no_project found.Summary = say.SUMMARY_NOT_PROJECT.now
+no_project _ = say.NO_PROJECT.now
+
+-- of a file that is to be a summary, by what it is
+abbrev pub no_summary : Found → List ℕ
+no_summary found.Bundle = say.BUNDLE_NOT_SUMMARY.now
+no_summary _ = say.NO_SUMMARY.now
+
+-- of a folder that was not read, by what stands there
+abbrev pub unread_folder : Found → List ℕ
+unread_folder found.Unseen = say.READ_FAILED.now
+unread_folder found.Folder = say.READ_FAILED.now
+unread_folder found.Nothing = say.NO_FOLDER_THERE.now
+unread_folder _ = say.IS_FILE.now
+
+-- of a file that was not read, with what is said where nothing stands there
+abbrev pub unread_file : Found → List ℕ → List ℕ
+unread_file found.Nothing missing = missing
+unread_file found.Folder _ = say.IS_FOLDER.now
+unread_file _ _ = say.READ_FAILED.now
+
+-- of what was not read, by what it was to be
+abbrev pub unread : Expected → Found → List ℕ
+unread expected.Folder stands = unread_folder stands
+unread expected.Project stands = unread_file stands say.NO_PROJECT_THERE.now
+unread _ stands = unread_file stands say.NOTHING_THERE.now
+
+-- of a project that was not begun, by what stands there
+abbrev pub not_begun : Found → List ℕ
+not_begun found.Unseen = say.FILE_FAILED.now
+not_begun found.Nothing = say.FILE_FAILED.now
+not_begun _ = say.IS_THERE.now
+
+-- of a text that is refused: by what it is where it is to be a book's file
+abbrev pub of_file : Fault → Expected → Found → List ℕ
+of_file fault expected.BookFile stands = no_book fault stands
+of_file fault _ _ = general fault
+
+-- of a file that was not written: by what stands there where it is to be a project
+abbrev pub unwritten : Expected → Found → List ℕ
+unwritten expected.NewProject stands = not_begun stands
+unwritten _ _ = say.FILE_FAILED.now
+
+-- of what follows a bundle
+abbrev pub trailing : Expected → List ℕ
+trailing expected.Project = say.DAMAGED_PROJECT.now
+trailing _ = say.TRAILING.now
+
+-- the sentences of a fault, by what its file was to be and what stands there
+abbrev pub sentences : Fault → Expected → Found → List ℕ
+sentences (Bundle fault) role stands = of_bytes fault role stands
+sentences Trailing role _ = trailing role
+sentences (NotText valid) role stands = of_file (NotText valid) role stands
+sentences NoId role stands = of_file NoId role stands
+sentences BadProject _ stands = no_project stands
+sentences BadSummary _ stands = no_summary stands
+sentences ReadFailed role stands = unread role stands
+sentences FileFailed role stands = unwritten role stands
+sentences fault _ _ = general fault
+
+-- of what is no book's code, by the book that is meant
+abbrev pub of_code : Option (List ℕ) → List ℕ
+of_code (Some book) = say.IN_CAPITALS.now ++ book ++ 10 ∷ []
+of_code None = say.NO_CODE.now ++ 10 ∷ []
+
+-- the lines that a person reads of a fault: of a book's code in small letters the code in
+-- capitals, else the sentences
+abbrev pub explained : Fault → Circumstances → List ℕ
+explained (Reference BadBook) known = of_code known.meant
+explained fault known = sentences fault known.expected known.found ++ 10 ∷ []

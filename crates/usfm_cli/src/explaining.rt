@@ -1,0 +1,6 @@
+// What a person reads of a fault, beside its line.
+pub(crate) mod circumstances;
+pub(crate) mod explanation;
+pub(crate) mod listing;
+pub(crate) mod remarks;
+mod sentences;

@@ -1,0 +1,168 @@
+// What is known of a refusal beside its fault: which file it is of, and what that file is.
+ghost use Rattle.std.specs.Prelude.{◌≡◌, IsErr, OnOk};
+ghost use Rattle.project_file.specs.Projects.{project_at};
+ghost use Rattle.usfm_cli.specs.Circumstances as told;
+
+use crate::fault::Fault;
+use project_file::{LoadFault, judge};
+use std::alloc::Global;
+use usfm_ref::Book;
+
+/// What the file of a refusal was to be.
+#[derive(Clone, Copy, Debug, PartialEq, Eq, Drop)]
+pub enum Expected {
+    /// Nothing that is known, or the refusal is of no file.
+    Unknown,
+    /// A project.
+    Project,
+    /// A project that is to be begun: nothing may stand under its name.
+    NewProject,
+    /// A bundle.
+    Bundle,
+    /// The file of a book.
+    BookFile,
+    /// A summary.
+    Summary,
+    /// A style sheet.
+    Sheet,
+    /// A folder of books' files.
+    Folder,
+}
+
+/// What stands under the name of a file.
+#[derive(Clone, Copy, Debug, PartialEq, Eq, Drop)]
+pub enum Found {
+    /// Nobody has looked.
+    Unseen,
+    /// Nothing.
+    Nothing,
+    /// A folder.
+    Folder,
+    /// A file that begins as a project does.
+    Project,
+    /// A file that begins as a bundle does.
+    Bundle,
+    /// A file that begins as a summary does.
+    Summary,
+    /// A file that begins as a book does, with `\id`.
+    BookFile,
+    /// Another file.
+    Other,
+}
+
+/// What is known of a refusal beside its fault.
+#[derive(Clone, Copy, Debug, PartialEq, Eq, Drop)]
+pub struct Circumstances {
+    /// What the file was to be.
+    pub expected: Expected,
+    /// What stands there.
+    pub found: Found,
+    /// The book that a word of the command line means by its code in small letters.
+    pub meant: Option<Book>,
+}
+
+impl Circumstances {
+    /// Nothing is known.
+    pub const UNKNOWN: Circumstances = Circumstances {
+        expected: Expected::Unknown,
+        found: Found::Unseen,
+        meant: None,
+    };
+}
+
+/// Which of two inputs a command was refused for.
+#[derive(Clone, Copy, Debug, PartialEq, Eq, Drop)]
+pub enum Input {
+    /// The project.
+    Project,
+    /// The other file that it reads.
+    Given,
+    /// Neither: what it was to do.
+    Neither,
+}
+
+/// How many bytes of a file's front `found_file` reads.
+pub const FRONT_BYTES: usize = 8;
+
+/// What a file is, by its first bytes: a project, a bundle or a summary by the first seven of its
+/// magic, and a book's file by `\id` after at most one U+FEFF.
+pub fn found_file(front: &[u8]) -> Found
+    ensures { result ≡ told.found_file front.now }
+{
+    if front.starts_with(b"USFMPJ1") {
+        Found::Project
+    } else if front.starts_with(b"USFMSR1") || front.starts_with(b"USFMSR2") {
+        Found::Bundle
+    } else if front.starts_with(b"USFMSS1") {
+        Found::Summary
+    } else if front.starts_with(b"\\id") || front.starts_with(b"\xef\xbb\xbf\\id") {
+        Found::BookFile
+    } else {
+        Found::Other
+    }
+}
+
+/// The book whose code a word begins with in small letters: three bytes that are a code in
+/// capitals, and are none as they stand, before the word's end or a space.
+pub fn book_meant(word: &str) -> Option<Book>
+    ensures { result ≡ told.book_meant word.now }
+{
+    match word.as_bytes() {
+        [a, b, c] => capital_code(*a, *b, *c),
+        [a, b, c, b' ', ..] => capital_code(*a, *b, *c),
+        _ => None,
+    }
+}
+
+// The book of a code in capitals, if it was not written so.
+fn capital_code(a: u8, b: u8, c: u8) -> Option<Book>
+    ensures { result ≡ told.capital_code a b c }
+{
+    let capitals = [
+        a.to_ascii_uppercase(),
+        b.to_ascii_uppercase(),
+        c.to_ascii_uppercase(),
+    ];
+    if capitals == [a, b, c] {
+        None
+    } else {
+        code_book(capitals)
+    }
+}
+
+fn code_book(code: [u8; 3]) -> Option<Book>
+    ensures { result ≡ told.code_book code }
+{
+    Book::of_code(code)
+}
+
+/// Which input a command on a project, given as the bytes of its file, was refused for. Where the
+/// project is whole, faults of bytes are of the other input.
+pub fn refused_input(alloc: Global, project: &[u8], fault: &Fault) -> Input
+    ensures whole { OnOk (project_at project.now) (result ≡ told.input_of fault.now) }
+    ensures damaged { result ≡ Input.Project → IsErr (project_at project.now) }
+{
+    match judge(alloc, project) {
+        Err(LoadFault::BadProject) | Err(LoadFault::Bundle(_)) => Input::Project,
+        Err(LoadFault::Memory) | Ok(_) => input_of(fault),
+    }
+}
+
+// The input that a whole project is not refused for.
+fn input_of(fault: &Fault) -> Input
+    ensures { result ≡ told.input_of fault.now }
+{
+    match fault {
+        Fault::NotText { valid: _ }
+        | Fault::Reference(_)
+        | Fault::NoId
+        | Fault::FieldBeforeMarker { line: _ }
+        | Fault::EmptyMarker { line: _ }
+        | Fault::BadStyleType { line: _ }
+        | Fault::Clash(_)
+        | Fault::Bundle(_)
+        | Fault::Trailing
+        | Fault::BadSummary => Input::Given,
+        _ => Input::Neither,
+    }
+}

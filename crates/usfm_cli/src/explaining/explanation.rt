@@ -1,0 +1,218 @@
+// Which sentences belong to a fault and what is known beside it.
+ghost use Rattle.std.specs.Prelude.{◌≡◌, Some};
+ghost use Rattle.usfm_cli.specs.Explaining as told;
+
+use crate::explaining::circumstances::{Circumstances, Expected, Found};
+use crate::explaining::sentences::{
+    BAD_ID, BAD_KEY, BAD_NAME, BAD_OPERATION, BAD_REPLACED, BAD_SEGMENT, BAD_STYLE_TYPE, BAD_TAG,
+    BAD_TEXT, BOOK_NOT_BUNDLE, BOOK_NOT_PROJECT, BUNDLE_NOT_BOOK, BUNDLE_NOT_PROJECT,
+    BUNDLE_NOT_SUMMARY, CLASH, DAMAGED_PROJECT, EMPTY_MARKER, EMPTY_NEEDLE, FIELD_BEFORE_MARKER,
+    FILE_CHANGED, FILE_FAILED, IN_CAPITALS, IS_FILE, IS_FOLDER, IS_THERE, MEMORY, NO_BOOK,
+    NO_BUNDLE, NO_CODE, NO_FOLDER_THERE, NO_ID, NO_PROJECT, NO_PROJECT_THERE, NO_REFERENCE,
+    NO_SUMMARY, NOT_RISING, NOT_SHOWN, NOT_TEXT, NOTHING_THERE, NUMBERS_USED_UP,
+    PROJECT_NOT_BUNDLE, READ_FAILED, SUMMARY_NOT_BUNDLE, SUMMARY_NOT_PROJECT, TEXT_NOT_UTF8,
+    TOO_LONG, TRAILING, TRUNCATED, UNSUPPORTED, WRITE_FAILED,
+};
+use crate::fault::Fault;
+use bundle_codec::BundleFault;
+use op_core::IdFault;
+use std::fmt;
+use usfm_ref::{Book, RefFault};
+
+/// What a person reads of a fault: as text its lines, each with a line feed, of which the first
+/// says what is the case, and the others what to do.
+#[derive(Clone, Copy, Debug, Drop)]
+pub enum Explanation {
+    /// Sentences.
+    Sentences(&'static str),
+    /// A code of a book was given in small letters, and this is the book.
+    InCapitals(Book),
+}
+
+impl fmt::Display for Explanation {
+    ghost output = { λ explanation. Some (told.explanation_text explanation) };
+
+    fn fmt<W: fmt::Write>(&self, f: &mut fmt::Formatter<W>) -> fmt::Result {
+        match self {
+            Explanation::Sentences(text) => write!(f, "{text}\n"),
+            Explanation::InCapitals(book) => write!(f, "{IN_CAPITALS}{book}\n"),
+        }
+    }
+}
+
+/// What a person reads of a fault, by what is known beside it. It takes no memory.
+pub fn explained(fault: &Fault, known: &Circumstances) -> Explanation
+    ensures { told.explanation_text result ≡ told.explained fault.now known.now }
+{
+    match (fault, known.meant) {
+        (Fault::Reference(RefFault::BadBook), Some(book)) => Explanation::InCapitals(book),
+        _ => Explanation::Sentences(sentences(fault, known.expected, known.found)),
+    }
+}
+
+/// The sentences of a fault of which nothing more is known.
+pub(crate) fn general_sentences(fault: &Fault) -> &'static str
+    ensures { result.now ≡ told.general fault.now }
+{
+    match fault {
+        Fault::Memory => MEMORY,
+        Fault::NotText { valid: _ } => NOT_TEXT,
+        Fault::Reference(RefFault::BadBook) => NO_CODE,
+        Fault::Reference(RefFault::BadRef) => NO_REFERENCE,
+        Fault::NoId => NO_ID,
+        Fault::FieldBeforeMarker { line: _ } => FIELD_BEFORE_MARKER,
+        Fault::EmptyMarker { line: _ } => EMPTY_MARKER,
+        Fault::BadStyleType { line: _ } => BAD_STYLE_TYPE,
+        Fault::Naming(IdFault::BadName) => BAD_NAME,
+        Fault::Clash(_) => CLASH,
+        Fault::Naming(IdFault::BadOpId) => BAD_ID,
+        Fault::Bundle(fault) => of_bundle(fault),
+        Fault::Trailing => TRAILING,
+        Fault::BadSummary => NO_SUMMARY,
+        Fault::BadSegment => BAD_SEGMENT,
+        Fault::NumbersUsedUp => NUMBERS_USED_UP,
+        Fault::NoBook => NO_BOOK,
+        Fault::NotShown(_) => NOT_SHOWN,
+        Fault::WriteFailed { gone: _ } => WRITE_FAILED,
+        Fault::EmptyNeedle => EMPTY_NEEDLE,
+        Fault::BadProject => NO_PROJECT,
+        Fault::ReadFailed => READ_FAILED,
+        Fault::TooLong => TOO_LONG,
+        Fault::FileFailed => FILE_FAILED,
+        Fault::FileChanged => FILE_CHANGED,
+    }
+}
+
+fn of_bundle(fault: &BundleFault) -> &'static str
+    ensures { result.now ≡ told.of_bundle fault.now }
+{
+    match fault {
+        BundleFault::Memory => MEMORY,
+        BundleFault::Magic => NO_BUNDLE,
+        BundleFault::Truncated => TRUNCATED,
+        BundleFault::NotRising(_) => NOT_RISING,
+        BundleFault::BadId(_) => BAD_OPERATION,
+        BundleFault::BadKey(_) => BAD_KEY,
+        BundleFault::BadReplaced(_) => BAD_REPLACED,
+        BundleFault::BadTag(_) => BAD_TAG,
+        BundleFault::NotUtf8(_) => TEXT_NOT_UTF8,
+        BundleFault::BadText(_) => BAD_TEXT,
+        BundleFault::Unsupported(_) => UNSUPPORTED,
+    }
+}
+
+// The sentences of a fault by what its file was to be, and what stands there.
+fn sentences(fault: &Fault, expected: Expected, found: Found) -> &'static str
+    ensures { result.now ≡ told.sentences fault.now expected found }
+{
+    match fault {
+        Fault::Bundle(inner) => of_bytes(inner, expected, found),
+        Fault::Trailing => match expected {
+            Expected::Project => DAMAGED_PROJECT,
+            _ => TRAILING,
+        },
+        Fault::NotText { valid: _ } | Fault::NoId => match expected {
+            Expected::BookFile => no_book(fault, found),
+            _ => general_sentences(fault),
+        },
+        Fault::BadProject => no_project(found),
+        Fault::BadSummary => no_summary(found),
+        Fault::ReadFailed => unread(expected, found),
+        Fault::FileFailed => match expected {
+            Expected::NewProject => not_begun(found),
+            _ => FILE_FAILED,
+        },
+        _ => general_sentences(fault),
+    }
+}
+
+fn of_bytes(fault: &BundleFault, expected: Expected, found: Found) -> &'static str
+    ensures { result.now ≡ told.of_bytes fault.now expected found }
+{
+    match expected {
+        Expected::Project => DAMAGED_PROJECT,
+        _ => match fault {
+            BundleFault::Magic => no_bundle(found),
+            _ => of_bundle(fault),
+        },
+    }
+}
+
+fn no_bundle(found: Found) -> &'static str
+    ensures { result.now ≡ told.no_bundle found }
+{
+    match found {
+        Found::BookFile => BOOK_NOT_BUNDLE,
+        Found::Project => PROJECT_NOT_BUNDLE,
+        Found::Summary => SUMMARY_NOT_BUNDLE,
+        _ => NO_BUNDLE,
+    }
+}
+
+fn no_book(fault: &Fault, found: Found) -> &'static str
+    ensures { result.now ≡ told.no_book fault.now found }
+{
+    match found {
+        Found::Bundle => BUNDLE_NOT_BOOK,
+        _ => general_sentences(fault),
+    }
+}
+
+fn no_project(found: Found) -> &'static str
+    ensures { result.now ≡ told.no_project found }
+{
+    match found {
+        Found::Bundle => BUNDLE_NOT_PROJECT,
+        Found::BookFile => BOOK_NOT_PROJECT,
+        Found::Summary => SUMMARY_NOT_PROJECT,
+        _ => NO_PROJECT,
+    }
+}
+
+fn no_summary(found: Found) -> &'static str
+    ensures { result.now ≡ told.no_summary found }
+{
+    match found {
+        Found::Bundle => BUNDLE_NOT_SUMMARY,
+        _ => NO_SUMMARY,
+    }
+}
+
+fn unread(expected: Expected, found: Found) -> &'static str
+    ensures { result.now ≡ told.unread expected found }
+{
+    match expected {
+        Expected::Folder => unread_folder(found),
+        Expected::Project => unread_file(found, NO_PROJECT_THERE),
+        _ => unread_file(found, NOTHING_THERE),
+    }
+}
+
+fn unread_folder(found: Found) -> &'static str
+    ensures { result.now ≡ told.unread_folder found }
+{
+    match found {
+        Found::Unseen | Found::Folder => READ_FAILED,
+        Found::Nothing => NO_FOLDER_THERE,
+        _ => IS_FILE,
+    }
+}
+
+fn unread_file(found: Found, missing: &'static str) -> &'static str
+    ensures { result.now ≡ told.unread_file found missing.now }
+{
+    match found {
+        Found::Nothing => missing,
+        Found::Folder => IS_FOLDER,
+        _ => READ_FAILED,
+    }
+}
+
+fn not_begun(found: Found) -> &'static str
+    ensures { result.now ≡ told.not_begun found }
+{
+    match found {
+        Found::Unseen | Found::Nothing => FILE_FAILED,
+        _ => IS_THERE,
+    }
+}

@@ -1,0 +1,53 @@
+// What is said of a command that was done, where a person reads what faults mean.
+ghost use Rattle.std.specs.Prelude.{◌≡◌, [], Ok, IsTrue};
+ghost use Rattle.sty_sheet.specs.Sheets.{sheet_of};
+
+use crate::command::Command;
+use std::alloc::Global;
+use std::str;
+use sty_sheet::Sheet;
+
+const SHOWS_NOTHING: &str = "the project has no text of this segment";
+
+const NO_RECORD: &str = "the style sheet has no \\Marker, so it knows no mark: is it another file?";
+
+/// What follows the name of a folder in which there is no file of a book.
+pub const NO_BOOK_FILE: &str =
+    " is a book's: its name ends in .usfm or .sfm, and it begins with \\id";
+
+/// What is said of a file whose name ends in `.txt`, in a folder of books' files.
+pub const TEXT_NAME: &str = ": the name of a book's file ends in .usfm or .sfm";
+
+/// What is to be said beside the answer of a command that was done: that a segment shows nothing,
+/// where that is asked, or that a style sheet has no record.
+pub fn remark(alloc: Global, command: &Command<'_>, output: &[u8]) -> Option<&'static str> {
+    match command {
+        Command::Shown(..) if output.is_empty() => Some(SHOWS_NOTHING),
+        Command::Check(_, sheet) | Command::Find(_, sheet, _) | Command::Words(_, sheet) => {
+            sheet_remark(alloc, sheet)
+        }
+        _ => None,
+    }
+}
+
+/// What is to be said beside an answer by a style sheet: that the sheet has no record, if it has none.
+pub fn sheet_remark(alloc: Global, sheet: &[u8]) -> Option<&'static str> {
+    if has_no_record(alloc, sheet) {
+        Some(NO_RECORD)
+    } else {
+        None
+    }
+}
+
+// Whether the bytes are a style sheet without a record. Where there is no memory, they are not.
+fn has_no_record(alloc: Global, sheet: &[u8]) -> bool
+    ensures { IsTrue result → sheet_of sheet.now ≡ Ok [] }
+{
+    match str::from_utf8(sheet) {
+        Ok(text) => match Sheet::read(alloc, text) {
+            Ok(sheet) => sheet.iter().next().is_none(),
+            Err(_) => false,
+        },
+        Err(_) => false,
+    }
+}

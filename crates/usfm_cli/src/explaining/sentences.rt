@@ -1,0 +1,209 @@
+// What a person reads of each fault: the first line says what is the case, and those after it
+// what to do. Each stands here once: the program says it, and the tables in README and
+// docs/FORMATS.md are made from what the program says.
+
+pub(crate) const MEMORY: &str = "\
+There was not enough memory.
+Close other programs, and try again. Only `sync` may have changed the project.";
+
+pub(crate) const NOT_TEXT: &str = "\
+The text is not UTF-8 after this many bytes.
+Save it as UTF-8 in your editor, and try again.";
+
+pub(crate) const NO_CODE: &str = "\
+This is not a book's code, in the command or after \\id in a file.
+A code is three of A to Z and 0 to 9, such as MAT: 'MAT 1:1', or \\id MAT.";
+
+pub(crate) const IN_CAPITALS: &str = "\
+The code of a book is written in capitals.
+Write it so: ";
+
+pub(crate) const NO_REFERENCE: &str = "\
+This is not a reference.
+Write 'MAT 1:1' for a verse, 'MAT 1' for the head of a chapter, and 'MAT 0'
+for that of the book.";
+
+pub(crate) const NO_ID: &str = "\
+The file does not begin with \\id and a blank.
+Give it a first line with the code of its book, such as \\id MAT.";
+
+pub(crate) const BUNDLE_NOT_BOOK: &str = "\
+This is a bundle, and not the file of a book.
+Take it in with `receive`.";
+
+pub(crate) const FIELD_BEFORE_MARKER: &str = "\
+This line of the style sheet has a field, and no \\Marker comes before it.
+Correct that line.";
+
+pub(crate) const EMPTY_MARKER: &str = "\
+This line of the style sheet has a \\Marker without a name.
+Correct that line.";
+
+pub(crate) const BAD_STYLE_TYPE: &str = "\
+This line of the style sheet has an unknown \\StyleType.
+Make it Paragraph, Character, Note or Milestone.";
+
+pub(crate) const BAD_NAME: &str = "\
+This is not a name for a copy.
+Take 1 to 32 of a to z, 0 to 9 and -, such as ana.";
+
+pub(crate) const CLASH: &str = "\
+Two different edits have this id.
+Two copies use one name, or one was set back to an old file, or a file was
+changed by hand. Let one go on under another name: see docs/WALKTHROUGH.md.";
+
+pub(crate) const BAD_ID: &str = "\
+This is not the id of an edit.
+Write its number, a colon and the name of its copy: 3:ana for `op 3 ana`.";
+
+pub(crate) const DAMAGED_PROJECT: &str = "\
+The project's file is damaged.
+Go on from its last good copy: see docs/WALKTHROUGH.md.";
+
+pub(crate) const NO_BUNDLE: &str = "\
+This is not a bundle.
+It is another file, or was changed on its way: have it sent again.";
+
+pub(crate) const BOOK_NOT_BUNDLE: &str = "\
+This is the file of a book, and not a bundle.
+Take it in with `import`, or with `sync` where it is in a folder of books.";
+
+pub(crate) const PROJECT_NOT_BUNDLE: &str = "\
+This is a project, and not a bundle.
+Make a bundle of it first: usfm_team send PROJECT > BUNDLE";
+
+pub(crate) const SUMMARY_NOT_BUNDLE: &str = "\
+This is a summary, and not a bundle.
+Make a bundle for its sender: usfm_team delta PROJECT SUMMARY > BUNDLE";
+
+pub(crate) const TRUNCATED: &str = "\
+The bundle is truncated: its end is missing.
+Have it sent again.";
+
+pub(crate) const NOT_RISING: &str = "\
+The bundle is damaged: this operation's id is not above the one before.
+Have it sent again.";
+
+pub(crate) const BAD_OPERATION: &str = "\
+The bundle is damaged: this operation's number or name is out of range.
+Have it sent again.";
+
+pub(crate) const BAD_KEY: &str = "\
+The bundle is damaged: this operation's book or verse is out of range.
+Have it sent again.";
+
+pub(crate) const BAD_REPLACED: &str = "\
+The bundle is damaged: this operation replaces what it cannot replace.
+Have it sent again.";
+
+pub(crate) const BAD_TAG: &str = "\
+The bundle is damaged: this operation has an unknown tag.
+Have it sent again.";
+
+pub(crate) const TEXT_NOT_UTF8: &str = "\
+The bundle is damaged: the text of this operation is not UTF-8.
+Have it sent again.";
+
+pub(crate) const BAD_TEXT: &str = "\
+The bundle is damaged: the text of this operation does not fit its segment.
+Have it sent again.";
+
+pub(crate) const UNSUPPORTED: &str = "\
+The bundle is damaged: it leaves out this operation's text, or, at 0, none.
+Have it sent again.";
+
+pub(crate) const TRAILING: &str = "\
+Something follows the bundle.
+Have it sent again.";
+
+pub(crate) const NO_SUMMARY: &str = "\
+This is not a summary.
+Have it sent again, as `summary` writes it.";
+
+pub(crate) const BUNDLE_NOT_SUMMARY: &str = "\
+This is a bundle, and not a summary.
+Take it in with `receive`; `summary` writes a summary.";
+
+pub(crate) const BAD_SEGMENT: &str = "\
+The text does not fit its segment.
+Begin it with the segment's mark, such as \\v 1, and leave later verses out.";
+
+pub(crate) const NUMBERS_USED_UP: &str = "\
+No number is left for another edit.
+A damaged or forged bundle brought the greatest one. Export the books, and
+begin new copies: see docs/WALKTHROUGH.md.";
+
+pub(crate) const NO_BOOK: &str = "\
+The project has nothing of this book.
+Import its file. A file with only the line \\id MAT begins Matthew.";
+
+pub(crate) const NOT_SHOWN: &str = "\
+The segment does not show this edit, or no longer shows it.
+Look with `shown`, and name what it shows.";
+
+pub(crate) const WRITE_FAILED: &str = "\
+Writing the answer failed after this many bytes.
+The disk is full, or nobody reads on. A command that changes the project has
+done so: look with `shown` or `report`.";
+
+pub(crate) const EMPTY_NEEDLE: &str = "\
+The text to find is empty.
+Give `find` a text.";
+
+pub(crate) const NO_PROJECT: &str = "\
+This is not a project's file.
+Check its name. If it was a project, go on from its last good copy.";
+
+pub(crate) const BUNDLE_NOT_PROJECT: &str = "\
+This is a bundle, and not a project.
+A project takes it in: usfm_team receive PROJECT BUNDLE";
+
+pub(crate) const BOOK_NOT_PROJECT: &str = "\
+This is the file of a book, and not a project.
+A project takes it in: usfm_team import PROJECT FILE";
+
+pub(crate) const SUMMARY_NOT_PROJECT: &str = "\
+This is a summary, and not a project.
+Name the project first: usfm_team delta PROJECT SUMMARY > BUNDLE";
+
+pub(crate) const READ_FAILED: &str = "\
+A file or a folder could not be read.
+Check its name and its permissions.";
+
+pub(crate) const IS_FOLDER: &str = "\
+This is a folder, and a file is wanted here.
+Name the file. Only `sync` and `export --into` take a folder.";
+
+pub(crate) const IS_FILE: &str = "\
+This is not a folder.
+Name the folder that the books' files are in.";
+
+pub(crate) const NOTHING_THERE: &str = "\
+There is no file of this name.
+Check the name, and which folder you are in.";
+
+pub(crate) const NO_PROJECT_THERE: &str = "\
+There is no project of this name.
+Check the name, and which folder you are in. `init` begins a project.";
+
+pub(crate) const NO_FOLDER_THERE: &str = "\
+There is no folder of this name.
+Check the name, or make the folder first with `mkdir`.";
+
+pub(crate) const TOO_LONG: &str = "\
+The file has more than 268,435,456 bytes, the most that can be read.
+If it is a project, see Limits in docs/DISK.md.";
+
+pub(crate) const FILE_FAILED: &str = "\
+A file could not be written, or the disk may not keep it.
+Check the folder's permissions and the free space, and look with `shown`. A
+project that nobody may write, or that has a hard link, is not changed.";
+
+pub(crate) const IS_THERE: &str = "\
+Something of this name is there already.
+Go on with that project, or begin one under another name.";
+
+pub(crate) const FILE_CHANGED: &str = "\
+A file of the folder would lose text.
+Correct its first line, or save it as UTF-8. Else move it away, sync, and make
+its changes in the new file; or `import` it, to have it replace the book.";

@@ -1,0 +1,150 @@
+// What is looked up in a project's books by a style sheet: the one that the line names, or the program's own.
+use crate::refusal::{Given, Refusal, read_named};
+use crate::telling::say;
+use crate::{answer, write_as_it_is, write_output};
+use carried_sheet::carried_sheet;
+use std::io::IsTerminal;
+use usfm_cli::{
+    Command, Expected, Fault, SetOff, check_project, find_project, sheet_remark, word_project,
+};
+use usfm_ref::Book;
+
+// Reports what is found in a book, or in all.
+pub(crate) fn check(
+    rt: &HostRuntime,
+    project: &str,
+    book: Option<Book>,
+    sheet: Option<String>,
+    with_text: bool,
+    explains: bool,
+) -> Result<(), Refusal> {
+    let bytes = read_named(rt, project, Expected::Project)?;
+    let project = Given::of(project, &bytes);
+    let sheet = read_sheet(rt, sheet)?;
+    let given = sheet.bytes.as_slice();
+    match (book, set_off(rt, with_text)) {
+        (Some(book), None) => {
+            let command = Command::Check(book, given);
+            answer(rt, &project, &command, sheet.named(), explains)
+        }
+        (book, set_off) => {
+            let lines = check_project(rt.alloc(), &bytes, book, given, set_off);
+            write_lines(rt, &project, &sheet, lines, set_off, explains)
+        }
+    }
+}
+
+// Finds a needle in a book, or in all.
+pub(crate) fn find(
+    rt: &HostRuntime,
+    project: &str,
+    book: Option<Book>,
+    sheet: Option<String>,
+    needle: &str,
+    with_text: bool,
+    explains: bool,
+) -> Result<(), Refusal> {
+    let bytes = read_named(rt, project, Expected::Project)?;
+    let project = Given::of(project, &bytes);
+    let sheet = read_sheet(rt, sheet)?;
+    let given = sheet.bytes.as_slice();
+    match (book, set_off(rt, with_text)) {
+        (Some(book), None) => {
+            let command = Command::Find(book, given, needle);
+            answer(rt, &project, &command, sheet.named(), explains)
+        }
+        (book, set_off) => {
+            let lines = find_project(rt.alloc(), &bytes, book, given, needle, set_off);
+            write_lines(rt, &project, &sheet, lines, set_off, explains)
+        }
+    }
+}
+
+// Lists the words of a book, or of all.
+pub(crate) fn words(
+    rt: &HostRuntime,
+    project: &str,
+    book: Option<Book>,
+    sheet: Option<String>,
+    explains: bool,
+) -> Result<(), Refusal> {
+    let bytes = read_named(rt, project, Expected::Project)?;
+    let project = Given::of(project, &bytes);
+    let sheet = read_sheet(rt, sheet)?;
+    let given = sheet.bytes.as_slice();
+    match book {
+        Some(book) => {
+            let command = Command::Words(book, given);
+            answer(rt, &project, &command, sheet.named(), explains)
+        }
+        None => {
+            let lines = word_project(rt.alloc(), &bytes, given);
+            write_lines(rt, &project, &sheet, lines, None, explains)
+        }
+    }
+}
+
+// A style sheet, and the name that the line gives it, unless it is the program's own.
+#[derive(Drop)]
+struct GivenSheet {
+    path: Option<String>,
+    bytes: Vec<u8>,
+}
+
+impl GivenSheet {
+    // What a refusal of it names.
+    fn named(&self) -> Option<(&str, Expected)> {
+        match &self.path {
+            Some(path) => Some((path.as_str(), Expected::Sheet)),
+            None => None,
+        }
+    }
+}
+
+// The style sheet that the line names, or else the program's own.
+fn read_sheet(rt: &HostRuntime, path: Option<String>) -> Result<GivenSheet, Refusal> {
+    let bytes = match &path {
+        Some(path) => read_named(rt, path, Expected::Sheet)?,
+        None => carried_sheet()
+            .as_bytes()
+            .to_vec(rt.alloc())
+            .map_err(Fault::from)?,
+    };
+    Ok(GivenSheet { path, bytes })
+}
+
+// Writes what was found. At a terminal the lines with the text have no control character but those that set something off.
+fn write_lines(
+    rt: &HostRuntime,
+    project: &Given<'_>,
+    sheet: &GivenSheet,
+    lines: Result<Vec<u8>, Fault>,
+    set_off: Option<SetOff>,
+    explains: bool,
+) -> Result<(), Refusal> {
+    let lines = match lines {
+        Ok(lines) => lines,
+        Err(fault) => return Err(Refusal::of_inputs(rt, fault, project, sheet.named())),
+    };
+    match set_off {
+        Some(_) => write_as_it_is(rt, &lines)?,
+        None => write_output(rt, &lines)?,
+    }
+    if explains {
+        if let Some(line) = sheet_remark(rt.alloc(), &sheet.bytes) {
+            say(rt, line);
+        }
+    }
+    Ok(())
+}
+
+// How what is found is set off in the line of the text, if that is asked for.
+fn set_off(rt: &HostRuntime, with_text: bool) -> Option<SetOff> {
+    if !with_text {
+        None
+    } else if rt.stdout().is_terminal() {
+        Some(SetOff::Reverse)
+    } else {
+        Some(SetOff::Brackets)
+    }
+}

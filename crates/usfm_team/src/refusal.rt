@@ -1,0 +1,150 @@
+// Why a command was refused, and which file that is about.
+use crate::files::read_file;
+use usfm_cli::{Expected, Fault, Input, TurnFault, refused_input};
+
+// Why a line was refused: the fault, and the file that it is of.
+#[derive(Debug, Drop)]
+pub(crate) struct Refusal {
+    pub(crate) fault: Fault,
+    pub(crate) file: Option<RefusedFile>,
+}
+
+// The file of a refusal.
+#[derive(Debug, Drop)]
+pub(crate) struct RefusedFile {
+    pub(crate) name: String,
+    // What it was to be.
+    pub(crate) expected: Expected,
+    // Whether the line names no other file that it could be: then it is said only with what the
+    // fault means.
+    pub(crate) is_alone: bool,
+}
+
+impl From<Fault> for Refusal {
+    fn from(fault: Fault) -> Self {
+        Refusal { fault, file: None }
+    }
+}
+
+impl Refusal {
+    // The refusal of a file, where the line names several, or a folder. Where out of memory keeps
+    // its name from being copied, the fault alone is said.
+    pub(crate) fn at(rt: &HostRuntime, fault: Fault, file: &str) -> Refusal {
+        Refusal::made(rt, fault, file, Expected::Unknown, false)
+    }
+
+    // The same, with what the file was to be.
+    pub(crate) fn expecting(
+        rt: &HostRuntime,
+        fault: Fault,
+        file: &str,
+        expected: Expected,
+    ) -> Refusal {
+        Refusal::made(rt, fault, file, expected, false)
+    }
+
+    // The same, by the file's own name.
+    pub(crate) fn of(fault: Fault, name: String) -> Refusal {
+        let file = RefusedFile {
+            name,
+            expected: Expected::Unknown,
+            is_alone: false,
+        };
+        Refusal {
+            fault,
+            file: Some(file),
+        }
+    }
+
+    // The refusal of the one file that the line names for this.
+    pub(crate) fn alone(rt: &HostRuntime, fault: Fault, file: &str, expected: Expected) -> Refusal {
+        Refusal::made(rt, fault, file, expected, true)
+    }
+
+    fn made(
+        rt: &HostRuntime,
+        fault: Fault,
+        file: &str,
+        expected: Expected,
+        is_alone: bool,
+    ) -> Refusal {
+        let file = match String::from_str(rt.alloc(), file) {
+            Ok(name) => Some(RefusedFile {
+                name,
+                expected,
+                is_alone,
+            }),
+            Err(_) => None,
+        };
+        Refusal { fault, file }
+    }
+
+    // What a project's file was refused for. Other faults are of no file.
+    pub(crate) fn of_project(rt: &HostRuntime, fault: Fault, path: &str) -> Refusal {
+        match fault {
+            Fault::ReadFailed
+            | Fault::TooLong
+            | Fault::FileFailed
+            | Fault::BadProject
+            | Fault::Bundle(_)
+            | Fault::Trailing => Refusal::alone(rt, fault, path, Expected::Project),
+            _ => Refusal::from(fault),
+        }
+    }
+
+    // What a command on a project was refused for: its file, or the other one that the line names.
+    pub(crate) fn of_inputs(
+        rt: &HostRuntime,
+        fault: Fault,
+        project: &Given<'_>,
+        other: Option<(&str, Expected)>,
+    ) -> Refusal {
+        match (refused_input(rt.alloc(), project.bytes, &fault), other) {
+            (Input::Project, _) => Refusal::alone(rt, fault, project.path, Expected::Project),
+            (Input::Given, Some((path, expected))) => Refusal::alone(rt, fault, path, expected),
+            _ => Refusal::from(fault),
+        }
+    }
+
+    // What one of several files was refused for, or the project.
+    pub(crate) fn of_turn(
+        rt: &HostRuntime,
+        fault: TurnFault,
+        project: &str,
+        files: &[String],
+        expected: Expected,
+    ) -> Refusal {
+        match fault {
+            TurnFault::Project(fault) => Refusal::of_project(rt, fault, project),
+            TurnFault::Turn(at, fault) => match files.get(at) {
+                Some(file) => Refusal::made(rt, fault, file, expected, files.len() == 1),
+                None => Refusal::from(fault),
+            },
+        }
+    }
+}
+
+// A file that was read.
+#[derive(Clone, Copy, Debug, Drop)]
+pub(crate) struct Given<'a> {
+    pub(crate) path: &'a str,
+    pub(crate) bytes: &'a [u8],
+}
+
+impl<'a> Given<'a> {
+    pub(crate) fn of(path: &'a str, bytes: &'a [u8]) -> Given<'a> {
+        Given { path, bytes }
+    }
+}
+
+// The bytes of a file that the line names, or the refusal of it.
+pub(crate) fn read_named(
+    rt: &HostRuntime,
+    path: &str,
+    expected: Expected,
+) -> Result<Vec<u8>, Refusal> {
+    read_file(rt, path).map_err(|fault| match fault {
+        Fault::Memory => Refusal::from(fault),
+        _ => Refusal::alone(rt, fault, path, expected),
+    })
+}

@@ -1,0 +1,109 @@
+// What is said on standard error: faults, in words where a person reads it, and remarks. Names of
+// files stand there without control characters.
+use crate::turns::Refusal;
+use plain_line::{is_plain, push_line, push_lines};
+use std::alloc::AllocError;
+use std::fs;
+use std::fs::File;
+use std::io::{ErrorKind, IsTerminal, Read, Write};
+use usfm_cli::{
+    Circumstances, FRONT_BYTES, Fault, Found, book_meant, explained, fault_line, found_file,
+    has_split_reference,
+};
+
+const ONE_WORD: &str =
+    "\n  tip: a reference is one word, so put it between quotes, as in 'MAT 1:1'\n";
+
+// Says why a command was refused: the line of the fault, the file that it is of, and in words
+// what that means. Where it cannot be written, the exit status alone shows it.
+pub(crate) fn tell_refusal(rt: &HostRuntime, refusal: &Refusal, explains: bool) {
+    let _ = rt.stderr().write_all(fault_line(&refusal.fault).bytes());
+    let mut known = Circumstances::UNKNOWN;
+    if let Some(file) = &refusal.file {
+        if explains || !file.is_alone {
+            say_of(rt, "in ", &file.name, "");
+        }
+        if explains {
+            known.expected = file.expected;
+            known.found = look(rt, &file.name);
+        }
+    }
+    if explains {
+        let _ = write!(rt.stderr(), "{}", explained(&refusal.fault, &known));
+    }
+}
+
+// Says why a word of the line was refused.
+pub(crate) fn tell_refused_word(rt: &HostRuntime, fault: &Fault, word: &str, explains: bool) {
+    let _ = rt.stderr().write_all(fault_line(fault).bytes());
+    if explains {
+        let mut known = Circumstances::UNKNOWN;
+        known.meant = book_meant(word);
+        let _ = write!(rt.stderr(), "{}", explained(fault, &known));
+    }
+}
+
+// What stands under a name. Nothing is waited for: of what is no plain file nothing is read.
+fn look(rt: &HostRuntime, name: &str) -> Found {
+    match fs::metadata(rt, name) {
+        Ok(found) if found.is_dir() => Found::Folder,
+        Ok(found) if found.is_file() => look_at_front(rt, name),
+        Ok(_) => Found::Other,
+        Err(error) if error.kind() == ErrorKind::NotFound => Found::Nothing,
+        Err(_) => Found::Unseen,
+    }
+}
+
+fn look_at_front(rt: &HostRuntime, name: &str) -> Found {
+    let mut front = [0; FRONT_BYTES];
+    match File::open(rt, name) {
+        Ok(mut file) => match file.read(&mut front) {
+            Ok(len) => found_file(front.get(..len).unwrap_or(&[])),
+            Err(_) => Found::Other,
+        },
+        Err(_) => Found::Other,
+    }
+}
+
+// Writes a line with a name in it. One with control characters takes memory: where there is none,
+// the line is left out.
+pub(crate) fn say_of(rt: &HostRuntime, before: &str, name: &str, after: &str) {
+    if is_plain(name) {
+        let _ = writeln!(rt.stderr(), "{before}{name}{after}");
+        return;
+    }
+    let mut plain = String::new(rt.alloc());
+    if push_line(&mut plain, name).is_ok() {
+        let _ = writeln!(rt.stderr(), "{before}{plain}{after}");
+    }
+}
+
+// Writes a line.
+pub(crate) fn say(rt: &HostRuntime, line: &str) {
+    let _ = writeln!(rt.stderr(), "{line}");
+}
+
+// Why words are no line, with a tip where a person reads it who gave a reference without quotes.
+pub(crate) fn with_tip(
+    mut text: String,
+    words: &[String],
+    explains: bool,
+) -> Result<String, AllocError> {
+    if explains && has_split_reference(words) {
+        text.push_str(ONE_WORD)?;
+    }
+    Ok(text)
+}
+
+// Writes a message of several lines, which may have words of the command line; at a terminal
+// without their control characters.
+pub(crate) fn say_lines(rt: &HostRuntime, text: &str) {
+    if !rt.stderr().is_terminal() {
+        let _ = rt.stderr().write_all(text.as_bytes());
+        return;
+    }
+    let mut plain = String::new(rt.alloc());
+    if push_lines(&mut plain, text).is_ok() {
+        let _ = rt.stderr().write_all(plain.as_bytes());
+    }
+}
