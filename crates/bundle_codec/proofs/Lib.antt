@@ -29,3 +29,4 @@ pub mod OneSummary
 pub mod RisingRanges
 pub mod Told
 pub mod Unnamed
+pub mod Counted

@@ -1,7 +1,7 @@
 -- What a copy holds, as ranges of numbers under names, and what another copy lacks (this project's own format).
-use Rattle.std.specs.Prelude.{◌≡◌, ◌≢◌, ℕ, suc, nat_le, nat_lt, ◌==◌, Bool, true, ◌&&◌, List, [], ◌∷◌, ◌++◌, length, map, filter, codes, IsTrue, if◌then◌else◌}
+use Rattle.std.specs.Prelude.{◌≡◌, ◌≢◌, ℕ, suc, ◌+◌, ◌-◌, nat_le, nat_lt, ◌==◌, Bool, true, ◌&&◌, List, [], ◌∷◌, ◌++◌, length, map, filter, codes, IsTrue, if◌then◌else◌}
 use Rattle.std.specs.Int.{w64, to_be_bytes}
-use Rattle.std.specs.List.{list_all, list_any, flat_map, AllByRecursion}
+use Rattle.std.specs.List.{list_all, list_any, flat_map, sum_by, AllByRecursion}
 use Rattle.std.specs.Option.{is_some}
 use Rattle.std.specs.Ordering.{ordering_then}
 use Rattle.std.specs.BTreeSet.{BTreeSet, contains}
@@ -54,6 +54,18 @@ has_number ranges n = list_any (λ r. nat_le r.first n && nat_le n r.last) range
 -- whether an id's number lies in a range of its name
 abbrev pub covers : List NameRanges → Id → Bool
 covers s id = list_any (λ k. same_bytes k.name id.name && has_number k.ranges id.number) s
+
+-- how many numbers a range has
+abbrev pub range_size : NumberRange → ℕ
+range_size r = r.last - r.first + 1
+
+-- how many numbers the ranges of a name have, no two of which overlap
+abbrev pub numbers_in : NameRanges → ℕ
+numbers_in k = sum_by range_size k.ranges
+
+-- how many ids a summary covers
+abbrev pub ids_in : List NameRanges → ℕ
+ids_in s = sum_by numbers_in s
 
 -- ---- the summary of a set
 

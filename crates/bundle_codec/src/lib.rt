@@ -18,7 +18,7 @@ pub use judging::ids::ReplacedIds;
 pub use summaries::{Summary, encode_outside};
 pub use views::view::OpView;
 pub use views::walk::BundleOps;
-pub use writing::{encode, encode_after};
+pub use writing::{encode, encode_after, encode_ops};
 
 #[cfg(test)]
 mod tests;

@@ -1,9 +1,10 @@
 // Summaries: which ids a copy holds, as ranges of numbers under names.
-ghost use Rattle.std.specs.Prelude.{◌≡◌, List, Some, IfOk, IfErr};
+ghost use Rattle.std.specs.Prelude.{◌≡◌, ◌↔◌, [], List, Some, IsTrue, IfOk, IfErr};
 ghost use Rattle.op_core.specs.Sets.{IsOpSet};
 ghost use Rattle.bundle_codec.specs.Summaries as sums;
 ghost use Rattle.bundle_codec.specs.SummaryReading.{read_summary, ReadFails};
 
+mod counting;
 mod coverage;
 mod making;
 mod name_ranges;
@@ -13,6 +14,7 @@ mod reading;
 mod writing;
 
 use crate::fault::SummaryFault;
+use counting::ids_in;
 use coverage::Coverage;
 use making::{held_ranges, listed};
 use name_ranges::{NameRanges, find_name};
@@ -112,6 +114,20 @@ impl Summary {
             None => false,
             Some((_, name_ranges)) => find_range(name_ranges.ranges(), id.number, 0).is_some(),
         }
+    }
+
+    /// How many ids it covers. It takes no memory.
+    pub fn len(&self) -> u128
+        ensures { result ≡ sums.ids_in self.now }
+    {
+        ids_in(&self.names)
+    }
+
+    /// Whether it covers none.
+    pub fn is_empty(&self) -> bool
+        ensures { IsTrue result ↔ (self.now ≡ []) }
+    {
+        self.names.is_empty()
     }
 
     // A search among the ids that it covers.

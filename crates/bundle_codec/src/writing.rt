@@ -1,5 +1,5 @@
 // Sets of operations, written as bundles.
-ghost use Rattle.std.specs.Prelude.{◌≡◌, ◌≤◌, ◌+◌, ◌++◌, Ok, IfOk, length, take, drop, vec_len};
+ghost use Rattle.std.specs.Prelude.{◌≡◌, ◌≤◌, ◌+◌, ◌++◌, Ok, IfOk, length, map, take, drop, vec_len};
 ghost use Rattle.std.specs.Int.{w64, to_be_bytes};
 ghost use Rattle.op_core.specs.Thinned.{all_full};
 ghost use Rattle.bundle_codec.specs.Spelling as spelled;
@@ -38,6 +38,39 @@ pub fn encode_after(mut bytes: Vec<u8>, set: &OpSet) -> Result<Vec<u8>, AllocErr
         push_operation(&mut bytes, op)?;
     }
     Ok(bytes)
+}
+
+/// The bundle of some operations, lent one by one; of a set where they rise by id, as those do that a
+/// walk over a set passes on.
+///
+/// # Errors
+/// Out of memory alone.
+pub fn encode_ops(alloc: Global, ops: &[&Op]) -> Result<Vec<u8>, AllocError>
+    ensures { IfOk result (λ bytes.
+        bytes.items ≡ spelled.bundle (map (λ op. op.now) ops.now)) }
+{
+    let mut bytes = Vec::new(alloc);
+    push_front(&mut bytes, are_full(ops), ops.len() as u64)?;
+    let mut left = ops;
+    'ops: while let [lent, later @ ..] = left {
+        push_operation(&mut bytes, lent)?;
+        left = later;
+    }
+    Ok(bytes)
+}
+
+// Whether each of the operations has its text.
+fn are_full(ops: &[&Op]) -> bool
+    ensures { result ≡ all_full (map (λ op. op.now) ops.now) }
+{
+    let mut left = ops;
+    'ops: while let [lent, later @ ..] = left {
+        if lent.text().is_none() {
+            return false;
+        }
+        left = later;
+    }
+    true
 }
 
 // Whether each operation of the set has its text.

@@ -17,7 +17,7 @@ ghost use Rattle.project_file.specs.Projects as projects;
 
 use crate::fault::{CreateFault, LoadFault};
 use bundle_codec::{Bundle, JoinFault, Summary, decode_whole};
-use op_core::ReplicaName;
+use op_core::{OpSet, ReplicaName};
 use replica_state::{ReceiveFault, Replica};
 use std::alloc::{AllocError, Global};
 use std::marker::Model;
@@ -123,6 +123,24 @@ impl<'a> Model for Project<'a> {
 }
 
 impl<'a> Project<'a> {
+    /// The replica's name.
+    pub fn name(&self) -> ReplicaName
+        ensures name { result ≡ self.now.name }
+        ensures valid { IsState self.now }
+    {
+        self.name
+    }
+
+    /// The set of the operations that the replica holds, each copied out of the bytes of the file.
+    ///
+    /// # Errors
+    /// Out of memory alone.
+    pub fn to_set(&self, alloc: Global) -> Result<OpSet, AllocError>
+        ensures { IfOk result (λ set. set ≡ self.now.held) }
+    {
+        self.bundle.to_set(alloc)
+    }
+
     /// The bundle of all operations that the replica holds, as `Replica::bundle` writes it. It is lent from
     /// the bytes of the file, of which it is all that follows the name.
     pub fn bundle(&self) -> &'a [u8]

@@ -32,21 +32,24 @@ use Rattle.replica_state.proofs.ChangeRuns.{among_passing}
 use Rattle.replica_state.proofs.Changes.{edit_at, edits_after}
 
 -- what a list has is its first or in the rest
-first_or_later : {X : Type 0} (y : X) (ys : List X) (x : X) → Contains (y ∷ ys) x → (y ≡ x) ⊎ Contains ys x
+pub first_or_later : {X : Type 0} (y : X) (ys : List X) (x : X) → Contains (y ∷ ys) x → (y ≡ x) ⊎ Contains ys x
 first_or_later y ys x (zero, l, e) = inl e
 first_or_later y ys x (suc k, l, e) = inr (k, omega arith, e)
 
-is_later : {X : Type 0} (y : X) (ys : List X) (x : X) → Contains ys x → Contains (y ∷ ys) x
+-- what the rest has, the list has
+pub is_later : {X : Type 0} (y : X) (ys : List X) (x : X) → Contains ys x → Contains (y ∷ ys) x
 is_later y ys x h = (suc h.0, omega (arith, h.1), h.2)
 
-is_first : {X : Type 0} (y : X) (ys : List X) (x : X) → y ≡ x → Contains (y ∷ ys) x
+-- the list has its first
+pub is_first : {X : Type 0} (y : X) (ys : List X) (x : X) → y ≡ x → Contains (y ∷ ys) x
 is_first y ys x e = (0, omega arith, e)
 
-none_there : {X : Type 0} (x : X) → Contains [] x → ⊥
+-- an empty list has nothing
+pub none_there : {X : Type 0} (x : X) → Contains [] x → ⊥
 none_there x h = absurd (omega (arith, h.1))
 
 -- what passes is in the list, and passes
-passed : {X : Type 0} (p : X → Bool) (xs : List X) (x : X) → Contains (filter p xs) x → Contains xs x × (p x ≡ true)
+pub passed : {X : Type 0} (p : X → Bool) (xs : List X) (x : X) → Contains (filter p xs) x → Contains xs x × (p x ≡ true)
 passed p [] x h = absurd (none_there x h)
 passed p (y ∷ ys) x h = by (λ g. passed p ys x g) (p y) refl h
   where
@@ -60,7 +63,7 @@ passed p (y ∷ ys) x h = by (λ g. passed p ys x g) (p y) refl h
     by rest false e h = (is_later y ys x (rest h).0, (rest h).1)
 
 -- what is in the list and passes is kept
-passes : {X : Type 0} (p : X → Bool) (xs : List X) (x : X) → Contains xs x → p x ≡ true → Contains (filter p xs) x
+pub passes : {X : Type 0} (p : X → Bool) (xs : List X) (x : X) → Contains xs x → p x ≡ true → Contains (filter p xs) x
 passes p [] x h e = absurd (none_there x h)
 passes p (y ∷ ys) x h e = elim (first_or_later y ys x h) [
   | inl here ↦ subst (λ (zs : List _). Contains zs x) (sym (cond-true _ _ _ (ap p here ∙ e))) (is_first y (filter p ys) x here)
@@ -72,7 +75,7 @@ passes p (y ∷ ys) x h e = elim (first_or_later y ys x h) [
     by false h = h
 
 -- an id of operations is that of one of them
-of_one : (ops : List Operation) (id : Id) → is_among (ids_of ops) id ≡ true → (o : Operation) × (Contains ops o × (o.id ≡ id))
+pub of_one : (ops : List Operation) (id : Id) → is_among (ids_of ops) id ≡ true → (o : Operation) × (Contains ops o × (o.id ≡ id))
 of_one [] id h = cc h
 of_one (o ∷ ops) id h = by (λ g. of_one ops id g) (same_id id o.id) refl h
   where
@@ -82,7 +85,7 @@ of_one (o ∷ ops) id h = by (λ g. of_one ops id g) (same_id id o.id) refl h
     by rest false e h = let r = rest h in (r.0, (is_later o ops r.0 r.1.0, r.1.1))
 
 -- an id that is seen stood in the file
-seen_stood : (held base : List Operation) (g : Segment) (id : Id) → is_among (seen_ids held base g) id ≡ true → StoodInFile base g id
+pub seen_stood : (held base : List Operation) (g : Segment) (id : Id) → is_among (seen_ids held base g) id ≡ true → StoodInFile base g id
 seen_stood held base g id h =
     let stood = is_among (stood_ids base g) in
     let among = (and_parts (is_among (shown_ids held g) id) (stood id) (sym (among_passing stood (shown_ids held g) id) ∙ h)).1 in

@@ -72,7 +72,7 @@ module _ (held base : List Operation) (book : List ℕ) (pieces : List PiecePart
       (sym (any-rising test (keys_in base book) ∙ any_key test base book) ∙ h)
 
   -- what is due in the base is walked where the base is received
-  due_received : (q : KeyParts) → is_due base book pieces q ≡ true → is_there q (walked_keys (join held base) book pieces) ≡ true
+  pub due_received : (q : KeyParts) → is_due base book pieces q ≡ true → is_there q (walked_keys (join held base) book pieces) ≡ true
   due_received q h =
       walked (join held base) book pieces q
       (three _ _ _ _ _ heads (key_received (λ k. is_eq (key_cmp q k))) (due_among base book pieces q h))

@@ -172,7 +172,7 @@ fn given_among(alloc: Global, shown: &[OpId], given: &[OpId]) -> Result<Vec<OpId
 }
 
 // Whether the id is among some ids.
-fn is_among(ids: &[OpId], id: OpId) -> bool
+pub(crate) fn is_among(ids: &[OpId], id: OpId) -> bool
     ensures { result ≡ is_among ids.now id }
 {
     ids.iter().any(|one| id == *one)

@@ -76,9 +76,12 @@ impl Replica {
         Ok(changes)
     }
 
-    // The book's keys with an operation, the heads of their chapters, and the keys of the pieces,
-    // rising, each once.
-    pub(crate) fn walked_keys(
+    /// The keys that a change of a book's file may concern: those of the book with an operation, the heads of their chapters,
+    /// and the keys of the file's pieces, rising, each once.
+    ///
+    /// # Errors
+    /// Out of memory alone.
+    pub fn walked_keys(
         &self,
         book: Book,
         pieces: &[Piece<'_>],

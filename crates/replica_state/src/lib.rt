@@ -17,4 +17,5 @@ mod since;
 pub use change::Change;
 pub use fault::{EditFault, ImportFault, ReceiveFault, SinceFault};
 pub use gathering::Gathering;
+pub use pieces::piece_at;
 pub use replica::Replica;

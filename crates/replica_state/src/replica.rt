@@ -1,6 +1,7 @@
 ghost use Rattle.std.specs.Prelude.{◌≡◌, ◌++◌, [], map, Ok, IsOk, IfOk};
 ghost use Rattle.usfm_ref.specs.Segments.{segment};
 ghost use Rattle.op_core.specs.Lists as lists;
+ghost use Rattle.op_core.specs.NextIds.{is_among};
 ghost use Rattle.op_core.specs.Shown as texts;
 ghost use Rattle.bundle_codec.specs.Joining.{whole_at};
 ghost use Rattle.bundle_codec.specs.Spelling.{bundle};
@@ -8,6 +9,7 @@ ghost use Rattle.bundle_codec.specs.Summaries.{IsSummaryOf, summary_of, outside}
 ghost use Rattle.replica_state.specs.States.{IsState, begun};
 ghost use Rattle.replica_state.specs.Steps.{step, Thin, Thinned};
 
+use crate::edit::is_among;
 use bundle_codec::{Summary, encode, encode_after, encode_outside};
 use op_core::{Books, Keys, Op, OpId, OpSet, Picked, ReplicaName};
 use std::alloc::{AllocError, Global};
@@ -51,6 +53,21 @@ impl Replica {
         ensures valid { IsState self.now }
     {
         self.name
+    }
+
+    /// The set of the operations that the replica holds, lent from it.
+    pub fn set(&self) -> &OpSet
+        ensures { result.now ≡ self.now.held }
+    {
+        &self.set
+    }
+
+    /// Whether the segment of an operation shows its id. It takes no memory.
+    pub fn shows(&self, op: &Op) -> bool
+        ensures { result
+            ≡ is_among (lists.shown_ids self.now.held op.now.segment) op.now.id }
+    {
+        is_among(self.set.shown_ids(op.book(), op.key()), op.id())
     }
 
     /// The books with an operation, in the order of books. The walk takes no memory.

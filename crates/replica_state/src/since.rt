@@ -164,8 +164,12 @@ impl Replica {
         Ok(changes)
     }
 
-    // The change of a key, if it was changed in a file.
-    fn since_change<'a>(
+    /// The change of a key, if it was changed in a file since another replica wrote it: the file's piece, over what the segment
+    /// shows of that which stood in the file. The pieces are those of the file, of rising keys.
+    ///
+    /// # Errors
+    /// Out of memory alone.
+    pub fn since_change<'a>(
         &self,
         was: &Replica,
         book: Book,

@@ -1,0 +1,57 @@
+-- How far the chapters of a book are written (this project's own rule).
+use Rattle.std.specs.Prelude.{ℕ, zero, suc, ◌+◌, ◌==◌, max, nat_le, nat_eq, Bool, ◌&&◌, List, [], ◌∷◌, ◌++◌, filter, codes, if◌then◌else◌}
+use Rattle.std.specs.List.{list_any, flat_map}
+use Rattle.std.specs.Fmt.{decimal}
+use Rattle.op_core.specs.Ops.{Operation}
+use Rattle.project_status.specs.declared.chapters.Chapter.{Chapter}
+use Rattle.project_status.specs.declared.verses.Verse.{Verse}
+use Rattle.project_status.specs.Verses.{verses_of}
+
+-- whether the verse is written and has the number
+abbrev pub writes : ℕ → Verse → Bool
+writes n v = v.written && (nat_le v.first n && nat_le n v.last)
+
+-- the greatest number of the verses, 0 where there is none
+abbrev pub greatest : List Verse → ℕ
+greatest [] = 0
+greatest (v ∷ vs) = max v.last (greatest vs)
+
+-- how many of the numbers from 1 to n pass
+abbrev pub count_to : ℕ → (ℕ → Bool) → ℕ
+count_to zero p = 0
+count_to (suc n) p = count_to n p + (if p (suc n) then 1 else 0)
+
+-- how many of the numbers from 1 to the greatest are written in one of the verses; a number with several parts, such as 3a
+-- and 3b, counts once, and a bridge counts for each of its numbers
+abbrev pub count_written : List Verse → ℕ
+count_written vs = count_to (greatest vs) (λ n. list_any (writes n) vs)
+
+-- the verses of a chapter
+abbrev pub in_chapter : ℕ → List Verse → List Verse
+in_chapter c vs = filter (λ v. v.chapter == c) vs
+
+-- the chapter of these verses; none where there is no verse from 1 on
+abbrev pub chapter_of : ℕ → List Verse → List Chapter
+chapter_of c vs =
+    if nat_eq (greatest vs) 0 then []
+    else record { chapter = c; written = count_written vs; verses = greatest vs } ∷ []
+
+-- the numbers below n, rising
+unfoldable pub below : ℕ → List ℕ
+below zero = []
+below (suc n) = below n ++ n ∷ []
+
+-- the chapters of a book in which a verse has a text, rising
+abbrev pub chapters_of : List Operation → List ℕ → List Chapter
+chapters_of held book =
+    flat_map (λ c. chapter_of c (in_chapter c (verses_of held book))) (below 1000)
+
+-- the line of a chapter: the book's code, the chapter, how many of its verses are written, `of`, and how many there are
+abbrev pub progress_line : List ℕ → Chapter → List ℕ
+progress_line book c =
+    book ++ 32 ∷ (decimal c.chapter ++ 32 ∷
+    (decimal c.written ++ codes " of " ++ decimal c.verses ++ 10 ∷ []))
+
+-- the lines of a book's chapters
+abbrev pub book_progress : List Operation → List ℕ → List ℕ
+book_progress held book = flat_map (progress_line book) (chapters_of held book)
