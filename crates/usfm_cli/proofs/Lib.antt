@@ -20,4 +20,5 @@ pub mod ShownByKeys
 pub mod Conflicts
 pub mod Received
 pub mod DeltasMade
+pub mod Schedules
 pub mod OverBooks

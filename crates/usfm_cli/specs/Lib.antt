@@ -11,12 +11,14 @@ pub mod Projects
 pub mod Turns
 pub mod Folders
 pub mod Standing
+pub mod Copies
 pub mod ExecLaws
 pub mod DeltaLaws
 pub mod Streams
 pub mod Folding
 pub mod StreamLaws
 pub mod Headline
+pub mod Schedules
 pub mod Books
 pub mod TreeLaws
 pub mod Loops

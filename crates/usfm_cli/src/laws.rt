@@ -8,6 +8,7 @@ ghost use Rattle.usfm_cli.specs.TreeLaws as trees;
 pub mod deltas;
 pub mod folders;
 pub mod headline;
+pub mod schedules;
 pub mod turns;
 
 /// Bundles one after another give the union of their sets, taken one after another, or the first

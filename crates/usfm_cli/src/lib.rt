@@ -7,6 +7,7 @@
 #![tactic(auto)]
 
 mod command;
+mod copies;
 mod every_book;
 mod explaining;
 mod fault;
@@ -31,6 +32,7 @@ mod words;
 pub use book_reports::SetOff;
 pub use command::Command;
 pub use conflict_settling::{Answer, Asked, Manner, Wanted, ends_text};
+pub use copies::{CopyFile, project_progress, project_status};
 pub use explaining::circumstances::{
     Circumstances, Expected, FRONT_BYTES, Found, Input, book_meant, found_file, refused_input,
 };

@@ -4,6 +4,7 @@ mod folders;
 mod reports;
 mod settling;
 mod sheets;
+mod standing;
 
 use self::folders::{export, export_line, sync, sync_line};
 use self::reports::{
@@ -12,6 +13,7 @@ use self::reports::{
 };
 use self::settling::{settle, settle_line};
 use self::sheets::{check, check_line, find, find_line, words, words_line};
+use self::standing::{progress, progress_line, status, status_line};
 use crate::given::{id_if_given, ids, reference, text, text_if_given, texts, word};
 use crate::words::{Line, LineFault};
 use clap::{Arg, ArgAction, ArgMatches, Command};
@@ -19,7 +21,7 @@ use op_core::ReplicaName;
 use std::alloc::{AllocError, Global};
 
 /// The version of this workspace, which `usfm_team --version` prints. It is here alone.
-pub const VERSION: &str = "0.10.0";
+pub const VERSION: &str = "0.9.0";
 
 // What an argument is called, and what is to be given for it.
 type Words<'a> = &'a [(&'static str, &'static str)];
@@ -57,6 +59,8 @@ pub(crate) fn program<'a>(alloc: Global) -> Result<Command<'a>, AllocError> {
     let program = with(program, export(alloc))?;
     let program = with(program, summary(alloc))?;
     let program = with(program, delta(alloc))?;
+    let program = with(program, status(alloc))?;
+    let program = with(program, progress(alloc))?;
     let program = with(program, report(alloc))?;
     let program = with(program, check(alloc))?;
     let program = with(program, find(alloc))?;
@@ -85,6 +89,8 @@ pub(crate) fn line_of(
         "export" => export_line(alloc, given),
         "summary" => summary_line(alloc, given),
         "delta" => delta_line(alloc, given),
+        "status" => status_line(alloc, given),
+        "progress" => progress_line(alloc, given),
         "report" => report_line(alloc, given),
         "check" => check_line(alloc, given),
         "find" => find_line(alloc, given),

@@ -127,6 +127,17 @@ pub enum Line {
     Report {
         project: String,
     },
+    /// `status PROJECT [FILE..]`: say how a project stands, and what the copies of the summaries and
+    /// bundles have and lack.
+    Status {
+        project: String,
+        files: Vec<String>,
+    },
+    /// `progress PROJECT [BOOK]`: say how far the chapters are written, of one book or of all.
+    Progress {
+        project: String,
+        book: Option<Book>,
+    },
     /// `fold BOOK`: fold the bundles of standard input into the book.
     Fold(Book),
     /// `faults`: list the faults.

@@ -10,6 +10,7 @@ mod project;
 mod refusal;
 mod rights;
 mod settle;
+mod standing;
 mod sync;
 mod telling;
 mod turns;
@@ -18,6 +19,7 @@ use crate::looks::{check, find, words};
 use crate::project::{begin_project, lock_project};
 use crate::refusal::{Given, Refusal, read_named};
 use crate::settle::settle;
+use crate::standing::{progress, status};
 use crate::sync::{export_into, sync};
 use crate::telling::{say, say_lines, tell_refusal, tell_refused_word, with_tip};
 use crate::turns::{import, receive};
@@ -153,6 +155,8 @@ fn run(rt: &HostRuntime, line: Line, explains: bool) -> Result<(), Refusal> {
         Line::Summary { project } => ask(rt, &project, &Command::Summary, explains),
         Line::Delta { project, summary } => delta(rt, &project, &summary),
         Line::Thin { project } => change(rt, &project, &Command::Thin, None),
+        Line::Status { project, files } => status(rt, &project, &files),
+        Line::Progress { project, book } => progress(rt, &project, book),
         Line::Report { project } => ask(rt, &project, &Command::Report, explains),
         Line::Check {
             project,

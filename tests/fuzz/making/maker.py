@@ -129,6 +129,19 @@ class Maker(Forging, Syncing):
     def report(self) -> None:
         self.step("report", self.any_project())
 
+    def status(self) -> None:
+        """How a project stands beside bundles, and summaries of other projects."""
+        files = {}
+        for number in range(self.rng.choice([0, 0, 1, 1, 2])):
+            known = write_summary(summary_of(self.held(self.any_project())))
+            data = self.rng.choice([known, *self.bundles[-2:]])
+            files[f"copy{number}"] = damaged(self.rng, data) if self.rng.random() < 0.06 else data
+        self.step("status", self.any_project(), *files, **files)
+
+    def progress(self) -> None:
+        project = self.any_project()
+        self.step("progress", project, *([self.any_book(project)] if self.rng.random() < 0.4 else []))
+
     def any_sheet(self) -> bytes:
         return self.sheet if self.rng.random() < 0.5 else make_sheet(self.rng)
 
@@ -224,6 +237,8 @@ ACTIONS += [Maker.thin, Maker.forge, Maker.forge_thinned, Maker.change_thinned, 
 WEIGHTS += [6, 12, 5, 3, 4]
 ACTIONS += [Maker.export, Maker.report, Maker.check, Maker.words, Maker.find, Maker.fold]
 WEIGHTS += [6, 7, 11, 8, 9, 4]
+ACTIONS += [Maker.status, Maker.progress]
+WEIGHTS += [9, 5]
 ACTIONS += [Maker.sync, Maker.sync_all, Maker.set_back, Maker.export_into]
 WEIGHTS += [14, 3, 2, 5]
 ACTIONS += [Maker.odd_project, Maker.wrong_words, Maker.long_file]

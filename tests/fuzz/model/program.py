@@ -8,6 +8,7 @@ from .bundles import write_project
 from .faults import Fault
 from .references import read_book, read_id, read_name, read_ref
 from .replicas import Replica, fold, load, save
+from .standing import progress, status
 
 LONGEST = 268_435_456
 
@@ -51,11 +52,13 @@ SHAPES: dict[str, tuple[Callable, ...]] = {
     "delta": (FILE, FILE),
     "export": (FILE, read_book),
     "report": (FILE,),
+    "status": (FILE,),
+    "progress": (FILE,),
     "thin": (FILE,),
     "fold": (read_book,),
 }
 # The subcommands that take more words of the last kind, or ids.
-OPEN_ENDED = ("import", "receive", "sync", "edit-over")
+OPEN_ENDED = ("import", "receive", "sync", "edit-over", "status")
 # The option that a subcommand has, and the least number of words beside it.
 OPTIONS = {"import": ("--since", 2), "export": ("--into", 1), "edit-over": ("--text-of", 2)}
 
@@ -104,6 +107,8 @@ def has_shape(words: Sequence[str], option: Optional[str]) -> bool:
         return False
     count = len(words) - 1
     least = OPTIONS[words[0]][1] if option is not None else len(SHAPES[words[0]])
+    if words[0] == "progress":
+        return count in (1, 2)
     return count >= least if option is not None or words[0] in OPEN_ENDED else count == least
 
 
@@ -115,6 +120,12 @@ def act(
         return take_in(folder, command, words[0], words[1:], option)
     if command == "sync":
         return sync(folder, *words[:2], words[2:], notes)
+    if command == "status":
+        return stand(folder, words[0], words[1:])
+    if command == "progress":
+        books = [read_book(it) for it in words[1:]]
+        held = load(read_file(folder, words[0])).held
+        return progress(held, books or folders.books_of(held))
     if command == "export" and option is not None:
         return export_into(folder, words[0], option, [read_book(it) for it in words[1:]], notes)
     shape = SHAPES[command]
@@ -153,6 +164,14 @@ def take_in(folder: Folder, command: str, project: str, names: Sequence[str], ba
         taken = [of_file_since(names, name, replica, content, bundle) for name, content in zip(names, contents)]
     folder[project] = save(replica)
     return b"".join(taken)
+
+
+def stand(folder: Folder, project: str, names: Sequence[str]) -> bytes:
+    """Says how a project stands beside the files of other copies."""
+    before = read_file(folder, project)
+    files = [(name, folders.within(name, read_file, folder, name)) for name in names]
+    replica = load(before)
+    return status(replica.name, replica.held, files)
 
 
 def sync(folder: Folder, project: str, place: str, names: Sequence[str], notes: list[bytes]) -> bytes:

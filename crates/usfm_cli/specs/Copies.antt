@@ -1,0 +1,122 @@
+-- How a project stands, beside the files of other copies (this project's own rule).
+use Rattle.std.specs.Prelude.{◌≡◌, ℕ, suc, nat_eq, List, [], ◌∷◌, ◌++◌, length, Vec, IsOk}
+use Rattle.std.specs.Prelude.{Option, None, Some, Result, Ok, Err, if◌then◌else◌}
+use Rattle.std.specs.List.{starts_with, flat_map}
+use Rattle.op_core.specs.Ops.{Operation}
+use Rattle.op_core.specs.Export.{has_book}
+use Rattle.op_core.specs.Lists.{books_of}
+use Rattle.bundle_codec.specs.declared.fault.WholeFault.{WholeFault}
+use Rattle.bundle_codec.specs.Joining.{whole_at}
+use Rattle.bundle_codec.specs.Summaries.{NameRanges, summary_of, summary_magic}
+use Rattle.bundle_codec.specs.SummaryReading.{read_summary}
+use Rattle.replica_state.specs.States.{State}
+use Rattle.project_file.specs.declared.fault.LoadFault.{LoadFault}
+use Rattle.project_status.specs.Others.{OtherParts, status}
+use Rattle.project_status.specs.Progress.{book_progress}
+use Rattle.usfm_cli.specs.Commands.{is_late_in, MayWantMemory}
+use Rattle.usfm_cli.specs.Faults.{of_loading, of_whole}
+use Rattle.usfm_cli.specs.declared.fault.Fault.{Fault}
+use Rattle.usfm_cli.specs.declared.fault.Fault.TheVariants.{Memory, BadSummary, NoBook}
+use Rattle.usfm_cli.specs.declared.turns.TurnFault.{TurnFault}
+use Rattle.usfm_cli.specs.declared.turns.TurnFault.TheVariants.{Project, Turn}
+
+-- the items that are answered, or a refusal
+abbrev pub as_list : {X A F : Type 0} → Result (Vec X A) F → Result (List X) F
+as_list (Ok items) = Ok items.items
+as_list (Err fault) = Err fault
+
+-- ---- what files tell of other copies
+
+-- a file by its name and its bytes
+pub record FileParts : Type 0 where
+  pub name : List ℕ
+  pub bytes : List ℕ
+
+-- the ids of a summary, or that the bytes are none
+abbrev pub summary_or : Option (List NameRanges) → Result (List NameRanges) Fault
+summary_or (Some known) = Ok known
+summary_or None = Err BadSummary
+
+-- the ids of a bundle's set, or the bundle's fault
+abbrev pub ids_of_bundle : Result (List Operation) WholeFault → Result (List NameRanges) Fault
+ids_of_bundle (Ok ops) = Ok (summary_of ops)
+ids_of_bundle (Err fault) = Err (of_whole fault)
+
+-- the ids that a file tells: what begins as a summary does is read as one, all else as a bundle
+abbrev pub known_of : List ℕ → Result (List NameRanges) Fault
+known_of bytes = if starts_with nat_eq bytes summary_magic then summary_or (read_summary bytes)
+    else ids_of_bundle (whole_at bytes)
+
+-- What is answered of a file: the ids that it tells, or its fault; or out of memory, where that may be answered.
+abbrev pub Tells : List ℕ → Result (List NameRanges) Fault → Type 0
+Tells bytes (Ok known) = known_of bytes ≡ Ok known
+Tells bytes (Err Memory) = MayWantMemory (is_late_in bytes) (known_of bytes)
+Tells bytes (Err fault) = known_of bytes ≡ Err fault
+
+-- a file with the ids that it tells, before what the later ones tell; a later one that is refused is one place further on
+abbrev pub other_before : List ℕ → Result (List NameRanges) Fault →
+    Result (List OtherParts) TurnFault → Result (List OtherParts) TurnFault
+other_before file (Ok known) (Ok others) = Ok (record { file = file; known = known } ∷ others)
+other_before file (Ok known) (Err (Turn at fault)) = Err (Turn (suc at) fault)
+other_before file (Ok known) (Err (Project fault)) = Err (Project fault)
+other_before file (Err fault) later = Err (Turn 0 fault)
+
+-- what files tell of other copies, or the first that is refused, by the number of those before it
+abbrev pub others_of : List FileParts → Result (List OtherParts) TurnFault
+others_of [] = Ok []
+others_of (file ∷ later) = other_before file.name (known_of file.bytes) (others_of later)
+
+-- A file is refused in its turn: the files before it, which are this many, tell their ids, and it may be refused for this.
+pub record RefusedAt (files : List FileParts) (at : ℕ) (fault : Fault) : Type 0 where
+  pub before : List FileParts
+  pub file : FileParts
+  pub later : List FileParts
+  pub stand : files ≡ before ++ file ∷ later
+  pub place : length before ≡ at
+  pub told : IsOk (others_of before)
+  pub refused : Tells file.bytes (Err fault)
+
+-- What is answered of files: what they tell, or the first that is refused; or out of memory in no turn, where it is kept.
+abbrev pub TellsAll : List FileParts → Result (List OtherParts) TurnFault → Type 0
+TellsAll files (Ok others) = others_of files ≡ Ok others
+TellsAll files (Err (Turn at fault)) = RefusedAt files at fault
+TellsAll files (Err (Project fault)) = fault ≡ Memory
+
+-- ---- how a project stands
+
+-- the lines of a replica beside what files tell, or the file that is refused
+abbrev pub status_beside : State → Result (List OtherParts) TurnFault →
+    Result (List ℕ) TurnFault
+status_beside s (Ok others) = Ok (status s.name s.held others)
+status_beside s (Err fault) = Err fault
+
+-- the lines of a project beside files, or why the project is refused, or else the first file that is
+abbrev pub status_of : Result State LoadFault → List FileParts → Result (List ℕ) TurnFault
+status_of (Ok s) files = status_beside s (others_of files)
+status_of (Err fault) files = Err (Project (of_loading fault))
+
+-- What is answered of a project that is read: its lines, or the first file that is refused; or out of memory in no turn.
+abbrev pub AnswersStatus : State → List FileParts → Result (List ℕ) TurnFault → Type 0
+AnswersStatus s files (Ok text) = status_beside s (others_of files) ≡ Ok text
+AnswersStatus s files (Err (Turn at fault)) = RefusedAt files at fault
+AnswersStatus s files (Err (Project fault)) = fault ≡ Memory
+
+-- ---- how far it is
+
+-- how far all books are
+abbrev pub all_progress : List Operation → List ℕ
+all_progress held = flat_map (book_progress held) (books_of held)
+
+-- how far a book is, or that the project does not have it
+abbrev pub progress_in : List Operation → List ℕ → Result (List ℕ) Fault
+progress_in held book = if has_book held book then Ok (book_progress held book) else Err NoBook
+
+-- how far one book is, or all of them
+abbrev pub progress_by : List Operation → Option (List ℕ) → Result (List ℕ) Fault
+progress_by held None = Ok (all_progress held)
+progress_by held (Some book) = progress_in held book
+
+-- how far a project is, or why it is refused
+abbrev pub progress_of : Result State LoadFault → Option (List ℕ) → Result (List ℕ) Fault
+progress_of (Ok s) book = progress_by s.held book
+progress_of (Err fault) book = Err (of_loading fault)

@@ -1,0 +1,156 @@
+// How a project stands, as lines: beside the files of other copies, or chapter by chapter.
+ghost use Rattle.std.specs.Prelude.{◌≡◌, ◌≢◌, false, Ok, Err, IfOk, IfErr};
+ghost use Rattle.project_file.specs.Projects.{project_at};
+ghost use Rattle.replica_state.specs.States.{State};
+ghost use Rattle.usfm_cli.specs.Copies as copies;
+ghost use Rattle.usfm_cli.specs.Faults.{of_loading};
+ghost use Rattle.usfm_cli.specs.Projects.{RefusesFile};
+ghost use Rattle.usfm_cli.specs.Turns as turns;
+
+use crate::fault::Fault;
+use crate::turns::TurnFault;
+use bundle_codec::{Summary, decode_whole};
+use op_core::OpSet;
+use project_file::judge;
+use project_status::{Other, push_progress, status_text};
+use std::alloc::{AllocError, Global};
+use std::marker::Model;
+use usfm_ref::Book;
+
+// What a summary begins with.
+static SUMMARY_MAGIC: [u8; 8] = *b"USFMSS1\n";
+
+/// A file that tells which ids another copy has: its summary, or a bundle of its operations. It is
+/// named as it was given.
+#[derive(Debug, Drop)]
+pub struct CopyFile<'a> {
+    name: &'a str,
+    bytes: &'a [u8],
+}
+
+impl<'a> Model for CopyFile<'a> {
+    ghost use Rattle.usfm_cli.specs.Copies.{FileParts};
+
+    ghost Value = { FileParts };
+
+    ghost view = { λ f. record { name = f.name.now; bytes = f.bytes.now } };
+}
+
+impl<'a> CopyFile<'a> {
+    /// A file of this name with these bytes.
+    pub fn new(name: &'a str, bytes: &'a [u8]) -> CopyFile<'a>
+        ensures { result ≡ record { name = name.now; bytes = bytes.now } }
+    {
+        CopyFile { name, bytes }
+    }
+
+    fn name(&self) -> &'a str
+        ensures { result.now ≡ self.now.name }
+    {
+        self.name
+    }
+
+    fn bytes(&self) -> &'a [u8]
+        ensures { result.now ≡ self.now.bytes }
+    {
+        self.bytes
+    }
+}
+
+/// How a project stands, given as the bytes of its file, and what other copies have and lack, as
+/// `project_status::status_text` writes it. A file that begins as a summary does is read as one, any
+/// other as a bundle.
+///
+/// # Errors
+/// - `Project` with the fault of the project, as `exec` answers it: 110, 60 to 69, 70.
+/// - `Turn` with the number of the files before the first one that is refused, and its fault:
+///   `BadSummary` (71), or `Bundle` (60 to 69) or `Trailing` (70).
+///
+/// `Memory` (1) where a growth was refused: of a `Turn` where its file is a summary or a bundle, or the
+/// fault of a bundle with a thinned operation; else of the `Project`.
+pub fn project_status(
+    alloc: Global,
+    project: &[u8],
+    files: &[CopyFile<'_>],
+) -> Result<Vec<u8>, TurnFault>
+    ensures answer { turns.is_out_of_memory result ≡ false →
+        copies.status_of (project_at project.now) files.now ≡ copies.as_list result }
+    // Which file is refused, and where memory may have ended.
+    ensures beside { (s : State) → project_at project.now ≡ Ok s
+        → copies.AnswersStatus s files.now (copies.as_list result) }
+    // A file that is no project is refused for that, whatever memory there is; but for its bundle, where
+    // an operation of it is thinned.
+    ensures no_project { IfErr (project_at project.now) (λ fault.
+        turns.RefusesProject project.now (of_loading fault) result) }
+{
+    let project = judge(alloc, project)?;
+    let others = others_of(alloc, files)?;
+    let set = project.to_set(alloc)?;
+    Ok(status_text(alloc, &project.name(), &set, &others)?)
+}
+
+// What files tell of other copies.
+fn others_of<'a>(alloc: Global, files: &[CopyFile<'a>]) -> Result<Vec<Other<'a>>, TurnFault>
+    ensures { copies.TellsAll files.now (copies.as_list result) }
+{
+    let mut others = Vec::new(alloc);
+    for file in files {
+        match known_of(alloc, file.bytes()) {
+            Ok(known) => others.push(Other::new(file.name(), known))?,
+            Err(fault) => return Err(TurnFault::Turn(others.len(), fault)),
+        }
+    }
+    Ok(others)
+}
+
+// The ids that the file of another copy tells.
+fn known_of(alloc: Global, bytes: &[u8]) -> Result<Summary, Fault>
+    ensures { copies.Tells bytes.now result }
+{
+    if bytes.starts_with(&SUMMARY_MAGIC) {
+        return Ok(Summary::read(alloc, bytes)?);
+    }
+    let bundle = decode_whole(alloc, bytes)?;
+    let set = bundle.to_set(alloc)?;
+    Ok(Summary::of(alloc, &set)?)
+}
+
+/// How far the chapters of a project's books are written, of one book or of all, as
+/// `project_status::push_progress` writes it.
+///
+/// # Errors
+/// Those of the project, as `exec` answers them: 110, 60 to 69, 70; `NoBook` (82) where the project
+/// does not have the book; `Memory` (1) where a growth was refused.
+pub fn project_progress(alloc: Global, project: &[u8], book: Option<Book>) -> Result<Vec<u8>, Fault>
+    ensures answer { result ≢ Err Fault.Memory →
+        copies.progress_of (project_at project.now) book ≡ copies.as_list result }
+    ensures no_project { IfErr (project_at project.now) (λ fault.
+        RefusesFile project.now (of_loading fault) result) }
+{
+    let set = judge(alloc, project)?.to_set(alloc)?;
+    match book {
+        None => Ok(progress_of_all(alloc, &set)?),
+        Some(book) => progress_in(alloc, &set, book),
+    }
+}
+
+fn progress_of_all(alloc: Global, set: &OpSet) -> Result<Vec<u8>, AllocError>
+    ensures { IfOk result (λ text. text.items ≡ copies.all_progress set.now) }
+{
+    let mut text = Vec::new(alloc);
+    for book in set.books() {
+        push_progress(alloc, set, book, &mut text)?;
+    }
+    Ok(text)
+}
+
+fn progress_in(alloc: Global, set: &OpSet, book: Book) -> Result<Vec<u8>, Fault>
+    ensures { result ≢ Err Fault.Memory → copies.progress_in set.now book ≡ copies.as_list result }
+{
+    if set.keys(book).next().is_none() {
+        return Err(Fault::NoBook);
+    }
+    let mut text = Vec::new(alloc);
+    push_progress(alloc, set, book, &mut text)?;
+    Ok(text)
+}

@@ -1,0 +1,90 @@
+// The subcommands that say how a project stands: of each its words, its help, and the line that it is read as.
+use super::{PROJECT, command};
+use crate::given::{book_if_given, text, texts};
+use crate::words::{Line, LineFault};
+use clap::{Arg, ArgMatches, Command};
+use std::alloc::{AllocError, Global};
+
+pub(crate) fn status<'a>(alloc: Global) -> Result<Command<'a>, AllocError> {
+    let files = Arg::new(alloc, "FILE").num_args(0..).help(
+        "The summary of another copy, or a bundle of its operations",
+    );
+    command(
+        alloc,
+        "status",
+        "Says how the project stands",
+        STATUS,
+        &[PROJECT],
+    )?
+    .arg(files)
+}
+
+const STATUS: &str = "\
+Writes these lines, and leaves out what is nothing:
+  copy NAME                the name of this copy
+  books N, verses N        the books, and the verses in them that have a text
+                           besides marks; a bridge is one
+  shown NAME N, ..         whose texts are shown, and how many of each
+  replaced N, of these N without their texts
+                           the operations that others replace, and how many of
+                           them `thin` left without a text
+  conflict REF             a segment that shows different texts: see `report`
+  awaited NUMBER NAME      an operation that another one replaces and that did
+                           not come yet: ask NAME for a bundle
+  lacks FILE N             how many operations of this project the copy that
+                           FILE is of does not have: write it a `delta`
+  lacked FILE N            how many operations that copy has that this project
+                           does not have: ask for a bundle
+
+Example: usfm_team status ana.project ben.summary
+
+Faults:
+  fault 1                  out of memory
+  fault 60 to 71           FILE is neither a summary nor a bundle
+  fault 60 to 70, 110      PROJECT is not a project
+  fault 90 BYTES           writing failed after this many bytes
+  fault 120                a file could not be read
+  fault 121                a file has more than 268,435,456 bytes";
+
+pub(crate) fn status_line(alloc: Global, given: &ArgMatches<'_>) -> Result<Line, LineFault> {
+    Ok(Line::Status {
+        project: text(alloc, given, "PROJECT")?,
+        files: texts(alloc, given, "FILE")?,
+    })
+}
+
+pub(crate) fn progress<'a>(alloc: Global) -> Result<Command<'a>, AllocError> {
+    let book = Arg::new(alloc, "BOOK").help("One book's code, such as MAT; else all books");
+    command(
+        alloc,
+        "progress",
+        "Says how many verses of each chapter have a text",
+        PROGRESS,
+        &[PROJECT],
+    )?
+    .arg(book)
+}
+
+const PROGRESS: &str = "\
+Writes `BOOK CHAPTER N of M` for each chapter: N verses have a text, and M is
+the greatest number of a verse there. What a verse has besides its number, marks
+and blanks is its text. A bridge counts for each of its verses, and a verse that
+stands in parts, such as 3a and 3b, once. Chapter 0 is what stands before the
+first chapter.
+
+Example: usfm_team progress ana.project MAT
+
+Faults:
+  fault 1                  out of memory
+  fault 20                 BOOK is not a book's code
+  fault 60 to 70, 110      PROJECT is not a project
+  fault 82                 the project does not have the book
+  fault 90 BYTES           writing failed after this many bytes
+  fault 120                the file could not be read
+  fault 121                the file has more than 268,435,456 bytes";
+
+pub(crate) fn progress_line(alloc: Global, given: &ArgMatches<'_>) -> Result<Line, LineFault> {
+    let project = text(alloc, given, "PROJECT")?;
+    let book = book_if_given(alloc, given.get_str("BOOK"))?;
+    Ok(Line::Progress { project, book })
+}
