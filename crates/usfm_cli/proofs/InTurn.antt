@@ -104,7 +104,7 @@ one_each (command ∷ later) s d e = by (outcome s command) (λ x y f. one_each 
     by (Err fault) on e = cc e
 
 -- a refusal that is not out of memory is the one that there is
-exact_fault : {T : Type 0} (late : Fault → Bool) (wanted : Result T Fault) (fault : Fault) → is_memory fault ≡ false
+pub exact_fault : {T : Type 0} (late : Fault → Bool) (wanted : Result T Fault) (fault : Fault) → is_memory fault ≡ false
     → RefusedFor late wanted fault → wanted ≡ Err fault
 exact_fault late wanted Memory e h = cc e
 exact_fault late wanted (NotText valid) e h = h

@@ -22,3 +22,4 @@ pub mod Received
 pub mod DeltasMade
 pub mod Schedules
 pub mod OverBooks
+pub mod OtherCopies

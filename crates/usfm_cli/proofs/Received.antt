@@ -99,7 +99,7 @@ module _ (bytes : List ℕ) where
   late_fault FileChanged h = h
 
   -- where memory is taken to judge the bundle, it may be wanted whatever comes of the command
-  pub judging_wants : (r : Result Done Fault) → TakesMemory bytes → MayWantMemory (is_late_in bytes) r
+  pub judging_wants : {T : Type 0} (r : Result T Fault) → TakesMemory bytes → MayWantMemory (is_late_in bytes) r
   judging_wants (Ok d) t = tt
   judging_wants (Err fault) t = late_fault fault (ap has_thinned t.read ∙ ap not t.thinned)
 

@@ -13,8 +13,9 @@ use Rattle.replica_state.specs.States.{State}
 use Rattle.project_file.specs.declared.fault.LoadFault.{LoadFault}
 use Rattle.project_status.specs.Others.{OtherParts, status}
 use Rattle.project_status.specs.Progress.{book_progress}
-use Rattle.usfm_cli.specs.Commands.{is_late_in, MayWantMemory}
+use Rattle.usfm_cli.specs.Commands.{is_late_in}
 use Rattle.usfm_cli.specs.Faults.{of_loading, of_whole}
+use Rattle.usfm_cli.specs.Turns.{RefusedFor}
 use Rattle.usfm_cli.specs.declared.fault.Fault.{Fault}
 use Rattle.usfm_cli.specs.declared.fault.Fault.TheVariants.{Memory, BadSummary, NoBook}
 use Rattle.usfm_cli.specs.declared.turns.TurnFault.{TurnFault}
@@ -50,8 +51,7 @@ known_of bytes = if starts_with nat_eq bytes summary_magic then summary_or (read
 -- What is answered of a file: the ids that it tells, or its fault; or out of memory, where that may be answered.
 abbrev pub Tells : List ℕ → Result (List NameRanges) Fault → Type 0
 Tells bytes (Ok known) = known_of bytes ≡ Ok known
-Tells bytes (Err Memory) = MayWantMemory (is_late_in bytes) (known_of bytes)
-Tells bytes (Err fault) = known_of bytes ≡ Err fault
+Tells bytes (Err fault) = RefusedFor (is_late_in bytes) (known_of bytes) fault
 
 -- a file with the ids that it tells, before what the later ones tell; a later one that is refused is one place further on
 abbrev pub other_before : List ℕ → Result (List NameRanges) Fault →
@@ -74,7 +74,7 @@ pub record RefusedAt (files : List FileParts) (at : ℕ) (fault : Fault) : Type 
   pub stand : files ≡ before ++ file ∷ later
   pub place : length before ≡ at
   pub told : IsOk (others_of before)
-  pub refused : Tells file.bytes (Err fault)
+  pub refused : RefusedFor (is_late_in file.bytes) (known_of file.bytes) fault
 
 -- What is answered of files: what they tell, or the first that is refused; or out of memory in no turn, where it is kept.
 abbrev pub TellsAll : List FileParts → Result (List OtherParts) TurnFault → Type 0

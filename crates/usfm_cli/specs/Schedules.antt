@@ -21,7 +21,7 @@ use Rattle.usfm_cli.specs.Commands.{line_of}
 use Rattle.usfm_cli.specs.Projects.{Written, executed}
 use Rattle.usfm_cli.specs.ExecLaws.{output_of}
 use Rattle.usfm_cli.specs.declared.command.Command.{Command}
-use Rattle.usfm_cli.specs.declared.command.Command.TheVariants.{ImportSince, Edit, EditOver}
+use Rattle.usfm_cli.specs.declared.command.Command.TheVariants.{ImportSince, Edit, EditOver, EditWith}
 use Rattle.usfm_cli.specs.declared.command.Command.TheVariants.{Receive, Send, Summary, Delta}
 use Rattle.usfm_cli.specs.declared.fault.Fault.{Fault}
 use Rattle.usfm_cli.specs.declared.fault.Fault.TheVariants.{Bundle}
@@ -90,6 +90,7 @@ abbrev pub IsGiven : Files → Command → Type 0
 IsGiven w (ImportSince file base) = IsWritten w.bundles base.now
 IsGiven w (Edit book key text) = IsTrue (is_segment (segment book key))
 IsGiven w (EditOver book key text ids) = IsTrue (is_segment (segment book key))
+IsGiven w (EditWith book key of ids) = IsTrue (is_segment (segment book key))
 IsGiven w (Receive bytes) = IsFrontOf w.bundles bytes.now
 IsGiven w (Delta summary) = IsWritten w.summaries summary.now
 IsGiven w command = Unit {0}

@@ -6,9 +6,11 @@ use Rattle.std.specs.List.{AllByRecursion, list_all}
 use Rattle.std.specs.Str.{is_utf8}
 use Rattle.std.proofs.lemmas.Bool.{and_parts, and_from}
 use Rattle.usfm_ref.specs.Segments.{segment}
+use Rattle.usfm_ref.specs.declared.segment.Segment.{Segment}
 use Rattle.verse_cut.specs.declared.fault.BookFault.{BookFault}
 use Rattle.verse_cut.specs.Pieces.{pieces_of}
 use Rattle.verse_cut.specs.Reading.{book_in}
+use Rattle.op_core.specs.Ids.{Id}
 use Rattle.op_core.specs.Ops.{Operation}
 use Rattle.op_core.specs.Lists.{is_held}
 use Rattle.bundle_codec.specs.Summaries.{NameRanges, outside}
@@ -18,11 +20,11 @@ use Rattle.replica_state.specs.States.{State}
 use Rattle.replica_state.specs.Since.{imported_since}
 use Rattle.replica_state.specs.World.{World, Event, Edits, EditsOver, Imports, Thins, Summarizes, Bundles, Receives, IsWithin, world, replica}
 use Rattle.replica_state.specs.World.Calls.{since_events, all_happen}
-use Rattle.usfm_cli.specs.Commands.{is_other}
+use Rattle.usfm_cli.specs.Commands.{is_other, text_shown}
 use Rattle.usfm_cli.specs.Schedules.{Files, FileCommand, files}
 use Rattle.usfm_cli.specs.declared.command.Command.{Command}
 use Rattle.usfm_cli.specs.declared.command.Command.TheVariants.{Import, ImportSince, ImportNew}
-use Rattle.usfm_cli.specs.declared.command.Command.TheVariants.{Edit, EditOver, Receive}
+use Rattle.usfm_cli.specs.declared.command.Command.TheVariants.{Edit, EditOver, EditWith, Receive}
 use Rattle.usfm_cli.specs.declared.command.Command.TheVariants.{Thin, Send, Summary, Delta}
 use Rattle.usfm_cli.proofs.Schedules.Places.{place_in}
 
@@ -31,6 +33,11 @@ use Rattle.usfm_cli.proofs.Schedules.Places.{place_in}
 abbrev pub new_import : List ℕ → List Operation → List ℕ → Result (List ℕ) BookFault → List Event
 new_import name held file (Err fault) = []
 new_import name held file (Ok book) = cond (is_other held book file) [] (Imports name file ∷ [])
+
+-- an edit over given ids by the text of a shown operation, if the segment shows it
+abbrev pub copying : List ℕ → Segment → List Id → Option (List ℕ) → List Event
+copying name g ids None = []
+copying name g ids (Some text) = EditsOver name g text ids ∷ []
 
 abbrev pub receiving : List ℕ → Option ℕ → List Event
 receiving name None = []
@@ -62,6 +69,8 @@ events_of w v name (ImportNew file) =
 events_of w v name (Edit book key text) = cond (is_utf8 text.now) (Edits name (segment book key) text.now ∷ []) []
 events_of w v name (EditOver book key text ids) =
     cond (is_utf8 text.now) (EditsOver name (segment book key) text.now ids.now ∷ []) []
+events_of w v name (EditWith book key of ids) =
+    copying name (segment book key) ids.now (text_shown (v.held name) (segment book key) of)
 events_of w v name (Receive bytes) = receiving name (place_in w.bundles bytes.now)
 events_of w v name Thin = Thins name ∷ []
 events_of w v name Send = Bundles name (is_held (v.held name)) ∷ []

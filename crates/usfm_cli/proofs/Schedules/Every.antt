@@ -6,10 +6,12 @@ use Rattle.std.specs.List.{AllByRecursion}
 use Rattle.std.specs.Str.{is_utf8}
 use Rattle.std.proofs.lemmas.Str.{IsUtf8-from_is_utf8}
 use Rattle.usfm_ref.specs.Segments.{segment}
+use Rattle.usfm_ref.specs.declared.segment.Segment.{Segment}
 use Rattle.verse_cut.specs.declared.fault.BookFault.{BookFault}
 use Rattle.verse_cut.specs.Reading.{book_in}
 use Rattle.op_core.specs.Names.{is_name}
-use Rattle.op_core.specs.Ops.{Operation}
+use Rattle.op_core.specs.Ids.{Id}
+use Rattle.op_core.specs.Ops.{Operation, is_segment}
 use Rattle.op_core.proofs.Union.{IsOpSet-join}
 use Rattle.bundle_codec.specs.Summaries.{NameRanges}
 use Rattle.bundle_codec.specs.SummaryReading.{read_summary}
@@ -22,7 +24,7 @@ use Rattle.replica_state.specs.World.Calls.{all_happen}
 use Rattle.replica_state.specs.World.Exchanges as exchanges
 use Rattle.replica_state.proofs.World.Sets.{since_within}
 use Rattle.conflict_report.specs.Reports.{report}
-use Rattle.usfm_cli.specs.Commands.{is_other, shown_text, export_text, outcome}
+use Rattle.usfm_cli.specs.Commands.{is_other, text_shown, shown_text, export_text, outcome}
 use Rattle.usfm_cli.specs.SheetReports.{checked, searched, listed}
 use Rattle.usfm_cli.specs.Projects.{Written, written}
 use Rattle.usfm_cli.specs.Schedules.{Files, FileCommand, files, with_written, IsGiven, AreDone, IsFileOf}
@@ -31,11 +33,12 @@ use Rattle.usfm_cli.specs.declared.command.Command.{Command}
 use Rattle.usfm_cli.specs.declared.command.Command.TheVariants as command
 use Rattle.usfm_cli.specs.declared.fault.Fault.{Fault}
 use Rattle.usfm_cli.proofs.Schedules.Places.{place_in}
-use Rattle.usfm_cli.proofs.Schedules.Events.{new_import, receiving, answering, since_if, since_at, importing, events_of, events}
+use Rattle.usfm_cli.proofs.Schedules.Events.{new_import, copying, receiving, answering, since_if, since_at, importing, events_of, events}
 use Rattle.usfm_cli.proofs.Schedules.Events.{onto_happens, onto_within, onto_grows}
-use Rattle.usfm_cli.proofs.Schedules.Mirrors.{Mirrors, sets, loads, does, only_told, imports, imports_new, edits, edits_over, thins}
-use Rattle.usfm_cli.proofs.Schedules.Mirrors.{sends, answers, sums_up, receives}
+use Rattle.usfm_cli.proofs.Schedules.Mirrors.{Mirrors, sets, loads, does, only_told, imports, imports_new, edits, edits_over, edits_with}
+use Rattle.usfm_cli.proofs.Schedules.Mirrors.{thins, sends, answers, sums_up, receives}
 use Rattle.usfm_cli.proofs.Schedules.Since.{imports_since}
+use Rattle.usfm_cli.proofs.Schedules.Copied.{shown_is_text}
 
 module _ (w : Files) (past : List Event) (within : AllByRecursion IsWithin past) (m : Mirrors w (world past))
     (name : List ℕ) (named : IsTrue (is_name name)) where
@@ -88,6 +91,23 @@ module _ (w : Files) (past : List Event) (within : AllByRecursion IsWithin past)
       by None = tt
       by (Some k) = at k (slice_get (world past).bundles k) refl
 
+  -- the text of a shown operation is one, since the operation is held
+  copy_within : (g : Segment) → IsTrue (is_segment g) → (of : Id) (ids : List Id)
+      → Within (copying name g ids (text_shown ((world past).held name) g of))
+  copy_within g is of ids = by (text_shown ((world past).held name) g of) refl
+    where
+      by : (r : Option (List ℕ)) → text_shown ((world past).held name) g of ≡ r → Within (copying name g ids r)
+      by None e = tt
+      by (Some text) e =
+          let all = sets w past within m in (
+            record {
+              name = named;
+              segment = is;
+              text = shown_is_text ((world past).held name) (all.held name).each g of text e;
+            },
+            tt,
+          )
+
   receive_within : (r : Option ℕ) → Within (receiving name r)
   receive_within None = tt
   receive_within (Some k) = (tt, tt)
@@ -110,6 +130,7 @@ module _ (w : Files) (past : List Event) (within : AllByRecursion IsWithin past)
       by : (b : Bool) → is_utf8 text.now ≡ b → Within (cond b (EditsOver name (segment book key) text.now ids.now ∷ []) [])
       by true e = (record { name = named; segment = g; text = IsUtf8-from_is_utf8 text.now e }, tt)
       by false e = tt
+  all_within (command.EditWith book key of ids) g = copy_within (segment book key) g of ids.now
   all_within (command.Receive bytes) g = receive_within (place_in w.bundles bytes.now)
   all_within command.Thin g = (tt, tt)
   all_within (command.Shown book key) g = tt
@@ -133,6 +154,7 @@ module _ (w : Files) (past : List Event) (within : AllByRecursion IsWithin past)
     goes (command.ImportNew file) g = imports_new w past within m name named short file
     goes (command.Edit book key text) g = edits w past within m name named short book key text
     goes (command.EditOver book key text ids) g = edits_over w past within m name named short book key text ids
+    goes (command.EditWith book key of ids) g = edits_with w past within m name named short book key of ids
     goes (command.Receive bytes) g = receives w past within m name named short bytes g
     goes command.Thin g = thins w past within m name named short
     goes (command.Shown book key) g = only_told w past within m name named short (command.Shown book key)

@@ -45,16 +45,16 @@ use Rattle.project_file.specs.declared.fault.LoadFault.{LoadFault}
 use Rattle.project_file.specs.Projects.{project, project_at}
 use Rattle.project_file.proofs.Files.{project_again}
 use Rattle.usfm_cli.specs.Commands as commands
-use Rattle.usfm_cli.specs.Commands.{done, done_if, reply_line, delta_for, import_unless_other, is_other, outcome}
+use Rattle.usfm_cli.specs.Commands.{done, done_if, reply_line, delta_for, import_unless_other, is_other, text_shown, edit_by_text, outcome}
 use Rattle.usfm_cli.specs.Projects.{Written, written, of_loaded, executed}
 use Rattle.usfm_cli.specs.Schedules.{Files, IsWritten, IsFrontOf, bundles_with, summaries_with, with_written}
 use Rattle.usfm_cli.specs.declared.command.Command.{Command}
-use Rattle.usfm_cli.specs.declared.command.Command.TheVariants.{Import, ImportNew, Edit, EditOver, Receive}
+use Rattle.usfm_cli.specs.declared.command.Command.TheVariants.{Import, ImportNew, Edit, EditOver, EditWith, Receive}
 use Rattle.usfm_cli.specs.declared.command.Command.TheVariants.{Thin, Send, Summary, Delta}
 use Rattle.usfm_cli.specs.declared.fault.Fault.{Fault}
 use Rattle.usfm_cli.specs.declared.fault.Fault.TheVariants.{NotText, FileChanged}
 use Rattle.usfm_cli.proofs.Schedules.Places.{place_in, place_is, place_there, mapped_at}
-use Rattle.usfm_cli.proofs.Schedules.Events.{new_import, receiving, answering, events_of}
+use Rattle.usfm_cli.proofs.Schedules.Events.{new_import, copying, receiving, answering, events_of}
 use Rattle.usfm_cli.proofs.SummariesRead.{summary_again}
 
 -- Each file is that of a replica of the world, and what was written is what was made there; each summary is that of a set.
@@ -305,6 +305,21 @@ module _ (w : Files) (past : List Event) (within : AllByRecursion IsWithin past)
             (edited_name (edit_over_op s (segment book key) text.now ids.now))
             (edited_same (edit_over_op s (segment book key) text.now ids.now))
         by false = m
+
+    pub edits_with : (book : List ℕ) (key : KeyParts) (of : Id) (ids : Bor (List Id))
+        → After (EditWith book key of ids) (written (outcome s (EditWith book key of ids)))
+        (all_happen (world past) (events_of w (world past) name (EditWith book key of ids)))
+    edits_with book key of ids = by (text_shown s.held (segment book key) of)
+      where
+        by : (r : Option (List ℕ))
+            → After (EditWith book key of ids) (written (edit_by_text s (segment book key) of ids.now r))
+            (all_happen (world past) (copying name (segment book key) ids.now r))
+        by None = m
+        by (Some text) =
+            let taken = step s (steps.EditOver (segment book key) text ids.now) in
+            stepped (EditWith book key of ids) taken.after (reply_line taken.reply) (λ output xs. (refl, refl))
+            (edited_name (edit_over_op s (segment book key) text ids.now))
+            (edited_same (edit_over_op s (segment book key) text ids.now))
 
     pub thins : After Thin (written (outcome s Thin)) (all_happen (world past) (events_of w (world past) name Thin))
     thins =

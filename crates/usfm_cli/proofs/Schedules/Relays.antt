@@ -7,8 +7,10 @@ use Rattle.std.specs.Str.{is_utf8}
 use Rattle.std.proofs.lemmas.Bool.{and_parts, and_from}
 use Rattle.usfm_ref.specs.Books.{same_bytes}
 use Rattle.usfm_ref.specs.Segments.{segment}
+use Rattle.usfm_ref.specs.declared.segment.Segment.{Segment}
 use Rattle.verse_cut.specs.declared.fault.BookFault.{BookFault}
 use Rattle.verse_cut.specs.Reading.{book_in}
+use Rattle.op_core.specs.Ids.{Id}
 use Rattle.op_core.specs.Ops.{Operation}
 use Rattle.op_core.specs.Sets.{IsOpSet}
 use Rattle.op_core.specs.Lists.{awaited}
@@ -34,7 +36,7 @@ use Rattle.replica_state.proofs.World.Exchanges.{relay_tells}
 use Rattle.replica_state.proofs.World.Shows.{all_agree_in_the_end}
 use Rattle.conflict_report.specs.Reports.{report}
 use Rattle.conflict_report.proofs.Worlds.{all_report}
-use Rattle.usfm_cli.specs.Commands.{is_other}
+use Rattle.usfm_cli.specs.Commands.{is_other, text_shown}
 use Rattle.usfm_cli.specs.Projects.{executed}
 use Rattle.usfm_cli.specs.ExecLaws.{output_of}
 use Rattle.usfm_cli.specs.Schedules.{Files, FileCommand, files, IsFrontOf, AreDone, IsFileOf}
@@ -46,7 +48,7 @@ use Rattle.usfm_cli.proofs.ReadTheSame.{exported, reported}
 use Rattle.usfm_cli.proofs.ReadAlike.{texts_alike}
 use Rattle.usfm_cli.proofs.SummariesRead.{delta_answers}
 use Rattle.usfm_cli.proofs.Schedules.Places.{place_in, place_is}
-use Rattle.usfm_cli.proofs.Schedules.Events.{new_import, receiving, answering, since_if, since_at, importing, events_of}
+use Rattle.usfm_cli.proofs.Schedules.Events.{new_import, copying, receiving, answering, since_if, since_at, importing, events_of}
 use Rattle.usfm_cli.proofs.Schedules.Events.{onto, events, onto_all, onto_grows_all}
 use Rattle.usfm_cli.proofs.Schedules.Every.{mirrored, is_replica, done_at, before, before_all}
 use Rattle.usfm_cli.proofs.Schedules.Mirrors.{sets, state, loads, does, made_at, cut_at, short_front, is_proper}
@@ -235,6 +237,10 @@ module _ (is_there : List ℕ → Bool) (w : Files) (v : World) (name : List ℕ
       at None = refl
       at (Some ops) = of_answer ops (imported_since (replica v name) ops file).answer (book_in file)
 
+  copies_pass : (g : Segment) (ids : List Id) → is_there name ≡ true → (r : Option (List ℕ)) → Passes is_there (copying name g ids r)
+  copies_pass g ids there None = refl
+  copies_pass g ids there (Some text) = and_from (is_there name) true there refl
+
   receives_pass : (r : Option ℕ) → Passes is_there (receiving name r)
   receives_pass None = refl
   receives_pass (Some k) = refl
@@ -250,6 +256,8 @@ module _ (is_there : List ℕ → Bool) (w : Files) (v : World) (name : List ℕ
   passes (command.Edit book key text) h = one_passes (world_of.Edits name (segment book key) text.now) h (is_utf8 text.now)
   passes (command.EditOver book key text ids) h =
       one_passes (world_of.EditsOver name (segment book key) text.now ids.now) h (is_utf8 text.now)
+  passes (command.EditWith book key of ids) h =
+      copies_pass (segment book key) ids.now h (text_shown (v.held name) (segment book key) of)
   passes (command.Receive bytes) h = receives_pass (place_in w.bundles bytes.now)
   passes command.Thin h = refl
   passes (command.Shown book key) h = refl

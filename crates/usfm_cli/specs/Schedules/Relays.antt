@@ -13,7 +13,7 @@ use Rattle.usfm_cli.specs.ExecLaws.{output_of, ReadTheSame}
 use Rattle.usfm_cli.specs.Schedules.{FileCommand, files, AreDone, IsFileOf}
 use Rattle.usfm_cli.specs.declared.command.Command.{Command}
 use Rattle.usfm_cli.specs.declared.command.Command.TheVariants.{Import, ImportSince, ImportNew}
-use Rattle.usfm_cli.specs.declared.command.Command.TheVariants.{Edit, EditOver, Receive}
+use Rattle.usfm_cli.specs.declared.command.Command.TheVariants.{Edit, EditOver, EditWith, Receive}
 use Rattle.usfm_cli.specs.declared.command.Command.TheVariants.{Send, Summary, Delta}
 
 -- the second moment is the first, or comes after it
@@ -86,6 +86,7 @@ if_edit (ImportSince file base) said = said
 if_edit (ImportNew file) said = said
 if_edit (Edit book key text) said = said
 if_edit (EditOver book key text ids) said = said
+if_edit (EditWith book key of ids) said = said
 if_edit command said = true
 
 -- whether the command is no edit or import, or is one at a copy that passes

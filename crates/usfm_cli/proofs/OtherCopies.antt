@@ -1,0 +1,192 @@
+-- What files tell of other copies, one after another.
+use Rattle.std.proofs.Common.{◌≡◌, ◌≢◌, ◌<◌, ℕ, suc, ◌+◌, nat_eq, Bool, true, false, cond, List, [], ◌∷◌, ◌++◌, length, take, drop}
+use Rattle.std.proofs.Common.{Option, None, Some, Result, Ok, Err, IsOk, arith, refl, sym, ap, subst, ◌∙◌, get_or, drop-cons}
+use Rattle.std.specs.List.{starts_with}
+use Rattle.std.proofs.lemmas.List.{take-append-drop, take_more, take_all, length-take-le, length-append}
+use Rattle.op_core.specs.Ops.{Operation}
+use Rattle.bundle_codec.specs.declared.fault.BundleFault.TheVariants as bundle_faults
+use Rattle.bundle_codec.specs.declared.fault.SummaryFault.{SummaryFault}
+use Rattle.bundle_codec.specs.declared.fault.SummaryFault.TheVariants as summing
+use Rattle.bundle_codec.specs.declared.fault.WholeFault.{WholeFault}
+use Rattle.bundle_codec.specs.declared.fault.WholeFault.TheVariants as whole
+use Rattle.bundle_codec.specs.Joining.{whole_if, whole_at, RefusesWhole}
+use Rattle.bundle_codec.specs.Summaries.{NameRanges, summary_of, summary_magic}
+use Rattle.bundle_codec.specs.SummaryReading.{read_summary, ReadFails}
+use Rattle.replica_state.specs.States.{State}
+use Rattle.project_file.specs.declared.fault.LoadFault.{LoadFault}
+use Rattle.project_file.specs.declared.fault.LoadFault.TheVariants as loading
+use Rattle.project_file.specs.Answers.{RefusesLoad}
+use Rattle.project_file.specs.Projects.{project_at}
+use Rattle.project_status.specs.Others.{OtherParts, status}
+use Rattle.usfm_cli.specs.Commands.{is_late_in, MayWantMemory}
+use Rattle.usfm_cli.specs.Faults.{of_loading, of_summary, of_whole}
+use Rattle.usfm_cli.specs.Turns.{RefusedFor, is_memory, is_of_memory}
+use Rattle.usfm_cli.specs.Copies.{FileParts, summary_or, ids_of_bundle, known_of, Tells, other_before, others_of, RefusedAt, TellsAll}
+use Rattle.usfm_cli.specs.Copies.{status_beside, status_of, AnswersStatus}
+use Rattle.usfm_cli.specs.declared.fault.Fault.{Fault}
+use Rattle.usfm_cli.specs.declared.fault.Fault.TheVariants.{Memory}
+use Rattle.usfm_cli.specs.declared.turns.TurnFault.{TurnFault}
+use Rattle.usfm_cli.specs.declared.turns.TurnFault.TheVariants.{Project, Turn}
+use Rattle.usfm_cli.proofs.InTurn.{exact_fault}
+use Rattle.usfm_cli.proofs.Received.{judging_wants}
+
+-- ---- what one file tells
+
+module _ (bytes : List ℕ) where
+  read_as : (b : Bool) → starts_with nat_eq bytes summary_magic ≡ b
+      → known_of bytes ≡ cond b (summary_or (read_summary bytes)) (ids_of_bundle (whole_at bytes))
+  read_as b e = ap (λ (x : Bool). cond x (summary_or (read_summary bytes)) (ids_of_bundle (whole_at bytes))) e
+
+  wants : (r : Result (List NameRanges) Fault) → known_of bytes ≡ r → MayWantMemory (is_late_in bytes) r
+      → MayWantMemory (is_late_in bytes) (known_of bytes)
+  wants r e h = subst (MayWantMemory (is_late_in bytes)) (sym e) h
+
+  module _ (begins : starts_with nat_eq bytes summary_magic ≡ true) where
+    pub summary_told : (known : List NameRanges) → read_summary bytes ≡ Some known → known_of bytes ≡ Ok known
+    summary_told known e = read_as true begins ∙ ap summary_or e
+
+    pub summary_refused : (fault : SummaryFault) → ReadFails (read_summary bytes) fault
+        → RefusedFor (is_late_in bytes) (known_of bytes) (of_summary fault)
+    summary_refused summing.BadSummary r = read_as true begins ∙ ap summary_or r
+    summary_refused summing.Memory r = by (read_summary bytes) refl r
+      where
+        by : (known : Option (List NameRanges)) → read_summary bytes ≡ known → ReadFails known summing.Memory
+            → MayWantMemory (is_late_in bytes) (known_of bytes)
+        by (Some known) e h = wants (Ok known) (summary_told known e) tt
+        by None e h = cc h
+
+  module _ (begins : starts_with nat_eq bytes summary_magic ≡ false) where
+    pub bundle_told : (ops : List Operation) → whole_at bytes ≡ Ok ops → known_of bytes ≡ Ok (summary_of ops)
+    bundle_told ops e = read_as false begins ∙ ap ids_of_bundle e
+
+    pub bundle_wants : (ops : List Operation) → whole_at bytes ≡ Ok ops → MayWantMemory (is_late_in bytes) (known_of bytes)
+    bundle_wants ops e = wants (Ok (summary_of ops)) (bundle_told ops e) tt
+
+    pub bundle_refused : (fault : WholeFault) → RefusesWhole bytes fault
+        → RefusedFor (is_late_in bytes) (known_of bytes) (of_whole fault)
+    bundle_refused whole.Trailing r = read_as false begins ∙ ap ids_of_bundle r
+    bundle_refused (whole.Bundle bundle_faults.Memory) r =
+        wants (ids_of_bundle (whole_at bytes)) (read_as false begins) (judging_wants bytes (ids_of_bundle (whole_at bytes)) r)
+    bundle_refused (whole.Bundle bundle_faults.Magic) r = read_as false begins ∙ (λ i. ids_of_bundle (whole_if (r i)))
+    bundle_refused (whole.Bundle bundle_faults.Truncated) r = read_as false begins ∙ (λ i. ids_of_bundle (whole_if (r i)))
+    bundle_refused (whole.Bundle (bundle_faults.NotRising at)) r = read_as false begins ∙ (λ i. ids_of_bundle (whole_if (r i)))
+    bundle_refused (whole.Bundle (bundle_faults.BadId at)) r = read_as false begins ∙ (λ i. ids_of_bundle (whole_if (r i)))
+    bundle_refused (whole.Bundle (bundle_faults.BadKey at)) r = read_as false begins ∙ (λ i. ids_of_bundle (whole_if (r i)))
+    bundle_refused (whole.Bundle (bundle_faults.BadReplaced at)) r = read_as false begins ∙ (λ i. ids_of_bundle (whole_if (r i)))
+    bundle_refused (whole.Bundle (bundle_faults.BadTag at)) r = read_as false begins ∙ (λ i. ids_of_bundle (whole_if (r i)))
+    bundle_refused (whole.Bundle (bundle_faults.NotUtf8 at)) r = read_as false begins ∙ (λ i. ids_of_bundle (whole_if (r i)))
+    bundle_refused (whole.Bundle (bundle_faults.BadText at)) r = read_as false begins ∙ (λ i. ids_of_bundle (whole_if (r i)))
+    bundle_refused (whole.Bundle (bundle_faults.Unsupported at)) r = read_as false begins ∙ (λ i. ids_of_bundle (whole_if (r i)))
+
+-- ---- one file after others
+
+abbrev pub told : FileParts → List NameRanges → OtherParts
+told file known = record { file = file.name; known = known }
+
+-- one file more tells its ids
+pub told_more : (before : List FileParts) (file : FileParts) (known : List NameRanges) (others : List OtherParts)
+    → others_of before ≡ Ok others → known_of file.bytes ≡ Ok known
+    → others_of (before ++ file ∷ []) ≡ Ok (others ++ told file known ∷ [])
+told_more [] file known others e f =
+    let is : [] ≡ others = cc e in
+    ap (λ (r : Result (List NameRanges) Fault). other_before file.name r (Ok [])) f
+    ∙ ap (λ (os : List OtherParts). Ok (os ++ told file known ∷ [])) is
+told_more (first ∷ before) file known others e f = by (known_of first.bytes) (others_of before) refl e
+  where
+    by : (r : Result (List NameRanges) Fault) (rest : Result (List OtherParts) TurnFault) → others_of before ≡ rest
+        → other_before first.name r rest ≡ Ok others
+        → other_before first.name r (others_of (before ++ file ∷ [])) ≡ Ok (others ++ told file known ∷ [])
+    by (Ok own) (Ok rest) g h =
+        let is : told first own ∷ rest ≡ others = cc h in
+        ap (other_before first.name (Ok own)) (told_more before file known rest g f)
+        ∙ ap (λ (os : List OtherParts). Ok (os ++ told file known ∷ [])) is
+    by (Ok own) (Err (Turn at fault)) g h = cc h
+    by (Ok own) (Err (Project fault)) g h = cc h
+    by (Err fault) rest g h = cc h
+
+-- the first that is refused, after those that tell their ids
+refused_after : (before later : List FileParts) (file : FileParts) (fault : Fault) → IsOk (others_of before)
+    → known_of file.bytes ≡ Err fault → others_of (before ++ file ∷ later) ≡ Err (Turn (length before) fault)
+refused_after [] later file fault h f = ap (λ (r : Result (List NameRanges) Fault). other_before file.name r (others_of later)) f
+refused_after (first ∷ before) later file fault h f = by (known_of first.bytes) (others_of before) refl h
+  where
+    by : (r : Result (List NameRanges) Fault) (rest : Result (List OtherParts) TurnFault) → others_of before ≡ rest
+        → IsOk (other_before first.name r rest)
+        → other_before first.name r (others_of (before ++ file ∷ later)) ≡ Err (Turn (suc (length before)) fault)
+    by (Ok own) (Ok rest) g h =
+        ap (other_before first.name (Ok own)) (refused_after before later file fault (subst IsOk (sym g) refl) f)
+    by (Ok own) (Err (Turn at other)) g h = cc h
+    by (Ok own) (Err (Project other)) g h = cc h
+    by (Err other) rest g h = cc h
+
+-- a refusal that is not for memory is the first that there is
+refused_is : (files : List FileParts) (at : ℕ) (fault : Fault) → is_memory fault ≡ false → RefusedAt files at fault
+    → others_of files ≡ Err (Turn at fault)
+refused_is files at fault e r =
+    ap others_of r.stand
+    ∙ refused_after r.before r.later r.file fault r.told (exact_fault (is_late_in r.file.bytes) (known_of r.file.bytes) fault e r.refused)
+    ∙ ap (λ (n : ℕ). Err (Turn n fault)) r.place
+
+pub all_refused : (files : List FileParts) (fault : TurnFault) → TellsAll files (Err fault) → is_of_memory fault ≡ false
+    → others_of files ≡ Err fault
+all_refused files (Turn at fault) h e = refused_is files at fault e h
+all_refused files (Project fault) h e = let is : is_memory fault ≡ true = ap is_memory h in cc (sym is ∙ e)
+
+-- ---- the walk over the files
+
+-- this many files told this
+pub record ToldSoFar (files : List FileParts) (n : ℕ) (others : List OtherParts) : Type 0 where
+  pub so_far : others_of (take n files) ≡ Ok others
+  pub count : length others ≡ n
+
+module _ (files : List FileParts) (n : ℕ) (others : List OtherParts) (d : ToldSoFar files n others) (file : FileParts)
+    (within : n < length files) (is : file ≡ get_or files n file) where
+  pub one_told : (known : List NameRanges) → known_of file.bytes ≡ Ok known
+      → ToldSoFar files (n + 1) (others ++ told file known ∷ [])
+  one_told known e = record {
+    so_far =
+        ap others_of (take_more files n file within ∙ ap (λ (x : FileParts). take n files ++ x ∷ []) (sym is))
+        ∙ told_more (take n files) file known others d.so_far e;
+    count = length-append others (told file known ∷ []) ∙ ap (λ k. k + 1) d.count;
+  }
+
+  pub one_refused : (len : ℕ) (fault : Fault) → len ≡ length others
+      → RefusedFor (is_late_in file.bytes) (known_of file.bytes) fault → RefusedAt files len fault
+  one_refused len fault e why = record {
+    before = take n files;
+    file = file;
+    later = drop (suc n) files;
+    stand =
+        sym (take-append-drop n files)
+        ∙ ap (λ (l : List FileParts). take n files ++ l) (drop-cons files n file within
+        ∙ ap (λ (x : FileParts). x ∷ drop (suc n) files) (sym is));
+    place = length-take-le n files (omega arith) ∙ sym d.count ∙ sym e;
+    told = subst IsOk (sym d.so_far) refl;
+    refused = why;
+  }
+
+-- ---- how a project stands
+
+-- a project is refused for nothing but memory
+pub wants_alone : (bytes : List ℕ) (s : State) (fault : LoadFault) → project_at bytes ≡ Ok s → RefusesLoad bytes fault
+    → of_loading fault ≡ Memory
+wants_alone bytes s loading.Memory loads refused = refl
+wants_alone bytes s loading.BadProject loads refused = let e : Ok s ≡ Err loading.BadProject = sym loads ∙ refused in cc e
+wants_alone bytes s (loading.Bundle fault) loads refused = let e : Ok s ≡ Err (loading.Bundle fault) = sym loads ∙ refused in cc e
+
+-- what is answered of files that are refused is answered of the project
+pub files_refused : (s : State) (files : List FileParts) (fault : TurnFault) → TellsAll files (Err fault)
+    → AnswersStatus s files (Err fault)
+files_refused s files (Turn at fault) h = h
+files_refused s files (Project fault) h = h
+
+module _ (bytes : List ℕ) (s : State) (files : List FileParts) (loads : project_at bytes ≡ Ok s) where
+  pub refused_beside : (fault : TurnFault) → TellsAll files (Err fault) → is_of_memory fault ≡ false
+      → status_of (project_at bytes) files ≡ Err fault
+  refused_beside fault h e =
+      ap (λ (r : Result State LoadFault). status_of r files) loads ∙ ap (status_beside s) (all_refused files fault h e)
+
+  pub stands_beside : (others : List OtherParts) (text : List ℕ) → others_of files ≡ Ok others → text ≡ status s.name s.held others
+      → status_of (project_at bytes) files ≡ Ok text
+  stands_beside others text told e =
+      ap (λ (r : Result State LoadFault). status_of r files) loads ∙ ap (status_beside s) told ∙ ap Ok (sym e)
