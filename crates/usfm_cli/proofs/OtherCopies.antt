@@ -1,7 +1,6 @@
 -- What files tell of other copies, one after another.
 use Rattle.std.proofs.Common.{◌≡◌, ◌≢◌, ◌<◌, ℕ, suc, ◌+◌, nat_eq, Bool, true, false, cond, List, [], ◌∷◌, ◌++◌, length, take, drop}
 use Rattle.std.proofs.Common.{Option, None, Some, Result, Ok, Err, IsOk, arith, refl, sym, ap, subst, ◌∙◌, get_or, drop-cons}
-use Rattle.std.specs.List.{starts_with}
 use Rattle.std.proofs.lemmas.List.{take-append-drop, take_more, take_all, length-take-le, length-append}
 use Rattle.op_core.specs.Ops.{Operation}
 use Rattle.bundle_codec.specs.declared.fault.BundleFault.TheVariants as bundle_faults
@@ -10,19 +9,17 @@ use Rattle.bundle_codec.specs.declared.fault.SummaryFault.TheVariants as summing
 use Rattle.bundle_codec.specs.declared.fault.WholeFault.{WholeFault}
 use Rattle.bundle_codec.specs.declared.fault.WholeFault.TheVariants as whole
 use Rattle.bundle_codec.specs.Joining.{whole_if, whole_at, RefusesWhole}
-use Rattle.bundle_codec.specs.Summaries.{NameRanges, summary_of, summary_magic}
+use Rattle.bundle_codec.specs.Summaries.{NameRanges, summary_of}
 use Rattle.bundle_codec.specs.SummaryReading.{read_summary, ReadFails}
 use Rattle.replica_state.specs.States.{State}
 use Rattle.project_file.specs.declared.fault.LoadFault.{LoadFault}
-use Rattle.project_file.specs.declared.fault.LoadFault.TheVariants as loading
-use Rattle.project_file.specs.Answers.{RefusesLoad}
 use Rattle.project_file.specs.Projects.{project_at}
 use Rattle.project_status.specs.Others.{OtherParts, status}
 use Rattle.usfm_cli.specs.Commands.{is_late_in, MayWantMemory}
-use Rattle.usfm_cli.specs.Faults.{of_loading, of_summary, of_whole}
+use Rattle.usfm_cli.specs.Faults.{of_summary, of_whole}
 use Rattle.usfm_cli.specs.Turns.{RefusedFor, is_memory, is_of_memory}
-use Rattle.usfm_cli.specs.Copies.{FileParts, summary_or, ids_of_bundle, known_of, Tells, other_before, others_of, RefusedAt, TellsAll}
-use Rattle.usfm_cli.specs.Copies.{status_beside, status_of, AnswersStatus}
+use Rattle.usfm_cli.specs.Copies.{FileParts, is_like_summary, summary_or, ids_of_bundle, known_of, Tells, other_before, others_of, RefusedAt, TellsAll}
+use Rattle.usfm_cli.specs.Copies.{status_beside, status_of}
 use Rattle.usfm_cli.specs.declared.fault.Fault.{Fault}
 use Rattle.usfm_cli.specs.declared.fault.Fault.TheVariants.{Memory}
 use Rattle.usfm_cli.specs.declared.turns.TurnFault.{TurnFault}
@@ -33,7 +30,7 @@ use Rattle.usfm_cli.proofs.Received.{judging_wants}
 -- ---- what one file tells
 
 module _ (bytes : List ℕ) where
-  read_as : (b : Bool) → starts_with nat_eq bytes summary_magic ≡ b
+  read_as : (b : Bool) → is_like_summary bytes ≡ b
       → known_of bytes ≡ cond b (summary_or (read_summary bytes)) (ids_of_bundle (whole_at bytes))
   read_as b e = ap (λ (x : Bool). cond x (summary_or (read_summary bytes)) (ids_of_bundle (whole_at bytes))) e
 
@@ -41,7 +38,7 @@ module _ (bytes : List ℕ) where
       → MayWantMemory (is_late_in bytes) (known_of bytes)
   wants r e h = subst (MayWantMemory (is_late_in bytes)) (sym e) h
 
-  module _ (begins : starts_with nat_eq bytes summary_magic ≡ true) where
+  module _ (begins : is_like_summary bytes ≡ true) where
     pub summary_told : (known : List NameRanges) → read_summary bytes ≡ Some known → known_of bytes ≡ Ok known
     summary_told known e = read_as true begins ∙ ap summary_or e
 
@@ -55,7 +52,7 @@ module _ (bytes : List ℕ) where
         by (Some known) e h = wants (Ok known) (summary_told known e) tt
         by None e h = cc h
 
-  module _ (begins : starts_with nat_eq bytes summary_magic ≡ false) where
+  module _ (begins : is_like_summary bytes ≡ false) where
     pub bundle_told : (ops : List Operation) → whole_at bytes ≡ Ok ops → known_of bytes ≡ Ok (summary_of ops)
     bundle_told ops e = read_as false begins ∙ ap ids_of_bundle e
 
@@ -91,33 +88,36 @@ told_more [] file known others e f =
     let is : [] ≡ others = cc e in
     ap (λ (r : Result (List NameRanges) Fault). other_before file.name r (Ok [])) f
     ∙ ap (λ (os : List OtherParts). Ok (os ++ told file known ∷ [])) is
-told_more (first ∷ before) file known others e f = by (known_of first.bytes) (others_of before) refl e
+told_more (first ∷ before) file known others e f =
+    by (known_of first.bytes) (others_of before) refl (λ rest g. told_more before file known rest g f) e
   where
     by : (r : Result (List NameRanges) Fault) (rest : Result (List OtherParts) TurnFault) → others_of before ≡ rest
+        → ((os : List OtherParts) → others_of before ≡ Ok os → others_of (before ++ file ∷ []) ≡ Ok (os ++ told file known ∷ []))
         → other_before first.name r rest ≡ Ok others
         → other_before first.name r (others_of (before ++ file ∷ [])) ≡ Ok (others ++ told file known ∷ [])
-    by (Ok own) (Ok rest) g h =
+    by (Ok own) (Ok rest) g on h =
         let is : told first own ∷ rest ≡ others = cc h in
-        ap (other_before first.name (Ok own)) (told_more before file known rest g f)
+        ap (other_before first.name (Ok own)) (on rest g)
         ∙ ap (λ (os : List OtherParts). Ok (os ++ told file known ∷ [])) is
-    by (Ok own) (Err (Turn at fault)) g h = cc h
-    by (Ok own) (Err (Project fault)) g h = cc h
-    by (Err fault) rest g h = cc h
+    by (Ok own) (Err (Turn at fault)) g on h = cc h
+    by (Ok own) (Err (Project fault)) g on h = cc h
+    by (Err fault) rest g on h = cc h
 
 -- the first that is refused, after those that tell their ids
 refused_after : (before later : List FileParts) (file : FileParts) (fault : Fault) → IsOk (others_of before)
     → known_of file.bytes ≡ Err fault → others_of (before ++ file ∷ later) ≡ Err (Turn (length before) fault)
 refused_after [] later file fault h f = ap (λ (r : Result (List NameRanges) Fault). other_before file.name r (others_of later)) f
-refused_after (first ∷ before) later file fault h f = by (known_of first.bytes) (others_of before) refl h
+refused_after (first ∷ before) later file fault h f =
+    by (known_of first.bytes) (others_of before) refl (λ told. refused_after before later file fault told f) h
   where
     by : (r : Result (List NameRanges) Fault) (rest : Result (List OtherParts) TurnFault) → others_of before ≡ rest
+        → (IsOk (others_of before) → others_of (before ++ file ∷ later) ≡ Err (Turn (length before) fault))
         → IsOk (other_before first.name r rest)
         → other_before first.name r (others_of (before ++ file ∷ later)) ≡ Err (Turn (suc (length before)) fault)
-    by (Ok own) (Ok rest) g h =
-        ap (other_before first.name (Ok own)) (refused_after before later file fault (subst IsOk (sym g) refl) f)
-    by (Ok own) (Err (Turn at other)) g h = cc h
-    by (Ok own) (Err (Project other)) g h = cc h
-    by (Err other) rest g h = cc h
+    by (Ok own) (Ok rest) g on h = ap (other_before first.name (Ok own)) (on (subst IsOk (sym g) refl))
+    by (Ok own) (Err (Turn at other)) g on h = cc h
+    by (Ok own) (Err (Project other)) g on h = cc h
+    by (Err other) rest g on h = cc h
 
 -- a refusal that is not for memory is the first that there is
 refused_is : (files : List FileParts) (at : ℕ) (fault : Fault) → is_memory fault ≡ false → RefusedAt files at fault
@@ -167,26 +167,13 @@ module _ (files : List FileParts) (n : ℕ) (others : List OtherParts) (d : Told
 
 -- ---- how a project stands
 
--- a project is refused for nothing but memory
-pub wants_alone : (bytes : List ℕ) (s : State) (fault : LoadFault) → project_at bytes ≡ Ok s → RefusesLoad bytes fault
-    → of_loading fault ≡ Memory
-wants_alone bytes s loading.Memory loads refused = refl
-wants_alone bytes s loading.BadProject loads refused = let e : Ok s ≡ Err loading.BadProject = sym loads ∙ refused in cc e
-wants_alone bytes s (loading.Bundle fault) loads refused = let e : Ok s ≡ Err (loading.Bundle fault) = sym loads ∙ refused in cc e
+pub refused_beside : (bytes : List ℕ) (s : State) (files : List FileParts) (fault : TurnFault) → project_at bytes ≡ Ok s
+    → TellsAll files (Err fault) → is_of_memory fault ≡ false → status_of (project_at bytes) files ≡ Err fault
+refused_beside bytes s files fault loads h e =
+    ap (λ (r : Result State LoadFault). status_of r files) loads ∙ ap (status_beside s) (all_refused files fault h e)
 
--- what is answered of files that are refused is answered of the project
-pub files_refused : (s : State) (files : List FileParts) (fault : TurnFault) → TellsAll files (Err fault)
-    → AnswersStatus s files (Err fault)
-files_refused s files (Turn at fault) h = h
-files_refused s files (Project fault) h = h
-
-module _ (bytes : List ℕ) (s : State) (files : List FileParts) (loads : project_at bytes ≡ Ok s) where
-  pub refused_beside : (fault : TurnFault) → TellsAll files (Err fault) → is_of_memory fault ≡ false
-      → status_of (project_at bytes) files ≡ Err fault
-  refused_beside fault h e =
-      ap (λ (r : Result State LoadFault). status_of r files) loads ∙ ap (status_beside s) (all_refused files fault h e)
-
-  pub stands_beside : (others : List OtherParts) (text : List ℕ) → others_of files ≡ Ok others → text ≡ status s.name s.held others
-      → status_of (project_at bytes) files ≡ Ok text
-  stands_beside others text told e =
-      ap (λ (r : Result State LoadFault). status_of r files) loads ∙ ap (status_beside s) told ∙ ap Ok (sym e)
+pub stands_beside : (s : State) (files : List FileParts) (others : List OtherParts) (name : List ℕ) (held : List Operation) (text : List ℕ)
+    → others_of files ≡ Ok others → name ≡ s.name → held ≡ s.held → text ≡ status name held others
+    → status_beside s (others_of files) ≡ Ok text
+stands_beside s files others name held text told named holds e =
+    ap (status_beside s) told ∙ (λ i. Ok (status (sym named i) (sym holds i) others)) ∙ ap Ok (sym e)

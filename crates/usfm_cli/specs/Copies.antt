@@ -1,5 +1,5 @@
 -- How a project stands, beside the files of other copies (this project's own rule).
-use Rattle.std.specs.Prelude.{◌≡◌, ℕ, suc, nat_eq, List, [], ◌∷◌, ◌++◌, length, Vec, IsOk}
+use Rattle.std.specs.Prelude.{◌≡◌, ℕ, suc, nat_eq, Bool, List, [], ◌∷◌, ◌++◌, length, Vec, IsOk}
 use Rattle.std.specs.Prelude.{Option, None, Some, Result, Ok, Err, if◌then◌else◌}
 use Rattle.std.specs.List.{starts_with, flat_map}
 use Rattle.op_core.specs.Ops.{Operation}
@@ -43,9 +43,13 @@ abbrev pub ids_of_bundle : Result (List Operation) WholeFault → Result (List N
 ids_of_bundle (Ok ops) = Ok (summary_of ops)
 ids_of_bundle (Err fault) = Err (of_whole fault)
 
+-- whether bytes begin as a summary does
+abbrev pub is_like_summary : List ℕ → Bool
+is_like_summary bytes = starts_with nat_eq bytes summary_magic
+
 -- the ids that a file tells: what begins as a summary does is read as one, all else as a bundle
 abbrev pub known_of : List ℕ → Result (List NameRanges) Fault
-known_of bytes = if starts_with nat_eq bytes summary_magic then summary_or (read_summary bytes)
+known_of bytes = if is_like_summary bytes then summary_or (read_summary bytes)
     else ids_of_bundle (whole_at bytes)
 
 -- What is answered of a file: the ids that it tells, or its fault; or out of memory, where that may be answered.

@@ -1,5 +1,6 @@
 // How a project stands, as lines: beside the files of other copies, or chapter by chapter.
 ghost use Rattle.std.specs.Prelude.{◌≡◌, ◌≢◌, false, Ok, Err, IfOk, IfErr};
+ghost use Rattle.op_core.specs.Export.{has_book};
 ghost use Rattle.project_file.specs.Projects.{project_at};
 ghost use Rattle.replica_state.specs.States.{State};
 ghost use Rattle.usfm_cli.specs.Copies as copies;
@@ -16,9 +17,6 @@ use project_status::{Other, push_progress, status_text};
 use std::alloc::{AllocError, Global};
 use std::marker::Model;
 use usfm_ref::Book;
-
-// What a summary begins with.
-static SUMMARY_MAGIC: [u8; 8] = *b"USFMSS1\n";
 
 /// A file that tells which ids another copy has: its summary, or a bundle of its operations. It is
 /// named as it was given.
@@ -107,12 +105,20 @@ fn others_of<'a>(alloc: Global, files: &[CopyFile<'a>]) -> Result<Vec<Other<'a>>
 fn known_of(alloc: Global, bytes: &[u8]) -> Result<Summary, Fault>
     ensures { copies.Tells bytes.now result }
 {
-    if bytes.starts_with(&SUMMARY_MAGIC) {
+    if is_like_summary(bytes) {
         return Ok(Summary::read(alloc, bytes)?);
     }
     let bundle = decode_whole(alloc, bytes)?;
     let set = bundle.to_set(alloc)?;
     Ok(Summary::of(alloc, &set)?)
+}
+
+// Whether bytes begin as a summary does.
+#[tactic(auto, unfolding(bundle_codec::specs::Summaries::summary_magic))]
+fn is_like_summary(bytes: &[u8]) -> bool
+    ensures { result ≡ copies.is_like_summary bytes.now }
+{
+    bytes.starts_with(b"USFMSS1\n")
 }
 
 /// How far the chapters of a project's books are written, of one book or of all, as
@@ -147,10 +153,17 @@ fn progress_of_all(alloc: Global, set: &OpSet) -> Result<Vec<u8>, AllocError>
 fn progress_in(alloc: Global, set: &OpSet, book: Book) -> Result<Vec<u8>, Fault>
     ensures { result ≢ Err Fault.Memory → copies.progress_in set.now book ≡ copies.as_list result }
 {
-    if set.keys(book).next().is_none() {
+    if !has_book(set, book) {
         return Err(Fault::NoBook);
     }
     let mut text = Vec::new(alloc);
     push_progress(alloc, set, book, &mut text)?;
     Ok(text)
+}
+
+// Whether the set has an operation of the book.
+fn has_book(set: &OpSet, book: Book) -> bool
+    ensures { result ≡ has_book set.now book }
+{
+    set.keys(book).next().is_some()
 }

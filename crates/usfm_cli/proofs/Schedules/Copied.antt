@@ -22,13 +22,14 @@ own_is_text g (Some text) h = h.utf8
 found_is_text : (p : Operation → Bool) (ops : List Operation) → AllByRecursion IsOperation ops → (text : List ℕ)
     → option_map (λ o. own_text o) (find p ops) ≡ Some text → IsUtf8 text
 found_is_text p [] h text e = cc e
-found_is_text p (o ∷ ops) h text e = by (p o) e
+found_is_text p (o ∷ ops) h text e = by (found_is_text p ops h.1 text) (p o) e
   where
-    by : (b : Bool) → option_map (λ q. own_text q) (cond b (Some o) (find p ops)) ≡ Some text → IsUtf8 text
-    by true f =
+    by : (option_map (λ q. own_text q) (find p ops) ≡ Some text → IsUtf8 text) → (b : Bool)
+        → option_map (λ q. own_text q) (cond b (Some o) (find p ops)) ≡ Some text → IsUtf8 text
+    by rest true f =
         let is : own_text o ≡ text = cc f in
         subst IsUtf8 is (own_is_text o.segment o.text h.0.text)
-    by false f = found_is_text p ops h.1 text f
+    by rest false f = rest f
 
 pub shown_is_text : (held : List Operation) → AllByRecursion IsOperation held → (g : Segment) (of : Id) (text : List ℕ)
     → text_shown held g of ≡ Some text → IsUtf8 text
