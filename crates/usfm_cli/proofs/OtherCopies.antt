@@ -1,7 +1,7 @@
 -- What files tell of other copies, one after another.
-use Rattle.std.proofs.Common.{◌≡◌, ◌≢◌, ◌<◌, ℕ, suc, ◌+◌, nat_eq, Bool, true, false, cond, List, [], ◌∷◌, ◌++◌, length, take, drop}
+use Rattle.std.proofs.Common.{◌≡◌, ◌<◌, ℕ, suc, ◌+◌, Bool, true, false, cond, List, [], ◌∷◌, ◌++◌, length, take, drop}
 use Rattle.std.proofs.Common.{Option, None, Some, Result, Ok, Err, IsOk, arith, refl, sym, ap, subst, ◌∙◌, get_or, drop-cons}
-use Rattle.std.proofs.lemmas.List.{take-append-drop, take_more, take_all, length-take-le, length-append}
+use Rattle.std.proofs.lemmas.List.{take-append-drop, take_more, length-take-le, length-append}
 use Rattle.op_core.specs.Ops.{Operation}
 use Rattle.bundle_codec.specs.declared.fault.BundleFault.TheVariants as bundle_faults
 use Rattle.bundle_codec.specs.declared.fault.SummaryFault.{SummaryFault}
@@ -18,10 +18,9 @@ use Rattle.project_status.specs.Others.{OtherParts, status}
 use Rattle.usfm_cli.specs.Commands.{is_late_in, MayWantMemory}
 use Rattle.usfm_cli.specs.Faults.{of_summary, of_whole}
 use Rattle.usfm_cli.specs.Turns.{RefusedFor, is_memory, is_of_memory}
-use Rattle.usfm_cli.specs.Copies.{FileParts, is_like_summary, summary_or, ids_of_bundle, known_of, Tells, other_before, others_of, RefusedAt, TellsAll}
+use Rattle.usfm_cli.specs.Copies.{FileParts, is_like_summary, summary_or, ids_of_bundle, known_of, other_before, others_of, RefusedAt, TellsAll}
 use Rattle.usfm_cli.specs.Copies.{status_beside, status_of}
 use Rattle.usfm_cli.specs.declared.fault.Fault.{Fault}
-use Rattle.usfm_cli.specs.declared.fault.Fault.TheVariants.{Memory}
 use Rattle.usfm_cli.specs.declared.turns.TurnFault.{TurnFault}
 use Rattle.usfm_cli.specs.declared.turns.TurnFault.TheVariants.{Project, Turn}
 use Rattle.usfm_cli.proofs.InTurn.{exact_fault}
