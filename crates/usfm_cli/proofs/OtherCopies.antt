@@ -1,8 +1,9 @@
 -- What files tell of other copies, one after another.
-use Rattle.std.proofs.Common.{◌≡◌, ◌<◌, ℕ, suc, ◌+◌, Bool, true, false, cond, List, [], ◌∷◌, ◌++◌, length, take, drop}
-use Rattle.std.proofs.Common.{Option, None, Some, Result, Ok, Err, IsOk, arith, refl, sym, ap, subst, ◌∙◌, get_or, drop-cons}
-use Rattle.std.proofs.lemmas.List.{take-append-drop, take_more, length-take-le, length-append}
+use Rattle.std.proofs.Common.{◌≡◌, ◌≢◌, ◌<◌, ℕ, suc, ◌+◌, Bool, true, false, cond, List, [], ◌∷◌, ◌++◌, length, take, drop}
+use Rattle.std.proofs.Common.{Option, None, Some, Result, Ok, Err, IsOk, IsTrue, arith, add-one, refl, sym, ap, subst, ◌∙◌, get_or, drop-cons}
+use Rattle.std.proofs.lemmas.List.{take-append-drop, take_more, take_all, length-take-le, length-append}
 use Rattle.op_core.specs.Ops.{Operation}
+use Rattle.op_core.specs.Thinned.{all_full}
 use Rattle.bundle_codec.specs.declared.fault.BundleFault.TheVariants as bundle_faults
 use Rattle.bundle_codec.specs.declared.fault.SummaryFault.{SummaryFault}
 use Rattle.bundle_codec.specs.declared.fault.SummaryFault.TheVariants as summing
@@ -13,13 +14,15 @@ use Rattle.bundle_codec.specs.Summaries.{NameRanges, summary_of}
 use Rattle.bundle_codec.specs.SummaryReading.{read_summary, ReadFails}
 use Rattle.replica_state.specs.States.{State}
 use Rattle.project_file.specs.declared.fault.LoadFault.{LoadFault}
+use Rattle.project_file.specs.declared.fault.LoadFault.TheVariants as loading
+use Rattle.project_file.specs.Answers.{RefusesLoad}
 use Rattle.project_file.specs.Projects.{project_at}
 use Rattle.project_status.specs.Others.{OtherParts, status}
 use Rattle.usfm_cli.specs.Commands.{is_late_in, MayWantMemory}
-use Rattle.usfm_cli.specs.Faults.{of_summary, of_whole}
+use Rattle.usfm_cli.specs.Faults.{of_loading, of_summary, of_whole}
 use Rattle.usfm_cli.specs.Turns.{RefusedFor, is_memory, is_of_memory}
-use Rattle.usfm_cli.specs.Copies.{FileParts, is_like_summary, summary_or, ids_of_bundle, known_of, other_before, others_of, RefusedAt, TellsAll}
-use Rattle.usfm_cli.specs.Copies.{status_beside, status_of}
+use Rattle.usfm_cli.specs.Copies.{FileParts, is_like_summary, summary_or, ids_of_bundle, known_of, other_before, others_of, RefusedAt, FirstTells, TellsAll}
+use Rattle.usfm_cli.specs.Copies.{status_beside, status_of, AnswersStatus}
 use Rattle.usfm_cli.specs.declared.fault.Fault.{Fault}
 use Rattle.usfm_cli.specs.declared.turns.TurnFault.{TurnFault}
 use Rattle.usfm_cli.specs.declared.turns.TurnFault.TheVariants.{Project, Turn}
@@ -129,7 +132,21 @@ refused_is files at fault e r =
 pub all_refused : (files : List FileParts) (fault : TurnFault) → TellsAll files (Err fault) → is_of_memory fault ≡ false
     → others_of files ≡ Err fault
 all_refused files (Turn at fault) h e = refused_is files at fault e h
-all_refused files (Project fault) h e = let is : is_memory fault ≡ true = ap is_memory h in cc (sym is ∙ e)
+all_refused files (Project fault) h e = let is : is_memory fault ≡ true = ap is_memory h.0 in cc (sym is ∙ e)
+
+-- where the first ones tell their ids, the first one does
+pub first_tells : (n : ℕ) (files : List FileParts) (others : List OtherParts) → others_of (take (suc n) files) ≡ Ok others → FirstTells files
+first_tells n [] others e = tt
+first_tells n (file ∷ later) others e = by (known_of file.bytes) (others_of (take n later)) e
+  where
+    by : (r : Result (List NameRanges) Fault) (rest : Result (List OtherParts) TurnFault) → other_before file.name r rest ≡ Ok others
+        → IsOk r
+    by (Ok known) rest e = refl
+    by (Err fault) rest e = cc e
+
+pub first_of_all : (files : List FileParts) (others : List OtherParts) → others_of files ≡ Ok others → FirstTells files
+first_of_all files others e =
+    first_tells (length files) files others (ap others_of (take_all (suc (length files)) files (omega arith)) ∙ e)
 
 -- ---- the walk over the files
 
@@ -148,6 +165,12 @@ module _ (files : List FileParts) (n : ℕ) (others : List OtherParts) (d : Told
         ∙ told_more (take n files) file known others d.so_far e;
     count = length-append others (told file known ∷ []) ∙ ap (λ k. k + 1) d.count;
   }
+
+  -- no file is kept where the first one is refused
+  pub one_kept : (known : List NameRanges) → known_of file.bytes ≡ Ok known → FirstTells files
+  one_kept known e =
+      let more = one_told known e in
+      first_tells n files _ (subst (λ (k : ℕ). others_of (take k files) ≡ Ok (others ++ told file known ∷ [])) add-one more.so_far)
 
   pub one_refused : (len : ℕ) (fault : Fault) → len ≡ length others
       → RefusedFor (is_late_in file.bytes) (known_of file.bytes) fault → RefusedAt files len fault
@@ -176,3 +199,18 @@ pub stands_beside : (s : State) (files : List FileParts) (others : List OtherPar
     → status_beside s (others_of files) ≡ Ok text
 stands_beside s files others name held text told named holds e =
     ap (status_beside s) told ∙ (λ i. Ok (status (sym named i) (sym holds i) others)) ∙ ap Ok (sym e)
+
+-- A project that is read is refused as out of memory alone, and not before a file where it has no operation without its text.
+pub wants_alone : (bytes : List ℕ) (s : State) (files : List FileParts) (fault : LoadFault) → project_at bytes ≡ Ok s
+    → RefusesLoad bytes fault → (IsTrue (all_full s.held) → fault ≢ loading.Memory)
+    → AnswersStatus s files (Err (Project (of_loading fault)))
+wants_alone bytes s files loading.Memory loads refused full = (refl, λ all. absurd (full all refl))
+wants_alone bytes s files loading.BadProject loads refused full = let e : Ok s ≡ Err loading.BadProject = sym loads ∙ refused in cc e
+wants_alone bytes s files (loading.Bundle fault) loads refused full =
+    let e : Ok s ≡ Err (loading.Bundle fault) = sym loads ∙ refused in cc e
+
+-- what is answered of files is answered of the project
+pub files_refused : (s : State) (files : List FileParts) (fault : TurnFault) → TellsAll files (Err fault)
+    → AnswersStatus s files (Err fault)
+files_refused s files (Turn at fault) h = h
+files_refused s files (Project fault) h = (h.0, λ all. h.1)

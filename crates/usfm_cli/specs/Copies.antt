@@ -1,10 +1,11 @@
 -- How a project stands, beside the files of other copies (this project's own rule).
-use Rattle.std.specs.Prelude.{◌≡◌, ℕ, suc, nat_eq, Bool, List, [], ◌∷◌, ◌++◌, length, Vec, IsOk}
+use Rattle.std.specs.Prelude.{◌≡◌, ℕ, suc, nat_eq, Bool, List, [], ◌∷◌, ◌++◌, length, Vec, IsOk, IsTrue}
 use Rattle.std.specs.Prelude.{Option, None, Some, Result, Ok, Err, if◌then◌else◌}
 use Rattle.std.specs.List.{starts_with, flat_map}
 use Rattle.op_core.specs.Ops.{Operation}
 use Rattle.op_core.specs.Export.{has_book}
 use Rattle.op_core.specs.Lists.{books_of}
+use Rattle.op_core.specs.Thinned.{all_full}
 use Rattle.bundle_codec.specs.declared.fault.WholeFault.{WholeFault}
 use Rattle.bundle_codec.specs.Joining.{whole_at}
 use Rattle.bundle_codec.specs.Summaries.{NameRanges, summary_of, summary_magic}
@@ -80,11 +81,17 @@ pub record RefusedAt (files : List FileParts) (at : ℕ) (fault : Fault) : Type 
   pub told : IsOk (others_of before)
   pub refused : RefusedFor (is_late_in file.bytes) (known_of file.bytes) fault
 
--- What is answered of files: what they tell, or the first that is refused; or out of memory in no turn, where it is kept.
+-- the first of the files, if there is one, is not refused
+abbrev pub FirstTells : List FileParts → Type 0
+FirstTells [] = Unit {0}
+FirstTells (file ∷ later) = IsOk (known_of file.bytes)
+
+-- What is answered of files: what they tell, or the first that is refused; or out of memory in no turn, where what a file told is
+-- kept.
 abbrev pub TellsAll : List FileParts → Result (List OtherParts) TurnFault → Type 0
 TellsAll files (Ok others) = others_of files ≡ Ok others
 TellsAll files (Err (Turn at fault)) = RefusedAt files at fault
-TellsAll files (Err (Project fault)) = fault ≡ Memory
+TellsAll files (Err (Project fault)) = (fault ≡ Memory) × FirstTells files
 
 -- ---- how a project stands
 
@@ -99,11 +106,13 @@ abbrev pub status_of : Result State LoadFault → List FileParts → Result (Lis
 status_of (Ok s) files = status_beside s (others_of files)
 status_of (Err fault) files = Err (Project (of_loading fault))
 
--- What is answered of a project that is read: its lines, or the first file that is refused; or out of memory in no turn.
+-- What is answered of a project that is read: its lines, or the first file that is refused; or out of memory in no turn, which in
+-- the place of a first file's refusal is answered only where the project has an operation without its text.
 abbrev pub AnswersStatus : State → List FileParts → Result (List ℕ) TurnFault → Type 0
 AnswersStatus s files (Ok text) = status_beside s (others_of files) ≡ Ok text
 AnswersStatus s files (Err (Turn at fault)) = RefusedAt files at fault
-AnswersStatus s files (Err (Project fault)) = fault ≡ Memory
+AnswersStatus s files (Err (Project fault)) =
+    (fault ≡ Memory) × (IsTrue (all_full s.held) → FirstTells files)
 
 -- ---- how far it is
 

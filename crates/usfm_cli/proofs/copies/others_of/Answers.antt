@@ -1,9 +1,10 @@
-use Rattle.std.proofs.Common.{◌≡◌, ℕ, ◌+◌, List, [], ◌∷◌, ◌++◌, Ok, arith, sym, ap, subst, ◌∙◌}
+use Rattle.std.proofs.Common.{◌≡◌, ℕ, ◌+◌, List, [], ◌∷◌, ◌++◌, Ok, arith, refl, sym, ap, subst, ◌∙◌}
+use Rattle.std.proofs.lemmas.Result.{err_from_is_err_and}
 use Rattle.project_status.specs.Others.{OtherParts}
 use Rattle.usfm_cli.specs.Commands.{is_late_in}
 use Rattle.usfm_cli.specs.Copies.{known_of}
 use Rattle.usfm_cli.specs.Turns.{RefusedFor}
-use Rattle.usfm_cli.proofs.OtherCopies.{ToldSoFar, told, one_told, one_refused}
+use Rattle.usfm_cli.proofs.OtherCopies.{ToldSoFar, told, one_told, one_kept, one_refused}
 use Rattle.usfm_cli.proofs.copies.others_of.Goals as goal
 
 pub returns-in-Err : goal.returns-in-Err
@@ -12,6 +13,18 @@ returns-in-Err c =
     one_refused c.args.files.now c.loop-file.file-index others.items c.loop-file.invariant c.file-item.result c.loop-file-test.true
     c.file-item.is c.len.result c.in-Err.fault (omega (arith, others.ok.0, c.len.ensures))
     (subst (λ (bytes : List ℕ). RefusedFor (is_late_in bytes) (known_of bytes) c.in-Err.fault) c.bytes.ensures c.in-Err.ensures)
+
+pub returns-in_err-push-in-Ok : goal.returns-in_err-push-in-Ok
+returns-in_err-push-in-Ok c =
+    let file = c.file-item.result in
+    let known = c.in-Ok.known in
+    let tells : known_of file.bytes ≡ Ok known = subst (λ (bytes : List ℕ). known_of bytes ≡ Ok known) c.bytes.ensures c.in-Ok.ensures in
+    let from = err_from_is_err_and c.from_residual-in_err-push-in-Ok.result c.from_residual-in_err-push-in-Ok.ensures.1 in
+    rw (from.1, from.2) (
+      refl,
+      one_kept c.args.files.now c.loop-file.file-index c.loop-file.others.items c.loop-file.invariant file
+          c.loop-file-test.true c.file-item.is known tells,
+    )
 
 pub loop-file-preserved : goal.loop-file-preserved
 loop-file-preserved c =
