@@ -170,7 +170,7 @@ module _ (files : List FileParts) (n : ℕ) (others : List OtherParts) (d : Told
   pub one_kept : (known : List NameRanges) → known_of file.bytes ≡ Ok known → FirstTells files
   one_kept known e =
       let more = one_told known e in
-      first_tells n files _ (subst (λ (k : ℕ). others_of (take k files) ≡ Ok (others ++ told file known ∷ [])) add-one more.so_far)
+      first_tells n files _ (subst (λ (k : ℕ). others_of (take k files) ≡ Ok (others ++ told file known ∷ [])) (add-one n) more.so_far)
 
   pub one_refused : (len : ℕ) (fault : Fault) → len ≡ length others
       → RefusedFor (is_late_in file.bytes) (known_of file.bytes) fault → RefusedAt files len fault

@@ -64,8 +64,9 @@ impl<'a> CopyFile<'a> {
 /// - `Turn` with the number of the files before the first one that is refused, and its fault:
 ///   `BadSummary` (71), or `Bundle` (60 to 69) or `Trailing` (70).
 ///
-/// `Memory` (1) where a growth was refused: of a `Turn` where its file is a summary or a bundle, or the
-/// fault of a bundle with a thinned operation; else of the `Project`.
+/// `Memory` (1) where a growth was refused: of a `Turn` where its file is a summary or a bundle, or one
+/// with a thinned operation that is refused; else of the `Project`, and then the first file is not one
+/// that is refused, unless the project has a thinned operation.
 pub fn project_status(
     alloc: Global,
     project: &[u8],

@@ -19,7 +19,7 @@ returns-in_err-push-in-Ok c =
     let file = c.file-item.result in
     let known = c.in-Ok.known in
     let tells : known_of file.bytes ≡ Ok known = subst (λ (bytes : List ℕ). known_of bytes ≡ Ok known) c.bytes.ensures c.in-Ok.ensures in
-    let from = err_from_is_err_and c.from_residual-in_err-push-in-Ok.result c.from_residual-in_err-push-in-Ok.ensures.1 in
+    let from = err_from_is_err_and c.from_residual.result c.from_residual.ensures.1 in
     rw (from.1, from.2) (
       refl,
       one_kept c.args.files.now c.loop-file.file-index c.loop-file.others.items c.loop-file.invariant file
@@ -36,5 +36,6 @@ loop-file-preserved c =
     let tells : known_of file.bytes ≡ Ok known = subst (λ (bytes : List ℕ). known_of bytes ≡ Ok known) c.bytes.ensures c.in-Ok.ensures in
     let is : c.new.result ≡ told file known = c.new.ensures ∙ (λ i. record { file = c.name.ensures i; known = known }) in
     let more = one_told files n others c.loop-file.invariant file c.loop-file-test.true c.file-item.is known tells in
-    subst (ToldSoFar files (n + 1))
-    (sym (c.in_ok-push-in-Ok.ensures.items ∙ ap (λ (o : OtherParts). others ++ o ∷ []) is)) more
+    let items : c.push.new.self.items ≡ others ++ told file known ∷ [] =
+    c.in_ok-push-in-Ok.ensures.items ∙ ap (λ (o : OtherParts). others ++ o ∷ []) is in
+    subst (ToldSoFar files (n + 1)) (sym items) more
