@@ -6,8 +6,10 @@ from model.checks import CODES
 
 FAULTS = [10, 20, 21, 30, 40, 41, 42, 50, 51, 52, *range(60, 72), 80]
 FAULTS += [81, 82, 83, 100, 110, 120, 121, 130, 131]
-# The faults and the codes that plays may meet.
-THINGS = [f"fault {number}" for number in FAULTS] + list(CODES)
+# The lines of `status` after the first.
+STANDING = ("books", "shown", "replaced", "conflict", "awaited", "lacks", "lacked")
+# The faults, the codes and the lines of `status` that plays may meet.
+THINGS = [f"fault {number}" for number in FAULTS] + list(CODES) + [f"status with {word}" for word in STANDING]
 # Those of them that the plays of the default run do not meet. The rows of tests/program do.
 ELSEWHERE = ["fault 52", "fault 100", "fault 130"]
 
@@ -43,6 +45,10 @@ class Reach:
             for kind in (b"conflict ", b"awaited "):
                 self.counts[kind.decode().strip()] += sum(line.startswith(kind) for line in lines)
             self.counts["report without a line"] += not lines
+        elif command == "status":
+            self.counts.update(f"status with {line.split()[0].decode()}" for line in lines)
+        elif command == "progress":
+            self.counts["chapter"] += len(lines)
         elif command == "find":
             self.counts["hit"] += len(lines)
         elif command == "words":
@@ -57,7 +63,7 @@ class Reach:
             self.counts[f"shown with {'no' if not output else 'an'} operation"] += 1
 
     def unmet(self) -> list[str]:
-        """The faults and the codes that no play met."""
+        """The faults, the codes and the lines that no play met."""
         return [it for it in THINGS if not self.counts[it]]
 
     def table(self) -> str:
