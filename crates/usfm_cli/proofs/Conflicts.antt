@@ -160,6 +160,9 @@ module _ (held : List Operation) (set : IsOpSet held) where
       (rises_filter id_cmp id_total (λ (o : Operation). o.id) (is_shown held g) held set.rising))
       ∙ sym (length-reverse (filter (λ o. not (is_repeated (shown held g) o)) (shown held g))))
 
+  pub listed_in : (book : List ℕ) → conflict_keys held book ≡ reported_in held book
+  listed_in book = λ i. filter (λ key. is_listed (segment book key) i) (keys_of held book)
+
   all_listed : flat_map (conflict_keys held) (books_of held) ≡ flat_map (reported_in held) (books_of held)
   all_listed = λ i. flat_map (λ book. filter (λ key. is_listed (segment book key) i) (keys_of held book)) (books_of held)
 

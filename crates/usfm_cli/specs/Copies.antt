@@ -3,6 +3,7 @@ use Rattle.std.specs.Prelude.{◌≡◌, ℕ, suc, nat_eq, Bool, List, [], ◌�
 use Rattle.std.specs.Prelude.{Option, None, Some, Result, Ok, Err, if◌then◌else◌}
 use Rattle.std.specs.List.{starts_with, flat_map}
 use Rattle.op_core.specs.Ops.{Operation}
+use Rattle.op_core.specs.Sets.{IsOpSet}
 use Rattle.op_core.specs.Export.{has_book}
 use Rattle.op_core.specs.Lists.{books_of}
 use Rattle.op_core.specs.Thinned.{all_full}
@@ -12,10 +13,12 @@ use Rattle.bundle_codec.specs.Summaries.{NameRanges, summary_of, summary_magic}
 use Rattle.bundle_codec.specs.SummaryReading.{read_summary}
 use Rattle.replica_state.specs.States.{State}
 use Rattle.project_file.specs.declared.fault.LoadFault.{LoadFault}
+use Rattle.project_status.specs.Numbers.{conflict_keys}
 use Rattle.project_status.specs.Others.{OtherParts, status}
 use Rattle.project_status.specs.Progress.{book_progress}
 use Rattle.usfm_cli.specs.Commands.{is_late_in}
 use Rattle.usfm_cli.specs.Faults.{of_loading, of_whole}
+use Rattle.usfm_cli.specs.Standing.{reported_in}
 use Rattle.usfm_cli.specs.Turns.{RefusedFor}
 use Rattle.usfm_cli.specs.declared.fault.Fault.{Fault}
 use Rattle.usfm_cli.specs.declared.fault.Fault.TheVariants.{Memory, BadSummary, NoBook}
@@ -133,3 +136,11 @@ progress_by held (Some book) = progress_in held book
 abbrev pub progress_of : Result State LoadFault → Option (List ℕ) → Result (List ℕ) Fault
 progress_of (Ok s) book = progress_by s.held book
 progress_of (Err fault) book = Err (of_loading fault)
+
+-- ---- what is in conflict
+
+-- The segments of a book that a project's status names as in conflict are those that the report lists texts of.
+abbrev pub ConflictsAreReported : Type 0
+ConflictsAreReported =
+    (held : List Operation) (book : List ℕ) → IsOpSet held →
+    conflict_keys held book ≡ reported_in held book
