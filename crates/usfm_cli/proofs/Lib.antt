@@ -17,6 +17,7 @@ pub mod InTurn
 pub mod Puts
 pub mod ShownSets
 pub mod ShownByKeys
+pub mod ConflictsListed
 pub mod Conflicts
 pub mod Received
 pub mod DeltasMade

@@ -1,11 +1,13 @@
 -- How a project stands, beside the files of other copies (this project's own rule).
-use Rattle.std.specs.Prelude.{◌≡◌, ℕ, suc, nat_eq, Bool, List, [], ◌∷◌, ◌++◌, length, Vec, IsOk, IsTrue}
+use Rattle.std.specs.Prelude.{◌≡◌, ℕ, suc, nat_eq, nat_le, Bool, List, [], ◌∷◌, ◌++◌, length, filter, Vec, IsOk, IsTrue}
 use Rattle.std.specs.Prelude.{Option, None, Some, Result, Ok, Err, if◌then◌else◌}
 use Rattle.std.specs.List.{starts_with, flat_map}
+use Rattle.usfm_ref.specs.Keys.{KeyParts}
+use Rattle.usfm_ref.specs.Segments.{segment}
 use Rattle.op_core.specs.Ops.{Operation}
 use Rattle.op_core.specs.Sets.{IsOpSet}
 use Rattle.op_core.specs.Export.{has_book}
-use Rattle.op_core.specs.Lists.{books_of}
+use Rattle.op_core.specs.Lists.{books_of, keys_of}
 use Rattle.op_core.specs.Thinned.{all_full}
 use Rattle.bundle_codec.specs.declared.fault.WholeFault.{WholeFault}
 use Rattle.bundle_codec.specs.Joining.{whole_at}
@@ -13,12 +15,12 @@ use Rattle.bundle_codec.specs.Summaries.{NameRanges, summary_of, summary_magic}
 use Rattle.bundle_codec.specs.SummaryReading.{read_summary}
 use Rattle.replica_state.specs.States.{State}
 use Rattle.project_file.specs.declared.fault.LoadFault.{LoadFault}
+use Rattle.conflict_report.specs.Reports.{distinct_texts}
 use Rattle.project_status.specs.Numbers.{conflict_keys}
 use Rattle.project_status.specs.Others.{OtherParts, status}
 use Rattle.project_status.specs.Progress.{book_progress}
 use Rattle.usfm_cli.specs.Commands.{is_late_in}
 use Rattle.usfm_cli.specs.Faults.{of_loading, of_whole}
-use Rattle.usfm_cli.specs.Standing.{reported_in}
 use Rattle.usfm_cli.specs.Turns.{RefusedFor}
 use Rattle.usfm_cli.specs.declared.fault.Fault.{Fault}
 use Rattle.usfm_cli.specs.declared.fault.Fault.TheVariants.{Memory, BadSummary, NoBook}
@@ -138,6 +140,11 @@ progress_of (Ok s) book = progress_by s.held book
 progress_of (Err fault) book = Err (of_loading fault)
 
 -- ---- what is in conflict
+
+-- the keys of a book whose segments the report lists texts of
+abbrev pub reported_in : List Operation → List ℕ → List KeyParts
+reported_in held book =
+    filter (λ key. nat_le 2 (length (distinct_texts held (segment book key)))) (keys_of held book)
 
 -- The segments of a book that a project's status names as in conflict are those that the report lists texts of.
 abbrev pub ConflictsAreReported : Type 0
