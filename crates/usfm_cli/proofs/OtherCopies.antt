@@ -135,7 +135,8 @@ all_refused files (Turn at fault) h e = refused_is files at fault e h
 all_refused files (Project fault) h e = let is : is_memory fault ≡ true = ap is_memory h.0 in cc (sym is ∙ e)
 
 -- where the first ones tell their ids, the first one does
-pub first_tells : (n : ℕ) (files : List FileParts) (others : List OtherParts) → others_of (take (suc n) files) ≡ Ok others → FirstTells files
+pub first_tells : (n : ℕ) (files : List FileParts) (others : List OtherParts) → others_of (take (suc n) files) ≡ Ok others
+    → FirstTells files
 first_tells n [] others e = tt
 first_tells n (file ∷ later) others e = by (known_of file.bytes) (others_of (take n later)) e
   where
