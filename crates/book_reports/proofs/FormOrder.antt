@@ -150,9 +150,10 @@ forms_rank = ranks_by form_total form_of
 far_sorted : (ws : List BookWord)
     → ((i j : ℕ) (d : BookWord) → i ≤ j → j < length ws → before (get_or ws j d) (get_or ws i d) ≡ false) → Sorted ws
 far_sorted [] k = tt
-far_sorted (w ∷ ws) k =
-    (all w ws (λ j d l. k 0 (suc j) d (omega arith) (omega arith)),
-    far_sorted ws (λ i j d a b. k (suc i) (suc j) d (omega arith) (omega arith)))
+far_sorted (w ∷ ws) k = (
+  all w ws (λ j d l. k 0 (suc j) d (omega arith) (omega arith)),
+  far_sorted ws (λ i j d a b. k (suc i) (suc j) d (omega arith) (omega arith)),
+)
   where
     all : (v : BookWord) (vs : List BookWord) → ((j : ℕ) (d : BookWord) → j < length vs → before (get_or vs j d) v ≡ false)
         → NotBefore (form_of v) vs

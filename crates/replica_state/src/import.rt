@@ -81,11 +81,7 @@ impl Replica {
     ///
     /// # Errors
     /// Out of memory alone.
-    pub fn walked_keys(
-        &self,
-        book: Book,
-        pieces: &[Piece<'_>],
-    ) -> Result<Vec<Key>, AllocError>
+    pub fn walked_keys(&self, book: Book, pieces: &[Piece<'_>]) -> Result<Vec<Key>, AllocError>
         ensures { let walked = imports.walked_keys self.now.held book (pieces_view pieces.now) in
             IfOk result (λ keys. keys.items ≡ walked) }
     {
