@@ -1,6 +1,7 @@
 // Settles conflicts with the person at standard input. Nothing is locked while that person thinks.
 use crate::refusal::{Refusal, read_named};
 use crate::{done, write_as_it_is, write_output};
+use op_core::OpId;
 use std::io::{BufRead, BufReader, IsTerminal};
 use std::str;
 use usfm_cli::{
@@ -136,20 +137,25 @@ fn make(
         }
         Err(refusal) => refusal,
     };
-    match refusal.fault {
+    match &refusal.fault {
         Fault::NotShown(id) => {
-            let name = id.name.text();
-            let number = id.number;
-            let line = format!(in rt.alloc();
-                "Nothing was changed: {number} {name} was replaced meanwhile. Read again.\n"
-            );
-            say(rt, &line.map_err(Fault::from)?)?;
+            say_replaced(rt, id)?;
             Ok(Some(Turn::Overtaken))
         }
         Fault::BadSegment => ask_again(rt, DOES_NOT_FIT),
         Fault::NotText { .. } => ask_again(rt, NOT_TEXT),
         _ => Err(refusal),
     }
+}
+
+// Says that an operation was replaced while a person thought.
+fn say_replaced(rt: &HostRuntime, id: &OpId) -> Result<(), Refusal> {
+    let name = id.name.text();
+    let number = id.number;
+    let line = format!(in rt.alloc();
+        "Nothing was changed: {number} {name} was replaced meanwhile. Read again.\n"
+    );
+    say(rt, &line.map_err(Fault::from)?)
 }
 
 // Says why nothing was made, and what may be answered: the question stands.
