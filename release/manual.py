@@ -46,20 +46,36 @@ def paragraphs(text: str) -> list[list[str]]:
     return [part.splitlines() for part in re.split(r"\n\n+", text.strip("\n"))]
 
 
+def indent(line: str) -> int:
+    """How many spaces a line begins with."""
+    return len(line) - len(line.lstrip(" "))
+
+
 def block(lines: list[str]) -> list[str]:
-    """The lines of a paragraph as roff: rows of a table, lines as they stand, which are indented, and prose."""
+    """The lines of a paragraph as roff: rows of a table, lines as they stand, which are indented, and prose.
+
+    A line that begins where a table says what its rows mean goes on with that; the line before the first such line of a row that has no
+    meaning beside it is what stands in the row.
+    """
     made, literal, is_table = [], False, False
-    widest = max((len(row[1]) for row in map(ROW.match, lines) if row), default=0)
-    for line in lines:
+    rows = [row for row in map(ROW.match, lines) if row]
+    widest = max((len(row[1]) for row in rows), default=0)
+    column = min((row.start(2) for row in rows), default=None)
+    for line, later in zip(lines, [*lines[1:], ""]):
         row = ROW.match(line)
-        stands = line.startswith(" ") and not row
+        goes_on = not row and indent(line) == column
+        is_alone = not row and not goes_on and line.startswith(" ") and bool(later) and indent(later) == column
+        stands = line.startswith(" ") and not (row or goes_on or is_alone)
         if stands != literal:
             made.append(".RS 4\n.EX" if stands else ".EE\n.RE")
             literal = stands
-        if row:
+        if row or is_alone:
             made += [".PD 0"] * (not is_table)
             is_table = True
-            made += [f".TP {widest + 3}", at_line(rf"\fB{plain(row[1])}\fR"), at_line(sentence(row[2]))]
+            made += [f".TP {widest + 3}", at_line(rf"\fB{plain(row[1] if row else line.strip())}\fR")]
+            made += [at_line(sentence(row[2]))] if row else []
+        elif goes_on:
+            made.append(at_line(sentence(line.strip())))
         elif stands:
             made.append(at_line(plain(line.strip())))
         elif line.startswith("Example: "):
