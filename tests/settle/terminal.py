@@ -88,22 +88,32 @@ def check_keys(tally: Tally, team: Team) -> None:
     tally.check(team.do("report", "ana") == b"", "no conflict is left")
 
 
+def asked_meanwhile(person: Person, team: Team) -> bytes:
+    """Cy's work comes in while the question stands; what is asked after the answer to it."""
+    person.read(ASKS)
+    team.tell("cy", "ana")
+    person.type(b"2\r")
+    return person.read(ASKS)
+
+
+def check_one_settled(tally: Tally, person: Person, answer: bytes, left: int, what: str) -> None:
+    """One conflict is settled by the end, and so many are left."""
+    person.type(answer + b"\r")
+    rest = person.read(b"conflicts %d\r\n" % left)
+    tally.check(b"settled 1\r\nconflicts %d\r\n" % left in rest and person.end() == 0, f"{what}: {rest}")
+
+
 def check_overtaken(tally: Tally, team: Team) -> None:
     """A text that replaced one of those that were asked is asked again, and is not replaced unseen."""
     begin(team)
     team.tell("ana", "cy")
     team.do("edit-over", "cy", "MAT 1:1", "6:ben", typed=b"\\v 1 By the beginning\n")
     person = Person(team, "ana", "MAT 1:1")
-    person.read(ASKS)
-    team.tell("cy", "ana")
-    person.type(b"2\r")
-    again = person.read(ASKS)
+    again = asked_meanwhile(person, team)
     tally.check(b"Nothing was changed: 6 ben was replaced meanwhile. Read again." in again, f"it is said: {again}")
     tally.check(b"1: 8 cy, in the book" in again and b"2: 6 ana" in again, f"the new text is asked: {again}")
     tally.check(team.shown("ana", "MAT 1:1") == [b"op 6 ana 22", b"op 8 cy 22"], "nothing was replaced")
-    person.type(b"1\r")
-    rest = person.read(b"conflicts 0\r\n")
-    tally.check(b"settled 1\r\nconflicts 0\r\n" in rest and person.end() == 0, f"then it is settled: {rest}")
+    check_one_settled(tally, person, b"1", 0, "then it is settled")
 
 
 def check_beside(tally: Tally, team: Team) -> None:
@@ -111,15 +121,10 @@ def check_beside(tally: Tally, team: Team) -> None:
     begin(team)
     team.edit("cy", "MAT 1:1", b"\\v 1 By the beginning\n")
     person = Person(team, "ana", "MAT 1:1")
-    person.read(ASKS)
-    team.tell("cy", "ana")
-    person.type(b"2\r")
-    again = person.read(ASKS)
+    again = asked_meanwhile(person, team)
     tally.check(b"made 8 ana" in again and b"2: 6 cy" in again, f"the third text is asked beside the new one: {again}")
     tally.check(team.shown("ana", "MAT 1:1") == [b"op 6 cy 22", b"op 8 ana 22"], "the third text is shown")
-    person.type(b"q\r")
-    rest = person.read(b"conflicts 1\r\n")
-    tally.check(b"settled 1\r\nconflicts 1\r\n" in rest and person.end() == 0, f"it is left: {rest}")
+    check_one_settled(tally, person, b"q", 1, "it is left")
 
 
 def check_settled(tally: Tally, team: Team) -> None:
