@@ -5,13 +5,13 @@ _usfm_team() {
     local books="GEN EXO LEV NUM DEU JOS JDG RUT 1SA 2SA 1KI 2KI 1CH 2CH EZR NEH EST JOB PSA PRO ECC SNG
         ISA JER LAM EZK DAN HOS JOL AMO OBA JON MIC NAM HAB ZEP HAG ZEC MAL MAT MRK LUK JHN ACT
         ROM 1CO 2CO GAL EPH PHP COL 1TH 2TH 1TI 2TI TIT PHM HEB JAS 1PE 2PE 1JN 2JN 3JN JUD REV"
-    local word=${COMP_WORDS[COMP_CWORD]} command=${COMP_WORDS[1]} options="--explain --help" asked=() more="" kind at place=0 ended=""
+    local word=${COMP_WORDS[COMP_CWORD]} command=${COMP_WORDS[1]} options="--explain --help" asked=() more="" kind at place=0 ended="" given=""
     COMPREPLY=()
     # How many words stand before this one, without options and what is given to them. After `--` no word is an option.
     for ((at = 1; at < COMP_CWORD; at++)); do
         case $ended${COMP_WORDS[at]} in
             # In bash `--into=texts` is three words.
-            --since | --into | --text-of | --sheet) at=$((at + 1)); [ "${COMP_WORDS[at]}" != = ] || at=$((at + 1)) ;;
+            --since | --into | --text-of | --sheet | --box | --settle | --names) given=${COMP_WORDS[at]} at=$((at + 1)); [ "${COMP_WORDS[at]}" != = ] || at=$((at + 1)) ;;
             --) ended=yes ;;
             -?*) ;;
             *) place=$((place + 1)) ;;
@@ -23,8 +23,9 @@ _usfm_team() {
         edit-over) asked=(file) options="--text-of --explain --help" ;;
         settle) asked=(file) more=book ;;
         import) asked=(file) more=file options="--since --explain --help" ;;
-        receive | sync | status) asked=(file) more=file ;;
+        receive | status) asked=(file) more=file ;;
         progress) asked=(file book) ;;
+        sync) asked=(file) more=file options="--box --settle --try --names --emptied --undone --stale --join --explain --help" ;;
         delta) asked=(file file) ;;
         export) asked=(file) more=book options="--into --explain --help" ;;
         check | find) asked=(file book file) options="--sheet --text --explain --help" ;;
@@ -33,8 +34,12 @@ _usfm_team() {
         help) asked=(command) options="" ;;
     esac
     if [ "$at" -gt "$COMP_CWORD" ]; then
-        # What is given to an option: a file, but for an id.
-        [[ " ${COMP_WORDS[*]:COMP_CWORD - 2:2} " == *" --text-of "* ]] || kind="file"
+        # What is given to an option: a file, but for a segment, an id or a name.
+        case $given in
+            --settle) kind="book" ;;
+            --names | --text-of) kind="text" ;;
+            *) kind="file" ;;
+        esac
     elif [ "$place" -eq 0 ]; then
         kind="program" options="--help --version"
     else

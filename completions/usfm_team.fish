@@ -14,7 +14,7 @@ function __usfm_team_place
     set -l at 2
     while test $at -le (count $words)
         switch "$ended$words[$at]"
-            case --since --into --text-of --sheet
+            case --since --into --text-of --sheet --box --settle --names
                 set at (math $at + 1)
             case --
                 set ended yes
@@ -73,6 +73,14 @@ complete -c usfm_team -n '__usfm_team_from 0 edit-over' -l text-of -xd 'Takes th
 complete -c usfm_team -n '__usfm_team_from 0 export' -l into -rF -d 'Into the files of a folder'
 complete -c usfm_team -n '__usfm_team_from 0 check find words' -l sheet -rF -d 'By this style sheet'
 complete -c usfm_team -n '__usfm_team_from 0 check find' -l text -d 'With the line of the text'
+complete -c usfm_team -n '__usfm_team_from 0 sync' -l box -rF -d 'A folder where all leave their bundles'
+complete -c usfm_team -n '__usfm_team_from 0 sync' -l settle -x -a "$__usfm_team_books" -d 'Has the file settle a conflict'
+complete -c usfm_team -n '__usfm_team_from 0 sync' -l try -d 'Says what would be done'
+complete -c usfm_team -n '__usfm_team_from 0 sync' -l names -x -d 'Names new files in this manner'
+complete -c usfm_team -n '__usfm_team_from 0 sync' -l emptied -d 'The texts are gone on purpose'
+complete -c usfm_team -n '__usfm_team_from 0 sync' -l undone -d 'It was undone on purpose'
+complete -c usfm_team -n '__usfm_team_from 0 sync' -l stale -d 'The file is an older one'
+complete -c usfm_team -n '__usfm_team_from 0 sync' -l join -d 'Joins the other project'
 complete -c usfm_team -n '__usfm_team_at 1 delta' -F
 complete -c usfm_team -n '__usfm_team_at 1 progress' -a "$__usfm_team_books"
 complete -c usfm_team -n '__usfm_team_at 2 check find words' -F

@@ -7,7 +7,7 @@ from pathlib import Path
 from rows.vectors import BENS, EMPTY, FIRST
 from stage import SECONDS, Tally
 
-CALLS = "open,openat,flock,write,fsync,rename,renameat,renameat2,close"
+CALLS = "open,openat,flock,write,fsync,link,linkat,rename,renameat,renameat2,unlink,unlinkat,close"
 BOOK = b"\\id MAT\n\\c 1\n\\v 1 At\n"
 # A project of ana with the first bundle.
 HELD = EMPTY[:-16] + FIRST
@@ -37,28 +37,34 @@ def renamed(old: str, new: str) -> str:
 ANSWERED = r"write\(1<"
 # How a project is replaced, in the folder `order`.
 REPLACED = [written("p.new"), synced("p.new"), renamed("p.new", "p"), synced("order")]
-# How a book's file and the bundle that it is written from are written for the folder `texts`, and then put in their places: at each
-# moment the bundle of the file that is there has one of two names.
-STAGED = [written("MAT.usfm.new"), synced("MAT.usfm.new"), written("MAT.bundle.made"), synced("MAT.bundle.made")]
-PLACED = [
-    renamed("texts/.usfm_team/MAT.bundle.made", "texts/.usfm_team/MAT.bundle.new"),
-    synced(".usfm_team"),
-    renamed("texts/.usfm_team/MAT.usfm.new", "texts/MAT.usfm"),
-    synced("texts"),
-    renamed("texts/.usfm_team/MAT.bundle.new", "texts/.usfm_team/MAT.bundle"),
-    synced(".usfm_team"),
-]
-# Which file is which book's, where that is not written down by then.
-NAMED = [
-    written("names.new"),
-    synced("names.new"),
-    renamed("texts/.usfm_team/names.new", "texts/.usfm_team/names"),
-    synced(".usfm_team"),
-]
-# A file that is written first, and one that is replaced, after the project.
-INTO_FOLDER = [
-    (["export", "p", "--into", "texts"], [*STAGED, *PLACED, *NAMED, ANSWERED]),
-    (["sync", "p", "texts", "bens"], [*STAGED, *REPLACED, *PLACED, ANSWERED]),
+def moved(old: str, new: str) -> str:
+    """Of a file whose folder is reached by a handle."""
+    return rf'rename\w*\(.*/{re.escape(old)}", .*/{re.escape(new)}".*\) += 0'
+
+
+def linked(old: str, new: str) -> str:
+    return rf'link(?:at)?\(.*/{re.escape(old)}", .*/{re.escape(new)}".*\) += 0'
+
+
+def removed(name: str) -> str:
+    return rf'unlink\w*\(.*/{re.escape(name)}".*\) += 0'
+
+
+def put(name: str) -> list[str]:
+    """How a file of the program's own folder is put in the place of the one that is there."""
+    return [written(f"{name}.made"), synced(f"{name}.made"), moved(f"{name}.made", name)]
+
+
+# What is written for a book's new file, before anything else changes.
+STAGED = [written("MAT.new"), synced("MAT.new"), synced(".usfm_team")]
+# How it is put in its place, and what it was written from becomes the base.
+PLACED = [moved("MAT.new", "MAT.usfm"), synced("texts")]
+SETTLED = [*put("base"), synced(".usfm_team"), removed("next"), synced(".usfm_team"), ANSWERED]
+SYNC = ["sync", "p", "texts"]
+# A sync that writes a file, and one that brings its book something.
+SYNCS = [
+    (SYNC, [synced("texts"), *STAGED, *put("base"), *put("names"), *put("next"), synced(".usfm_team"), *PLACED, linked("base", "base.1"), *SETTLED]),
+    ([*SYNC, "bens"], [*STAGED, *put("next"), synced(".usfm_team"), *REPLACED, *PLACED, linked("base", "base.1"), *SETTLED]),
 ]
 
 
@@ -79,14 +85,18 @@ def check_order(tally: Tally, program: Path, work: Path) -> None:
         is_untouched = not any(line.startswith(("flock", "fsync", "rename")) for line in lines)
         tally.check(is_untouched, f"{' '.join(words)}: {lines}")
     lines = traced(program, folder, ["init", "begun", "ana"], b"")
-    is_synced = in_order(lines, [r'openat\(.*"begun", .*O_EXCL', written("begun"), synced("begun"), synced("order")])
-    tally.check(is_synced, f"init: {lines}")
+    begun = [r'openat\(.*"begun.begun", .*O_EXCL', written("begun.begun"), synced("begun.begun")]
+    named = [r'link\w*\(.*"begun.begun", .*"begun".*\) += 0', r'unlink\w*\(.*"begun.begun".*\) += 0', synced("order")]
+    tally.check(in_order(lines, [*begun, *named]), f"init: {lines}")
     folder.joinpath("texts").mkdir()
     folder.joinpath("p").write_bytes(HELD)
     folder.joinpath("bens").write_bytes(BENS)
-    for words, wanted in INTO_FOLDER:
+    for words, wanted in SYNCS:
         lines = traced(program, folder, words, b"")
         tally.check(are_these(lines, wanted), f"{' '.join(words)}: {lines}")
+    lines = traced(program, folder, SYNC, b"")
+    is_untouched = not any(re.match("write|fsync|rename|link|unlink", line) for line in lines)
+    tally.check(is_untouched, f"a sync that has nothing to do: {lines}")
 
 
 def with_a_replaced_text(program: Path, folder: Path) -> bytes:
@@ -112,7 +122,7 @@ def is_changed_in_order(lines: list[str]) -> bool:
     locks = [place for place, line in enumerate(lines) if re.match(r"flock\(\d+<[^>]*/p>, LOCK_EX\|LOCK_NB\) += 0", line)]
     if len(locks) != 1:
         return False
-    return in_order(lines[locks[0] :], [*REPLACED, r"close\(\d+<[^>]*/p>", ANSWERED])
+    return in_order(lines[locks[0] :], [*REPLACED, r"close\(\d+<[^>]*/p>\)", ANSWERED])
 
 
 def in_order(lines: list[str], wanted: list[str]) -> bool:

@@ -17,9 +17,9 @@ INSIDE = {
     "BundleFault": "crates/bundle_codec/src/fault.rt",
 }
 # The details of a variant, by its fields.
-DETAILS = {"": [], "(OpId)": ["number", "name"], "(u64)": ["place"], "valid": ["length"], "line": ["line"], "gone": ["bytes"]}
+DETAILS = {"": [], "(OpId)": ["number", "name"], "(u64)": ["place"], "valid": ["length"], "line": ["line"], "gone": ["bytes"], "count": ["count"]}
 # The commands of the program whose names are not those of the code's, or their first words.
-COMMANDS = {"ImportNew": "sync", "EditWith": "edit-over"}
+COMMANDS = {"EditWith": "edit-over"}
 # The words that README, for readers who write no code, has for some of them.
 README_DETAILS = {"length": "bytes"}
 VARIANT = re.compile(r"((?:^    ///.*\n)+)    #\[error\(\"((?:[^\"\\]|\\.)+)\".*\)\]\n    (\w+)(.*),$", re.M)

@@ -71,7 +71,7 @@ def check_accidents(tally: Tally, between: Between, work: Path) -> None:
         check_pipes,
         check_set_back,
         check_unplaced,
-        check_cut_short,
+        check_left_over,
         check_second_name,
         check_kept,
         check_modes,
@@ -200,12 +200,12 @@ def check_links(tally: Tally, between: Between, home: Path) -> None:
     place.folder.joinpath(MARK).symlink_to("../private")
     answer = place.sync()
     tally.check(answer == refused(f"texts/{MARK}", said=f"skipped texts/{MARK}: it is a link\n"), f"a link for a file: {answer}")
-    # A link in the place of a bundle that a file was written from.
+    # A link in the place of what the files were written from.
     place.folder.joinpath(MARK).unlink()
-    place.own.joinpath("MRK.bundle").unlink()
-    place.own.joinpath("MRK.bundle").symlink_to("../../bundle")
+    place.own.joinpath("base").unlink()
+    place.own.joinpath("base").symlink_to("../../bundle")
     answer = place.sync()
-    tally.check(answer.error == b"skipped texts/.usfm_team/MRK.bundle: it is a link\n", f"a link for a bundle: {answer}")
+    tally.check(answer.error == b"skipped texts/.usfm_team/base: it is a link\n", f"a link for the base: {answer}")
     tally.check(private.read_bytes() == b"\\id LUK\n\\c 1\n\\v 1 private\n", "what a link leads to was written")
 
 
@@ -216,7 +216,7 @@ def check_pipes(tally: Tally, between: Between, home: Path) -> None:
     answer = place.sync()
     tally.check(answer == Answer(0, b"", b"skipped texts/luke.sfm: it is a pipe\n"), f"a pipe: {answer}")
     place.folder.joinpath("luke.sfm").unlink()
-    for name in ("MAT.bundle", "MAT.bundle.new", "names"):
+    for name in ("base", "base.2", "next", "names"):
         place.own.joinpath(name).unlink(missing_ok=True)
         os.mkfifo(place.own / name)
         answer = place.sync()
@@ -249,20 +249,17 @@ def check_unplaced(tally: Tally, between: Between, home: Path) -> None:
     """A file that cannot be put in its place leaves the others in theirs, and the next sync goes on, with an edit too."""
     given = home.parent / "no input"
     given.write_bytes(b"")
-    edits = {MATTHEW: TEXTS[MATTHEW].replace("In", "ana"), MARK: TEXTS[MARK]}
     for number, name in enumerate((MATTHEW, MARK), 1):
         for edited in (False, True):
             place = Place(between.program, home / f"{number}{edited}")
-            # The renamings before are those of two bundles and of the project.
-            ran = between.run(place.home, ["sync", "p", "texts", "bundle"], given, f"rename:{number + 3}:{errno.EPERM}")
+            # The renamings before are those of the next base and of the project.
+            ran = between.run(place.home, ["sync", "p", "texts", "bundle"], given, f"rename:{number + 2}:{errno.EPERM}")
             answer = ran.answer
             told = b"new 2\n" + b"".join(b"%s texts/%s\n" % (b"left" if it == name else b"wrote", it.encode()) for it in (MATTHEW, MARK))
             is_told = (answer.status, answer.output, answer.error) == (1, told, f"fault 130\nin texts/{name}\n".encode())
             tally.check(is_told, f"{name} cannot be replaced: {answer}")
             removed = [Path(call.on).name for call in ran.calls if call.kind == "remove" and call.answer == 0]
-            code = name[2:5]
-            in_order = removed.index(f"{code}.bundle.new") < removed.index(f"{code}.usfm.new")
-            tally.check(in_order, f"the removals of a file that was left: {removed}")
+            tally.check(removed == ["next", f"{name[2:5]}.new"], f"the removals of a file that was left: {removed}")
             if edited:
                 place.write(MATTHEW, place.read(MATTHEW).replace("In", "ana"))
             answer = place.sync()
@@ -274,16 +271,15 @@ def check_unplaced(tally: Tally, between: Between, home: Path) -> None:
             tally.check(wanted(place.run("report", "p")) == b"", f"{name}, again: a conflict")
 
 
-def check_cut_short(tally: Tally, between: Between, home: Path) -> None:
-    """A sync that is killed while it takes back what it wrote for a file that it left."""
-    for names in (("MAT.usfm.new", "MAT.bundle.new"), ("MAT.usfm.new",)):
-        place = Place(between.program, home / str(len(names)))
-        for name in names:
-            place.own.joinpath(name).write_bytes(place.home.joinpath("bundle").read_bytes())
-        place.write(MATTHEW, TEXTS[MATTHEW].replace("In", "ana"))
-        answer = place.sync()
-        tally.check(answer.status == 0 and b"added 1 MAT\n" in answer.output, f"after a kill with {names}: {answer}")
-        tally.check(sorted(it.name for it in place.own.iterdir()) == ["MAT.bundle", "MRK.bundle", "names"], "something stays")
+def check_left_over(tally: Tally, between: Between, home: Path) -> None:
+    """A new file that a sync left which was killed before it told of it is nothing; nor is what was half written."""
+    place = Place(between.program, home)
+    for name in ("MAT.new", "base.made", "names.made"):
+        place.own.joinpath(name).write_bytes(b"half")
+    place.write(MATTHEW, TEXTS[MATTHEW].replace("In", "ana"))
+    answer = place.sync()
+    tally.check(answer == Answer(0, b"added 1 MAT\n", b""), f"after a kill: {answer}")
+    tally.check(sorted(it.name for it in place.own.iterdir()) == ["base", "names"], "something stays")
 
 
 def check_second_name(tally: Tally, between: Between, home: Path) -> None:
@@ -324,9 +320,11 @@ def check_modes(tally: Tally, between: Between, home: Path) -> None:
             path.chmod(mode)
         answer = place.sync("bundle")
         tally.check(answer.status == 0, f"mode {mode:o}: {answer}")
-        for path in (place.folder / MATTHEW, place.home / "p", place.own / "MAT.bundle"):
+        for path in (place.folder / MATTHEW, place.home / "p", place.own / "base"):
             found = path.stat().st_mode & 0o7777
-            tally.check(found == mode & 0o777, f"{path.name}, of mode {mode:o} before: {found:o}")
+            # The other book's file allows 644, and the base no more than both.
+            wish = mode & (0o644 if path.name == "base" else 0o777)
+            tally.check(found == wish, f"{path.name}, of mode {mode:o} before: {found:o}")
 
 
 def check_waits(tally: Tally, between: Between, home: Path) -> None:
@@ -358,7 +356,7 @@ def check_owners(tally: Tally, between: Between, home: Path) -> None:
     place.folder.joinpath(MARK).chmod(0o604)
     answer = place.run("sync", "p", "texts", "bundle", user=SOMEBODY)
     tally.check(answer.status == 0, f"files of another owner: {answer}")
-    for path, wish in ((place.folder / MATTHEW, 0o644), (place.own / "MAT.bundle", 0o644), (place.folder / MARK, 0o644)):
+    for path, wish in ((place.folder / MATTHEW, 0o644), (place.own / "base", 0o644), (place.folder / MARK, 0o644)):
         found = path.stat()
         is_right = (found.st_uid, found.st_mode & 0o7777) == (SOMEBODY, wish)
         tally.check(is_right, f"{path.name} of another owner: {found.st_uid} {found.st_mode:o}")
@@ -368,7 +366,8 @@ def check_owners(tally: Tally, between: Between, home: Path) -> None:
         path.chmod(0o640)
     answer = place.sync("bundle")
     tally.check(answer.status == 0, f"by root: {answer}")
-    for path in (place.home / "p", place.folder / MATTHEW, place.own / "MAT.bundle"):
+    place.folder.joinpath(MARK).chmod(0o640)
+    for path in (place.home / "p", place.folder / MATTHEW, place.own / "base"):
         found = path.stat()
         is_right = (found.st_uid, found.st_gid, found.st_mode & 0o7777) == (NOBODY, SOMEBODY, 0o640)
         tally.check(is_right, f"{path.name} by root: {found.st_uid} {found.st_gid} {found.st_mode:o}")

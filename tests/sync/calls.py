@@ -3,6 +3,7 @@ command makes what an undisturbed one makes."""
 import concurrent.futures
 import errno
 import os
+import re
 import shutil
 import signal
 import tempfile
@@ -115,5 +116,6 @@ def ahead(program: Path, home: Path) -> Path:
 
 
 def found(folder: Path) -> dict[str, bytes]:
-    """What stands in a folder and below it."""
-    return {str(path.relative_to(folder)): path.read_bytes() for path in folder.rglob("*") if path.is_file()}
+    """What stands in a folder and below it, but for the earlier bases: after a kill there may be one more of them."""
+    paths = [path for path in folder.rglob("*") if path.is_file() and not re.fullmatch(r"base\.\d", path.name)]
+    return {str(path.relative_to(folder)): path.read_bytes() for path in paths}

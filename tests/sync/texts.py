@@ -66,6 +66,28 @@ class Copy:
         gone = {number for it in of_place for number in it.replaced}
         return [it for it in of_place if it.number not in gone]
 
+    def owed(self, place: Place) -> set[str]:
+        """The texts of a segment that have to be shown. Where two people wrote one text, and neither had the other's change, the file that is
+        taken in later makes nothing, since its text is shown. So who replaces the one change replaces the text."""
+        of_place = [it for it in self.changes.values() if it.place == place]
+        gone = {number for it in of_place for number in it.replaced}
+        twice = [it for it in of_place if it.number in gone]
+        return {it.now for it in self.standing(place) if not any(one.now == it.now and self.are_apart(one, it) for one in twice)}
+
+    def are_apart(self, one: Change, other: Change) -> bool:
+        """Whether neither of two changes replaced the other, or what replaced it."""
+        return one.number not in self.before(other) and other.number not in self.before(one)
+
+    def before(self, change: Change) -> set[int]:
+        """What a change replaced, and what that replaced, and so on."""
+        found: set[int] = set()
+        left = [change]
+        while left:
+            new = [it for it in left.pop().replaced if it not in found]
+            found.update(new)
+            left += [self.changes[it] for it in new if it in self.changes]
+        return found
+
     def places(self) -> set[Place]:
         return {it.place for it in self.changes.values()}
 

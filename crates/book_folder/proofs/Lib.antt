@@ -1,1 +1,9 @@
 mod Ends
+mod LineLaws
+mod SeenLaws
+mod LostLaws
+mod Turns
+mod RestoredRise
+mod NoText
+mod ChangeAt
+mod PlanAnswers

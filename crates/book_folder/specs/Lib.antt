@@ -1,1 +1,14 @@
 pub mod Likes
+pub mod Refusals
+pub mod Wanted
+pub mod Files
+pub mod Begun
+pub mod Restored
+pub mod Loops
+pub mod Asks
+pub mod Taking
+pub mod Stale
+pub mod Bases
+pub mod Coming
+pub mod Laws
+pub mod Plans

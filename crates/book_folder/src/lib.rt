@@ -1,8 +1,33 @@
-//! A folder of books' files: what an editor may have changed in a file though nobody changed a text, so far.
+//! A folder of books' files beside a project: what was changed in the files comes into the project, and the project's books go into
+//! the files. What is to be done is a plan, which one pure function makes of what was read.
 #![tactic(auto)]
 
+mod asks;
+mod bases;
+mod begun;
+mod books;
+mod changed;
+mod coming;
+mod export;
+mod files;
+pub mod laws;
 mod likes;
+mod naming;
+mod numbers;
+mod plan;
+mod refusal;
+mod restored;
+mod seen;
+mod stale;
+mod taking;
 #[cfg(test)]
 mod tests;
 
+pub use begun::settled;
+pub use export::export_plan;
+pub use files::{book_begun, may_be_book};
 pub use likes::{LineEnds, is_like, push_in_line_ends};
+pub use naming::read_names;
+pub use plan::{Added, NewFile, Placing, Plan, Step, Told, make_plan};
+pub use refusal::{FolderFault, Place, Refusal};
+pub use seen::{Found, Named, Seen, Wanted, Wishes};

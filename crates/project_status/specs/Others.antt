@@ -28,6 +28,7 @@ abbrev pub other_lines : List Operation → OtherParts → List ℕ
 other_lines held other = other_line (codes "lacks") other.file (lacks other.known held)
     ++ other_line (codes "lacked") other.file (lacked other.known held)
 
--- how a copy stands, and what other copies and it do not have of each other
-abbrev pub status : List ℕ → List Operation → List OtherParts → List ℕ
-status name held others = copy_line name ++ (held_lines held ++ flat_map (other_lines held) others)
+-- how a copy stands, the lines of its folder's files, and what other copies and it do not have of each other
+abbrev pub status : List ℕ → List Operation → List ℕ → List OtherParts → List ℕ
+status name held folder others =
+    copy_line name ++ (held_lines held ++ (folder ++ flat_map (other_lines held) others))

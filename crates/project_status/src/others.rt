@@ -73,8 +73,9 @@ fn common(set: &OpSet, known: &Summary) -> usize
 /// has nothing to say: `copy NAME`; `books N, verses N`, the books with an operation and the verses that
 /// are written; `shown NAME N, ..`, who made what is shown; `replaced N, of these N without their
 /// texts`; `conflict REF` for each segment that shows two or more distinct texts, in the order of the
-/// report; `awaited NUMBER NAME`, as the report has it; and for each other copy `lacks FILE N`, how many of
-/// the operations it does not have, and `lacked FILE N`, how many it has that are not held.
+/// report; `awaited NUMBER NAME`, as the report has it; the lines of the copy's folder, as they are given; and
+/// for each other copy `lacks FILE N`, how many of the operations it does not have, and `lacked FILE N`, how
+/// many it has that are not held.
 ///
 /// # Errors
 /// Out of memory alone.
@@ -82,14 +83,16 @@ pub fn status_text(
     alloc: Global,
     name: &ReplicaName,
     set: &OpSet,
+    folder: &[u8],
     others: &[Other<'_>],
 ) -> Result<Vec<u8>, AllocError>
     ensures { IfOk result (λ text. text.items
-        ≡ telling.status name.now set.now others.now) }
+        ≡ telling.status name.now set.now folder.now others.now) }
 {
     let mut text = Vec::new(alloc);
     push_copy(alloc, name, &mut text)?;
     push_held(alloc, set, &mut text)?;
+    text.extend_from_slice(folder)?;
     push_others(alloc, set, others, &mut text)?;
     Ok(text)
 }

@@ -33,6 +33,7 @@ pub record IsFirst (held : List Operation) (count first : ℕ) : Type 0 where
   pub is : first ≡ next_number held
   pub room : greatest_number held + count ≤ 1000000000000000
 
+-- what the body finds is the number from which a list of changes is numbered
 pub is_first : (held : List Operation) (count first : ℕ) → Some first ≡ first_number held count → IsFirst held count first
 is_first held count first e = by (has_numbers held count) refl e
   where

@@ -92,6 +92,7 @@ pub piece_keys : (pieces : List Piece) → map (λ p. p.key) (pieces_view pieces
 piece_keys [] = refl
 piece_keys (p ∷ pieces) = ap (λ (ks : List KeyParts). p.key ∷ ks) (piece_keys pieces)
 
+-- pieces rise by their keys as their views do
 pub piece_keys_rise : (pieces : List Piece) → rises_by key_cmp (λ p. p.key) (pieces_view pieces) ≡ rises_by key_cmp (λ p. p.key) pieces
 piece_keys_rise [] = refl
 piece_keys_rise (p ∷ pieces) = λ i. above p.key pieces i && piece_keys_rise pieces i

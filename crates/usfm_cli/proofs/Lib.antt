@@ -14,11 +14,7 @@ pub mod Seen
 pub mod Searched
 pub mod Headline
 pub mod InTurn
-pub mod Puts
-pub mod ShownSets
-pub mod ShownByKeys
 pub mod ConflictsListed
-pub mod Conflicts
 pub mod Received
 pub mod DeltasMade
 pub mod Schedules

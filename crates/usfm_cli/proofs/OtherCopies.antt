@@ -190,28 +190,29 @@ module _ (files : List FileParts) (n : ℕ) (others : List OtherParts) (d : Told
 
 -- ---- how a project stands
 
-pub refused_beside : (bytes : List ℕ) (s : State) (files : List FileParts) (fault : TurnFault) → project_at bytes ≡ Ok s
-    → TellsAll files (Err fault) → is_of_memory fault ≡ false → status_of (project_at bytes) files ≡ Err fault
-refused_beside bytes s files fault loads h e =
-    ap (λ (r : Result State LoadFault). status_of r files) loads ∙ ap (status_beside s) (all_refused files fault h e)
+pub refused_beside : (bytes : List ℕ) (s : State) (folder : List ℕ) (files : List FileParts) (fault : TurnFault) → project_at bytes ≡ Ok s
+    → TellsAll files (Err fault) → is_of_memory fault ≡ false → status_of (project_at bytes) folder files ≡ Err fault
+refused_beside bytes s folder files fault loads h e =
+    ap (λ (r : Result State LoadFault). status_of r folder files) loads ∙ ap (status_beside s folder) (all_refused files fault h e)
 
-pub stands_beside : (s : State) (files : List FileParts) (others : List OtherParts) (name : List ℕ) (held : List Operation) (text : List ℕ)
-    → others_of files ≡ Ok others → name ≡ s.name → held ≡ s.held → text ≡ status name held others
-    → status_beside s (others_of files) ≡ Ok text
-stands_beside s files others name held text told named holds e =
-    ap (status_beside s) told ∙ (λ i. Ok (status (sym named i) (sym holds i) others)) ∙ ap Ok (sym e)
+pub stands_beside : (s : State) (folder : List ℕ) (files : List FileParts) (others : List OtherParts) (name : List ℕ)
+    (held : List Operation) (text : List ℕ)
+    → others_of files ≡ Ok others → name ≡ s.name → held ≡ s.held → text ≡ status name held folder others
+    → status_beside s folder (others_of files) ≡ Ok text
+stands_beside s folder files others name held text told named holds e =
+    ap (status_beside s folder) told ∙ (λ i. Ok (status (sym named i) (sym holds i) folder others)) ∙ ap Ok (sym e)
 
 -- A project that is read is refused as out of memory alone, and not before a file where it has no operation without its text.
-pub wants_alone : (bytes : List ℕ) (s : State) (files : List FileParts) (fault : LoadFault) → project_at bytes ≡ Ok s
+pub wants_alone : (bytes : List ℕ) (s : State) (folder : List ℕ) (files : List FileParts) (fault : LoadFault) → project_at bytes ≡ Ok s
     → RefusesLoad bytes fault → (IsTrue (all_full s.held) → fault ≢ loading.Memory)
-    → AnswersStatus s files (Err (Project (of_loading fault)))
-wants_alone bytes s files loading.Memory loads refused full = (refl, λ all. absurd (full all refl))
-wants_alone bytes s files loading.BadProject loads refused full = let e : Ok s ≡ Err loading.BadProject = sym loads ∙ refused in cc e
-wants_alone bytes s files (loading.Bundle fault) loads refused full =
+    → AnswersStatus s folder files (Err (Project (of_loading fault)))
+wants_alone bytes s folder files loading.Memory loads refused full = (refl, λ all. absurd (full all refl))
+wants_alone bytes s folder files loading.BadProject loads refused full = let e : Ok s ≡ Err loading.BadProject = sym loads ∙ refused in cc e
+wants_alone bytes s folder files (loading.Bundle fault) loads refused full =
     let e : Ok s ≡ Err (loading.Bundle fault) = sym loads ∙ refused in cc e
 
 -- what is answered of files is answered of the project
-pub files_refused : (s : State) (files : List FileParts) (fault : TurnFault) → TellsAll files (Err fault)
-    → AnswersStatus s files (Err fault)
-files_refused s files (Turn at fault) h = h
-files_refused s files (Project fault) h = (h.0, λ all. h.1)
+pub files_refused : (s : State) (folder : List ℕ) (files : List FileParts) (fault : TurnFault) → TellsAll files (Err fault)
+    → AnswersStatus s folder files (Err fault)
+files_refused s folder files (Turn at fault) h = h
+files_refused s folder files (Project fault) h = (h.0, λ all. h.1)

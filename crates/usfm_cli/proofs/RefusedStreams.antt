@@ -5,7 +5,7 @@ use Rattle.usfm_cli.specs.Folding.{AnswersStream}
 use Rattle.usfm_cli.specs.Reading.{most_bytes}
 use Rattle.usfm_cli.specs.Streams.{UnionAnswers, book_from}
 use Rattle.usfm_cli.specs.declared.fault.Fault.{Fault}
-use Rattle.usfm_cli.specs.declared.fault.Fault.TheVariants.{Memory, NotText, Reference, NoId, FieldBeforeMarker, EmptyMarker, BadStyleType, Naming, Clash, Bundle, Trailing, BadSummary, BadSegment, NumbersUsedUp, NoBook, NotShown, WriteFailed, EmptyNeedle, BadProject, ReadFailed, TooLong, FileFailed, FileChanged}
+use Rattle.usfm_cli.specs.declared.fault.Fault.TheVariants.{Memory, NotText, Reference, NoId, FieldBeforeMarker, EmptyMarker, BadStyleType, Naming, Clash, Bundle, Trailing, BadSummary, BadSegment, NumbersUsedUp, NoBook, NotShown, WriteFailed, EmptyNeedle, BadProject, ReadFailed, TooLong, FileFailed, FileChanged, Emptied, Undone, Unlike}
 use Rattle.usfm_cli.proofs.Unions.{receives_some}
 
 -- what a folding answers where the union of all that the source gave is refused, and nothing is written
@@ -34,3 +34,6 @@ refused_stream book given left sink ReadFailed w e u = absurd u
 refused_stream book given left sink TooLong w e u = absurd u
 refused_stream book given left sink FileFailed w e u = absurd u
 refused_stream book given left sink FileChanged w e u = absurd u
+refused_stream book given left sink (Emptied count) w e u = absurd u
+refused_stream book given left sink (Undone count) w e u = absurd u
+refused_stream book given left sink (Unlike count) w e u = absurd u

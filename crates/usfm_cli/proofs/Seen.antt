@@ -20,7 +20,7 @@ use Rattle.book_reports.specs.Lines.{finding_lines, hit_lines, word_lines}
 use Rattle.usfm_cli.specs.SheetReports.{by_sheet, by_book_text, unless_empty}
 use Rattle.usfm_cli.specs.Seen.{looked_at, seen_of, goes_by_bytes, IsSeen}
 use Rattle.usfm_cli.specs.declared.command.Command.{Command}
-use Rattle.usfm_cli.specs.declared.command.Command.TheVariants.{Import, ImportSince, ImportNew}
+use Rattle.usfm_cli.specs.declared.command.Command.TheVariants.{Import, ImportSince}
 use Rattle.usfm_cli.specs.declared.command.Command.TheVariants.{Edit, EditOver, EditWith, Receive}
 use Rattle.usfm_cli.specs.declared.command.Command.TheVariants.{Thin, Shown, Send, Export, Summary}
 use Rattle.usfm_cli.specs.declared.command.Command.TheVariants.{Delta, Report, Check, Find, Words}
@@ -51,7 +51,6 @@ text_same held book next = λ i. cond (has_book_same held book i) (next (export_
 told_same : (command : Command) (s : State) → told_of (outcome (seen_of (looked_at command) s) command) ≡ told_of (outcome s command)
 told_same (Import file) s = refl
 told_same (ImportSince file base) s = refl
-told_same (ImportNew file) s = refl
 told_same (Edit book key text) s = refl
 told_same (EditOver book key text ids) s = refl
 told_same (EditWith book key of ids) s = refl
@@ -79,7 +78,6 @@ done_again s told = ap (done_if s) (sym (told_done s told))
 stays : (command : Command) (s : State) → only_tells command ≡ true → outcome s command ≡ done_if s (told_of (outcome s command))
 stays (Import file) s e = cc e
 stays (ImportSince file base) s e = cc e
-stays (ImportNew file) s e = cc e
 stays (Edit book key text) s e = cc e
 stays (EditOver book key text ids) s e = cc e
 stays (EditWith book key of ids) s e = cc e
@@ -99,7 +97,6 @@ stays (Words book sheet) s e = done_again s _
 sees_all : (command : Command) (s : State) → only_tells command ≡ false → seen_of (looked_at command) s ≡ s
 sees_all (Import file) s e = refl
 sees_all (ImportSince file base) s e = refl
-sees_all (ImportNew file) s e = refl
 sees_all (Edit book key text) s e = refl
 sees_all (EditOver book key text ids) s e = refl
 sees_all (EditWith book key of ids) s e = refl
@@ -120,7 +117,6 @@ pub copies : (command : Command) → ((bytes : Bor (List ℕ)) → command ≢ R
     → command ≢ Send → ((summary : Bor (List ℕ)) → command ≢ Delta summary) → goes_by_bytes command ≡ false
 copies (Import file) r s d = refl
 copies (ImportSince file base) r s d = refl
-copies (ImportNew file) r s d = refl
 copies (Edit book key text) r s d = refl
 copies (EditOver book key text ids) r s d = refl
 copies (EditWith book key of ids) r s d = refl

@@ -5,11 +5,8 @@ use Rattle.std.specs.Fmt.{decimal}
 use Rattle.std.specs.List.{flat_map, find}
 use Rattle.std.specs.Str.{is_utf8}
 use Rattle.std.specs.Str.Lossy.{utf8_valid_len}
-use Rattle.usfm_ref.specs.Books.{same_bytes}
 use Rattle.usfm_ref.specs.Segments.{segment}
 use Rattle.usfm_ref.specs.declared.segment.Segment.{Segment}
-use Rattle.verse_cut.specs.Reading.{book_in}
-use Rattle.verse_cut.specs.declared.fault.BookFault.{BookFault}
 use Rattle.op_core.specs.Ids.{Id, same_id}
 use Rattle.op_core.specs.Ops.{Operation, own_text}
 use Rattle.op_core.specs.Shown.{shown}
@@ -28,17 +25,16 @@ use Rattle.replica_state.specs.Steps.{Step, Reply, Received, Edited, Imported, T
 use Rattle.bundle_codec.specs.Summaries.{NameRanges, summary, summary_of, outside}
 use Rattle.bundle_codec.specs.SummaryReading.{read_summary}
 use Rattle.conflict_report.specs.Reports.{report}
-use Rattle.usfm_cli.specs.Faults.{of_receiving, of_edit, of_import, of_since, of_whole, of_book}
+use Rattle.usfm_cli.specs.Faults.{of_receiving, of_edit, of_import, of_since, of_whole}
 use Rattle.usfm_cli.specs.SheetReports.{checked, searched, listed, is_after_sheet}
 use Rattle.usfm_cli.specs.declared.command.Command.{Command}
-use Rattle.usfm_cli.specs.declared.command.Command.TheVariants.{Import, ImportSince, ImportNew}
+use Rattle.usfm_cli.specs.declared.command.Command.TheVariants.{Import, ImportSince}
 use Rattle.usfm_cli.specs.declared.command.Command.TheVariants.{Edit, EditOver, EditWith, Receive}
 use Rattle.usfm_cli.specs.declared.command.Command.TheVariants.{Thin, Shown, Send, Export, Summary}
 use Rattle.usfm_cli.specs.declared.command.Command.TheVariants.{Delta, Report, Check, Find, Words}
 use Rattle.usfm_cli.specs.declared.fault.Fault.{Fault}
 use Rattle.usfm_cli.specs.declared.fault.Fault.TheVariants.{Memory, NotText, NoBook, NotShown}
 use Rattle.usfm_cli.specs.declared.fault.Fault.TheVariants.{BadSummary, Clash, NumbersUsedUp}
-use Rattle.usfm_cli.specs.declared.fault.Fault.TheVariants.{FileChanged}
 
 -- the replica after a command, and what the command writes
 pub record Done : Type 0 where
@@ -109,20 +105,6 @@ with_base s file (Err fault) = Err (of_whole fault)
 abbrev pub since_done : State → List ℕ → Result (List Operation) WholeFault → Result Done Fault
 since_done s file base = with_text file (with_base s file base)
 
--- whether a book has an operation, and its export is another text
-abbrev pub is_other : List Operation → List ℕ → List ℕ → Bool
-is_other held book file = has_book held book && not (same_bytes (export held book) file)
-
--- the step of an import of a book that has no operation, or of its export, which adds nothing; another text is refused
-abbrev pub import_unless_other : State → List ℕ → Result (List ℕ) BookFault → Result Done Fault
-import_unless_other s file (Ok book) =
-    if is_other s.held book file then Err FileChanged else done (step s (steps.Import file))
-import_unless_other s file (Err fault) = Err (of_book fault)
-
--- the same, unless the file is not UTF-8
-abbrev pub import_new_done : State → List ℕ → Result Done Fault
-import_new_done s file = with_text file (import_unless_other s file (book_in file))
-
 -- the step of an edit, unless its text is not UTF-8
 abbrev pub edit_done : State → Segment → List ℕ → Result Done Fault
 edit_done s g text = with_text text (done (step s (steps.Edit g text)))
@@ -166,7 +148,6 @@ delta_for held None = Err BadSummary
 abbrev pub outcome : State → Command → Result Done Fault
 outcome s (Import file) = import_done s file.now
 outcome s (ImportSince file base) = since_done s file.now (whole_at base.now)
-outcome s (ImportNew file) = import_new_done s file.now
 outcome s (Edit book key text) = edit_done s (segment book key) text.now
 outcome s (EditOver book key text ids) = edit_over_done s (segment book key) text.now ids.now
 outcome s (EditWith book key of ids) = edit_with_done s (segment book key) of ids.now
@@ -186,7 +167,6 @@ outcome s (Words book sheet) = done_if s (listed s.held book sheet.now)
 abbrev pub only_tells : Command → Bool
 only_tells (Import file) = false
 only_tells (ImportSince file base) = false
-only_tells (ImportNew file) = false
 only_tells (Edit book key text) = false
 only_tells (EditOver book key text ids) = false
 only_tells (EditWith book key of ids) = false
@@ -233,12 +213,6 @@ abbrev pub is_numbers_used_up : Fault → Bool
 is_numbers_used_up NumbersUsedUp = true
 is_numbers_used_up fault = false
 
--- the fault is that no number is left, or that the book has another text
-abbrev pub is_late_new : Fault → Bool
-is_late_new NumbersUsedUp = true
-is_late_new FileChanged = true
-is_late_new fault = false
-
 -- The refusals of a command that are found only with memory: a clash, since what a bundle brings is copied before all of
 -- it was looked at; what is wrong with a bundle that has a thinned operation, once each field was right; that an import has
 -- no number left, since its edits are counted from its pieces; what an edit by the text of an operation is refused for, since
@@ -246,7 +220,6 @@ is_late_new fault = false
 abbrev pub is_late : Command → Fault → Bool
 is_late (Import file) = is_numbers_used_up
 is_late (ImportSince file base) = is_late_since base.now
-is_late (ImportNew file) = is_late_new
 is_late (Edit book key text) = no_fault
 is_late (EditOver book key text ids) = no_fault
 is_late (EditWith book key of ids) = any_fault

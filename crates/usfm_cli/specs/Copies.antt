@@ -100,23 +100,24 @@ TellsAll files (Err (Project fault)) = (fault ≡ Memory) × FirstTells files
 
 -- ---- how a project stands
 
--- the lines of a replica beside what files tell, or the file that is refused
-abbrev pub status_beside : State → Result (List OtherParts) TurnFault →
+-- the lines of a replica and of its folder beside what files tell, or the file that is refused
+abbrev pub status_beside : State → List ℕ → Result (List OtherParts) TurnFault →
     Result (List ℕ) TurnFault
-status_beside s (Ok others) = Ok (status s.name s.held others)
-status_beside s (Err fault) = Err fault
+status_beside s folder (Ok others) = Ok (status s.name s.held folder others)
+status_beside s folder (Err fault) = Err fault
 
--- the lines of a project beside files, or why the project is refused, or else the first file that is
-abbrev pub status_of : Result State LoadFault → List FileParts → Result (List ℕ) TurnFault
-status_of (Ok s) files = status_beside s (others_of files)
-status_of (Err fault) files = Err (Project (of_loading fault))
+-- the lines of a project and of its folder beside files, or why the project is refused, or else the first file that is
+abbrev pub status_of : Result State LoadFault → List ℕ → List FileParts →
+    Result (List ℕ) TurnFault
+status_of (Ok s) folder files = status_beside s folder (others_of files)
+status_of (Err fault) folder files = Err (Project (of_loading fault))
 
 -- What is answered of a project that is read: its lines, or the first file that is refused; or out of memory in no turn, which in
 -- the place of a first file's refusal is answered only where the project has an operation without its text.
-abbrev pub AnswersStatus : State → List FileParts → Result (List ℕ) TurnFault → Type 0
-AnswersStatus s files (Ok text) = status_beside s (others_of files) ≡ Ok text
-AnswersStatus s files (Err (Turn at fault)) = RefusedAt files at fault
-AnswersStatus s files (Err (Project fault)) =
+abbrev pub AnswersStatus : State → List ℕ → List FileParts → Result (List ℕ) TurnFault → Type 0
+AnswersStatus s folder files (Ok text) = status_beside s folder (others_of files) ≡ Ok text
+AnswersStatus s folder files (Err (Turn at fault)) = RefusedAt files at fault
+AnswersStatus s folder files (Err (Project fault)) =
     (fault ≡ Memory) × (IsTrue (all_full s.held) → FirstTells files)
 
 -- ---- how far it is

@@ -13,7 +13,8 @@ use Rattle.usfm_cli.specs.declared.fault.Fault.TheVariants.{Trailing, BadSummary
 use Rattle.usfm_cli.specs.declared.fault.Fault.TheVariants.{NumbersUsedUp, NoBook, NotShown}
 use Rattle.usfm_cli.specs.declared.fault.Fault.TheVariants.{WriteFailed, EmptyNeedle, BadProject}
 use Rattle.usfm_cli.specs.declared.fault.Fault.TheVariants.{ReadFailed, TooLong, FileFailed}
-use Rattle.usfm_cli.specs.declared.fault.Fault.TheVariants.{FileChanged}
+use Rattle.usfm_cli.specs.declared.fault.Fault.TheVariants.{FileChanged, Emptied, Undone}
+use Rattle.usfm_cli.specs.declared.fault.Fault.TheVariants.{Unlike}
 use Rattle.usfm_cli.specs.declared.explaining.circumstances.Circumstances.{Circumstances}
 use Rattle.usfm_cli.specs.declared.explaining.circumstances.Expected.{Expected}
 use Rattle.usfm_cli.specs.declared.explaining.circumstances.Expected.TheVariants as expected
@@ -69,6 +70,9 @@ general ReadFailed = say.READ_FAILED.now
 general TooLong = say.TOO_LONG.now
 general FileFailed = say.FILE_FAILED.now
 general FileChanged = say.FILE_CHANGED.now
+general (Emptied count) = say.EMPTIED.now
+general (Undone count) = say.UNDONE.now
+general (Unlike count) = say.UNLIKE.now
 
 -- of bytes that are no bundle, by what they are
 abbrev pub no_bundle : Found → List ℕ

@@ -9,8 +9,6 @@ pub mod EveryBook
 pub mod OverBooks
 pub mod Projects
 pub mod Turns
-pub mod Folders
-pub mod Standing
 pub mod Copies
 pub mod ExecLaws
 pub mod DeltaLaws
@@ -24,3 +22,4 @@ pub mod TreeLaws
 pub mod Loops
 pub mod Circumstances
 pub mod Explaining
+pub mod TextNames

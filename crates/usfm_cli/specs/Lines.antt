@@ -19,7 +19,8 @@ use Rattle.usfm_cli.specs.declared.fault.Fault.TheVariants.{Trailing, BadSummary
 use Rattle.usfm_cli.specs.declared.fault.Fault.TheVariants.{NumbersUsedUp, NoBook, NotShown}
 use Rattle.usfm_cli.specs.declared.fault.Fault.TheVariants.{WriteFailed, EmptyNeedle, BadProject}
 use Rattle.usfm_cli.specs.declared.fault.Fault.TheVariants.{ReadFailed, TooLong, FileFailed}
-use Rattle.usfm_cli.specs.declared.fault.Fault.TheVariants.{FileChanged}
+use Rattle.usfm_cli.specs.declared.fault.Fault.TheVariants.{FileChanged, Emptied, Undone}
+use Rattle.usfm_cli.specs.declared.fault.Fault.TheVariants.{Unlike}
 
 -- the number of a fault of a bundle
 abbrev pub bundle_number : BundleFault → ℕ
@@ -77,9 +78,12 @@ fault_number ReadFailed = 120
 fault_number TooLong = 121
 fault_number FileFailed = 130
 fault_number FileChanged = 131
+fault_number (Emptied count) = 132
+fault_number (Undone count) = 133
+fault_number (Unlike count) = 134
 
--- the details of a fault: an id by its number and its name; a count of bytes, a line or the place of an operation
--- in decimal
+-- the details of a fault: an id by its number and its name; a count of bytes or segments, a line or the place of an
+-- operation in decimal
 abbrev pub fault_details : Fault → List (List ℕ)
 fault_details (NotText valid) = decimal valid ∷ []
 fault_details (FieldBeforeMarker line) = decimal line ∷ []
@@ -89,6 +93,9 @@ fault_details (Clash id) = decimal id.number ∷ id.name ∷ []
 fault_details (NotShown id) = decimal id.number ∷ id.name ∷ []
 fault_details (Bundle fault) = bundle_details fault
 fault_details (WriteFailed gone) = decimal gone ∷ []
+fault_details (Emptied count) = decimal count ∷ []
+fault_details (Undone count) = decimal count ∷ []
+fault_details (Unlike count) = decimal count ∷ []
 fault_details other = []
 
 -- the line of a fault: `fault`, its number, each detail after one space, and a line feed

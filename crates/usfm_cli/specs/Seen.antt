@@ -5,7 +5,7 @@ use Rattle.replica_state.specs.OneBook.{of_one_book}
 use Rattle.replica_state.specs.States.{State}
 use Rattle.project_file.specs.Projects.{project_at}
 use Rattle.usfm_cli.specs.declared.command.Command.{Command}
-use Rattle.usfm_cli.specs.declared.command.Command.TheVariants.{Import, ImportSince, ImportNew}
+use Rattle.usfm_cli.specs.declared.command.Command.TheVariants.{Import, ImportSince}
 use Rattle.usfm_cli.specs.declared.command.Command.TheVariants.{Edit, EditOver, EditWith, Receive}
 use Rattle.usfm_cli.specs.declared.command.Command.TheVariants.{Thin, Shown, Send, Export, Summary}
 use Rattle.usfm_cli.specs.declared.command.Command.TheVariants.{Delta, Report, Check, Find, Words}
@@ -14,7 +14,6 @@ use Rattle.usfm_cli.specs.declared.command.Command.TheVariants.{Delta, Report, C
 abbrev pub looked_at : Command → Option (List ℕ)
 looked_at (Import file) = None
 looked_at (ImportSince file base) = None
-looked_at (ImportNew file) = None
 looked_at (Edit book key text) = None
 looked_at (EditOver book key text ids) = None
 looked_at (EditWith book key of ids) = None
@@ -39,7 +38,6 @@ seen_of (Some book) s = of_one_book s book
 abbrev pub goes_by_bytes : Command → Bool
 goes_by_bytes (Import file) = false
 goes_by_bytes (ImportSince file base) = false
-goes_by_bytes (ImportNew file) = false
 goes_by_bytes (Edit book key text) = false
 goes_by_bytes (EditOver book key text ids) = false
 goes_by_bytes (EditWith book key of ids) = false

@@ -129,11 +129,6 @@ abbrev pub is_out_of_memory : {X : Type 0} → Result X TurnFault → Bool
 is_out_of_memory (Ok x) = false
 is_out_of_memory (Err fault) = is_of_memory fault
 
--- what is answered, without what is answered besides
-abbrev pub first_of : {A B : Type 0} → Result (A × B) TurnFault → Result A TurnFault
-first_of (Ok made) = Ok made.0
-first_of (Err fault) = Err fault
-
 -- ---- the same, by commands one after another
 
 -- a command and what is done on the file after it, which is nothing where the command is refused

@@ -17,9 +17,6 @@ pub enum Command<'a> {
         file: &'a [u8],
         base: &'a [u8],
     },
-    /// Takes in the file of a book that the project does not have, as `Import` does; of one that it has,
-    /// nothing where the file is its export: `added N`.
-    ImportNew(&'a [u8]),
     /// Gives a segment a text, in the place of all that it shows: `made NUMBER NAME`.
     Edit {
         book: Book,
@@ -75,7 +72,6 @@ impl Command<'_> {
         match self {
             Command::Import(_)
             | Command::ImportSince { .. }
-            | Command::ImportNew(_)
             | Command::Edit { .. }
             | Command::EditOver { .. }
             | Command::EditWith { .. }
@@ -100,7 +96,6 @@ impl Command<'_> {
         match *self {
             Command::Import(_)
             | Command::ImportSince { .. }
-            | Command::ImportNew(_)
             | Command::Edit { .. }
             | Command::EditOver { .. }
             | Command::EditWith { .. }

@@ -55,28 +55,29 @@ impl<'a> CopyFile<'a> {
     }
 }
 
-/// How a project stands, given as the bytes of its file, and what other copies have and lack, as
-/// `project_status::status_text` writes it. A file that begins as a summary does is read as one, any
-/// other as a bundle.
+/// How a project stands, given as the bytes of its file, with the lines of its folder, and what other
+/// copies have and lack, as `project_status::status_text` writes it. A file that begins as a summary does
+/// is read as one, any other as a bundle.
 ///
 /// # Errors
 /// - `Project` with the fault of the project, as `exec` answers it: 110, 60 to 69, 70.
 /// - `Turn` with the number of the files before the first one that is refused, and its fault:
 ///   `BadSummary` (71), or `Bundle` (60 to 69) or `Trailing` (70).
 ///
-/// `Memory` (1) where a growth was refused: of a `Turn` where its file is a summary or a bundle, or one
+/// `Memory` (1) where an allocation failed: of a `Turn` where its file is a summary or a bundle, or one
 /// with a thinned operation that is refused; else of the `Project`, and then the first file is not one
 /// that is refused, unless the project has a thinned operation.
 pub fn project_status(
     alloc: Global,
     project: &[u8],
+    folder: &[u8],
     files: &[CopyFile<'_>],
 ) -> Result<Vec<u8>, TurnFault>
     ensures answer { turns.is_out_of_memory result ≡ false →
-        copies.status_of (project_at project.now) files.now ≡ copies.as_list result }
-    // Which file is refused, and where memory may have ended.
+        copies.status_of (project_at project.now) folder.now files.now ≡ copies.as_list result }
+    // Which file is refused, and where memory may have run out.
     ensures beside { (s : State) → project_at project.now ≡ Ok s
-        → copies.AnswersStatus s files.now (copies.as_list result) }
+        → copies.AnswersStatus s folder.now files.now (copies.as_list result) }
     // A file that is no project is refused for that, whatever memory there is; but for its bundle, where
     // an operation of it is thinned.
     ensures no_project { IfErr (project_at project.now) (λ fault.
@@ -85,7 +86,7 @@ pub fn project_status(
     let project = judge(alloc, project)?;
     let others = others_of(alloc, files)?;
     let set = project.to_set(alloc)?;
-    Ok(status_text(alloc, &project.name(), &set, &others)?)
+    Ok(status_text(alloc, &project.name(), &set, folder, &others)?)
 }
 
 // What files tell of other copies.
@@ -127,7 +128,7 @@ fn is_like_summary(bytes: &[u8]) -> bool
 ///
 /// # Errors
 /// Those of the project, as `exec` answers them: 110, 60 to 69, 70; `NoBook` (82) where the project
-/// does not have the book; `Memory` (1) where a growth was refused.
+/// does not have the book; `Memory` (1) where an allocation failed.
 pub fn project_progress(alloc: Global, project: &[u8], book: Option<Book>) -> Result<Vec<u8>, Fault>
     ensures answer { result ≢ Err Fault.Memory →
         copies.progress_of (project_at project.now) book ≡ copies.as_list result }

@@ -20,7 +20,7 @@ use usfm_token::read_text;
 // books.
 //
 // # Errors
-// `AllocError` where a growth was refused.
+// `AllocError` where an allocation failed.
 pub(crate) fn check_books(
     alloc: Global,
     set_off: Option<SetOff>,
@@ -58,7 +58,7 @@ fn push_checked(
 // the books.
 //
 // # Errors
-// `EmptyNeedle` exactly where the needle is empty, and else `Memory` where a growth was refused.
+// `EmptyNeedle` exactly where the needle is empty, and else `Memory` where an allocation failed.
 pub(crate) fn find_books(
     alloc: Global,
     set_off: Option<SetOff>,
@@ -121,7 +121,7 @@ fn push_found(
 // those of one form in the order of the books.
 //
 // # Errors
-// `AllocError` where a growth was refused.
+// `AllocError` where an allocation failed.
 pub(crate) fn word_books(
     alloc: Global,
     sheet: &Sheet<'_>,

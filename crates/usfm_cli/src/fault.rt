@@ -21,7 +21,7 @@ use verse_cut::BookFault;
 /// Why a command was refused. `fault_line` writes it with its number.
 #[derive(Clone, Copy, Debug, PartialEq, Eq, Error)]
 pub enum Fault {
-    /// 1: a growth was refused.
+    /// 1: an allocation failed.
     #[error("out of memory")]
     Memory,
     /// 10: bytes that are no text, which is UTF-8. Their longest front that is has this many bytes.
@@ -92,6 +92,18 @@ pub enum Fault {
     /// are two of one book, or another file in the place of one.
     #[error("the folder's file would lose what stands in it")]
     FileChanged,
+    /// 132: of this many segments that have a text in what a book's file was written from, the file has
+    /// none.
+    #[error("{count} texts are gone from the file")]
+    Emptied { count: u64 },
+    /// 133: of this many segments a book's file does not have the text that came in, and has an older
+    /// one.
+    #[error("the file undoes {count} texts that came in")]
+    Undone { count: u64 },
+    /// 134: a bundle that has nothing in common with the project would put this many segments in
+    /// conflict.
+    #[error("the bundle is of another project, and puts {count} segments in conflict")]
+    Unlike { count: u64 },
 }
 
 impl From<AllocError> for Fault {

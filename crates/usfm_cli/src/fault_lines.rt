@@ -9,11 +9,10 @@ use bundle_codec::BundleFault;
 use op_core::{IdFault, OpId, ShortLine};
 use usfm_ref::RefFault;
 
-/// The line that reports a fault: `fault`, its number, its details, each after one space, and a line
-/// feed. The details are an operation's id as its number and its name, the place of an operation in
-/// its bundle or a line of a sheet, counted from 1, the bytes that were written, or the length of the longest
-/// front that is text.
-/// It takes no memory.
+/// The line that reports a fault: `fault`, its number, its details, each after one space, and a line feed.
+/// The details are an operation's id as its number and its name, the place of an operation in its bundle
+/// or a line of a sheet, counted from 1, the bytes that were written, the length of the longest front that
+/// is text, or how many segments a file or a bundle would change. It does not allocate.
 pub fn fault_line(fault: &Fault) -> ShortLine
     ensures { result ≡ lines.fault_text fault.now }
 {
@@ -27,6 +26,9 @@ pub fn fault_line(fault: &Fault) -> ShortLine
         Fault::NotShown(id) => push_id(&mut line, id),
         Fault::Bundle(fault) => push_place(&mut line, fault),
         Fault::WriteFailed { gone } => push_count(&mut line, *gone),
+        Fault::Emptied { count } | Fault::Undone { count } | Fault::Unlike { count } => {
+            push_count(&mut line, *count);
+        }
         _ => {}
     }
     line.push_text("\n");
@@ -121,6 +123,9 @@ pub(crate) fn fault_number(fault: &Fault) -> u64
         Fault::TooLong => 121,
         Fault::FileFailed => 130,
         Fault::FileChanged => 131,
+        Fault::Emptied { count: _ } => 132,
+        Fault::Undone { count: _ } => 133,
+        Fault::Unlike { count: _ } => 134,
     }
 }
 

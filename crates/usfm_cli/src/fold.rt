@@ -15,8 +15,8 @@ use usfm_export::{ByteSink, write_book};
 use usfm_ref::Book;
 
 /// Reads bundles one after another to the end of the source, takes the union of their operations,
-/// and writes the book's text to the sink: the picked texts of its segments by rising key. The book
-/// is UTF-8, and cuts back into them.
+/// and writes the book's text to the sink: the picked texts of its segments in ascending order of
+/// keys. The book is UTF-8, and cuts back into them.
 ///
 /// Each bundle is received before the next one is read, so the first refusal in the order of the
 /// bytes is answered. Nothing is written before all is judged. The source is read at most once for
@@ -30,7 +30,8 @@ use usfm_ref::Book;
 /// - `NoBook` (82) where no operation is of the book.
 /// - `WriteFailed` (90) where the sink answers an error or takes 0 bytes, with the bytes that were written:
 ///   they are the front of the book of that length.
-/// - `Memory` (1) where a growth was refused. Nothing was written. A source that gives no byte takes none.
+/// - `Memory` (1) where an allocation failed. Nothing was written. For a source that gives no byte nothing
+///   is allocated.
 pub fn fold_stream<R: ByteSource, W: ByteSink>(
     alloc: Global,
     source: &mut R,

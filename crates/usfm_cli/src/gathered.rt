@@ -48,7 +48,7 @@ impl<'a> Gathered<'a> {
     }
 
     // A replica of this name that holds those of the operations which are of one book. Where there is
-    // none, it takes no memory.
+    // none, it does not allocate.
     pub(crate) fn of_book(
         &self,
         alloc: Global,

@@ -7,7 +7,6 @@ ghost use Rattle.usfm_cli.specs.TreeLaws as trees;
 
 pub mod copies;
 pub mod deltas;
-pub mod folders;
 pub mod headline;
 pub mod schedules;
 pub mod turns;

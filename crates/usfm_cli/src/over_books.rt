@@ -27,7 +27,7 @@ use usfm_ref::Book;
 /// # Errors
 /// First those of the project: `BadProject` (110), `Bundle` (60 to 69), `Trailing` (70). Then `NotText`
 /// (10) of the sheet, `FieldBeforeMarker` (40), `EmptyMarker` (41) or `BadStyleType` (42), whichever its
-/// first faulty line has, and `NoBook` (82) of the one book. `Memory` (1) where a growth was refused.
+/// first faulty line has, and `NoBook` (82) of the one book. `Memory` (1) where an allocation failed.
 pub fn check_project(
     alloc: Global,
     project: &[u8],

@@ -68,8 +68,6 @@ impl Outcome {
 /// - `Import`: `NotText` (10), `NoId` (30), `Reference` (20), `NumbersUsedUp` (81).
 /// - `ImportSince`: `NotText` (10), `Bundle` (60 to 69), `Trailing` (70), `NoId` (30), `Reference` (20),
 ///   `Clash` (51), `NumbersUsedUp` (81).
-/// - `ImportNew`: `NotText` (10), `NoId` (30), `Reference` (20), `FileChanged` (131) where the project
-///   has the book and the file is not its export, `NumbersUsedUp` (81).
 /// - `Edit`: `NotText` (10), `BadSegment` (80), `NoBook` (82), `NumbersUsedUp` (81).
 /// - `EditOver`: the same, with `NotShown` (83) before `NumbersUsedUp`.
 /// - `EditWith`: `NotShown` (83), first of the operation whose text it is, `NumbersUsedUp` (81).
@@ -82,12 +80,12 @@ impl Outcome {
 ///
 /// `Thin`, `Shown`, `Send`, `Summary` and `Report` refuse nothing.
 ///
-/// `Memory` (1) where a growth was refused; of bytes that are no project only where an operation of
-/// their bundle is thinned, since the other refusals take no memory. Nor do those of the command once
-/// the project was read, but for `NumbersUsedUp` and `FileChanged` of an import, `Clash`, 69 and 70 of
-/// a bundle with a thinned operation, `NoId` and `Reference` of an `ImportSince` whose base has one, those of an `EditWith`, and
-/// what is found after records of a sheet were kept. The project is the bytes that were given, so that a
-/// refused command leaves it as it is.
+/// `Memory` (1) where an allocation failed; of bytes that are no project only where an operation of their bundle
+/// is thinned, since finding the other refusals does not allocate. Nor does finding those of the command once
+/// the project was read, but for `NumbersUsedUp` of an import, `Clash`, 69 and 70 of a bundle with a thinned
+/// operation, `NoId` and `Reference` of an `ImportSince` whose base has one, those of an `EditWith`, and what is
+/// found after records of a sheet were kept. The project is the bytes that were given, so that a refused command
+/// leaves it as it is.
 pub fn exec(alloc: Global, project: &[u8], command: &Command<'_>) -> Result<Outcome, Fault>
     ensures answer { result ≢ Err Fault.Memory → executed project.now command.now ≡ result }
     // A file that is no project is refused for that, whatever memory there is; but for its bundle, where
@@ -208,7 +206,7 @@ fn load_seen(alloc: Global, project: &[u8], command: &Command<'_>) -> Result<Rep
 /// So the file is that of the replica that the steps of the commands make, one after another.
 ///
 /// # Errors
-/// `Memory` (1) alone, where a growth was refused.
+/// `Memory` (1) alone, where an allocation failed.
 pub fn exec_each(
     alloc: Global,
     project: &[u8],

@@ -13,7 +13,7 @@ pub const MOST_BYTES: usize = 268_435_456;
 /// Why a source was not read to its end.
 #[derive(Clone, Copy, Debug, PartialEq, Eq, Error)]
 pub enum ReadFault {
-    /// A growth was refused.
+    /// An allocation failed.
     #[error("out of memory")]
     Memory,
     /// The source answered an error, of whatever kind.
@@ -40,7 +40,7 @@ impl From<AllocError> for ReadFault {
 /// # Errors
 /// - `ReadFailed` at the first error of the source, of whatever kind. No read is tried again.
 /// - `TooLong` at the first byte after `MOST_BYTES`.
-/// - `Memory` where a growth was refused. A source that gives no byte takes none.
+/// - `Memory` where an allocation failed. For a source that gives no byte nothing is allocated.
 pub fn read_to_end<R: ByteSource>(alloc: Global, source: &mut R) -> Result<Vec<u8>, ReadFault>
     ensures read { ReadsUpTo most_bytes (R.to_come source.old) (R.to_come source.new)
         (R.reads source.old) (R.reads source.new) result }

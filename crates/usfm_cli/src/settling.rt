@@ -19,7 +19,7 @@ use usfm_ref::Segment;
 ///
 /// # Errors
 /// First those of the project (`exec`), and then `NoBook` (82) where a book that is wanted, or that of a wanted
-/// segment, has no operation. `Memory` (1) where a growth was refused.
+/// segment, has no operation. `Memory` (1) where an allocation failed.
 pub fn next_question(
     alloc: Global,
     project: &[u8],
@@ -39,7 +39,7 @@ pub fn next_question(
 /// How many of the conflicts that are wanted a project has.
 ///
 /// # Errors
-/// Those of the project (`exec`), and `Memory` (1) where a growth was refused.
+/// Those of the project (`exec`), and `Memory` (1) where an allocation failed.
 pub fn conflict_count(alloc: Global, project: &[u8], wanted: &[Wanted]) -> Result<usize, Fault>
     ensures count { IfOk result (λ count. (s : State) → project_at project.now ≡ Ok s
         → CountsOpen s.held wanted.now count) }

@@ -18,10 +18,9 @@ use conflict_report::report_text;
 use op_core::{Op, OpId};
 use replica_state::Replica;
 use std::alloc::{AllocError, Global};
-use usfm_export::{TextFault, book_text};
+use usfm_export::book_text;
 use usfm_ref::{Book, Key};
 use usfm_token::read_text;
-use verse_cut::book_of;
 
 // Does what a command says, and answers what it writes.
 pub(crate) fn obey(
@@ -35,7 +34,6 @@ pub(crate) fn obey(
     match *command {
         Command::Import(file) => import(alloc, replica, file),
         Command::ImportSince { file, base } => import_since(alloc, replica, file, base),
-        Command::ImportNew(file) => import_new(alloc, replica, file),
         Command::Edit { book, key, text } => edit(alloc, replica, book, key, text),
         Command::EditOver {
             book,
@@ -83,30 +81,6 @@ fn import_since(
     let base = decode_whole(alloc, base)?;
     let added = replica.import_since(&base, file)?;
     Ok(count_line(alloc, "added", added)?)
-}
-
-// Takes in the file of a book that the replica does not have, or that is its export of the book.
-fn import_new(alloc: Global, replica: &mut Replica, file: &[u8]) -> Result<Vec<u8>, Fault>
-    ensures { commands.Answers commands.is_late_new
-        (commands.import_new_done replica.old file.now) replica.new result }
-{
-    let text = text_in(file)?;
-    if is_other(alloc, replica, book_of(text)?, file)? {
-        return Err(Fault::FileChanged);
-    }
-    let added = replica.import(text)?;
-    Ok(count_line(alloc, "added", added)?)
-}
-
-// Whether the replica has the book, and its export is not the file.
-fn is_other(alloc: Global, replica: &Replica, book: Book, file: &[u8]) -> Result<bool, AllocError>
-    ensures { IfOk result (λ is. is ≡ commands.is_other replica.now.held book file.now) }
-{
-    match book_text(alloc, replica, book) {
-        Ok(text) => Ok(text.as_slice() != file),
-        Err(TextFault::NoBook) => Ok(false),
-        Err(TextFault::Memory) => Err(AllocError),
-    }
 }
 
 // Gives a segment a text, in the place of all that it shows.

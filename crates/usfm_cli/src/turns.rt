@@ -5,14 +5,12 @@ ghost use Rattle.project_file.specs.Projects.{project_at};
 ghost use Rattle.usfm_cli.specs.Commands as commands;
 ghost use Rattle.usfm_cli.specs.Projects.{state_after};
 ghost use Rattle.usfm_cli.specs.Faults.{of_loading};
-ghost use Rattle.usfm_cli.specs.Standing.{project_parts};
 ghost use Rattle.usfm_cli.specs.Turns as turns;
 ghost use Rattle.usfm_cli.specs.declared.fault.Fault.TheVariants.{Memory};
 ghost use Rattle.usfm_cli.specs.declared.turns.TurnFault.TheVariants as refusals;
 
 use crate::command::Command;
 use crate::fault::Fault;
-use crate::standing::{Standing, standing_of};
 use crate::steps::obey;
 use project_file::{LoadFault, load, save};
 use replica_state::Replica;
@@ -57,7 +55,8 @@ impl Outcomes {
 /// Why commands in turn were refused.
 #[derive(Clone, Copy, Debug, PartialEq, Eq, Error)]
 pub enum TurnFault {
-    /// The project's bytes are refused; or memory ended while the project was read or written.
+    /// The project's bytes are refused; or memory ran out while the project was read or
+    /// written.
     #[error("the project: {0}")]
     Project(Fault),
     /// The command after this many is refused in its turn.
@@ -109,7 +108,7 @@ impl From<LoadFault> for TurnFault {
 /// - `Turn` with the number of the commands before the first one that is refused, and its fault, as
 ///   `exec` answers it of the project after those.
 ///
-/// `Memory` (1) where a growth was refused: of a `Turn`, where `exec` may answer it of that command
+/// `Memory` (1) where an allocation failed: of a `Turn`, where `exec` may answer it of that command
 /// by itself; of the `Project`, where it is read or written, and of one that holds nothing only where
 /// it is written. The project is the bytes that were given, so that a refusal leaves it as it is.
 pub fn exec_in_turn(
@@ -119,11 +118,11 @@ pub fn exec_in_turn(
 ) -> Result<Outcomes, TurnFault>
     ensures answer { turns.is_out_of_memory result ≡ false →
         turns.executed_in_turn project.now commands.now ≡ result }
-    // Which command is refused, and where memory may have ended.
+    // Which command is refused, and where memory may have run out.
     ensures turn { (s : State) → project_at project.now ≡ Ok s
         → turns.AnswersFile s commands.now result }
-    // Reading a project that holds nothing takes no memory: then it ends in no turn only after all
-    // commands were accepted, where the project is written.
+    // Reading a project that holds nothing does not allocate: then it runs out in no turn only
+    // after all commands were accepted, where the project is written.
     ensures memory { result ≡ Err (refusals.Project Memory) → (s : State)
         → project_at project.now ≡ Ok s → s.held ≡ []
         → IsOk (turns.in_turn s commands.now) }
@@ -143,47 +142,6 @@ pub fn exec_in_turn(
         outputs,
         replica,
     })
-}
-
-/// Does commands in turn on a project as `exec_in_turn` does, and says besides how the books stand
-/// after the last. The project is read once.
-///
-/// # Errors
-/// Those of `exec_in_turn`; `Memory` (1) of the `Project` also where a growth was refused while it
-/// was seen how the books stand.
-pub fn stand_in_turn(
-    alloc: Global,
-    project: &[u8],
-    commands: &[Command<'_>],
-) -> Result<(Outcomes, Standing), TurnFault>
-    ensures answer { turns.is_out_of_memory result ≡ false →
-        turns.executed_in_turn project.now commands.now ≡ turns.first_of result }
-    // Which command is refused, and where memory may have ended.
-    ensures turn { (s : State) → project_at project.now ≡ Ok s
-        → turns.AnswersFile s commands.now (turns.first_of result) }
-    // Reading a project that holds nothing takes no memory: then it ends in no turn only after all
-    // commands were accepted, where the project is written and seen.
-    ensures memory { result ≡ Err (refusals.Project Memory) → (s : State)
-        → project_at project.now ≡ Ok s → s.held ≡ []
-        → IsOk (turns.in_turn s commands.now) }
-    // A file that is no project is refused for that, whatever memory there is; but for its bundle, where
-    // an operation of it is thinned.
-    ensures no_project { IfErr (project_at project.now) (λ fault.
-        turns.RefusesProject project.now (of_loading fault) result) }
-    // The books stand as the operations have it that are held after the commands' steps.
-    ensures stands { IfOk result (λ made. (s : State) → project_at project.now ≡ Ok s
-        → made.1 ≡ project_parts (state_after s commands.now).held) }
-{
-    let mut loaded = load(alloc, project)?;
-    let outputs = obey_in_turn(alloc, &mut loaded, commands)?;
-    let project = save(alloc, &loaded)?;
-    let stands = standing_of(alloc, &loaded)?;
-    let outcomes = Outcomes {
-        project,
-        outputs,
-        replica: loaded,
-    };
-    Ok((outcomes, stands))
 }
 
 // Does what commands say, in turn, and answers what they write, or the first that is refused.

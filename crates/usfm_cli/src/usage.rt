@@ -21,7 +21,7 @@ use op_core::ReplicaName;
 use std::alloc::{AllocError, Global};
 
 /// The version of this workspace, which `usfm_team --version` prints. It is here alone.
-pub const VERSION: &str = "0.10.0";
+pub const VERSION: &str = "0.11.0";
 
 // What an argument is called, and what is to be given for it.
 type Words<'a> = &'a [(&'static str, &'static str)];
@@ -131,9 +131,9 @@ A command that is refused writes `fault NUMBER ..` to standard error, and exits
 with status 1; the help of a subcommand lists its faults. At a terminal, or with
 --explain, it also says what that means and what to do; `usfm_team faults` lists
 this for all faults. A wrong command line exits with status 2. A change is
-written to PROJECT.new and renamed; if PROJECT is a link, so is the file that it
-leads to. A project of more than 268,435,456 bytes is written, but cannot be
-read again.";
+written to PROJECT.new, which is renamed to PROJECT; if PROJECT is a link, this
+replaces the file that it leads to. A project of more than 268,435,456 bytes is
+written, but cannot be read again.";
 
 // A subcommand with its words, each of them required, and with `--explain`, which `read_words` takes out of every line.
 pub(crate) fn command<'a>(

@@ -82,11 +82,7 @@ pub enum Line {
     },
     /// `sync PROJECT FOLDER [BUNDLE..]`: take in what was changed in a folder and bundles, and write the
     /// books into the folder.
-    Sync {
-        project: String,
-        folder: String,
-        bundles: Vec<String>,
-    },
+    Sync(SyncWords),
     /// `summary PROJECT`: write the summary of what the project holds.
     Summary {
         project: String,
@@ -175,6 +171,30 @@ error: a bundle is not written to a terminal: direct it into a file
 Example: usfm_team delta ana.project ben.summary > ana.bundle
 ";
 
+/// What `sync` was given.
+#[derive(Debug, Drop)]
+pub struct SyncWords {
+    pub project: String,
+    pub folder: String,
+    pub bundles: Vec<String>,
+    /// `--box DIR`: the folder in which the copies of a team leave their bundles.
+    pub box_folder: Option<String>,
+    /// `--settle REF|CODE`: the books and segments whose conflicts a file settles.
+    pub settled: Vec<Wanted>,
+    /// `--names NAME`: a name that says how new files are named.
+    pub form: Option<String>,
+    /// `--try`: whether nothing is to be written.
+    pub is_try: bool,
+    /// `--emptied`: whether texts that are gone from a file are gone on purpose.
+    pub emptied: bool,
+    /// `--undone`: whether what came in was undone on purpose.
+    pub undone: bool,
+    /// `--stale`: whether a file that undoes what came in is an older one.
+    pub stale: bool,
+    /// `--join`: whether a bundle of another project is to be joined.
+    pub joined: bool,
+}
+
 /// Why the words ask for nothing that is done.
 #[derive(Debug, Drop)]
 pub enum LineFault {
@@ -240,8 +260,8 @@ fn is_word(word: &String, wanted: &str) -> bool
 /// - `Help` where `--help`, `-h` or `help` asks for it, or `--version` or `-V` for the version.
 /// - `Usage` where the words have the shape of no subcommand.
 /// - `RefusedWord` with `Reference` (20, 21) where a book is no code or a reference is none; `Refused` with
-///   `Naming` (50, 52) where a name is no replica's or an id is none, with `Memory` (1) where a growth
-///   was refused.
+///   `Naming` (50, 52) where a name is no replica's or an id is none, with `Memory` (1) where an allocation
+///   failed.
 pub fn read_words(alloc: Global, words: &[String]) -> Result<Line, LineFault> {
     let words = without_explain(alloc, words)?;
     match program(alloc)?.try_get_matches_from(&words) {
@@ -254,7 +274,7 @@ pub fn read_words(alloc: Global, words: &[String]) -> Result<Line, LineFault> {
 }
 
 /// Whether a reference stands in the words as two of them, as it does without quotes: a book's code and
-/// then a key. It takes no memory.
+/// then a key. It does not allocate.
 ///
 /// Tests alone show what it answers.
 pub fn has_split_reference(words: &[String]) -> bool {

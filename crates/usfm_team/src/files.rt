@@ -1,11 +1,13 @@
 // Files of the program, and the folders that they are in.
-use crate::telling::say_of;
+use crate::refusal::Refusal;
+use crate::telling::{say, say_of};
 use std::fs::{File, Metadata, OpenOptions, TryLockError};
 use std::io::ErrorKind;
+use std::os::fd::AsRawFd;
 use std::os::unix::fs::{FileTypeExt, MetadataExt, OpenOptionsExt};
 use std::path::Path;
 use std::{fs, io};
-use usfm_cli::{Fault, StdSink, StdSource, read_to_end, write_all};
+use usfm_cli::{Expected, Fault, StdSink, StdSource, read_to_end, write_all};
 
 // What only its owner may read and write.
 const OWNER_ALONE: u32 = 0o600;
@@ -46,9 +48,14 @@ impl Other {
 }
 
 // Opens the plain file of this name, and no other: what a link leads to is not opened, and a pipe is not waited for.
+pub(crate) fn open_plain(rt: &HostRuntime, path: &str) -> Result<Found, Fault> {
+    open_named(rt, path, 1)
+}
+
+// The same of a file that has no more than so many names.
 //
 // The file that was opened is the one that was looked at before; where another one took its place, it is looked at anew.
-pub(crate) fn open_plain(rt: &HostRuntime, path: &str) -> Result<Found, Fault> {
+pub(crate) fn open_named(rt: &HostRuntime, path: &str, most_names: u64) -> Result<Found, Fault> {
     for _ in 0..MOST_TRIES {
         let seen = match fs::symlink_metadata(rt, path) {
             Ok(seen) => seen,
@@ -58,7 +65,7 @@ pub(crate) fn open_plain(rt: &HostRuntime, path: &str) -> Result<Found, Fault> {
         if seen.is_dir() {
             return Ok(Found::Folder);
         }
-        if let Some(other) = not_plain(&seen) {
+        if let Some(other) = not_plain(&seen, most_names) {
             return Ok(Found::Other(other));
         }
         if let Some(file) = open_same(rt, path, &seen)? {
@@ -68,8 +75,8 @@ pub(crate) fn open_plain(rt: &HostRuntime, path: &str) -> Result<Found, Fault> {
     Err(Fault::ReadFailed)
 }
 
-// What it is, where it is no plain file with one name.
-fn not_plain(found: &Metadata) -> Option<Other> {
+// What it is, where it is no plain file with no more than so many names.
+fn not_plain(found: &Metadata, most_names: u64) -> Option<Other> {
     let kind = found.file_type();
     if kind.is_symlink() {
         Some(Other::Link)
@@ -79,10 +86,34 @@ fn not_plain(found: &Metadata) -> Option<Other> {
         Some(Other::Socket)
     } else if !kind.is_file() {
         Some(Other::Device)
-    } else if found.nlink() > 1 {
+    } else if found.nlink() > most_names {
         Some(Other::SecondName)
     } else {
         None
+    }
+}
+
+// Whether two names lead to one file.
+pub(crate) fn are_one(rt: &HostRuntime, one: &str, other: &str) -> bool {
+    match (
+        fs::symlink_metadata(rt, one),
+        fs::symlink_metadata(rt, other),
+    ) {
+        (Ok(one), Ok(other)) => is_same_file(&one, &other),
+        _ => false,
+    }
+}
+
+// Whether a file still has these bytes. One that cannot be read any more was changed.
+pub(crate) fn is_still(rt: &HostRuntime, path: &str, bytes: &[u8]) -> Result<bool, Fault> {
+    let read = match open_plain(rt, path) {
+        Ok(Found::Plain(file)) => read_open(rt, &file),
+        _ => return Ok(false),
+    };
+    match read {
+        Ok(found) => Ok(found.as_slice() == bytes),
+        Err(Fault::Memory) => Err(Fault::Memory),
+        Err(_) => Ok(false),
     }
 }
 
@@ -109,6 +140,11 @@ pub(crate) fn open_at_once(rt: &HostRuntime, path: &str) -> io::Result<File> {
         Ok(file) => Ok(file),
         Err(_) => File::open(rt, path),
     }
+}
+
+// Whether a folder has this name.
+pub(crate) fn is_folder(rt: &HostRuntime, path: &str) -> bool {
+    fs::metadata(rt, path).is_ok_and(|found| found.is_dir())
 }
 
 // The bytes of a file.
@@ -228,4 +264,124 @@ pub(crate) fn link_fault(error: io::Error) -> Fault {
     } else {
         Fault::FileFailed
     }
+}
+
+// An open folder. What is in it is reached by its handle, where the system has paths for handles: no folder, and no link to one, that
+// takes its place meanwhile is gone into.
+#[derive(Drop)]
+pub(crate) struct Folder {
+    handle: File,
+    // How it is called.
+    name: String,
+    // By which path it is reached.
+    way: String,
+}
+
+impl Folder {
+    pub(crate) fn open(rt: &HostRuntime, name: &str) -> Result<Folder, Fault> {
+        match fs::metadata(rt, name) {
+            Ok(found) if found.is_dir() => {
+                let handle = File::open(rt, name).map_err(|_| Fault::ReadFailed)?;
+                Folder::of(rt, handle, String::from_str(rt.alloc(), name)?)
+            }
+            _ => Err(Fault::ReadFailed),
+        }
+    }
+
+    fn of(rt: &HostRuntime, handle: File, name: String) -> Result<Folder, Fault> {
+        let number = handle.as_raw_fd();
+        let way = format!(in rt.alloc(); "/proc/self/fd/{number}")?;
+        let is_way = match (fs::metadata(rt, way.as_str()), handle.metadata()) {
+            (Ok(one), Ok(other)) => is_same_file(&one, &other),
+            _ => false,
+        };
+        let way = if is_way { way } else { name.clone()? };
+        Ok(Folder { handle, name, way })
+    }
+
+    // A folder in it. What is no folder is refused, and a link to one.
+    pub(crate) fn inside(&self, rt: &HostRuntime, name: &str) -> Result<Option<Folder>, Fault> {
+        let path = self.way_to(rt, name)?;
+        let seen = match fs::symlink_metadata(rt, path.as_str()) {
+            Ok(seen) if seen.is_dir() => seen,
+            Ok(_) => return Err(Fault::FileChanged),
+            Err(error) if error.kind() == ErrorKind::NotFound => return Ok(None),
+            Err(_) => return Err(Fault::ReadFailed),
+        };
+        let handle = File::open(rt, path.as_str()).map_err(|_| Fault::ReadFailed)?;
+        let opened = handle.metadata().map_err(|_| Fault::ReadFailed)?;
+        if !is_same_file(&opened, &seen) {
+            return Err(Fault::FileChanged);
+        }
+        Ok(Some(Folder::of(rt, handle, self.name_of(rt, name)?)?))
+    }
+
+    // How people call it.
+    pub(crate) fn name(&self) -> &str {
+        &self.name
+    }
+
+    // The path of a name in it, for the system.
+    pub(crate) fn way_to(&self, rt: &HostRuntime, name: &str) -> Result<String, Fault> {
+        path_in(rt, &self.way, name)
+    }
+
+    // The path of a name in it, for people.
+    pub(crate) fn name_of(&self, rt: &HostRuntime, name: &str) -> Result<String, Fault> {
+        path_in(rt, &self.name, name)
+    }
+
+    // The refusal of what stands under a name in it.
+    pub(crate) fn refusal(&self, rt: &HostRuntime, fault: Fault, name: &str) -> Refusal {
+        match self.name_of(rt, name) {
+            Ok(name) => Refusal::of(fault, name),
+            Err(_) => Refusal::from(fault),
+        }
+    }
+
+    // Waits until no other command has the folder. Where the lock is refused, for whatever reason, the command goes on.
+    pub(crate) fn lock(&self, rt: &HostRuntime) {
+        let _ = lock_after_others(rt, &self.handle, &self.name, &mut false);
+    }
+
+    // Waits until its names are on the disk.
+    pub(crate) fn sync(&self) -> Result<(), Fault> {
+        sync_folder(&self.handle)
+    }
+
+    // The names in it, in their order. That some are not UTF-8 is said, where it is to be.
+    pub(crate) fn names(&self, rt: &HostRuntime, is_said: bool) -> Result<Vec<String>, Refusal> {
+        let mut names = Vec::new(rt.alloc());
+        let entries = fs::read_dir(rt, self.way.as_str()).map_err(|error| self.unread(rt, &error))?;
+        for entry in entries {
+            match entry {
+                Ok(entry) => {
+                    let name = String::from_str(rt.alloc(), entry.file_name());
+                    names.push(name.map_err(Fault::from)?).map_err(Fault::from)?;
+                }
+                Err(error) if error.kind() == ErrorKind::InvalidFilename => {
+                    if is_said {
+                        say(rt, "skipped a file whose name is not UTF-8");
+                    }
+                }
+                Err(error) => return Err(self.unread(rt, &error)),
+            }
+        }
+        names.sort().map_err(Fault::from)?;
+        Ok(names)
+    }
+
+    // The refusal of a folder whose names were not read. To read them takes memory.
+    fn unread(&self, rt: &HostRuntime, error: &io::Error) -> Refusal {
+        match error.kind() {
+            ErrorKind::OutOfMemory => Refusal::from(Fault::Memory),
+            _ => Refusal::expecting(rt, Fault::ReadFailed, &self.name, Expected::Folder),
+        }
+    }
+}
+
+// The path of a name in a folder.
+fn path_in(rt: &HostRuntime, folder: &str, name: &str) -> Result<String, Fault> {
+    let slash = if folder.ends_with('/') { "" } else { "/" };
+    Ok(format!(in rt.alloc(); "{folder}{slash}{name}")?)
 }

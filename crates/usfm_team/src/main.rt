@@ -1,17 +1,18 @@
 //! `usfm_team`: keeps the Scripture project of a team that works offline.
 #![tactic(auto)]
 
+mod changed;
 mod files;
-mod folder;
 mod looks;
-mod own;
-mod placing;
 mod project;
+mod reading;
 mod refusal;
 mod rights;
 mod settle;
 mod standing;
+mod steps;
 mod sync;
+mod team_box;
 mod telling;
 mod turns;
 
@@ -147,11 +148,7 @@ fn run(rt: &HostRuntime, line: Line, explains: bool) -> Result<(), Refusal> {
             folder,
             books,
         } => export_into(rt, &project, &folder, &books, explains),
-        Line::Sync {
-            project,
-            folder,
-            bundles,
-        } => sync(rt, &project, &folder, bundles, explains),
+        Line::Sync(words) => sync(rt, words, explains),
         Line::Summary { project } => ask(rt, &project, &Command::Summary, explains),
         Line::Delta { project, summary } => delta(rt, &project, &summary),
         Line::Thin { project } => change(rt, &project, &Command::Thin, None),
@@ -298,7 +295,7 @@ fn done(
     other: Option<(&str, Expected)>,
 ) -> Result<Outcome, Refusal> {
     let of_project = |fault| Refusal::of_project(rt, fault, path);
-    let project = lock_project(rt, path).map_err(of_project)?;
+    let mut project = lock_project(rt, path).map_err(of_project)?;
     let bytes = project.read(rt).map_err(of_project)?;
     let outcome = match exec(rt.alloc(), &bytes, command) {
         Ok(outcome) => outcome,

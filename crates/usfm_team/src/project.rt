@@ -1,17 +1,21 @@
 // A project's file. One command at a time changes it, and what a command changed is on the disk before it answers.
 use crate::files::{
-    is_same_file, link_fault, lock_file, make_private, open_at_once, open_folder, read_open,
-    sync_file, sync_folder, write_made,
+    Found, is_same_file, is_there, link_fault, lock_file, make_private, open_at_once, open_folder,
+    open_named, read_open, remove_if_there, sync_file, sync_folder, write_made,
 };
 use crate::rights::{keep_rights, look_at};
 use std::fs;
 use std::fs::File;
+use std::io::ErrorKind;
 use std::os::unix::fs::MetadataExt;
 use std::path::PathBuf;
 use usfm_cli::Fault;
 
 // The bits of a mode by which somebody may write.
 const MAY_WRITE: u32 = 0o222;
+
+// How the name ends under which a project is made that is begun.
+const BEGUN_END: &str = ".begun";
 
 // A project's file that no other command changes until this value is dropped.
 #[derive(Drop)]
@@ -38,30 +42,100 @@ pub(crate) fn lock_project(rt: &HostRuntime, path: &str) -> Result<Project, Faul
     Err(Fault::FileFailed)
 }
 
-// Begins a project where nothing is under its name: of two commands at once one makes the file. Where it then
-// fails, nothing is there again.
+// Begins a project where nothing is under its name. The file is made whole under another name, and gets its own by a link, which
+// fails where something has it: of two commands at once one makes the project, and a command that is killed leaves none, or all
+// of it.
 pub(crate) fn begin_project(rt: &HostRuntime, path: &str, bytes: &[u8]) -> Result<(), Fault> {
     let folder = open_folder(rt, path)?;
-    let file = File::create_new(rt, path).map_err(|_| Fault::FileFailed)?;
-    let begun = write_begun(rt, path, &file, bytes, &folder);
-    if begun.is_err() {
-        let _ = fs::remove_file(rt, path);
+    if is_there(rt, path).map_err(|_| Fault::FileFailed)? {
+        return Err(Fault::FileFailed);
     }
-    begun
+    let begun = begun_path(rt, path)?;
+    let file = make_begun(rt, &begun)?;
+    if let Err(fault) = write_begun(rt, path, &begun, &file, bytes) {
+        let _ = remove_if_there(rt, &begun);
+        return Err(fault);
+    }
+    let kept = keep_begun(rt, &begun, &folder);
+    if kept.is_err() {
+        let _ = fs::remove_file(rt, path);
+        let _ = remove_if_there(rt, &begun);
+    }
+    kept
 }
 
-// A command that finds the new file waits for its bytes.
+// Leaves a project that is begun its own name alone, and waits until that is on the disk.
+fn keep_begun(rt: &HostRuntime, begun: &str, folder: &File) -> Result<(), Fault> {
+    remove_if_there(rt, begun)?;
+    sync_folder(folder)
+}
+
+// Where a project is made that is begun.
+fn begun_path(rt: &HostRuntime, path: &str) -> Result<String, Fault> {
+    Ok(format!(in rt.alloc(); "{path}{BEGUN_END}")?)
+}
+
+// Makes a file, and locks it. One that a command has left which was killed is removed; a command that is at work is waited for.
+fn make_begun(rt: &HostRuntime, begun: &str) -> Result<File, Fault> {
+    // It is a matter of milliseconds, which nobody is told of.
+    let mut is_said = true;
+    for _ in 0..u64::MAX {
+        match File::create_new(rt, begun) {
+            Ok(file) => {
+                lock_file(rt, &file, begun, &mut is_said)?;
+                if is_at(rt, &file, begun)? {
+                    return Ok(file);
+                }
+            }
+            Err(error) if error.kind() == ErrorKind::AlreadyExists => {
+                if let Found::Plain(old) = open_named(rt, begun, 2)? {
+                    lock_file(rt, &old, begun, &mut is_said)?;
+                    if !is_at(rt, &old, begun)? {
+                        continue;
+                    }
+                }
+                remove_if_there(rt, begun)?;
+            }
+            Err(_) => return Err(Fault::FileFailed),
+        }
+    }
+    Err(Fault::FileFailed)
+}
+
+// Whether a name, which is no link, leads to a file.
+fn is_at(rt: &HostRuntime, file: &File, path: &str) -> Result<bool, Fault> {
+    let opened = look_at(file)?;
+    match fs::symlink_metadata(rt, path) {
+        Ok(found) => Ok(is_same_file(&opened, &found)),
+        Err(error) if error.kind() == ErrorKind::NotFound => Ok(false),
+        Err(_) => Err(Fault::FileFailed),
+    }
+}
+
+// Writes a project that is begun, and gives it its name. A disk that has no links has a new file of this name in its place.
 fn write_begun(
     rt: &HostRuntime,
     path: &str,
+    begun: &str,
     file: &File,
     bytes: &[u8],
-    folder: &File,
 ) -> Result<(), Fault> {
-    lock_file(rt, file, path, &mut false)?;
     write_made(file, bytes)?;
     sync_file(file)?;
-    sync_folder(folder)
+    match fs::hard_link(rt, begun, path) {
+        Ok(()) => Ok(()),
+        Err(error) if error.kind() == ErrorKind::AlreadyExists => Err(Fault::FileFailed),
+        Err(_) => {
+            let file = File::create_new(rt, path).map_err(|_| Fault::FileFailed)?;
+            lock_file(rt, &file, path, &mut true)?;
+            let written = write_made(&file, bytes);
+            if written.is_err() {
+                let _ = fs::remove_file(rt, path);
+            }
+            written?;
+            sync_file(&file)
+        }
+    }
 }
 
 impl Project {
@@ -71,9 +145,10 @@ impl Project {
     }
 
     // Gives the project these bytes: writes them to `PLACE.new` and renames that to `PLACE`, so that the file has
-    // either its old bytes or the new ones. The folder is opened first: where that cannot be, the project stays.
-    pub(crate) fn replace(&self, rt: &HostRuntime, bytes: &[u8]) -> Result<(), Fault> {
-        self.refuse_kept()?;
+    // either its old bytes or the new ones. The folder is opened first: where that cannot be, the project stays. The new file is
+    // locked before it has the name, so that the project still is nobody else's.
+    pub(crate) fn replace(&mut self, rt: &HostRuntime, bytes: &[u8]) -> Result<(), Fault> {
+        self.refuse_kept(rt)?;
         let place = self.place.as_str();
         let new = format!(in rt.alloc(); "{place}.new")?;
         let folder = open_folder(rt, place)?;
@@ -81,18 +156,30 @@ impl Project {
         write_made(&file, bytes)?;
         keep_rights(rt, &self.file, &file)?;
         sync_file(&file)?;
+        lock_file(rt, &file, new.as_str(), &mut true)?;
         fs::rename(rt, new.as_str(), place).map_err(|_| Fault::FileFailed)?;
+        self.file = file;
         sync_folder(&folder)
     }
 
     // Refuses a change of a file that is kept as it is, since nobody may write it, and of one that has another name too: that
     // one would stay as it was, and be a second project of one copy from then on.
-    fn refuse_kept(&self) -> Result<(), Fault> {
+    pub(crate) fn refuse_kept(&self, rt: &HostRuntime) -> Result<(), Fault> {
         let found = look_at(&self.file)?;
-        if found.mode() & MAY_WRITE == 0 || found.nlink() > 1 {
+        if found.mode() & MAY_WRITE == 0 || found.nlink() > 1 && !self.is_begun(rt)? {
             return Err(Fault::FileFailed);
         }
         Ok(())
+    }
+
+    // Whether the other name is the one under which the file was made, by a command that was killed then. It is taken away.
+    fn is_begun(&self, rt: &HostRuntime) -> Result<bool, Fault> {
+        let begun = begun_path(rt, self.place.as_str())?;
+        if !is_at(rt, &self.file, &begun)? {
+            return Ok(false);
+        }
+        remove_if_there(rt, &begun)?;
+        Ok(look_at(&self.file)?.nlink() == 1)
     }
 }
 

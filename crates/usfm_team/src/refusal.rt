@@ -27,13 +27,8 @@ impl From<Fault> for Refusal {
 }
 
 impl Refusal {
-    // The refusal of a file, where the line names several, or a folder. Where out of memory keeps
-    // its name from being copied, the fault alone is said.
-    pub(crate) fn at(rt: &HostRuntime, fault: Fault, file: &str) -> Refusal {
-        Refusal::made(rt, fault, file, Expected::Unknown, false)
-    }
-
-    // The same, with what the file was to be.
+    // The refusal of a file, with what it was to be, where the line names several, or a folder. Where
+    // out of memory keeps its name from being copied, the fault alone is said.
     pub(crate) fn expecting(
         rt: &HostRuntime,
         fault: Fault,
@@ -43,11 +38,16 @@ impl Refusal {
         Refusal::made(rt, fault, file, expected, false)
     }
 
-    // The same, by the file's own name.
+    // The same, by the file's own name, where it is not known what it was to be.
     pub(crate) fn of(fault: Fault, name: String) -> Refusal {
+        Refusal::named(fault, name, Expected::Unknown)
+    }
+
+    // The same, with that.
+    pub(crate) fn named(fault: Fault, name: String, expected: Expected) -> Refusal {
         let file = RefusedFile {
             name,
-            expected: Expected::Unknown,
+            expected,
             is_alone: false,
         };
         Refusal {

@@ -32,21 +32,50 @@ pub(crate) fn look_at(file: &File) -> Result<Metadata, Fault> {
 // another owner no more of its mode is taken than a new file would have. A new file's mode is no more than that of its owner's
 // by then.
 pub(crate) fn keep_rights(rt: &HostRuntime, old: &File, new: &File) -> Result<(), Fault> {
-    let old = look_at(old)?;
+    keep_least_rights(rt, &[look_at(old)?], new)
+}
+
+// The same of a file that is kept beside some files: it gets the owner and the group of the first, and no more rights than each of
+// them has; where there is none, those of a new file.
+pub(crate) fn keep_least_rights(
+    rt: &HostRuntime,
+    olds: &[Metadata],
+    new: &File,
+) -> Result<(), Fault> {
     let made = look_at(new)?;
-    let has_owner = made.uid() == old.uid() || fchown(new, Some(old.uid()), None).is_ok();
-    let has_group = made.gid() == old.gid() || fchown(new, None, Some(old.gid())).is_ok();
+    let Some(first) = olds.first() else {
+        return set_rights(new, &made, NEW & !mask(rt)?);
+    };
+    let (mut owner, mut group) = (made.uid(), made.gid());
+    if owner != first.uid() && fchown(new, Some(first.uid()), None).is_ok() {
+        owner = first.uid();
+    }
+    if group != first.gid() && fchown(new, None, Some(first.gid())).is_ok() {
+        group = first.gid();
+    }
+    let mut rights = RIGHTS;
+    for old in olds {
+        let own = rights_of(old, group);
+        rights &= if owner == old.uid() {
+            own
+        } else {
+            own & NEW & !mask(rt)? | OWNERS
+        };
+    }
+    set_rights(new, &made, rights)
+}
+
+// What a file's mode gives a file of a group.
+fn rights_of(old: &Metadata, group: u32) -> u32 {
     let rights = old.mode() & RIGHTS;
-    let rights = if has_group {
+    if group == old.gid() {
         rights
     } else {
         without_group(rights)
-    };
-    let rights = if has_owner {
-        rights
-    } else {
-        rights & NEW & !mask(rt)? | OWNERS
-    };
+    }
+}
+
+fn set_rights(new: &File, made: &Metadata, rights: u32) -> Result<(), Fault> {
     if made.mode() & ALL_BITS == rights {
         return Ok(());
     }

@@ -1,29 +1,42 @@
 // How a project stands.
-use crate::files::read_file;
-use crate::refusal::{Refusal, read_named};
+use crate::changed::folder_lines;
+use crate::files::is_folder;
+use crate::refusal::{Given, Refusal, read_named};
 use crate::turns::{read_files, refusal_in};
 use crate::write_output;
 use usfm_cli::{CopyFile, Expected, TurnFault, project_progress, project_status};
 use usfm_ref::Book;
 
-// Says how a project stands, and what the copies that files are of have and lack.
-pub(crate) fn status(rt: &HostRuntime, project: &str, files: &[String]) -> Result<(), Refusal> {
-    match status_text(rt, project, files) {
+// Says how a project stands, what was changed in its folder, where the first file is one, and what the copies that files are of have
+// and lack.
+pub(crate) fn status(rt: &HostRuntime, path: &str, names: &[String]) -> Result<(), Refusal> {
+    let bytes = read_named(rt, path, Expected::Project)?;
+    let (folder, names) = match names {
+        [first, others @ ..] if is_folder(rt, first) => {
+            (folder_lines(rt, Given::of(path, &bytes), first)?, others)
+        }
+        _ => (Vec::new(rt.alloc()), names),
+    };
+    match status_text(rt, &bytes, &folder, names) {
         Ok(text) => Ok(write_output(rt, &text)?),
-        Err(TurnFault::Project(fault)) => Err(Refusal::of_project(rt, fault, project)),
-        Err(fault) => Err(refusal_in(rt, fault, files)),
+        Err(TurnFault::Project(fault)) => Err(Refusal::of_project(rt, fault, path)),
+        Err(fault) => Err(refusal_in(rt, fault, names)),
     }
 }
 
-fn status_text(rt: &HostRuntime, project: &str, names: &[String]) -> Result<Vec<u8>, TurnFault> {
-    let project = read_file(rt, project)?;
+fn status_text(
+    rt: &HostRuntime,
+    project: &[u8],
+    folder: &[u8],
+    names: &[String],
+) -> Result<Vec<u8>, TurnFault> {
     let files = read_files(rt, names)?;
     let copies: Vec<CopyFile<'_>> = names
         .iter()
         .zip(&files)
         .map(|(name, bytes)| CopyFile::new(name, bytes))
         .collect(rt.alloc())?;
-    project_status(rt.alloc(), &project, &copies)
+    project_status(rt.alloc(), project, folder, &copies)
 }
 
 // Says how far the chapters of a project's books are.

@@ -1,60 +1,54 @@
-// A folder of books' files: what was changed in it comes into the project, and the project's books go into it.
-use crate::folder::{BookFile, file_of, lock_books, read_books, say_no_book};
-use crate::own::{Kept, read_kept, write_names};
-use crate::placing::{Staged, place, put_base, refusal_of_failed, stage, unstage};
-use crate::project::lock_project;
-use crate::refusal::read_named;
-use crate::turns::{Refusal, read_files, refusal_in};
+// A folder of books' files: what was changed in it comes into the project, and the project's books go into it. What is to be done is
+// a plan, which is made of all that was read.
+use crate::files::Folder;
+use crate::project::{Project, lock_project};
+use crate::reading::{Given, NEXT, OWN, Read, read_folder, read_given};
+use crate::refusal::Refusal;
+use crate::steps::{Disk, Left, do_steps, sweep};
+use crate::team_box::open_box;
 use crate::write_output;
+use book_folder::{FolderFault, Place, Plan, Step, Wanted, Wishes, export_plan, make_plan};
 use std::io::Write;
-use std::mem;
-use usfm_cli::{
-    Command, Expected, Fault, Outcomes, Standing, StandingBook, TurnFault, exec_in_turn, makes,
-    project_standing, stand_in_turn, written_from,
-};
-use usfm_ref::Book;
+use usfm_cli::{Expected, Fault, SyncWords};
+use usfm_ref::{Book, RefFault, write_ref};
 
-// Takes in what was changed in a folder, and then bundles, and writes the books into the folder.
-//
-// The project is locked until it is replaced, and the folder until its files are. What was taken in is
-// not freed, since the program ends.
-pub(crate) fn sync(
-    rt: &HostRuntime,
-    project: &str,
-    folder: &str,
-    bundles: Vec<String>,
-    explains: bool,
-) -> Result<(), Refusal> {
-    let of_project = |fault| Refusal::of_project(rt, fault, project);
-    let locked = lock_project(rt, project).map_err(of_project)?;
-    let before = locked.read(rt).map_err(of_project)?;
-    let _held = lock_books(rt, folder)?;
-    let kept = read_kept(rt, folder)?;
-    let mut books = read_books(rt, folder, &kept)?;
-    if explains {
-        say_no_book(rt, folder, &books);
-    }
-    let given = read_files(rt, &bundles).map_err(|fault| refusal_in(rt, fault, &bundles))?;
-    find_bases(rt, &kept, &mut books.files)?;
-    let files = &books.files;
-    let (outcomes, stands) = take_in(rt, &before, &kept, files, &bundles, &given)?;
-    let chosen = all_books(rt, &stands)?;
-    let mut staged = stage(rt, folder, &kept, &books, &chosen)?;
-    if outcomes.project() != before.as_slice() {
-        if let Err(fault) = locked.replace(rt, outcomes.project()) {
-            unstage(rt, folder, &staged);
-            return Err(Refusal::of_project(rt, fault, project));
-        }
-    }
-    drop(locked);
-    place(rt, folder, files, &mut staged)?;
-    keep_left(rt, folder, &before, &kept, files, &staged)?;
-    write_names(rt, folder, &kept, files, &staged)?;
-    let told = told(rt, &kept, files, &outcomes, &staged, &stands)?;
-    let written = write_output(rt, &told);
-    mem::forget(outcomes);
-    written?;
-    refusal_of_failed(rt, &staged)
+// How often a folder is read anew that is changed while it is planned.
+const MOST_READINGS: usize = 3;
+
+// How many segments in conflict are named.
+const MOST_NAMED: usize = 20;
+
+// Takes in bundles and what was changed in a folder, and writes the books into the folder. The project and the folder are locked
+// until all is done.
+pub(crate) fn sync(rt: &HostRuntime, words: SyncWords, explains: bool) -> Result<(), Refusal> {
+    let wishes = wishes_of(rt, &words)?;
+    let path = words.project;
+    let (mut project, before) = open_project(rt, &path)?;
+    let folder = open_folder(rt, &words.folder)?;
+    folder.lock(rt);
+    let mut given = read_given(rt, words.bundles)?;
+    let shared = match &words.box_folder {
+        Some(name) => Some(open_box(rt, name, &path, &before, &mut given)?),
+        None => None,
+    };
+    let what = What {
+        rt,
+        folder: &folder,
+        path: &path,
+        project: &before,
+        given: &given,
+        wishes: &wishes,
+        is_try: words.is_try,
+        explains,
+    };
+    let (plan, left) = planned_and_done(what, None, &mut project)?;
+    let sent = match &shared {
+        Some(shared) if !words.is_try => shared.put(rt, project_after(&plan, &before)),
+        _ => Ok(()),
+    };
+    drop(project);
+    answer(what, &plan, &left)?;
+    sent
 }
 
 // Writes books into a folder, all where none is named. A file of theirs that was changed is refused.
@@ -65,297 +59,302 @@ pub(crate) fn export_into(
     books: &[Book],
     explains: bool,
 ) -> Result<(), Refusal> {
-    read_named(rt, project, Expected::Project)?;
-    let _held = lock_books(rt, folder)?;
-    let bytes = read_named(rt, project, Expected::Project)?;
-    let stands = project_standing(rt.alloc(), &bytes)?;
-    let chosen = chosen_books(rt, &stands, books)?;
-    let kept = read_kept(rt, folder)?;
-    let mut found = read_books(rt, folder, &kept)?;
-    if explains {
-        say_no_book(rt, folder, &found);
+    let path = project;
+    let (mut project, before) = open_project(rt, path)?;
+    let folder = open_folder(rt, folder)?;
+    folder.lock(rt);
+    let what = What {
+        rt,
+        folder: &folder,
+        path,
+        project: &before,
+        given: &read_given(rt, Vec::new(rt.alloc()))?,
+        wishes: &Wishes::none(rt.alloc()),
+        is_try: false,
+        explains,
+    };
+    let (plan, left) = planned_and_done(what, Some(books), &mut project)?;
+    drop(project);
+    answer(what, &plan, &left)
+}
+
+// What is synced, or exported.
+#[derive(Clone, Copy)]
+pub(crate) struct What<'a> {
+    pub(crate) rt: &'a HostRuntime,
+    pub(crate) folder: &'a Folder,
+    // How the line names the project, and its bytes.
+    pub(crate) path: &'a str,
+    pub(crate) project: &'a [u8],
+    pub(crate) given: &'a Given,
+    pub(crate) wishes: &'a Wishes,
+    pub(crate) is_try: bool,
+    // Whether what faults mean is said.
+    pub(crate) explains: bool,
+}
+
+// Waits for a project until no other command changes it, and reads it.
+fn open_project(rt: &HostRuntime, path: &str) -> Result<(Project, Vec<u8>), Refusal> {
+    let of_project = |fault| Refusal::of_project(rt, fault, path);
+    let project = lock_project(rt, path).map_err(of_project)?;
+    let bytes = project.read(rt).map_err(of_project)?;
+    Ok((project, bytes))
+}
+
+// Plans what is to be done, and does it, unless it is only tried; answers the plan, and the files that were left. Where books are
+// exported, nothing is taken in.
+fn planned_and_done(
+    what: What<'_>,
+    exported: Option<&[Book]>,
+    project: &mut Project,
+) -> Result<(Plan, Vec<Left>), Refusal> {
+    let (read, plan) = planned(what, exported)?;
+    if what.is_try {
+        return Ok((plan, Vec::new(what.rt.alloc())));
     }
-    find_bases(rt, &kept, &mut found.files)?;
-    let replaced = replaced_files(rt, &kept, &found.files, &chosen)?;
-    refuse_lost(rt, &bytes, &replaced)?;
-    let mut staged = stage(rt, folder, &kept, &found, &chosen)?;
-    place(rt, folder, &found.files, &mut staged)?;
-    write_names(rt, folder, &kept, &found.files, &staged)?;
-    let mut told = Vec::new(rt.alloc());
-    tell_placed(&mut told, &staged)?;
-    write_output(rt, &told)?;
-    refusal_of_failed(rt, &staged)
+    let disk = Disk {
+        rt: what.rt,
+        folder: what.folder,
+        project: what.path,
+        read: &read,
+    };
+    let left = do_steps(disk, project, &plan.steps)?;
+    sweep(disk)?;
+    Ok((plan, left))
 }
 
-// Finds out which of its bundles each file was written from, where there are two, and whether it is what that one makes.
-fn find_bases(rt: &HostRuntime, kept: &Kept, files: &mut Vec<BookFile>) -> Result<(), Refusal> {
-    for file in files.iter_mut() {
-        let newer = kept.newer_of(file.book);
-        let found = written_from(
-            rt.alloc(),
-            file.book,
-            &file.bytes,
-            kept.base_of(file.book),
-            newer,
-            file.is_unplaced,
-        );
-        match found {
-            Ok(from) => file.is_newer = newer.is_some() && from == newer,
-            Err(fault) => return Err(Refusal::at(rt, fault, &file.path)),
-        }
-        file.is_unchanged = match file.from(kept) {
-            Some(from) => { makes(rt.alloc(), from, file.book, &file.bytes).map_err(Fault::from)? }
-            None => false,
-        };
+// Says what was done, and which file could not be replaced.
+fn answer(what: What<'_>, plan: &Plan, left: &[Left]) -> Result<(), Refusal> {
+    for book in &plan.told.headless {
+        say_headless(what.rt, *book);
     }
-    Ok(())
+    write_output(what.rt, &told(what, plan, left)?)?;
+    refuse_failed(what, left)
 }
 
-// A file that is taken in, and the bundle that it was written from, where that is known.
-#[derive(Drop)]
-struct Taken<'a> {
-    file: &'a BookFile,
-    from: Option<&'a [u8]>,
+// Opens the folder that a line names.
+pub(crate) fn open_folder(rt: &HostRuntime, name: &str) -> Result<Folder, Refusal> {
+    Folder::open(rt, name).map_err(|fault| Refusal::expecting(rt, fault, name, Expected::Folder))
 }
 
-fn taken_files<'a>(
-    rt: &HostRuntime,
-    kept: &'a Kept,
-    files: &'a [BookFile],
-) -> Result<Vec<Taken<'a>>, Refusal> {
-    let mut taken = Vec::new(rt.alloc());
-    for file in files {
-        let from = file.from(kept);
-        taken.push(Taken { file, from }).map_err(Fault::from)?;
+fn wishes_of(rt: &HostRuntime, words: &SyncWords) -> Result<Wishes, Fault> {
+    let mut wishes = Wishes::none(rt.alloc());
+    wishes.emptied = words.emptied;
+    wishes.undone = words.undone;
+    wishes.stale = words.stale;
+    wishes.joined = words.joined;
+    for wanted in &words.settled {
+        wishes.settled.push(settled_of(*wanted))?;
     }
-    Ok(taken)
+    if let Some(form) = &words.form {
+        wishes.form = Some(form.clone()?);
+    }
+    Ok(wishes)
 }
 
-// The command that takes in a file: the whole of a new one, of one that was changed what was changed. Of one that was not, the
-// bundle that it was written from is received once more.
-fn take_of<'a>(taken: &Taken<'a>) -> Command<'a> {
-    match taken.from {
-        None => Command::ImportNew(&taken.file.bytes),
-        Some(base) if taken.file.is_unchanged => Command::Receive(base),
-        Some(base) => Command::ImportSince {
-            file: &taken.file.bytes,
-            base,
+// What a file settles, for the plan.
+fn settled_of(wanted: usfm_cli::Wanted) -> Wanted {
+    match wanted {
+        usfm_cli::Wanted::Whole(book) => Wanted { book, key: None },
+        usfm_cli::Wanted::One(book, key) => Wanted {
+            book,
+            key: Some(key),
         },
     }
 }
 
-// Receives the bundles that files were written from, so that no id of theirs is given once more, then takes in the files and
-// receives the bundles that are given; and says how the books stand then.
-fn take_in<'a>(
-    rt: &HostRuntime,
-    before: &[u8],
-    kept: &'a Kept,
-    files: &'a [BookFile],
-    bundles: &[String],
-    given: &'a [Vec<u8>],
-) -> Result<(Outcomes, Standing), Refusal> {
-    let bases = &kept.bundles;
-    let taken = taken_files(rt, kept, files)?;
-    let commands: Vec<Command<'a>> = bases
-        .iter()
-        .map(|base| Command::Receive(&base.bytes))
-        .chain(taken.iter().map(|one| take_of(one)))
-        .chain(given.iter().map(|bundle| Command::Receive(bundle)))
-        .collect(rt.alloc())
-        .map_err(Fault::from)?;
-    match stand_in_turn(rt.alloc(), before, &commands) {
-        Ok(made) => Ok(made),
-        Err(TurnFault::Project(fault)) => Err(Refusal::from(fault)),
-        Err(TurnFault::Turn(at, fault)) => {
-            let of_file = at.saturating_sub(bases.len());
-            let name = if let Some(base) = bases.get(at) {
-                Some(&base.path)
-            } else if let Some(file) = files.get(of_file) {
-                Some(&file.path)
-            } else {
-                bundles.get(of_file.saturating_sub(files.len()))
-            };
-            Err(match name {
-                Some(name) => Refusal::at(rt, fault, name),
-                None => Refusal::from(fault),
-            })
+// Reads the folder and plans what is done. Where a file is another one by then, all is read and planned anew; at the last time it is
+// left as it is.
+fn planned(what: What<'_>, exported: Option<&[Book]>) -> Result<(Read, Plan), Refusal> {
+    let mut made = read_and_plan(what, exported, true)?;
+    for _ in 1..MOST_READINGS {
+        let (read, plan) = &made;
+        if what.is_try || plan.steps.is_empty() || read.is_still(what.rt, what.folder)? {
+            break;
+        }
+        made = read_and_plan(what, exported, false)?;
+    }
+    Ok(made)
+}
+
+fn read_and_plan(
+    what: What<'_>,
+    exported: Option<&[Book]>,
+    is_said: bool,
+) -> Result<(Read, Plan), Refusal> {
+    let read = read_folder(what.rt, what.folder, is_said)?;
+    if is_said && what.explains {
+        read.say_no_book(what.rt, what.folder)?;
+    }
+    match plan_of(what, &read, exported) {
+        Ok(plan) => Ok((read, plan)),
+        Err(refusal) => Err(refusal_of(what, &read, refusal)),
+    }
+}
+
+// What is to be done with what was read.
+pub(crate) fn plan_of(
+    what: What<'_>,
+    read: &Read,
+    exported: Option<&[Book]>,
+) -> Result<Plan, book_folder::Refusal> {
+    let seen = read.seen(what.project, what.given);
+    match exported {
+        None => make_plan(what.rt.alloc(), &seen, what.wishes),
+        Some(books) => export_plan(what.rt.alloc(), &seen, what.wishes, books),
+    }
+}
+
+// The project's bytes after a plan.
+fn project_after<'a>(plan: &'a Plan, before: &'a [u8]) -> &'a [u8] {
+    let mut after = before;
+    for step in &plan.steps {
+        if let Step::ReplaceProject(bytes) = step {
+            after = bytes;
         }
     }
+    after
 }
 
-// For each file that was left: what it was when it was taken in becomes what its next change is looked at from.
-fn keep_left(
-    rt: &HostRuntime,
-    folder: &str,
-    before: &[u8],
-    kept: &Kept,
-    files: &[BookFile],
-    staged: &[Staged],
-) -> Result<(), Refusal> {
-    if !staged.iter().any(|one| one.is_left) {
-        return Ok(());
+// What is answered: what the bases, the bundles and the files brought, the files that were written or left, and what is in conflict.
+fn told(what: What<'_>, plan: &Plan, left: &[Left]) -> Result<Vec<u8>, Fault> {
+    let told = &plan.told;
+    let mut text = Vec::new(what.rt.alloc());
+    if told.base > 0 {
+        tell(writeln!(text, "new {} base", told.base))?;
     }
-    let (_outcomes, stands) = match take_in(rt, before, kept, files, &[], &[]) {
-        Ok(made) => made,
-        Err(refusal) => return memory_alone(refusal),
-    };
-    for one in staged.iter().filter(|one| one.is_left) {
-        let stood = stands.books().iter().find(|book| book.book() == one.book);
-        if let (Some(file), Some(stood)) = (file_of(files, one.book), stood) {
-            if file.bytes.as_slice() == stood.text() {
-                let put = put_base(rt, folder, file, stood.base());
-                put.map_err(|fault| Refusal::at(rt, fault, &one.path))?;
-            }
+    tell_bundles(what, plan, &mut text)?;
+    for added in &told.files {
+        tell(writeln!(text, "added {} {}", added.count, added.book))?;
+    }
+    for step in &plan.steps {
+        if let Step::Place(placing) = step {
+            let is_left = left.iter().any(|one| one.book == placing.book);
+            let word = if is_left { "left" } else { "wrote" };
+            let path = what.folder.name_of(what.rt, &placing.name)?;
+            tell(writeln!(text, "{word} {path}"))?;
         }
     }
-    Ok(())
+    if !told.conflicts.is_empty() || told.awaits {
+        tell(writeln!(text, "conflicts {}", told.conflicts.len()))?;
+    }
+    for (book, key) in told.conflicts.iter().take(MOST_NAMED) {
+        let segment = write_ref(what.rt.alloc(), *book, *key)?;
+        tell(writeln!(text, "conflict {segment}"))?;
+    }
+    Ok(text)
 }
 
-// A refusal for which there is nothing to keep is skipped; out of memory is not.
-fn memory_alone(refusal: Refusal) -> Result<(), Refusal> {
-    match refusal.fault {
-        Fault::Memory => Err(refusal),
-        _ => Ok(()),
-    }
-}
-
-fn all_books<'a>(rt: &HostRuntime, stands: &'a Standing) -> Result<Vec<&'a StandingBook>, Refusal> {
-    let mut books = Vec::new(rt.alloc());
-    for book in stands.books() {
-        books.push(book).map_err(Fault::from)?;
-    }
-    Ok(books)
-}
-
-// The books that are named, all where none is; one that the project does not have is refused.
-fn chosen_books<'a>(
-    rt: &HostRuntime,
-    stands: &'a Standing,
-    named: &[Book],
-) -> Result<Vec<&'a StandingBook>, Refusal> {
-    if named.is_empty() {
-        return all_books(rt, stands);
-    }
-    for book in named {
-        if !stands.books().iter().any(|stood| stood.book() == *book) {
-            return Err(Refusal::from(Fault::NoBook));
-        }
-    }
-    let mut books = Vec::new(rt.alloc());
-    for stood in stands.books() {
-        if named.contains(&stood.book()) {
-            books.push(stood).map_err(Fault::from)?;
-        }
-    }
-    Ok(books)
-}
-
-// A file that another text is to replace, and the bundle that it was written from, which makes it.
-#[derive(Drop)]
-struct Replaced<'a> {
-    file: &'a BookFile,
-    from: &'a [u8],
-}
-
-// The files of books that are other than they are to be. One that was changed since it was written is refused.
-fn replaced_files<'a>(
-    rt: &HostRuntime,
-    kept: &'a Kept,
-    files: &'a [BookFile],
-    books: &[&StandingBook],
-) -> Result<Vec<Replaced<'a>>, Refusal> {
-    let mut found = Vec::new(rt.alloc());
-    for book in books {
-        if let Some(file) = file_of(files, book.book()) {
-            if file.bytes.as_slice() == book.text() {
-                continue;
-            }
-            match file.from(kept) {
-                Some(from) if file.is_unchanged => {
-                    found.push(Replaced { file, from }).map_err(Fault::from)?;
-                }
-                _ => return Err(Refusal::at(rt, Fault::FileChanged, &file.path)),
-            }
-        }
-    }
-    Ok(found)
-}
-
-// Refuses a file that was written from operations which the project does not have, as one that was set back: the bundle
-// that it was written from brings the project something new.
-fn refuse_lost(rt: &HostRuntime, project: &[u8], replaced: &[Replaced<'_>]) -> Result<(), Refusal> {
-    if replaced.is_empty() {
-        return Ok(());
-    }
-    let commands: Vec<Command<'_>> = replaced
-        .iter()
-        .map(|one| Command::Receive(one.from))
-        .collect(rt.alloc())
-        .map_err(Fault::from)?;
-    let outcomes = match exec_in_turn(rt.alloc(), project, &commands) {
-        Ok(outcomes) => outcomes,
-        Err(TurnFault::Project(fault)) => return Err(Refusal::from(fault)),
-        Err(TurnFault::Turn(at, fault)) => {
-            return Err(match replaced.get(at) {
-                Some(one) => Refusal::at(rt, fault, &one.file.path),
-                None => Refusal::from(fault),
-            });
-        }
-    };
-    for (one, output) in replaced.iter().zip(outcomes.outputs()) {
-        if output.as_slice() != b"new 0\n".as_slice() {
-            return Err(Refusal::at(rt, Fault::FileChanged, &one.file.path));
-        }
-    }
-    Ok(())
-}
-
-// What a sync writes: what each file added and each bundle brought, the files that were written or left, and how many
-// segments are in conflict.
-fn told(
-    rt: &HostRuntime,
-    kept: &Kept,
-    files: &[BookFile],
-    outcomes: &Outcomes,
-    staged: &[Staged],
-    stands: &Standing,
-) -> Result<Vec<u8>, Refusal> {
-    let mut told = Vec::new(rt.alloc());
-    let bases = kept.bundles.len();
-    for (at, output) in outcomes.outputs().iter().enumerate() {
-        if at < bases {
+// What the bundles brought; of a copy's own in a box only where it brought something.
+fn tell_bundles(what: What<'_>, plan: &Plan, text: &mut Vec<u8>) -> Result<(), Fault> {
+    for (at, count) in plan.told.bundles.iter().enumerate() {
+        if *count == 0 && what.given.own == Some(at) {
             continue;
         }
-        match files.get(at - bases) {
-            Some(file) => tell_added(&mut told, output, file)?,
-            None => told.extend_from_slice(output).map_err(Fault::from)?,
+        match what.given.names.get(at) {
+            Some(name) if at >= what.given.named => tell(writeln!(text, "new {count} {name}"))?,
+            _ => tell(writeln!(text, "new {count}"))?,
         }
     }
-    tell_placed(&mut told, staged)?;
-    if let Some(count) = stands.conflicts() {
-        writeln!(told, "conflicts {count}").map_err(|_| Fault::Memory)?;
-    }
-    Ok(told)
+    Ok(())
 }
 
-// The line of a file in which something was changed: what its command wrote, and the book's code.
-fn tell_added(told: &mut Vec<u8>, output: &[u8], file: &BookFile) -> Result<(), Fault> {
-    let Some(line) = output.strip_suffix(b"\n") else {
-        return Ok(());
-    };
-    if !line.starts_with(b"added ") || line == b"added 0".as_slice() {
-        return Ok(());
-    }
-    told.extend_from_slice(line)?;
-    told.push(b' ')?;
-    told.extend_from_slice(&file.book.code())?;
-    Ok(told.push(b'\n')?)
+// A text that is written into memory fails for want of it alone.
+pub(crate) fn tell(written: std::io::Result<()>) -> Result<(), Fault> {
+    written.map_err(|_| Fault::Memory)
 }
 
-fn tell_placed(told: &mut Vec<u8>, staged: &[Staged]) -> Result<(), Fault> {
-    for one in staged.iter().filter(|one| one.has_file()) {
-        let word = if one.is_left { "left" } else { "wrote" };
-        writeln!(told, "{word} {}", one.path).map_err(|_| Fault::Memory)?;
+fn say_headless(rt: &HostRuntime, book: Book) {
+    let _ = writeln!(
+        rt.stderr(),
+        "no file is written for {book}: the project does not have the book's head, \
+        which begins with \\id"
+    );
+}
+
+// The refusal of the first file that could not be replaced.
+fn refuse_failed(what: What<'_>, left: &[Left]) -> Result<(), Refusal> {
+    for one in left {
+        if let Some(fault) = one.failed {
+            return Err(what.folder.refusal(what.rt, fault, &one.name));
+        }
     }
     Ok(())
+}
+
+// Why a plan is refused, and what is named.
+pub(crate) fn refusal_of(what: What<'_>, read: &Read, refusal: book_folder::Refusal) -> Refusal {
+    let place = match refusal {
+        book_folder::Refusal::Memory => None,
+        book_folder::Refusal::Of(place, _) => Some(place),
+    };
+    let fault = fault_of(refusal);
+    match place {
+        None => Refusal::from(fault),
+        Some(Place::Project) => Refusal::of_project(what.rt, fault, what.path),
+        Some(place) => match name_of(what, read, place) {
+            Ok(Some(name)) => Refusal::named(fault, name, expected_at(place)),
+            _ => Refusal::from(fault),
+        },
+    }
+}
+
+// What stands at a place is to be.
+fn expected_at(place: Place) -> Expected {
+    match place {
+        Place::Project => Expected::Project,
+        Place::Base(_) | Place::Next | Place::Older(_) | Place::Bundle(_) => Expected::Bundle,
+        Place::File(_) => Expected::BookFile,
+        Place::Other(_) | Place::Form => Expected::Unknown,
+    }
+}
+
+// How a person calls what a plan is refused for, if not the project.
+fn name_of(what: What<'_>, read: &Read, place: Place) -> Result<Option<String>, Fault> {
+    let own = |name: &str| {
+        let name = format!(in what.rt.alloc(); "{OWN}/{name}")?;
+        what.folder.name_of(what.rt, &name)
+    };
+    let name = match place {
+        Place::Project => return Ok(None),
+        Place::Base(at) => read.kept.base_names.get(at).map(|name| own(name)),
+        Place::Next => Some(own(NEXT)),
+        Place::Older(at) => read.kept.older_names.get(at).map(|name| own(name)),
+        Place::Bundle(at) => what.given.names.get(at).map(|name| Ok(name.clone()?)),
+        Place::File(at) => {
+            let file = read.files.get(at);
+            file.map(|file| what.folder.name_of(what.rt, &file.name))
+        }
+        Place::Other(at) => {
+            let other = read.others.get(at);
+            other.map(|name| what.folder.name_of(what.rt, name))
+        }
+        Place::Form => what.wishes.form.as_ref().map(|form| Ok(form.clone()?)),
+    };
+    name.transpose()
+}
+
+pub(crate) fn fault_of(refusal: book_folder::Refusal) -> Fault {
+    let book_folder::Refusal::Of(_, fault) = refusal else {
+        return Fault::Memory;
+    };
+    match fault {
+        FolderFault::Project(fault) => Fault::from(fault),
+        FolderFault::Bundle(fault) => Fault::from(fault),
+        FolderFault::Clash(id) => Fault::Clash(id),
+        FolderFault::NotText(valid) => Fault::NotText { valid },
+        FolderFault::FileChanged => Fault::FileChanged,
+        FolderFault::Emptied(count) => Fault::Emptied {
+            count: count as u64,
+        },
+        FolderFault::Undone(count) => Fault::Undone {
+            count: count as u64,
+        },
+        FolderFault::Unlike(count) => Fault::Unlike {
+            count: count as u64,
+        },
+        FolderFault::Edit(fault) => Fault::from(fault),
+        FolderFault::NoBook => Fault::NoBook,
+        FolderFault::BadForm => Fault::Reference(RefFault::BadBook),
+    }
 }

@@ -127,7 +127,7 @@ pub(crate) fn read_files(rt: &HostRuntime, names: &[String]) -> Result<Vec<Vec<u
 // its bytes are others, and only then, when others may go on, what each command writes is written. What
 // they made is not freed, since the program ends.
 fn change_in_turn(rt: &HostRuntime, path: &str, commands: &[Command<'_>]) -> Result<(), TurnFault> {
-    let project = lock_project(rt, path)?;
+    let mut project = lock_project(rt, path)?;
     let bytes = project.read(rt)?;
     let outcomes = exec_in_turn(rt.alloc(), &bytes, commands)?;
     if outcomes.project() != bytes.as_slice() {
@@ -139,7 +139,7 @@ fn change_in_turn(rt: &HostRuntime, path: &str, commands: &[Command<'_>]) -> Res
     Ok(written?)
 }
 
-// Writes outputs to standard output, one after another. It takes no memory.
+// Writes outputs to standard output, one after another. It does not allocate.
 fn write_outputs(rt: &HostRuntime, outputs: &[Vec<u8>]) -> Result<(), Fault> {
     let mut sink = StdSink::new(io::writer(rt));
     let mut gone = 0;

@@ -3,8 +3,9 @@ from typing import Optional
 
 from model.bundles import read_whole_bundle
 from model.faults import Fault
-from model.folders import base_of, book_begun, books_of, may_be_book
+from model.folders import book_begun, books_of, may_be_book
 from model.operations import export
+from model.plans import base_of
 from model.references import write_ref
 
 from .damage import damaged
@@ -34,7 +35,12 @@ class Syncing(Editing):
             name = self.rng.choice(sorted(bundles))
             bundles[name] = damaged(self.rng, bundles[name])
         for _ in range(self.rng.choice([1, 1, 2])):
-            self.step("sync", project, place, *names, **files, **bundles)
+            self.step("sync", project, place, *self.wishes(), *names, **files, **bundles)
+
+    def wishes(self) -> list[str]:
+        """What is said to be meant: mostly all of it, so that the play goes on; and now and then it is only tried."""
+        meant = ["--emptied", "--undone", "--join"] if self.rng.random() < 0.7 else []
+        return meant + (["--try"] if self.rng.random() < 0.1 else [])
 
     def set_back(self) -> None:
         """A project whose file is an older one of its own, while its folder stays as it was."""
@@ -82,6 +88,7 @@ class Syncing(Editing):
         files = self.begun(place)
         changes = [self.change_file] * 8 + [self.new_file, self.new_file, self.rename_file, self.take_away]
         changes += [self.copy_file, self.other_file, self.change_own, self.forget, self.cut_short]
+        changes += [self.older_version, self.other_ends, self.other_ends]
         for _ in range(self.rng.choice([0, 1, 1, 2, 3])):
             files.update(self.rng.choice(changes)(project, place))
         return files
@@ -150,13 +157,10 @@ class Syncing(Editing):
 
     def forget(self, project: str, place: str) -> Files:
         """A file that was changed, of which nobody knows what it was written from."""
-        files = self.change_file(project, place)
-        books = [book_begun(it) for it in files.values() if it is not None]
-        files.update({f"{place}/.usfm_team/{it}.bundle": None for it in books if it is not None})
-        return files
+        return {**self.change_file(project, place), f"{place}/.usfm_team/base": None}
 
     def cut_short(self, project: str, place: str) -> Files:
-        """What a sync leaves that was cut short: the bundle of a file that was to be written, or was."""
+        """What a sync leaves that was cut short: the next base, and the new file of a book that is not in its place, or is."""
         held = self.held(project)
         if self.bundles and self.rng.random() < 0.5:
             try:
@@ -167,11 +171,39 @@ class Syncing(Editing):
         if not books:
             return {}
         book = self.rng.choice(books)
-        files: Files = {f"{place}/.usfm_team/{book}.bundle.new": base_of(held, book)}
+        files: Files = {f"{place}/.usfm_team/next": base_of(held, books)} if self.rng.random() < 0.8 else {}
         chance = self.rng.random()
-        if chance < 0.3:
-            files[f"{place}/.usfm_team/{book}.usfm.new"] = export(held, book)
-        elif chance < 0.6:
+        if chance < 0.4:
+            files[f"{place}/.usfm_team/{book}.new"] = export(held, book)
+        elif chance < 0.7:
             found = [it for it in self.files_in(place) if book_begun(self.folder[it]) == book]
             files[found[0] if found else f"{place}/{book}.usfm"] = export(held, book)
         return files
+
+    def older_version(self, project: str, place: str) -> Files:
+        """The folder as an older version of the program left it: a bundle for each book."""
+        own = f"{place}/.usfm_team"
+        if f"{own}/base" not in self.folder:
+            return {}
+        try:
+            held = read_whole_bundle(self.folder[f"{own}/base"])
+        except Fault:
+            return {}
+        gone: Files = {it: None for it in self.folder if it.startswith(f"{own}/base") or it == f"{own}/next"}
+        return {**gone, **{f"{own}/{book}.bundle": base_of(held, [book]) for book in books_of(held)}}
+
+    def other_ends(self, project: str, place: str) -> Files:
+        """A file that an editor saves with other line ends, or with U+FEFF, and perhaps changed."""
+        found = self.files_in(place)
+        if not found:
+            return {}
+        path = self.rng.choice(found)
+        text = self.folder[path]
+        if self.rng.random() < 0.3:
+            try:
+                text = changed_book(self.rng, text)
+            except Fault:
+                pass
+        ends = self.rng.choice([b"\r\n", b"\n"])
+        mark = self.rng.choice([b"", b"", "\ufeff".encode()])
+        return {path: mark + text.removeprefix("\ufeff".encode()).replace(b"\r\n", b"\n").replace(b"\n", ends)}

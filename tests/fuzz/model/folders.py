@@ -4,36 +4,51 @@ from typing import Callable, Optional, Sequence
 
 from .bundles import read_whole_bundle, write_bundle
 from .faults import Fault, text_of
-from .operations import Set, awaited, conflict, export, has_book, keys_of, set_of, shown
-from .references import book_rank, read_book
+from .likes import in_manner_of, is_like
+from .operations import Set, conflict, export, has_book, join, keys_of, pick, picked_keys, set_of, shown
+from .references import Key, book_rank, read_book, write_ref
 from .replicas import Replica
-from .tokens import book_of
+from .tokens import book_of, cut
 
 ENDINGS = (".usfm", ".sfm")
+OLDER = ("base.1", "base.2", "base.3")
+# What an older version kept of a book, or left half written.
+OUTDATED = ("bundle", "bundle.new", "usfm.new", "bundle.made")
+# More gone texts than these are asked for, and so are two that are the last ones; and more new conflicts of what is strange.
+MOST_GONE, MOST_GONE_AT_THE_END, MOST_UNASKED = 10, 1, 10
 
 
 @dataclass
-class Kept:
-    """What the program keeps in a folder: of each book the bundles that its file may have been written from, by their paths, and
-    the names of the files."""
-
-    bundles: dict[str, bytes]
-    names: dict[str, str]
+class Wishes:
+    emptied: bool = False
+    undone: bool = False
+    joined: bool = False
+    is_try: bool = False
 
 
 @dataclass
 class BookFile:
-    """A book's file, and the bundle that it was written from, where that is known."""
+    """A book's file."""
 
     path: str
     book: str
     data: bytes
-    base: Optional[bytes]
-    # Whether the bundle stands alone in its place, with none beside it of a writing that was cut short.
-    is_settled: bool
 
 
-def within(path: str, call: Callable[..., bytes], *given: object) -> bytes:
+@dataclass
+class Kept:
+    """What the program keeps in a folder: bundles by their paths, the books of new files that are not in their places, the names of
+    files, and the paths of what is not needed any more."""
+
+    bases: dict[str, bytes]
+    next: dict[str, bytes]
+    older: dict[str, bytes]
+    unplaced: list[str]
+    names: dict[str, str]
+    outdated: list[str]
+
+
+def within(path: str, call: Callable, *given: object):
     """What a call gives for a file, which is named where it is refused."""
     try:
         return call(*given)
@@ -42,24 +57,34 @@ def within(path: str, call: Callable[..., bytes], *given: object) -> bytes:
         raise
 
 
-def own(place: str, book: str, ending: str) -> str:
-    """The path of what the program keeps of a book."""
-    return f"{place}/.usfm_team/{book}.{ending}"
+def of_path(path: str, number: int, *details: object) -> Fault:
+    fault = Fault(number, *details)
+    fault.file = path
+    return fault
+
+
+# ---- what is read
 
 
 def read_kept(folder: dict, place: str) -> Kept:
     """What the program keeps in a place."""
-    own_place = f"{place}/.usfm_team"
-    if own_place in folder:
-        raise changed(own_place)
-    found = sorted((it for it in folder if it.startswith(own_place + "/")), key=str.encode)
-    bundles = {it: folder[it] for it in found if is_own_bundle(it[len(own_place) + 1 :])}
-    return Kept(bundles, read_names(folder.get(f"{own_place}/names", b"")))
-
-
-def is_own_bundle(name: str) -> bool:
-    code, _, ending = name.partition(".")
-    return is_code(code) and ending in ("bundle", "bundle.new")
+    own = f"{place}/.usfm_team"
+    if own in folder:
+        raise of_path(own, 131)
+    found = sorted((it[len(own) + 1 :] for it in folder if it.startswith(own + "/")), key=str.encode)
+    codes = [(name, *name.split(".", 1)) for name in found if "." in name and is_code(name.split(".", 1)[0])]
+    at = {name: f"{own}/{name}" for name in found}
+    old = [name for name, _, ending in codes if ending == "bundle"]
+    bases = ["base"] if "base" in found else old
+    half = [name for name in found if name.endswith(".made")]
+    return Kept(
+        {at[it]: folder[at[it]] for it in bases},
+        {at[it]: folder[at[it]] for it in found if it == "next"},
+        {at[it]: folder[at[it]] for it in OLDER if it in found},
+        [code for _, code, ending in codes if ending == "new"],
+        read_names(folder.get(f"{own}/names", b"")),
+        [at[name] for name, _, ending in codes if ending in OUTDATED] + [at[it] for it in half],
+    )
 
 
 def is_code(word: str) -> bool:
@@ -72,25 +97,26 @@ def is_code(word: str) -> bool:
 def read_names(data: bytes) -> dict[str, str]:
     """The name of each book's file, as it was written down."""
     names: dict[str, str] = {}
-    for line in data.decode().split("\n"):
+    try:
+        text = text_of(data).decode()
+    except Fault:
+        return names
+    for line in text.split("\n"):
         code, _, name = line.partition(" ")
         if is_code(code) and may_be_book(name):
             names.setdefault(code, name)
     return names
 
 
-def write_names(folder: dict, place: str, names: dict[str, str]) -> None:
-    folder[f"{place}/.usfm_team/names"] = "".join(f"{book} {names[book]}\n" for book in sorted(names)).encode()
-
-
 def names_in(folder: dict, place: str) -> list[str]:
     """The paths of the files in a place that may be books', in the order of their bytes."""
-    if not any(it.startswith(place + "/") for it in folder):
-        fault = Fault(120)
-        fault.file = place
-        raise fault
     names = [it[len(place) + 1 :] for it in folder if it.startswith(place + "/")]
     return sorted((f"{place}/{it}" for it in names if may_be_book(it)), key=str.encode)
+
+
+def refuse_no_folder(folder: dict, place: str) -> None:
+    if not any(it.startswith(place + "/") for it in folder):
+        raise of_path(place, 120)
 
 
 def may_be_book(name: str) -> bool:
@@ -113,159 +139,159 @@ def front(data: bytes) -> bytes:
         return data[: fault.details[0]]
 
 
-def makes(bundle: bytes, book: str, data: bytes) -> bool:
-    """Whether a bundle gives this file for a book."""
-    try:
-        return export(read_whole_bundle(bundle), book) == data
-    except Fault:
-        return False
-
-
-def read_books(
-    folder: dict, place: str, kept: Kept, read: Callable[[dict, str], bytes], notes: list[bytes]
-) -> tuple[list[BookFile], list[str]]:
-    """The books' files of a place, and the paths of those that are skipped, which is noted."""
-    files, passed_over = [], []
+def read_files(folder: dict, place: str, read: Callable[[dict, str], bytes], notes: list[bytes]) -> list[BookFile]:
+    """The books' files of a place. What is skipped is noted."""
+    files = []
     for path in names_in(folder, place):
         data = within(path, read, folder, path)
         book = book_begun(data)
         if book is None:
             notes.append(b"skipped %s: it does not begin with \\id and a book's code\n" % path.encode())
-            passed_over.append(path)
-            continue
-        files.append(BookFile(path, book, data, folder.get(own(place, book, "bundle")), True))
-    refuse_two_of_one_book(place, kept, files)
-    for book, name in sorted(kept.names.items()):
-        path = f"{place}/{name}"
-        if is_there(folder, path) and not any((it.book, it.path) == (book, path) for it in files):
-            raise changed(path)
-    return files, passed_over
+        else:
+            files.append(BookFile(path, book, data))
+    return files
 
 
-def refuse_two_of_one_book(place: str, kept: Kept, files: Sequence[BookFile]) -> None:
-    """Of two files of one book the one that is not known as the book's is refused, else the later one."""
+def refuse_unclear(folder: dict, place: str, kept: Kept, files: Sequence[BookFile]) -> None:
+    """Refuses a second file of a book, the one that is not known as the book's, else the later one; and what stands under the name of a
+    book's file and is not that book's any more."""
     seen: dict[str, str] = {}
     for file in files:
         if file.book in seen:
             known = f"{place}/{kept.names.get(file.book)}"
-            raise changed(seen[file.book] if file.path == known else file.path)
+            raise of_path(seen[file.book] if file.path == known else file.path, 131)
         seen[file.book] = file.path
+    for book in sorted(kept.names, key=book_rank):
+        path = f"{place}/{kept.names[book]}"
+        if is_there(folder, path) and seen.get(book) != path:
+            raise of_path(path, 131)
 
 
 def is_there(folder: dict, path: str) -> bool:
     return any(it == path or it.startswith(path + "/") for it in folder)
 
 
-def changed(path: str) -> Fault:
-    fault = Fault(131)
-    fault.file = path
-    return fault
+# ---- what comes in
 
 
-def find_bases(folder: dict, place: str, files: Sequence[BookFile]) -> None:
-    """Finds which bundle each file was written from, where a writing that was cut short has left two."""
-    for file in files:
-        newer = folder.get(own(place, file.book, "bundle.new"))
-        if newer is None:
-            continue
-        file.is_settled = False
-        is_unplaced = own(place, file.book, "usfm.new") in folder
-        if makes(newer, file.book, file.data):
-            file.base = newer
-        elif not is_unplaced and (file.base is None or not makes(file.base, file.book, file.data)):
-            raise changed(file.path)
+def receive(replica: Replica, path: str, bundle: bytes, wishes: Wishes) -> int:
+    """Receives a bundle, and says how much was new; but not one that is strange and puts much in conflict."""
+    more = within(path, read_whole_bundle, bundle)
+    united = within(path, join, replica.held, more)
+    is_strange = bool(replica.held) and not any(id in replica.held for id in more)
+    if is_strange and not wishes.joined:
+        new = len(conflicts(united)) - len(conflicts(replica.held))
+        if new > MOST_UNASKED:
+            raise of_path(path, 134, new)
+    count = len(united) - len(replica.held)
+    replica.held = united
+    return count
 
 
-def take(replica: Replica, file: BookFile) -> bytes:
-    """Takes in what was changed in a file, and says how much it was, if anything."""
-    if file.base is None:
-        added = take_new(replica, file)
-    elif makes(file.base, file.book, file.data):
-        return b""
+def written_from(kept: Kept) -> Set:
+    """What the files were written from: the bases; of a book without a new file in the program's folder, the next base."""
+    held: Set = {}
+    for path, bundle in kept.bases.items():
+        held = within(path, join, held, within(path, read_whole_bundle, bundle))
+    for path, bundle in kept.next.items():
+        more = within(path, read_whole_bundle, bundle)
+        left = {id: it for id, it in held.items() if it.book in kept.unplaced}
+        held = within(path, join, left, {id: it for id, it in more.items() if it.book not in kept.unplaced})
+    return held
+
+
+def come_in(before: Replica, kept: Kept, files: Sequence[BookFile], bundles: dict, wishes: Wishes) -> tuple[Set, list, bytes]:
+    """Takes in all: what the files were written from, bundles, and files. Answers the first of these, the texts that files have in
+    the place of its, and what is said."""
+    held = len(before.held)
+    for path, bundle in kept.bases.items():
+        receive(before, path, bundle, wishes)
+    base = written_from(kept)
+    for path, bundle in kept.next.items():
+        before.held = within(path, join, before.held, read_whole_bundle(bundle))
+    told = b"new %d base\n" % (len(before.held) - held) if len(before.held) > held else b""
+    older = [within(path, read_whole_bundle, bundle) for path, bundle in kept.older.items()]
+    for name, bundle in bundles:
+        told += b"new %d\n" % receive(before, name, bundle, wishes)
+    stood: list[tuple[str, Key, bytes]] = []
+    for file in sorted(files, key=lambda it: not has_book(base, it.book)):
+        added = within(file.path, take_in, before, base, older, file, wishes, stood)
+        told += b"added %d %s\n" % (added, file.book.encode()) if added else b""
+    return base, stood, told
+
+
+def take_in(replica: Replica, base: Set, older: list[Set], file: BookFile, wishes: Wishes, stood: list) -> int:
+    """Takes in what was changed in a file, and says how many edits that is."""
+    data = text_of(file.data)
+    if has_book(base, file.book):
+        was = base
+    elif not has_book(replica.held, file.book):
+        note_stood(replica, {}, file.book, {it.key: it.text for it in cut(data)}, stood)
+        return count_of(replica.import_book(data))
+    elif is_like(export(replica.held, file.book), data):
+        was = replica.held
     else:
-        added = replica.import_since(file.data, file.base)
-    return b"" if added == b"added 0\n" else added[:-1] + b" %s\n" % file.book.encode()
-
-
-def take_new(replica: Replica, file: BookFile) -> bytes:
-    """Takes in a file of which nobody knows what it was written from: of a book that is not there, or its export."""
-    text_of(file.data)
-    if has_book(replica.held, file.book) and export(replica.held, file.book) != file.data:
         raise Fault(131)
-    return replica.import_book(file.data)
+    data = in_manner_of(export(was, file.book), data)
+    pieces = {it.key: restored(was, file.book, it.key, it.text) for it in cut(data)}
+    note_stood(replica, base, file.book, pieces, stood)
+    if was is not base:
+        return 0
+    if not wishes.undone:
+        refuse_undone(base, older, replica.name, file.book, pieces)
+    if not wishes.emptied:
+        refuse_emptied(base, file.book, pieces)
+    made = b"".join(pieces[it.key] for it in cut(data))
+    return count_of(replica.import_since(made, write_bundle(set_of(it for it in base.values()))))
 
 
-def base_of(held: Set, book: str) -> bytes:
-    """The bundle of what a book shows."""
-    return write_bundle(set_of(it for key in keys_of(held, book) for it in shown(held, book, key)))
+def count_of(told: bytes) -> int:
+    return int(told.split()[1])
+
+
+def restored(held: Set, book: str, key: Key, text: bytes) -> bytes:
+    """A piece of a file as the one text that is shown and picked has it, if it is like that one."""
+    showing = shown(held, book, key)
+    stands = showing[-1].text if showing else b""
+    return stands if stands and pick(held, book, key) == stands and is_like(stands, text) else text
+
+
+def note_stood(replica: Replica, base: Set, book: str, pieces: dict[Key, bytes], stood: list) -> None:
+    """Notes the segments in which a file has another text than what it was written from."""
+    for key in sorted(set(picked_keys(replica.held, book)) | set(pieces)):
+        text = pieces.get(key, b"")
+        if pick(base, book, key) != text:
+            stood.append((book, key, text))
+
+
+def refuse_emptied(base: Set, book: str, pieces: dict[Key, bytes]) -> None:
+    full = [it for it in keys_of(base, book) if pick(base, book, it)]
+    gone = [it for it in full if not pieces.get(it)]
+    are_last = full[len(full) - len(gone) :] == gone
+    if len(gone) > MOST_GONE or len(gone) > MOST_GONE_AT_THE_END and are_last:
+        raise Fault(132, len(gone))
+
+
+def refuse_undone(base: Set, older: list[Set], own: str, book: str, pieces: dict[Key, bytes]) -> None:
+    for held in older:
+        if not has_book(held, book):
+            continue
+        came = []
+        for key in keys_of(base, book):
+            # What is picked, where that is not a chapter's line that nobody wrote.
+            showing = shown(base, book, key)
+            if showing and pick(base, book, key) == showing[-1].text and showing[-1].id.name != own:
+                if not is_like(pick(held, book, key), showing[-1].text):
+                    came.append((key, showing[-1].text))
+        kept = any(is_like(pieces.get(key, b""), text) for key, text in came)
+        if not kept and any(is_like(pieces.get(key, b""), pick(held, book, key)) for key, _ in came):
+            raise Fault(133, len(came))
 
 
 def books_of(held: Set) -> list[str]:
     return sorted({it.book for it in held.values()}, key=book_rank)
 
 
-def put_books(
-    folder: dict,
-    place: str,
-    kept: Kept,
-    found: tuple[list[BookFile], list[str]],
-    held: Set,
-    books: Sequence[str],
-    notes: list[bytes],
-) -> bytes:
-    """Writes books into their files, and says which were written. One whose file's name another file has is refused, and one of
-    which it is not known which file it had, where a file is skipped. A book without its head gets no file."""
-    files, passed_over = found
-    by_book = {it.book: it for it in files}
-    whole = [it for it in books if book_begun(export(held, it)) == it]
-    paths = {book: by_book[book].path if book in by_book else f"{place}/{kept.names.get(book, book + '.usfm')}" for book in whole}
-    for book, path in paths.items():
-        if book not in by_book:
-            if passed_over and book not in kept.names and own(place, book, "bundle") in kept.bundles:
-                raise changed(passed_over[0])
-            if is_there(folder, path):
-                raise changed(path)
-    for book in books:
-        if book not in whole:
-            notes.append(b"no file is written for %s: the project does not have the book's head, which begins with \\id\n" % book.encode())
-    told = b""
-    for book, path in paths.items():
-        text, base = export(held, book), base_of(held, book)
-        file = by_book.get(book)
-        for ending in ("usfm.new", "bundle.made"):
-            folder.pop(own(place, book, ending), None)
-        if file is None or file.data != text:
-            folder[path] = text
-            told += b"wrote %s\n" % path.encode()
-        if file is None or not file.is_settled or file.base != base:
-            folder[own(place, book, "bundle")] = base
-            folder.pop(own(place, book, "bundle.new"), None)
-    named = {it.book: it.path[len(place) + 1 :] for it in files}
-    named.update((book, path[len(place) + 1 :]) for book, path in paths.items())
-    if {**kept.names, **named} != kept.names:
-        write_names(folder, place, {**kept.names, **named})
-    return told
-
-
-def conflicts(held: Set) -> bytes:
-    """How many segments are in conflict, where there is something to report."""
-    count = sum(bool(conflict(held, book, key)) for book in books_of(held) for key in keys_of(held, book))
-    return b"conflicts %d\n" % count if count or awaited(held) else b""
-
-
-def refuse_changed(held: Set, files: Sequence[BookFile], books: Sequence[str]) -> None:
-    """Refuses a file that would lose something: what was changed in it, or what it was written from."""
-    replaced = []
-    for book in books:
-        for file in files:
-            if file.book == book and file.data != export(held, book):
-                if file.base is None or not makes(file.base, book, file.data):
-                    raise changed(file.path)
-                replaced.append(file)
-    news = []
-    copy = Replica("a", held)
-    for file in replaced:
-        news.append((file, within(file.path, copy.receive, file.base)))
-    for file, new in news:
-        if new != b"new 0\n":
-            raise changed(file.path)
+def conflicts(held: Set) -> list[str]:
+    """The segments that are in conflict."""
+    return [write_ref(book, key) for book in books_of(held) for key in keys_of(held, book) if conflict(held, book, key)]

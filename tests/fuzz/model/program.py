@@ -2,8 +2,7 @@
 from dataclasses import dataclass
 from typing import Callable, Optional, Sequence, Union
 
-from . import folders
-from . import looks
+from . import folders, looks, plans
 from .bundles import write_project
 from .faults import Fault
 from .references import read_book, read_id, read_name, read_ref
@@ -59,6 +58,8 @@ SHAPES: dict[str, tuple[Callable, ...]] = {
 }
 # The subcommands that take more words of the last kind, or ids.
 OPEN_ENDED = ("import", "receive", "sync", "edit-over", "status")
+# What is said to mean something, or to be only tried.
+WISHES = {"--emptied": "emptied", "--undone": "undone", "--join": "joined", "--try": "is_try"}
 # The option that a subcommand has, and the least number of words beside it.
 OPTIONS = {"import": ("--since", 2), "export": ("--into", 1), "edit-over": ("--text-of", 2)}
 
@@ -174,39 +175,37 @@ def stand(folder: Folder, project: str, names: Sequence[str]) -> bytes:
     return status(replica.name, replica.held, files)
 
 
-def sync(folder: Folder, project: str, place: str, names: Sequence[str], notes: list[bytes]) -> bytes:
-    """Takes in what was changed in a folder of files, and bundles, and writes the books there."""
+def sync(folder: Folder, project: str, place: str, words: Sequence[str], notes: list[bytes]) -> bytes:
+    """Takes in bundles, and what was changed in a folder of files, and writes the books there."""
+    names = [it for it in words if it not in WISHES]
+    wishes = folders.Wishes(**{WISHES[it]: True for it in words if it in WISHES})
     before = read_file(folder, project)
+    folders.refuse_no_folder(folder, place)
+    bundles = [(it, folders.within(it, read_file, folder, it)) for it in names]
     kept = folders.read_kept(folder, place)
-    found = folders.read_books(folder, place, kept, read_file, notes)
-    files, _ = found
-    bundles = [folders.within(it, read_file, folder, it) for it in names]
-    folders.find_bases(folder, place, files)
+    files = folders.read_files(folder, place, read_file, notes)
+    folders.refuse_unclear(folder, place, kept, files)
     replica = load(before)
-    for path, bundle in kept.bundles.items():
-        folders.within(path, replica.receive, bundle)
-    told = b"".join(folders.within(it.path, folders.take, replica, it) for it in files)
-    told += b"".join(folders.within(name, replica.receive, it) for name, it in zip(names, bundles))
-    told += folders.put_books(folder, place, kept, found, replica.held, folders.books_of(replica.held), notes)
-    folder[project] = save(replica)
-    return told + folders.conflicts(replica.held)
+    plan = plans.sync_plan(folder, place, replica, kept, files, bundles, wishes)
+    if not wishes.is_try:
+        plans.do(folder, place, kept, plan)
+        folder[project] = save(replica)
+    notes += plan.notes
+    return plan.told
 
 
 def export_into(folder: Folder, project: str, place: str, named: Sequence[str], notes: list[bytes]) -> bytes:
     """Writes books into the files of a folder, all where none is named."""
     before = read_file(folder, project)
-    folders.names_in(folder, place)
-    held = load(before).held
-    begun = folders.books_of(held)
-    if not set(named) <= set(begun):
-        raise Fault(82)
+    folders.refuse_no_folder(folder, place)
     kept = folders.read_kept(folder, place)
-    found = folders.read_books(folder, place, kept, read_file, notes)
-    files, _ = found
-    folders.find_bases(folder, place, files)
-    books = [it for it in begun if it in named or not named]
-    folders.refuse_changed(held, files, books)
-    return folders.put_books(folder, place, kept, found, held, books, notes)
+    files = folders.read_files(folder, place, read_file, notes)
+    replica = load(before)
+    folders.refuse_unclear(folder, place, kept, files)
+    plan = plans.export_plan(folder, place, replica, kept, files, named)
+    plans.do(folder, place, kept, plan)
+    notes += plan.notes
+    return plan.told
 
 
 def of_file(names: Sequence[str], name: str, call: Callable[..., bytes], *given: object) -> bytes:

@@ -20,19 +20,15 @@ use Rattle.replica_state.specs.States.{State}
 use Rattle.replica_state.specs.Since.{imported_since}
 use Rattle.replica_state.specs.World.{World, Event, Edits, EditsOver, Imports, Thins, Summarizes, Bundles, Receives, IsWithin, world, replica}
 use Rattle.replica_state.specs.World.Calls.{since_events, all_happen}
-use Rattle.usfm_cli.specs.Commands.{is_other, text_shown}
+use Rattle.usfm_cli.specs.Commands.{text_shown}
 use Rattle.usfm_cli.specs.Schedules.{Files, FileCommand, files}
 use Rattle.usfm_cli.specs.declared.command.Command.{Command}
-use Rattle.usfm_cli.specs.declared.command.Command.TheVariants.{Import, ImportSince, ImportNew}
+use Rattle.usfm_cli.specs.declared.command.Command.TheVariants.{Import, ImportSince}
 use Rattle.usfm_cli.specs.declared.command.Command.TheVariants.{Edit, EditOver, EditWith, Receive}
 use Rattle.usfm_cli.specs.declared.command.Command.TheVariants.{Thin, Send, Summary, Delta}
 use Rattle.usfm_cli.proofs.Schedules.Places.{place_in}
 
 -- ---- the events of a command, the first of which comes first; none where it is refused, or only reports
-
-abbrev pub new_import : List ℕ → List Operation → List ℕ → Result (List ℕ) BookFault → List Event
-new_import name held file (Err fault) = []
-new_import name held file (Ok book) = cond (is_other held book file) [] (Imports name file ∷ [])
 
 -- an edit over given ids by the text of a shown operation, if the segment shows it
 abbrev pub copying : List ℕ → Segment → List Id → Option (List ℕ) → List Event
@@ -64,8 +60,6 @@ abbrev pub events_of : Files → World → List ℕ → Command → List Event
 events_of w v name (Import file) = cond (is_utf8 file.now) (Imports name file.now ∷ []) []
 events_of w v name (ImportSince file base) =
     cond (is_utf8 file.now) (importing v name file.now (place_in w.bundles base.now)) []
-events_of w v name (ImportNew file) =
-    cond (is_utf8 file.now) (new_import name (v.held name) file.now (book_in file.now)) []
 events_of w v name (Edit book key text) = cond (is_utf8 text.now) (Edits name (segment book key) text.now ∷ []) []
 events_of w v name (EditOver book key text ids) =
     cond (is_utf8 text.now) (EditsOver name (segment book key) text.now ids.now ∷ []) []

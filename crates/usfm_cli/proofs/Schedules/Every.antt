@@ -24,7 +24,7 @@ use Rattle.replica_state.specs.World.Calls.{all_happen}
 use Rattle.replica_state.specs.World.Exchanges as exchanges
 use Rattle.replica_state.proofs.World.Sets.{since_within}
 use Rattle.conflict_report.specs.Reports.{report}
-use Rattle.usfm_cli.specs.Commands.{is_other, text_shown, shown_text, export_text, outcome}
+use Rattle.usfm_cli.specs.Commands.{text_shown, shown_text, export_text, outcome}
 use Rattle.usfm_cli.specs.SheetReports.{checked, searched, listed}
 use Rattle.usfm_cli.specs.Projects.{Written, written}
 use Rattle.usfm_cli.specs.Schedules.{Files, FileCommand, files, with_written, IsGiven, AreDone, IsFileOf}
@@ -33,9 +33,9 @@ use Rattle.usfm_cli.specs.declared.command.Command.{Command}
 use Rattle.usfm_cli.specs.declared.command.Command.TheVariants as command
 use Rattle.usfm_cli.specs.declared.fault.Fault.{Fault}
 use Rattle.usfm_cli.proofs.Schedules.Places.{place_in}
-use Rattle.usfm_cli.proofs.Schedules.Events.{new_import, copying, receiving, answering, since_if, since_at, importing, events_of, events}
+use Rattle.usfm_cli.proofs.Schedules.Events.{copying, receiving, answering, since_if, since_at, importing, events_of, events}
 use Rattle.usfm_cli.proofs.Schedules.Events.{onto_happens, onto_within, onto_grows}
-use Rattle.usfm_cli.proofs.Schedules.Mirrors.{Mirrors, sets, loads, does, only_told, imports, imports_new, edits, edits_over, edits_with}
+use Rattle.usfm_cli.proofs.Schedules.Mirrors.{Mirrors, sets, loads, does, only_told, imports, edits, edits_over, edits_with}
 use Rattle.usfm_cli.proofs.Schedules.Mirrors.{thins, sends, answers, sums_up, receives}
 use Rattle.usfm_cli.proofs.Schedules.Since.{imports_since}
 use Rattle.usfm_cli.proofs.Schedules.Copied.{shown_is_text}
@@ -50,19 +50,6 @@ module _ (w : Files) (past : List Event) (within : AllByRecursion IsWithin past)
   import_within : (file : List ℕ) (b : Bool) → is_utf8 file ≡ b → Within (cond b (Imports name file ∷ []) [])
   import_within file true e = ((named, IsUtf8-from_is_utf8 file e), tt)
   import_within file false e = tt
-
-  new_within : (file : List ℕ) (b : Bool) → is_utf8 file ≡ b
-      → Within (cond b (new_import name ((world past).held name) file (book_in file)) [])
-  new_within file true e = of_book (book_in file)
-    where
-      of_book : (r : Result (List ℕ) BookFault) → Within (new_import name ((world past).held name) file r)
-      of_book (Err fault) = tt
-      of_book (Ok book) = by (is_other ((world past).held name) book file)
-        where
-          by : (b : Bool) → Within (cond b [] (Imports name file ∷ []))
-          by true = tt
-          by false = ((named, IsUtf8-from_is_utf8 file e), tt)
-  new_within file false e = tt
 
   since_all_within : (file base : List ℕ) (b : Bool) → is_utf8 file ≡ b
       → Within (cond b (importing (world past) name file (place_in w.bundles base)) [])
@@ -119,7 +106,6 @@ module _ (w : Files) (past : List Event) (within : AllByRecursion IsWithin past)
   all_within : (c : Command) → IsGiven w c → Within (events_of w (world past) name c)
   all_within (command.Import file) g = import_within file.now (is_utf8 file.now) refl
   all_within (command.ImportSince file base) g = since_all_within file.now base.now (is_utf8 file.now) refl
-  all_within (command.ImportNew file) g = new_within file.now (is_utf8 file.now) refl
   all_within (command.Edit book key text) g = by (is_utf8 text.now) refl
     where
       by : (b : Bool) → is_utf8 text.now ≡ b → Within (cond b (Edits name (segment book key) text.now ∷ []) [])
@@ -151,7 +137,6 @@ module _ (w : Files) (past : List Event) (within : AllByRecursion IsWithin past)
         (all_happen (world past) (events_of w (world past) name c))
     goes (command.Import file) g = imports w past within m name named short file
     goes (command.ImportSince file base) g = imports_since w past within m name named short file base g
-    goes (command.ImportNew file) g = imports_new w past within m name named short file
     goes (command.Edit book key text) g = edits w past within m name named short book key text
     goes (command.EditOver book key text ids) g = edits_over w past within m name named short book key text ids
     goes (command.EditWith book key of ids) g = edits_with w past within m name named short book key of ids

@@ -45,16 +45,16 @@ use Rattle.project_file.specs.declared.fault.LoadFault.{LoadFault}
 use Rattle.project_file.specs.Projects.{project, project_at}
 use Rattle.project_file.proofs.Files.{project_again}
 use Rattle.usfm_cli.specs.Commands as commands
-use Rattle.usfm_cli.specs.Commands.{done, done_if, reply_line, delta_for, import_unless_other, is_other, text_shown, edit_by_text, outcome}
+use Rattle.usfm_cli.specs.Commands.{done, done_if, reply_line, delta_for, text_shown, edit_by_text, outcome}
 use Rattle.usfm_cli.specs.Projects.{Written, written, of_loaded, executed}
 use Rattle.usfm_cli.specs.Schedules.{Files, IsWritten, IsFrontOf, bundles_with, summaries_with, with_written}
 use Rattle.usfm_cli.specs.declared.command.Command.{Command}
-use Rattle.usfm_cli.specs.declared.command.Command.TheVariants.{Import, ImportNew, Edit, EditOver, EditWith, Receive}
+use Rattle.usfm_cli.specs.declared.command.Command.TheVariants.{Import, Edit, EditOver, EditWith, Receive}
 use Rattle.usfm_cli.specs.declared.command.Command.TheVariants.{Thin, Send, Summary, Delta}
 use Rattle.usfm_cli.specs.declared.fault.Fault.{Fault}
-use Rattle.usfm_cli.specs.declared.fault.Fault.TheVariants.{NotText, FileChanged}
+use Rattle.usfm_cli.specs.declared.fault.Fault.TheVariants.{NotText}
 use Rattle.usfm_cli.proofs.Schedules.Places.{place_in, place_is, place_there, mapped_at}
-use Rattle.usfm_cli.proofs.Schedules.Events.{new_import, copying, receiving, answering, events_of}
+use Rattle.usfm_cli.proofs.Schedules.Events.{copying, receiving, answering, events_of}
 use Rattle.usfm_cli.proofs.SummariesRead.{summary_again}
 
 -- Each file is that of a replica of the world, and what was written is what was made there; each summary is that of a set.
@@ -248,30 +248,6 @@ module _ (w : Files) (past : List Event) (within : AllByRecursion IsWithin past)
             (written (cond b (done (step s (steps.Import file.now))) (Err (NotText (utf8_valid_len file.now)))))
             (all_happen (world past) (cond b (Imports name file.now ∷ []) []))
         by true = takes_in (Import file) file.now (λ output xs. (refl, refl))
-        by false = m
-
-    pub imports_new : (file : Bor (List ℕ))
-        → After (ImportNew file) (written (outcome s (ImportNew file)))
-        (all_happen (world past) (events_of w (world past) name (ImportNew file)))
-    imports_new file = by (is_utf8 file.now)
-      where
-        unless_other : (b : Bool)
-            → After (ImportNew file) (written (cond b (Err FileChanged) (done (step s (steps.Import file.now)))))
-            (all_happen (world past) (cond b [] (Imports name file.now ∷ [])))
-        unless_other true = m
-        unless_other false = takes_in (ImportNew file) file.now (λ output xs. (refl, refl))
-
-        of_book : (r : Result (List ℕ) BookFault)
-            → After (ImportNew file) (written (import_unless_other s file.now r))
-            (all_happen (world past) (new_import name s.held file.now r))
-        of_book (Err fault) = m
-        of_book (Ok book) = unless_other (is_other s.held book file.now)
-
-        by : (b : Bool)
-            → After (ImportNew file)
-            (written (cond b (import_unless_other s file.now (book_in file.now)) (Err (NotText (utf8_valid_len file.now)))))
-            (all_happen (world past) (cond b (new_import name s.held file.now (book_in file.now)) []))
-        by true = of_book (book_in file.now)
         by false = m
 
     pub edits : (book : List ℕ) (key : KeyParts) (text : Bor (List ℕ))

@@ -36,7 +36,7 @@ use Rattle.replica_state.proofs.World.Exchanges.{relay_tells}
 use Rattle.replica_state.proofs.World.Shows.{all_agree_in_the_end}
 use Rattle.conflict_report.specs.Reports.{report}
 use Rattle.conflict_report.proofs.Worlds.{all_report}
-use Rattle.usfm_cli.specs.Commands.{is_other, text_shown}
+use Rattle.usfm_cli.specs.Commands.{text_shown}
 use Rattle.usfm_cli.specs.Projects.{executed}
 use Rattle.usfm_cli.specs.ExecLaws.{output_of}
 use Rattle.usfm_cli.specs.Schedules.{Files, FileCommand, files, IsFrontOf, AreDone, IsFileOf}
@@ -48,7 +48,7 @@ use Rattle.usfm_cli.proofs.ReadTheSame.{exported, reported}
 use Rattle.usfm_cli.proofs.ReadAlike.{texts_alike}
 use Rattle.usfm_cli.proofs.SummariesRead.{delta_answers}
 use Rattle.usfm_cli.proofs.Schedules.Places.{place_in, place_is}
-use Rattle.usfm_cli.proofs.Schedules.Events.{new_import, copying, receiving, answering, since_if, since_at, importing, events_of}
+use Rattle.usfm_cli.proofs.Schedules.Events.{copying, receiving, answering, since_if, since_at, importing, events_of}
 use Rattle.usfm_cli.proofs.Schedules.Events.{onto, events, onto_all, onto_grows_all}
 use Rattle.usfm_cli.proofs.Schedules.Every.{mirrored, is_replica, done_at, before, before_all}
 use Rattle.usfm_cli.proofs.Schedules.Mirrors.{sets, state, loads, does, made_at, cut_at, short_front, is_proper}
@@ -211,16 +211,6 @@ module _ (is_there : List ℕ → Bool) (w : Files) (v : World) (name : List ℕ
   one_passes e there true = and_from (world_of.edits_at is_there e) true there refl
   one_passes e there false = refl
 
-  new_passes : (file : List ℕ) → is_there name ≡ true → (r : Result (List ℕ) BookFault) → (b : Bool)
-      → Passes is_there (cond b (new_import name (v.held name) file r) [])
-  new_passes file there r false = refl
-  new_passes file there (Err fault) true = refl
-  new_passes file there (Ok book) true = by (is_other (v.held name) book file)
-    where
-      by : (b : Bool) → Passes is_there (cond b [] (world_of.Imports name file ∷ []))
-      by true = refl
-      by false = and_from (is_there name) true there refl
-
   since_passes : (file : List ℕ) → is_there name ≡ true → (p : Option ℕ) → (b : Bool)
       → Passes is_there (cond b (importing v name file p) [])
   since_passes file there p false = refl
@@ -252,7 +242,6 @@ module _ (is_there : List ℕ → Bool) (w : Files) (v : World) (name : List ℕ
   passes : (c : Command) → edits_at is_there (record { name = name; command = c }) ≡ true → Passes is_there (events_of w v name c)
   passes (command.Import file) h = one_passes (world_of.Imports name file.now) h (is_utf8 file.now)
   passes (command.ImportSince file base) h = since_passes file.now h (place_in w.bundles base.now) (is_utf8 file.now)
-  passes (command.ImportNew file) h = new_passes file.now h (book_in file.now) (is_utf8 file.now)
   passes (command.Edit book key text) h = one_passes (world_of.Edits name (segment book key) text.now) h (is_utf8 text.now)
   passes (command.EditOver book key text ids) h =
       one_passes (world_of.EditsOver name (segment book key) text.now ids.now) h (is_utf8 text.now)

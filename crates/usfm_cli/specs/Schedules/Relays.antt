@@ -12,7 +12,7 @@ use Rattle.usfm_cli.specs.Projects.{executed}
 use Rattle.usfm_cli.specs.ExecLaws.{output_of, ReadTheSame}
 use Rattle.usfm_cli.specs.Schedules.{FileCommand, files, AreDone, IsFileOf}
 use Rattle.usfm_cli.specs.declared.command.Command.{Command}
-use Rattle.usfm_cli.specs.declared.command.Command.TheVariants.{Import, ImportSince, ImportNew}
+use Rattle.usfm_cli.specs.declared.command.Command.TheVariants.{Import, ImportSince}
 use Rattle.usfm_cli.specs.declared.command.Command.TheVariants.{Edit, EditOver, EditWith, Receive}
 use Rattle.usfm_cli.specs.declared.command.Command.TheVariants.{Send, Summary, Delta}
 
@@ -83,7 +83,6 @@ RelaysTell =
 abbrev pub if_edit : Command → Bool → Bool
 if_edit (Import file) said = said
 if_edit (ImportSince file base) said = said
-if_edit (ImportNew file) said = said
 if_edit (Edit book key text) said = said
 if_edit (EditOver book key text ids) said = said
 if_edit (EditWith book key of ids) said = said

@@ -6,12 +6,12 @@ use crate::explaining::circumstances::{Circumstances, Expected, Found};
 use crate::explaining::sentences::{
     BAD_ID, BAD_KEY, BAD_NAME, BAD_OPERATION, BAD_REPLACED, BAD_SEGMENT, BAD_STYLE_TYPE, BAD_TAG,
     BAD_TEXT, BOOK_NOT_BUNDLE, BOOK_NOT_PROJECT, BUNDLE_NOT_BOOK, BUNDLE_NOT_PROJECT,
-    BUNDLE_NOT_SUMMARY, CLASH, DAMAGED_PROJECT, EMPTY_MARKER, EMPTY_NEEDLE, FIELD_BEFORE_MARKER,
-    FILE_CHANGED, FILE_FAILED, IN_CAPITALS, IS_FILE, IS_FOLDER, IS_THERE, MEMORY, NO_BOOK,
-    NO_BUNDLE, NO_CODE, NO_FOLDER_THERE, NO_ID, NO_PROJECT, NO_PROJECT_THERE, NO_REFERENCE,
-    NO_SUMMARY, NOT_RISING, NOT_SHOWN, NOT_TEXT, NOTHING_THERE, NUMBERS_USED_UP,
+    BUNDLE_NOT_SUMMARY, CLASH, DAMAGED_PROJECT, EMPTIED, EMPTY_MARKER, EMPTY_NEEDLE,
+    FIELD_BEFORE_MARKER, FILE_CHANGED, FILE_FAILED, IN_CAPITALS, IS_FILE, IS_FOLDER, IS_THERE,
+    MEMORY, NO_BOOK, NO_BUNDLE, NO_CODE, NO_FOLDER_THERE, NO_ID, NO_PROJECT, NO_PROJECT_THERE,
+    NO_REFERENCE, NO_SUMMARY, NOT_RISING, NOT_SHOWN, NOT_TEXT, NOTHING_THERE, NUMBERS_USED_UP,
     PROJECT_NOT_BUNDLE, READ_FAILED, SUMMARY_NOT_BUNDLE, SUMMARY_NOT_PROJECT, TEXT_NOT_UTF8,
-    TOO_LONG, TRAILING, TRUNCATED, UNSUPPORTED, WRITE_FAILED,
+    TOO_LONG, TRAILING, TRUNCATED, UNDONE, UNLIKE, UNSUPPORTED, WRITE_FAILED,
 };
 use crate::fault::Fault;
 use bundle_codec::BundleFault;
@@ -40,7 +40,7 @@ impl fmt::Display for Explanation {
     }
 }
 
-/// What a person reads of a fault, by what is known beside it. It takes no memory.
+/// What a person reads of a fault, by what is known beside it. It does not allocate.
 pub fn explained(fault: &Fault, known: &Circumstances) -> Explanation
     ensures { told.explanation_text result ≡ told.explained fault.now known.now }
 {
@@ -80,6 +80,9 @@ pub(crate) fn general_sentences(fault: &Fault) -> &'static str
         Fault::TooLong => TOO_LONG,
         Fault::FileFailed => FILE_FAILED,
         Fault::FileChanged => FILE_CHANGED,
+        Fault::Emptied { count: _ } => EMPTIED,
+        Fault::Undone { count: _ } => UNDONE,
+        Fault::Unlike { count: _ } => UNLIKE,
     }
 }
 

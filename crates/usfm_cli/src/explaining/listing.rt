@@ -9,7 +9,7 @@ use std::fmt::Write;
 use usfm_ref::RefFault;
 
 // How many faults there are.
-const FAULTS: usize = 34;
+const FAULTS: usize = 37;
 
 /// A list of the faults in the order of their numbers: for each a line with `fault`, its number
 /// and words for its details, and its sentences in lines that begin with two spaces.
@@ -73,6 +73,9 @@ fn all_faults(id: OpId) -> [Fault; FAULTS] {
         Fault::TooLong,
         Fault::FileFailed,
         Fault::FileChanged,
+        Fault::Emptied { count: 1 },
+        Fault::Undone { count: 1 },
+        Fault::Unlike { count: 1 },
     ]
 }
 
@@ -96,6 +99,8 @@ fn detail_words(fault: &Fault) -> &'static str {
         Fault::Clash(_) | Fault::NotShown(_) => " NUMBER NAME",
         Fault::Bundle(BundleFault::Memory | BundleFault::Magic | BundleFault::Truncated) => "",
         Fault::Bundle(_) => " PLACE",
+        Fault::Emptied { count: _ } | Fault::Undone { count: _ } | Fault::Unlike { count: _ } =>
+            " COUNT",
         _ => "",
     }
 }

@@ -1,6 +1,7 @@
 // What is said of a command that was done, where a person reads what faults mean.
 ghost use Rattle.std.specs.Prelude.{◌≡◌, [], Ok, IsTrue};
 ghost use Rattle.sty_sheet.specs.Sheets.{sheet_of};
+ghost use Rattle.usfm_cli.specs.TextNames as names;
 
 use crate::command::Command;
 use std::alloc::Global;
@@ -17,6 +18,23 @@ pub const NO_BOOK_FILE: &str =
 
 /// What is said of a file whose name ends in `.txt`, in a folder of books' files.
 pub const TEXT_NAME: &str = ": the name of a book's file ends in .usfm or .sfm";
+
+/// Whether a file of this name in a folder is a text that an editor gave another ending than books' files have: it is not
+/// hidden, and the name ends in `.txt`, in any case. It does not allocate.
+pub fn is_text_name(name: &str) -> bool
+    ensures { result ≡ names.is_text_name name.now }
+{
+    let name = name.as_bytes();
+    !name.starts_with(b".") && ends_in(name, b".txt")
+}
+
+// Whether the name ends so, in any case of the letters A to Z.
+fn ends_in(name: &[u8], ending: &[u8]) -> bool
+    ensures { result ≡ names.ends_in name.now ending.now }
+{
+    let (_, end) = name.split_at(name.len().saturating_sub(ending.len()));
+    end.eq_ignore_ascii_case(ending)
+}
 
 /// What is to be said beside the answer of a command that was done: that a segment shows nothing,
 /// where that is asked, or that a style sheet has no record.

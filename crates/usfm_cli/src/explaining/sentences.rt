@@ -143,8 +143,8 @@ Look with `shown`, and name what it shows.";
 
 pub(crate) const WRITE_FAILED: &str = "\
 Writing the answer failed after this many bytes.
-The disk is full, or nobody reads on. A command that changes the project has
-done so: look with `shown` or `report`.";
+The disk is full, or nobody reads the output any more. A command that changes
+the project has done so: look with `shown` or `report`.";
 
 pub(crate) const EMPTY_NEEDLE: &str = "\
 The text to find is empty.
@@ -172,7 +172,7 @@ Check its name and its permissions.";
 
 pub(crate) const IS_FOLDER: &str = "\
 This is a folder, and a file is wanted here.
-Name the file. Only `sync` and `export --into` take a folder.";
+Name the file. Only `sync`, `status` and `export --into` take a folder.";
 
 pub(crate) const IS_FILE: &str = "\
 This is not a folder.
@@ -207,3 +207,17 @@ pub(crate) const FILE_CHANGED: &str = "\
 A file of the folder would lose text.
 Correct its first line, or save it as UTF-8. Else move it away, sync, and make
 its changes in the new file; or `import` it, to have it replace the book.";
+
+pub(crate) const EMPTIED: &str = "\
+So many texts are gone from the file of a book.
+An editor may have saved only a part of it: correct it, and try again. If they
+are gone on purpose, sync with --emptied.";
+
+pub(crate) const UNDONE: &str = "\
+The file of a book undoes so many texts that came in.
+If it is an older file, or was open in an editor meanwhile, sync with --stale:
+what came in stays. If they were undone on purpose, sync with --undone.";
+
+pub(crate) const UNLIKE: &str = "\
+The bundle is of another project, and would put so many segments in conflict.
+Leave it out, unless the two are to be one: then sync with --join.";

@@ -1,9 +1,9 @@
 // The subcommands on a folder of books' files, and the export of one book: of each its words, its help, and
 // the line that it is read as.
 use super::{BOOK, PROJECT, command};
-use crate::given::{book_of, books, text, text_if_given, texts};
-use crate::words::{Line, LineFault};
-use clap::{Arg, ArgMatches, Command};
+use crate::given::{book_of, books, text, text_if_given, texts, wanted};
+use crate::words::{Line, LineFault, SyncWords};
+use clap::{Arg, ArgAction, ArgMatches, Command};
 use std::alloc::{AllocError, Global};
 
 const FOLDER: (&str, &str) = ("FOLDER", "The folder with the files of the books");
@@ -12,57 +12,107 @@ pub(crate) fn sync<'a>(alloc: Global) -> Result<Command<'a>, AllocError> {
     let bundles = Arg::new(alloc, "BUNDLE")
         .num_args(0..)
         .help("Bundles, as `send` and `delta` write them");
-    command(
+    let box_folder = value(alloc, "DIR", "box").help("A folder where all leave their bundles");
+    let settled = value(alloc, "CODE", "settle")
+        .action(ArgAction::Append)
+        .help("A book or a REF whose conflicts its file settles");
+    let form = value(alloc, "NAME", "names").help("Name new files like this one, as 41MATana.SFM");
+    let made = command(
         alloc,
         "sync",
         "Takes in a folder's changes and bundles, and writes its books",
         SYNC,
         &[PROJECT, FOLDER],
-    )?
-    .arg(bundles)
+    )?;
+    let made = made.arg(bundles)?.arg(box_folder)?.arg(settled)?;
+    let made = made.arg(flag(alloc, "try").help("Say what would be done, and do nothing"))?;
+    let made = made.arg(form)?;
+    let made = made.arg(flag(alloc, "emptied").help(
+        "After fault 132: the texts are gone on purpose",
+    ))?;
+    let made = made.arg(flag(alloc, "undone").help("After fault 133: it was undone on purpose"))?;
+    let made = made.arg(flag(alloc, "stale").help("After fault 133: the file is an older one"))?;
+    made.arg(flag(alloc, "join").help("After fault 134: join the other project"))
+}
+
+// An option with a value.
+fn value<'a>(alloc: Global, name: &'a str, long: &'a str) -> Arg<'a> {
+    Arg::new(alloc, name).long(long)
+}
+
+// An option without one.
+fn flag<'a>(alloc: Global, long: &'a str) -> Arg<'a> {
+    Arg::new(alloc, long).long(long).action(ArgAction::SetTrue)
 }
 
 const SYNC: &str = "\
 A book's file is the one whose name ends in .usfm or .sfm and that begins with
-\\id and the book's code; it keeps its name. A book without one becomes
-CODE.usfm, or gets the name that its file had. Of a file only what was changed
-since it was written is taken in, so that what came from others stays. Save and
-close the files in the editor first: an open file still has the old text, and
-saving it undoes what came in. Putting back an older copy does the same. Links
-are skipped, and files with a second name. Takes in all, or nothing: then a
-second line `in FILE` on standard error says where.
-Writes
+\\id and the book's code; it keeps its name. A new one is named as the others
+are, or CODE.usfm. First what the bundles have comes in, then what was changed
+in the files since they were written, so that what came from others stays; then
+the files get the books. Line ends may be CR LF. Links are skipped, and files
+with a second name. Takes in all, or nothing: then a second line `in FILE` on
+standard error says where. Writes
+  new N base       what FOLDER had and PROJECT lacked, if it was set back
+  new N            for each BUNDLE; with --box `new N FILE`
   added N CODE     for each file in which something was changed
-  new N            for each BUNDLE
   wrote FILE       for each file that was written
   left FILE        for each that was changed meanwhile: sync again
-  conflicts N      if there is something to see in `report`
+  conflicts N      if there is something to see in `report`, and for each of
+  conflict REF     the first twenty the segment
 
+Save and close the files in the editor first: an open file still has the old
+text, and saving it undoes what came in. Putting back an older copy does the
+same. If FILE has older texts and none of those that came in, it is refused with
+fault 133.
+
+DIR of --box is a folder that all of a team can reach, or a stick that goes
+around. All bundles of DIR come in, and what PROJECT has is written to
+DIR/NAME.bundle, NAME being the copy's name. No copy writes another's bundle.
+
+Example: usfm_team sync ana.project texts --box stick
 Example: usfm_team sync ana.project texts ben.bundle
 
-If a verse shows several texts, its file has one of them, and a change of the
-file replaces that one alone. To settle it, see them with `usfm_team report`,
-give the right text by `usfm_team edit`, and sync: that edit replaces
-them all, and the file is written.
+If a verse shows several texts, its file has one of them. To settle it, take one
+with `usfm_team settle` and sync; or give the file the right text, or leave it,
+and have it replace them all:
+  usfm_team sync ana.project texts --settle 'MAT 5:3'
 
 After fault 131 look at FILE. It may have lost its first line, with \\id and the
-code, or be saved as something else than UTF-8: correct it. Two files may be of
-one book: move one away. Or it is not known what FILE was written from. Then
+code, or be saved in an encoding other than UTF-8: correct it. Two files may be
+of one book: move one away. Or it is not known what FILE was written from. Then
 move it away and sync, and make its changes in the file that is written; or, to
 have FILE replace what the book has, `usfm_team import PROJECT FILE`, and sync.
+
+After fault 132 many texts, or the last ones, are gone from FILE: an editor may
+have saved only a part of it. Correct it, or add --emptied. After fault 133 FILE
+has older texts in the place of those that came in: with --stale it is taken as
+an older file, and what came in stays; with --undone it is undone. After fault
+134 the bundle is of another translation: leave it out, or add --join.
 
 After fault 130 in a book's FILE, that file could not be replaced, and all else
 is done: look at its rights, and sync again. After fault 60 to 70 in a file of
 FOLDER/.usfm_team, that file is damaged: remove it, and sync.
 
-Faults: those of `import`, `receive` and `export`.";
+Faults: those of `import`, `receive` and `export`, and
+  fault 132 COUNT          so many texts are gone from FILE
+  fault 133 COUNT          FILE undoes so many texts that came in
+  fault 134 COUNT          another project's bundle, and so many new conflicts";
 
 pub(crate) fn sync_line(alloc: Global, given: &ArgMatches<'_>) -> Result<Line, LineFault> {
-    Ok(Line::Sync {
+    Ok(Line::Sync(SyncWords {
         project: text(alloc, given, "PROJECT")?,
         folder: text(alloc, given, "FOLDER")?,
         bundles: texts(alloc, given, "BUNDLE")?,
-    })
+        box_folder: text_if_given(alloc, given, "DIR")?,
+        settled: wanted(alloc, given, "CODE")?,
+        form: text_if_given(alloc, given, "NAME")?,
+        is_try: given.get_flag("try"),
+        emptied: given.get_flag("emptied"),
+        undone: given.get_flag("undone"),
+        stale: given.get_flag("stale"),
+        joined: given.get_flag("join"),
+    }))
 }
 
 pub(crate) fn export<'a>(alloc: Global) -> Result<Command<'a>, AllocError> {

@@ -36,7 +36,7 @@ fn with_text<'a>(alloc: Global) -> Arg<'a> {
     Arg::new(alloc, WITH_TEXT)
         .long("text")
         .action(ArgAction::SetTrue)
-        .help("With the line of the text where it stands")
+        .help("Also write the line of the text")
 }
 
 // The style sheet that is given as a word of the line or by the option, if one is.

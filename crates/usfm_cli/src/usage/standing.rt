@@ -7,7 +7,7 @@ use std::alloc::{AllocError, Global};
 
 pub(crate) fn status<'a>(alloc: Global) -> Result<Command<'a>, AllocError> {
     let files = Arg::new(alloc, "FILE").num_args(0..).help(
-        "The summary of another copy, or a bundle of its operations",
+        "The folder of its books, and other copies' summaries or bundles",
     );
     command(
         alloc,
@@ -20,7 +20,7 @@ pub(crate) fn status<'a>(alloc: Global) -> Result<Command<'a>, AllocError> {
 }
 
 const STATUS: &str = "\
-Writes these lines, and leaves out what is nothing:
+Writes these lines, but none that has nothing to say:
   copy NAME                the name of this copy
   books N, verses N        the books, and the verses in them that have a text
                            besides marks; a bridge is one
@@ -31,16 +31,20 @@ Writes these lines, and leaves out what is nothing:
   conflict REF             a segment that shows different texts: see `report`
   awaited NUMBER NAME      an operation that another one replaces and that did
                            not come yet: ask NAME for a bundle
-  lacks FILE N             how many operations of this project the copy that
-                           FILE is of does not have: write it a `delta`
+  changed FILE N           a file of the folder: `sync` takes in N edits of it
+  unread FILE fault ..     a file of the folder that `sync` refuses, and why
+  lacks FILE N             how many operations of this project the copy of
+                           FILE does not have: write it a `delta`
   lacked FILE N            how many operations that copy has that this project
                            does not have: ask for a bundle
 
-Example: usfm_team status ana.project ben.summary
+The folder comes first, where one is given. Nothing is locked or changed.
+
+Example: usfm_team status ana.project texts ben.summary
 
 Faults:
   fault 1                  out of memory
-  fault 60 to 71           FILE is neither a summary nor a bundle
+  fault 60 to 71           FILE is no folder, no summary and no bundle
   fault 60 to 70, 110      PROJECT is not a project
   fault 90 BYTES           writing failed after this many bytes
   fault 120                a file could not be read

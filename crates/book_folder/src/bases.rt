@@ -1,0 +1,196 @@
+// What is written into the program's folder beside the new files: what the files were written from, and their names.
+ghost use Rattle.std.specs.Prelude.{◌≡◌, IfOk, map, option_map};
+ghost use Rattle.book_folder.specs.Bases as bases;
+ghost use Rattle.book_folder.specs.Coming.{came_view};
+ghost use Rattle.book_folder.specs.Plans as plans;
+ghost use Rattle.book_folder.specs.Refusals.{AnswersBy};
+ghost use Rattle.book_folder.specs.Taking.{stood_view};
+ghost use Rattle.book_folder.specs.Wanted.{seen_view};
+
+use crate::begun::join;
+use crate::coming::CameIn;
+use crate::files::{BookFile, is_one_of, is_same_book};
+use crate::naming::names_text;
+use crate::plan::NewFile;
+use crate::refusal::{Place, Refusal};
+use crate::seen::{Named, Seen};
+use crate::taking::Stood;
+use bundle_codec::encode_ops;
+use op_core::Op;
+use replica_state::Replica;
+use std::alloc::{AllocError, Global};
+use usfm_ref::Book;
+
+// Bytes, if they are other than some.
+pub(crate) fn other_than(read: &[u8], bytes: Vec<u8>) -> Option<Vec<u8>>
+    ensures { option_map (λ b. b.items) result ≡ bases.other_than read.now bytes.items }
+{
+    if bytes.as_slice() == read {
+        None
+    } else {
+        Some(bytes)
+    }
+}
+
+// What is written into the program's folder beside the new files.
+#[derive(Debug, Drop)]
+pub(crate) struct OwnFiles {
+    pub(crate) base: Option<Vec<u8>>,
+    pub(crate) names: Option<Vec<u8>>,
+    pub(crate) next: Option<Vec<u8>>,
+}
+
+// Where there are new files, the base that makes the files as they were read, and the next one; else the next one as the base.
+pub(crate) fn own_files(
+    alloc: Global,
+    seen: &Seen<'_>,
+    came: &CameIn,
+    headless: &[Book],
+    made: &[NewFile],
+    names: Option<Vec<u8>>,
+) -> Result<OwnFiles, Refusal>
+    requires { headless.now ≡ plans.headless came.now.replica.held }
+    ensures { AnswersBy plans.own_view (plans.own_parts (seen_view seen.now)
+        (came_view came.now) (map plans.new_file_view made.now)
+        (option_map (λ b. b.items) names)) result }
+{
+    let next = encode_ops(alloc, &next_ops(alloc, &came.replica, headless)?)?;
+    if made.is_empty() {
+        return Ok(OwnFiles {
+            base: other_base(seen, next),
+            names,
+            next: None,
+        });
+    }
+    let base = as_read(alloc, came)?;
+    Ok(OwnFiles {
+        base: other_base(seen, base),
+        names,
+        next: Some(next),
+    })
+}
+
+// A base, if it is other than the one that was read.
+pub(crate) fn other_base(seen: &Seen<'_>, base: Vec<u8>) -> Option<Vec<u8>>
+    ensures { let view = seen_view seen.now in
+        option_map (λ b. b.items) result ≡ plans.base_put view.bases view.next base.items }
+{
+    match (seen.bases, seen.next) {
+        ([one], None) => other_than(one, base),
+        _ => Some(base),
+    }
+}
+
+// The names that are written down, if they are other than those that were.
+pub(crate) fn other_names(
+    alloc: Global,
+    seen: &Seen<'_>,
+    files: &[BookFile<'_>],
+    made: &[NewFile],
+) -> Result<Option<Vec<u8>>, AllocError> {
+    let new = new_names(alloc, made)?;
+    let old = names_text(alloc, seen, &[], &[])?;
+    Ok(other_than(&old, names_text(alloc, seen, files, &new)?))
+}
+
+fn new_names(alloc: Global, made: &[NewFile]) -> Result<Vec<Named>, AllocError> {
+    let mut names = Vec::new(alloc);
+    for file in made {
+        if file.replaces.is_none() {
+            let name = String::from_str(alloc, &file.name)?;
+            let book = file.book;
+            names.push(Named { book, name })?;
+        }
+    }
+    Ok(names)
+}
+
+// What the books with a file show.
+fn next_ops<'a>(
+    alloc: Global,
+    replica: &'a Replica,
+    headless: &[Book],
+) -> Result<Vec<&'a Op>, AllocError>
+    ensures { IfOk result (λ ops. map (λ op. op.now) ops.items
+        ≡ bases.shown_in_files headless.now replica.now.held) }
+{
+    let mut ops = Vec::new(alloc);
+    for op in replica.set().iter() {
+        if !is_one_of(headless, op.book()) && replica.shows(op) {
+            ops.push(op)?;
+        }
+    }
+    Ok(ops)
+}
+
+// The base that makes the files as they were read: where a file has a text that the base shows, what the base shows; else what the
+// project shows with the file's text.
+fn as_read(alloc: Global, came: &CameIn) -> Result<Vec<u8>, Refusal>
+    ensures { AnswersBy (λ made. made.items) (bases.base_as_read
+        (map stood_view came.now.stood.items) came.now.base.held came.now.replica.held) result }
+{
+    let kept = kept_ops(alloc, &came.base, &came.stood)?;
+    let found = found_ops(alloc, &came.replica, &came.stood)?;
+    join(alloc, Place::Project, &kept, &found)
+}
+
+// What a base shows, but where a file has another text.
+fn kept_ops<'a>(
+    alloc: Global,
+    base: &'a Replica,
+    stood: &[Stood],
+) -> Result<Vec<&'a Op>, AllocError>
+    ensures { IfOk result (λ ops. map (λ op. op.now) ops.items
+        ≡ bases.kept_shown (map stood_view stood.now) base.now.held) }
+{
+    let mut ops = Vec::new(alloc);
+    for op in base.set().iter() {
+        if base.shows(op) && stood_text(stood, op).is_none() {
+            ops.push(op)?;
+        }
+    }
+    Ok(ops)
+}
+
+// What a project shows with the text that a file has in the place of the base's.
+fn found_ops<'a>(
+    alloc: Global,
+    replica: &'a Replica,
+    stood: &[Stood],
+) -> Result<Vec<&'a Op>, AllocError>
+    ensures { IfOk result (λ ops. map (λ op. op.now) ops.items
+        ≡ bases.found_shown (map stood_view stood.now) replica.now.held) }
+{
+    let mut ops = Vec::new(alloc);
+    for op in replica.set().iter() {
+        if replica.shows(op) && has_text(stood_text(stood, op), op) {
+            ops.push(op)?;
+        }
+    }
+    Ok(ops)
+}
+
+// Whether a text is an operation's.
+fn has_text(text: Option<&str>, op: &Op) -> bool
+    ensures { result ≡ bases.is_text (option_map (λ t. t.now) text.entry) op.now }
+{
+    match text {
+        Some(text) => text == op.text_or_empty(),
+        None => false,
+    }
+}
+
+// The text that a file has for an operation's segment, where that is another one than the base picks.
+fn stood_text<'a>(stood: &'a [Stood], op: &Op) -> Option<&'a str>
+    ensures { option_map (λ t. t.now) result
+        ≡ bases.stood_text (map stood_view stood.now) op.now }
+{
+    let mut left = stood;
+    'stood: while let [one, later @ ..] = left {
+        if is_same_book(one.book, op.book()) && one.key == op.key() {
+            return Some(&one.text);
+        }
+        left = later;
+    }
+    None
+}

@@ -1,0 +1,369 @@
+// What a folder begins with: the project with what its files were written from.
+ghost use Rattle.std.specs.Prelude.{◌≡◌, ◌++◌, IfOk, OnOk, codes, map};
+ghost use Rattle.std.specs.List.{list_any};
+ghost use Rattle.usfm_ref.specs.Segments.{segment};
+ghost use Rattle.project_file.specs.Projects.{project_at};
+ghost use Rattle.book_folder.specs.Begun as begins;
+ghost use Rattle.book_folder.specs.Refusals.{Answers, AnswersAfter, AnswersBy, AnswersStep};
+ghost use Rattle.book_folder.specs.Wanted.{seen_view, wishes_view};
+
+use crate::files::is_one_of;
+use crate::refusal::{FolderFault, Place, Refusal};
+use crate::seen::{Seen, Wishes};
+use bundle_codec::{Bundle, OpView, decode_whole, encode_ops, join_bundles};
+use op_core::{Op, OpSet, ReplicaName};
+use project_file::load;
+use replica_state::Replica;
+use std::alloc::{AllocError, Global};
+use usfm_ref::{Book, Key};
+
+// How many segments a bundle that has nothing in common with a project may put in conflict without a question.
+const MOST_UNASKED: usize = 10;
+
+// The project with the base in it, what the files were written from, and how many operations the project held without it.
+#[derive(Debug, Drop)]
+pub(crate) struct Begun {
+    pub(crate) replica: Replica,
+    pub(crate) base: Replica,
+    pub(crate) held: usize,
+}
+
+// Receives what the files were written from. Where a command was cut short while the base was written, the base is settled.
+pub(crate) fn begin(alloc: Global, seen: &Seen<'_>, wishes: &Wishes) -> Result<Begun, Refusal>
+    ensures { AnswersBy begins.begun_view
+        (begins.begun_with (seen_view seen.now) (wishes_view wishes.now)) result }
+{
+    let mut begun = begin_alone(alloc, seen.project)?;
+    receive_bases(alloc, &mut begun, seen.bases, wishes)?;
+    settle_next(alloc, begun, seen)
+}
+
+// A project with nothing of a folder.
+fn begin_alone(alloc: Global, project: &[u8]) -> Result<Begun, Refusal>
+    ensures { AnswersBy begins.begun_view (begins.begun_or (project_at project.now)) result }
+{
+    let replica = match load(alloc, project) {
+        Ok(replica) => replica,
+        Err(fault) => return Err(Refusal::of_loading(fault)),
+    };
+    let base = Replica::new(alloc, replica.name());
+    let held = replica.set().len();
+    Ok(Begun {
+        replica,
+        base,
+        held,
+    })
+}
+
+fn receive_bases(
+    alloc: Global,
+    begun: &mut Begun,
+    bases: &[Vec<u8>],
+    wishes: &Wishes,
+) -> Result<(), Refusal>
+    ensures { let wanted = begins.with_bases (wishes_view wishes.now) 0
+        (begins.begun_view begun.old) (map (λ b. b.items) bases.now) in
+        AnswersAfter wanted (begins.begun_view begun.new) result }
+{
+    let mut at = 0;
+    let mut left = bases;
+    'bases: while let [bytes, later @ ..] = left {
+        let place = Place::Base(at);
+        let bundle = judge(alloc, place, bytes)?;
+        receive_if_alike(alloc, &mut begun.replica, place, &bundle, wishes)?;
+        receive(&mut begun.base, place, &bundle)?;
+        at += 1;
+        left = later;
+    }
+    Ok(())
+}
+
+// Settles the base, where a next one stands.
+fn settle_next(alloc: Global, mut begun: Begun, seen: &Seen<'_>) -> Result<Begun, Refusal>
+    ensures { let view = seen_view seen.now in
+        AnswersBy begins.begun_view
+        (begins.with_next view.unplaced (begins.begun_view begun) view.next) result }
+{
+    let name = begun.base.name();
+    let Some(next) = seen.next else {
+        return Ok(begun);
+    };
+    let place = Place::Next;
+    let bundle = judge(alloc, place, next)?;
+    let base = settled_base(alloc, &begun.base, &bundle, seen.unplaced)?;
+    receive(&mut begun.replica, place, &bundle)?;
+    begun.base = replica_of(alloc, name, place, &base)?;
+    Ok(begun)
+}
+
+pub(crate) fn judge<'a>(alloc: Global, place: Place, bytes: &'a [u8]) -> Result<Bundle<'a>, Refusal>
+    ensures { Answers (begins.judged place bytes.now) result }
+{
+    match decode_whole(alloc, bytes) {
+        Ok(bundle) => Ok(bundle),
+        Err(fault) => Err(Refusal::of_bundle(place, fault)),
+    }
+}
+
+pub(crate) fn receive(
+    replica: &mut Replica,
+    place: Place,
+    bundle: &Bundle<'_>,
+) -> Result<u64, Refusal>
+    ensures { AnswersStep (begins.received place replica.old bundle.now) replica.new result }
+{
+    match replica.receive(bundle) {
+        Ok(new) => Ok(new),
+        Err(fault) => Err(Refusal::of_receiving(place, fault)),
+    }
+}
+
+// Receives a bundle; but not one that has no operation in common with a project that has some, and puts more than a few segments
+// in conflict: it may be another translation's.
+pub(crate) fn receive_if_alike(
+    alloc: Global,
+    replica: &mut Replica,
+    place: Place,
+    bundle: &Bundle<'_>,
+    wishes: &Wishes,
+) -> Result<u64, Refusal>
+    ensures { let asked = wishes.now.joined in
+        AnswersStep (begins.received_if_alike asked place replica.old bundle.now)
+        replica.new result }
+{
+    if wishes.joined || replica.set().is_empty() || shares_an_id(replica, bundle) {
+        return receive(replica, place, bundle);
+    }
+    let before = conflicts(alloc, replica)?.len();
+    let new = receive(replica, place, bundle)?;
+    let more = conflicts(alloc, replica)?.len().saturating_sub(before);
+    if more > MOST_UNASKED {
+        return Err(Refusal::Of(place, FolderFault::Unlike(more)));
+    }
+    Ok(new)
+}
+
+// Whether a replica holds an operation of a bundle, or one that an operation of the bundle replaces.
+fn shares_an_id(replica: &Replica, bundle: &Bundle<'_>) -> bool
+    ensures { result ≡ begins.shares_an_id replica.now.held bundle.now }
+{
+    for view in bundle.ops() {
+        if is_of(replica, &view) {
+            return true;
+        }
+    }
+    false
+}
+
+// Whether a replica holds an operation, or one that it replaces.
+fn is_of(replica: &Replica, view: &OpView<'_>) -> bool
+    ensures { result ≡ begins.is_of replica.now.held view.now }
+{
+    replica.set().get(&view.id()).is_some() || replaces_held(replica, view)
+}
+
+// Whether a replica holds an operation that another one replaces.
+fn replaces_held(replica: &Replica, view: &OpView<'_>) -> bool
+    ensures { result ≡ begins.replaces_held replica.now.held view.now }
+{
+    for id in view.replaced() {
+        if replica.set().get(&id).is_some() {
+            return true;
+        }
+    }
+    false
+}
+
+// A replica of a name that holds what a bundle has.
+pub(crate) fn replica_of(
+    alloc: Global,
+    name: ReplicaName,
+    place: Place,
+    bytes: &[u8],
+) -> Result<Replica, Refusal>
+    ensures { Answers (begins.replica_at name place bytes.now) result }
+{
+    let bundle = judge(alloc, place, bytes)?;
+    let mut replica = Replica::new(alloc, name);
+    receive(&mut replica, place, &bundle)?;
+    Ok(replica)
+}
+
+/// The base after the books' files were put in their places: of each book what the next base has, but of a book of which a new file
+/// still stands in the program's folder, and so was not put in its place, what the bases have.
+///
+/// # Errors
+/// - `Of` a base or the next one, where it is no bundle, or two of them clash.
+/// - `Memory` where an allocation failed.
+pub fn settled(
+    alloc: Global,
+    bases: &[Vec<u8>],
+    next: &[u8],
+    unplaced: &[Book],
+) -> Result<Vec<u8>, Refusal>
+    ensures { AnswersBy (λ made. made.items)
+        (begins.settled (map (λ b. b.items) bases.now) next.now unplaced.now) result }
+{
+    let mut base = Replica::new(alloc, any_name());
+    let mut at = 0;
+    let mut left = bases;
+    'bases: while let [bytes, later @ ..] = left {
+        let place = Place::Base(at);
+        let bundle = judge(alloc, place, bytes)?;
+        receive(&mut base, place, &bundle)?;
+        at += 1;
+        left = later;
+    }
+    let bundle = judge(alloc, Place::Next, next)?;
+    settled_base(alloc, &base, &bundle, unplaced)
+}
+
+// What the files of a folder were written from, as a replica.
+pub(crate) fn base_of(alloc: Global, seen: &Seen<'_>) -> Result<Replica, Refusal> {
+    let mut base = Replica::new(alloc, any_name());
+    let mut at = 0;
+    let mut left = seen.bases;
+    'bases: while let [bytes, later @ ..] = left {
+        let place = Place::Base(at);
+        let bundle = judge(alloc, place, bytes)?;
+        receive(&mut base, place, &bundle)?;
+        at += 1;
+        left = later;
+    }
+    let Some(next) = seen.next else {
+        return Ok(base);
+    };
+    let bundle = judge(alloc, Place::Next, next)?;
+    let settled = settled_base(alloc, &base, &bundle, seen.unplaced)?;
+    replica_of(alloc, any_name(), Place::Next, &settled)
+}
+
+// The name of a replica that makes no operation, and so is never seen.
+fn any_name() -> ReplicaName
+    ensures { result ≡ codes "base" }
+{
+    ReplicaName::read("base").unwrap()
+}
+
+fn settled_base(
+    alloc: Global,
+    base: &Replica,
+    next: &Bundle<'_>,
+    unplaced: &[Book],
+) -> Result<Vec<u8>, Refusal>
+    ensures { AnswersBy (λ made. made.items)
+        (begins.settled_base unplaced.now base.now.held next.now) result }
+{
+    let next = next.to_set(alloc)?;
+    let left = ops_of(alloc, base.set(), unplaced, true)?;
+    let put = ops_of(alloc, &next, unplaced, false)?;
+    join(alloc, Place::Next, &left, &put)
+}
+
+// The bundle of the union of two lists of operations that rise by id.
+pub(crate) fn join(
+    alloc: Global,
+    place: Place,
+    left: &[&Op],
+    right: &[&Op],
+) -> Result<Vec<u8>, Refusal>
+    ensures { AnswersBy (λ made. made.items)
+        (begins.joined_at place (map (λ op. op.now) left.now) (map (λ op. op.now) right.now))
+        result }
+{
+    let left = encode_ops(alloc, left)?;
+    let right = encode_ops(alloc, right)?;
+    match join_bundles(alloc, &left, &right) {
+        Ok(bytes) => Ok(bytes),
+        Err(fault) => Err(Refusal::of_joining(place, fault)),
+    }
+}
+
+// The operations of a set that are of one of some books, or of none of them.
+pub(crate) fn ops_of<'a>(
+    alloc: Global,
+    set: &'a OpSet,
+    books: &[Book],
+    is_among: bool,
+) -> Result<Vec<&'a Op>, AllocError>
+    ensures { IfOk result (λ ops. map (λ op. op.now) ops.items
+        ≡ begins.ops_by is_among books.now set.now) }
+{
+    let mut ops = Vec::new(alloc);
+    for op in set.iter() {
+        if is_one_of(books, op.book()) == is_among {
+            ops.push(op)?;
+        }
+    }
+    Ok(ops)
+}
+
+// The segments that show different texts, in the order of books and keys.
+pub(crate) fn conflicts(alloc: Global, replica: &Replica) -> Result<Vec<(Book, Key)>, AllocError>
+    ensures { IfOk result (λ found. found.items ≡ begins.conflicts replica.now.held) }
+{
+    let mut found = Vec::new(alloc);
+    for book in replica.books() {
+        push_conflicts(alloc, replica, book, &mut found)?;
+    }
+    Ok(found)
+}
+
+// Adds the segments of a book that show different texts, by rising keys.
+fn push_conflicts(
+    alloc: Global,
+    replica: &Replica,
+    book: Book,
+    found: &mut Vec<(Book, Key)>,
+) -> Result<(), AllocError>
+    ensures { OnOk result (found.new.items
+        ≡ found.old.items ++ begins.conflicts_in replica.now.held book) }
+{
+    for key in replica.keys(book) {
+        if is_in_conflict(alloc, replica, book, key)? {
+            found.push((book, key))?;
+        }
+    }
+    Ok(())
+}
+
+// Whether a segment shows different texts.
+pub(crate) fn is_in_conflict(
+    alloc: Global,
+    replica: &Replica,
+    book: Book,
+    key: Key,
+) -> Result<bool, AllocError>
+    ensures { IfOk result (λ is.
+        is ≡ begins.is_in_conflict replica.now.held (segment book key)) }
+{
+    if replica.set().shown_ids(book, key).len() < 2 {
+        return Ok(false);
+    }
+    let shown = replica.shown(alloc, book, key)?;
+    Ok(differ(&shown))
+}
+
+// Whether operations have different texts.
+fn differ(ops: &[&Op]) -> bool
+    ensures { result ≡ begins.differ (map (λ op. op.now) ops.now) }
+{
+    match ops {
+        [] => false,
+        [first, later @ ..] => has_other(later, first.text_or_empty()),
+    }
+}
+
+// Whether one of some operations has another text.
+fn has_other(ops: &[&Op], text: &str) -> bool
+    ensures { result ≡ list_any (begins.has_other_text text.now) (map (λ op. op.now) ops.now) }
+{
+    let mut left = ops;
+    'ops: while let [op, later @ ..] = left {
+        if op.text_or_empty() != text {
+            return true;
+        }
+        left = later;
+    }
+    false
+}

@@ -1,0 +1,154 @@
+// What was changed in a file, of a segment and of all.
+ghost use Rattle.std.specs.Prelude.{◌≡◌, IfOk, IsTrue, map, option_map};
+ghost use Rattle.usfm_ref.specs.Keys.{key_cmp};
+ghost use Rattle.usfm_ref.specs.Rising.{rises_by};
+ghost use Rattle.verse_cut.specs.Views.{pieces_view};
+ghost use Rattle.op_core.specs.NextIds.{is_among};
+ghost use Rattle.replica_state.specs.Changes.{change_view, changes_view};
+ghost use Rattle.book_folder.specs.Taking as taking;
+ghost use Rattle.book_folder.specs.Wanted.{wanted_view};
+
+use crate::begun::is_in_conflict;
+use crate::files::is_same_book;
+use crate::seen::Wanted;
+use op_core::OpId;
+use replica_state::{Change, Replica, piece_at};
+use std::alloc::{AllocError, Global};
+use usfm_ref::{Book, Key};
+use verse_cut::Piece;
+
+// What was changed in a file, of rising keys.
+pub(crate) fn changes<'a>(
+    alloc: Global,
+    replica: &Replica,
+    base: &Replica,
+    settled: &[Wanted],
+    book: Book,
+    pieces: &[Piece<'a>],
+) -> Result<Vec<Change<'a>>, AllocError>
+    requires rising { IsTrue (rises_by key_cmp (λ p. p.key) pieces.now) }
+    ensures { IfOk result (λ made. changes_view made.items
+        ≡ taking.file_changes replica.now.held base.now.held (map wanted_view settled.now)
+        book (pieces_view pieces.now)) }
+{
+    let keys = replica.walked_keys(book, pieces)?;
+    let mut changes = Vec::new(alloc);
+    let mut left = keys.as_slice();
+    'keys: while let [key, later @ ..] = left {
+        if let Some(change) = change_at(alloc, replica, base, settled, book, pieces, *key)? {
+            changes.push(change)?;
+        }
+        left = later;
+    }
+    Ok(changes)
+}
+
+// The change of a key: where the file is to settle its conflict, the file's piece over all that the base shows and the project
+// still does; else what was changed in the file, if anything was.
+#[tactic(auto, unfolding(crate::specs::Taking::change_at))]
+fn change_at<'a>(
+    alloc: Global,
+    replica: &Replica,
+    base: &Replica,
+    settled: &[Wanted],
+    book: Book,
+    pieces: &[Piece<'a>],
+    key: Key,
+) -> Result<Option<Change<'a>>, AllocError>
+    requires rising { IsTrue (rises_by key_cmp (λ p. p.key) pieces.now) }
+    ensures { IfOk result (λ made. option_map change_view made
+        ≡ taking.change_at replica.now.held base.now.held (map wanted_view settled.now)
+        book (pieces_view pieces.now) key) }
+{
+    if let Some(ids) = settling_ids(alloc, replica, base, settled, book, key)? {
+        let text = piece_at(pieces, key);
+        return Ok(Some(Change { key, text, ids }));
+    }
+    replica.since_change(base, book, pieces, key)
+}
+
+// The ids that a file replaces where it settles the conflict of a key.
+fn settling_ids(
+    alloc: Global,
+    replica: &Replica,
+    base: &Replica,
+    settled: &[Wanted],
+    book: Book,
+    key: Key,
+) -> Result<Option<Vec<OpId>>, AllocError>
+    ensures { IfOk result (λ ids. option_map (λ i. i.items) ids ≡ taking.settling_ids
+        replica.now.held base.now.held (map wanted_view settled.now) book key) }
+{
+    if !is_wanted(settled, book, key)
+        || !is_in_conflict(alloc, base, book, key)?
+        || !is_in_conflict(alloc, replica, book, key)?
+    {
+        return Ok(None);
+    }
+    let ids = still_shown(alloc, replica, base, book, key)?;
+    if ids.is_empty() {
+        return Ok(None);
+    }
+    Ok(Some(ids))
+}
+
+// Whether a segment is among those that are wanted.
+fn is_wanted(wanted: &[Wanted], book: Book, key: Key) -> bool
+    ensures { result ≡ taking.is_wanted (map wanted_view wanted.now) book key }
+{
+    let mut left = wanted;
+    'wanted: while let [one, later @ ..] = left {
+        if is_same_book(one.book, book) && is_key(one.key, key) {
+            return true;
+        }
+        left = later;
+    }
+    false
+}
+
+// Whether a key is the one that is wanted, or any is.
+fn is_key(wanted: Option<Key>, key: Key) -> bool
+    ensures { result ≡ taking.is_key wanted key }
+{
+    match wanted {
+        Some(wanted) => wanted == key,
+        None => true,
+    }
+}
+
+// The ids that a base shows in a segment, and the project still does.
+fn still_shown(
+    alloc: Global,
+    replica: &Replica,
+    base: &Replica,
+    book: Book,
+    key: Key,
+) -> Result<Vec<OpId>, AllocError>
+    ensures { IfOk result (λ ids.
+        ids.items ≡ taking.still_shown replica.now.held base.now.held book key) }
+{
+    let shown = replica.set().shown_ids(book, key);
+    let mut ids = Vec::new(alloc);
+    let mut left = base.set().shown_ids(book, key);
+    'ids: while let [id, later @ ..] = left {
+        if is_among(shown, *id) {
+            ids.push(*id)?;
+        }
+        left = later;
+    }
+    Ok(ids)
+}
+
+// Whether an id is among some ids.
+fn is_among(ids: &[OpId], id: OpId) -> bool
+    ensures { result ≡ is_among ids.now id }
+{
+    let mut left = ids;
+    'ids: while let [one, later @ ..] = left {
+        if id == *one {
+            return true;
+        }
+        left = later;
+    }
+    false
+}

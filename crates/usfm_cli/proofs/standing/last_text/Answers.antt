@@ -1,8 +1,0 @@
-use Rattle.std.proofs.Common.{sym, ◌∙◌}
-use Rattle.replica_state.proofs.SinceTexts.{last_text}
-use Rattle.usfm_cli.proofs.standing.last_text.Goals as goal
-
-pub loop-op-preserved : goal.loop-op-preserved
-loop-op-preserved c =
-    c.as_bytes-text.ensures.value ∙ c.text_or_empty.ensures
-    ∙ sym (last_text (λ op. op.now) c.args.ops.now c.loop-op.op-index c.op-item.result c.loop-op-test.true c.op-item.is)

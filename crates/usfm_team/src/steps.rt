@@ -1,0 +1,298 @@
+// The steps of a plan, done on the disk.
+use crate::files::{
+    Folder, are_one, is_still, is_there, make_file, make_private, remove_if_there, sync_file,
+    write_made,
+};
+use crate::project::Project;
+use crate::reading::{BASE, Kept, MADE_END, NAMES, NEXT, OLDER, OWN, Read, read_kept};
+use crate::refusal::Refusal;
+use crate::rights::keep_least_rights;
+use crate::sync::fault_of;
+use book_folder::{NewFile, Placing, Step, settled};
+use std::fs;
+use std::io::ErrorKind;
+use usfm_cli::Fault;
+use usfm_ref::Book;
+
+// A file that was left as it is, and why it could not be replaced, where it was not changed meanwhile.
+#[derive(Drop)]
+pub(crate) struct Left {
+    pub(crate) book: Book,
+    pub(crate) name: String,
+    pub(crate) failed: Option<Fault>,
+}
+
+// What steps are done on.
+#[derive(Clone, Copy)]
+pub(crate) struct Disk<'a> {
+    pub(crate) rt: &'a HostRuntime,
+    pub(crate) folder: &'a Folder,
+    // How the line names the project.
+    pub(crate) project: &'a str,
+    // What was read of the folder.
+    pub(crate) read: &'a Read,
+}
+
+// Does steps, one after another, and answers the files that were left.
+pub(crate) fn do_steps(
+    disk: Disk<'_>,
+    project: &mut Project,
+    steps: &[Step],
+) -> Result<Vec<Left>, Refusal> {
+    let mut left = Vec::new(disk.rt.alloc());
+    if steps.is_empty() {
+        return Ok(left);
+    }
+    if steps
+        .iter()
+        .any(|step| matches!(step, Step::ReplaceProject(_)))
+    {
+        let kept = project.refuse_kept(disk.rt);
+        kept.map_err(|fault| Refusal::of_project(disk.rt, fault, disk.project))?;
+    }
+    let own = own_folder(disk)?;
+    for step in steps {
+        if let Err(refusal) = do_step(disk, &own, project, step, &mut left) {
+            take_back(disk, &own, steps);
+            return Err(refusal);
+        }
+    }
+    Ok(left)
+}
+
+fn do_step(
+    disk: Disk<'_>,
+    own: &Folder,
+    project: &mut Project,
+    step: &Step,
+    left: &mut Vec<Left>,
+) -> Result<(), Refusal> {
+    let rt = disk.rt;
+    match step {
+        Step::ReplaceProject(bytes) => {
+            let replaced = project.replace(rt, bytes);
+            replaced.map_err(|fault| Refusal::of_project(rt, fault, disk.project))
+        }
+        Step::Settle => settle(disk, own),
+        Step::RemoveNew(book) => remove_new(rt, own, *book),
+        Step::WriteNew(file) => {
+            let written = write_new(disk, own, file);
+            written.map_err(|fault| disk.folder.refusal(rt, fault, &file.name))
+        }
+        Step::SyncOwn => Ok(own.sync()?),
+        Step::PutBase(bytes) => put(disk, own, BASE, bytes),
+        Step::PutNames(bytes) => put(disk, own, NAMES, bytes),
+        Step::PutNext(bytes) => put(disk, own, NEXT, bytes),
+        Step::Place(placing) => {
+            let failed = match place(disk, own, placing) {
+                Ok(true) => return Ok(()),
+                Ok(false) => None,
+                Err(fault) => Some(fault),
+            };
+            let name = placing.name.clone().map_err(Fault::from)?;
+            let book = placing.book;
+            left.push(Left { book, name, failed }).map_err(Fault::from)?;
+            Ok(())
+        }
+        Step::SyncFolder => Ok(disk.folder.sync()?),
+    }
+}
+
+// The program's own folder, which is made where it is not there, and on the disk then.
+fn own_folder(disk: Disk<'_>) -> Result<Folder, Refusal> {
+    let made = make_own(disk);
+    made.map_err(|fault| disk.folder.refusal(disk.rt, fault, OWN))
+}
+
+fn make_own(disk: Disk<'_>) -> Result<Folder, Fault> {
+    let rt = disk.rt;
+    if let Some(own) = disk.folder.inside(rt, OWN)? {
+        return Ok(own);
+    }
+    let path = disk.folder.way_to(rt, OWN)?;
+    fs::create_dir(rt, path.as_str()).map_err(|_| Fault::FileFailed)?;
+    disk.folder.sync()?;
+    match disk.folder.inside(rt, OWN)? {
+        Some(own) => Ok(own),
+        None => Err(Fault::FileFailed),
+    }
+}
+
+// Takes away the new files of steps that were broken off. Where a next base stands, which tells of them, they stay.
+fn take_back(disk: Disk<'_>, own: &Folder, steps: &[Step]) {
+    let rt = disk.rt;
+    let is_told = own
+        .way_to(rt, NEXT)
+        .is_ok_and(|next| is_there(rt, &next).unwrap_or(true));
+    if is_told {
+        return;
+    }
+    for step in steps {
+        if let Step::WriteNew(file) = step {
+            let _ = remove_new(rt, own, file.book);
+        }
+    }
+    if let Ok(own) = disk.folder.way_to(rt, OWN) {
+        // It stays where something is in it.
+        let _ = fs::remove_dir(rt, own.as_str());
+    }
+}
+
+// The name under which a book's new file is written.
+fn new_name(rt: &HostRuntime, book: Book) -> Result<String, Fault> {
+    Ok(format!(in rt.alloc(); "{book}.new")?)
+}
+
+fn new_path(rt: &HostRuntime, own: &Folder, book: Book) -> Result<String, Fault> {
+    own.way_to(rt, &new_name(rt, book)?)
+}
+
+fn remove_new(rt: &HostRuntime, own: &Folder, book: Book) -> Result<(), Refusal> {
+    let name = new_name(rt, book)?;
+    let removed = remove_if_there(rt, &own.way_to(rt, &name)?);
+    removed.map_err(|fault| own.refusal(rt, fault, &name))
+}
+
+// Writes a book's new file, and waits until it is on the disk. It gets the rights of the one that it replaces, and nobody may read it
+// before who may not read that one.
+fn write_new(disk: Disk<'_>, own: &Folder, file: &NewFile) -> Result<(), Fault> {
+    let rt = disk.rt;
+    let path = new_path(rt, own, file.book)?;
+    let old = match file.replaces {
+        Some(at) => disk.read.looks.get(at..=at),
+        None => None,
+    };
+    let made = match old {
+        Some(_) => make_private(rt, &path)?,
+        None => make_file(rt, &path)?,
+    };
+    write_made(&made, &file.text)?;
+    if let Some(old) = old {
+        keep_least_rights(rt, old, &made)?;
+    }
+    sync_file(&made)
+}
+
+// Writes a file of the program's own folder under another name, and puts it in the place of the one that is there. Nobody may read
+// it who may not read each book's file.
+fn put(disk: Disk<'_>, own: &Folder, name: &str, bytes: &[u8]) -> Result<(), Refusal> {
+    put_at(disk, own, name, bytes).map_err(|fault| own.refusal(disk.rt, fault, name))
+}
+
+fn put_at(disk: Disk<'_>, own: &Folder, name: &str, bytes: &[u8]) -> Result<(), Fault> {
+    let rt = disk.rt;
+    let made_name = format!(in rt.alloc(); "{name}{MADE_END}")?;
+    let made = own.way_to(rt, &made_name)?;
+    let is_put = match write_own(disk, &made, bytes) {
+        Ok(()) => rename(rt, &made, &own.way_to(rt, name)?),
+        Err(fault) => Err(fault),
+    };
+    if is_put.is_err() {
+        let _ = remove_if_there(rt, &made);
+    }
+    is_put
+}
+
+fn write_own(disk: Disk<'_>, path: &str, bytes: &[u8]) -> Result<(), Fault> {
+    let made = make_private(disk.rt, path)?;
+    write_made(&made, bytes)?;
+    keep_least_rights(disk.rt, &disk.read.book_looks, &made)?;
+    sync_file(&made)
+}
+
+// Puts a book's new file in its place, unless something else stands there than was read.
+fn place(disk: Disk<'_>, own: &Folder, placing: &Placing) -> Result<bool, Fault> {
+    let rt = disk.rt;
+    let path = disk.folder.way_to(rt, &placing.name)?;
+    let is_same = match placing.replaces {
+        Some(at) => match disk.read.files.get(at) {
+            Some(file) => is_still(rt, &path, &file.bytes)?,
+            None => false,
+        },
+        None => !is_there(rt, &path).map_err(|_| Fault::FileFailed)?,
+    };
+    if is_same {
+        rename(rt, &new_path(rt, own, placing.book)?, &path)?;
+    }
+    Ok(is_same)
+}
+
+// Settles the base: what the books' files were written from, now that they are in their places, or were left.
+fn settle(disk: Disk<'_>, own: &Folder) -> Result<(), Refusal> {
+    let rt = disk.rt;
+    let kept = read_kept(rt, own, false)?;
+    if let Some(next) = &kept.next {
+        let base = base_after(rt, &kept, next);
+        let base = base.map_err(|fault| own.refusal(rt, fault, NEXT))?;
+        if kept.base() != Some(base.as_slice()) {
+            let moved = move_on(disk, own, kept.base());
+            moved.map_err(|fault| own.refusal(rt, fault, OLDER[0]))?;
+            put(disk, own, BASE, &base)?;
+            own.sync()?;
+        }
+        let removed = remove_if_there(rt, &own.way_to(rt, NEXT)?);
+        removed.map_err(|fault| own.refusal(rt, fault, NEXT))?;
+        own.sync()?;
+    }
+    for book in &kept.unplaced {
+        remove_new(rt, own, *book)?;
+    }
+    Ok(())
+}
+
+// The base that is to be settled.
+fn base_after(rt: &HostRuntime, kept: &Kept, next: &[u8]) -> Result<Vec<u8>, Fault> {
+    match settled(rt.alloc(), &kept.bases, next, &kept.unplaced) {
+        Ok(base) => Ok(base),
+        Err(refusal) => Err(fault_of(refusal)),
+    }
+}
+
+// Gives the base the name of the newest of those before it, after these have moved on. It is copied where it can have no second
+// name.
+fn move_on(disk: Disk<'_>, own: &Folder, bytes: Option<&[u8]>) -> Result<(), Fault> {
+    let rt = disk.rt;
+    let base = own.way_to(rt, BASE)?;
+    let [first, second, third] = OLDER;
+    let (first, second) = (own.way_to(rt, first)?, own.way_to(rt, second)?);
+    let Some(bytes) = bytes else {
+        return Ok(());
+    };
+    if are_one(rt, &base, &first) {
+        return Ok(());
+    }
+    rename_if_there(rt, &second, &own.way_to(rt, third)?)?;
+    rename_if_there(rt, &first, &second)?;
+    if fs::hard_link(rt, base.as_str(), first.as_str()).is_ok() {
+        return Ok(());
+    }
+    put_at(disk, own, OLDER[0], bytes)
+}
+
+// Removes what an older version of the program kept, and what was half written, where the base is there.
+pub(crate) fn sweep(disk: Disk<'_>) -> Result<(), Fault> {
+    let rt = disk.rt;
+    let outdated = &disk.read.kept.outdated;
+    if outdated.is_empty() {
+        return Ok(());
+    }
+    if let Some(own) = disk.folder.inside(rt, OWN)? {
+        if is_there(rt, &own.way_to(rt, BASE)?).unwrap_or(false) {
+            for name in outdated {
+                remove_if_there(rt, &own.way_to(rt, name)?)?;
+            }
+        }
+    }
+    Ok(())
+}
+
+fn rename_if_there(rt: &HostRuntime, from: &str, to: &str) -> Result<(), Fault> {
+    match fs::rename(rt, from, to) {
+        Err(error) if error.kind() != ErrorKind::NotFound => Err(Fault::FileFailed),
+        _ => Ok(()),
+    }
+}
+
+fn rename(rt: &HostRuntime, from: &str, to: &str) -> Result<(), Fault> {
+    fs::rename(rt, from, to).map_err(|_| Fault::FileFailed)
+}
