@@ -101,6 +101,7 @@ PLAYS = [
     Play(["status", PROJECT, "summary", "bundle"], {PROJECT: CONFLICTING, "summary": SUMMARY, "bundle": FIRST}),
     Play(["status", PROJECT, "bundle"], {PROJECT: HELD, "bundle": FIRST[:50]}),
     Play(["progress", PROJECT], {PROJECT: FALLING}),
+    Play(["page", PROJECT], {PROJECT: CONFLICTING}),
     Play(["progress", PROJECT, "LUK"], {PROJECT: HELD}),
     Play(["check", PROJECT, "MAT", "sheet"], {PROJECT: FALLING, "sheet": SHEET}),
     Play(["find", PROJECT, "MAT", "sheet", "gnat"], {PROJECT: GNATS, "sheet": SHEET}),

@@ -172,8 +172,8 @@ fn push_line(text: &mut Vec<u8>, book: Book, name: &str) -> Result<(), AllocErro
     writeln!(text, "{book} {name}").map_err(|_| AllocError)
 }
 
-/// The names that are written down in lines `CODE NAME`, by rising books; of several of one book the first. What is no such line is
-/// skipped, and so is a name that is not one of a book's file in the folder.
+/// The names that are written down in lines `CODE NAME`, in the order of books; of several of one book the first. What is no such
+/// line is skipped, and so is a name that is not one of a book's file in the folder.
 ///
 /// # Errors
 /// Out of memory alone.

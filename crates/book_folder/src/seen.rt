@@ -33,7 +33,7 @@ pub struct Seen<'a> {
     pub older: &'a [Vec<u8>],
     /// The books of which a new file stands in the program's folder, as a command that was cut short left it.
     pub unplaced: &'a [Book],
-    /// The names of the books' files as they were written down, by rising books.
+    /// The names of the books' files as they were written down, in the order of books.
     pub names: &'a [Named],
     /// The plain files whose names may be those of books' files, in the order of their names.
     pub files: &'a [Found],

@@ -84,6 +84,7 @@ still_apart b c (d ∷ rest) h = two (is_control_pair c d) (is_control_byte c)
     two false true = no_pair_92 b
     two false false = h
 
+-- what is escaped has no control character but line feeds
 pub escaped_has_no_control : EscapedHasNoControl
 escaped_has_no_control [] = refl
 escaped_has_no_control (b ∷ []) = one (is_control_byte b) refl

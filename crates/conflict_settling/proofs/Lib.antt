@@ -1,5 +1,5 @@
-mod Compared
-mod Escaped
+pub mod Compared
+pub mod Escaped
 mod Joined
 mod Listed
 mod Walked

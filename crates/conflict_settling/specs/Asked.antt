@@ -6,8 +6,7 @@ use Rattle.op_core.specs.Ids.{Id}
 pub use Rattle.op_core.specs.Ops.{own_text}
 use Rattle.op_core.specs.Ops.{Operation}
 use Rattle.op_core.specs.Lists.{ids_of}
-use Rattle.op_core.specs.Shown.{pick, picked, picked_text}
-use Rattle.op_core.specs.declared.operations.picked.Picked.{Picked}
+use Rattle.op_core.specs.Shown.{pick}
 use Rattle.conflict_report.specs.Reports.{distinct_texts, repeated_texts}
 pub use Rattle.conflict_settling.specs.Before.{text_before}
 use Rattle.conflict_settling.specs.Entries.{EntryView, AreEntriesOf}
@@ -29,10 +28,6 @@ pub record AskedParts : Type 0 where
 -- the ids that are listed of a segment: those beside its distinct texts, and then those that have one of these too
 abbrev pub listed_ids : List Operation → Segment → List Id
 listed_ids held g = ids_of (distinct_texts held g) ++ ids_of (repeated_texts held g)
-
--- the text of what is picked
-abbrev pub picked_bytes : Picked → List ℕ
-picked_bytes choice = picked_text (picked choice)
 
 -- What a person reads of a segment that shows these distinct texts and these other operations: the entries of the texts are
 -- compared as they can be, and all else is one text.

@@ -1,6 +1,7 @@
 pub mod Wanted
 pub mod Pending
 pub mod Before
+pub mod After
 pub mod Entries
 pub mod Escapes
 pub mod Questions

@@ -6,13 +6,13 @@ ghost use Rattle.conflict_settling.specs.Asked as asked;
 ghost use Rattle.conflict_settling.specs.declared.asked.SettleFault.TheVariants as settling;
 
 use crate::answer::{Answer, numbered};
-use crate::before::key_before;
+use crate::before::picked_before;
 use crate::pending::open_conflicts;
 use crate::question::{Manner, push_before, push_choice, push_entries, push_head, push_repeated};
 use crate::sides::compare;
 use crate::wanted::{Wanted, has_books};
 use conflict_report::{ShownTexts, shown_texts};
-use op_core::{Op, OpId, Picked};
+use op_core::{Op, OpId};
 use replica_state::Replica;
 use std::alloc::{AllocError, Global};
 use std::marker::Model;
@@ -22,7 +22,7 @@ use usfm_ref::{Book, Key, Segment};
 /// Why nothing is asked.
 #[derive(Clone, Copy, Debug, PartialEq, Eq, Error)]
 pub enum SettleFault {
-    /// 1: a growth was refused.
+    /// 1: an allocation failed.
     #[error("out of memory")]
     Memory,
     /// 82: the project has no operation of a book that is wanted.
@@ -107,7 +107,7 @@ impl Asked {
 ///
 /// # Errors
 /// - `NoBook` (82) exactly where a book that is wanted, or that of a wanted segment, has no operation.
-/// - `Memory` (1) where a growth was refused.
+/// - `Memory` (1) where an allocation failed.
 pub fn next_question(
     alloc: Global,
     replica: &Replica,
@@ -222,14 +222,4 @@ fn question_of(
     push_repeated(alloc, &mut bytes, &shown.repeated)?;
     push_choice(alloc, &mut bytes, entries.len())?;
     Ok(bytes)
-}
-
-// What the book has before the segment.
-fn picked_before(replica: &Replica, book: Book, key: Key) -> Picked<'_>
-    ensures { asked.picked_bytes result ≡ asked.text_before replica.now.held (segment book key) }
-{
-    match key_before(replica, book, key) {
-        None => Picked::Nothing,
-        Some(before) => replica.pick(book, before),
-    }
 }

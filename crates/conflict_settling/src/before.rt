@@ -9,8 +9,20 @@ use op_core::Picked;
 use replica_state::Replica;
 use usfm_ref::{Book, Key, Place};
 
+/// What the book has before the segment: the last text there that is not empty, lent from the replica, or the line of a
+/// chapter. It takes no memory.
+pub fn picked_before(replica: &Replica, book: Book, key: Key) -> Picked<'_>
+    ensures { picks.picked_text (picks.picked result)
+        ≡ before.text_before replica.now.held (segment book key) }
+{
+    match key_before(replica, book, key) {
+        None => Picked::Nothing,
+        Some(before) => replica.pick(book, before),
+    }
+}
+
 // The last key before this one at which the book has a text that is not empty.
-pub(crate) fn key_before(replica: &Replica, book: Book, key: Key) -> Option<Key>
+fn key_before(replica: &Replica, book: Book, key: Key) -> Option<Key>
     ensures { result ≡ before.key_before replica.now.held (segment book key) }
 {
     let mut last = None;
@@ -55,7 +67,7 @@ fn last_with(replica: &Replica, book: Book, key: Key, last: Option<Key>, at: Key
 }
 
 // Whether the text of a pick is not empty. What is picked is shown, so it has its text.
-fn has_text(picked: &Picked<'_>) -> bool
+pub(crate) fn has_text(picked: &Picked<'_>) -> bool
     ensures { result ≡ not (picks.is_empty (picks.picked_text (picks.picked picked.now))) }
 {
     match picked {
@@ -66,7 +78,7 @@ fn has_text(picked: &Picked<'_>) -> bool
 }
 
 // Whether a key is the first of its chapter, after the key before, and is not the chapter's head.
-fn lacks_head(before: Option<Key>, key: Key) -> bool
+pub(crate) fn lacks_head(before: Option<Key>, key: Key) -> bool
     ensures { result ≡ lacks_head before key }
 {
     let first = match before {

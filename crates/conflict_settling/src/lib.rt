@@ -6,6 +6,7 @@
 //! replaced, and an id that is shown no more refuses it.
 #![tactic(auto)]
 
+mod after;
 mod answer;
 mod asked;
 mod before;
@@ -16,11 +17,14 @@ mod question;
 mod sides;
 mod wanted;
 
+pub use after::picked_after;
 pub use answer::{Answer, ends_text};
 pub use asked::{Asked, SettleFault, next_question};
+pub use before::picked_before;
 pub use escape::push_escaped;
 pub use pending::open_conflicts;
 pub use question::Manner;
+pub use sides::{Entry, compare};
 pub use wanted::Wanted;
 
 #[cfg(test)]

@@ -6,18 +6,22 @@ use op_core::Op;
 use std::alloc::{AllocError, Global};
 use word_diff::{Part, differences};
 
-// One of the texts of a segment, as it is asked for.
+/// One of the texts of a segment, as it is asked for.
 #[derive(Debug, Drop)]
-pub(crate) struct Entry<'a> {
-    // By which number it is picked, from 1.
-    pub(crate) number: usize,
-    pub(crate) op: &'a Op,
-    // What differs between the first text and this one; of the first, between it and the second.
-    pub(crate) parts: Vec<Part<'a>>,
+pub struct Entry<'a> {
+    /// By which number it is picked, from 1.
+    pub number: usize,
+    /// The operation that has it.
+    pub op: &'a Op,
+    /// What differs between the first text and this one; of the first, between it and the second.
+    pub parts: Vec<Part<'a>>,
 }
 
-// The texts of some operations, each compared with the first, and the first with the second.
-pub(crate) fn compare<'a>(alloc: Global, ops: &[&'a Op]) -> Result<Vec<Entry<'a>>, AllocError>
+/// The texts of some operations, each compared with the first, and the first with the second.
+///
+/// # Errors
+/// Out of memory alone.
+pub fn compare<'a>(alloc: Global, ops: &[&'a Op]) -> Result<Vec<Entry<'a>>, AllocError>
     ensures { IfOk result (λ entries.
         AreEntriesOf (map (λ op. op.now) ops.now) (views entries.items)) }
 {

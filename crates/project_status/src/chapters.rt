@@ -33,9 +33,9 @@ pub(crate) struct Tally {
     written: u16,
 }
 
-/// The chapters of a book in which a verse has a text, rising. A verse is written where its text has
-/// more than its mark, its number, other marks and blanks. A bridge counts for each of its numbers; a
-/// number whose parts stand apart, as 3a and 3b, counts once.
+/// The chapters of a book in which a verse has a text, in ascending order. A verse is written where
+/// its text has more than its mark, its number, other marks and blanks. A bridge counts for each of
+/// its numbers; a number whose parts stand apart, as 3a and 3b, counts once.
 ///
 /// # Errors
 /// Out of memory alone.

@@ -12,7 +12,7 @@ mod verses;
 
 pub use chapters::{Chapter, chapters_of};
 pub use conflicts::differ;
-pub use makers::{Maker, makers_of};
+pub use makers::{Maker, makers_of, shown_names};
 pub use others::{Other, status_text};
 pub use progress::push_progress;
-pub use status::verses_written;
+pub use status::{thinned_count, verses_written};

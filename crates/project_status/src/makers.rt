@@ -19,8 +19,11 @@ pub struct Maker {
     pub count: usize,
 }
 
-// The name of each shown operation, segment by segment.
-pub(crate) fn shown_names(alloc: Global, set: &OpSet) -> Result<Vec<ReplicaName>, AllocError>
+/// The name under which each shown operation was made, segment by segment.
+///
+/// # Errors
+/// Out of memory alone.
+pub fn shown_names(alloc: Global, set: &OpSet) -> Result<Vec<ReplicaName>, AllocError>
     ensures { IfOk result (λ names. names.items ≡ numbers.shown_names set.now) }
 {
     let mut names = Vec::new(alloc);

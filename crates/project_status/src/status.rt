@@ -147,8 +147,8 @@ fn push_thinned(alloc: Global, thinned: usize, text: &mut Vec<u8>) -> Result<(),
     Ok(())
 }
 
-// How many operations are kept without their texts.
-fn thinned_count(set: &OpSet) -> usize
+/// How many operations are kept without their texts. It takes no memory.
+pub fn thinned_count(set: &OpSet) -> usize
     ensures { result ≡ numbers.thinned_count set.now }
 {
     set.iter().filter(|op| op.text().is_none()).count()

@@ -11,7 +11,6 @@ use Rattle.usfm_export.specs.Books.{AnswersText}
 use Rattle.usfm_export.specs.declared.fault.TextFault.{TextFault}
 use Rattle.usfm_export.specs.declared.fault.TextFault.TheVariants as giving
 use Rattle.replica_state.specs.States.{State}
-use Rattle.project_file.specs.Projects.{project_at}
 use Rattle.project_file.specs.Answers.{RefusesLoad}
 use Rattle.project_file.specs.declared.fault.LoadFault.{LoadFault}
 use Rattle.project_file.specs.declared.fault.LoadFault.TheVariants as loading

@@ -10,6 +10,7 @@ pub mod OverBooks
 pub mod Projects
 pub mod Turns
 pub mod Copies
+pub mod Pages
 pub mod ExecLaws
 pub mod DeltaLaws
 pub mod Streams

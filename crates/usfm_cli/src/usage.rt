@@ -13,7 +13,7 @@ use self::reports::{
 };
 use self::settling::{settle, settle_line};
 use self::sheets::{check, check_line, find, find_line, words, words_line};
-use self::standing::{progress, progress_line, status, status_line};
+use self::standing::{page, page_line, progress, progress_line, status, status_line};
 use crate::given::{id_if_given, ids, reference, text, text_if_given, texts, word};
 use crate::words::{Line, LineFault};
 use clap::{Arg, ArgAction, ArgMatches, Command};
@@ -61,6 +61,7 @@ pub(crate) fn program<'a>(alloc: Global) -> Result<Command<'a>, AllocError> {
     let program = with(program, delta(alloc))?;
     let program = with(program, status(alloc))?;
     let program = with(program, progress(alloc))?;
+    let program = with(program, page(alloc))?;
     let program = with(program, report(alloc))?;
     let program = with(program, check(alloc))?;
     let program = with(program, find(alloc))?;
@@ -91,6 +92,7 @@ pub(crate) fn line_of(
         "delta" => delta_line(alloc, given),
         "status" => status_line(alloc, given),
         "progress" => progress_line(alloc, given),
+        "page" => page_line(alloc, given),
         "report" => report_line(alloc, given),
         "check" => check_line(alloc, given),
         "find" => find_line(alloc, given),

@@ -134,6 +134,10 @@ pub enum Line {
         project: String,
         book: Option<Book>,
     },
+    /// `page PROJECT`: write a page about a project.
+    Page {
+        project: String,
+    },
     /// `fold BOOK`: fold the bundles of standard input into the book.
     Fold(Book),
     /// `faults`: list the faults.

@@ -20,7 +20,7 @@ use crate::looks::{check, find, words};
 use crate::project::{begin_project, lock_project};
 use crate::refusal::{Given, Refusal, read_named};
 use crate::settle::settle;
-use crate::standing::{progress, status};
+use crate::standing::{page, progress, status};
 use crate::sync::{export_into, sync};
 use crate::telling::{say, say_lines, tell_refusal, tell_refused_word, with_tip};
 use crate::turns::{import, receive};
@@ -154,6 +154,7 @@ fn run(rt: &HostRuntime, line: Line, explains: bool) -> Result<(), Refusal> {
         Line::Thin { project } => change(rt, &project, &Command::Thin, None),
         Line::Status { project, files } => status(rt, &project, &files),
         Line::Progress { project, book } => progress(rt, &project, book),
+        Line::Page { project } => page(rt, &project),
         Line::Report { project } => ask(rt, &project, &Command::Report, explains),
         Line::Check {
             project,

@@ -4,7 +4,7 @@ use crate::files::is_folder;
 use crate::refusal::{Given, Refusal, read_named};
 use crate::turns::{read_files, refusal_in};
 use crate::write_output;
-use usfm_cli::{CopyFile, Expected, TurnFault, project_progress, project_status};
+use usfm_cli::{CopyFile, Expected, TurnFault, project_page, project_progress, project_status};
 use usfm_ref::Book;
 
 // Says how a project stands, what was changed in its folder, where the first file is one, and what the copies that files are of have
@@ -44,6 +44,15 @@ pub(crate) fn progress(rt: &HostRuntime, project: &str, book: Option<Book>) -> R
     let bytes = read_named(rt, project, Expected::Project)?;
     match project_progress(rt.alloc(), &bytes, book) {
         Ok(text) => Ok(write_output(rt, &text)?),
+        Err(fault) => Err(Refusal::of_project(rt, fault, project)),
+    }
+}
+
+// Writes the page about a project.
+pub(crate) fn page(rt: &HostRuntime, project: &str) -> Result<(), Refusal> {
+    let bytes = read_named(rt, project, Expected::Project)?;
+    match project_page(rt.alloc(), &bytes) {
+        Ok(page) => Ok(write_output(rt, &page)?),
         Err(fault) => Err(Refusal::of_project(rt, fault, project)),
     }
 }

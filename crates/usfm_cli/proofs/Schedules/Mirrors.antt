@@ -10,8 +10,6 @@ use Rattle.usfm_ref.specs.Books.{same_bytes}
 use Rattle.usfm_ref.specs.Keys.{KeyParts}
 use Rattle.usfm_ref.specs.Segments.{segment}
 use Rattle.usfm_ref.proofs.Orders.{same_bytes-is}
-use Rattle.verse_cut.specs.declared.fault.BookFault.{BookFault}
-use Rattle.verse_cut.specs.Reading.{book_in}
 use Rattle.op_core.specs.Names.{is_name}
 use Rattle.op_core.specs.Ids.{Id}
 use Rattle.op_core.specs.Ops.{Operation}

@@ -92,3 +92,36 @@ pub(crate) fn progress_line(alloc: Global, given: &ArgMatches<'_>) -> Result<Lin
     let book = book_if_given(alloc, given.get_str("BOOK"))?;
     Ok(Line::Progress { project, book })
 }
+
+pub(crate) fn page<'a>(alloc: Global) -> Result<Command<'a>, AllocError> {
+    command(
+        alloc,
+        "page",
+        "Writes a page about the project, to look at in a browser",
+        PAGE,
+        &[PROJECT],
+    )
+}
+
+const PAGE: &str = "\
+Writes one page of HTML to look at in a browser, to mail or to print: how the
+project stands, as in `status`; a picture of how many verses of each chapter
+have a text, as in `progress`; each conflict with the text before it, its texts
+side by side with what differs marked, a box to tick at each of them, and the
+text after it; and what is awaited. The page has no script, and needs no other
+file and no network.
+
+Example: usfm_team page ana.project > ana.html
+
+Faults:
+  fault 1                  out of memory
+  fault 60 to 70, 110      PROJECT is not a project
+  fault 90 BYTES           writing failed after this many bytes
+  fault 120                the file could not be read
+  fault 121                the file has more than 268,435,456 bytes";
+
+pub(crate) fn page_line(alloc: Global, given: &ArgMatches<'_>) -> Result<Line, LineFault> {
+    Ok(Line::Page {
+        project: text(alloc, given, "PROJECT")?,
+    })
+}

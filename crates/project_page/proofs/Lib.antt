@@ -1,0 +1,4 @@
+mod Appended
+mod Gathered
+mod MarkupFixed
+mod References

@@ -1,0 +1,4 @@
+pub mod Said
+pub mod Parts
+pub mod Pages
+pub mod Laws

@@ -1,0 +1,107 @@
+// What a page says of a replica.
+ghost use Rattle.std.specs.Prelude.{◌≡◌, IfOk, [], None, map, string_bytes};
+ghost use Rattle.usfm_ref.specs.Segments.{segment};
+ghost use Rattle.op_core.specs.Lists.{books_of};
+ghost use Rattle.op_core.specs.Shown as picks;
+ghost use Rattle.conflict_settling.specs.Pending.{open_conflicts};
+ghost use Rattle.project_page.specs.Parts as says;
+
+use crate::parts::{BookProgress, PageConflict, PageParts};
+use conflict_report::shown_texts;
+use conflict_settling::{compare, open_conflicts, picked_after, picked_before};
+use op_core::{OpSet, Picked};
+use project_status::{chapters_of, makers_of, shown_names, thinned_count, verses_written};
+use replica_state::Replica;
+use std::alloc::{AllocError, Global};
+use usfm_ref::Segment;
+
+/// What a page says of a replica, its texts lent from that: the numbers of its status, how far each
+/// chapter is, the conflicts of its report, and the awaited ids.
+///
+/// # Errors
+/// Out of memory alone.
+pub fn parts_of(alloc: Global, replica: &Replica) -> Result<PageParts<'_>, AllocError>
+    ensures { IfOk result (λ parts. says.ArePartsOf replica.now (says.view parts)) }
+{
+    let set = replica.set();
+    let names = shown_names(alloc, set)?;
+    let makers = makers_of(alloc, &names)?;
+    let books = progress_of(alloc, set)?;
+    let verses = verses_written(alloc, set)?;
+    let conflicts = conflicts_of(alloc, replica)?;
+    let awaited = replica.awaited(alloc)?;
+    Ok(PageParts {
+        name: replica.name(),
+        books,
+        verses,
+        makers,
+        replaced: set.len().saturating_sub(names.len()),
+        thinned: thinned_count(set),
+        conflicts,
+        awaited,
+    })
+}
+
+// How far the chapters of each book are.
+fn progress_of(alloc: Global, set: &OpSet) -> Result<Vec<BookProgress>, AllocError>
+    ensures { IfOk result (λ books.
+        map says.book_view books.items ≡ map (says.progress_of set.now) (books_of set.now)) }
+{
+    let mut books = Vec::new(alloc);
+    for book in set.books() {
+        let chapters = chapters_of(alloc, set, book)?;
+        books.push(BookProgress { book, chapters })?;
+    }
+    Ok(books)
+}
+
+// The conflicts, in the order of the report.
+fn conflicts_of(alloc: Global, replica: &Replica) -> Result<Vec<PageConflict<'_>>, AllocError>
+    ensures { IfOk result (λ conflicts.
+        says.AreConflictsOf replica.now.held (open_conflicts replica.now.held [] None)
+        (map says.conflict_view conflicts.items)) }
+{
+    let segments = open_conflicts(alloc, replica, &[], None)?;
+    let mut conflicts = Vec::new(alloc);
+    for segment in &segments {
+        conflicts.push(conflict_of(alloc, replica, segment)?)?;
+    }
+    Ok(conflicts)
+}
+
+// The conflict of a segment.
+fn conflict_of<'a>(
+    alloc: Global,
+    replica: &'a Replica,
+    segment: &Segment,
+) -> Result<PageConflict<'a>, AllocError>
+    ensures { IfOk result (λ conflict.
+        says.IsConflictOf replica.now.held segment.now (says.conflict_view conflict)) }
+{
+    let Segment { book, key } = *segment;
+    let shown = shown_texts(alloc, replica, book, key)?;
+    let entries = compare(alloc, &shown.distinct)?;
+    let before = text_of(alloc, &picked_before(replica, book, key))?;
+    let after = text_of(alloc, &picked_after(replica, book, key))?;
+    Ok(PageConflict {
+        book,
+        key,
+        before,
+        picked: replica.pick(book, key),
+        entries,
+        repeated: shown.repeated,
+        after,
+    })
+}
+
+// The text of what is picked.
+fn text_of(alloc: Global, picked: &Picked<'_>) -> Result<String, AllocError>
+    ensures { IfOk result (λ text.
+        string_bytes text ≡ picks.picked_text (picks.picked picked.now)) }
+{
+    match picked {
+        Picked::Nothing => Ok(String::new(alloc)),
+        Picked::Held(op) => String::from_str(alloc, op.text_or_empty()),
+        Picked::ChapterLine(chapter) => format!(in alloc; "\\c {chapter}\n"),
+    }
+}

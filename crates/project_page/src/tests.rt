@@ -1,0 +1,111 @@
+// Pages about small projects.
+use crate::{page, page_bytes, parts_of};
+use op_core::ReplicaName;
+use replica_state::Replica;
+use std::alloc::Global;
+use std::process::Abort;
+use std::test::Fail;
+use usfm_ref::read_ref;
+
+// A replica in which a verse has these two texts, the second one twice.
+fn in_conflict(alloc: Global, one: &str, other: &str) -> Result<Replica, Fail> {
+    let mut ana = Replica::new(alloc, ReplicaName::read("ana")?);
+    ana.import("\\id MAT\n\\c 1\n\\p\n\\v 1 In it\n\\v 2 So\n")?;
+    let (book, key) = read_ref("MAT 1:1")?;
+    ana.edit(book, key, other)?;
+    ana.edit_over(book, key, one, &[])?;
+    ana.edit_over(book, key, other, &[])?;
+    Ok(ana)
+}
+
+// The page about such a replica.
+fn page_of(alloc: Global, one: &str, other: &str) -> Result<Vec<u8>, Fail> {
+    Ok(page(alloc, &in_conflict(alloc, one, other)?)?)
+}
+
+fn has(page: &[u8], needle: &str) -> bool {
+    str::from_utf8(page).is_ok_and(|page| page.contains(needle))
+}
+
+#[test]
+fn a_conflict_side_by_side(rt: HostRuntime) -> Result<(), Fail> {
+    let page = page_of(rt.alloc(), "\\v 1 At it\n", "\\v 1 In it\n")?;
+    let wanted = r#"<h2 id="conflicts">Conflicts: 1</h2>
+<article>
+<h3>MAT 1:1</h3>
+<h4>Before it</h4>
+<p class="said near" dir="auto" lang="und"><bdi>\c</bdi> 1
+<bdi>\p</bdi>
+</p>
+<div class="texts">
+<div><label><input type="checkbox">Text 1</label>
+<p class="by">by ana, operation 7</p>
+<p class="picked">In the book</p>
+<p class="said" dir="auto" lang="und"><bdi>\v</bdi> 1 <mark>In</mark> it
+</p>
+</div>
+<div><label><input type="checkbox">Text 2</label>
+<p class="by">by ana, operation 6</p>
+<p class="said" dir="auto" lang="und"><bdi>\v</bdi> 1 <mark>At</mark> it
+</p>
+</div>
+</div>
+<p class="by">One of these texts too by ana, operation 5</p>
+<h4>After it</h4>
+<p class="said near" dir="auto" lang="und"><bdi>\v</bdi> 2 So
+</p>
+</article>
+<h2 id="awaited">Awaited: 0</h2>
+</body>
+</html>
+"#;
+    assert!(rt; page.ends_with(wanted.as_bytes()));
+    assert!(rt; has(&page, "<dt>Texts shown by ana</dt><dd>6</dd>\n"));
+    assert!(rt; has(&page, "<dt>Texts replaced</dt><dd>1</dd>\n"));
+    assert!(rt;
+        has(
+            &page,
+            "<tr><th scope=\"row\">MAT</th><td>\n<span class=\"chapter all\">1<span class=\"count\">: 2 of 2</span></span>\n</td></tr>\n"
+        )
+    );
+    Ok(())
+}
+
+#[test]
+fn texts_are_no_markup(rt: HostRuntime) -> Result<(), Fail> {
+    let page = page_of(
+        rt.alloc(),
+        "\\v 1 <b onclick='x'>\"&amp;\"</b>\n",
+        "\\v 1 \u{5d1}\u{5e8}\x1b[7m\u{9b}\t\u{a0}\n",
+    )?;
+    assert!(rt;
+        has(
+            &page,
+            "&lt;b</mark> <mark>onclick=&#39;x&#39;&gt;&quot;&amp;amp;&quot;&lt;/b&gt;"
+        ) || has(
+            &page,
+            "&lt;b onclick=&#39;x&#39;&gt;&quot;&amp;amp;&quot;&lt;/b&gt;"
+        )
+    );
+    assert!(rt; !has(&page, "<b "));
+    assert!(rt; has(&page, "\u{5d1}\u{5e8}\\x1b[7m\\x9b"));
+    assert!(rt; has(&page, "\\x09\u{a0}"));
+    Ok(())
+}
+
+#[test]
+fn nothing_is_held(rt: HostRuntime) -> Result<(), Fail> {
+    let alloc = rt.alloc();
+    let ana = Replica::new(alloc, ReplicaName::read("ana")?);
+    let parts = parts_of(alloc, &ana)?;
+    let page = page_bytes(alloc, &parts)?;
+    assert!(rt; page.starts_with(b"<!DOCTYPE html>\n<html lang=\"en\">\n"));
+    assert!(rt; has(&page, "<title>How the copy of ana stands</title>"));
+    assert!(rt; has(&page, "<dt>Books</dt><dd>0</dd>\n"));
+    assert!(rt;
+        page.ends_with(
+            b"</table>\n<h2 id=\"conflicts\">Conflicts: 0</h2>\n<h2 id=\"awaited\">Awaited: 0</h2>\n</body>\n</html>\n"
+        )
+    );
+    Ok(())
+}

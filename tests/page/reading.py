@@ -1,0 +1,150 @@
+"""What a page says, read from its HTML."""
+import re
+from dataclasses import dataclass, field
+from html.parser import HTMLParser
+from typing import Optional
+
+# The elements that a page has, each with the attributes that it may have.
+ELEMENTS = {
+    "html": {"lang"}, "head": set(), "meta": {"charset", "name", "content"}, "title": set(), "style": set(), "body": set(),
+    "h1": set(), "h2": {"id"}, "h3": set(), "h4": set(), "dl": set(), "dt": set(), "dd": set(), "a": {"href"},
+    "table": set(), "caption": set(), "tr": set(), "th": {"scope"}, "td": set(), "span": {"class"}, "article": set(),
+    "div": {"class"}, "p": {"class", "dir", "lang"}, "label": set(), "input": {"type"}, "bdi": set(), "mark": set(),
+}
+VOID = ("meta", "input")
+# What stands in the place of a control character but a line feed.
+CONTROL = re.compile(r"[\x00-\x09\x0b-\x1f\x7f-\x9f]")
+REFERENCE = re.compile(r"&(?:amp|lt|gt|quot|#39);")
+
+
+def shown(text: str) -> str:
+    """A text with its control characters but line feeds spelled out."""
+    return CONTROL.sub(lambda it: f"\\x{ord(it[0]):02x}", text)
+
+
+@dataclass
+class Text:
+    """One of the texts of a conflict."""
+
+    label: str
+    by: str = ""
+    is_picked: bool = False
+    text: str = ""
+    kept: str = ""
+
+
+@dataclass
+class Conflict:
+    name: str
+    texts: list[Text] = field(default_factory=list)
+    repeated: list[str] = field(default_factory=list)
+    before: str = ""
+    after: str = ""
+
+
+@dataclass
+class Page:
+    """All that a page says, and what is wrong with its HTML."""
+
+    faults: list[str] = field(default_factory=list)
+    rows: list[tuple[str, str]] = field(default_factory=list)
+    chapters: list[str] = field(default_factory=list)
+    shades: list[str] = field(default_factory=list)
+    conflicts: list[Conflict] = field(default_factory=list)
+    counts: list[str] = field(default_factory=list)
+    awaited: list[str] = field(default_factory=list)
+    boxes: int = 0
+
+
+class Reader(HTMLParser):
+    """Reads a page, element by element."""
+
+    def __init__(self) -> None:
+        super().__init__(convert_charrefs=True)
+        self.page = Page()
+        # The elements that are open, each with its class and the text in it so far.
+        self.open: list[tuple[str, str, list[str]]] = []
+        self.book = ""
+        self.term = ""
+        self.near = ""
+
+    def handle_starttag(self, tag: str, attrs: list[tuple[str, Optional[str]]]) -> None:
+        given = dict(attrs)
+        if tag not in ELEMENTS or not given.keys() <= ELEMENTS[tag]:
+            self.page.faults.append(f"<{tag} {given}>")
+        if "href" in given and given["href"] not in ("#conflicts", "#awaited"):
+            self.page.faults.append(f"a reference to {given['href']}")
+        self.page.boxes += tag == "input" and given.get("type") == "checkbox"
+        if tag not in VOID:
+            self.open.append((tag, given.get("class") or "", []))
+
+    def handle_data(self, data: str) -> None:
+        for _, _, texts in self.open:
+            texts.append(data)
+        if any(kind == "said" for _, kind, _ in self.open) and not any(tag == "mark" for tag, _, _ in self.open):
+            self.page.conflicts[-1].texts[-1].kept += data
+
+    def handle_endtag(self, tag: str) -> None:
+        if not self.open or self.open[-1][0] != tag:
+            self.page.faults.append(f"</{tag}> in {[it[0] for it in self.open]}")
+            return
+        _, kind, texts = self.open.pop()
+        self.ended(tag, kind, "".join(texts))
+
+    def ended(self, tag: str, kind: str, text: str) -> None:
+        """Takes in an element that has ended."""
+        page = self.page
+        if tag == "dt":
+            self.term = text
+        elif tag == "dd":
+            page.rows.append((self.term, text))
+        elif tag == "th":
+            self.book = text
+        elif tag == "span" and kind.startswith("chapter ") and self.open[-1][0] == "td":
+            chapter, written, _, verses = text.replace(":", "").split()
+            page.chapters.append(f"{self.book} {chapter} {written} of {verses}")
+            page.shades.append(kind.split()[1])
+        elif tag == "h2" and ": " in text:
+            page.counts.append(text)
+        elif tag == "h3":
+            page.conflicts.append(Conflict(text))
+        elif tag == "h4":
+            self.near = text
+        elif tag == "label":
+            page.conflicts[-1].texts.append(Text(text))
+        elif tag == "p":
+            self.line_ended(kind, text)
+
+    def line_ended(self, kind: str, text: str) -> None:
+        """Takes in a line or a text that has ended."""
+        page = self.page
+        if not any(it[0] == "article" for it in self.open):
+            page.awaited.append(text)
+        elif kind == "said near" and self.near == "Before it":
+            page.conflicts[-1].before = text
+        elif kind == "said near":
+            page.conflicts[-1].after = text
+        elif kind == "said":
+            page.conflicts[-1].texts[-1].text = text
+        elif kind == "picked":
+            page.conflicts[-1].texts[-1].is_picked = text.startswith("In the book")
+        elif text.startswith("by "):
+            page.conflicts[-1].texts[-1].by = text
+        elif text != "No text":
+            page.conflicts[-1].repeated.append(text)
+
+
+def read_page(data: bytes) -> Page:
+    """What a page says, with what is wrong with it."""
+    text = data.decode()
+    reader = Reader()
+    reader.feed(text)
+    reader.close()
+    page = reader.page
+    page.faults += [f"{it[0]} is left open" for it in reader.open]
+    if not text.startswith("<!DOCTYPE html>\n"):
+        page.faults.append("no doctype")
+    page.faults += [f"{it} stands there" for it in ("://", "url(", "@import", "javascript:", "<script") if it in text]
+    page.faults += [f"the control character {ord(it)}" for it in CONTROL.findall(text)]
+    page.faults += [f"a lone & at {it.start()}" for it in re.finditer("&", text) if not REFERENCE.match(text, it.start())]
+    return page
