@@ -54,10 +54,11 @@ class Person:
 
 
 def own_terminal(terminal: int) -> None:
-    """Makes it the terminal of the process, so that control-C reaches it."""
+    """Makes it the terminal of the process, so that control-C reaches it, and ends it also where the test runs in the background."""
     import fcntl
     import termios
 
+    signal.signal(signal.SIGINT, signal.SIG_DFL)
     fcntl.ioctl(terminal, termios.TIOCSCTTY, 0)
 
 
