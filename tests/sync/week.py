@@ -271,8 +271,7 @@ def check_kills(tally: Tally, program: Path, work: Path, seed: int) -> None:
     """Syncs that are killed: the next one goes on, and nothing is lost."""
     week = Week(tally, program, work / "kills", seed)
     week.begin()
-    # Some are to come after the change, also where most syncs take longer than this one.
-    longest = seconds(week.people[0].sync) * 3
+    longest = seconds(week.people[0].sync)
     moments: list[str] = []
     for _ in range(60):
         for person in week.people:
@@ -284,6 +283,8 @@ def check_kills(tally: Tally, program: Path, work: Path, seed: int) -> None:
         bundle = second.send(first, False)
         first.note()
         moments.append(kill(first, bundle, week.chance.uniform(0, longest)))
+        # Some are to come before the change and some after it, however busy the computer is.
+        longest *= 1.25 if moments[-1] == BEFORE else 0.8
         first.known = first.books()
         first.sync(bundle)
         first.copy.take(second.copy)

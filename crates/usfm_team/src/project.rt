@@ -88,18 +88,26 @@ fn make_begun(rt: &HostRuntime, begun: &str) -> Result<File, Fault> {
                 }
             }
             Err(error) if error.kind() == ErrorKind::AlreadyExists => {
-                if let Found::Plain(old) = open_named(rt, begun, 2)? {
-                    lock_file(rt, &old, begun, &mut is_said)?;
-                    if !is_at(rt, &old, begun)? {
-                        continue;
-                    }
+                match open_named(rt, begun, 2)? {
+                    Found::Plain(old) => remove_left(rt, &old, begun)?,
+                    Found::Nothing => {}
+                    Found::Folder | Found::Other(_) => remove_if_there(rt, begun)?,
                 }
-                remove_if_there(rt, begun)?;
             }
             Err(_) => return Err(Fault::FileFailed),
         }
     }
     Err(Fault::FileFailed)
+}
+
+// Removes a file that a command has left which was killed. It stays locked until its name is gone: else who has just made it would
+// have it for its own then, and lose the name.
+fn remove_left(rt: &HostRuntime, old: &File, begun: &str) -> Result<(), Fault> {
+    lock_file(rt, old, begun, &mut true)?;
+    if is_at(rt, old, begun)? {
+        remove_if_there(rt, begun)?;
+    }
+    Ok(())
 }
 
 // Whether a name, which is no link, leads to a file.
