@@ -34,17 +34,17 @@ impl Replica {
     /// of the replica that gives the segment the text and names the ids, each once. The first one's
     /// number is the greatest held number and one, and those of the others follow on. No edit names
     /// another: where two changes have one key, both texts are shown. Where there are no changes, it
-    /// takes no memory.
+    /// does not allocate.
     ///
     /// # Errors
     /// - `BadSegment` or `NotShown` for the first of the changes that may not be made: where its text
     ///   does not fit the book and the key; or else with the first of its ids that the segment does
     ///   not show.
     /// - `NumbersUsedUp` where there are changes and the last one's number would be above 10^15.
-    /// - `Memory` where a growth was refused.
+    /// - `Memory` where an allocation failed.
     ///
-    /// The first of them is answered, and the replica is then unchanged. No other refusal takes
-    /// memory.
+    /// The first of them is answered, and the replica is then unchanged. No other refusal needs
+    /// an allocation.
     pub fn change(&mut self, book: Book, changes: &[Change<'_>]) -> Result<u64, EditFault>
         ensures step { let made = changing.changes_ops self.old book (changes_view changes.now) in
             result ≢ Err EditFault.Memory →
@@ -115,7 +115,7 @@ impl Replica {
     }
 
     // Makes the edits of some changes, numbered from the first one on, and says how many they are.
-    // Nothing grows where there are none.
+    // Nothing is allocated where there are none.
     pub(crate) fn make(
         &mut self,
         first: u64,

@@ -27,10 +27,10 @@ impl Replica {
     /// - `BadSegment` where the text does not fit the book and the key.
     /// - `NoBook` where the book has no operation and the key is not the head of the book.
     /// - `NumbersUsedUp` where the number would be above 10^15.
-    /// - `Memory` where a growth was refused.
+    /// - `Memory` where an allocation failed.
     ///
-    /// The first of them is answered, and the replica is then unchanged. No other refusal takes
-    /// memory.
+    /// The first of them is answered, and the replica is then unchanged. No other refusal needs
+    /// an allocation.
     pub fn edit(&mut self, book: Book, key: Key, text: &str) -> Result<OpId, EditFault>
         ensures step { result ≢ Err EditFault.Memory →
             step self.old (Edit (segment book key) text.now)
@@ -59,10 +59,10 @@ impl Replica {
     /// - `NoBook` where the book has no operation and the key is not the head of the book.
     /// - `NotShown` with the first of the ids that the segment does not show.
     /// - `NumbersUsedUp` where the number would be above 10^15.
-    /// - `Memory` where a growth was refused.
+    /// - `Memory` where an allocation failed.
     ///
-    /// The first of them is answered, and the replica is then unchanged. No other refusal takes
-    /// memory.
+    /// The first of them is answered, and the replica is then unchanged. No other refusal needs
+    /// an allocation.
     pub fn edit_over(
         &mut self,
         book: Book,
@@ -132,7 +132,7 @@ impl Replica {
     }
 
     // Adds operations that rise by id and of which none is held, and says how many they are. Nothing
-    // grows where there are none.
+    // is allocated where there are none.
     pub(crate) fn join_new(&mut self, new: Vec<Op>) -> Result<u64, AllocError>
         requires rising { IsTrue (rises new.items) }
         requires apart { AllByRecursion (λ o. get self.old.held o.id ≡ None) new.items }
