@@ -19,6 +19,7 @@ mod refusal;
 mod restored;
 mod seen;
 mod stale;
+mod stood_texts;
 mod taking;
 #[cfg(test)]
 mod tests;
