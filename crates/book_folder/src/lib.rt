@@ -21,8 +21,6 @@ mod seen;
 mod stale;
 mod stood_texts;
 mod taking;
-#[cfg(test)]
-mod tests;
 
 pub use begun::settled;
 pub use export::export_plan;
