@@ -9,11 +9,12 @@ ghost use Rattle.book_folder.specs.Wanted.{seen_view};
 
 use crate::begun::join;
 use crate::coming::CameIn;
-use crate::files::{BookFile, is_one_of, is_same_book};
+use crate::files::{BookFile, is_one_of};
 use crate::naming::names_text;
 use crate::plan::NewFile;
 use crate::refusal::{Place, Refusal};
 use crate::seen::{Named, Seen};
+use crate::stood_texts::{stood_text, stood_texts};
 use crate::taking::Stood;
 use bundle_codec::encode_ops;
 use op_core::Op;
@@ -143,9 +144,10 @@ fn kept_ops<'a>(
     ensures { IfOk result (λ ops. map (λ op. op.now) ops.items
         ≡ bases.kept_shown (map stood_view stood.now) base.now.held) }
 {
+    let texts = stood_texts(alloc, stood)?;
     let mut ops = Vec::new(alloc);
     for op in base.set().iter() {
-        if base.shows(op) && stood_text(stood, op).is_none() {
+        if base.shows(op) && stood_text(&texts, op).is_none() {
             ops.push(op)?;
         }
     }
@@ -161,9 +163,10 @@ fn found_ops<'a>(
     ensures { IfOk result (λ ops. map (λ op. op.now) ops.items
         ≡ bases.found_shown (map stood_view stood.now) replica.now.held) }
 {
+    let texts = stood_texts(alloc, stood)?;
     let mut ops = Vec::new(alloc);
     for op in replica.set().iter() {
-        if replica.shows(op) && has_text(stood_text(stood, op), op) {
+        if replica.shows(op) && has_text(stood_text(&texts, op), op) {
             ops.push(op)?;
         }
     }
@@ -178,19 +181,4 @@ fn has_text(text: Option<&str>, op: &Op) -> bool
         Some(text) => text == op.text_or_empty(),
         None => false,
     }
-}
-
-// The text that a file has for an operation's segment, where that is another one than the base picks.
-fn stood_text<'a>(stood: &'a [Stood], op: &Op) -> Option<&'a str>
-    ensures { option_map (λ t. t.now) result
-        ≡ bases.stood_text (map stood_view stood.now) op.now }
-{
-    let mut left = stood;
-    'stood: while let [one, later @ ..] = left {
-        if is_same_book(one.book, op.book()) && one.key == op.key() {
-            return Some(&one.text);
-        }
-        left = later;
-    }
-    None
 }

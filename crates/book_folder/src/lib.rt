@@ -19,9 +19,8 @@ mod refusal;
 mod restored;
 mod seen;
 mod stale;
+mod stood_texts;
 mod taking;
-#[cfg(test)]
-mod tests;
 
 pub use begun::settled;
 pub use export::export_plan;
