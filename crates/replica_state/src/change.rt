@@ -10,7 +10,6 @@ ghost use Rattle.replica_state.specs.Edits as edits;
 ghost use Rattle.replica_state.specs.States.{IsState};
 ghost use Rattle.replica_state.specs.Steps.{edited_all, with_ops};
 
-use crate::edit::first_not_among;
 use crate::fault::EditFault;
 use crate::replica::Replica;
 use op_core::{LAST_NUMBER, Op, OpId};
@@ -82,8 +81,8 @@ impl Replica {
         if !fits(book, change.key, change.text) {
             return Some(EditFault::BadSegment);
         }
-        let shown = self.set.shown_ids(book, change.key);
-        first_not_among(&change.ids, shown).map(|id| EditFault::NotShown(*id))
+        self.first_not_shown(book, change.key, &change.ids)
+            .map(|id| EditFault::NotShown(*id))
     }
 
     // The number of the first of this many operations more, if numbers are left for all of them.

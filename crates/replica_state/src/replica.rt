@@ -9,7 +9,6 @@ ghost use Rattle.bundle_codec.specs.Summaries.{IsSummaryOf, summary_of, outside}
 ghost use Rattle.replica_state.specs.States.{IsState, begun};
 ghost use Rattle.replica_state.specs.Steps.{step, Thin, Thinned};
 
-use crate::edit::is_among;
 use bundle_codec::{Summary, encode, encode_after, encode_outside};
 use op_core::{Books, Keys, Op, OpId, OpSet, Picked, ReplicaName};
 use std::alloc::{AllocError, Global};
@@ -67,7 +66,7 @@ impl Replica {
         ensures { result
             ≡ is_among (lists.shown_ids self.now.held op.now.segment) op.now.id }
     {
-        is_among(self.set.shown_ids(op.book(), op.key()), op.id())
+        self.shows_id(op.book(), op.key(), op.id())
     }
 
     /// The books with an operation, in the order of books. The walk does not allocate.
