@@ -1,4 +1,5 @@
-// What is written into the program's folder beside the new files: what the files were written from, and their names.
+// What is written into the program's folder beside the new files: what the files were written from,
+// and their names.
 ghost use Rattle.std.specs.Prelude.{◌≡◌, IfOk, map, option_map};
 ghost use Rattle.book_folder.specs.Bases as bases;
 ghost use Rattle.book_folder.specs.Coming.{came_view};
@@ -41,7 +42,8 @@ pub(crate) struct OwnFiles {
     pub(crate) next: Option<Vec<u8>>,
 }
 
-// Where there are new files, the base that makes the files as they were read, and the next one; else the next one as the base.
+// Where there are new files, the base that makes the files as they were read, and the next one;
+// else the next one as the base.
 pub(crate) fn own_files(
     alloc: Global,
     seen: &Seen<'_>,
@@ -124,8 +126,8 @@ fn next_ops<'a>(
     Ok(ops)
 }
 
-// The base that makes the files as they were read: where a file has a text that the base shows, what the base shows; else what the
-// project shows with the file's text.
+// The base that makes the files as they were read: where a file has a text that the base shows,
+// what the base shows; else what the project shows with the file's text.
 fn as_read(alloc: Global, came: &CameIn) -> Result<Vec<u8>, Refusal>
     ensures { AnswersBy (λ made. made.items) (bases.base_as_read
         (map stood_view came.now.stood.items) came.now.base.held came.now.replica.held) result }

@@ -42,8 +42,8 @@ pub(crate) fn changes<'a>(
     Ok(changes)
 }
 
-// The change of a key: where the file is to settle its conflict, the file's piece over all that the base shows and the project
-// still does; else what was changed in the file, if anything was.
+// The change of a key: where the file is to settle its conflict, the file's piece over all that the
+// base shows and the project still does; else what was changed in the file, if anything was.
 #[tactic(auto, unfolding(crate::specs::Taking::change_at))]
 fn change_at<'a>(
     alloc: Global,

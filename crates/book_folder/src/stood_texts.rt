@@ -1,4 +1,5 @@
-// The texts that files have, each found under its segment, so that a walk over all operations asks for each of theirs at little cost.
+// The texts that files have, each found under its segment, so that a walk over all operations asks
+// for each of theirs at little cost.
 ghost use Rattle.std.specs.Prelude.{◌≡◌, map, IfOk, OnOk};
 ghost use Rattle.std.specs.Option.{option_map};
 ghost use Rattle.book_folder.specs.StoodTexts.{text_under, HasTexts, PutsText};
