@@ -117,6 +117,30 @@ def conflicting(count: int) -> bytes:
     return rising([operation((at, b"a"), "MAT", 1, 1, [], b"\\v 1 %d\n" % at) for at in range(1, count + 1)])
 
 
+def alike(count: int) -> list[bytes]:
+    """Operations of one segment with one text, none of which names another."""
+    return [operation((at, b"a"), "MAT", 1, 1, [], text_of(1)) for at in range(1, count + 1)]
+
+
+def changed_alike(count: int) -> Input:
+    """A file in which one verse was changed that had this many equal texts, and got one more since."""
+    one_more = operation((count + 1, b"b"), "MAT", 1, 1, [], text_of(1))
+    files = {PROJECT: project(rising([*alike(count), one_more])), "base": rising(alike(count)), "book": HEAD + b"\\c 1\n\\v 1 b\n"}
+    return Input(["import", PROJECT, "book", "--since", "base"], files)
+
+
+def synced_alike(count: int) -> Input:
+    """A first sync of a book in which one verse has this many equal texts."""
+    head = operation((1, b"ana"), "MAT", 0, None, [], HEAD)
+    return Input(["sync", PROJECT, "."], {PROJECT: project(rising([*alike(1), head, *alike(count)[1:]]))})
+
+
+def edited_over(count: int) -> Input:
+    """An edit over this many given ids, and one that is shown besides."""
+    ids = [b"%d:a" % at for at in range(2, count + 2)]
+    return Input(["edit-over", PROJECT, "MAT 1:1", *(it.decode() for it in ids)], {PROJECT: project(conflicting(count + 1))}, b"\\v 1 b\n")
+
+
 def arriving_late(count: int) -> Input:
     """An operation that names this many, and then these."""
     ids = [(at, b"a") for at in range(1, count + 1)]
@@ -255,6 +279,9 @@ FAMILIES = [
     Family("one segment with many texts: report", 10_000, 100_000, lambda n: Input(["report", PROJECT], {PROJECT: project(conflicting(n))})),
     Family("one segment with many texts: shown", 10_000, 100_000, lambda n: Input(["shown", PROJECT, "MAT 1:1"], {PROJECT: project(conflicting(n))})),
     Family("one segment with many texts: an edit over all", 10_000, 100_000, lambda n: Input(["edit", PROJECT, "MAT 1:1"], {PROJECT: project(conflicting(n))}, b"\\v 1 b\n")),
+    Family("one segment with many texts: an edit over given ids", 3_000, 30_000, edited_over),
+    Family("one segment with many equal texts: an import since a bundle", 10_000, 100_000, changed_alike),
+    Family("one segment with many equal texts: a first sync", 10_000, 100_000, synced_alike),
     Family("what is replaced arrives after what replaces it", 10_000, 100_000, arriving_late),
     Family("one segment with many texts, and as many with lower ids", 5_000, 50_000, arriving_below),
     Family("each operation names the oldest that is shown", 5_000, 50_000, replacing_oldest),

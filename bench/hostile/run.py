@@ -11,6 +11,7 @@ those of beginning a program.
 import argparse
 import os
 import resource
+import shutil
 import subprocess
 import sys
 import tempfile
@@ -32,7 +33,10 @@ def processor_seconds() -> float:
 
 
 def once(program: str, one: Input, folder: str) -> float:
-    """The processor's time of one run."""
+    """The processor's time of one run, in a folder that has the input's files and nothing else."""
+    for name in os.listdir(folder):
+        path = os.path.join(folder, name)
+        shutil.rmtree(path) if os.path.isdir(path) else os.remove(path)
     for name, data in one.files.items():
         with open(os.path.join(folder, name), "wb") as out:
             out.write(data)

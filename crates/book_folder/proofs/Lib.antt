@@ -7,3 +7,4 @@ mod RestoredRise
 mod NoText
 mod ChangeAt
 mod PlanAnswers
+mod TextsUnder

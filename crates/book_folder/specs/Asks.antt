@@ -1,5 +1,5 @@
--- What is asked before a file is taken in (this project's own rule): whether texts that are gone from it, or texts that came in and
--- are undone in it, are meant.
+-- What is asked before a file is taken in (this project's own rule): whether texts that are gone
+-- from it, or texts that came in and are undone in it, are meant.
 use Rattle.std.specs.Prelude.{ℕ, nat_le, Bool, true, false, not, ◌&&◌, ◌||◌, List, [], ◌∷◌, length, filter, count_by, Option, None, Some, if◌then◌else◌}
 use Rattle.std.specs.List.{list_all}
 use Rattle.std.specs.Option.{option_or}
@@ -37,8 +37,8 @@ unfoldable pub are_last : (KeyParts → Bool) → List KeyParts → Bool
 are_last p [] = true
 are_last p (key ∷ later) = if p key then list_all p later else are_last p later
 
--- How many texts are gone, where that is asked about: they are more than ten; or at least two, and all that the base has from some
--- key on.
+-- How many texts are gone, where that is asked about: they are more than ten; or at least two, and
+-- all that the base has from some key on.
 abbrev pub emptied : List Operation → List ℕ → List PieceParts → Option ℕ
 emptied base book pieces =
     if nat_le 11 (gone_count base book pieces)
@@ -48,7 +48,8 @@ emptied base book pieces =
 
 -- ---- texts that came in and are undone
 
--- whether an operation that a base picks for a key is another replica's, and its text is not like what an older base picks
+-- whether an operation that a base picks for a key is another replica's, and its text is not like
+-- what an older base picks
 abbrev pub is_new_of_another : List Operation → List ℕ → List ℕ → KeyParts → Pick → Bool
 is_new_of_another older own book key (Greatest o) =
     not (same_bytes o.id.name own) && not (like (picked_at older book key) (own_text o))
@@ -65,7 +66,8 @@ came_keys older base own book =
 abbrev pub has_text_of : List Operation → List ℕ → List PieceParts → KeyParts → Bool
 has_text_of base book pieces key = like (picked_at base book key) (piece_at pieces key)
 
--- for how many keys others' texts came in; for how many of them a file has the newer text; and for how many the older one
+-- for how many keys others' texts came in; for how many of them a file has the newer text; and for
+-- how many the older one
 pub record CameParts : Type 0 where
   pub came : ℕ
   pub kept : ℕ
@@ -75,8 +77,9 @@ pub record CameParts : Type 0 where
 abbrev pub came_view : CameIn → CameParts
 came_view c = record { came = c.came; kept = c.kept; undone = c.undone }
 
--- Of the keys of a book for which others' texts came in between an older base and a base: how many there are, and for how many of them
--- a file has the text that the base picks, and for how many the one that the older base picks.
+-- Of the keys of a book for which others' texts came in between an older base and a base: how many
+-- there are, and for how many of them a file has the text that the base picks, and for how many the
+-- one that the older base picks.
 abbrev pub came_in : List Operation → List Operation → List ℕ → List ℕ → List PieceParts → CameParts
 came_in older base own book pieces = record {
   came = length (came_keys older base own book);
@@ -88,7 +91,8 @@ came_in older base own book pieces = record {
 abbrev pub may_be_older : CameParts → Bool
 may_be_older c = nat_le 1 c.came && nat_le c.kept 0
 
--- how many texts came in since an older base, where that is asked about: a file has none of them, and for some the older text
+-- how many texts came in since an older base, where that is asked about: a file has none of them,
+-- and for some the older text
 unfoldable pub undone_since : List Operation → List Operation → List ℕ → List ℕ → List PieceParts
     → Option ℕ
 undone_since older base own book pieces =
@@ -96,7 +100,8 @@ undone_since older base own book pieces =
     && nat_le 1 (came_in older base own book pieces).undone
     then Some (came_in older base own book pieces).came else None
 
--- how many texts came in since the first of several older bases for which that is asked about, if there is one
+-- how many texts came in since the first of several older bases for which that is asked about, if
+-- there is one
 abbrev pub undone : List State → List Operation → List ℕ → List ℕ → List PieceParts → Option ℕ
 undone [] base own book pieces = None
 undone (older ∷ rest) base own book pieces =

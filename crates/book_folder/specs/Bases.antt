@@ -1,5 +1,5 @@
--- What the program's folder keeps (this project's own rule): the base that makes the files as they were read, and the one that makes
--- them as they are written.
+-- What the program's folder keeps (this project's own rule): the base that makes the files as they
+-- were read, and the one that makes them as they are written.
 use Rattle.std.specs.Prelude.{ℕ, Bool, not, ◌&&◌, false, List, filter, Option, None, Some, option_map, Result, if◌then◌else◌}
 use Rattle.std.specs.List.{find}
 use Rattle.std.specs.Option.{is_none}
@@ -51,8 +51,8 @@ kept_shown stood base = filter (λ o. shows base o && is_none (stood_text stood 
 abbrev pub found_shown : List StoodParts → List Operation → List Operation
 found_shown stood held = filter (λ o. shows held o && is_text (stood_text stood o) o) held
 
--- The base that makes the files as they were read: where a file has the text that the base picks, what the base shows; else what the
--- project shows with the file's text.
+-- The base that makes the files as they were read: where a file has the text that the base picks,
+-- what the base shows; else what the project shows with the file's text.
 abbrev pub base_as_read : List StoodParts → List Operation → List Operation
     → Result (List ℕ) Refusal
 base_as_read stood base held =

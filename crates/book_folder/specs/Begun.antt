@@ -44,7 +44,8 @@ judged place bytes = set_or place (whole_at bytes)
 abbrev pub Received : Type 0
 Received = Stepped State ℕ
 
--- a replica that takes in a set, unless the two have a clash: it holds the union, and so many operations were new
+-- a replica that takes in a set, unless the two have a clash: it holds the union, and so many
+-- operations were new
 abbrev pub received_or : Place → State → List Operation → Option Id → Result Received Refusal
 received_or place s ops None =
     Ok (record { after = with_ops s ops; made = length (lacked s.held ops) })
@@ -112,8 +113,8 @@ unless_unlike place s r =
     if nat_le (more_conflicts s r) 10 then Ok r
     else Err (Of place (faults.Unlike (more_conflicts s r)))
 
--- A replica takes in a set; but one that has nothing in common with a replica that has some operations, and puts more than ten segments in
--- conflict, only where that is asked for.
+-- A replica takes in a set; but one that has nothing in common with a replica that has some
+-- operations, and puts more than ten segments in conflict, only where that is asked for.
 abbrev pub received_if_alike : Bool → Place → State → List Operation → Result Received Refusal
 received_if_alike asked place s ops =
     if asked || is_none_held s.held || shares_an_id s.held ops then received place s ops
@@ -121,7 +122,8 @@ received_if_alike asked place s ops =
 
 -- ---- the base
 
--- a project with what its files were written from, what that is, and how many operations the project held without it
+-- a project with what its files were written from, what that is, and how many operations the
+-- project held without it
 pub record BegunParts : Type 0 where
   pub replica : State
   pub base : State
@@ -170,8 +172,8 @@ joined_or place (Err fault) = Err (of_joining place fault)
 abbrev pub joined_at : Place → List Operation → List Operation → Result (List ℕ) Refusal
 joined_at place left right = joined_or place (bundles_joined (bundle left) (bundle right))
 
--- The base after the files were put in their places: of the books whose files were not, what the base has; of all others what the
--- next one has.
+-- The base after the files were put in their places: of the books whose files were not, what the
+-- base has; of all others what the next one has.
 abbrev pub settled_base : List (List ℕ) → List Operation → List Operation → Result (List ℕ) Refusal
 settled_base unplaced base next =
     joined_at places.Next (ops_of unplaced base) (ops_not_of unplaced next)

@@ -1,5 +1,5 @@
--- What comes into a project from a folder (this project's own rule): what its files were written from, the bundles that are given, and
--- what was changed in the files, in this order.
+-- What comes into a project from a folder (this project's own rule): what its files were written
+-- from, the bundles that are given, and what was changed in the files, in this order.
 use Rattle.std.specs.Prelude.{◌≡◌, Vec, ℕ, suc, ◌-◌, nat_eq, Bool, true, false, not, List, [], ◌∷◌, ◌++◌, length, map, filter, Option, None, option_map, Result, Ok, Err, if◌then◌else◌}
 use Rattle.op_core.specs.Ops.{Operation}
 use Rattle.op_core.specs.Export.{has_book}
@@ -20,8 +20,8 @@ use Rattle.book_folder.specs.declared.refusal.Refusal.TheVariants.{Memory, Of}
 
 -- ---- bundles
 
--- a replica after bundles were received, of which the first has this place, with how many operations each brought, after those of
--- the ones before them
+-- a replica after bundles were received, of which the first has this place, with how many
+-- operations each brought, after those of the ones before them
 abbrev pub bundles_from : Bool → ℕ → Stepped State (List ℕ) → List (List ℕ)
     → Result (Stepped State (List ℕ)) Refusal
 bundles_from asked at r [] = Ok r
@@ -49,7 +49,8 @@ abbrev pub files_by : Bool → List Operation → List FileParts → List FilePa
 files_by true base files = filter (λ f. has_book base f.book) files
 files_by false base files = filter (λ f. not (has_book base f.book)) files
 
--- the files in the order in which they are taken in: first those of which it is known what they were written from
+-- the files in the order in which they are taken in: first those of which it is known what they
+-- were written from
 abbrev pub in_turn : List Operation → List FileParts → List FileParts
 in_turn base files = files_by true base files ++ files_by false base files
 
@@ -80,7 +81,8 @@ all_taken after stood added = record { after = after; stood = stood; added = add
 abbrev pub none_taken : State → List StoodParts → AllTaken
 none_taken s stood = all_taken s stood []
 
--- what there is after files were taken in one after another, each into what those before it made; or the first refusal
+-- what there is after files were taken in one after another, each into what those before it made;
+-- or the first refusal
 abbrev pub taken_all : State → List State → WishParts → AllTaken → List FileParts
     → Result AllTaken Refusal
 taken_all base older wishes t [] = Ok t
@@ -89,7 +91,8 @@ taken_all base older wishes t (f ∷ later) =
     taken_all base older wishes
     (all_taken next.after next.stood (t.added ++ added_by f.book next.count)) later
 
--- what is answered where all files are taken in, and the project and what they have beside their bases are then so
+-- what is answered where all files are taken in, and the project and what they have beside their
+-- bases are then so
 abbrev pub AnswersAll : {A : Type 0} → Result AllTaken Refusal → State → List StoodParts
     → Result (Vec Added A) Refusal → Type 0
 AnswersAll wanted after stood (Ok added) =
@@ -110,9 +113,10 @@ abbrev pub rebased_if_stale : WishParts → BegunParts → List State → List F
     → Result BegunParts Refusal
 rebased_if_stale wishes b older files = if wishes.stale then rebased b older files else Ok b
 
--- a project into which all came in: its bytes after the bases were received, where they brought something, and how many operations that
--- is; what its files were written from; how many operations each bundle brought, and how many edits each file made; and what the files
--- have beside what they were written from
+-- a project into which all came in: its bytes after the bases were received, where they brought
+-- something, and how many operations that is; what its files were written from; how many operations
+-- each bundle brought, and how many edits each file made; and what the files have beside what they
+-- were written from
 pub record CameInParts : Type 0 where
   pub recovered : Option (List ℕ)
   pub new : ℕ
@@ -134,7 +138,8 @@ came_view c = record {
   stood = map stood_view c.stood.items;
 }
 
--- a project into which all came in, by what there was after the bases, what the bundles brought, and what there is after the files
+-- a project into which all came in, by what there was after the bases, what the bundles brought,
+-- and what there is after the files
 abbrev pub all_came : SeenParts → BegunParts → List ℕ → AllTaken → CameInParts
 all_came seen b bundles all = record {
   recovered = recovered seen b;
@@ -154,7 +159,8 @@ bundles_come_in seen wishes older turns b =
     taken_all b.base older wishes (none_taken r.after []) turns >>= λ all.
     Ok (all_came seen b r.made all)
 
--- All that comes in, in this order: what the files were written from, the bundles, what was changed in the files.
+-- All that comes in, in this order: what the files were written from, the bundles, what was changed
+-- in the files.
 abbrev pub comes_in : SeenParts → WishParts → List FileParts → Result CameInParts Refusal
 comes_in seen wishes files =
     begun_with seen wishes >>= λ begun.

@@ -94,8 +94,8 @@ abbrev pub is_name : Option (List ℕ) → List ℕ → Bool
 is_name None name = false
 is_name (Some written) name = same_bytes written name
 
--- of a file and a later one of its book, if there is one, the place of that which is not written down as the book's; of two that are not,
--- of the later one
+-- of a file and a later one of its book, if there is one, the place of that which is not written
+-- down as the book's; of two that are not, of the later one
 abbrev pub second_at : List NamedParts → FileParts → Option FileParts → Option ℕ
 second_at names f None = None
 second_at names f (Some other) =
@@ -131,8 +131,8 @@ abbrev pub lost : SeenParts → List FileParts → List NamedParts → Option Pl
 lost seen files [] = None
 lost seen files (n ∷ later) = option_or (lost_at seen files n) (lost seen files later)
 
--- What is refused of a folder in which it is not known which file is a book's: a second file of a book; or else what stands under the
--- name of a book's file and is no longer that.
+-- What is refused of a folder in which it is not known which file is a book's: a second file of a
+-- book; or else what stands under the name of a book's file and is no longer that.
 abbrev pub unclear : SeenParts → List FileParts → Option Place
 unclear seen files =
     option_or (option_map places.File (second_file seen.names files)) (lost seen files seen.names)

@@ -21,7 +21,8 @@ use Rattle.book_folder.specs.Likes.{like}
 use Rattle.book_folder.specs.Taking.{StoodParts, Taken, file_changes, has_other, is_wanted, taken_changed, taken_in}
 use Rattle.book_folder.specs.Wanted.{WantedParts, WishParts}
 
--- Line ends say nothing: of two files of a book that are like each other, and were written from a base, each leads to the same project.
+-- Line ends say nothing: two files of a book that are like each other, and were written from the
+-- same base, lead to the same project, or are refused alike.
 abbrev pub LineEndsSayNothing : Type 0
 LineEndsSayNothing =
     (s base : State) (older : List State) (wishes : WishParts) (stood : List StoodParts)
@@ -36,8 +37,9 @@ pub record ShownByBase (base : List Operation) (g : Segment) (id : Id) : Type 0 
   pub shown : Contains (shown base g) op
   pub of_id : op.id ≡ id
 
--- Nothing unseen is replaced: each id that an edit of a file names is one that the file's base shows with the text that the file was
--- written with; or the segment is one that the file is to settle, and it is one that the base shows.
+-- Nothing unseen is replaced: each id that an edit of a file names is one that the file's base
+-- shows with the text that the file was written with; or the segment is one that the file is to
+-- settle, and it is one that the base shows.
 abbrev pub NothingUnseenIsReplaced : Type 0
 NothingUnseenIsReplaced =
     (s base : State) (wanted : List WantedParts) (book : List ℕ) (pieces : List PieceParts)
@@ -56,8 +58,9 @@ pub record HasText (ops : List Operation) (g : Segment) (text : List ℕ) : Type
   pub of : op.segment ≡ g
   pub is : own_text op ≡ text
 
--- Nothing written is lost: where a file has another text in a segment than its base picks, and the base was received, the project holds an
--- operation of that segment with the file's text after the file was taken in.
+-- Nothing written is lost: where a file has another text in a segment than its base picks, and the
+-- base was received, the project holds an operation of that segment with the file's text after the
+-- file was taken in.
 abbrev pub NothingWrittenIsLost : Type 0
 NothingWrittenIsLost =
     (s base : State) (older : List State) (wishes : WishParts) (stood : List StoodParts)

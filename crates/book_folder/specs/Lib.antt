@@ -9,6 +9,7 @@ pub mod Asks
 pub mod Taking
 pub mod Stale
 pub mod Bases
+pub mod StoodTexts
 pub mod Coming
 pub mod Laws
 pub mod Plans

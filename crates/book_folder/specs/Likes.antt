@@ -1,5 +1,6 @@
--- Texts that are like each other, and the manner of their line ends (this project's own rule): an editor may save a file with other
--- line ends than it read, and with U+FEFF at its front or without, and nobody has changed a text by that.
+-- Texts that are like each other, and the manner of their line ends (this project's own rule): an
+-- editor may save a file with other line ends than it read, and with U+FEFF at its front or
+-- without, and nobody has changed a text by that.
 use Rattle.std.specs.Prelude.{ℕ, Bool, true, not, ◌==◌, ◌&&◌, ◌||◌, List, [], ◌∷◌, if◌then◌else◌}
 use Rattle.std.specs.List.{list_any, flat_map}
 use Rattle.usfm_ref.specs.Books.{same_bytes}
@@ -28,7 +29,8 @@ each_lf_has_cr before [] = true
 each_lf_has_cr before (b ∷ rest) =
     (not (b == 10) || (before == 13)) && each_lf_has_cr b rest
 
--- The manner of a text's line ends: CR LF where it has an LF and each has a CR before it, LF where it has no CR, and else mixed.
+-- The manner of a text's line ends: CR LF where it has an LF and each has a CR before it, LF where
+-- it has no CR, and else mixed.
 abbrev pub line_ends : List ℕ → LineEnds
 line_ends text =
     if list_any (λ b. b == 10) text && each_lf_has_cr 0 text then CrLf

@@ -153,15 +153,16 @@ with_sync sync (step ∷ more) = step ∷ more ++ sync ∷ []
 abbrev pub placing : NewFileParts → StepParts
 placing f = PutInPlace f.book f.replaces
 
--- steps by which new files are put in their places, and those after them, if there are any: the names of the folder are synced, and the
--- base is settled
+-- steps by which new files are put in their places, and those after them, if there are any: the
+-- names of the folder are synced, and the base is settled
 abbrev pub placed : List StepParts → List StepParts
 placed [] = []
 placed (step ∷ more) = step ∷ more ++ SyncFolder ∷ Settle ∷ []
 
--- The steps of a plan: the new files are written, and their names are synced; then the base, the names and the next base are put, and
--- their names are synced; then the project is replaced; then the new files are put in their places, and the names of the folder are
--- synced; then the base is settled.
+-- The steps of a plan: the new files are written, and their names are synced; then the base, the
+-- names and the next base are put, and their names are synced; then the project is replaced; then
+-- the new files are put in their places, and the names of the folder are synced; then the base is
+-- settled.
 abbrev pub plan_steps : List NewFileParts → OwnParts → Option (List ℕ) → List StepParts
 plan_steps files own bytes =
     with_sync SyncOwn (map WriteNew files) ++ with_sync SyncOwn (own_puts own)
@@ -203,13 +204,14 @@ pub record PlanParts : Type 0 where
 abbrev pub plan_view : Plan → PlanParts
 plan_view p = record { steps = map step_view p.steps.items; told = told_view p.told }
 
--- the bytes that a base gets, if they are other than those of the one that was read, or another one stands beside it
+-- the bytes that a base gets, if they are other than those of the one that was read, or another one
+-- stands beside it
 abbrev pub base_put : List (List ℕ) → Option (List ℕ) → List ℕ → Option (List ℕ)
 base_put (one ∷ []) None bytes = other_than one bytes
 base_put bases next bytes = Some bytes
 
--- what is written into the program's folder: where there are new files the base that makes the files as they were read, and the next one;
--- else the next one as the base
+-- what is written into the program's folder: where there are new files the base that makes the
+-- files as they were read, and the next one; else the next one as the base
 abbrev pub own_parts : SeenParts → CameInParts → List NewFileParts → Option (List ℕ)
     → Result OwnParts Refusal
 own_parts seen c [] names = Ok (record {
@@ -265,7 +267,8 @@ planned seen wishes names =
     comes_in seen wishes files >>= λ c.
     plan_of seen c (new_files c.replica.held files) names
 
--- a refusal of how files are named: the name that is to say it does not; or something stands where a new file is to be put
+-- a refusal of how files are named: the name that is to say it does not; or something stands where
+-- a new file is to be put
 abbrev pub IsOfNaming : FolderFault → Type 0
 IsOfNaming fault = (fault ≡ faults.BadForm) ⊎ (fault ≡ faults.FileChanged)
 
@@ -275,8 +278,8 @@ MayRefuseName (Ok name) = Unit {0}
 MayRefuseName (Err Memory) = Unit {0}
 MayRefuseName (Err (Of place fault)) = IsOfNaming fault
 
--- What is answered where a plan is wanted: the plan, with some names that are written down; or the refusal, which may be of how files are
--- named; or out of memory.
+-- What is answered where a plan is wanted: the plan, with some names that are written down; or the
+-- refusal, which may be of how files are named; or out of memory.
 abbrev pub AnswersPlan : SeenParts → WishParts → Result Plan Refusal → Type 0
 AnswersPlan seen wishes (Ok plan) =
     (names : Option (List ℕ)) × (planned seen wishes names ≡ Ok (plan_view plan))

@@ -1,4 +1,5 @@
--- What is answered where a folder may be refused (this project's own rule): the value, or the refusal that there is; or out of memory.
+-- What is answered where a folder may be refused (this project's own rule): the value, or the
+-- refusal that there is; or out of memory.
 use Rattle.std.specs.Prelude.{◌≡◌, Result, Ok, Err}
 use Rattle.bundle_codec.specs.declared.fault.BundleFault.TheVariants as bundle
 use Rattle.bundle_codec.specs.declared.fault.WholeFault.{WholeFault}
@@ -80,8 +81,8 @@ pub record Stepped (A : Type 0) (X : Type 0) : Type 0 where
 abbrev pub stepped : {A X : Type 0} → A → X → Stepped A X
 stepped after made = record { after = after; made = made }
 
--- What is answered of a step that leaves a replica so: what is wanted, where the replica is then the one that is wanted; or the refusal
--- that is wanted; or out of memory.
+-- What is answered of a step that leaves a replica so: what is wanted, where the replica is then
+-- the one that is wanted; or the refusal that is wanted; or out of memory.
 abbrev pub AnswersStep : {A X : Type 0} → Result (Stepped A X) Refusal → A → Result X Refusal
     → Type 0
 AnswersStep wanted after (Ok made) = wanted ≡ Ok (record { after = after; made = made })

@@ -1,5 +1,5 @@
--- A file as nobody but a person changed it (this project's own rule): what an editor did to line ends and to U+FEFF at the front is
--- taken back.
+-- A file as nobody but a person changed it (this project's own rule): what an editor did to line
+-- ends and to U+FEFF at the front is taken back.
 use Rattle.std.specs.Prelude.{ℕ, List, [], ◌++◌, map, take, if◌then◌else◌}
 use Rattle.usfm_ref.specs.Books.{same_bytes}
 use Rattle.usfm_ref.specs.Segments.{segment}
@@ -23,8 +23,8 @@ coming_ends CrLf = CrLf
 coming_ends Lf = Lf
 coming_ends Mixed = Lf
 
--- A text with U+FEFF at its front as another one has it, and with line ends as that one has them. So of texts that are like each
--- other it is the same.
+-- A text with U+FEFF at its front as another one has it, and with line ends as that one has them.
+-- So of texts that are like each other it is the same.
 abbrev pub in_manner_of : List ℕ → List ℕ → List ℕ
 in_manner_of was now = front_of was ++ in_line_ends (coming_ends (line_ends was)) (after_bom now)
 

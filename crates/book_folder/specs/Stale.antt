@@ -1,5 +1,5 @@
--- Files that an editor saved as it had read them before something came in (this project's own rule): each is taken as written from an
--- older base.
+-- Files that an editor saved as it had read them before something came in (this project's own
+-- rule): each is taken as written from an older base.
 use Rattle.std.specs.Prelude.{ℕ, suc, nat_le, Bool, ◌&&◌, List, [], ◌∷◌, get_or, Option, None, Some, Result, Ok, if◌then◌else◌}
 use Rattle.verse_cut.specs.Pieces.{PieceParts}
 use Rattle.op_core.specs.Ops.{Operation}
@@ -44,8 +44,8 @@ found_with found at older base own book pieces =
     then Some (less_unlike found (record { at = at; unlike = unlikeness older book pieces }))
     else found
 
--- Of the older bases from which a file may have been written, and of one before them, the one that it is least unlike; of several the
--- oldest. The first of them has this place.
+-- Of the older bases from which a file may have been written, and of one before them, the one that
+-- it is least unlike; of several the oldest. The first of them has this place.
 abbrev pub oldest_of : Option Candidate → ℕ → List State → List Operation → List ℕ → List ℕ
     → List PieceParts → Option Candidate
 oldest_of found at [] base own book pieces = found
@@ -53,7 +53,8 @@ oldest_of found at (older ∷ rest) base own book pieces =
     oldest_of (found_with found at older.held base own book pieces)
     (suc at) rest base own book pieces
 
--- of the older bases from which a file may have been written, the one that it is least unlike; of several the oldest
+-- of the older bases from which a file may have been written, the one that it is least unlike; of
+-- several the oldest
 abbrev pub oldest_alike : ℕ → List State → List Operation → List ℕ → List ℕ → List PieceParts
     → Option Candidate
 oldest_alike at older base own book pieces = oldest_of None at older base own book pieces

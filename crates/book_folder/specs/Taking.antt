@@ -1,4 +1,5 @@
--- Files of a folder, taken into a project (this project's own rule): what was changed in a file since it was written.
+-- Files of a folder, taken into a project (this project's own rule): what was changed in a file
+-- since it was written.
 use Rattle.std.specs.Prelude.{◌≡◌, ℕ, Bool, true, not, ◌&&◌, List, [], ◌∷◌, ◌++◌, map, filter, Option, None, Some, Result, Ok, Err, option_map, if◌then◌else◌, string_bytes}
 use Rattle.std.specs.List.{list_any, flat_map}
 use Rattle.std.specs.Option.{option_or}
@@ -52,8 +53,8 @@ abbrev pub still_shown : List Operation → List Operation → List ℕ → KeyP
 still_shown held base book key =
     filter (is_among (shown_ids held (segment book key))) (shown_ids base (segment book key))
 
--- Whether a file settles the conflict of a key: that is wanted, the base shows one there and the project too, and the project shows
--- something of what the base does.
+-- Whether a file settles the conflict of a key: that is wanted, the base shows one there and the
+-- project too, and the project shows something of what the base does.
 abbrev pub settles : List Operation → List Operation → List WantedParts → List ℕ → KeyParts → Bool
 settles held base wanted book key =
     is_wanted wanted book key
@@ -61,7 +62,8 @@ settles held base wanted book key =
     && is_in_conflict held (segment book key)
     && not (is_none_left (still_shown held base book key))
 
--- the change of a key by which a file's piece replaces all that the base shows there and the project still does
+-- the change of a key by which a file's piece replaces all that the base shows there and the
+-- project still does
 abbrev pub settling_change : List Operation → List Operation → List ℕ → List PieceParts → KeyParts
     → ChangeParts
 settling_change held base book pieces key = record {
@@ -156,7 +158,8 @@ imported_if place stood after (Err fault) = Err (of_import place fault)
 abbrev pub imported : Place → List StoodParts → EditsStep ImportFault → Result Taken Refusal
 imported place stood step = imported_if place stood step.after step.answer
 
--- what a file is asked about first: texts that came in and that it undoes, then texts that are gone from it; each but where it is meant
+-- what a file is asked about first: texts that came in and that it undoes, then texts that are gone
+-- from it; each but where it is meant
 abbrev pub asked : WishParts → Option ℕ → Option ℕ → Option FolderFault
 asked wishes came gone =
     option_or (if wishes.undone then None else option_map faults.Undone came)
@@ -167,8 +170,9 @@ abbrev pub unless_asked : Place → Option FolderFault → Result Taken Refusal 
 unless_asked place None taken = taken
 unless_asked place (Some fault) taken = Err (Of place fault)
 
--- A file that was written from a base, by its pieces: it is refused if something is to be asked first; else its changes are made, and
--- the segments are written down for which it has other texts than its base picks.
+-- A file that was written from a base, by its pieces: it is refused if something is to be asked
+-- first; else its changes are made, and the segments are written down for which it has other texts
+-- than its base picks.
 unfoldable pub taken_changed : State → State → List State → WishParts → List StoodParts
     → FileParts → List PieceParts → Result Taken Refusal
 taken_changed s base older wishes stood f pieces =
@@ -178,8 +182,8 @@ taken_changed s base older wishes stood f pieces =
     (edited_all s s
     (changes_ops s f.book (file_changes s.held base.held wishes.settled f.book pieces))))
 
--- A file of which it is not known what it was written from: nothing comes in where it is like the book's export, and all of it where the
--- project has no operation of the book; else it is refused.
+-- A file of which it is not known what it was written from: nothing comes in where it is like the
+-- book's export, and all of it where the project has no operation of the book; else it is refused.
 unfoldable pub taken_strange : State → List StoodParts → FileParts → Result Taken Refusal
 taken_strange s stood f =
     if has_book s.held f.book then
@@ -198,8 +202,8 @@ abbrev pub text_or : Place → List ℕ → Result (List ℕ) Refusal
 text_or place bytes =
     if is_utf8 bytes then Ok bytes else Err (Of place (faults.NotText (utf8_valid_len bytes)))
 
--- A file is taken in, unless it is no text: what was changed in it since it was written, where that is known; else as one of which it is
--- not known.
+-- A file is taken in, unless it is no text: what was changed in it since it was written, where that
+-- is known; else as one of which it is not known.
 unfoldable pub taken_in : State → State → List State → WishParts → List StoodParts → FileParts
     → Result Taken Refusal
 taken_in s base older wishes stood f =
@@ -208,8 +212,8 @@ taken_in s base older wishes stood f =
     then taken_changed s base older wishes stood f (coming_pieces base.held f.book text)
     else taken_strange s stood f)
 
--- What is answered of a file that is taken in, where the project and what files have beside their base are then so: how many edits it
--- made; or the refusal; or out of memory.
+-- What is answered of a file that is taken in, where the project and what files have beside their
+-- base are then so: how many edits it made; or the refusal; or out of memory.
 abbrev pub AnswersTaken : Result Taken Refusal → State → List StoodParts → Result ℕ Refusal → Type 0
 AnswersTaken wanted after stood (Ok count) =
     wanted ≡ Ok (record { after = after; stood = stood; count = count })

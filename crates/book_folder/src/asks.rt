@@ -1,4 +1,5 @@
-// What is asked before a file is taken in: whether texts that are gone from it, or texts that came in and are undone in it, are meant.
+// What is asked before a file is taken in: whether texts that are gone from it, or texts that came
+// in and are undone in it, are meant.
 ghost use Rattle.std.specs.Prelude.{◌≡◌, IfOk, IsTrue, count_by, not};
 ghost use Rattle.std.specs.List.{list_all};
 ghost use Rattle.usfm_ref.specs.Keys.{key_cmp};
@@ -22,8 +23,8 @@ const MOST_GONE: usize = 10;
 
 const MOST_GONE_AT_THE_END: usize = 1;
 
-// How many texts that a base has are gone from a file, where that asks for a word: they are more than a few, or several and all
-// that the base has from some key on.
+// How many texts that a base has are gone from a file, where that asks for a word: they are more
+// than a few, or several and all that the base has from some key on.
 pub(crate) fn emptied(
     alloc: Global,
     base: &Replica,

@@ -1,4 +1,5 @@
-// What is written into the program's folder beside the new files: what the files were written from, and their names.
+// What is written into the program's folder beside the new files: what the files were written from,
+// and their names.
 ghost use Rattle.std.specs.Prelude.{◌≡◌, IfOk, map, option_map};
 ghost use Rattle.book_folder.specs.Bases as bases;
 ghost use Rattle.book_folder.specs.Coming.{came_view};
@@ -9,11 +10,12 @@ ghost use Rattle.book_folder.specs.Wanted.{seen_view};
 
 use crate::begun::join;
 use crate::coming::CameIn;
-use crate::files::{BookFile, is_one_of, is_same_book};
+use crate::files::{BookFile, is_one_of};
 use crate::naming::names_text;
 use crate::plan::NewFile;
 use crate::refusal::{Place, Refusal};
 use crate::seen::{Named, Seen};
+use crate::stood_texts::{stood_text, stood_texts};
 use crate::taking::Stood;
 use bundle_codec::encode_ops;
 use op_core::Op;
@@ -40,7 +42,8 @@ pub(crate) struct OwnFiles {
     pub(crate) next: Option<Vec<u8>>,
 }
 
-// Where there are new files, the base that makes the files as they were read, and the next one; else the next one as the base.
+// Where there are new files, the base that makes the files as they were read, and the next one;
+// else the next one as the base.
 pub(crate) fn own_files(
     alloc: Global,
     seen: &Seen<'_>,
@@ -123,8 +126,8 @@ fn next_ops<'a>(
     Ok(ops)
 }
 
-// The base that makes the files as they were read: where a file has a text that the base shows, what the base shows; else what the
-// project shows with the file's text.
+// The base that makes the files as they were read: where a file has a text that the base shows,
+// what the base shows; else what the project shows with the file's text.
 fn as_read(alloc: Global, came: &CameIn) -> Result<Vec<u8>, Refusal>
     ensures { AnswersBy (λ made. made.items) (bases.base_as_read
         (map stood_view came.now.stood.items) came.now.base.held came.now.replica.held) result }
@@ -143,9 +146,10 @@ fn kept_ops<'a>(
     ensures { IfOk result (λ ops. map (λ op. op.now) ops.items
         ≡ bases.kept_shown (map stood_view stood.now) base.now.held) }
 {
+    let texts = stood_texts(alloc, stood)?;
     let mut ops = Vec::new(alloc);
     for op in base.set().iter() {
-        if base.shows(op) && stood_text(stood, op).is_none() {
+        if base.shows(op) && stood_text(&texts, op).is_none() {
             ops.push(op)?;
         }
     }
@@ -161,9 +165,10 @@ fn found_ops<'a>(
     ensures { IfOk result (λ ops. map (λ op. op.now) ops.items
         ≡ bases.found_shown (map stood_view stood.now) replica.now.held) }
 {
+    let texts = stood_texts(alloc, stood)?;
     let mut ops = Vec::new(alloc);
     for op in replica.set().iter() {
-        if replica.shows(op) && has_text(stood_text(stood, op), op) {
+        if replica.shows(op) && has_text(stood_text(&texts, op), op) {
             ops.push(op)?;
         }
     }
@@ -178,19 +183,4 @@ fn has_text(text: Option<&str>, op: &Op) -> bool
         Some(text) => text == op.text_or_empty(),
         None => false,
     }
-}
-
-// The text that a file has for an operation's segment, where that is another one than the base picks.
-fn stood_text<'a>(stood: &'a [Stood], op: &Op) -> Option<&'a str>
-    ensures { option_map (λ t. t.now) result
-        ≡ bases.stood_text (map stood_view stood.now) op.now }
-{
-    let mut left = stood;
-    'stood: while let [one, later @ ..] = left {
-        if is_same_book(one.book, op.book()) && one.key == op.key() {
-            return Some(&one.text);
-        }
-        left = later;
-    }
-    None
 }

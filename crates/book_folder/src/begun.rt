@@ -17,10 +17,12 @@ use replica_state::Replica;
 use std::alloc::{AllocError, Global};
 use usfm_ref::{Book, Key};
 
-// How many segments a bundle that has nothing in common with a project may put in conflict without a question.
+// How many segments a bundle that has nothing in common with a project may put in conflict without
+// a question.
 const MOST_UNASKED: usize = 10;
 
-// The project with the base in it, what the files were written from, and how many operations the project held without it.
+// The project with the base in it, what the files were written from, and how many operations the
+// project held without it.
 #[derive(Debug, Drop)]
 pub(crate) struct Begun {
     pub(crate) replica: Replica,
@@ -28,7 +30,8 @@ pub(crate) struct Begun {
     pub(crate) held: usize,
 }
 
-// Receives what the files were written from. Where a command was cut short while the base was written, the base is settled.
+// Receives what the files were written from. Where a command was cut short while the base was
+// written, the base is settled.
 pub(crate) fn begin(alloc: Global, seen: &Seen<'_>, wishes: &Wishes) -> Result<Begun, Refusal>
     ensures { AnswersBy begins.begun_view
         (begins.begun_with (seen_view seen.now) (wishes_view wishes.now)) result }
@@ -118,8 +121,8 @@ pub(crate) fn receive(
     }
 }
 
-// Receives a bundle; but not one that has no operation in common with a project that has some, and puts more than a few segments
-// in conflict: it may be another translation's.
+// Receives a bundle; but not one that has no operation in common with a project that has some, and
+// puts more than a few segments in conflict: it may be another translation's.
 pub(crate) fn receive_if_alike(
     alloc: Global,
     replica: &mut Replica,
@@ -189,8 +192,9 @@ pub(crate) fn replica_of(
     Ok(replica)
 }
 
-/// The base after the books' files were put in their places: of each book what the next base has, but of a book of which a new file
-/// still stands in the program's folder, and so was not put in its place, what the bases have.
+/// The base after the books' files were put in their places: of each book what the next base has,
+/// but of a book of which a new file still stands in the program's folder, and so was not put in
+/// its place, what the bases have.
 ///
 /// # Errors
 /// - `Of` a base or the next one, where it is no bundle, or two of them clash.

@@ -3,7 +3,6 @@ ghost use Rattle.std.specs.Prelude.{◌≡◌, IfOk, IsTrue, map, option_map};
 ghost use Rattle.usfm_ref.specs.Keys.{key_cmp};
 ghost use Rattle.usfm_ref.specs.Rising.{rises_by};
 ghost use Rattle.verse_cut.specs.Views.{pieces_view};
-ghost use Rattle.op_core.specs.NextIds.{is_among};
 ghost use Rattle.replica_state.specs.Changes.{change_view, changes_view};
 ghost use Rattle.book_folder.specs.Taking as taking;
 ghost use Rattle.book_folder.specs.Wanted.{wanted_view};
@@ -43,8 +42,8 @@ pub(crate) fn changes<'a>(
     Ok(changes)
 }
 
-// The change of a key: where the file is to settle its conflict, the file's piece over all that the base shows and the project
-// still does; else what was changed in the file, if anything was.
+// The change of a key: where the file is to settle its conflict, the file's piece over all that the
+// base shows and the project still does; else what was changed in the file, if anything was.
 #[tactic(auto, unfolding(crate::specs::Taking::change_at))]
 fn change_at<'a>(
     alloc: Global,
@@ -127,28 +126,13 @@ fn still_shown(
     ensures { IfOk result (λ ids.
         ids.items ≡ taking.still_shown replica.now.held base.now.held book key) }
 {
-    let shown = replica.set().shown_ids(book, key);
     let mut ids = Vec::new(alloc);
     let mut left = base.set().shown_ids(book, key);
     'ids: while let [id, later @ ..] = left {
-        if is_among(shown, *id) {
+        if replica.shows_id(book, key, *id) {
             ids.push(*id)?;
         }
         left = later;
     }
     Ok(ids)
-}
-
-// Whether an id is among some ids.
-fn is_among(ids: &[OpId], id: OpId) -> bool
-    ensures { result ≡ is_among ids.now id }
-{
-    let mut left = ids;
-    'ids: while let [one, later @ ..] = left {
-        if id == *one {
-            return true;
-        }
-        left = later;
-    }
-    false
 }

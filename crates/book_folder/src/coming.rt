@@ -1,4 +1,5 @@
-// What comes into a project from a folder: what its files were written from, then bundles, then what was changed in the files.
+// What comes into a project from a folder: what its files were written from, then bundles, then
+// what was changed in the files.
 ghost use Rattle.std.specs.Prelude.{◌≡◌, ◌++◌, [], IfOk, OnOk, map, option_map};
 ghost use Rattle.book_folder.specs.Coming as comes;
 ghost use Rattle.book_folder.specs.Files.{files_view};
@@ -130,8 +131,8 @@ fn receive_bundles(
     Ok(made)
 }
 
-// Takes in the files: first those of which it is known what they were written from, then the others. It says how many edits each made
-// that was changed.
+// Takes in the files: first those of which it is known what they were written from, then the
+// others. It says how many edits each made that was changed.
 #[tactic(auto, using(crate::proofs::Turns::taken_all_append))]
 fn take_all(
     alloc: Global,

@@ -15,15 +15,17 @@ use replica_state::Replica;
 use std::alloc::{AllocError, Global};
 use usfm_ref::Book;
 
-/// Plans what an export into a folder does: the books that are named, all where none is, go into their files; the project stays as it
-/// is.
+/// Plans what an export into a folder does: the books that are named, all where none is, go into
+/// their files; the project stays as it is.
 ///
 /// # Errors
 /// The first of these, and of what; nothing is to be done then.
-/// - `FileChanged` as `make_plan` answers it; and of a file that is not like its book's text and was changed since it was written, or
-///   was written from an operation that the project does not have.
+/// - `FileChanged` as `make_plan` answers it; and of a file that is not like its book's text and
+///   was changed since it was written, or was written from an operation that the project does not
+///   have.
 /// - `NoBook` where the project has no operation of a book that is named.
-/// - `Project`, `Bundle`, `Clash`, `BadForm` as `make_plan` answers them; `Memory` where an allocation failed.
+/// - `Project`, `Bundle`, `Clash`, `BadForm` as `make_plan` answers them; `Memory` where an
+///   allocation failed.
 pub fn export_plan(
     alloc: Global,
     seen: &Seen<'_>,
@@ -68,7 +70,8 @@ pub fn export_plan(
     Ok(Plan { steps, told })
 }
 
-// The books that are named, in the order of books, all where none is named; one of which the project has no operation is refused.
+// The books that are named, in the order of books, all where none is named; one of which the
+// project has no operation is refused.
 fn chosen_books(alloc: Global, replica: &Replica, named: &[Book]) -> Result<Vec<Book>, Refusal> {
     for book in named {
         if !has_book(replica, *book) {
@@ -84,7 +87,8 @@ fn chosen_books(alloc: Global, replica: &Replica, named: &[Book]) -> Result<Vec<
     Ok(books)
 }
 
-// The new file of a book, if it gets one. The file that it replaces has to be as it was written, from what the project has.
+// The new file of a book, if it gets one. The file that it replaces has to be as it was written,
+// from what the project has.
 fn replaced(
     alloc: Global,
     seen: &Seen<'_>,

@@ -178,8 +178,9 @@ pub(crate) fn name_of<'a>(names: &'a [Named], book: Book) -> Option<&'a str>
     None
 }
 
-// What is refused of a folder in which it is not known which file is a book's: there are two; or under the name of a book's file stands
-// what is no longer that book's, so that its text would be lost from sight and the book written anew beside it.
+// What is refused of a folder in which it is not known which file is a book's: there are two; or
+// under the name of a book's file stands what is no longer that book's, so that its text would be
+// lost from sight and the book written anew beside it.
 fn unclear(seen: &Seen<'_>, files: &[BookFile<'_>]) -> Option<Place>
     ensures { result ≡ which.unclear (seen_view seen.now) (which.files_view files.now) }
 {
@@ -201,8 +202,8 @@ pub(crate) fn clear_files<'a>(alloc: Global, seen: &Seen<'a>) -> Result<Vec<Book
     }
 }
 
-// The place of the first second file of a book: of the one that is not written down as the book's, and of two that are not, of the later
-// one.
+// The place of the first second file of a book: of the one that is not written down as the book's,
+// and of two that are not, of the later one.
 fn second_file(names: &[Named], files: &[BookFile<'_>]) -> Option<usize>
     ensures { result ≡ which.second_file (map named_view names.now) (which.files_view files.now) }
 {

@@ -1,19 +1,21 @@
 //! Laws of a folder's files.
 ghost use Rattle.book_folder.specs.Laws as laws;
 
-/// Of two files of a book that are like each other, and were written from a base, each leads to the same project.
+/// Line ends say nothing: two files of a book that are like each other, and were written from the same
+/// base, lead to the same project, or are refused alike.
 pub fn line_ends_say_nothing()
     ensures { laws.LineEndsSayNothing }
 {}
 
-/// Each id that an edit of a file names is one that the file's base shows with the text that the file was written with; or the segment
-/// is one that the file is to settle, and it is one that the base shows.
+/// Each id that an edit of a file names is one that the file's base shows with the text that the
+/// file was written with; or the segment is one that the file is to settle, and it is one that the
+/// base shows.
 pub fn nothing_unseen_is_replaced()
     ensures { laws.NothingUnseenIsReplaced }
 {}
 
-/// Where a file has another text in a segment than its base picks, the project holds an operation of that segment with the file's text
-/// after the file was taken in.
+/// Where a file has another text in a segment than its base picks, the project holds an operation
+/// of that segment with the file's text after the file was taken in.
 pub fn nothing_written_is_lost()
     ensures { laws.NothingWrittenIsLost }
 {}

@@ -1,5 +1,6 @@
-//! A folder of books' files beside a project: what was changed in the files comes into the project, and the project's books go into
-//! the files. What is to be done is a plan, which one pure function makes of what was read.
+//! A folder of books' files beside a project: what was changed in the files comes into the project,
+//! and the project's books go into the files. What is to be done is a plan, which one pure function
+//! makes of what was read.
 #![tactic(auto)]
 
 mod asks;
@@ -19,9 +20,8 @@ mod refusal;
 mod restored;
 mod seen;
 mod stale;
+mod stood_texts;
 mod taking;
-#[cfg(test)]
-mod tests;
 
 pub use begun::settled;
 pub use export::export_plan;

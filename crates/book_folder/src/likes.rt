@@ -50,8 +50,8 @@ fn each_lf_has_cr(text: &[u8]) -> bool
     true
 }
 
-/// Whether two texts are like each other: equal but for a U+FEFF at the front, and for each CR directly before an LF. It does not
-/// allocate.
+/// Whether two texts are like each other: equal but for a U+FEFF at the front, and for each CR
+/// directly before an LF. It does not allocate.
 pub fn is_like(one: &[u8], other: &[u8]) -> bool
     ensures { result ≡ likes.like one.now other.now }
 {
@@ -101,7 +101,8 @@ fn next_byte(text: &[u8]) -> Option<(u8, &[u8])>
     }
 }
 
-/// Puts a text after another one, with its line ends in a manner; to be mixed is none, so that the text stays as it is.
+/// Puts a text after another one, with its line ends in a manner; to be mixed is none, so that the
+/// text stays as it is.
 ///
 /// # Errors
 /// Out of memory alone.

@@ -30,7 +30,8 @@ impl Form<'_> {
     }
 }
 
-// How files are named that have no name: as all others are, if these are named in one way; else as is asked for; else `CODE.usfm`.
+// How files are named that have no name: as all others are, if these are named in one way; else as
+// is asked for; else `CODE.usfm`.
 pub(crate) fn form_of<'a>(
     seen: &Seen<'a>,
     files: &[BookFile<'a>],
@@ -92,8 +93,9 @@ fn read_form<'a>(book: Book, name: &'a str) -> Option<Form<'a>> {
     })
 }
 
-// The form of a name that is asked for: of whatever book it is, with its number or without. It begins so, or it has no form: after a
-// number of another book, or of none, it is not known how the others are to be numbered.
+// The form of a name that is asked for: of whatever book it is, with its number or without. It
+// begins so, or it has no form: after a number of another book, or of none, it is not known how the
+// others are to be numbered.
 fn asked_form(name: &str) -> Option<Form<'_>> {
     if !may_be_book(name) || name.contains(['/', '\n']) {
         return None;
@@ -104,8 +106,8 @@ fn asked_form(name: &str) -> Option<Form<'_>> {
     }
 }
 
-// The form of a name that has at a place the code of a book that has a number. Other codes are passed over: else in a name with a
-// number `41M` would be one.
+// The form of a name that has at a place the code of a book that has a number. Other codes are
+// passed over: else in a name with a number `41M` would be one.
 fn form_at(name: &str, at: usize) -> Option<Form<'_>> {
     let code = name.get(at..)?.get(..CODE_BYTES)?;
     let book = Book::read(code).ok()?;
@@ -135,8 +137,8 @@ pub(crate) fn name_for(
     }
 }
 
-// Which file is which book's, in lines `CODE NAME`, by rising books: the file that the book has; else the one that it gets; else the
-// one that it had.
+// Which file is which book's, in lines `CODE NAME`, by rising books: the file that the book has;
+// else the one that it gets; else the one that it had.
 pub(crate) fn names_text(
     alloc: Global,
     seen: &Seen<'_>,
@@ -172,8 +174,9 @@ fn push_line(text: &mut Vec<u8>, book: Book, name: &str) -> Result<(), AllocErro
     writeln!(text, "{book} {name}").map_err(|_| AllocError)
 }
 
-/// The names that are written down in lines `CODE NAME`, in the order of books; of several of one book the first. What is no such
-/// line is skipped, and so is a name that is not one of a book's file in the folder.
+/// The names that are written down in lines `CODE NAME`, in the order of books; of several of one
+/// book the first. What is no such line is skipped, and so is a name that is not one of a book's
+/// file in the folder.
 ///
 /// # Errors
 /// Out of memory alone.

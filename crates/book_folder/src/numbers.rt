@@ -2,8 +2,8 @@
 use std::str;
 use usfm_ref::Book;
 
-// The numbers of books, each with the book's code, as USFM 3.0's table of book identifiers has them. Paratext writes them before
-// the codes in the names of files.
+// The numbers of books, each with the book's code, as USFM 3.0's table of book identifiers has
+// them. Paratext writes them before the codes in the names of files.
 const NUMBERS: &str = "\
     01GEN02EXO03LEV04NUM05DEU06JOS07JDG08RUT091SA102SA111KI122KI131CH142CH15EZR16NEH\
     17EST18JOB19PSA20PRO21ECC22SNG23ISA24JER25LAM26EZK27DAN28HOS29JOL30AMO31OBA32JON\

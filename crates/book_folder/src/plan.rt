@@ -56,10 +56,11 @@ pub struct Placing {
 pub enum Step {
     /// The project gets these bytes, as the project's file is replaced ever.
     ReplaceProject(Vec<u8>),
-    /// The base is settled: `settled` makes it of the `base`, the `next` and the books of which a `CODE.new` stands in the program's
-    /// folder by then. Where it is other than the `base`, that one is linked to `base.1`, after those that are older have moved on.
-    /// The new one is written under a name of its own, synced and renamed to `base`; the program's folder is synced; `next` is
-    /// removed; the program's folder is synced; then each `CODE.new` is removed.
+    /// The base is settled: `settled` makes it of the `base`, the `next` and the books of which a
+    /// `CODE.new` stands in the program's folder by then. Where it is other than the `base`, that
+    /// one is linked to `base.1`, after those that are older have moved on. The new one is written
+    /// under a name of its own, synced and renamed to `base`; the program's folder is synced;
+    /// `next` is removed; the program's folder is synced; then each `CODE.new` is removed.
     Settle,
     /// The `CODE.new` of a book, which a command that was cut short has left, is removed.
     RemoveNew(Book),
@@ -73,8 +74,8 @@ pub enum Step {
     PutNames(Vec<u8>),
     /// The `next`, in the same way.
     PutNext(Vec<u8>),
-    /// A `CODE.new` is renamed to its place, where the file there has the bytes that were read, or none is there and none was. Else it
-    /// is left, and so it is where it cannot be renamed.
+    /// A `CODE.new` is renamed to its place, where the file there has the bytes that were read, or
+    /// none is there and none was. Else it is left, and so it is where it cannot be renamed.
     Place(Placing),
     /// The folder is synced.
     SyncFolder,
@@ -106,18 +107,21 @@ pub struct Told {
     pub awaits: bool,
 }
 
-/// Plans what a sync does: what the bundles have and what was changed in the files comes into the project, and the project's books go
-/// into the files. Nothing is done by that.
+/// Plans what a sync does: what the bundles have and what was changed in the files comes into the
+/// project, and the project's books go into the files. Nothing is done by that.
 ///
-/// First what the files were written from is received; then each bundle; then what was changed in the files that were written from it,
-/// in their order; then the files of which that is not known. Then each book gets a new file where it has none that is like its text.
+/// First what the files were written from is received; then each bundle; then what was changed in
+/// the files that were written from it, in their order; then the files of which that is not known.
+/// Then each book gets a new file where it has none that is like its text.
 ///
 /// # Errors
 /// The first of these, and of what; nothing is to be done then.
-/// - `FileChanged` of a second file of a book, and of what stands under the name of a book's file and is no longer that book's; of a
-///   file that is not known to be written from the base, of a book that the project has, where it is not like the book's text; and of
-///   what stands where a new file is to be put.
-/// - `Project`, `Bundle`, `Clash`, `NotText`, `Edit` as the layers below refuse the project, a bundle or a file.
+/// - `FileChanged` of a second file of a book, and of what stands under the name of a book's file
+///   and is no longer that book's; of a file that is not known to be written from the base, of a
+///   book that the project has, where it is not like the book's text; and of what stands where a
+///   new file is to be put.
+/// - `Project`, `Bundle`, `Clash`, `NotText`, `Edit` as the layers below refuse the project, a
+///   bundle or a file.
 /// - `Unlike`, `Undone`, `Emptied` where it is to be asked first, unless it is wished.
 /// - `BadForm` where the name that is to say how files are named does not.
 /// - `Memory` where an allocation failed.
@@ -217,7 +221,8 @@ pub(crate) fn push_steps(
     push_places(steps, placings)
 }
 
-// The steps by which new files are written, and their names synced. It returns the steps by which they are put in their places.
+// The steps by which new files are written, and their names synced. It returns the steps by which
+// they are put in their places.
 fn push_writes(
     alloc: Global,
     steps: &mut Vec<Step>,

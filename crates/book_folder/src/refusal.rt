@@ -46,7 +46,8 @@ pub enum FolderFault {
     /// A file is not UTF-8 after this many bytes.
     #[error("not UTF-8 after {0} bytes")]
     NotText(usize),
-    /// A file was changed since the program wrote it, is a second one of its book, or is no longer its book's.
+    /// A file was changed since the program wrote it, is a second one of its book, or is no longer
+    /// its book's.
     #[error("the file was changed since it was written")]
     FileChanged,
     /// Of this many segments that have a text in what the file was written from, the file has none.
@@ -64,8 +65,8 @@ pub enum FolderFault {
     /// The project has no operation of a book that is asked for.
     #[error("no operation is of the book")]
     NoBook,
-    /// The name does not begin with the code of a book that has a number, or with that number and the code; or it is no name of a
-    /// book's file.
+    /// The name does not begin with the code of a book that has a number, or with that number and
+    /// the code; or it is no name of a book's file.
     #[error("the name does not say how files are named")]
     BadForm,
 }

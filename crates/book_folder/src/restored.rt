@@ -1,4 +1,5 @@
-// A file as nobody but a person changed it: what an editor did to line ends and to U+FEFF at the front is taken back.
+// A file as nobody but a person changed it: what an editor did to line ends and to U+FEFF at the
+// front is taken back.
 ghost use Rattle.std.specs.Prelude.{◌≡◌, IfOk, IsTrue, string_bytes};
 ghost use Rattle.usfm_ref.specs.Keys.{key_cmp};
 ghost use Rattle.usfm_ref.specs.Rising.{rises_by};
@@ -19,7 +20,8 @@ const BYTE_ORDER_MARK: &str = "\u{FEFF}";
 
 const BYTE_ORDER_MARK_BYTES: &[u8] = b"\xEF\xBB\xBF";
 
-// A text with U+FEFF at its front as another one has it, and with line ends as that one has them; where it has some of each, LF.
+// A text with U+FEFF at its front as another one has it, and with line ends as that one has them;
+// where it has some of each, LF.
 pub(crate) fn in_manner_of(alloc: Global, was: &[u8], now: &str) -> Result<String, AllocError>
     ensures { IfOk result (λ made.
         string_bytes made ≡ restored.in_manner_of was.now now.now) }
@@ -43,7 +45,8 @@ fn without_mark(text: &str) -> &str
     text.strip_prefix(BYTE_ORDER_MARK).unwrap_or(text)
 }
 
-// The pieces that are not given yet, each as the text that a base picks there, where the two are like each other.
+// The pieces that are not given yet, each as the text that a base picks there, where the two are
+// like each other.
 #[derive(Drop)]
 struct RestoredPieces<'p, 'a> {
     base: &'a Replica,

@@ -1,4 +1,5 @@
-// Files that an editor saved as it had read them before something came in: each is taken as written from an older base.
+// Files that an editor saved as it had read them before something came in: each is taken as written
+// from an older base.
 ghost use Rattle.std.specs.Prelude.{◌≡◌, ◌<◌, ◌≤◌, IfOk, IfSome, IsTrue, length, option_map};
 ghost use Rattle.usfm_ref.specs.Keys.{key_cmp};
 ghost use Rattle.usfm_ref.specs.Rising.{rises_by};
@@ -39,7 +40,8 @@ pub(crate) fn rebase_if_stale(
     Ok(begun)
 }
 
-// Has the base show of each file that may be an older one what the older base shows that it is least unlike; of several, the oldest.
+// Has the base show of each file that may be an older one what the older base shows that it is
+// least unlike; of several, the oldest.
 fn rebase(
     alloc: Global,
     begun: &mut Begun,
@@ -139,7 +141,8 @@ struct Choice {
     unlike: usize,
 }
 
-// Of the older bases from which a file may have been written, the one that it is least unlike; of several, the oldest.
+// Of the older bases from which a file may have been written, the one that it is least unlike; of
+// several, the oldest.
 fn oldest_alike(
     alloc: Global,
     base: &Replica,

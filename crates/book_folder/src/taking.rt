@@ -165,7 +165,8 @@ fn asked(
     Ok(emptied(alloc, beside.base, book, pieces)?.map(FolderFault::Emptied))
 }
 
-// How many texts came in since the first of the older bases of which a file has a text in the place of all of them.
+// How many texts came in since the first of the older bases of which a file has a text in the place
+// of all of them.
 fn undone(
     alloc: Global,
     beside: &Beside<'_>,
@@ -216,8 +217,8 @@ pub(crate) fn has_book(replica: &Replica, book: Book) -> bool
     replica.keys(book).next().is_some()
 }
 
-// Takes in a file of which it is not known what it was written from: nothing where it is like the book's export; all where the
-// project has no operation of the book.
+// Takes in a file of which it is not known what it was written from: nothing where it is like the
+// book's export; all where the project has no operation of the book.
 #[tactic(auto, unfolding(crate::specs::Taking::taken_strange))]
 fn take_strange(
     alloc: Global,

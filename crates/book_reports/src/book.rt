@@ -16,7 +16,7 @@ use usfm_ref::Book;
 /// after it, where something is to set off the mark.
 ///
 /// # Errors
-/// `AllocError` where a growth was refused.
+/// `AllocError` where an allocation failed.
 pub fn check_book(
     alloc: Global,
     set_off: Option<SetOff>,
@@ -38,7 +38,7 @@ pub fn check_book(
 /// after it, where something is to set off the needle.
 ///
 /// # Errors
-/// `EmptyNeedle` exactly where the needle is empty, and else `Memory` where a growth was refused.
+/// `EmptyNeedle` exactly where the needle is empty, and else `Memory` where an allocation failed.
 pub fn find_book(
     alloc: Global,
     set_off: Option<SetOff>,

@@ -13,7 +13,7 @@ use usfm_ref::{Book, Key, write_key, write_ref};
 /// The findings in a book, a line `REF CODE START` for each.
 ///
 /// # Errors
-/// `AllocError` where a growth was refused.
+/// `AllocError` where an allocation failed.
 pub fn finding_lines(alloc: Global, book: Book, found: &[Finding]) -> Result<Vec<u8>, AllocError>
     ensures { IfOk result (λ bytes. bytes.items ≡ lines.finding_lines book found.now) }
 {
@@ -44,7 +44,7 @@ fn push_finding(
 /// The hits in a book, a line `REF START` for each.
 ///
 /// # Errors
-/// `AllocError` where a growth was refused.
+/// `AllocError` where an allocation failed.
 pub fn hit_lines(alloc: Global, book: Book, hits: &[Hit<'_>]) -> Result<Vec<u8>, AllocError>
     ensures { IfOk result (λ bytes. bytes.items ≡ lines.hit_lines book (hits_view hits.now)) }
 {
@@ -69,7 +69,7 @@ fn push_hit(alloc: Global, bytes: &mut Vec<u8>, book: Book, hit: &Hit<'_>) -> Re
 /// The words of a book, a line for each: its form, and each of its keys after a space.
 ///
 /// # Errors
-/// `AllocError` where a growth was refused.
+/// `AllocError` where an allocation failed.
 pub fn word_lines(alloc: Global, words: &[Word]) -> Result<Vec<u8>, AllocError>
     ensures { IfOk result (λ bytes. bytes.items ≡ lines.word_lines words.now) }
 {

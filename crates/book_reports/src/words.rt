@@ -21,7 +21,7 @@ pub struct BookWord {
 /// Appends the words of the text of a book.
 ///
 /// # Errors
-/// `AllocError` where a growth was refused. Some of the words may be appended.
+/// `AllocError` where an allocation failed. Some of the words may be appended.
 pub fn push_words(
     alloc: Global,
     words: &mut Vec<BookWord>,
@@ -42,7 +42,7 @@ pub fn push_words(
 /// in the order in which they were given.
 ///
 /// # Errors
-/// `AllocError` where a growth was refused.
+/// `AllocError` where an allocation failed.
 pub fn words_by_form(alloc: Global, mut words: Vec<BookWord>) -> Result<Vec<u8>, AllocError>
     ensures { IfOk result (λ bytes.
         bytes.items ≡ spec.word_lines (spec.by_form words.items)) }

@@ -47,7 +47,7 @@ pub record IsFollowed (bytes : List ℕ) : Type 0 where
   pub some : rest ≢ []
   pub spelled : bytes ≡ bundle ops ++ rest
 
--- a growth was refused
+-- an allocation failed
 abbrev pub out_of_memory : WholeFault
 out_of_memory = whole.Bundle bundle_faults.Memory
 

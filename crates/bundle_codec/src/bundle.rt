@@ -62,7 +62,8 @@ impl<'a> Bundle<'a> {
         self.full
     }
 
-    /// Its operations, rising by id, lent from the bytes. The walk takes no memory.
+    /// Its operations, in ascending order of ids, lent from the bytes. The walk does not
+    /// allocate.
     pub fn ops(&self) -> BundleOps<'a>
         ensures items { result ≡ self.now }
         ensures set { IsOpSet self.now }
@@ -165,14 +166,14 @@ fn bundle_of(alloc: Global, bytes: &[u8]) -> Result<(Bundle<'_>, &[u8]), BundleF
 
 /// The bundle that the bytes begin with, and how many bytes it takes. What follows it is not read.
 ///
-/// Memory is taken only for a bundle of format 2 of which each field is right, and only for its
+/// It allocates only for a bundle of format 2 of which each field is right, and only for its
 /// thinned operations: to find out whether an operation of the same segment names each of them.
 ///
 /// # Errors
 /// The first field from left to right that is cut or breaks its rule, by `BundleFault`. A field is
 /// judged once it is whole, before the next one is looked at. After them all comes, of format 2, that
 /// no operation is thinned (`Unsupported(0)`), or the first thinned operation that none of its segment
-/// names, and in the place of this one `Memory` where a growth was refused.
+/// names, and in the place of this one `Memory` where an allocation failed.
 pub fn decode(alloc: Global, bytes: &[u8]) -> Result<(Bundle<'_>, usize), BundleFault>
     // What is read is a legal set of operations, and spelled so.
     ensures set { IfOk result (λ x. IsOpSet x.0) }

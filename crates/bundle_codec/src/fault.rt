@@ -13,7 +13,7 @@ use thiserror::Error;
 /// from 1.
 #[derive(Clone, Copy, Debug, PartialEq, Eq, Error)]
 pub enum BundleFault {
-    /// A growth was refused, where all fields are right and an operation is thinned.
+    /// An allocation failed, where all fields are right and an operation is thinned.
     #[error("out of memory")]
     Memory,
     /// The bytes differ from `USFMSR1` and from `USFMSR2`, each with a line feed, with one of which a
@@ -66,7 +66,7 @@ pub enum WholeFault {
 /// Why two bundles were not joined.
 #[derive(Clone, Copy, Debug, PartialEq, Eq, Error)]
 pub enum JoinFault {
-    /// A growth was refused.
+    /// An allocation failed.
     #[error("out of memory")]
     Memory,
     /// The first bytes, or else the second, are not one whole bundle.
@@ -80,7 +80,7 @@ pub enum JoinFault {
 /// Why bytes were not read as a summary.
 #[derive(Clone, Copy, Debug, PartialEq, Eq, Error)]
 pub enum SummaryFault {
-    /// A growth was refused.
+    /// An allocation failed.
     #[error("out of memory")]
     Memory,
     /// The bytes are not one whole summary.

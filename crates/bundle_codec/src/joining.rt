@@ -18,7 +18,7 @@ use std::alloc::Global;
 ///
 /// An operation that one of them has in full and the other without its text is thinned in the union.
 ///
-/// The first bytes are judged, then the second, and then the two together. Judging takes memory for
+/// The first bytes are judged, then the second, and then the two together. Judging allocates for
 /// what is thinned alone, as `decode` does. Once both are known to be bundles, as much is taken at
 /// once as both of them fill; nothing goes by a count that they state.
 ///
@@ -27,7 +27,7 @@ use std::alloc::Global;
 ///   the second.
 /// - `Clash` with the least id under which the two have operations that do not agree: their segments or
 ///   the ids that they name differ, or both have a text and these differ.
-/// - `Memory` where a growth was refused.
+/// - `Memory` where an allocation failed.
 pub fn join_bundles(alloc: Global, first: &[u8], second: &[u8]) -> Result<Vec<u8>, JoinFault>
     ensures joined { IfOk result (λ bytes.
         joining.bundles_joined first.now second.now ≡ Ok bytes.items) }
@@ -52,7 +52,7 @@ impl Bundle<'_> {
     /// # Errors
     /// - `Clash` with the least id under which the two have operations that do not agree, as of
     ///   `join_bundles`.
-    /// - `Memory` where a growth was refused.
+    /// - `Memory` where an allocation failed.
     pub fn join_after(
         &self,
         other: &Bundle<'_>,

@@ -26,8 +26,8 @@ use std::alloc::{AllocError, Global};
 use std::marker::Model;
 use writing::{push_front, push_name_ranges};
 
-/// Which ids a copy holds: names, rising by their bytes, each with ranges of numbers, of which no two
-/// touch.
+/// Which ids a copy holds: names, in ascending order of bytes, each with ranges of numbers, of which
+/// no two touch.
 #[derive(Debug, Drop)]
 pub struct Summary {
     names: Vec<NameRanges>,
@@ -54,7 +54,7 @@ impl Summary {
     ///   a to z, 0 to 9 and `-`, rise by their bytes and have at least one range; a range is from 1 to
     ///   10^15, its first no greater than its last, and begins more than one above the end of the one
     ///   before it; nothing follows.
-    /// - `Memory` where the bytes are a summary, and a growth was refused.
+    /// - `Memory` where the bytes are a summary, and an allocation failed.
     pub fn read(alloc: Global, bytes: &[u8]) -> Result<Summary, SummaryFault>
         ensures form { IfOk result sums.IsSummary }
         ensures spelled { IfOk result (λ s. bytes.now ≡ sums.summary s) }
@@ -106,7 +106,7 @@ impl Summary {
     }
 
     /// Whether an id's number lies in a range of its name. Names and ranges are searched by halves, and
-    /// it takes no memory.
+    /// it does not allocate.
     pub fn covers(&self, id: &OpId) -> bool
         ensures { result ≡ sums.covers self.now id.now }
     {
@@ -116,7 +116,7 @@ impl Summary {
         }
     }
 
-    /// How many ids it covers. It takes no memory.
+    /// How many ids it covers. It does not allocate.
     pub fn len(&self) -> u128
         ensures { result ≡ sums.ids_in self.now }
     {

@@ -10,7 +10,7 @@ pub enum FindFault {
     /// The needle is empty.
     #[error("the needle is empty")]
     EmptyNeedle,
-    /// A growth was refused.
+    /// An allocation failed.
     #[error("out of memory")]
     Memory,
 }

@@ -81,7 +81,7 @@ fn occurrences<'a>(
 /// closing mark. In each leaf hits are found from the left, and none overlaps one before it.
 ///
 /// # Errors
-/// `EmptyNeedle` exactly where the needle is empty, and else `Memory` where a growth is refused. A
+/// `EmptyNeedle` exactly where the needle is empty, and else `Memory` where an allocation fails. A
 /// search for a needle that occurs nowhere in the text, not even in a mark or a note, never answers
 /// `Memory`.
 pub fn find<'a>(

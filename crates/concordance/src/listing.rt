@@ -43,7 +43,7 @@ impl Word {
         self.form.as_str()
     }
 
-    /// The keys of the pieces that hold the starts of the word, rising, each once.
+    /// The keys of the pieces that hold the starts of the word, in ascending order, each once.
     pub fn keys(&self) -> &[Key]
         ensures { result.now ≡ self.now.keys }
     {
@@ -171,8 +171,8 @@ fn words_in(alloc: Global, groups: &IndexMap<&str, Vec<Key>>) -> Result<Vec<Word
     Ok(words)
 }
 
-/// The words of a book, by a style sheet: each form once, rising by its bytes, with the keys at
-/// which it occurs, rising, each once.
+/// The words of a book, by a style sheet: each form once, in ascending order of bytes, with the
+/// keys at which it occurs, in ascending order, each once.
 ///
 /// A word is a longest run of characters in one plain leaf that are alphabetic or combining marks,
 /// in Normalization Form C. Runs are found before that form is taken.

@@ -8,7 +8,7 @@ use usfm_export::WriteFault;
 /// Why a report was not written.
 #[derive(Clone, Copy, Debug, PartialEq, Eq, Error)]
 pub enum ReportFault {
-    /// 1: a growth was refused. Nothing was written.
+    /// 1: an allocation failed. Nothing was written.
     #[error("out of memory")]
     Memory,
     /// 90: the writer failed after it had taken this many bytes.

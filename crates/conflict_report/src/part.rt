@@ -55,7 +55,7 @@ pub(crate) fn awaited_line(alloc: Global, id: OpId) -> Result<String, AllocError
     format!(in alloc; "awaited {number} {name}\n")
 }
 
-// Writes parts one after another. It takes no memory.
+// Writes parts one after another. It does not allocate.
 pub(crate) fn write_parts<W: ByteSink>(sink: &mut W, parts: &[Part<'_>]) -> Result<(), WriteFault>
     ensures all { OnOk result (Appends (W.taken sink.old) (W.taken sink.new) (bytes_of parts.now)) }
     ensures front { IfErr result (λ fault.

@@ -11,9 +11,10 @@ use std::alloc::{AllocError, Global};
 use usfm_export::{ByteSink, StdSink};
 
 /// The conflict report of a replica. For each segment that shows two or more distinct texts, in the
-/// order of books and keys: the line `conflict REF n`, n how many they are; then for each, by its
-/// greatest shown id falling, the line `text NUMBER NAME LENGTH`, the text, and a line feed. Then the
-/// line `awaited NUMBER NAME` for each id that a held operation names and none has, rising.
+/// order of books and keys: the line `conflict REF n`, n how many they are; then for each, in
+/// descending order of their greatest shown ids, the line `text NUMBER NAME LENGTH`, the text, and a
+/// line feed. Then the line `awaited NUMBER NAME` for each id that a held operation names and none
+/// has, in ascending order.
 ///
 /// # Errors
 /// Out of memory alone.
@@ -31,7 +32,7 @@ pub fn report_text(alloc: Global, replica: &Replica) -> Result<Vec<u8>, AllocErr
 /// before the first byte is written; the texts are lent from the replica.
 ///
 /// # Errors
-/// - `Memory` (1) where a growth was refused. Nothing was written.
+/// - `Memory` (1) where an allocation failed. Nothing was written.
 /// - `WriteFailed` (90) where the sink answers an error, of whatever kind, or takes 0 bytes, with the
 ///   bytes that were written: they are the front of the report of that length. No write is tried again.
 pub fn write_report<W: ByteSink>(

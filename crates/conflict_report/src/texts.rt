@@ -9,7 +9,8 @@ use std::alloc::{AllocError, Global};
 use std::collections::BTreeSet;
 use usfm_ref::{Book, Key};
 
-/// The operations that a segment shows, lent from the replica, in two lists by falling id.
+/// The operations that a segment shows, lent from the replica, in two lists in descending order
+/// of ids.
 #[derive(Debug, Drop)]
 pub struct ShownTexts<'a> {
     /// Of each distinct text the operation with the greatest id that has it.

@@ -13,7 +13,7 @@ const HEX: &[u8; 16] = b"0123456789abcdef";
 /// UTF-8 are appended as they are, but for such as would be these characters.
 ///
 /// # Errors
-/// `AllocError` where a growth was refused. The bytes then end with some part of it.
+/// `AllocError` where an allocation failed. The bytes then end with some part of it.
 pub fn push_escaped(bytes: &mut Vec<u8>, text: &[u8]) -> Result<(), AllocError>
     ensures { OnOk result (bytes.new.items ≡ bytes.old.items ++ spec.escaped 0 text.now) }
 {

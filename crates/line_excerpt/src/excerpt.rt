@@ -25,7 +25,7 @@ pub enum SetOff {
 /// written that is more than [`REACH`] bytes away.
 ///
 /// # Errors
-/// `AllocError` where a growth was refused. The bytes then end with some part of the excerpt.
+/// `AllocError` where an allocation failed. The bytes then end with some part of the excerpt.
 pub fn push_excerpt(
     bytes: &mut Vec<u8>,
     set_off: SetOff,

@@ -62,7 +62,7 @@ impl Model for OpSet {
 }
 
 impl OpSet {
-    /// The empty set. It takes no memory.
+    /// The empty set. It does not allocate.
     pub fn new(alloc: Global) -> OpSet
         ensures { result ≡ [] }
     {
@@ -87,7 +87,7 @@ impl OpSet {
         self.ops.is_empty()
     }
 
-    /// The operations, rising by id, lent from the set. It takes no memory.
+    /// The operations, in ascending order of ids, lent from the set. It does not allocate.
     pub fn iter(&self) -> Ops<'_>
         ensures items { result ≡ self.now }
         ensures set { sets.IsOpSet self.now }
@@ -96,7 +96,7 @@ impl OpSet {
         Ops::new(&self.ops)
     }
 
-    /// The greatest number of an operation, 0 where it has none. It takes no memory.
+    /// The greatest number of an operation, 0 where it has none. It does not allocate.
     pub fn greatest_number(&self) -> u64
         ensures { result ≡ next_ids.greatest_number self.now }
     {
@@ -106,14 +106,15 @@ impl OpSet {
         }
     }
 
-    /// The held operation of an id, lent from the set. It takes no memory.
+    /// The held operation of an id, lent from the set. It does not allocate.
     pub fn get(&self, id: &OpId) -> Option<&Op>
         ensures { option_copied result ≡ sets.get self.now id.now }
     {
         find_op(&self.ops, *id, &mut Search::default())
     }
 
-    /// What finds held operations by their ids, and fastest by ids that rise. It takes no memory.
+    /// What finds held operations by their ids, and fastest by ids that rise. It does not
+    /// allocate.
     pub fn finder(&self) -> Finder<'_>
         ensures { result ≡ self.now }
     {
@@ -121,11 +122,11 @@ impl OpSet {
     }
 
     /// Adds an operation with its text, and says whether it is new. Where its id is held, what is
-    /// held stays, thinned if it was, and nothing grows.
+    /// held stays, thinned if it was, and nothing is allocated.
     ///
     /// # Errors
     /// `Clash` with the operation's id where a held operation has that id and does not agree with it;
-    /// `Memory` where a growth was refused. The set is then unchanged, and the operation dropped.
+    /// `Memory` where an allocation failed. The set is then unchanged, and the operation dropped.
     pub fn insert(&mut self, op: Op) -> Result<bool, SetFault>
         requires full { IsTrue (ops.is_full op) }
         ensures ok { OnOk result (self.new ≡ sets.put op self.old) }
@@ -153,11 +154,12 @@ impl OpSet {
     }
 
     /// Adds the operations of another set, and says how many are new. An operation that either set
-    /// has thinned is thinned in the union. Where the id of each is held already, nothing grows.
+    /// has thinned is thinned in the union. Where the id of each is held already, nothing is
+    /// allocated.
     ///
     /// # Errors
     /// `Clash` with the least id under which the two sets hold operations that do not agree;
-    /// `Memory` where a growth was refused. The set is then unchanged, and the other one dropped.
+    /// `Memory` where an allocation failed. The set is then unchanged, and the other one dropped.
     pub fn join(&mut self, other: OpSet) -> Result<u64, SetFault>
         ensures ok { OnOk result (self.new ≡ sets.join self.old other) }
         ensures count { IfOk result (λ n. length self.new ≡ length self.old + n) }
@@ -183,7 +185,7 @@ impl OpSet {
 
     /// Adds operations that rise by id and of which none is held, and says how many they are. In the
     /// union each thinned operation has to be named by one of its segment. What lies after the first
-    /// of them is moved once, however many they are. Where there are none, it takes no memory.
+    /// of them is moved once, however many they are. Where there are none, it does not allocate.
     ///
     /// # Errors
     /// Out of memory alone. The set is then unchanged, and the operations dropped.
@@ -210,8 +212,8 @@ impl OpSet {
         Ok(count as u64)
     }
 
-    /// The ids of the operations that the segment shows, rising, lent from the set; none where the
-    /// segment has no operation. It takes no memory.
+    /// The ids of the operations that the segment shows, in ascending order, lent from the set;
+    /// none where the segment has no operation. It does not allocate.
     pub fn shown_ids(&self, book: Book, key: Key) -> &[OpId]
         ensures { result.now ≡ lists.shown_ids self.now (segment book key) }
     {
@@ -219,22 +221,22 @@ impl OpSet {
         shown_of(self.index(), &segment, &mut Search::default())
     }
 
-    /// The books with an operation, in the order of books. The walk takes no memory.
+    /// The books with an operation, in the order of books. The walk does not allocate.
     pub fn books(&self) -> Books<'_>
         ensures { result ≡ lists.books_of self.now }
     {
         Books::new(self.index())
     }
 
-    /// The keys of a book with an operation, rising. The walk takes no memory.
+    /// The keys of a book with an operation, in ascending order. The walk does not allocate.
     pub fn keys(&self, book: Book) -> Keys<'_>
         ensures { result ≡ lists.keys_of self.now book }
     {
         Keys::new(book, self.index())
     }
 
-    /// The ids that a held operation names and none has, rising, each once. Where there is none, it
-    /// takes no memory.
+    /// The ids that a held operation names and none has, in ascending order, each once. Where there
+    /// is none, it does not allocate.
     ///
     /// # Errors
     /// Out of memory alone.
@@ -257,7 +259,7 @@ impl OpSet {
     }
 
     /// What the segment shows: the operations of it whose ids no operation of it names as replaced,
-    /// rising, lent from the set. Where it shows none, it takes no memory.
+    /// in ascending order, lent from the set. Where it shows none, it does not allocate.
     ///
     /// # Errors
     /// Out of memory alone.
@@ -279,7 +281,7 @@ impl OpSet {
 
     /// What is picked for the segment's text in its book's export: the chapter's own line for a head
     /// from chapter 1 on whose text would be empty while some verse of the chapter has a text, else
-    /// the shown operation with the greatest id, if there is one. It takes no memory.
+    /// the shown operation with the greatest id, if there is one. It does not allocate.
     pub fn pick(&self, book: Book, key: Key) -> Picked<'_>
         ensures { texts.picked result ≡ texts.pick self.now (segment book key) }
     {

@@ -35,8 +35,8 @@ pub fn push_lines(lines: &mut String, text: &str) -> Result<(), AllocError>
     Ok(())
 }
 
-/// Whether a text has no control character, so that `push_line` writes it as it is. It takes no
-/// memory.
+/// Whether a text has no control character, so that `push_line` writes it as it is. It does not
+/// allocate.
 pub fn is_plain(text: &str) -> bool
     ensures { result ≡ plain.is_plain text.now }
 {

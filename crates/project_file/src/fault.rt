@@ -10,7 +10,7 @@ use thiserror::Error;
 /// Why no project file was made.
 #[derive(Clone, Copy, Debug, PartialEq, Eq, Error)]
 pub enum CreateFault {
-    /// 1: a growth was refused.
+    /// 1: an allocation failed.
     #[error("out of memory")]
     Memory,
     /// 50: the text is anything but 1 to 32 of a to z, 0 to 9 and `-`.
@@ -21,7 +21,7 @@ pub enum CreateFault {
 /// Why bytes were not loaded.
 #[derive(Clone, Copy, Debug, PartialEq, Eq, Error)]
 pub enum LoadFault {
-    /// 1: a growth was refused.
+    /// 1: an allocation failed.
     #[error("out of memory")]
     Memory,
     /// 110: the bytes do not begin with `USFMPJ1`, a line feed, a length and a replica's name of that

@@ -29,7 +29,7 @@ static MAGIC: [u8; 8] = *b"USFMPJ1\n";
 ///
 /// # Errors
 /// - `BadName` (50) where the text is no replica's name.
-/// - `Memory` (1) where a growth was refused.
+/// - `Memory` (1) where an allocation failed.
 pub fn create(alloc: Global, name: &str) -> Result<Vec<u8>, CreateFault>
     ensures spelled { IfOk result (λ bytes. bytes.items ≡ projects.project (begun name.now)) }
     ensures again { IfOk result (λ bytes. projects.project_at bytes.items ≡ Ok (begun name.now)) }
@@ -44,16 +44,16 @@ pub fn create(alloc: Global, name: &str) -> Result<Vec<u8>, CreateFault>
 
 /// The replica whose project file the bytes are. It is a copy: nothing is lent from the bytes.
 ///
-/// The name is judged before any memory is taken, and so is the bundle, but for whether each thinned
-/// operation is named. Nothing goes by a count that the bytes state.
+/// The name is judged before anything is allocated, and so is the bundle, but for whether each
+/// thinned operation is named. Nothing goes by a count that the bytes state.
 ///
 /// # Errors
 /// - `BadProject` (110) where the magic or the name is cut or wrong.
 /// - `Bundle` with the refusal of what follows the name, as `bundle_codec::decode_whole` answers it: 60
 ///   to 69, and 70 where something follows the bundle.
-/// - `Memory` (1) where a growth was refused. It may be in the place of 69 and 70 where each field of
+/// - `Memory` (1) where an allocation failed. It may be in the place of 69 and 70 where each field of
 ///   the bundle is right and an operation is thinned, and of no other refusal. A replica that holds
-///   nothing is loaded without memory.
+///   nothing is loaded without allocating.
 pub fn load(alloc: Global, bytes: &[u8]) -> Result<Replica, LoadFault>
     // What is loaded is a replica, and the bytes are its project file.
     ensures loaded { IfOk result (λ s. projects.project_at bytes.now ≡ Ok s) }
@@ -64,7 +64,7 @@ pub fn load(alloc: Global, bytes: &[u8]) -> Result<Replica, LoadFault>
         → MatchResult result (λ loaded. loaded ≡ s) (λ fault. fault ≡ LoadFault.Memory) }
     // Which refusal it is.
     ensures refused { IfErr result (answers.RefusesLoad bytes.now) }
-    // A replica that holds nothing is loaded without memory.
+    // A replica that holds nothing is loaded without allocating.
     ensures nothing_held { (s : State) → projects.project_at bytes.now ≡ Ok s → s.held ≡ []
         → result ≢ Err LoadFault.Memory }
 {
@@ -93,7 +93,8 @@ pub fn load_book(alloc: Global, bytes: &[u8], book: Book) -> Result<Replica, Loa
         (λ fault. fault ≡ LoadFault.Memory) }
     // Which refusal it is.
     ensures refused { IfErr result (answers.RefusesLoad bytes.now) }
-    // Where nothing of the book is held, and nothing that is thinned, it is loaded without memory.
+    // Where nothing of the book is held, and nothing that is thinned, it is loaded without
+    // allocating.
     ensures nothing_held { (s : State) → projects.project_at bytes.now ≡ Ok s
         → IsTrue (all_full s.held) → ops_of_book s.held book ≡ [] → result ≢ Err LoadFault.Memory }
 {
@@ -155,7 +156,7 @@ impl<'a> Project<'a> {
     ///
     /// # Errors
     /// Those of `Bundle::join_after`: `Clash` (51) with the least id under which the replica and the
-    /// bundle have operations that do not agree, and `Memory` (1) where a growth was refused.
+    /// bundle have operations that do not agree, and `Memory` (1) where an allocation failed.
     pub fn receive(&self, alloc: Global, bundle: &Bundle<'_>) -> Result<(Vec<u8>, u64), JoinFault>
         ensures spelled { IfOk result (λ made.
             made.0.items ≡ projects.project (with_ops self.now bundle.now)) }
@@ -190,8 +191,8 @@ impl<'a> Project<'a> {
 
 /// The project file that the bytes are. What it holds stays lent from them.
 ///
-/// The name is judged before any memory is taken, and so is the bundle, but for whether each thinned
-/// operation is named. Nothing goes by a count that the bytes state.
+/// The name is judged before anything is allocated, and so is the bundle, but for whether each
+/// thinned operation is named. Nothing goes by a count that the bytes state.
 ///
 /// # Errors
 /// Those of `load`. `Memory` (1) is answered only where each field of the bundle is right and an
@@ -206,7 +207,7 @@ pub fn judge(alloc: Global, bytes: &[u8]) -> Result<Project<'_>, LoadFault>
         → MatchResult result (λ read. read ≡ s) (λ fault. fault ≡ LoadFault.Memory) }
     // Which refusal it is.
     ensures refused { IfErr result (answers.RefusesLoad bytes.now) }
-    // Where nothing that is held is thinned, it takes no memory.
+    // Where nothing that is held is thinned, it does not allocate.
     ensures full { (s : State) → projects.project_at bytes.now ≡ Ok s → IsTrue (all_full s.held)
         → result ≢ Err LoadFault.Memory }
 {

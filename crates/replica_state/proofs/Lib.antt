@@ -18,6 +18,7 @@ pub mod ThinnedRuns
 pub mod World
 pub mod Changes
 pub mod ChangeLists
+pub mod IdWalks
 pub mod ChangeRuns
 pub mod SinceSteps
 pub mod SinceLaws

@@ -10,7 +10,6 @@ ghost use Rattle.replica_state.specs.Edits as edits;
 ghost use Rattle.replica_state.specs.States.{IsState};
 ghost use Rattle.replica_state.specs.Steps.{edited_all, with_ops};
 
-use crate::edit::first_not_among;
 use crate::fault::EditFault;
 use crate::replica::Replica;
 use op_core::{LAST_NUMBER, Op, OpId};
@@ -34,17 +33,17 @@ impl Replica {
     /// of the replica that gives the segment the text and names the ids, each once. The first one's
     /// number is the greatest held number and one, and those of the others follow on. No edit names
     /// another: where two changes have one key, both texts are shown. Where there are no changes, it
-    /// takes no memory.
+    /// does not allocate.
     ///
     /// # Errors
     /// - `BadSegment` or `NotShown` for the first of the changes that may not be made: where its text
     ///   does not fit the book and the key; or else with the first of its ids that the segment does
     ///   not show.
     /// - `NumbersUsedUp` where there are changes and the last one's number would be above 10^15.
-    /// - `Memory` where a growth was refused.
+    /// - `Memory` where an allocation failed.
     ///
-    /// The first of them is answered, and the replica is then unchanged. No other refusal takes
-    /// memory.
+    /// The first of them is answered, and the replica is then unchanged. No other refusal needs
+    /// an allocation.
     pub fn change(&mut self, book: Book, changes: &[Change<'_>]) -> Result<u64, EditFault>
         ensures step { let made = changing.changes_ops self.old book (changes_view changes.now) in
             result ≢ Err EditFault.Memory →
@@ -82,8 +81,8 @@ impl Replica {
         if !fits(book, change.key, change.text) {
             return Some(EditFault::BadSegment);
         }
-        let shown = self.set.shown_ids(book, change.key);
-        first_not_among(&change.ids, shown).map(|id| EditFault::NotShown(*id))
+        self.first_not_shown(book, change.key, &change.ids)
+            .map(|id| EditFault::NotShown(*id))
     }
 
     // The number of the first of this many operations more, if numbers are left for all of them.
@@ -115,7 +114,7 @@ impl Replica {
     }
 
     // Makes the edits of some changes, numbered from the first one on, and says how many they are.
-    // Nothing grows where there are none.
+    // Nothing is allocated where there are none.
     pub(crate) fn make(
         &mut self,
         first: u64,

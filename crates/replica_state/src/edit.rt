@@ -1,6 +1,6 @@
 // Edits of a replica.
-ghost use Rattle.std.specs.Prelude.{◌≡◌, ◌≢◌, [], None, Err, IfOk, IfErr, IsOk, IsTrue, OnOk, OnErr, filter, length, not};
-ghost use Rattle.std.specs.List.{AllByRecursion, find};
+ghost use Rattle.std.specs.Prelude.{◌≡◌, ◌≢◌, [], None, Err, IfOk, IfErr, IsOk, IsTrue, OnOk, OnErr, length};
+ghost use Rattle.std.specs.List.{AllByRecursion};
 ghost use Rattle.std.specs.Option.{option_copied};
 ghost use Rattle.usfm_ref.specs.Segments.{segment};
 ghost use Rattle.op_core.specs.Export.{has_book};
@@ -13,9 +13,10 @@ ghost use Rattle.replica_state.specs.Steps.{step, Edit, EditOver, Edited, with_o
 
 use crate::change::Change;
 use crate::fault::EditFault;
+use crate::ids::{first_not_among, given_among, is_among};
 use crate::replica::Replica;
 use op_core::{Op, OpId};
-use std::alloc::{AllocError, Global};
+use std::alloc::AllocError;
 use usfm_ref::{Book, Key};
 use verse_cut::fits;
 
@@ -27,10 +28,10 @@ impl Replica {
     /// - `BadSegment` where the text does not fit the book and the key.
     /// - `NoBook` where the book has no operation and the key is not the head of the book.
     /// - `NumbersUsedUp` where the number would be above 10^15.
-    /// - `Memory` where a growth was refused.
+    /// - `Memory` where an allocation failed.
     ///
-    /// The first of them is answered, and the replica is then unchanged. No other refusal takes
-    /// memory.
+    /// The first of them is answered, and the replica is then unchanged. No other refusal needs
+    /// an allocation.
     pub fn edit(&mut self, book: Book, key: Key, text: &str) -> Result<OpId, EditFault>
         ensures step { result ≢ Err EditFault.Memory →
             step self.old (Edit (segment book key) text.now)
@@ -59,10 +60,10 @@ impl Replica {
     /// - `NoBook` where the book has no operation and the key is not the head of the book.
     /// - `NotShown` with the first of the ids that the segment does not show.
     /// - `NumbersUsedUp` where the number would be above 10^15.
-    /// - `Memory` where a growth was refused.
+    /// - `Memory` where an allocation failed.
     ///
-    /// The first of them is answered, and the replica is then unchanged. No other refusal takes
-    /// memory.
+    /// The first of them is answered, and the replica is then unchanged. No other refusal needs
+    /// an allocation.
     pub fn edit_over(
         &mut self,
         book: Book,
@@ -80,7 +81,7 @@ impl Replica {
         if let Some(fault) = self.edit_fault(book, key, text) {
             return Err(fault);
         }
-        if let Some(id) = first_not_among(over, self.set.shown_ids(book, key)) {
+        if let Some(id) = self.first_not_shown(book, key, over) {
             return Err(EditFault::NotShown(*id));
         }
         let Some(number) = self.first_number(1) else {
@@ -131,8 +132,28 @@ impl Replica {
         given_among(self.alloc, self.set.shown_ids(book, key), given)
     }
 
+    /// Whether the segment shows an operation of this id. It takes no memory.
+    pub fn shows_id(&self, book: Book, key: Key, id: OpId) -> bool
+        ensures { result ≡ is_among (shown_ids self.now.held (segment book key)) id }
+    {
+        is_among(self.set.shown_ids(book, key), id)
+    }
+
+    // The first of some ids that the segment does not show.
+    pub(crate) fn first_not_shown<'a>(
+        &self,
+        book: Book,
+        key: Key,
+        ids: &'a [OpId],
+    ) -> Option<&'a OpId>
+        ensures { option_copied result
+            ≡ edits.first_not_shown self.now.held (segment book key) ids.now }
+    {
+        first_not_among(ids, self.set.shown_ids(book, key))
+    }
+
     // Adds operations that rise by id and of which none is held, and says how many they are. Nothing
-    // grows where there are none.
+    // is allocated where there are none.
     pub(crate) fn join_new(&mut self, new: Vec<Op>) -> Result<u64, AllocError>
         requires rising { IsTrue (rises new.items) }
         requires apart { AllByRecursion (λ o. get self.old.held o.id ≡ None) new.items }
@@ -147,33 +168,4 @@ impl Replica {
         let _ = self.set.iter();
         Ok(count)
     }
-}
-
-// The first of the ids that is not among the shown ones.
-pub(crate) fn first_not_among<'a>(ids: &'a [OpId], shown: &[OpId]) -> Option<&'a OpId>
-    ensures { option_copied result ≡ find (λ id. not (is_among shown.now id)) ids.now }
-{
-    ids.iter().find(|id| !is_among(shown, **id))
-}
-
-// The shown ids that are given.
-fn given_among(alloc: Global, shown: &[OpId], given: &[OpId]) -> Result<Vec<OpId>, AllocError>
-    ensures { IfOk result (λ ids. ids.items ≡ filter (is_among given.now) shown.now) }
-{
-    if given == shown {
-        // Looking for each among all takes long where a segment shows many.
-        return shown.to_vec(alloc);
-    }
-    shown
-        .iter()
-        .copied()
-        .filter(|id| is_among(given, *id))
-        .collect(alloc)
-}
-
-// Whether the id is among some ids.
-pub(crate) fn is_among(ids: &[OpId], id: OpId) -> bool
-    ensures { result ≡ is_among ids.now id }
-{
-    ids.iter().any(|one| id == *one)
 }

@@ -13,7 +13,7 @@ use verse_cut::BookFault;
 /// Why a bundle was not taken in. A replica is then unchanged, and a gathering is dropped.
 #[derive(Clone, Copy, Debug, PartialEq, Eq, Error)]
 pub enum ReceiveFault {
-    /// A growth was refused.
+    /// An allocation failed.
     #[error("out of memory")]
     Memory,
     /// The replica and the bundle have operations of this id that do not agree.
@@ -24,7 +24,7 @@ pub enum ReceiveFault {
 /// Why a segment was not edited. The replica is then unchanged.
 #[derive(Clone, Copy, Debug, PartialEq, Eq, Error)]
 pub enum EditFault {
-    /// A growth was refused.
+    /// An allocation failed.
     #[error("out of memory")]
     Memory,
     /// The text does not fit the book and the key.
@@ -44,7 +44,7 @@ pub enum EditFault {
 /// Why a file was not imported. The replica is then unchanged.
 #[derive(Clone, Copy, Debug, PartialEq, Eq, Error)]
 pub enum ImportFault {
-    /// A growth was refused.
+    /// An allocation failed.
     #[error("out of memory")]
     Memory,
     /// The file does not begin as a book does.
@@ -58,7 +58,7 @@ pub enum ImportFault {
 /// Why a file was not imported since a base. The replica is then unchanged.
 #[derive(Clone, Copy, Debug, PartialEq, Eq, Error)]
 pub enum SinceFault {
-    /// A growth was refused.
+    /// An allocation failed.
     #[error("out of memory")]
     Memory,
     /// The file does not begin as a book does.

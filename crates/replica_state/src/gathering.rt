@@ -20,8 +20,8 @@ use std::marker::Model;
 use usfm_ref::Book;
 
 /// The operations of bundles that are taken in one after another, lent from the bundles' bytes. What a
-/// bundle costs hangs on what it has, and hardly on what was taken in before it, whatever order they
-/// come in.
+/// bundle costs depends on what it has, and hardly on what was taken in before it, in whatever order
+/// they come.
 #[derive(Debug, Drop)]
 pub struct Gathering<'a> {
     alloc: Global,
@@ -45,7 +45,7 @@ impl<'a> Model for Gathering<'a> {
 }
 
 impl<'a> Gathering<'a> {
-    /// No operations. It takes no memory.
+    /// No operations. It does not allocate.
     pub fn new(alloc: Global) -> Gathering<'a>
         ensures { result ≡ [] }
     {
@@ -61,7 +61,7 @@ impl<'a> Gathering<'a> {
     /// # Errors
     /// `Clash` with the least id under which it and the bundle have operations that do not agree:
     /// their segments or the ids that they name differ, or both have a text and these differ.
-    /// `Memory` where a growth was refused. All operations are then dropped.
+    /// `Memory` where an allocation failed. All operations are then dropped.
     pub fn receive(self, bundle: &Bundle<'a>) -> Result<Gathering<'a>, ReceiveFault>
         ensures ok { IfOk result (λ after. after ≡ sets.join self.entry bundle.now) }
         ensures agrees { OnOk result (sets.clash self.entry bundle.now ≡ None) }
@@ -81,7 +81,7 @@ impl<'a> Gathering<'a> {
     }
 
     /// A replica of this name that holds those of the operations which are of one book. Only these are
-    /// copied. Where there is none, it takes no memory. It is to be looked at alone, as that of
+    /// copied. Where there is none, it does not allocate. It is to be looked at alone, as that of
     /// `Replica::of_book`.
     ///
     /// # Errors
@@ -94,8 +94,8 @@ impl<'a> Gathering<'a> {
         replica_of(self.alloc, name, self.copy_of_book(book)?)
     }
 
-    // The operations of a book, copied out of the bundles' bytes, rising. Nothing grows before the
-    // first of them.
+    // The operations of a book, copied out of the bundles' bytes, rising. Nothing is allocated
+    // before the first of them.
     fn copy_of_book(&self, book: Book) -> Result<Vec<Op>, AllocError>
         ensures set { sets.IsOpSet self.now }
         ensures legal { IsTrue (is_legal self.now) }

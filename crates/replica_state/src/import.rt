@@ -30,7 +30,7 @@ impl Replica {
     /// - `BadFile` where the file does not begin with at most one U+FEFF, `\id`, a blank, and a
     ///   book's code that ends.
     /// - `NumbersUsedUp` where an edit is due and the last one's number would be above 10^15.
-    /// - `Memory` where a growth was refused.
+    /// - `Memory` where an allocation failed.
     ///
     /// The first of them is answered, and the replica is then unchanged. A file that is no book's
     /// is never refused as out of memory.
@@ -77,7 +77,7 @@ impl Replica {
     }
 
     /// The keys that a change of a book's file may concern: those of the book with an operation, the heads of their chapters,
-    /// and the keys of the file's pieces, rising, each once.
+    /// and the keys of the file's pieces, in ascending order, each once.
     ///
     /// # Errors
     /// Out of memory alone.

@@ -6,6 +6,7 @@ mod change;
 mod edit;
 mod fault;
 mod gathering;
+mod ids;
 mod import;
 pub mod laws;
 mod one_book;

@@ -12,8 +12,8 @@ use usfm_ref::Book;
 
 impl Replica {
     /// A replica of this name that holds those operations of a bundle which are of one book. Only
-    /// these are copied. Where there is none, it takes no memory. It is to be looked at alone: an edit
-    /// of it may give an id that the bundle has in another book.
+    /// these are copied. Where there is none, it does not allocate. It is to be looked at alone: an
+    /// edit of it may give an id that the bundle has in another book.
     ///
     /// # Errors
     /// Out of memory alone.
@@ -31,7 +31,7 @@ impl Replica {
     }
 }
 
-// A replica of this name that holds the operations. Where there is none, it takes no memory.
+// A replica of this name that holds the operations. Where there is none, it does not allocate.
 pub(crate) fn replica_of(
     alloc: Global,
     name: ReplicaName,
@@ -48,7 +48,7 @@ pub(crate) fn replica_of(
 }
 
 // The operations of a bundle that are of a book, copied out of the bundle's bytes, rising. Nothing
-// grows before the first of them.
+// is allocated before the first of them.
 fn copy_of_book(alloc: Global, bundle: &Bundle<'_>, book: Book) -> Result<Vec<Op>, AllocError>
     ensures set { IsOpSet bundle.now }
     ensures legal { IsTrue (is_legal bundle.now) }

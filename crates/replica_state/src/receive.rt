@@ -19,7 +19,7 @@ impl Replica {
     /// # Errors
     /// `Clash` with the least id under which the replica and the bundle have operations that do not
     /// agree: their segments or the ids that they name differ, or both have a text and these differ.
-    /// `Memory` where a growth was refused. The replica is then unchanged.
+    /// `Memory` where an allocation failed. The replica is then unchanged.
     pub fn receive(&mut self, bundle: &Bundle<'_>) -> Result<u64, ReceiveFault>
         ensures step { result ≢ Err ReceiveFault.Memory →
             step self.old (Receive bundle.now)
@@ -45,7 +45,7 @@ impl Replica {
     }
 
     // The operations of a bundle that the replica lacks, copied out of the bundle's bytes, rising.
-    // Nothing grows before the first of them.
+    // Nothing is allocated before the first of them.
     pub(crate) fn copy_lacked(&self, bundle: &Bundle<'_>) -> Result<Vec<Op>, ReceiveFault>
         ensures state { IsState self.now }
         ensures set { sets.IsOpSet bundle.now }

@@ -9,7 +9,6 @@ ghost use Rattle.bundle_codec.specs.Summaries.{IsSummaryOf, summary_of, outside}
 ghost use Rattle.replica_state.specs.States.{IsState, begun};
 ghost use Rattle.replica_state.specs.Steps.{step, Thin, Thinned};
 
-use crate::edit::is_among;
 use bundle_codec::{Summary, encode, encode_after, encode_outside};
 use op_core::{Books, Keys, Op, OpId, OpSet, Picked, ReplicaName};
 use std::alloc::{AllocError, Global};
@@ -36,7 +35,7 @@ impl Model for Replica {
 }
 
 impl Replica {
-    /// A replica of this name that holds nothing. It takes no memory.
+    /// A replica of this name that holds nothing. It does not allocate.
     pub fn new(alloc: Global, name: ReplicaName) -> Replica
         ensures { result ≡ begun name }
     {
@@ -62,30 +61,30 @@ impl Replica {
         &self.set
     }
 
-    /// Whether the segment of an operation shows its id. It takes no memory.
+    /// Whether the segment of an operation shows its id. It does not allocate.
     pub fn shows(&self, op: &Op) -> bool
         ensures { result
             ≡ is_among (lists.shown_ids self.now.held op.now.segment) op.now.id }
     {
-        is_among(self.set.shown_ids(op.book(), op.key()), op.id())
+        self.shows_id(op.book(), op.key(), op.id())
     }
 
-    /// The books with an operation, in the order of books. The walk takes no memory.
+    /// The books with an operation, in the order of books. The walk does not allocate.
     pub fn books(&self) -> Books<'_>
         ensures { result ≡ lists.books_of self.now.held }
     {
         self.set.books()
     }
 
-    /// The keys of a book with an operation, rising. The walk takes no memory.
+    /// The keys of a book with an operation, in ascending order. The walk does not allocate.
     pub fn keys(&self, book: Book) -> Keys<'_>
         ensures { result ≡ lists.keys_of self.now.held book }
     {
         self.set.keys(book)
     }
 
-    /// The ids that a held operation names and none has, rising, each once. Where there is none, it
-    /// never answers out of memory.
+    /// The ids that a held operation names and none has, in ascending order, each once. Where there
+    /// is none, it never answers out of memory.
     ///
     /// # Errors
     /// Out of memory alone.
@@ -97,8 +96,8 @@ impl Replica {
     }
 
     /// What the segment shows: the operations of it whose ids no operation of it names as replaced,
-    /// rising, lent from the replica. Where it shows none, it never
-    /// answers out of memory.
+    /// in ascending order, lent from the replica. Where it shows none, it never answers out of
+    /// memory.
     ///
     /// # Errors
     /// Out of memory alone.
@@ -112,7 +111,7 @@ impl Replica {
 
     /// What is picked for the segment's text in its book's export: the chapter's own line for a head
     /// from chapter 1 on whose text would be empty while some verse of the chapter has a text, else
-    /// the shown operation with the greatest id, if there is one. It takes no memory.
+    /// the shown operation with the greatest id, if there is one. It does not allocate.
     pub fn pick(&self, book: Book, key: Key) -> Picked<'_>
         ensures { texts.picked result ≡ texts.pick self.now.held (segment book key) }
     {
@@ -170,7 +169,7 @@ impl Replica {
 
     /// Leaves out the text of every operation that a held operation of its segment names as replaced,
     /// and says how many texts it left out. What is shown, picked, awaited and summed up stays. It
-    /// takes no memory.
+    /// does not allocate.
     pub fn thin(&mut self) -> u64
         ensures { step self.old Thin ≡ record { after = self.new; reply = Thinned result } }
     {

@@ -44,7 +44,7 @@ impl Replica {
     /// - `Clash` with the least id under which the replica and the base have operations that do not
     ///   agree.
     /// - `NumbersUsedUp` where an edit is due and the last one's number would be above 10^15.
-    /// - `Memory` where a growth was refused.
+    /// - `Memory` where an allocation failed.
     ///
     /// The first of them is answered, and the replica is then unchanged: it has not received the base
     /// either. A file that is no book's is never refused as out of memory, nor is a clash that comes in
@@ -165,7 +165,7 @@ impl Replica {
     }
 
     /// The change of a key, if it was changed in a file since another replica wrote it: the file's piece, over what the segment
-    /// shows of that which stood in the file. The pieces are those of the file, of rising keys.
+    /// shows of that which stood in the file. The pieces are those of the file, in ascending order of keys.
     ///
     /// # Errors
     /// Out of memory alone.

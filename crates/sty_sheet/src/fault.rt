@@ -7,7 +7,7 @@ use thiserror::Error;
 /// Why a text is no style sheet: the fault of its first faulty line. Lines are counted from 1.
 #[derive(Clone, Copy, Debug, PartialEq, Eq, Error)]
 pub enum SheetFault {
-    /// A growth was refused.
+    /// An allocation failed.
     #[error("out of memory")]
     Memory,
     /// A field that is read comes before the first `\Marker`.

@@ -44,7 +44,7 @@ impl<'s> Sheet<'s> {
     /// # Errors
     ///
     /// The fault of the first faulty line, and on one line `FieldBeforeMarker` before
-    /// `BadStyleType`. `Memory` where a growth was refused: never in the place of
+    /// `BadStyleType`. `Memory` where an allocation failed: never in the place of
     /// `FieldBeforeMarker`, and in that of another fault only where two records begin before it.
     pub fn read(alloc: Global, text: &'s str) -> Result<Sheet<'s>, SheetFault>
         ensures sheet { Gives result (sheet_of text.now) }
@@ -59,7 +59,7 @@ impl<'s> Sheet<'s> {
         reader.finish()
     }
 
-    /// The record of a marker. It takes no memory.
+    /// The record of a marker. It does not allocate.
     pub fn style(&self, name: &str) -> Option<&Style<'s>>
         ensures { option_map (λ s. record_of s.now) result ≡ named name.now (records_of self.now) }
     {
@@ -71,7 +71,7 @@ impl<'s> Sheet<'s> {
 
     /// The record of a mark's name. If none has it, and the name is not empty, the first milestone
     /// whose closing name it is: the marks that end a milestone have no record of their own. It
-    /// takes no memory.
+    /// does not allocate.
     pub fn style_of(&self, name: &str) -> Option<&Style<'s>>
         ensures { let found = option_map (λ s. record_of s.now) result in
             found ≡ mark_style (records_of self.now) name.now }
@@ -89,7 +89,7 @@ impl<'s> Sheet<'s> {
     }
 
     /// Whether a word is one of those of OccursUnder of a mark's record, as `style_of` finds it. Many
-    /// words are looked up, and not gone through. It takes no memory.
+    /// words are looked up, and not gone through. It does not allocate.
     pub fn has_under(&self, name: &str, word: &str) -> bool
         ensures { let style = mark_style (records_of self.now) name.now in
             result ≡ has_word word.now (under_in style) }
@@ -103,7 +103,7 @@ impl<'s> Sheet<'s> {
         }
     }
 
-    /// The records, in the order in which their markers first stand. It takes no memory.
+    /// The records, in the order in which their markers first stand. It does not allocate.
     pub fn iter(&self) -> Styles<'_, 's>
         ensures { records_left result ≡ records_of self.now }
     {

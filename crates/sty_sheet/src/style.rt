@@ -46,7 +46,8 @@ impl<'s> Style<'s> {
         self.closer
     }
 
-    /// The words of the field OccursUnder, in order. Blanks divide the words. It takes no memory.
+    /// The words of the field OccursUnder, in order. Blanks divide the words. It does not
+    /// allocate.
     pub fn under_words(&self) -> UnderWords<'s>
         ensures { words_left result ≡ (record_of self.now).under }
     {

@@ -2,7 +2,7 @@ use crate::listed::Listed;
 use crate::style::Style;
 use indexmap::map::Values;
 
-/// The records of a sheet, in order. It takes no memory.
+/// The records of a sheet, in order. It does not allocate.
 #[derive(Drop)]
 pub struct Styles<'t, 's> {
     pub(crate) values: Values<'t, &'s str, Listed<'s>>,

@@ -1,7 +1,7 @@
 use crate::words::next_word;
 
-/// The words of a style's field OccursUnder, in order. Made by `Style::under_words`; it takes no
-/// memory.
+/// The words of a style's field OccursUnder, in order. Made by `Style::under_words`; it does not
+/// allocate.
 #[derive(Clone, Debug, Drop)]
 pub struct UnderWords<'s> {
     pub(crate) rest: &'s str,

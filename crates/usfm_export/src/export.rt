@@ -15,12 +15,12 @@ use replica_state::Replica;
 use std::alloc::Global;
 use usfm_ref::{Book, Key, Place};
 
-/// The text of a book: the picked texts of its segments by rising key. It is UTF-8, and cuts back
-/// into them.
+/// The text of a book: the picked texts of its segments in ascending order of keys. It is UTF-8,
+/// and cuts back into them.
 ///
 /// # Errors
 /// - `NoBook` (82) exactly where the book has no operation.
-/// - `Memory` (1) where a growth was refused.
+/// - `Memory` (1) where an allocation failed.
 pub fn book_text(alloc: Global, replica: &Replica, book: Book) -> Result<Vec<u8>, TextFault>
     ensures { AnswersText replica.now.held book result }
 {
@@ -32,8 +32,8 @@ pub fn book_text(alloc: Global, replica: &Replica, book: Book) -> Result<Vec<u8>
     }
 }
 
-/// Writes the text of a book to a sink: the picked texts of its segments by rising key, in one walk
-/// over its keys. It takes no memory.
+/// Writes the text of a book to a sink: the picked texts of its segments in ascending order of
+/// keys, in one walk over its keys. It does not allocate.
 ///
 /// # Errors
 /// - `NoBook` (82) exactly where the book has no operation. Nothing was written.
@@ -68,7 +68,7 @@ fn has_book(replica: &Replica, book: Book) -> bool
 }
 
 // Writes the picked texts of the book's segments by rising key, in one walk over its keys with an
-// operation. It takes no memory.
+// operation. It does not allocate.
 fn write_keys<W: ByteSink>(replica: &Replica, book: Book, sink: &mut W) -> Result<(), WriteFault>
     ensures all { OnOk result
         (Appends (W.taken sink.old) (W.taken sink.new) (exports.export replica.now.held book)) }

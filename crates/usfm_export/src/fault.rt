@@ -26,7 +26,7 @@ impl From<WriteFault> for ExportFault {
 /// Why a book's text was not given.
 #[derive(Clone, Copy, Debug, PartialEq, Eq, Error)]
 pub enum TextFault {
-    /// 1: a growth was refused.
+    /// 1: an allocation failed.
     #[error("out of memory")]
     Memory,
     /// 82: the book has no operation.

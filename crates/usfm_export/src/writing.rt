@@ -15,7 +15,7 @@ pub struct WriteFault {
     pub gone: u64,
 }
 
-/// Writes all of the piece. It takes no memory.
+/// Writes all of the piece. It does not allocate.
 ///
 /// # Errors
 /// The bytes that were written where the sink answers an error, of whatever kind, or takes 0 bytes. No write
@@ -39,7 +39,7 @@ pub fn write_all<W: ByteSink>(sink: &mut W, piece: &[u8]) -> Result<(), WriteFau
 }
 
 /// Writes all of one more piece of a text of which `gone` bytes are written, and answers how many
-/// are written with it. The count stays at `u64::MAX`. It takes no memory.
+/// are written with it. The count stays at `u64::MAX`. It does not allocate.
 ///
 /// A loop over the pieces of a text, which starts with 0 and hands the answer on, so knows at each
 /// error how much of the whole text went out.

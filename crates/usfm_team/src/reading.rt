@@ -27,6 +27,9 @@ pub(crate) const MADE_END: &str = ".made";
 
 const BUNDLE_END: &str = ".bundle";
 
+// A file of more bytes is no book's: it is not read.
+const MOST_BYTES: u64 = 16_777_216;
+
 // The books' files of a folder, and what is kept beside them.
 #[derive(Drop)]
 pub(crate) struct Read {
@@ -151,7 +154,7 @@ pub(crate) fn read_folder(
     Ok(read)
 }
 
-// Reads what stands under the name of a book's file. A plain file alone is read.
+// Reads what stands under the name of a book's file. A plain file alone is read, and none of more bytes than a book's.
 fn read_found(
     rt: &HostRuntime,
     folder: &Folder,
@@ -160,6 +163,11 @@ fn read_found(
     is_said: bool,
 ) -> Result<(), Fault> {
     match open_plain(rt, &folder.way_to(rt, &name)?)? {
+        Opened::Plain(file) if look_at(&file)?.len() > MOST_BYTES => {
+            let why = ": it has more than 16,777,216 bytes";
+            say_skipped(rt, is_said, &folder.name_of(rt, &name)?, why);
+            read.others.push(name)?;
+        }
         Opened::Plain(file) => {
             let bytes = read_open(rt, &file)?;
             if book_begun(&bytes).is_some() {

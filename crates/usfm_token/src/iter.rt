@@ -5,7 +5,7 @@ ghost use Rattle.usfm_token.specs.View.{lexemes, rest_of};
 use crate::token::{Token, split_token};
 use std::alloc::{AllocError, Global};
 
-/// The tokens of a text, one after the other. It takes no memory.
+/// The tokens of a text, one after the other. It does not allocate.
 #[derive(Clone, Debug, Drop)]
 pub struct TokenIter<'a> {
     rest: &'a str,

@@ -6,7 +6,7 @@ ghost use Rattle.usfm_token.specs.View.{valid_of};
 use crate::fault::TokenFault;
 use simdutf8::compat;
 
-/// The bytes as text, where they are UTF-8. It takes no memory.
+/// The bytes as text, where they are UTF-8. It does not allocate.
 ///
 /// # Errors
 ///

@@ -46,7 +46,7 @@ impl<'a> Tree<'a> {
         Ok(Tree { source, kids })
     }
 
-    /// What is under the root, in order. It takes no memory.
+    /// What is under the root, in order. It does not allocate.
     pub fn kids(&self) -> &[Node<'a>]
         ensures kids { forest_of result.now ≡ forest_in self.now }
         ensures stand { PartsStand (source_of self.now) (forest_in self.now) }
@@ -56,7 +56,7 @@ impl<'a> Tree<'a> {
 
     /// The node to which a path leads: the place of a kid of the root, the place of a kid of that, and
     /// so on, counted from 0. `None` where it leads nowhere, and for the empty path. The node's slice
-    /// is that of the text from the node's start on. It takes no memory.
+    /// is that of the text from the node's start on. It does not allocate.
     pub fn part(&self, path: &[usize]) -> Option<&Node<'a>>
         ensures value { option_map (λ n. view n.now) result
             ≡ part_at path.now (forest_in self.now) }
@@ -66,7 +66,7 @@ impl<'a> Tree<'a> {
     }
 
     /// The marks, texts and closing marks, in order. They join to the text, whose slices they are. It
-    /// takes no memory.
+    /// does not allocate.
     pub fn leaves(&self) -> Leaves<'_, 'a>
         ensures { leaves_left result ≡ leaves_of (forest_in self.now) }
     {

@@ -24,7 +24,7 @@ impl<'a, 's> TreeReader<'a, 's> {
     ghost use Rattle.usfm_tree.specs.SheetViews.{styles_of};
     ghost use Rattle.usfm_tree.specs.Views.{forest_of};
 
-    /// A reader of the tree of a text by a style sheet. It takes no memory yet.
+    /// A reader of the tree of a text by a style sheet. It allocates nothing yet.
     pub fn new(alloc: Global, source: &'a str, sheet: &'s Sheet<'_>) -> Self
         ensures { forest_ahead result ≡ tree_of (styles_of sheet.now) source.entry.now }
     {

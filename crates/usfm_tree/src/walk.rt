@@ -31,7 +31,7 @@ impl<'a, 's> TreeWalk<'a, 's> {
     ghost use Rattle.usfm_tree.specs.StepViews.{BeginsNoMilestone, IsNext, IsStyled};
     ghost use Rattle.usfm_tree.specs.WalkViews.{events_ahead, records_by};
 
-    /// A walk over the tree of a text by a style sheet. It takes no memory yet.
+    /// A walk over the tree of a text by a style sheet. It allocates nothing yet.
     pub fn new(alloc: Global, source: &'a str, sheet: &'s Sheet<'_>) -> Self
         ensures events { let tree = tree_of (styles_of sheet.now) source.entry.now in
             events_ahead result ≡ events_of tree }

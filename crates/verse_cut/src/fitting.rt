@@ -8,7 +8,7 @@ use crate::heading::is_headed;
 use crate::walk::Walk;
 use usfm_ref::{Book, Key};
 
-/// Whether a text fits a key of a book. It takes no memory.
+/// Whether a text fits a key of a book. It does not allocate.
 ///
 /// A text fits the head of the book where it is at most one U+FEFF, `\id`, one blank, the book's
 /// code, and then a blank, a backslash or the end, and no mark in it opens a piece. A text fits

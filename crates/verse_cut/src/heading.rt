@@ -8,7 +8,7 @@ use usfm_ref::{Book, is_blank};
 
 /// The book that a text begins with: at most one U+FEFF, `\id`, one blank (space, tab, CR, LF),
 /// the book's code, and then a blank, a backslash or the end. What comes after is not looked at.
-/// It takes no memory.
+/// It does not allocate.
 ///
 /// # Errors
 /// `NoId` where the text does not begin with at most one U+FEFF, `\id` and a blank, and else

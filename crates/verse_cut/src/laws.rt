@@ -36,8 +36,8 @@ pub fn pieces_fit()
     ensures { PiecesFit }
 {}
 
-/// Fitting texts by rising keys join and cut back, where each verse with a text that is not empty
-/// has its chapter's head with it, or is in chapter 0.
+/// Fitting texts in ascending order of keys join and cut back, where each verse with a text that
+/// is not empty has its chapter's head with it, or is in chapter 0.
 pub fn fitting_texts_cut_back()
     ensures { FittingTextsCutBack }
 {}

@@ -20,7 +20,7 @@ type Thinned = BTreeMap<OpId, (Book, Key)>;
 
 // Judges the operations of a bundle of format 2, this many, which the bytes spell: at least one is
 // thinned, and each that is thinned is named by one of its segment. Each operation is looked at three
-// times, and memory is taken for the thinned ones alone.
+// times, and only for the thinned ones it allocates.
 pub(crate) fn judge_thinned(alloc: Global, count: u64, bytes: &[u8]) -> Result<(), BundleFault>
     requires { SpellsSet count bytes.now }
     ensures { MatchResult result

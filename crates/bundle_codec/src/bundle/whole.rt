@@ -10,7 +10,7 @@ use super::{Bundle, decode};
 use crate::fault::WholeFault;
 use std::alloc::Global;
 
-/// The bundle that the bytes are, to their end. It takes memory only where `decode` does.
+/// The bundle that the bytes are, to their end. It allocates only where `decode` does.
 ///
 /// # Errors
 /// - `Bundle` with the fault that `decode` answers.

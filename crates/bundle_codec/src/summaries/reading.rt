@@ -1,4 +1,4 @@
-// Reading a summary in one walk. Where a growth is refused the walk goes on without keeping anything,
+// Reading a summary in one walk. Where an allocation fails the walk goes on without keeping anything,
 // since a fault that comes later is answered before out of memory.
 ghost use Rattle.std.specs.Prelude.{◌≡◌, ◌++◌, ◌∷◌, [], Ok, IfOk, IfSome};
 ghost use Rattle.std.specs.Option.{IsSomeAnd, option_copied};
@@ -36,7 +36,7 @@ fn range_of(before: Option<u64>, bytes: &[u8]) -> Result<(NumberRange, &[u8]), B
     Ok((range, rest))
 }
 
-// The ranges with one more after them, if they were kept and a growth is not refused.
+// The ranges with one more after them, if they were kept and the allocation succeeds.
 fn with_range(kept: Option<Vec<NumberRange>>, range: NumberRange) -> Option<Vec<NumberRange>>
     ensures { IfSome result (λ new. IsSomeAnd kept (λ old. new.items ≡ old.items ++ range ∷ [])) }
 {
@@ -117,7 +117,7 @@ fn name_ranges_of<'a>(
     Ok((name, name_ranges, rest))
 }
 
-// The names with one more after them, if both were kept and a growth is not refused.
+// The names with one more after them, if both were kept and the allocation succeeds.
 fn with_name_ranges(
     kept: Option<Vec<NameRanges>>,
     name_ranges: Option<NameRanges>,

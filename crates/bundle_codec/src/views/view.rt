@@ -75,7 +75,8 @@ impl<'a> OpView<'a> {
         }
     }
 
-    /// The ids that it names as replaced, rising. The walk over them takes no memory.
+    /// The ids that it names as replaced, in ascending order. The walk over them does not
+    /// allocate.
     pub fn replaced(&self) -> ReplacedIds<'a>
         ensures { result ≡ self.now.replaced }
     {
@@ -135,7 +136,7 @@ impl<'a> OpView<'a> {
     }
 
     /// Whether the two are equal, or at least one is thinned and they are equal but for their texts. It
-    /// takes no memory.
+    /// does not allocate.
     pub fn agrees(&self, other: &OpView<'_>) -> bool
         ensures { result ≡ agree self.now other.now }
     {
@@ -146,7 +147,7 @@ impl<'a> OpView<'a> {
     }
 
     /// Whether it and an operation that is not lent from the bytes are equal, or at least one of them
-    /// is thinned and they are equal but for their texts. It takes no memory.
+    /// is thinned and they are equal but for their texts. It does not allocate.
     pub fn agrees_with(&self, op: &Op) -> bool
         ensures { result ≡ agree op.now self.now }
     {

@@ -12,8 +12,8 @@ use crate::judging::keys::key_in;
 use crate::judging::operation::{OpFields, body_in};
 use std::marker::Model;
 
-/// The operations of a bundle, rising by id, lent from its bytes. Made by `Bundle::ops`; it takes no
-/// memory.
+/// The operations of a bundle, in ascending order of ids, lent from its bytes. Made by
+/// `Bundle::ops`; it does not allocate.
 #[derive(Debug, Drop)]
 pub struct BundleOps<'a> {
     left: u64,

@@ -8,7 +8,8 @@ use super::register::Register;
 use std::marker::Model;
 use usfm_ref::Book;
 
-/// The books with an operation, rising, each once. Made by `OpSet::books`; it takes no memory.
+/// The books with an operation, in ascending order, each once. Made by `OpSet::books`; it does
+/// not allocate.
 #[derive(Debug, Drop)]
 pub struct Books<'a> {
     last: Option<Book>,

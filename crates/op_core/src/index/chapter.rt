@@ -20,7 +20,8 @@ use std::alloc::{AllocError, Global};
 use std::cmp::Ordering;
 use usfm_ref::{Book, Key, Segment};
 
-/// A chapter of a book, by its head, and the registers of its segments, rising by key.
+/// A chapter of a book, by its head, and the registers of its segments, in ascending order of
+/// keys.
 #[derive(Debug, Drop)]
 pub struct Chapter {
     pub(crate) book: Book,
@@ -29,7 +30,7 @@ pub struct Chapter {
 }
 
 impl Chapter {
-    // The chapter of a segment, without registers yet. It takes no memory.
+    // The chapter of a segment, without registers yet. It does not allocate.
     pub(crate) fn new(alloc: Global, segment: &Segment) -> Chapter
         ensures home { home_of result ≡ chapter_of segment.now }
         ensures registers { result.registers.items ≡ [] }

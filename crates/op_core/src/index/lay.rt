@@ -25,7 +25,7 @@ use usfm_ref::{Key, Segment};
 const FEW: usize = 16;
 
 // Puts in registers, and chapters for them, at the segments of the turns, where many have none. What the
-// index keeps stays, also where a growth was refused.
+// index keeps stays, also where an allocation failed.
 #[tactic(auto, using(crate::proofs::Laid::lays_same, crate::proofs::Laid::lays_more))]
 pub(crate) fn lay_out(
     chapters: &mut Vec<Chapter>,

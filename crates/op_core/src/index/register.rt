@@ -25,7 +25,7 @@ pub struct Register {
 }
 
 impl Register {
-    // The register of a segment without operations. It takes no memory.
+    // The register of a segment without operations. It does not allocate.
     pub(crate) fn new(alloc: Global, key: Key) -> Register
         ensures key { result.key ≡ key }
         ensures shown { result.shown.items ≡ [] }

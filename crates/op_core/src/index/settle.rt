@@ -1,4 +1,4 @@
-// Changes made in the index, for which there is room. It takes no memory.
+// Changes made in the index, for which there is room. It does not allocate.
 ghost use Rattle.std.specs.Prelude.{◌≡◌, IsTrue};
 ghost use Rattle.std.specs.List.{AllByRecursion};
 ghost use Rattle.usfm_ref.specs.Segments.{segment_cmp};

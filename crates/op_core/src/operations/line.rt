@@ -10,7 +10,7 @@ use std::marker::Model;
 /// space, its name of 32 bytes and a line feed.
 pub const MOST_LINE_BYTES: usize = 59;
 
-/// A line of at most 59 bytes, in a value of fixed size. Its calls take no memory.
+/// A line of at most 59 bytes, in a value of fixed size. Its calls do not allocate.
 #[derive(Debug, Drop)]
 pub struct ShortLine {
     text: ArrayString<MOST_LINE_BYTES>,
@@ -74,8 +74,8 @@ impl ShortLine {
     }
 }
 
-/// The line of a chapter's head that has none: `\c`, a space, the number and a line feed. It takes no
-/// memory.
+/// The line of a chapter's head that has none: `\c`, a space, the number and a line feed. It does not
+/// allocate.
 pub fn chapter_line(chapter: u16) -> ShortLine
     ensures { result ≡ chapter_line chapter }
 {

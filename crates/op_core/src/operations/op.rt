@@ -120,7 +120,7 @@ impl Op {
         self.segment
     }
 
-    /// The ids that it names as replaced, rising, lent from it.
+    /// The ids that it names as replaced, in ascending order, lent from it.
     pub fn replaced(&self) -> &[OpId]
         ensures { result.now ≡ self.now.replaced }
     {

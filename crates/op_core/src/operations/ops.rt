@@ -4,7 +4,8 @@ ghost use Rattle.std.specs.Iterator.{YieldsFirstRef, item_count};
 use super::op::Op;
 use std::marker::Model;
 
-/// The operations of a set, lent from it, rising by id. Made by `OpSet::iter`; it takes no memory.
+/// The operations of a set, lent from it, in ascending order of ids. Made by `OpSet::iter`; it
+/// does not allocate.
 #[derive(Debug, Drop)]
 pub struct Ops<'a> {
     rest: &'a [Op],

@@ -14,7 +14,7 @@ use std::alloc::{AllocError, Global};
 
 impl OpSet {
     /// Leaves out the text of a held operation that a held operation of its segment names, and says
-    /// whether it had one. It takes no memory.
+    /// whether it had one. It does not allocate.
     pub fn thin_id(&mut self, id: &OpId) -> bool
         requires past { thinned.ArePast (same_id id.now) self.old }
         ensures thin { self.new ≡ thinned.thin_where (same_id id.now) self.old }
@@ -25,7 +25,7 @@ impl OpSet {
     }
 
     /// Leaves out the text of every operation that a held operation of its segment names, and says
-    /// how many had one. It takes no memory.
+    /// how many had one. It does not allocate.
     pub fn thin(&mut self) -> u64
         ensures thin { self.new ≡ thinned.thin self.old }
         ensures count { result ≡ length (filter (thinned.is_left_out self.old) self.old) }

@@ -6,7 +6,7 @@ use Rattle.op_core.specs.Ids.{Id, same_id}
 use Rattle.op_core.specs.NextIds.{is_among}
 use Rattle.op_core.specs.contracts.ids.op_id.OpIdPartialEq.TheImpl as equal
 use Rattle.replica_state.proofs.ChangeRuns.{all_given}
-use Rattle.replica_state.proofs.edit.given_among.Goals as goal
+use Rattle.replica_state.proofs.ids.given_among.Goals as goal
 
 decides : (a b : Id) → (equal.eq-value.it a b ≡ true → a ≡ b) × (a ≡ b → equal.eq-value.it a b ≡ true)
 decides a b =
