@@ -22,10 +22,12 @@ use Rattle.op_core.proofs.Awaited.{any_dedup, strict_rises, any_filtered, any_ap
 pub ids_rank : IsStrictWeakOrder (λ (x y : Id). is_lt (id_cmp x y))
 ids_rank = ranks_by id_total (λ (i : Id). i)
 
+-- sorted ids, each once, rise
 pub sorted_rises : (sorted ys : List Id) → IsSorted id_cmp sorted → ys ≡ dedup same_id sorted → ids_rise ys ≡ true
 sorted_rises sorted ys s e =
     ap ids_rise e ∙ strict_rises (dedup same_id sorted) (IsStrictlySortedBy-dedup id_total (λ x y. same_id-cmp x y) sorted s)
 
+-- and are the ids that were there before
 pub sorted_members : (xs sorted ys : List Id) → IsPermutation xs sorted → ys ≡ dedup same_id sorted → (q : Id)
     → is_among ys q ≡ is_among xs q
 sorted_members xs sorted ys p e q = ap (list_any (same_id q)) e ∙ any_dedup q sorted ∙ sym (list_any-IsPermutation (same_id q) xs sorted p)

@@ -31,6 +31,7 @@ pub rises_ids : (ops : List Operation) → ids_rise (ids_of ops) ≡ rises ops
 rises_ids [] = refl
 rises_ids (o ∷ ops) = λ i. above_ids o.id ops i && rises_ids ops i
 
+-- the ids that a segment shows rise
 pub shown_ids_rise : (ops : List Operation) (g : Segment) → rises ops ≡ true → ids_rise (shown_ids ops g) ≡ true
 shown_ids_rise ops g h = rises_ids (shown ops g) ∙ rises_filter id_cmp id_total (λ (o : Operation). o.id) _ ops h
 

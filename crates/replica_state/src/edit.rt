@@ -132,7 +132,7 @@ impl Replica {
         given_among(self.alloc, self.set.shown_ids(book, key), given)
     }
 
-    /// Whether the segment shows an operation of this id. It takes no memory.
+    /// Whether the segment shows an operation of this id. It does not allocate.
     pub fn shows_id(&self, book: Book, key: Key, id: OpId) -> bool
         ensures { result ≡ is_among (shown_ids self.now.held (segment book key)) id }
     {
