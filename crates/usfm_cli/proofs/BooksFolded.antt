@@ -1,21 +1,26 @@
 -- What is folded is written of the operations of one book alone, and is the same as of all.
-use Rattle.std.proofs.Common.{◌≡◌, true, ℕ, ◌<◌, ◌≤◌, List, [], ◌∷◌, length, Option, Result, Ok, Err, refl, sym, ap, subst, ◌∙◌, arith}
+use Rattle.std.proofs.Common.{◌≡◌, true, ℕ, List, [], ◌∷◌, length, Option, Result, Ok, Err, refl, sym, ap, subst, ◌∙◌}
 use Rattle.std.proofs.lemmas.Bool.{cond-true, cond-false}
-use Rattle.std.specs.Io.KnownBytes.{IsAtEnd, Appends}
+use Rattle.std.specs.Io.KnownBytes.{Appends}
 use Rattle.op_core.specs.Ops.{Operation}
 use Rattle.op_core.specs.Export.{has_book, export}
 use Rattle.op_core.specs.OneBook.{ops_of_book}
+use Rattle.op_core.specs.Sets.{clash, join}
 use Rattle.op_core.proofs.OneBook.{export_same, has_book_same}
+use Rattle.bundle_codec.specs.declared.fault.BundleFault.{BundleFault}
+use Rattle.bundle_codec.specs.Reading.{bundle_at}
 use Rattle.usfm_export.specs.Books as exports
 use Rattle.usfm_export.specs.Books.{AnswersBook}
 use Rattle.usfm_export.specs.Writing.{TakesFront}
 use Rattle.usfm_export.specs.declared.fault.ExportFault.{ExportFault}
 use Rattle.usfm_export.specs.declared.fault.ExportFault.TheVariants as writing
 use Rattle.usfm_cli.specs.Faults.{of_export}
-use Rattle.usfm_cli.specs.Folding.{AnswersStream, sink_failures}
-use Rattle.usfm_cli.specs.Reading.{most_bytes}
-use Rattle.usfm_cli.specs.Streams.{union_within, union_in, book_from, book_of_stream}
-use Rattle.usfm_cli.specs.declared.fault.Fault.TheVariants.{Memory, NoBook}
+use Rattle.usfm_cli.specs.Folding.{AnswersBundles, sink_failures}
+use Rattle.usfm_cli.specs.Streams.{union_within, union_in, book_from, book_of_stream, unless_clash, with_set}
+use Rattle.usfm_cli.specs.Streams.ReceivesOne.{Here}
+use Rattle.usfm_cli.specs.Streams.{ReceivesOne}
+use Rattle.usfm_cli.specs.declared.fault.Fault.{Fault}
+use Rattle.usfm_cli.specs.declared.fault.Fault.TheVariants.{Memory, Bundle, NoBook}
 
 -- what is answered of the book's operations, is answered of all
 pub answers_same : (union : List Operation) (book : List ℕ) (before after : Option (List ℕ)) (r : Result (Unit {0}) ExportFault)
@@ -34,27 +39,33 @@ pub failed_same : (fault : ExportFault) (failures : ℕ) → sink_failures (Err 
 failed_same writing.NoBook failures = refl
 failed_same (writing.WriteFailed gone) failures = refl
 
--- a union that has operations is one of bytes
-some_given : (bytes : List ℕ) (union : List Operation) → union_in [] bytes ≡ Ok union → (union ≡ [] → ⊥) → 0 < length bytes
+-- a union that has operations is one of bundles that were received
+some_received : (bytes : List ℕ) (union : List Operation) → union_in [] bytes ≡ Ok union → (union ≡ [] → ⊥) → ReceivesOne [] bytes
 unfolding union_within
-some_given [] union e some = let none : [] ≡ union = cc e in absurd (some (sym none))
-some_given (b ∷ bytes) union e some = omega arith
+some_received [] union e some = let none : [] ≡ union = cc e in absurd (some (sym none))
+some_received (b ∷ bytes) union e some = by (bundle_at (b ∷ bytes)) refl
+  where
+    next : List Operation → List ℕ → Result (List Operation) Fault
+    next set rest = unless_clash (clash [] set) (union_within (length bytes) (join [] set) rest)
 
--- a stream was read whole, and its bundles have this union
-module _ (book given : List ℕ) (left before after : Option (List ℕ)) (union : List Operation) (within : length given ≤ most_bytes)
-    (whole : IsAtEnd left) (is : union_in [] given ≡ Ok union) where
-  text_is : has_book union book ≡ true → book_of_stream book given ≡ Ok (export union book)
+    by : (read : Result (List Operation × List ℕ) BundleFault) → bundle_at (b ∷ bytes) ≡ read → ReceivesOne [] (b ∷ bytes)
+    by (Ok (set, rest)) r = Here [] (b ∷ bytes) set rest r
+    by (Err fault) r = let refused : Err (Bundle fault) ≡ Ok union = ap (λ x. with_set x next) (sym r) ∙ e in cc refused
+
+-- bundles were read whole, and have this union
+module _ (book input : List ℕ) (before after : Option (List ℕ)) (union : List Operation) (is : union_in [] input ≡ Ok union) where
+  text_is : has_book union book ≡ true → book_of_stream book input ≡ Ok (export union book)
   text_is has = ap (book_from book) is ∙ cond-true (has_book union book) (Ok (export union book)) (Err NoBook) has
 
-  pub written_all : (done : Unit {0}) → AnswersBook union book before after (Ok done) → AnswersStream book given left before after (Ok done)
-  written_all done h = (within, whole, (export union book, text_is h.0, h.1))
+  pub written_all : (done : Unit {0}) → AnswersBook union book before after (Ok done) → AnswersBundles book input before after (Ok done)
+  written_all done h = (export union book, text_is h.0, h.1)
 
   pub not_written : (fault : ExportFault) → AnswersBook union book before after (Err fault)
-      → AnswersStream book given left before after (Err (of_export fault))
+      → AnswersBundles book input before after (Err (of_export fault))
   not_written writing.NoBook h =
-      (within, whole, (ap (book_from book) is ∙ cond-false (has_book union book) (Ok (export union book)) (Err NoBook) h.0, h.1))
-  not_written (writing.WriteFailed gone) h = (within, whole, (export union book, text_is h.0, h.1))
+      (ap (book_from book) is ∙ cond-false (has_book union book) (Ok (export union book)) (Err NoBook) h.0, h.1)
+  not_written (writing.WriteFailed gone) h = (export union book, text_is h.0, h.1)
 
-  -- out of memory is answered only where the book has operations, and so where bytes were given
-  pub not_copied : (ops_of_book union book ≡ [] → ⊥) → AnswersStream book given left before before (Err Memory)
-  not_copied some = (some_given given union is (λ none. some (ap (λ (ops : List Operation). ops_of_book ops book) none)), within, refl)
+  -- out of memory is answered only where the book has operations, and so where a bundle was received
+  pub not_copied : (ops_of_book union book ≡ [] → ⊥) → AnswersBundles book input before before (Err Memory)
+  not_copied some = (some_received input union is (λ none. some (ap (λ (ops : List Operation). ops_of_book ops book) none)), refl)

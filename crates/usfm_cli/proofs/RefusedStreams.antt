@@ -1,39 +1,71 @@
--- A stream whose bundles are refused.
-use Rattle.std.proofs.Common.{ℕ, ◌≤◌, List, [], length, Option, Err, refl, ap}
+-- Streams whose bundles are refused, and what an answer for bundles says of the stream that gave them.
+use Rattle.std.proofs.Common.{ℕ, ◌≤◌, List, [], length, Option, Result, Ok, Err, refl, ap}
 use Rattle.std.specs.Io.KnownBytes.{IsAtEnd}
-use Rattle.usfm_cli.specs.Folding.{AnswersStream}
+use Rattle.usfm_cli.specs.Folding.{AnswersBundles, AnswersStream}
 use Rattle.usfm_cli.specs.Reading.{most_bytes}
 use Rattle.usfm_cli.specs.Streams.{UnionAnswers, book_from}
 use Rattle.usfm_cli.specs.declared.fault.Fault.{Fault}
 use Rattle.usfm_cli.specs.declared.fault.Fault.TheVariants.{Memory, NotText, Reference, NoId, FieldBeforeMarker, EmptyMarker, BadStyleType, Naming, Clash, Bundle, Trailing, BadSummary, BadSegment, NumbersUsedUp, NoBook, NotShown, WriteFailed, EmptyNeedle, BadProject, ReadFailed, TooLong, FileFailed, FileChanged, Emptied, Undone, Unlike}
 use Rattle.usfm_cli.proofs.Unions.{receives_some}
 
--- what a folding answers where the union of all that the source gave is refused, and nothing is written
-pub refused_stream : (book given : List ℕ) (left sink : Option (List ℕ)) (fault : Fault) → length given ≤ most_bytes → IsAtEnd left
-    → UnionAnswers given (Err fault) → AnswersStream book given left sink sink (Err fault)
-refused_stream book given left sink Memory w e u = (receives_some [] given u, w, refl)
-refused_stream book given left sink (Clash id) w e u = (w, e, (ap (book_from book) u, refl))
-refused_stream book given left sink (Bundle fault) w e u = (w, e, (ap (book_from book) u, refl))
-refused_stream book given left sink (NotText valid) w e u = absurd u
-refused_stream book given left sink (Reference fault) w e u = absurd u
-refused_stream book given left sink NoId w e u = absurd u
-refused_stream book given left sink (FieldBeforeMarker line) w e u = absurd u
-refused_stream book given left sink (EmptyMarker line) w e u = absurd u
-refused_stream book given left sink (BadStyleType line) w e u = absurd u
-refused_stream book given left sink (Naming fault) w e u = absurd u
-refused_stream book given left sink Trailing w e u = absurd u
-refused_stream book given left sink BadSummary w e u = absurd u
-refused_stream book given left sink BadSegment w e u = absurd u
-refused_stream book given left sink NumbersUsedUp w e u = absurd u
-refused_stream book given left sink NoBook w e u = absurd u
-refused_stream book given left sink (NotShown id) w e u = absurd u
-refused_stream book given left sink (WriteFailed gone) w e u = absurd u
-refused_stream book given left sink EmptyNeedle w e u = absurd u
-refused_stream book given left sink BadProject w e u = absurd u
-refused_stream book given left sink ReadFailed w e u = absurd u
-refused_stream book given left sink TooLong w e u = absurd u
-refused_stream book given left sink FileFailed w e u = absurd u
-refused_stream book given left sink FileChanged w e u = absurd u
-refused_stream book given left sink (Emptied count) w e u = absurd u
-refused_stream book given left sink (Undone count) w e u = absurd u
-refused_stream book given left sink (Unlike count) w e u = absurd u
+-- what is answered where the union of bundles is refused, and nothing is written
+pub refused_bundles : (book input : List ℕ) (sink : Option (List ℕ)) (fault : Fault) → UnionAnswers input (Err fault)
+    → AnswersBundles book input sink sink (Err fault)
+refused_bundles book input sink Memory u = (u, refl)
+refused_bundles book input sink (Clash id) u = (ap (book_from book) u, refl)
+refused_bundles book input sink (Bundle fault) u = (ap (book_from book) u, refl)
+refused_bundles book input sink (NotText valid) u = absurd u
+refused_bundles book input sink (Reference fault) u = absurd u
+refused_bundles book input sink NoId u = absurd u
+refused_bundles book input sink (FieldBeforeMarker line) u = absurd u
+refused_bundles book input sink (EmptyMarker line) u = absurd u
+refused_bundles book input sink (BadStyleType line) u = absurd u
+refused_bundles book input sink (Naming fault) u = absurd u
+refused_bundles book input sink Trailing u = absurd u
+refused_bundles book input sink BadSummary u = absurd u
+refused_bundles book input sink BadSegment u = absurd u
+refused_bundles book input sink NumbersUsedUp u = absurd u
+refused_bundles book input sink NoBook u = absurd u
+refused_bundles book input sink (NotShown id) u = absurd u
+refused_bundles book input sink (WriteFailed gone) u = absurd u
+refused_bundles book input sink EmptyNeedle u = absurd u
+refused_bundles book input sink BadProject u = absurd u
+refused_bundles book input sink ReadFailed u = absurd u
+refused_bundles book input sink TooLong u = absurd u
+refused_bundles book input sink FileFailed u = absurd u
+refused_bundles book input sink FileChanged u = absurd u
+refused_bundles book input sink (Emptied count) u = absurd u
+refused_bundles book input sink (Undone count) u = absurd u
+refused_bundles book input sink (Unlike count) u = absurd u
+
+-- what is answered for bundles is answered for the stream that gave them
+pub of_stream : (book given : List ℕ) (left before after : Option (List ℕ)) (answer : Result (Unit {0}) Fault)
+    → length given ≤ most_bytes → IsAtEnd left → AnswersBundles book given before after answer
+    → AnswersStream book given left before after answer
+of_stream book given left before after (Ok done) w e h = (w, e, h)
+of_stream book given left before after (Err Memory) w e h = (receives_some [] given h.0, w, h.1)
+of_stream book given left before after (Err (Clash id)) w e h = (w, e, h)
+of_stream book given left before after (Err (Bundle fault)) w e h = (w, e, h)
+of_stream book given left before after (Err (NotText valid)) w e h = (w, e, h)
+of_stream book given left before after (Err (Reference fault)) w e h = (w, e, h)
+of_stream book given left before after (Err NoId) w e h = (w, e, h)
+of_stream book given left before after (Err (FieldBeforeMarker line)) w e h = (w, e, h)
+of_stream book given left before after (Err (EmptyMarker line)) w e h = (w, e, h)
+of_stream book given left before after (Err (BadStyleType line)) w e h = (w, e, h)
+of_stream book given left before after (Err (Naming fault)) w e h = (w, e, h)
+of_stream book given left before after (Err Trailing) w e h = (w, e, h)
+of_stream book given left before after (Err BadSummary) w e h = (w, e, h)
+of_stream book given left before after (Err BadSegment) w e h = (w, e, h)
+of_stream book given left before after (Err NumbersUsedUp) w e h = (w, e, h)
+of_stream book given left before after (Err NoBook) w e h = (w, e, h)
+of_stream book given left before after (Err (NotShown id)) w e h = (w, e, h)
+of_stream book given left before after (Err (WriteFailed gone)) w e h = (w, e, h)
+of_stream book given left before after (Err EmptyNeedle) w e h = (w, e, h)
+of_stream book given left before after (Err BadProject) w e h = (w, e, h)
+of_stream book given left before after (Err ReadFailed) w e h = absurd h
+of_stream book given left before after (Err TooLong) w e h = absurd h
+of_stream book given left before after (Err FileFailed) w e h = (w, e, h)
+of_stream book given left before after (Err FileChanged) w e h = (w, e, h)
+of_stream book given left before after (Err (Emptied count)) w e h = (w, e, h)
+of_stream book given left before after (Err (Undone count)) w e h = (w, e, h)
+of_stream book given left before after (Err (Unlike count)) w e h = (w, e, h)

@@ -1,10 +1,10 @@
 -- What a call that folds a stream into a book answers, and what it leaves of its source and its sink.
-use Rattle.std.specs.Prelude.{◌≡◌, ℕ, ◌+◌, ◌<◌, ◌≤◌, List, length, Option, Result, Ok, Err}
+use Rattle.std.specs.Prelude.{◌≡◌, ℕ, ◌+◌, ◌<◌, ◌≤◌, List, [], length, Option, Result, Ok, Err}
 use Rattle.std.specs.Io.KnownBytes.{Consumes, Appends, IsAtEnd}
 use Rattle.usfm_export.specs.Counts.{one_more}
 use Rattle.usfm_cli.specs.Reading.{most_bytes}
 use Rattle.usfm_export.specs.Writing.{TakesFront}
-use Rattle.usfm_cli.specs.Streams.{book_of_stream}
+use Rattle.usfm_cli.specs.Streams.{book_of_stream, ReceivesOne}
 use Rattle.usfm_cli.specs.declared.fault.Fault.{Fault}
 use Rattle.usfm_cli.specs.declared.fault.Fault.TheVariants.{Memory, WriteFailed}
 use Rattle.usfm_cli.specs.declared.fault.Fault.TheVariants.{ReadFailed, TooLong}
@@ -19,6 +19,16 @@ AnswersText wanted before after (Err (WriteFailed gone)) =
     (text : List ℕ) × (wanted ≡ Ok text) × TakesFront before after text 0 gone
 AnswersText wanted before after (Err Memory) = after ≡ before
 AnswersText wanted before after (Err fault) = (wanted ≡ Err fault) × (after ≡ before)
+
+-- What an answer says of bundles that were read whole: what the book of their stream says; out of memory only where
+-- one of them was received, or judged with memory, and then nothing was written.
+abbrev pub AnswersBundles : List ℕ → List ℕ → Option (List ℕ) → Option (List ℕ) →
+    Result (Unit {0}) Fault → Type 0
+AnswersBundles book input before after (Err ReadFailed) = ⊥
+AnswersBundles book input before after (Err TooLong) = ⊥
+AnswersBundles book input before after (Err Memory) = ReceivesOne [] input × (after ≡ before)
+AnswersBundles book input before after answer =
+    AnswersText (book_of_stream book input) before after answer
 
 -- What an answer says of the bytes that the source gave: where a read failed, where they are too long and where
 -- memory ran out, which is taken for bytes alone, that nothing was written; else that they are all of them, and what

@@ -3,8 +3,9 @@ ghost use Rattle.std.specs.Prelude.{◌≡◌, Ok, Err, IfOk, IfErr, OnOk};
 ghost use Rattle.op_core.specs.Sets.{IsOpSet};
 ghost use Rattle.usfm_cli.specs.Loops.Gathered.{held_in};
 ghost use Rattle.usfm_cli.specs.Streams.{UnionAnswers};
-ghost use Rattle.usfm_cli.specs.Books.{WritesBook};
-ghost use Rattle.usfm_cli.specs.Folding.{FoldsStream, source_failures, sink_failures};
+ghost use Rattle.usfm_cli.specs.Books.{WritesBook, WritesUnion};
+ghost use Rattle.usfm_cli.specs.Folding.{AnswersBundles, FoldsStream};
+ghost use Rattle.usfm_cli.specs.Folding.{source_failures, sink_failures};
 
 use crate::gathered::Gathered;
 use crate::{ByteSource, Fault, read_to_end};
@@ -46,7 +47,29 @@ pub fn fold_stream<R: ByteSource, W: ByteSink>(
     ensures write_failed { W.failures sink.new ≡ sink_failures result (W.failures sink.old) }
 {
     let input = read_to_end(alloc, source)?;
-    let gathered = gather_all(alloc, &input)?;
+    fold_bundles(alloc, &input, sink, book)
+}
+
+/// Takes the union of the operations of the bundles that the bytes spell, one after another, and writes
+/// the book's text to the sink, as `fold_stream` does once it has read its source.
+///
+/// # Errors
+/// Those of `fold_stream` for bytes that were read. `Memory` is answered only where a bundle was
+/// received, or its texts that are left out were judged: so a first bundle that has none of these and
+/// is refused is never said to be out of memory.
+pub fn fold_bundles<W: ByteSink>(
+    alloc: Global,
+    input: &[u8],
+    sink: &mut W,
+    book: Book,
+) -> Result<(), Fault>
+    ensures folds { AnswersBundles book input.now
+        (W.taken sink.old) (W.taken sink.new) result }
+    ensures cuts_back { OnOk result (WritesUnion book input.now
+        (W.taken sink.old) (W.taken sink.new)) }
+    ensures write_failed { W.failures sink.new ≡ sink_failures result (W.failures sink.old) }
+{
+    let gathered = gather_all(alloc, input)?;
     // The replica makes no operation, so its name is never seen.
     let name = ReplicaName::read("fold").unwrap();
     let fold = gathered.of_book(alloc, name, book)?;

@@ -40,7 +40,7 @@ pub use explaining::listing::list_faults;
 pub use explaining::remarks::{NO_BOOK_FILE, TEXT_NAME, is_text_name, remark, sheet_remark};
 pub use fault::Fault;
 pub use fault_lines::fault_line;
-pub use fold::fold_stream;
+pub use fold::{fold_bundles, fold_stream};
 pub use op_core::{MOST_LINE_BYTES, ShortLine as FaultLine};
 pub use over_books::{check_project, find_project, word_project};
 pub use page::project_page;

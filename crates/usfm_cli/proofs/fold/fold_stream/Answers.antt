@@ -1,102 +1,21 @@
-use Rattle.std.proofs.Common.{ℕ, List, [], Ok, Err, ap, sym, subst, ◌∙◌}
-use Rattle.std.proofs.lemmas.Bool.{false≢true}
-use Rattle.std.proofs.lemmas.Result.{err_from_is_err_and}
-use Rattle.op_core.specs.Export.{export}
-use Rattle.replica_state.specs.States.{State}
-use Rattle.usfm_export.specs.Books.{AnswersBook}
-use Rattle.usfm_export.proofs.Books.{is_book}
-use Rattle.usfm_cli.specs.Loops.Gathered.{held_in}
-use Rattle.usfm_cli.specs.Streams.{union_in, UnionAnswers}
-use Rattle.usfm_cli.proofs.BooksFolded.{answers_same, failed_same, written_all, not_written, not_copied}
-use Rattle.usfm_cli.proofs.RefusedStreams.{refused_stream}
+use Rattle.std.proofs.Common.{List, ℕ, subst, ◌∙◌}
+use Rattle.usfm_cli.specs.Books.{WritesUnion}
+use Rattle.usfm_cli.specs.Folding.{AnswersBundles}
+use Rattle.usfm_cli.proofs.RefusedStreams.{of_stream}
 use Rattle.usfm_cli.proofs.fold.fold_stream.Goals as goal
-
-pub returns-in_err-gathered-clause-folds : goal.returns-in_err-gathered-clause-folds
-returns-in_err-gathered-clause-folds g c =
-    let read = c.in_ok-input.ensures.read in
-    let from = err_from_is_err_and c.from_residual-in_err-gathered.result c.from_residual-in_err-gathered.ensures.1 in
-    rw (from.1, from.2) (record {
-      given = read.given;
-      consumed = read.consumed;
-      reads = read.reads;
-      answered = refused_stream c.args.book read.given (g.R.ByteSource.to_come c.read_to_end.new.source)
-          (g.W.ByteSink.taken c.args.sink.now) c.in_err-gathered.field-0.0 read.answered.1 read.answered.2
-          (subst (λ (input : List ℕ). UnionAnswers input (Err c.in_err-gathered.field-0.0))
-          (c.deref.ensures.value ∙ read.answered.0) c.in_err-gathered.ensures.refused);
-    })
-
-pub returns-in_err-fold-clause-folds : goal.returns-in_err-fold-clause-folds
-returns-in_err-fold-clause-folds g c =
-    let read = c.in_ok-input.ensures.read in
-    let union = held_in c.in_ok-gathered.gathered in
-    let from = err_from_is_err_and c.from_residual-in_err-fold.result c.from_residual-in_err-fold.ensures.1 in
-    rw (from.1, from.2) (record {
-      given = read.given;
-      consumed = read.consumed;
-      reads = read.reads;
-      answered = not_copied c.args.book read.given (g.R.ByteSource.to_come c.read_to_end.new.source)
-          (g.W.ByteSink.taken c.args.sink.now) (g.W.ByteSink.taken c.args.sink.now) union read.answered.1 read.answered.2
-          (ap (union_in []) (sym read.answered.0 ∙ sym c.deref.ensures.value) ∙ c.in_ok-gathered.ensures.ok)
-          (λ none. false≢true (c.in_err-fold.ensures.none none));
-    })
-
-pub returns-in_err-write_book-clause-folds : goal.returns-in_err-write_book-clause-folds
-returns-in_err-write_book-clause-folds g c =
-    let read = c.in_ok-input.ensures.read in
-    let union = held_in c.in_ok-gathered.gathered in
-    let before = g.W.ByteSink.taken c.args.sink.now in
-    let after = g.W.ByteSink.taken c.write_book.new.sink in
-    let from = err_from_is_err_and c.from_residual-in_err-write_book.result c.from_residual-in_err-write_book.ensures.1 in
-    rw (from.1, from.2) (record {
-      given = read.given;
-      consumed = read.consumed;
-      reads = read.reads;
-      answered = not_written c.args.book read.given (g.R.ByteSource.to_come c.read_to_end.new.source) before after union
-          read.answered.1 read.answered.2
-          (ap (union_in []) (sym read.answered.0 ∙ sym c.deref.ensures.value) ∙ c.in_ok-gathered.ensures.ok)
-          c.in_err-write_book.field-0.0
-          (answers_same union c.args.book before after (Err c.in_err-write_book.field-0.0)
-          (subst (λ (s : State). AnswersBook s.held c.args.book before after (Err c.in_err-write_book.field-0.0))
-          c.in_ok-fold.ensures.held c.in_err-write_book.ensures.answers));
-    })
-
-pub returns-in_err-write_book-clause-write_failed : goal.returns-in_err-write_book-clause-write_failed
-returns-in_err-write_book-clause-write_failed g c =
-    let from = err_from_is_err_and c.from_residual-in_err-write_book.result c.from_residual-in_err-write_book.ensures.1 in
-    rw (from.1, from.2) (c.in_err-write_book.ensures.failed ∙ sym (failed_same c.in_err-write_book.field-0.0 _))
 
 pub returns-clause-folds : goal.returns-clause-folds
 returns-clause-folds g c =
     let read = c.in_ok-input.ensures.read in
-    let union = held_in c.in_ok-gathered.gathered in
     let before = g.W.ByteSink.taken c.args.sink.now in
-    let after = g.W.ByteSink.taken c.write_book.new.sink in
+    let after = g.W.ByteSink.taken c.fold_bundles.new.sink in
+    let folds = c.fold_bundles.ensures.folds in
     record {
       given = read.given;
       consumed = read.consumed;
       reads = read.reads;
-      answered = written_all c.args.book read.given (g.R.ByteSource.to_come c.read_to_end.new.source) before after union
-          read.answered.1 read.answered.2
-          (ap (union_in []) (sym read.answered.0 ∙ sym c.deref.ensures.value) ∙ c.in_ok-gathered.ensures.ok) (record {})
-          (answers_same union c.args.book before after (Ok (record {}))
-          (subst (λ (s : State). AnswersBook s.held c.args.book before after (Ok (record {})))
-          c.in_ok-fold.ensures.held c.in_ok-write_book.ensures.answers));
-    }
-
-pub returns-clause-cuts_back : goal.returns-clause-cuts_back
-returns-clause-cuts_back g c =
-    let read = c.in_ok-input.ensures.read in
-    let union = held_in c.in_ok-gathered.gathered in
-    let before = g.W.ByteSink.taken c.args.sink.now in
-    let after = g.W.ByteSink.taken c.write_book.new.sink in
-    record {
-      given = read.given;
-      consumed = read.consumed;
-      union = union;
-      union_is = ap (union_in []) (sym read.answered.0 ∙ sym c.deref.ensures.value) ∙ c.in_ok-gathered.ensures.ok;
-      text = export union c.args.book;
-      written = (answers_same union c.args.book before after (Ok (record {}))
-          (subst (λ (s : State). AnswersBook s.held c.args.book before after (Ok (record {})))
-          c.in_ok-fold.ensures.held c.in_ok-write_book.ensures.answers)).1;
-      is_book = is_book union c.args.book c.in_ok-gathered.ensures.set;
+      answered = of_stream c.args.book read.given (g.R.ByteSource.to_come c.read_to_end.new.source) before after
+          c.fold_bundles.result read.answered.1 read.answered.2
+          (subst (λ (input : List ℕ). AnswersBundles c.args.book input before after c.fold_bundles.result)
+          (c.deref.ensures.value ∙ read.answered.0) folds);
     }
