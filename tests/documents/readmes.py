@@ -7,7 +7,7 @@ FEWEST_LINES, MOST_LINES, WIDEST = 12, 35, 100
 # A file or a folder of the crate, and a name: of a call, a type, a law, a definition or a crate.
 FILE = re.compile(r"(?:src|specs|proofs|must-fail)(?:/[\w./+-]+)?")
 NAME = re.compile(r"[A-Za-z_]\w*(?:::\w+)*")
-ITEM = re.compile(r"^- ((?:`[\w:]+`(?:, )?)+): ", re.M)
+ITEM = re.compile(r"^- ((?:`[\w:]+`(?:,\s+)?)+):\s", re.M)
 # Names that are std's.
 OF_STD = {"cmp"}
 LINK = re.compile(r"\]\((\.\./[^)#]*\.md)")
@@ -30,13 +30,13 @@ def law_lists(text):
 
 
 def laws_of(crate):
-    """The laws of a crate, and of each the module that it is in, none for those of src/laws.rt itself."""
-    found = {}
+    """The laws of a crate, each after the module that it is in, which for those of src/laws.rt itself is none."""
+    found = set()
     for path in kept_files():
         part = re.fullmatch(rf"crates/{crate}/src/laws(?:/(\w+))?\.rt", path)
         if part:
-            found.update({(part[1], name): path for name in re.findall(r"^pub fn (\w+)", text_of(path), re.M)})
-    return set(found)
+            found |= {(part[1], name) for name in re.findall(r"^pub fn (\w+)", text_of(path), re.M)}
+    return found
 
 
 def specs_of(crate):
