@@ -2,7 +2,7 @@
 import os
 import re
 
-from tally import TOP, check, kept_files, pages, sources_of, text_of
+from tally import TOP, check, kept_files, name_of, pages, sources_of, text_of
 
 # A path of the repository between backticks, perhaps with words after it.
 PATH = re.compile(r"`((?:\./)?(?:\.ci|bench|build|compile-fail|completions|crates|docs|edits|release|samples|tests)(?:/[\w./-]+)?)((?: [^`]*)?)`")
@@ -22,8 +22,8 @@ def check_links():
     for page in pages():
         for link, title in re.findall(r"\]\(([^)#:]*)(?:#([^)]*))?\)", page.read_text()):
             file = page.parent / link if link else page
-            check(file.exists(), f"{page.name} links to {link}, which is not there")
-            check(not title or file.exists() and title in anchors(file), f"{page.name} links to {link}#{title}, which has no such title")
+            check(file.exists(), f"{name_of(page)} links to {link}, which is not there")
+            check(not title or file.exists() and title in anchors(file), f"{name_of(page)} links to {link}#{title}, which has no such title")
 
 
 def check_codes():
@@ -46,9 +46,9 @@ def check_paths():
     for page in pages():
         for path, words in PATH.findall(page.read_text()):
             file = TOP / path
-            check(file.exists() or "/out/" in path, f"{page.name} names {path}, which is not there")
+            check(file.exists() or "/out/" in path, f"{name_of(page)} names {path}, which is not there")
             if words and file.is_file():
-                check(os.access(file, os.X_OK), f"{page.name} has the command {path}{words}, and {path} is no program")
+                check(os.access(file, os.X_OK), f"{name_of(page)} has the command {path}{words}, and {path} is no program")
 
 
 def check_calls(page):
@@ -57,11 +57,11 @@ def check_calls(page):
     for crate, path, names in CALL.findall(text):
         sources = sources_of(crate)
         for name in re.findall(r"\w+", path + names):
-            check(re.search(rf"\b(fn|struct|enum|trait|mod|const) {name}\b", sources), f"{page.name}: {crate} has no {path}{name}")
+            check(re.search(rf"\b(fn|struct|enum|trait|mod|const) {name}\b", sources), f"{name_of(page)}: {crate} has no {path}{name}")
     for crate, name, clauses in CLAUSES.findall(text):
         contracts = re.findall(rf"\bpub fn {name}\b.*?\n *\{{\n", sources_of(crate), re.S)
         for clause in re.findall(r"\w+", clauses.replace(" and ", " ")):
-            check(any(f"ensures {clause} {{" in it for it in contracts), f"{page.name}: {crate}::{name} has no clause {clause}")
+            check(any(f"ensures {clause} {{" in it for it in contracts), f"{name_of(page)}: {crate}::{name} has no clause {clause}")
 
 
 def check_tests(page):

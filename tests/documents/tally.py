@@ -21,7 +21,19 @@ def text_of(path):
 
 def pages():
     """The pages that a reader opens."""
-    return [TOP / "README.md", TOP / "PROMISES.md", TOP / "CONTRIBUTING.md", *sorted((TOP / "docs").glob("*.md"))]
+    first = [TOP / "README.md", TOP / "PROMISES.md", TOP / "CONTRIBUTING.md"]
+    return [*first, *sorted((TOP / "docs").glob("*.md")), *sorted((TOP / "crates").glob("*/README.md"))]
+
+
+def name_of(page):
+    """A page by its path in the repository."""
+    return page.relative_to(TOP).as_posix()
+
+
+def crates():
+    """The crates of crates.txt, and of each the crates that it builds on, those from elsewhere among them."""
+    lines = [line.split("#")[0].partition(":") for line in text_of("crates.txt").splitlines()]
+    return {name.strip(): words.split() for name, _, words in lines if name.strip()}
 
 
 def kept_files():
