@@ -55,7 +55,8 @@ fn each_lf_has_cr(text: &[u8]) -> bool
 pub fn is_like(one: &[u8], other: &[u8]) -> bool
     ensures { result ≡ likes.like one.now other.now }
 {
-    is_plainly(after_bom(one), after_bom(other))
+    // Nearly always they are equal, which takes no walk.
+    one == other || is_plainly(after_bom(one), after_bom(other))
 }
 
 // What comes after U+FEFF at the front, or all.

@@ -5,7 +5,7 @@ use crate::refusal::Refusal;
 use crate::rights::look_at;
 use crate::telling::{say, say_of};
 use crate::turns::{read_files, refusal_in};
-use book_folder::{Found, Named, Seen, book_begun, may_be_book, read_names};
+use book_folder::{Found, Named, Seen, Unsettled, book_begun, may_be_book, read_names};
 use bundle_codec::{BundleFault, WholeFault, decode_whole};
 use std::fs::Metadata;
 use usfm_cli::{Fault, NO_BOOK_FILE, TEXT_NAME, is_text_name};
@@ -64,6 +64,16 @@ impl Kept {
         match (self.base_names.first(), self.bases.first()) {
             (Some(name), Some(bytes)) if name.as_str() == BASE => Some(bytes),
             _ => None,
+        }
+    }
+
+    // What stands there when the base is to be settled.
+    pub(crate) fn unsettled(&self) -> Unsettled<'_> {
+        Unsettled {
+            base: self.base(),
+            bases: &self.bases,
+            next: self.next.as_deref(),
+            unplaced: &self.unplaced,
         }
     }
 }

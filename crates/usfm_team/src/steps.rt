@@ -8,7 +8,7 @@ use crate::reading::{BASE, Kept, MADE_END, NAMES, NEXT, OLDER, OWN, Read, read_k
 use crate::refusal::Refusal;
 use crate::rights::keep_least_rights;
 use crate::sync::fault_of;
-use book_folder::{NewFile, Placing, Step, settled};
+use book_folder::{NewFile, Placing, SettlingStep, Step, settling_steps};
 use std::fs;
 use std::io::ErrorKind;
 use usfm_cli::Fault;
@@ -221,30 +221,35 @@ fn place(disk: Disk<'_>, own: &Folder, placing: &Placing) -> Result<bool, Fault>
 fn settle(disk: Disk<'_>, own: &Folder) -> Result<(), Refusal> {
     let rt = disk.rt;
     let kept = read_kept(rt, own, false)?;
-    if let Some(next) = &kept.next {
-        let base = base_after(rt, &kept, next);
-        let base = base.map_err(|fault| own.refusal(rt, fault, NEXT))?;
-        if kept.base() != Some(base.as_slice()) {
-            let moved = move_on(disk, own, kept.base());
-            moved.map_err(|fault| own.refusal(rt, fault, OLDER[0]))?;
-            put(disk, own, BASE, &base)?;
-            own.sync()?;
-        }
-        let removed = remove_if_there(rt, &own.way_to(rt, NEXT)?);
-        removed.map_err(|fault| own.refusal(rt, fault, NEXT))?;
-        own.sync()?;
-    }
-    for book in &kept.unplaced {
-        remove_new(rt, own, *book)?;
+    let steps = match settling_steps(rt.alloc(), &kept.unsettled()) {
+        Ok(steps) => steps,
+        Err(refusal) => return Err(own.refusal(rt, fault_of(refusal), NEXT)),
+    };
+    for step in &steps {
+        do_settling(disk, own, &kept, step)?;
     }
     Ok(())
 }
 
-// The base that is to be settled.
-fn base_after(rt: &HostRuntime, kept: &Kept, next: &[u8]) -> Result<Vec<u8>, Fault> {
-    match settled(rt.alloc(), &kept.bases, next, &kept.unplaced) {
-        Ok(base) => Ok(base),
-        Err(refusal) => Err(fault_of(refusal)),
+fn do_settling(
+    disk: Disk<'_>,
+    own: &Folder,
+    kept: &Kept,
+    step: &SettlingStep,
+) -> Result<(), Refusal> {
+    let rt = disk.rt;
+    match step {
+        SettlingStep::KeepBase => {
+            let moved = move_on(disk, own, kept.base());
+            moved.map_err(|fault| own.refusal(rt, fault, OLDER[0]))
+        }
+        SettlingStep::PutBase(bytes) => put(disk, own, BASE, bytes),
+        SettlingStep::SyncOwn => Ok(own.sync()?),
+        SettlingStep::RemoveNext => {
+            let removed = remove_if_there(rt, &own.way_to(rt, NEXT)?);
+            removed.map_err(|fault| own.refusal(rt, fault, NEXT))
+        }
+        SettlingStep::RemoveNew(book) => remove_new(rt, own, *book),
     }
 }
 
