@@ -6,5 +6,7 @@ mod Turns
 mod RestoredRise
 mod NoText
 mod ChangeAt
-mod PlanAnswers
 mod TextsUnder
+mod Fronts
+mod NamesOrder
+mod NameLines

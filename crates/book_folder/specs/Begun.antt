@@ -196,16 +196,20 @@ with_next unplaced b (Some bytes) =
     replica_at b.base.name places.Next base >>= λ settled.
     Ok (record { replica = r.after; base = settled; held = b.held })
 
+-- the project that a file has, or the refusal
+abbrev pub project_or : Result State LoadFault → Result State Refusal
+project_or (Ok s) = Ok s
+project_or (Err fault) = Err (of_loading fault)
+
 -- a project with nothing of a folder
-abbrev pub begun_or : Result State LoadFault → Result BegunParts Refusal
-begun_or (Ok s) = Ok (record { replica = s; base = begun s.name; held = length s.held })
-begun_or (Err fault) = Err (of_loading fault)
+abbrev pub begun_alone : State → BegunParts
+begun_alone s = record { replica = s; base = begun s.name; held = length s.held }
 
 -- What a folder begins with: the project in which what its files were written from was received.
 abbrev pub begun_with : SeenParts → WishParts → Result BegunParts Refusal
 begun_with seen wishes =
-    begun_or (project_at seen.project) >>= λ b.
-    with_bases wishes 0 b seen.bases >>= λ based.
+    project_or (project_at seen.project) >>= λ s.
+    with_bases wishes 0 (begun_alone s) seen.bases >>= λ based.
     with_next seen.unplaced based seen.next
 
 -- the union of the bundles of the base, of which the first has this place, with what was received before
@@ -215,8 +219,23 @@ bases_from at base (bytes ∷ later) =
     judged (places.Base at) bytes >>= λ ops.
     received (places.Base at) base ops >>= λ r. bases_from (suc at) r.after later
 
+-- the union of the bundles of the base, held by a replica that makes no operation
+abbrev pub union_of : List (List ℕ) → Result State Refusal
+union_of bases = bases_from 0 (begun (codes "base")) bases
+
 -- the base after the files were put in their places, by its bytes and those of the next one
 abbrev pub settled : List (List ℕ) → List ℕ → List (List ℕ) → Result (List ℕ) Refusal
 settled bases next unplaced =
-    bases_from 0 (begun (codes "base")) bases >>= λ base.
+    union_of bases >>= λ base.
     judged places.Next next >>= settled_base unplaced base.held
+
+-- a base after it was settled, where a next one stands
+abbrev pub settled_if : List (List ℕ) → State → Option (List ℕ) → Result State Refusal
+settled_if unplaced base None = Ok base
+settled_if unplaced base (Some next) =
+    judged places.Next next >>= λ ops.
+    settled_base unplaced base.held ops >>= replica_at base.name places.Next
+
+-- what the files of a folder were written from
+abbrev pub base_of : SeenParts → Result State Refusal
+base_of seen = union_of seen.bases >>= λ base. settled_if seen.unplaced base seen.next

@@ -11,6 +11,8 @@ pub mod Stale
 pub mod Bases
 pub mod StoodTexts
 pub mod Coming
+pub mod Naming
 pub mod Laws
 pub mod Plans
 pub mod Settling
+pub mod Exports

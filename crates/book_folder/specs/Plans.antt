@@ -1,6 +1,5 @@
 -- What is done with a project and a folder, as a plan of what was read (this project's own rule).
-use Rattle.std.specs.Prelude.{◌≡◌, ◌⊎◌, ℕ, Bool, true, false, not, ◌&&◌, List, [], ◌∷◌, ◌++◌, map, filter, Option, None, Some, option_map, Result, Ok, Err, if◌then◌else◌}
-use Rattle.std.specs.List.{flat_map}
+use Rattle.std.specs.Prelude.{ℕ, Bool, true, false, not, ◌&&◌, List, [], ◌∷◌, ◌++◌, map, filter, Option, None, Some, option_map, Result, Ok, if◌then◌else◌, string_bytes}
 use Rattle.usfm_ref.specs.Books.{same_bytes}
 use Rattle.usfm_ref.specs.Keys.{KeyParts}
 use Rattle.op_core.specs.Ids.{Id}
@@ -13,10 +12,10 @@ use Rattle.book_folder.specs.Begun.{conflicts}
 use Rattle.book_folder.specs.Coming.{AddedParts, CameInParts, added_view, comes_in}
 use Rattle.book_folder.specs.Files.{FileParts, clear_files, file_of, book_begun}
 use Rattle.book_folder.specs.Likes.{like, line_ends}
-use Rattle.book_folder.specs.Refusals.{◌>>=◌}
+use Rattle.book_folder.specs.Naming.{FormParts, form_of, named, new_name, other_names}
+use Rattle.book_folder.specs.Refusals.{◌>>=◌, gathered}
 use Rattle.book_folder.specs.Restored.{in_manner_of}
-use Rattle.book_folder.specs.Taking.{listed}
-use Rattle.book_folder.specs.Wanted.{SeenParts, WishParts}
+use Rattle.book_folder.specs.Wanted.{NamedParts, SeenParts, WishParts}
 use Rattle.book_folder.specs.declared.bases.OwnFiles.{OwnFiles}
 use Rattle.book_folder.specs.declared.likes.LineEnds.{LineEnds}
 use Rattle.book_folder.specs.declared.likes.LineEnds.TheVariants.{Lf, CrLf, Mixed}
@@ -25,10 +24,7 @@ use Rattle.book_folder.specs.declared.plan.Plan.{Plan}
 use Rattle.book_folder.specs.declared.plan.Step.{Step}
 use Rattle.book_folder.specs.declared.plan.Step.TheVariants as steps
 use Rattle.book_folder.specs.declared.plan.Told.{Told}
-use Rattle.book_folder.specs.declared.refusal.FolderFault.{FolderFault}
-use Rattle.book_folder.specs.declared.refusal.FolderFault.TheVariants as faults
 use Rattle.book_folder.specs.declared.refusal.Refusal.{Refusal}
-use Rattle.book_folder.specs.declared.refusal.Refusal.TheVariants.{Memory, Of}
 
 -- ---- new files
 
@@ -66,36 +62,53 @@ abbrev pub text_for : Option FileParts → List ℕ → List ℕ
 text_for None text = text
 text_for (Some f) text = by_ends (line_ends f.bytes) f.bytes text
 
--- a book's new file, but for its name: its text, and which of the files that were read it replaces
+-- a book's new file: its name, its text, and which of the files that were read it replaces
 pub record NewFileParts : Type 0 where
   pub book : List ℕ
+  pub name : List ℕ
   pub text : List ℕ
   pub replaces : Option ℕ
 
 -- a book's new file, as a contract sees it
 abbrev pub new_file_view : NewFile → NewFileParts
-new_file_view f = record { book = f.book; text = f.text.items; replaces = f.replaces }
-
--- a book's new file: its export in the manner of the file that it replaces, if it replaces one
-abbrev pub new_file : List Operation → List FileParts → List ℕ → NewFileParts
-new_file held files book = record {
-  book = book;
-  text = text_for (file_of files book) (export held book);
-  replaces = option_map (λ f. f.at) (file_of files book);
+new_file_view f = record {
+  book = f.book;
+  name = string_bytes f.name;
+  text = f.text.items;
+  replaces = f.replaces;
 }
 
--- a new file of a book, if it gets one
-abbrev pub new_file_if : List Operation → List FileParts → List ℕ → Option NewFileParts
-new_file_if held files book =
-    if wants_file held files book then Some (new_file held files book) else None
+-- a book's new file of a name: its export in the manner of the file that it replaces, if it
+-- replaces one
+abbrev pub new_file : List Operation → Option FileParts → List ℕ → List ℕ → NewFileParts
+new_file held file book name = record {
+  book = book;
+  name = name;
+  text = text_for file (export held book);
+  replaces = option_map (λ f. f.at) file;
+}
 
--- the new files, in the order of books
-abbrev pub new_files : List Operation → List FileParts → List NewFileParts
-new_files held files = flat_map (λ book. listed (new_file_if held files book)) (books_of held)
+-- a new file of a book, if it gets one; or the refusal of what stands under the name that it gets
+abbrev pub new_file_if : SeenParts → List Operation → List FileParts → FormParts → List ℕ
+    → Result (Option NewFileParts) Refusal
+new_file_if seen held files form book =
+    if wants_file held files book then
+    (new_name seen form book (file_of files book) >>= λ name.
+    Ok (Some (new_file held (file_of files book) book name)))
+    else Ok None
+
+-- The new files, in the order of books; or the first refusal.
+abbrev pub new_files : SeenParts → List Operation → List FileParts → FormParts
+    → Result (List NewFileParts) Refusal
+new_files seen held files form = gathered (new_file_if seen held files form) [] (books_of held)
+
+-- a new file, by its book and its name
+abbrev pub new_name_of : NewFileParts → NamedParts
+new_name_of f = named f.book f.name
 
 -- ---- steps
 
--- a step on the disk, but for the names of files
+-- a step on the disk
 pub data StepParts : Type 0 where
   ReplaceProject : (bytes : List ℕ) → StepParts
   Settle : StepParts
@@ -105,7 +118,7 @@ pub data StepParts : Type 0 where
   PutBase : (bytes : List ℕ) → StepParts
   PutNames : (bytes : List ℕ) → StepParts
   PutNext : (bytes : List ℕ) → StepParts
-  PutInPlace : (book : List ℕ) (replaces : Option ℕ) → StepParts
+  PutInPlace : (book name : List ℕ) (replaces : Option ℕ) → StepParts
   SyncFolder : StepParts
 
 -- a step, as a contract sees it
@@ -118,7 +131,8 @@ step_view steps.SyncOwn = SyncOwn
 step_view (steps.PutBase bytes) = PutBase bytes.items
 step_view (steps.PutNames bytes) = PutNames bytes.items
 step_view (steps.PutNext bytes) = PutNext bytes.items
-step_view (steps.Place placing) = PutInPlace placing.book placing.replaces
+step_view (steps.Place placing) =
+    PutInPlace placing.book (string_bytes placing.name) placing.replaces
 step_view steps.SyncFolder = SyncFolder
 
 -- what is written into the program's folder beside the new files, each if it is other than what is there
@@ -151,7 +165,7 @@ with_sync sync (step ∷ more) = step ∷ more ++ sync ∷ []
 
 -- the step by which a new file is put in its place
 abbrev pub placing : NewFileParts → StepParts
-placing f = PutInPlace f.book f.replaces
+placing f = PutInPlace f.book f.name f.replaces
 
 -- steps by which new files are put in their places, and those after them, if there are any: the
 -- names of the folder are synced, and the base is settled
@@ -248,7 +262,8 @@ told_of c = record {
   awaits = not (is_none_awaited (awaited c.replica.held));
 }
 
--- the plan of what came in, with new files, and with the names that are written down, if any are
+-- the plan of what came in, with new files, and with the names that are written down, if these are
+-- other than those that were
 abbrev pub plan_of : SeenParts → CameInParts → List NewFileParts → Option (List ℕ)
     → Result PlanParts Refusal
 plan_of seen c made names =
@@ -260,36 +275,13 @@ plan_of seen c made names =
       told = told_of c;
     })
 
--- the plan of what was read, with the names that are written down, if any are
-abbrev pub planned : SeenParts → WishParts → Option (List ℕ) → Result PlanParts Refusal
-planned seen wishes names =
+-- The plan of what was read, or the first refusal: of a folder in which it is not known which file
+-- is a book's; of what comes in; of the name that is to say how new files are named; of what stands
+-- where a new file is to be put; of a base that cannot be made.
+abbrev pub planned : SeenParts → WishParts → Result PlanParts Refusal
+planned seen wishes =
     clear_files seen >>= λ files.
     comes_in seen wishes files >>= λ c.
-    plan_of seen c (new_files c.replica.held files) names
-
--- a refusal of how files are named: the name that is to say it does not; or something stands where
--- a new file is to be put
-abbrev pub IsOfNaming : FolderFault → Type 0
-IsOfNaming fault = (fault ≡ faults.BadForm) ⊎ (fault ≡ faults.FileChanged)
-
--- what may be refused where a name is wanted
-abbrev pub MayRefuseName : {A : Type 0} → Result A Refusal → Type 0
-MayRefuseName (Ok name) = Unit {0}
-MayRefuseName (Err Memory) = Unit {0}
-MayRefuseName (Err (Of place fault)) = IsOfNaming fault
-
--- What is answered where a plan is wanted: the plan, with some names that are written down; or the
--- refusal, which may be of how files are named; or out of memory.
-abbrev pub AnswersPlan : SeenParts → WishParts → Result Plan Refusal → Type 0
-AnswersPlan seen wishes (Ok plan) =
-    (names : Option (List ℕ)) × (planned seen wishes names ≡ Ok (plan_view plan))
-AnswersPlan seen wishes (Err Memory) = Unit {0}
-AnswersPlan seen wishes (Err (Of place fault)) =
-    ((names : Option (List ℕ)) × (planned seen wishes names ≡ Err (Of place fault)))
-    ⊎ IsOfNaming fault
-
--- what is answered of new files: they, or a refusal of how they are named, or out of memory
-abbrev pub AnswersFiles : {A B : Type 0} → (A → B) → B → Result A Refusal → Type 0
-AnswersFiles view wanted (Ok made) = view made ≡ wanted
-AnswersFiles view wanted (Err Memory) = Unit {0}
-AnswersFiles view wanted (Err (Of place fault)) = IsOfNaming fault
+    form_of seen files wishes >>= λ form.
+    new_files seen c.replica.held files form >>= λ made.
+    plan_of seen c made (other_names seen files (map new_name_of made))

@@ -1,6 +1,7 @@
 -- What is answered where a folder may be refused (this project's own rule): the value, or the
 -- refusal that there is; or out of memory.
-use Rattle.std.specs.Prelude.{◌≡◌, Result, Ok, Err}
+use Rattle.std.specs.Prelude.{◌≡◌, List, [], ◌∷◌, ◌++◌, Option, Result, Ok, Err}
+use Rattle.std.specs.Option.{option_to_list}
 use Rattle.bundle_codec.specs.declared.fault.BundleFault.TheVariants as bundle
 use Rattle.bundle_codec.specs.declared.fault.WholeFault.{WholeFault}
 use Rattle.bundle_codec.specs.declared.fault.WholeFault.TheVariants as whole
@@ -37,6 +38,13 @@ infixl 10 ◌>>=◌
 abbrev pub ◌>>=◌ : {A B : Type 0} → Result A Refusal → (A → Result B Refusal) → Result B Refusal
 (Ok x) >>= next = next x
 (Err refusal) >>= next = Err refusal
+
+-- what each of some items gives, if it gives anything, after what there is; or the first refusal
+abbrev pub gathered : {A B : Type 0} → (A → Result (Option B) Refusal) → List B → List A
+    → Result (List B) Refusal
+gathered give made [] = Ok made
+gathered give made (x ∷ later) =
+    give x >>= λ y. gathered give (made ++ option_to_list y) later
 
 -- ---- the refusals of the layers below
 

@@ -10,11 +10,10 @@ ghost use Rattle.book_folder.specs.Wanted.{seen_view};
 
 use crate::begun::join;
 use crate::coming::CameIn;
-use crate::files::{BookFile, is_one_of};
-use crate::naming::names_text;
+use crate::files::is_one_of;
 use crate::plan::NewFile;
 use crate::refusal::{Place, Refusal};
-use crate::seen::{Named, Seen};
+use crate::seen::Seen;
 use crate::stood_texts::{stood_text, stood_texts};
 use crate::taking::Stood;
 use bundle_codec::encode_ops;
@@ -82,30 +81,6 @@ pub(crate) fn other_base(seen: &Seen<'_>, base: Vec<u8>) -> Option<Vec<u8>>
         ([one], None) => other_than(one, base),
         _ => Some(base),
     }
-}
-
-// The names that are written down, if they are other than those that were.
-pub(crate) fn other_names(
-    alloc: Global,
-    seen: &Seen<'_>,
-    files: &[BookFile<'_>],
-    made: &[NewFile],
-) -> Result<Option<Vec<u8>>, AllocError> {
-    let new = new_names(alloc, made)?;
-    let old = names_text(alloc, seen, &[], &[])?;
-    Ok(other_than(&old, names_text(alloc, seen, files, &new)?))
-}
-
-fn new_names(alloc: Global, made: &[NewFile]) -> Result<Vec<Named>, AllocError> {
-    let mut names = Vec::new(alloc);
-    for file in made {
-        if file.replaces.is_none() {
-            let name = String::from_str(alloc, &file.name)?;
-            let book = file.book;
-            names.push(Named { book, name })?;
-        }
-    }
-    Ok(names)
 }
 
 // What the books with a file show.

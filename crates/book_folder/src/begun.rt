@@ -36,26 +36,32 @@ pub(crate) fn begin(alloc: Global, seen: &Seen<'_>, wishes: &Wishes) -> Result<B
     ensures { AnswersBy begins.begun_view
         (begins.begun_with (seen_view seen.now) (wishes_view wishes.now)) result }
 {
-    let mut begun = begin_alone(alloc, seen.project)?;
+    let mut begun = begin_alone(alloc, project_of(alloc, seen.project)?);
     receive_bases(alloc, &mut begun, seen.bases, wishes)?;
     settle_next(alloc, begun, seen)
 }
 
-// A project with nothing of a folder.
-fn begin_alone(alloc: Global, project: &[u8]) -> Result<Begun, Refusal>
-    ensures { AnswersBy begins.begun_view (begins.begun_or (project_at project.now)) result }
+// The project that a file has.
+pub(crate) fn project_of(alloc: Global, bytes: &[u8]) -> Result<Replica, Refusal>
+    ensures { Answers (begins.project_or (project_at bytes.now)) result }
 {
-    let replica = match load(alloc, project) {
-        Ok(replica) => replica,
-        Err(fault) => return Err(Refusal::of_loading(fault)),
-    };
+    match load(alloc, bytes) {
+        Ok(replica) => Ok(replica),
+        Err(fault) => Err(Refusal::of_loading(fault)),
+    }
+}
+
+// A project with nothing of a folder.
+fn begin_alone(alloc: Global, replica: Replica) -> Begun
+    ensures { begins.begun_view result ≡ begins.begun_alone replica }
+{
     let base = Replica::new(alloc, replica.name());
     let held = replica.set().len();
-    Ok(Begun {
+    Begun {
         replica,
         base,
         held,
-    })
+    }
 }
 
 fn receive_bases(
@@ -208,6 +214,15 @@ pub fn settled(
     ensures { AnswersBy (λ made. made.items)
         (begins.settled (map (λ b. b.items) bases.now) next.now unplaced.now) result }
 {
+    let base = union_of(alloc, bases)?;
+    let bundle = judge(alloc, Place::Next, next)?;
+    settled_base(alloc, &base, &bundle, unplaced)
+}
+
+// What the bundles of the base have together.
+fn union_of(alloc: Global, bases: &[Vec<u8>]) -> Result<Replica, Refusal>
+    ensures { Answers (begins.union_of (map (λ b. b.items) bases.now)) result }
+{
     let mut base = Replica::new(alloc, any_name());
     let mut at = 0;
     let mut left = bases;
@@ -218,28 +233,20 @@ pub fn settled(
         at += 1;
         left = later;
     }
-    let bundle = judge(alloc, Place::Next, next)?;
-    settled_base(alloc, &base, &bundle, unplaced)
+    Ok(base)
 }
 
 // What the files of a folder were written from, as a replica.
-pub(crate) fn base_of(alloc: Global, seen: &Seen<'_>) -> Result<Replica, Refusal> {
-    let mut base = Replica::new(alloc, any_name());
-    let mut at = 0;
-    let mut left = seen.bases;
-    'bases: while let [bytes, later @ ..] = left {
-        let place = Place::Base(at);
-        let bundle = judge(alloc, place, bytes)?;
-        receive(&mut base, place, &bundle)?;
-        at += 1;
-        left = later;
-    }
+pub(crate) fn base_of(alloc: Global, seen: &Seen<'_>) -> Result<Replica, Refusal>
+    ensures { Answers (begins.base_of (seen_view seen.now)) result }
+{
+    let base = union_of(alloc, seen.bases)?;
     let Some(next) = seen.next else {
         return Ok(base);
     };
     let bundle = judge(alloc, Place::Next, next)?;
     let settled = settled_base(alloc, &base, &bundle, seen.unplaced)?;
-    replica_of(alloc, any_name(), Place::Next, &settled)
+    replica_of(alloc, base.name(), Place::Next, &settled)
 }
 
 // The name of a replica that makes no operation, and so is never seen.

@@ -1,14 +1,16 @@
 // The new files of a project's books.
 ghost use Rattle.std.specs.Prelude.{◌≡◌, IfOk, IsUtf8, Some, map, option_map};
 ghost use Rattle.book_folder.specs.Files.{file_view, files_view};
-ghost use Rattle.book_folder.specs.Plans.{AnswersFiles};
+ghost use Rattle.book_folder.specs.Naming.{form_view};
 ghost use Rattle.book_folder.specs.Plans as plans;
+ghost use Rattle.book_folder.specs.Refusals.{AnswersBy};
+ghost use Rattle.book_folder.specs.Wanted.{seen_view};
 
-use crate::files::{BookFile, book_begun, file_of, is_same_book, place_of};
+use crate::files::{BookFile, book_begun, file_of, is_same_book};
 use crate::likes::{LineEnds, is_like};
-use crate::naming::{Form, name_for};
+use crate::naming::{Form, free_name};
 use crate::plan::NewFile;
-use crate::refusal::{FolderFault, Refusal};
+use crate::refusal::Refusal;
 use crate::restored::in_manner_of;
 use crate::seen::Seen;
 use crate::taking::export_of;
@@ -17,7 +19,8 @@ use std::alloc::{AllocError, Global};
 use usfm_ref::Book;
 use usfm_token::read_text;
 
-// The new files of the books of which the project has the head, where they are not like those that are there.
+// The new files of the books of which the project has the head, where they are not like those that
+// are there.
 pub(crate) fn new_files(
     alloc: Global,
     seen: &Seen<'_>,
@@ -25,8 +28,8 @@ pub(crate) fn new_files(
     files: &[BookFile<'_>],
     form: &Form<'_>,
 ) -> Result<Vec<NewFile>, Refusal>
-    ensures { AnswersFiles (λ made. map plans.new_file_view made.items)
-        (plans.new_files replica.now.held (files_view files.now)) result }
+    ensures { AnswersBy (λ made. map plans.new_file_view made.items) (plans.new_files
+        (seen_view seen.now) replica.now.held (files_view files.now) (form_view form.now)) result }
 {
     let mut made = Vec::new(alloc);
     for book in replica.books() {
@@ -46,8 +49,8 @@ pub(crate) fn new_file(
     form: &Form<'_>,
     book: Book,
 ) -> Result<Option<NewFile>, Refusal>
-    ensures { AnswersFiles (option_map plans.new_file_view)
-        (plans.new_file_if replica.now.held (files_view files.now) book) result }
+    ensures { AnswersBy (option_map plans.new_file_view) (plans.new_file_if (seen_view seen.now)
+        replica.now.held (files_view files.now) (form_view form.now) book) result }
 {
     let Some(text) = export_of(alloc, replica, book)? else {
         return Ok(None);
@@ -126,16 +129,5 @@ fn in_manner_of_file(
             Ok(in_manner_of(alloc, file.bytes, now)?.into_bytes())
         }
         _ => Ok(text),
-    }
-}
-
-// The name of the file of a book that has none. Where something stands under it, the folder is refused.
-fn free_name(alloc: Global, seen: &Seen<'_>, form: &Form<'_>, book: Book) -> Result<String, Refusal>
-    ensures { plans.MayRefuseName result }
-{
-    let name = name_for(alloc, seen.names, form, book)?;
-    match place_of(seen, &name) {
-        Some(place) => Err(Refusal::Of(place, FolderFault::FileChanged)),
-        None => Ok(name),
     }
 }

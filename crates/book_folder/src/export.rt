@@ -1,19 +1,47 @@
 // What an export into a folder does, as a plan.
-use crate::bases::{OwnFiles, other_base, other_names};
-use crate::begun::{base_of, join, ops_of};
+ghost use Rattle.std.specs.Prelude.{◌≡◌, [], IfOk, map, option_map};
+ghost use Rattle.std.specs.List.{list_all};
+ghost use Rattle.op_core.specs.Export as export;
+ghost use Rattle.book_folder.specs.Exports as exports;
+ghost use Rattle.book_folder.specs.Files.{file_view, files_view};
+ghost use Rattle.book_folder.specs.Naming.{form_view};
+ghost use Rattle.book_folder.specs.Plans as plans;
+ghost use Rattle.book_folder.specs.Refusals.{AnswersBy, gathered};
+ghost use Rattle.book_folder.specs.Wanted.{seen_view, wishes_view};
+
+use crate::bases::{OwnFiles, other_base};
+use crate::begun::{base_of, join, ops_of, project_of};
 use crate::books::{is_whole, new_file};
-use crate::files::{BookFile, clear_files, file_of};
+use crate::files::{BookFile, clear_files, file_of, is_one_of, is_same_book};
 use crate::likes::is_like;
+use crate::names::other_names;
 use crate::naming::{Form, form_of};
 use crate::plan::{NewFile, Plan, Told, push_recovery, push_steps};
 use crate::refusal::{FolderFault, Place, Refusal};
 use crate::seen::{Seen, Wishes};
 use crate::taking::{export_of, has_book};
 use op_core::Op;
-use project_file::load;
 use replica_state::Replica;
 use std::alloc::{AllocError, Global};
 use usfm_ref::Book;
+
+// What an export goes by: the project, what the files were written from, the files, and how new
+// ones are named.
+#[derive(Clone, Copy, Debug)]
+struct Sources<'a> {
+    seen: &'a Seen<'a>,
+    replica: &'a Replica,
+    base: &'a Replica,
+    files: &'a [BookFile<'a>],
+    form: &'a Form<'a>,
+}
+
+// Books, parted into those that get a file and those that do not.
+#[derive(Debug, Drop)]
+struct Parted {
+    filed: Vec<Book>,
+    headless: Vec<Book>,
+}
 
 /// Plans what an export into a folder does: the books that are named, all where none is, go into
 /// their files; the project stays as it is.
@@ -31,93 +59,156 @@ pub fn export_plan(
     seen: &Seen<'_>,
     wishes: &Wishes,
     named: &[Book],
-) -> Result<Plan, Refusal> {
-    let replica = match load(alloc, seen.project) {
-        Ok(replica) => replica,
-        Err(fault) => return Err(Refusal::of_loading(fault)),
-    };
+) -> Result<Plan, Refusal>
+    ensures { AnswersBy plans.plan_view
+        (exports.exported (seen_view seen.now) (wishes_view wishes.now) named.now) result }
+{
+    let replica = project_of(alloc, seen.project)?;
     let files = clear_files(alloc, seen)?;
     let base = base_of(alloc, seen)?;
     let books = chosen_books(alloc, &replica, named)?;
-    let form = form_of(seen, &files, wishes)?;
-    let mut headless = Vec::new(alloc);
-    let mut filed = Vec::new(alloc);
-    let mut made = Vec::new(alloc);
-    for book in &books {
-        if !is_whole(alloc, &replica, *book)? {
-            headless.push(*book)?;
-            continue;
-        }
-        filed.push(*book)?;
-        if let Some(file) = replaced(alloc, seen, &replica, &base, &files, &form, *book)? {
-            made.push(file)?;
-        }
-    }
-    let next = exported_base(alloc, &replica, &base, &filed)?;
-    let names = other_names(alloc, seen, &files, &made)?;
-    let own = own_files(alloc, seen, &base, next, names, &made)?;
-    let mut steps = Vec::new(alloc);
-    push_recovery(&mut steps, seen, None)?;
-    push_steps(alloc, &mut steps, made, own, None)?;
-    let told = Told {
-        base: 0,
-        bundles: Vec::new(alloc),
-        files: Vec::new(alloc),
-        headless,
-        conflicts: Vec::new(alloc),
-        awaits: false,
+    let form = form_of(alloc, seen, &files, wishes)?;
+    let sources = Sources {
+        seen,
+        replica: &replica,
+        base: &base,
+        files: &files,
+        form: &form,
     };
-    Ok(Plan { steps, told })
+    export_books(alloc, &sources, &books)
+}
+
+// The plan of an export of some books.
+fn export_books(alloc: Global, by: &Sources<'_>, books: &[Book]) -> Result<Plan, Refusal>
+    ensures { let files = files_view by.now.files.now in
+        let form = form_view by.now.form.now in
+        AnswersBy plans.plan_view (exports.books_exported (seen_view by.now.seen.now)
+        by.now.replica.now.held by.now.base.now.held files form books.now) result }
+{
+    let Parted { filed, headless } = part_by_head(alloc, by.replica, books)?;
+    let made = exported_files(alloc, by, &filed)?;
+    let next = exported_base(alloc, by.replica, by.base, &filed)?;
+    let names = other_names(alloc, by.seen, by.files, &made)?;
+    let own = own_files(alloc, by, next, names, &made)?;
+    Ok(export_steps(alloc, by.seen, made, own, headless)?)
 }
 
 // The books that are named, in the order of books, all where none is named; one of which the
 // project has no operation is refused.
-fn chosen_books(alloc: Global, replica: &Replica, named: &[Book]) -> Result<Vec<Book>, Refusal> {
-    for book in named {
-        if !has_book(replica, *book) {
-            return Err(Refusal::Of(Place::Project, FolderFault::NoBook));
-        }
+fn chosen_books(alloc: Global, replica: &Replica, named: &[Book]) -> Result<Vec<Book>, Refusal>
+    ensures { AnswersBy (λ books. books.items) (exports.chosen replica.now.held named.now) result }
+{
+    if !has_books(replica, named) {
+        return Err(Refusal::Of(Place::Project, FolderFault::NoBook));
     }
     let mut books = Vec::new(alloc);
     for book in replica.books() {
-        if named.is_empty() || named.contains(&book) {
+        if named.is_empty() || is_one_of(named, book) {
             books.push(book)?;
         }
     }
     Ok(books)
 }
 
+// Whether a project has an operation of each of some books.
+fn has_books(replica: &Replica, books: &[Book]) -> bool
+    ensures { result ≡ list_all (export.has_book replica.now.held) books.now }
+{
+    let mut left = books;
+    'books: while let [book, later @ ..] = left {
+        if !has_book(replica, *book) {
+            return false;
+        }
+        left = later;
+    }
+    true
+}
+
+// Books, parted into those of which a project has the head, and those of which it does not.
+fn part_by_head(alloc: Global, replica: &Replica, books: &[Book]) -> Result<Parted, AllocError>
+    ensures filed { IfOk result (λ parted.
+        parted.filed.items ≡ exports.filed replica.now.held books.now) }
+    ensures headless { IfOk result (λ parted.
+        parted.headless.items ≡ exports.unfiled replica.now.held books.now) }
+{
+    let mut filed = Vec::new(alloc);
+    let mut headless = Vec::new(alloc);
+    let mut left = books;
+    'books: while let [book, later @ ..] = left {
+        if is_whole(alloc, replica, *book)? {
+            filed.push(*book)?;
+        } else {
+            headless.push(*book)?;
+        }
+        left = later;
+    }
+    Ok(Parted { filed, headless })
+}
+
+// The new files of some books.
+fn exported_files(alloc: Global, by: &Sources<'_>, books: &[Book]) -> Result<Vec<NewFile>, Refusal>
+    ensures { let files = files_view by.now.files.now in
+        let form = form_view by.now.form.now in
+        AnswersBy (λ made. map plans.new_file_view made.items) (gathered (exports.exported_file
+        (seen_view by.now.seen.now) by.now.replica.now.held by.now.base.now.held files form) []
+        books.now) result }
+{
+    let mut made = Vec::new(alloc);
+    let mut left = books;
+    'books: while let [book, later @ ..] = left {
+        if let Some(file) = exported_file(alloc, by, *book)? {
+            made.push(file)?;
+        }
+        left = later;
+    }
+    Ok(made)
+}
+
 // The new file of a book, if it gets one. The file that it replaces has to be as it was written,
 // from what the project has.
-fn replaced(
-    alloc: Global,
-    seen: &Seen<'_>,
-    replica: &Replica,
-    base: &Replica,
-    files: &[BookFile<'_>],
-    form: &Form<'_>,
-    book: Book,
-) -> Result<Option<NewFile>, Refusal> {
-    let Some(made) = new_file(alloc, seen, replica, files, form, book)? else {
+fn exported_file(alloc: Global, by: &Sources<'_>, book: Book) -> Result<Option<NewFile>, Refusal>
+    ensures { let files = files_view by.now.files.now in
+        let form = form_view by.now.form.now in
+        AnswersBy (option_map plans.new_file_view) (exports.exported_file
+        (seen_view by.now.seen.now) by.now.replica.now.held by.now.base.now.held files form book)
+        result }
+{
+    let Some(made) = new_file(alloc, by.seen, by.replica, by.files, by.form, book)? else {
         return Ok(None);
     };
-    if let Some(file) = file_of(files, book) {
-        let is_unchanged = match export_of(alloc, base, book)? {
-            Some(was) => is_like(&was, file.bytes) && holds_all(replica, base, book),
-            None => false,
-        };
-        if !is_unchanged {
-            return Err(Refusal::Of(Place::File(file.at), FolderFault::FileChanged));
-        }
+    let Some(file) = file_of(by.files, book) else {
+        return Ok(Some(made));
+    };
+    if !is_unchanged(alloc, by.replica, by.base, file, book)? {
+        return Err(Refusal::Of(Place::File(file.at), FolderFault::FileChanged));
     }
     Ok(Some(made))
 }
 
+// Whether a file is as it was written, from what the project has.
+fn is_unchanged(
+    alloc: Global,
+    replica: &Replica,
+    base: &Replica,
+    file: &BookFile<'_>,
+    book: Book,
+) -> Result<bool, AllocError>
+    ensures { IfOk result (λ is. is ≡ exports.is_unchanged replica.now.held base.now.held
+        (file_view file.now) book) }
+{
+    Ok(match export_of(alloc, base, book)? {
+        Some(was) => is_like(&was, file.bytes) && holds_all(replica, base, book),
+        None => false,
+    })
+}
+
 // Whether a project holds all that a base has of a book.
-fn holds_all(replica: &Replica, base: &Replica, book: Book) -> bool {
+fn holds_all(replica: &Replica, base: &Replica, book: Book) -> bool
+    ensures { result ≡ list_all (exports.is_held_of replica.now.held book) base.now.held }
+{
     let mut finder = replica.set().finder();
     for op in base.set().iter() {
-        if op.book() == book && finder.find(&op.id()).is_none() {
+        if is_same_book(op.book(), book) && finder.find(&op.id()).is_none() {
             return false;
         }
     }
@@ -130,14 +221,13 @@ fn exported_base(
     replica: &Replica,
     base: &Replica,
     filed: &[Book],
-) -> Result<Vec<u8>, Refusal> {
+) -> Result<Vec<u8>, Refusal>
+    ensures { AnswersBy (λ made. made.items)
+        (exports.exported_base replica.now.held base.now.held filed.now) result }
+{
     let left = ops_of(alloc, base.set(), filed, false)?;
-    join(
-        alloc,
-        Place::Project,
-        &left,
-        &shown_ops(alloc, replica, filed)?,
-    )
+    let shown = shown_ops(alloc, replica, filed)?;
+    join(alloc, Place::Project, &left, &shown)
 }
 
 // What some books show.
@@ -145,10 +235,13 @@ fn shown_ops<'a>(
     alloc: Global,
     replica: &'a Replica,
     books: &[Book],
-) -> Result<Vec<&'a Op>, AllocError> {
+) -> Result<Vec<&'a Op>, AllocError>
+    ensures { IfOk result (λ ops. map (λ op. op.now) ops.items
+        ≡ exports.shown_of books.now replica.now.held) }
+{
     let mut ops = Vec::new(alloc);
     for op in replica.set().iter() {
-        if books.contains(&op.book()) && replica.shows(op) {
+        if is_one_of(books, op.book()) && replica.shows(op) {
             ops.push(op)?;
         }
     }
@@ -158,22 +251,50 @@ fn shown_ops<'a>(
 // Where there are new files, the base as it is, and the next one; else the next one as the base.
 fn own_files(
     alloc: Global,
-    seen: &Seen<'_>,
-    base: &Replica,
+    by: &Sources<'_>,
     next: Vec<u8>,
     names: Option<Vec<u8>>,
     made: &[NewFile],
-) -> Result<OwnFiles, Refusal> {
+) -> Result<OwnFiles, AllocError>
+    ensures { IfOk result (λ own. plans.own_view own ≡ exports.own_of (seen_view by.now.seen.now)
+        by.now.base.now.held (map plans.new_file_view made.now) next.items
+        (option_map (λ b. b.items) names)) }
+{
     if made.is_empty() {
         return Ok(OwnFiles {
-            base: other_base(seen, next),
+            base: other_base(by.seen, next),
             names,
             next: None,
         });
     }
     Ok(OwnFiles {
-        base: other_base(seen, base.bundle(alloc)?),
+        base: other_base(by.seen, by.base.bundle(alloc)?),
         names,
         next: Some(next),
     })
+}
+
+// The plan of an export with new files, where some books get none.
+fn export_steps(
+    alloc: Global,
+    seen: &Seen<'_>,
+    made: Vec<NewFile>,
+    own: OwnFiles,
+    headless: Vec<Book>,
+) -> Result<Plan, AllocError>
+    ensures { IfOk result (λ plan. plans.plan_view plan ≡ exports.export_of (seen_view seen.now)
+        headless.items (map plans.new_file_view made.items) (plans.own_view own)) }
+{
+    let mut steps = Vec::new(alloc);
+    push_recovery(&mut steps, seen, None)?;
+    push_steps(alloc, &mut steps, made, own, None)?;
+    let told = Told {
+        base: 0,
+        bundles: Vec::new(alloc),
+        files: Vec::new(alloc),
+        headless,
+        conflicts: Vec::new(alloc),
+        awaits: false,
+    };
+    Ok(Plan { steps, told })
 }

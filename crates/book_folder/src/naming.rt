@@ -1,31 +1,34 @@
 // How the files of books are named that have none.
-ghost use Rattle.book_folder.specs.Plans.{MayRefuseName};
+ghost use Rattle.std.specs.Prelude.{◌≡◌, ◌++◌, IfOk, IsTrue, map, option_map, string_bytes};
+ghost use Rattle.usfm_ref.specs.Books.{is_book_code};
+ghost use Rattle.book_folder.specs.Files.{files_view};
+ghost use Rattle.book_folder.specs.Naming as naming;
+ghost use Rattle.book_folder.specs.Refusals.{AnswersBy};
+ghost use Rattle.book_folder.specs.Wanted.{named_view, seen_view, wishes_view};
 
-use crate::files::{BookFile, file_of, may_be_book, name_of};
-use crate::numbers::number_of;
+use crate::files::{BookFile, may_be_book, name_of, place_of, text_if};
+use crate::names::{BookName, names_had};
+use crate::numbers::{NUMBERS, Numbered, number_of};
 use crate::refusal::{FolderFault, Place, Refusal};
 use crate::seen::{Named, Seen, Wishes};
 use std::alloc::{AllocError, Global};
-use std::io::Write;
-use std::str;
 use usfm_ref::Book;
 
 const DEFAULT_END: &str = ".usfm";
 
-// How many bytes a book's number has at the front of a name, and how many its code.
-const NUMBER_BYTES: usize = 2;
-
-const CODE_BYTES: usize = 3;
-
-// How a name is made of a book: with the book's number before its code, or without, and with this end.
+// How a name is made of a book: with the book's number before its code, or without, and with this
+// end.
 #[derive(Clone, Copy, Debug)]
 pub(crate) struct Form<'a> {
-    has_number: bool,
-    end: &'a str,
+    pub(crate) has_number: bool,
+    pub(crate) end: &'a str,
 }
 
 impl Form<'_> {
-    fn is_same(&self, other: &Form<'_>) -> bool {
+    fn is_same(&self, other: &Form<'_>) -> bool
+        ensures { let own = naming.form_view self.now in
+            result ≡ naming.same_form own (naming.form_view other.now) }
+    {
         self.has_number == other.has_number && self.end == other.end
     }
 }
@@ -33,170 +36,255 @@ impl Form<'_> {
 // How files are named that have no name: as all others are, if these are named in one way; else as
 // is asked for; else `CODE.usfm`.
 pub(crate) fn form_of<'a>(
+    alloc: Global,
     seen: &Seen<'a>,
     files: &[BookFile<'a>],
     wishes: &'a Wishes,
 ) -> Result<Form<'a>, Refusal>
-    ensures { MayRefuseName result }
+    ensures { AnswersBy naming.form_view (naming.form_of (seen_view seen.now)
+        (files_view files.now) (wishes_view wishes.now)) result }
 {
-    let asked = match &wishes.form {
-        None => None,
-        Some(name) => match asked_form(name) {
-            Some(form) => Some(form),
-            None => return Err(Refusal::Of(Place::Form, FolderFault::BadForm)),
-        },
-    };
+    let asked = asked(wishes)?;
+    let names = names_had(alloc, seen, files)?;
     let default = Form {
         has_number: false,
         end: DEFAULT_END,
     };
-    Ok(common_form(seen, files).or(asked).unwrap_or(default))
+    Ok(common_form(&names).or(asked).unwrap_or(default))
 }
 
-// The form of all names, if they have one.
-fn common_form<'a>(seen: &Seen<'a>, files: &[BookFile<'a>]) -> Option<Form<'a>> {
-    let mut common = None;
-    for file in files {
-        common = Some(with_form(common, file.book, file.name)?);
+// The form that all names have, if they have one.
+fn common_form<'a>(names: &[BookName<'a>]) -> Option<Form<'a>>
+    ensures { option_map naming.form_view result
+        ≡ naming.common_form (map naming.book_name_view names.now) }
+{
+    let [first, later @ ..] = names else {
+        return None;
+    };
+    let form = form_in(first.book, first.name)?;
+    if have_form(later, &form) {
+        Some(form)
+    } else {
+        None
     }
-    for named in seen.names {
-        if file_of(files, named.book).is_none() {
-            common = Some(with_form(common, named.book, &named.name)?);
+}
+
+// Whether all names have a form.
+fn have_form(names: &[BookName<'_>], form: &Form<'_>) -> bool
+    ensures { result ≡ naming.have_form (map naming.book_name_view names.now)
+        (naming.form_view form.now) }
+{
+    let mut left = names;
+    'names: while let [named, later @ ..] = left {
+        match form_in(named.book, named.name) {
+            Some(other) if form.is_same(&other) => left = later,
+            _ => return false,
         }
     }
-    common
-}
-
-// The form of a book's name, where it is that of those before it.
-fn with_form<'a>(common: Option<Form<'a>>, book: Book, name: &'a str) -> Option<Form<'a>> {
-    let form = read_form(book, name)?;
-    match common {
-        Some(common) if !common.is_same(&form) => None,
-        _ => Some(form),
-    }
+    true
 }
 
 // The form of a book's name.
-fn read_form<'a>(book: Book, name: &'a str) -> Option<Form<'a>> {
-    let code = book.code();
-    let code = str::from_utf8(&code).ok()?;
-    if let Some(end) = name.strip_prefix(code) {
+fn form_in<'a>(book: Book, name: &'a str) -> Option<Form<'a>>
+    ensures { option_map naming.form_view result ≡ naming.form_in book name.now }
+{
+    if let Some(end) = after_code(book, name) {
         return Some(Form {
             has_number: false,
             end,
         });
     }
-    let end = name.strip_prefix(number_of(book)?)?.strip_prefix(code)?;
+    let end = after_number(book, name)?;
     Some(Form {
         has_number: true,
         end,
     })
 }
 
+// What follows a book's number and its code at the front of a name.
+fn after_number(book: Book, name: &str) -> Option<&str>
+    ensures { option_map (λ end. end.now) result
+        ≡ naming.after_number (naming.number_of book) book name.now }
+{
+    let code = book.code();
+    after_both(number_of(book)?, code_text(&code), name)
+}
+
+// What follows a book's code at the front of a name.
+fn after_code(book: Book, name: &str) -> Option<&str>
+    ensures { option_map (λ end. end.now) result ≡ naming.after book name.now }
+{
+    let code = book.code();
+    after_front(code_text(&code), name)
+}
+
+// A book's code as a text.
+fn code_text(code: &[u8; 3]) -> &str
+    requires { IsTrue (is_book_code code.now) }
+    ensures { result.now ≡ code.now }
+{
+    text_if(code).unwrap()
+}
+
+// The form that is asked for, if one is.
+fn asked(wishes: &Wishes) -> Result<Option<Form<'_>>, Refusal>
+    ensures { AnswersBy (option_map naming.form_view)
+        (naming.asked (option_map string_bytes wishes.now.form)) result }
+{
+    let Some(name) = &wishes.form else {
+        return Ok(None);
+    };
+    match asked_form(name) {
+        Some(form) => Ok(Some(form)),
+        None => Err(Refusal::Of(Place::Form, FolderFault::BadForm)),
+    }
+}
+
 // The form of a name that is asked for: of whatever book it is, with its number or without. It
 // begins so, or it has no form: after a number of another book, or of none, it is not known how the
 // others are to be numbered.
-fn asked_form(name: &str) -> Option<Form<'_>> {
-    if !may_be_book(name) || name.contains(['/', '\n']) {
-        return None;
-    }
-    match form_at(name, NUMBER_BYTES) {
-        Some(form) if form.has_number => Some(form),
-        _ => form_at(name, 0),
+fn asked_form(name: &str) -> Option<Form<'_>>
+    ensures { option_map naming.form_view result ≡ naming.asked_form name.now }
+{
+    if may_be_asked(name) {
+        numbered_form(name)
+    } else {
+        None
     }
 }
 
-// The form of a name that has at a place the code of a book that has a number. Other codes are
-// passed over: else in a name with a number `41M` would be one.
-fn form_at(name: &str, at: usize) -> Option<Form<'_>> {
-    let code = name.get(at..)?.get(..CODE_BYTES)?;
-    let book = Book::read(code).ok()?;
-    number_of(book)?;
-    read_form(book, name)
+// Whether a file of this name may be a book's in the folder, and the name is one line.
+fn may_be_asked(name: &str) -> bool
+    ensures { result ≡ naming.may_be_asked name.now }
+{
+    may_be_book(name) && !has_byte(name, b'/') && !has_byte(name, b'\n')
 }
 
-// The name of the file of a book that has none: the one that it had; else a new one, as a form has it.
-pub(crate) fn name_for(
+// The form of a name that begins with a number and its book's code, or with the code of a book that
+// has a number.
+fn numbered_form(name: &str) -> Option<Form<'_>>
+    ensures { option_map naming.form_view result ≡ naming.form_by naming.numbers name.now }
+{
+    form_by(&NUMBERS, name)
+}
+
+// The same by a table of numbers.
+fn form_by<'a>(table: &[Numbered], name: &'a str) -> Option<Form<'a>>
+    ensures { option_map naming.form_view result
+        ≡ naming.form_by (map naming.numbered_view table.now) name.now }
+{
+    if let Some(end) = after_a_number(table, name) {
+        return Some(Form {
+            has_number: true,
+            end,
+        });
+    }
+    let end = after_a_code(table, name)?;
+    Some(Form {
+        has_number: false,
+        end,
+    })
+}
+
+// Whether a name has a byte.
+pub(crate) fn has_byte(name: &str, byte: u8) -> bool
+    ensures { result ≡ naming.has_byte byte name.now }
+{
+    name.as_bytes().contains(&byte)
+}
+
+// What follows a number and its book's code at the front of a name.
+fn after_a_number<'a>(table: &[Numbered], name: &'a str) -> Option<&'a str>
+    ensures { option_map (λ end. end.now) result
+        ≡ naming.after_one
+        (map naming.number_and_code (map naming.numbered_view table.now)) name.now }
+{
+    let mut left = table;
+    'numbers: while let [(number, code), later @ ..] = left {
+        if let Some(end) = after_both(number, code, name) {
+            return Some(end);
+        }
+        left = later;
+    }
+    None
+}
+
+// What follows the code of a book that has a number at the front of a name.
+fn after_a_code<'a>(table: &[Numbered], name: &'a str) -> Option<&'a str>
+    ensures { option_map (λ end. end.now) result
+        ≡ naming.after_one (map naming.code_alone (map naming.numbered_view table.now)) name.now }
+{
+    let mut left = table;
+    'numbers: while let [(_, code), later @ ..] = left {
+        if let Some(end) = after_front(code, name) {
+            return Some(end);
+        }
+        left = later;
+    }
+    None
+}
+
+// What follows one text and then another one at the front of a name.
+#[tactic(auto, using(crate::proofs::Fronts::after_append))]
+fn after_both<'a>(first: &str, second: &str, name: &'a str) -> Option<&'a str>
+    ensures { option_map (λ end. end.now) result ≡ naming.after (first.now ++ second.now) name.now }
+{
+    after_front(second, after_front(first, name)?)
+}
+
+// What follows a text at the front of a name.
+fn after_front<'a>(front: &str, name: &'a str) -> Option<&'a str>
+    ensures { option_map (λ end. end.now) result ≡ naming.after front.now name.now }
+{
+    name.strip_prefix(front)
+}
+
+// The name of the file of a book that has none. Where something stands under it, the folder is
+// refused.
+pub(crate) fn free_name(
+    alloc: Global,
+    seen: &Seen<'_>,
+    form: &Form<'_>,
+    book: Book,
+) -> Result<String, Refusal>
+    ensures { AnswersBy string_bytes (naming.free_name (seen_view seen.now)
+        (naming.form_view form.now) book) result }
+{
+    let name = name_for(alloc, seen.names, form, book)?;
+    match place_of(seen, &name) {
+        Some(place) => Err(Refusal::Of(place, FolderFault::FileChanged)),
+        None => Ok(name),
+    }
+}
+
+// The name of the file of a book that has none: the one that was written down; else a new one, as a
+// form has it.
+fn name_for(
     alloc: Global,
     names: &[Named],
     form: &Form<'_>,
     book: Book,
-) -> Result<String, AllocError> {
-    if let Some(name) = name_of(names, book) {
-        return String::from_str(alloc, name);
-    }
-    let number = if form.has_number {
-        number_of(book)
-    } else {
-        None
-    };
-    let end = form.end;
-    match number {
-        Some(number) => format!(in alloc; "{number}{book}{end}"),
-        None => format!(in alloc; "{book}{end}"),
+) -> Result<String, AllocError>
+    ensures { IfOk result (λ name. string_bytes name
+        ≡ naming.name_for (map named_view names.now) (naming.form_view form.now) book) }
+{
+    match name_of(names, book) {
+        Some(name) => String::from_str(alloc, name),
+        None => name_by(alloc, form, book),
     }
 }
 
-// Which file is which book's, in lines `CODE NAME`, by rising books: the file that the book has;
-// else the one that it gets; else the one that it had.
-pub(crate) fn names_text(
-    alloc: Global,
-    seen: &Seen<'_>,
-    files: &[BookFile<'_>],
-    made: &[Named],
-) -> Result<Vec<u8>, AllocError> {
-    let mut books = Vec::new(alloc);
-    for file in files {
-        books.push(file.book)?;
+// The name that a form makes of a book.
+fn name_by(alloc: Global, form: &Form<'_>, book: Book) -> Result<String, AllocError>
+    ensures { IfOk result (λ name. string_bytes name
+        ≡ naming.name_by (naming.form_view form.now) book) }
+{
+    let mut name = String::new(alloc);
+    if form.has_number {
+        name.push_str(number_of(book).unwrap_or(""))?;
     }
-    for named in made {
-        books.push(named.book)?;
-    }
-    for named in seen.names {
-        books.push(named.book)?;
-    }
-    books.sort_unstable();
-    books.dedup();
-    let mut text = Vec::new(alloc);
-    for book in &books {
-        if let Some(file) = file_of(files, *book) {
-            push_line(&mut text, *book, file.name)?;
-        } else if let Some(name) = name_of(made, *book) {
-            push_line(&mut text, *book, name)?;
-        } else if let Some(name) = name_of(seen.names, *book) {
-            push_line(&mut text, *book, name)?;
-        }
-    }
-    Ok(text)
-}
-
-fn push_line(text: &mut Vec<u8>, book: Book, name: &str) -> Result<(), AllocError> {
-    writeln!(text, "{book} {name}").map_err(|_| AllocError)
-}
-
-/// The names that are written down in lines `CODE NAME`, in the order of books; of several of one
-/// book the first. What is no such line is skipped, and so is a name that is not one of a book's
-/// file in the folder.
-///
-/// # Errors
-/// Out of memory alone.
-pub fn read_names(alloc: Global, bytes: &[u8]) -> Result<Vec<Named>, AllocError> {
-    let mut names: Vec<Named> = Vec::new(alloc);
-    let Ok(text) = str::from_utf8(bytes) else {
-        return Ok(names);
-    };
-    for line in text.split('\n') {
-        let Some((code, name)) = line.split_once(' ') else {
-            continue;
-        };
-        if let Ok(book) = Book::read(code) {
-            let is_read = names.iter().any(|named| named.book == book);
-            if !is_read && may_be_book(name) && !name.contains('/') {
-                let name = String::from_str(alloc, name)?;
-                names.push(Named { book, name })?;
-            }
-        }
-    }
-    names.sort_by(|one, other| one.book.cmp(&other.book))?;
-    Ok(names)
+    let code = book.code();
+    name.push_str(code_text(&code))?;
+    name.push_str(form.end)?;
+    Ok(name)
 }

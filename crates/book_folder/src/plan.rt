@@ -6,11 +6,12 @@ ghost use Rattle.book_folder.specs.Plans as plans;
 ghost use Rattle.book_folder.specs.Refusals.{AnswersBy};
 ghost use Rattle.book_folder.specs.Wanted.{seen_view, wishes_view};
 
-use crate::bases::{OwnFiles, other_names, other_than, own_files};
+use crate::bases::{OwnFiles, other_than, own_files};
 use crate::begun::conflicts;
 use crate::books::{headless, new_files};
 use crate::coming::{CameIn, come_in};
 use crate::files::clear_files;
+use crate::names::other_names;
 use crate::naming::form_of;
 use crate::refusal::Refusal;
 use crate::seen::{Seen, Wishes};
@@ -126,11 +127,12 @@ pub struct Told {
 /// - `BadForm` where the name that is to say how files are named does not.
 /// - `Memory` where an allocation failed.
 pub fn make_plan(alloc: Global, seen: &Seen<'_>, wishes: &Wishes) -> Result<Plan, Refusal>
-    ensures { plans.AnswersPlan (seen_view seen.now) (wishes_view wishes.now) result }
+    ensures { AnswersBy plans.plan_view (plans.planned (seen_view seen.now)
+        (wishes_view wishes.now)) result }
 {
     let files = clear_files(alloc, seen)?;
     let came = come_in(alloc, seen, wishes, &files)?;
-    let form = form_of(seen, &files, wishes)?;
+    let form = form_of(alloc, seen, &files, wishes)?;
     let made = new_files(alloc, seen, &came.replica, &files, &form)?;
     let names = other_names(alloc, seen, &files, &made)?;
     plan_of(alloc, seen, came, made, names)
