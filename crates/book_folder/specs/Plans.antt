@@ -46,11 +46,6 @@ abbrev pub is_like_file : Option FileParts → List ℕ → Bool
 is_like_file None text = false
 is_like_file (Some f) text = like text f.bytes
 
--- whether a book gets a new file
-abbrev pub wants_file : List Operation → List FileParts → List ℕ → Bool
-wants_file held files book =
-    is_whole held book && not (is_like_file (file_of files book) (export held book))
-
 -- a text in the manner of the file that it replaces, where that is known
 abbrev pub by_ends : LineEnds → List ℕ → List ℕ → List ℕ
 by_ends Mixed file text = text
@@ -78,24 +73,30 @@ new_file_view f = record {
   replaces = f.replaces;
 }
 
--- a book's new file of a name: its export in the manner of the file that it replaces, if it
--- replaces one
-abbrev pub new_file : List Operation → Option FileParts → List ℕ → List ℕ → NewFileParts
-new_file held file book name = record {
+-- a book's new file of a name: its text in the manner of the file that it replaces, if it replaces
+-- one
+abbrev pub new_file : Option FileParts → List ℕ → List ℕ → List ℕ → NewFileParts
+new_file file book text name = record {
   book = book;
   name = name;
-  text = text_for file (export held book);
+  text = text_for file text;
   replaces = option_map (λ f. f.at) file;
 }
 
--- a new file of a book, if it gets one; or the refusal of what stands under the name that it gets
+-- the new file of a book by its text, unless the file that it has is like that; or the refusal of
+-- what stands under the name that it gets
+abbrev pub file_by_text : SeenParts → List FileParts → FormParts → List ℕ → List ℕ
+    → Result (Option NewFileParts) Refusal
+file_by_text seen files form book text =
+    if is_like_file (file_of files book) text then Ok None
+    else (new_name seen form book (file_of files book) >>= λ name.
+    Ok (Some (new_file (file_of files book) book text name)))
+
+-- a new file of a book, if it gets one: the project has its head, and it has no file like its export
 abbrev pub new_file_if : SeenParts → List Operation → List FileParts → FormParts → List ℕ
     → Result (Option NewFileParts) Refusal
 new_file_if seen held files form book =
-    if wants_file held files book then
-    (new_name seen form book (file_of files book) >>= λ name.
-    Ok (Some (new_file held (file_of files book) book name)))
-    else Ok None
+    if is_whole held book then file_by_text seen files form book (export held book) else Ok None
 
 -- The new files, in the order of books; or the first refusal.
 abbrev pub new_files : SeenParts → List Operation → List FileParts → FormParts

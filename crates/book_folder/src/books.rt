@@ -1,5 +1,7 @@
 // The new files of a project's books.
-ghost use Rattle.std.specs.Prelude.{◌≡◌, IfOk, IsUtf8, Some, map, option_map};
+ghost use Rattle.std.specs.Prelude.{◌≡◌, IfOk, IsUtf8, Some, is_some, map, option_map};
+ghost use Rattle.std.specs.Option.{IfSome};
+ghost use Rattle.op_core.specs.Export.{export};
 ghost use Rattle.book_folder.specs.Files.{file_view, files_view};
 ghost use Rattle.book_folder.specs.Naming.{form_view};
 ghost use Rattle.book_folder.specs.Plans as plans;
@@ -19,28 +21,45 @@ use std::alloc::{AllocError, Global};
 use usfm_ref::Book;
 use usfm_token::read_text;
 
+// The books of a project, as they get files.
+#[derive(Debug, Drop)]
+pub(crate) struct FiledBooks {
+    // Those that get none, since the project does not have their heads.
+    pub(crate) headless: Vec<Book>,
+    // The new files of the others, where they are not like those that are there.
+    pub(crate) made: Vec<NewFile>,
+}
+
 // The new files of the books of which the project has the head, where they are not like those that
-// are there.
-pub(crate) fn new_files(
+// are there; and the books that get none. Each book's text is made once.
+pub(crate) fn file_books(
     alloc: Global,
     seen: &Seen<'_>,
     replica: &Replica,
     files: &[BookFile<'_>],
     form: &Form<'_>,
-) -> Result<Vec<NewFile>, Refusal>
-    ensures { AnswersBy (λ made. map plans.new_file_view made.items) (plans.new_files
+) -> Result<FiledBooks, Refusal>
+    ensures made { AnswersBy (λ filed. map plans.new_file_view filed.made.items) (plans.new_files
         (seen_view seen.now) replica.now.held (files_view files.now) (form_view form.now)) result }
+    ensures headless { IfOk result (λ filed.
+        filed.headless.items ≡ plans.headless replica.now.held) }
 {
+    let mut headless = Vec::new(alloc);
     let mut made = Vec::new(alloc);
     for book in replica.books() {
-        if let Some(file) = new_file(alloc, seen, replica, files, form, book)? {
-            made.push(file)?;
+        match whole_text(alloc, replica, book)? {
+            Some(text) => {
+                if let Some(file) = file_by_text(alloc, seen, files, form, book, text)? {
+                    made.push(file)?;
+                }
+            }
+            None => headless.push(book)?,
         }
     }
-    Ok(made)
+    Ok(FiledBooks { headless, made })
 }
 
-// The new file of a book that has an operation, if it is to get one.
+// The new file of a book, if it is to get one.
 pub(crate) fn new_file(
     alloc: Global,
     seen: &Seen<'_>,
@@ -52,12 +71,25 @@ pub(crate) fn new_file(
     ensures { AnswersBy (option_map plans.new_file_view) (plans.new_file_if (seen_view seen.now)
         replica.now.held (files_view files.now) (form_view form.now) book) result }
 {
-    let Some(text) = export_of(alloc, replica, book)? else {
-        return Ok(None);
-    };
-    if !is_book(book_begun(&text), book) {
-        return Ok(None);
+    match whole_text(alloc, replica, book)? {
+        Some(text) => file_by_text(alloc, seen, files, form, book, text),
+        None => Ok(None),
     }
+}
+
+// The new file of a book by its text, unless the file that it has is like that.
+fn file_by_text(
+    alloc: Global,
+    seen: &Seen<'_>,
+    files: &[BookFile<'_>],
+    form: &Form<'_>,
+    book: Book,
+    text: Vec<u8>,
+) -> Result<Option<NewFile>, Refusal>
+    requires text { IsUtf8 text.items }
+    ensures { AnswersBy (option_map plans.new_file_view) (plans.file_by_text (seen_view seen.now)
+        (files_view files.now) (form_view form.now) book text.items) result }
+{
     let Some(file) = file_of(files, book) else {
         let name = free_name(alloc, seen, form, book)?;
         return Ok(Some(NewFile {
@@ -81,27 +113,28 @@ pub(crate) fn new_file(
     }))
 }
 
-// The books that get no file, since the project does not have their heads.
-pub(crate) fn headless(alloc: Global, replica: &Replica) -> Result<Vec<Book>, AllocError>
-    ensures { IfOk result (λ books. books.items ≡ plans.headless replica.now.held) }
+// The text of a book that begins with its `\id`, so that it can have a file.
+fn whole_text(alloc: Global, replica: &Replica, book: Book) -> Result<Option<Vec<u8>>, AllocError>
+    ensures whole { IfOk result (λ text. is_some text ≡ plans.is_whole replica.now.held book) }
+    ensures bytes { IfOk result
+        (λ text. IfSome text (λ t. t.items ≡ export replica.now.held book)) }
+    ensures text { IfOk result (λ text. IfSome text (λ t. IsUtf8 t.items)) }
 {
-    let mut books = Vec::new(alloc);
-    for book in replica.books() {
-        if !is_whole(alloc, replica, book)? {
-            books.push(book)?;
-        }
+    let Some(text) = export_of(alloc, replica, book)? else {
+        return Ok(None);
+    };
+    if is_book(book_begun(&text), book) {
+        Ok(Some(text))
+    } else {
+        Ok(None)
     }
-    Ok(books)
 }
 
-// Whether a book's text begins with its `\id`, so that it can have a file.
+// Whether the project has a book's head, so that it can have a file.
 pub(crate) fn is_whole(alloc: Global, replica: &Replica, book: Book) -> Result<bool, AllocError>
     ensures { IfOk result (λ is. is ≡ plans.is_whole replica.now.held book) }
 {
-    Ok(match export_of(alloc, replica, book)? {
-        Some(text) => is_book(book_begun(&text), book),
-        None => false,
-    })
+    Ok(whole_text(alloc, replica, book)?.is_some())
 }
 
 // Whether a book that was read is this one.

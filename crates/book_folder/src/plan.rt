@@ -8,7 +8,7 @@ ghost use Rattle.book_folder.specs.Wanted.{seen_view, wishes_view};
 
 use crate::bases::{OwnFiles, other_than, own_files};
 use crate::begun::conflicts;
-use crate::books::{headless, new_files};
+use crate::books::{FiledBooks, file_books};
 use crate::coming::{CameIn, come_in};
 use crate::files::clear_files;
 use crate::names::other_names;
@@ -133,9 +133,9 @@ pub fn make_plan(alloc: Global, seen: &Seen<'_>, wishes: &Wishes) -> Result<Plan
     let files = clear_files(alloc, seen)?;
     let came = come_in(alloc, seen, wishes, &files)?;
     let form = form_of(alloc, seen, &files, wishes)?;
-    let made = new_files(alloc, seen, &came.replica, &files, &form)?;
-    let names = other_names(alloc, seen, &files, &made)?;
-    plan_of(alloc, seen, came, made, names)
+    let filed = file_books(alloc, seen, &came.replica, &files, &form)?;
+    let names = other_names(alloc, seen, &files, &filed.made)?;
+    plan_of(alloc, seen, came, filed, names)
 }
 
 // The plan of what came in.
@@ -143,13 +143,14 @@ fn plan_of(
     alloc: Global,
     seen: &Seen<'_>,
     came: CameIn,
-    made: Vec<NewFile>,
+    filed: FiledBooks,
     names: Option<Vec<u8>>,
 ) -> Result<Plan, Refusal>
+    requires { filed.headless.items ≡ plans.headless came.replica.held }
     ensures { AnswersBy plans.plan_view (plans.plan_of (seen_view seen.now) (came_view came)
-        (map plans.new_file_view made.items) (option_map (λ b. b.items) names)) result }
+        (map plans.new_file_view filed.made.items) (option_map (λ b. b.items) names)) result }
 {
-    let headless = headless(alloc, &came.replica)?;
+    let FiledBooks { headless, made } = filed;
     let project = save(alloc, &came.replica)?;
     let project = other_than(bytes_or(seen.project, &came.recovered), project);
     let own = own_files(alloc, seen, &came, &headless, &made, names)?;
