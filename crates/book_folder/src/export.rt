@@ -166,6 +166,7 @@ fn exported_files(alloc: Global, by: &Sources<'_>, books: &[Book]) -> Result<Vec
 
 // The new file of a book, if it gets one. The file that it replaces has to be as it was written,
 // from what the project has.
+#[tactic(auto, unfolding(crate::specs::Exports::exported_file))]
 fn exported_file(alloc: Global, by: &Sources<'_>, book: Book) -> Result<Option<NewFile>, Refusal>
     ensures { let files = files_view by.now.files.now in
         let form = form_view by.now.form.now in
