@@ -8,3 +8,15 @@ mod NoText
 mod ChangeAt
 mod PlanAnswers
 mod TextsUnder
+mod ReadSets
+mod Reached
+mod PieceTexts
+mod EditRanges
+mod Along
+mod BasesReach
+mod FilesReach
+mod ScheduleLaws
+mod HeldBases
+mod ShownBase
+mod OwnManner
+mod SyncedFile

@@ -13,3 +13,4 @@ pub mod StoodTexts
 pub mod Coming
 pub mod Laws
 pub mod Plans
+pub mod FolderLaws
