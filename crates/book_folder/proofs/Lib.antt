@@ -20,3 +20,4 @@ mod HeldBases
 mod ShownBase
 mod OwnManner
 mod SyncedFile
+mod TwiceLaws

@@ -42,3 +42,9 @@ pub fn base_makes_files()
 pub fn base_as_read_is_held()
     ensures { folder.BaseAsReadIsHeld }
 {}
+
+/// A sync of a project and a folder as a sync left them brings nothing in, and has nothing to do on
+/// the disk.
+pub fn twice_is_once()
+    ensures { folder.TwiceIsOnce }
+{}
