@@ -10,3 +10,16 @@ mod TextsUnder
 mod Fronts
 mod NamesOrder
 mod NameLines
+mod ReadSets
+mod Reached
+mod PieceTexts
+mod EditRanges
+mod Along
+mod BasesReach
+mod FilesReach
+mod ScheduleLaws
+mod HeldBases
+mod ShownBase
+mod OwnManner
+mod SyncedFile
+mod TwiceLaws

@@ -16,3 +16,5 @@ pub mod Laws
 pub mod Plans
 pub mod Settling
 pub mod Exports
+pub mod AsWritten
+pub mod FolderLaws

@@ -1,4 +1,5 @@
 //! Laws of a folder's files.
+ghost use Rattle.book_folder.specs.FolderLaws as folder;
 ghost use Rattle.book_folder.specs.Laws as laws;
 
 /// Line ends say nothing: two files of a book that are like each other, and were written from the same
@@ -18,4 +19,32 @@ pub fn nothing_unseen_is_replaced()
 /// of that segment with the file's text after the file was taken in.
 pub fn nothing_written_is_lost()
     ensures { laws.NothingWrittenIsLost }
+{}
+
+/// Once all came in, the project is reached from the one that was read by receivings of legal sets
+/// and edits over given ids, of which none is refused.
+pub fn like_a_schedule()
+    ensures { folder.LikeASchedule }
+{}
+
+/// The base that makes the files as they are written is a legal part of what the project holds.
+pub fn next_base_is_part()
+    ensures { folder.NextBaseIsPart }
+{}
+
+/// The base exports each book that gets a file as the project does.
+pub fn base_makes_files()
+    ensures { folder.BaseMakesFiles }
+{}
+
+/// The base that makes the files as they were read has operations of the project alone, where the
+/// base before it was received.
+pub fn base_as_read_is_held()
+    ensures { folder.BaseAsReadIsHeld }
+{}
+
+/// A sync of a project and a folder as a sync left them brings nothing in, and has nothing to do on
+/// the disk.
+pub fn twice_is_once()
+    ensures { folder.TwiceIsOnce }
 {}

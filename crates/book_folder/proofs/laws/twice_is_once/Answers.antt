@@ -1,0 +1,5 @@
+use Rattle.book_folder.proofs.TwiceLaws as proved
+use Rattle.book_folder.proofs.laws.twice_is_once.Goals as goal
+
+pub returns : goal.returns
+returns _ = proved.twice_is_once
