@@ -57,8 +57,8 @@ unless_changed held base book (Some f) (Some new) =
 
 -- the new file of a book, if it gets one; or the refusal of the file that it would replace, or of
 -- what stands under the name that it gets
-unfoldable pub exported_file : SeenParts → List Operation → List Operation → List FileParts → FormParts
-    → List ℕ → Result (Option NewFileParts) Refusal
+unfoldable pub exported_file : SeenParts → List Operation → List Operation → List FileParts
+    → FormParts → List ℕ → Result (Option NewFileParts) Refusal
 exported_file seen held base files form book =
     new_file_if seen held files form book >>= unless_changed held base book (file_of files book)
 

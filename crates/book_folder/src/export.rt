@@ -48,12 +48,17 @@ struct Parted {
 ///
 /// # Errors
 /// The first of these, and of what; nothing is to be done then.
-/// - `FileChanged` as `make_plan` answers it; and of a file that is not like its book's text and
-///   was changed since it was written, or was written from an operation that the project does not
-///   have.
+/// - `Project` where the project's file is none.
+/// - `FileChanged` of a second file of a book, and of what stands under the name of a book's file
+///   and is no longer that book's.
+/// - `Bundle` and `Clash` of what the files were written from.
 /// - `NoBook` where the project has no operation of a book that is named.
-/// - `Project`, `Bundle`, `Clash`, `BadForm` as `make_plan` answers them; `Memory` where an
-///   allocation failed.
+/// - `BadForm` where the name that is to say how files are named does not.
+/// - `FileChanged` of what stands where a new file is to be put; and of a file that is not like its
+///   book's text and was changed since it was written, or was written from an operation that the
+///   project does not have.
+/// - `Bundle` and `Clash`, of the project, where no base can be made of what it shows.
+/// - `Memory` where an allocation failed.
 pub fn export_plan(
     alloc: Global,
     seen: &Seen<'_>,
