@@ -22,4 +22,5 @@ mod HeldBases
 mod ShownBase
 mod OwnManner
 mod SyncedFile
+mod Untouched
 mod TwiceLaws

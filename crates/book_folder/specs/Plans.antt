@@ -52,10 +52,16 @@ by_ends Mixed file text = text
 by_ends Lf file text = in_manner_of file text
 by_ends CrLf file text = in_manner_of file text
 
--- a book's text as its file gets it: as it is where the book has no file, else in the manner of that file
-abbrev pub text_for : Option FileParts → List ℕ → List ℕ
-text_for None text = text
-text_for (Some f) text = by_ends (line_ends f.bytes) f.bytes text
+-- a text that was made of a book's text, if it still begins with the book's `\id`; else that text
+abbrev pub if_begun : List ℕ → List ℕ → List ℕ → List ℕ
+if_begun book text made = if is_book (book_begun made) book then made else text
+
+-- a book's text as its file gets it: as it is where the book has no file, else in the manner of that
+-- file; but as it is, too, where the book would not be known by it any more (its code may stand in
+-- the line after its `\id`)
+abbrev pub text_for : Option FileParts → List ℕ → List ℕ → List ℕ
+text_for None book text = text
+text_for (Some f) book text = if_begun book text (by_ends (line_ends f.bytes) f.bytes text)
 
 -- a book's new file: its name, its text, and which of the files that were read it replaces
 pub record NewFileParts : Type 0 where
@@ -79,7 +85,7 @@ abbrev pub new_file : Option FileParts → List ℕ → List ℕ → List ℕ �
 new_file file book text name = record {
   book = book;
   name = name;
-  text = text_for file text;
+  text = text_for file book text;
   replaces = option_map (λ f. f.at) file;
 }
 

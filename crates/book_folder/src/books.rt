@@ -3,6 +3,7 @@ ghost use Rattle.std.specs.Prelude.{◌≡◌, IfOk, IsUtf8, Some, is_some, map,
 ghost use Rattle.std.specs.Option.{IfSome};
 ghost use Rattle.op_core.specs.Export.{export};
 ghost use Rattle.book_folder.specs.Files.{file_view, files_view};
+ghost use Rattle.book_folder.specs.Likes.{line_ends};
 ghost use Rattle.book_folder.specs.Naming.{form_view};
 ghost use Rattle.book_folder.specs.Plans as plans;
 ghost use Rattle.book_folder.specs.Refusals.{AnswersBy};
@@ -103,7 +104,7 @@ fn file_by_text(
         return Ok(None);
     }
     let name = String::from_str(alloc, file.name)?;
-    let text = in_manner_of_file(alloc, file, text)?;
+    let text = text_for(alloc, file, book, text)?;
     let replaces = Some(file.at);
     Ok(Some(NewFile {
         book,
@@ -138,7 +139,7 @@ pub(crate) fn is_whole(alloc: Global, replica: &Replica, book: Book) -> Result<b
 }
 
 // Whether a book that was read is this one.
-fn is_book(read: Option<Book>, book: Book) -> bool
+pub(crate) fn is_book(read: Option<Book>, book: Book) -> bool
     ensures { result ≡ plans.is_book read book }
 {
     match read {
@@ -147,20 +148,36 @@ fn is_book(read: Option<Book>, book: Book) -> bool
     }
 }
 
-// A book's text in the manner of the file that it replaces, where that is known.
-fn in_manner_of_file(
+// A book's text in the manner of the file that it replaces, where that is known; as it is where the
+// book would not be known by it any more.
+fn text_for(
     alloc: Global,
     file: &BookFile<'_>,
+    book: Book,
     text: Vec<u8>,
 ) -> Result<Vec<u8>, AllocError>
     requires text { IsUtf8 text.items }
     ensures { IfOk result (λ made.
-        made.items ≡ plans.text_for (Some (file_view file.now)) text.items) }
+        made.items ≡ plans.text_for (Some (file_view file.now)) book text.items) }
 {
-    match (LineEnds::of(file.bytes), read_text(&text)) {
+    let made = in_manner_of_file(alloc, file, &text)?;
+    if is_book(book_begun(&made), book) {
+        Ok(made)
+    } else {
+        Ok(text)
+    }
+}
+
+// A book's text in the manner of a file, where that is known.
+fn in_manner_of_file(alloc: Global, file: &BookFile<'_>, text: &[u8]) -> Result<Vec<u8>, AllocError>
+    requires text { IsUtf8 text.now }
+    ensures { IfOk result (λ made. made.items
+        ≡ plans.by_ends (line_ends file.now.bytes.now) file.now.bytes.now text.now) }
+{
+    match (LineEnds::of(file.bytes), read_text(text)) {
         (LineEnds::Lf | LineEnds::CrLf, Ok(now)) => {
             Ok(in_manner_of(alloc, file.bytes, now)?.into_bytes())
         }
-        _ => Ok(text),
+        _ => text.to_vec(alloc),
     }
 }

@@ -10,18 +10,21 @@ ghost use Rattle.book_folder.specs.Asks as asks;
 ghost use Rattle.book_folder.specs.Files.{file_view};
 ghost use Rattle.book_folder.specs.Refusals.{AnswersBy};
 ghost use Rattle.book_folder.specs.Taking as taking;
-ghost use Rattle.book_folder.specs.Wanted.{wishes_view};
+ghost use Rattle.book_folder.specs.Wanted.{wanted_view, wishes_view};
 ghost use Rattle.book_folder.specs.declared.refusal.FolderFault.TheVariants.{NotText};
 ghost use Rattle.book_folder.specs.declared.refusal.Refusal.TheVariants.{Of};
 ghost use Rattle.usfm_token.specs.View.{valid_of};
+ghost use Rattle.book_folder.specs.AsWritten as written;
+ghost use Rattle.replica_state.specs.States.{IsState};
 
 use crate::asks::{came_in, emptied};
+use crate::books::is_book;
 use crate::changed::changes;
-use crate::files::BookFile;
-use crate::likes::is_like;
+use crate::files::{BookFile, book_begun};
+use crate::likes::{LineEnds, is_like};
 use crate::refusal::{FolderFault, Place, Refusal};
 use crate::restored::{in_manner_of, restored_pieces};
-use crate::seen::Wishes;
+use crate::seen::{Wanted, Wishes};
 use op_core::{Picked, ReplicaName, chapter_line};
 use replica_state::{Replica, piece_at};
 use std::alloc::{AllocError, Global};
@@ -66,12 +69,50 @@ pub(crate) fn take_in(
     let text = text_of(place, file.bytes)?;
     match export_of(alloc, beside.base, file.book)? {
         Some(was) => {
+            if is_untouched(replica, beside, &was, file) {
+                // Nothing comes in, as is proved, and no piece has to be looked at.
+                return Ok(0);
+            }
             let text = in_manner_of(alloc, &was, text)?;
             let pieces = restored_pieces(alloc, beside.base, file.book, &text)?;
             take_changed(alloc, replica, beside, file, &pieces, stood)
         }
         None => take_strange(alloc, replica, file, text, stood),
     }
+}
+
+// Whether nothing comes in of a file that got a text: it is to settle nothing, and is as it was
+// written.
+fn is_untouched(replica: &Replica, beside: &Beside<'_>, was: &[u8], file: &BookFile<'_>) -> bool
+    ensures untouched { let wanted = (wishes_view beside.now.wishes.now).settled in
+        result ≡ written.is_untouched wanted was.now file.now.book file.now.bytes.now }
+    ensures replica { IsState replica.now }
+    ensures base { IsState beside.now.base.now }
+{
+    // The names show that the replica and the base are within their rules.
+    let _ = replica.name();
+    let _ = beside.base.name();
+    is_none_wanted(&beside.wishes.settled) && is_as_written(was, file)
+}
+
+// Whether no segment is to be settled.
+fn is_none_wanted(settled: &[Wanted]) -> bool
+    ensures { result ≡ written.is_none_wanted (map wanted_view settled.now) }
+{
+    match settled {
+        [] => true,
+        [_, ..] => false,
+    }
+}
+
+// Whether a file is as it was written: like the text that it got, which begins with its book's
+// `\id`, and all lines of which end in one manner.
+fn is_as_written(was: &[u8], file: &BookFile<'_>) -> bool
+    ensures { result ≡ written.is_as_written was.now file.now.book file.now.bytes.now }
+{
+    is_book(book_begun(was), file.book)
+        && LineEnds::of(was) != LineEnds::Mixed
+        && is_like(was, file.bytes)
 }
 
 // A file's text.
