@@ -155,7 +155,8 @@ after_text t u = by (same_bytes (take 3 t) byte_order_mark) refl
     by : (b : Bool) → same_bytes (take 3 t) byte_order_mark ≡ b → IsUtf8 (cond b (drop 3 t) t)
     by true e =
         after_front (drop 3 t)
-        (subst IsUtf8 (sym (ap (λ (x : List ℕ). x ++ drop 3 t) (sym (same_bytes-is (take 3 t) byte_order_mark e)) ∙ take-append-drop 3 t)) u)
+        (subst IsUtf8
+        (sym (ap (λ (x : List ℕ). x ++ drop 3 t) (sym (same_bytes-is (take 3 t) byte_order_mark e)) ∙ take-append-drop 3 t)) u)
     by false e = u
 
 ends_text : (ends : LineEnds) (t : List ℕ) → IsUtf8 t → IsUtf8 (in_line_ends ends t)
@@ -251,7 +252,8 @@ unfolding cut_of
 cut_texts text u =
     let later = cut_from book_head 0 (tokens_of text) in
     let g = gives book_head 0 (tokens_of text) in
-    let two = parted later.0 (pieces_joined later.1) (subst IsUtf8 (sym (joined-tokens_of text) ∙ g.all) u) (joined_marked later.1 g.marked) in
+    let two = parted later.0 (pieces_joined later.1) (subst IsUtf8 (sym (joined-tokens_of text) ∙ g.all) u)
+    (joined_marked later.1 g.marked) in
     subst AreTexts (cut_is_read text) (two.0, each_text later.1 g.marked two.1)
 
 -- ---- pieces as a base has them

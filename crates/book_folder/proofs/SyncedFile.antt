@@ -189,7 +189,8 @@ module _ (s base : State) (set : IsOpSet s.held) (state : IsState base) (f : Fil
 
   head_in_base : list_any (in_segment (segment f.book book_head)) base.held ≡ true
   head_in_base = head_there base.held state.set f.book
-      (ap (λ b. b && is_book (book_begun was) f.book) has ∙ (and_parts (is_book (book_begun was) f.book) (are_alike (line_ends was)) begun_alike).0)
+      (ap (λ b. b && is_book (book_begun was) f.book) has
+      ∙ (and_parts (is_book (book_begun was) f.book) (are_alike (line_ends was)) begun_alike).0)
 
   -- its pieces are those of the base's export
   own_pieces : pieces ≡ pieces_of was
