@@ -12,7 +12,7 @@ use Rattle.usfm_cli.proofs.fold.fold_bundles.Goals as goal
 
 pub returns-in_err-gathered-clause-folds : goal.returns-in_err-gathered-clause-folds
 returns-in_err-gathered-clause-folds g c =
-    let from = err_from_is_err_and c.from_residual-in_err-gathered.result c.from_residual-in_err-gathered.ensures.1 in
+    let from = err_from_is_err_and c.from_residual.result c.from_residual.ensures.1 in
     rw (from.1, from.2) (refused_bundles c.args.book c.args.input.now (g.W.ByteSink.taken c.args.sink.now) c.in_err-gathered.field-0.0
     c.in_err-gathered.ensures.refused)
 
