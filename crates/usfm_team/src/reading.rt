@@ -164,7 +164,8 @@ pub(crate) fn read_folder(
     Ok(read)
 }
 
-// Reads what stands under the name of a book's file. A plain file alone is read, and none of more bytes than a book's.
+// Reads what stands under the name of a book's file. A plain file alone is read, and none that is
+// longer than a book.
 fn read_found(
     rt: &HostRuntime,
     folder: &Folder,
