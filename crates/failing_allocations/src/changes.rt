@@ -36,13 +36,11 @@ const IN: &str = "\\id MAT\n\\c 1\n\\v 1 In\n";
 const ADDED: &str = "\\id MAT\n\\c 1\n\\v 1 In\n\\v 2 b\n";
 
 pub(crate) fn row_of(name: &str) -> Option<Row> {
-    if let Some(row) = received(name) {
-        Some(row)
-    } else if let Some(row) = edited(name) {
-        Some(row)
-    } else {
-        imported(name)
-    }
+    received(name)
+        .or(edited(name))
+        .or(edited_over(name))
+        .or(imported(name))
+        .or(imported_since(name))
 }
 
 fn received(name: &str) -> Option<Row> {
@@ -94,24 +92,26 @@ fn edited(name: &str) -> Option<Row> {
             "",
             [b"fault 80\n", b""],
         ),
-        "edit_over" => (
-            Call::EditOver("MAT 1:1", AS, "3:ana"),
-            [B1, Y, Z],
-            "",
-            [b"4 ana|", b"\\id MAT\n\\c 1\n\\v 1 As\n"],
-        ),
-        "edit_over not shown" => (
-            Call::EditOver("MAT 1:1", AS, "2:ana"),
-            [B1, Y, Z],
-            "",
-            [b"fault 83 2 ana\n", b""],
-        ),
         _ => return None,
     };
     Some(Row {
         call,
         received,
         imported,
+        wanted,
+    })
+}
+
+fn edited_over(name: &str) -> Option<Row> {
+    let (over, wanted): (&str, [&'static [u8]; 2]) = match name {
+        "edit_over" => ("3:ana", [b"4 ana|", b"\\id MAT\n\\c 1\n\\v 1 As\n"]),
+        "edit_over not shown" => ("2:ana", [b"fault 83 2 ana\n", b""]),
+        _ => return None,
+    };
+    Some(Row {
+        call: Call::EditOver("MAT 1:1", AS, over),
+        received: [B1, Y, Z],
+        imported: "",
         wanted,
     })
 }
@@ -130,31 +130,39 @@ fn imported(name: &str) -> Option<Row> {
         ),
         "import same" => (Call::Import(IN), [B1, b"", b""], [b"0 ", FIRST]),
         "import nothing" => (Call::Import("\\c 1"), [B1, b"", b""], [b"fault 30\n", b""]),
+        _ => return None,
+    };
+    Some(Row {
+        call,
+        received,
+        imported: "",
+        wanted,
+    })
+}
+
+fn imported_since(name: &str) -> Option<Row> {
+    let (call, received, wanted): (Call, [&'static [u8]; 3], [&'static [u8]; 2]) = match name {
         "import_since" => (
             Call::ImportSince(B1, ADDED),
             [B1, Y, b""],
             [b"1 ", b"\\id MAT\n\\c 1\n\\v 1 At\n\\v 2 b\n"],
         ),
-        "import_since first" => {
-            (
-                Call::ImportSince(B1, ADDED),
-                NOTHING_YET,
-                [b"1 ", ADDED.as_bytes()],
-            )
-        }
+        "import_since first" => (
+            Call::ImportSince(B1, ADDED),
+            NOTHING_YET,
+            [b"1 ", ADDED.as_bytes()],
+        ),
         "import_since same" => (Call::ImportSince(B1, IN), [B1, Y, b""], [b"0 ", AFTER]),
         "import_since clash" => (
             Call::ImportSince(CLASHING, ADDED),
             [B1, b"", b""],
             [b"fault 51 2 ana\n", b""],
         ),
-        "import_since nothing" => {
-            (
-                Call::ImportSince(B1, "\\c 1"),
-                NOTHING_YET,
-                [b"fault 30\n", b""],
-            )
-        }
+        "import_since nothing" => (
+            Call::ImportSince(B1, "\\c 1"),
+            NOTHING_YET,
+            [b"fault 30\n", b""],
+        ),
         _ => return None,
     };
     Some(Row {
