@@ -134,11 +134,7 @@ impl OnBytes {
                 continue;
             }
             let (bundle, _) = decode(alloc, bytes)?;
-            match set.join(bundle.to_set(alloc)?) {
-                Ok(_) => {}
-                Err(SetFault::Memory) => return Err(Fault::Memory),
-                Err(SetFault::Clash(id)) => return Err(Fault::Clash(id)),
-            }
+            set.join(bundle.to_set(alloc)?).map_err(fault_of)?;
         }
         let summary = match row.call {
             Call::WriteSummary | Call::EncodeOutside => Some(Summary::read(alloc, row.summary)?),
@@ -185,6 +181,13 @@ impl Play for OnBytes {
 
     fn is_as_before(&self) -> bool {
         true
+    }
+}
+
+fn fault_of(fault: SetFault) -> Fault {
+    match fault {
+        SetFault::Memory => Fault::Memory,
+        SetFault::Clash(id) => Fault::Clash(id),
     }
 }
 

@@ -98,8 +98,9 @@ impl Read {
 impl Play for Read {
     fn make(&mut self, told: &mut Told) -> Result<(), Fault> {
         let alloc = self.alloc;
+        let call = self.call;
         let replica = &self.held.replica;
-        match self.call {
+        match call {
             Call::Gather(bundles) => push_gathered(alloc, bundles, told)?,
             Call::Shown(at) => {
                 let (book, key) = read_ref(at)?;
