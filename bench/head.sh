@@ -1,49 +1,18 @@
-# Sourced by run.sh of a bench that times a proved program (bench.rt.txt) against a plain one in Rust (plain.rs).
-# run.sh sets `here` first, to its own folder. This sets `top`, the repository, `work`, a folder that is removed at
-# the end, and `plain` and, once it is built, `proved`, the two programs. To compare them run.sh sets `turns` and
-# `rounds`, and at the end it exits with `status`.
+# Sourced by run.sh of a bench that times a job of the proved program (build_proved.sh) against a plain program in Rust
+# (plain.rs, build_plain.sh). run.sh sets `here` first, to its own folder, whose name is the job. This sets `top`, the
+# repository, `work`, a folder that is removed at the end, and `plain` and `proved`, what the two are run as. To compare
+# them run.sh sets `turns` and `rounds`, and at the end it exits with `status`.
 top=$(cd "$here/../.." && pwd)
 work=$(mktemp -d) || exit 2
 trap 'rm -rf "$work"' EXIT
 plain=$work/plain
+proved=("$top/crates/call_times/out/call_times" "$(basename "$here")")
 
 # A generated book of a kind, prose or marks, of this many bytes.
 make_text() { awk -v kind="$1" -v size="$2" -f "$top/bench/book.awk"; }
 
-# Builds the plain program.
-build_plain() { "$top/bench/build_plain.sh" "$here/plain.rs" "$plain"; }
-
-# The lines of crates.txt of some crates and of all that these are built on.
-lines_of() {
-    tac "$top/crates.txt" | awk -v wanted="$*" '
-        BEGIN { count = split(wanted, names); for (i = 1; i <= count; i++) is_wanted[names[i] ":"] = 1 }
-        $1 in is_wanted { print; for (i = 2; i <= NF; i++) is_wanted[$i ":"] = 1 }' | tac
-}
-
-# Proves and builds the proved program over a copy of the crates that it is built on, and runs it once: the name of its
-# crate, the crates that it names, and the words to run it with.
-build_proved() {
-    local name=$1 uses=$2 crate part
-    shift 2
-    git -C "$work" init -q
-    mkdir -p "$work/crates/$name/src"
-    { lines_of $uses; echo "$name: $uses"; } >"$work/crates.txt"
-    for crate in $(lines_of $uses | cut -d: -f1); do
-        mkdir -p "$work/crates/$crate"
-        # What was proved of the crates comes along, so that they are not proved again.
-        for part in src specs proofs out; do
-            if [ -e "$top/crates/$crate/$part" ]; then
-                cp -a "$top/crates/$crate/$part" "$work/crates/$crate/"
-            fi
-        done
-    done
-    cp "$here/bench.rt.txt" "$work/crates/$name/src/main.rt"
-    if ! (cd "$work/crates/$name" && rt run -- "$@") >"$work/log" 2>&1; then
-        tail -n 30 "$work/log"
-        exit 1
-    fi
-    proved=$work/crates/$name/out/$name
-}
+# Builds both programs.
+build_both() { "$top/bench/build_plain.sh" "$here/plain.rs" "$plain" && "$top/bench/build_proved.sh" || exit 1; }
 
 # What a run prints: its least time of a round in this column, and what it answers after that. How many times as long
 # the proved program may take. run.sh may set others.
@@ -61,7 +30,7 @@ compare() {
     shift
     for _ in $(seq "$turns"); do
         "$plain" "$@" "$rounds" >>"$work/$name.plain"
-        "$proved" "$@" "$rounds" >>"$work/$name.proved"
+        "${proved[@]}" "$@" "$rounds" >>"$work/$name.proved"
     done
     if [ "$(cut -d' ' -f"$((column + 1))-" "$work/$name".{plain,proved} | sort -u | wc -l)" != 1 ]; then
         echo "$name: the two answer differently"
@@ -83,10 +52,10 @@ run_once() {
     local name=$1
     shift
     if [ $unit = instructions ]; then
-        valgrind --tool=callgrind --callgrind-out-file=/dev/null "$proved" "$@" 1 2>&1 |
+        valgrind --tool=callgrind --callgrind-out-file=/dev/null "${proved[@]}" "$@" 1 2>&1 |
             sed -n 's/.*Collected : //p' >"$work/$name.once"
     else
-        for _ in $(seq "$((2 * turns))"); do "$proved" "$@" 1 | cut -d' ' -f"$column" >>"$work/$name.once"; done
+        for _ in $(seq "$((2 * turns))"); do "${proved[@]}" "$@" 1 | cut -d' ' -f"$column" >>"$work/$name.once"; done
     fi
 }
 

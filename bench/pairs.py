@@ -1,6 +1,5 @@
-"""What the benches of bundles have in common: a proved program and a plain one, built beside each other and run in turn."""
+"""What the benches of bundles have in common: a proved program and a plain one, built and run in turn."""
 import os
-import shutil
 import subprocess
 import sys
 
@@ -8,39 +7,15 @@ from programs import peak, plain_program
 
 HERE = os.path.dirname(os.path.abspath(__file__))
 TOP = os.path.dirname(HERE)
+PROVED = os.path.join(TOP, "crates/call_times/out/call_times")
 MAGIC = b"USFMSR1\n"
 
 
-def lines_of(crate):
-    """The lines of crates.txt of a crate and of all that it is built on, in their order."""
-    with open(os.path.join(TOP, "crates.txt")) as every:
-        lines = [line for line in every if line.strip()]
-    wanted = {crate}
-    for line in reversed(lines):
-        name, needs = line.split(":")
-        if name in wanted:
-            wanted.update(needs.split())
-    return [line for line in lines if line.split(":")[0] in wanted]
-
-
-def build(work, folder, crate, words, beside=()):
-    """Builds FOLDER/bench.rt.txt over the crate, and what it names beside it, by `rt run`, with these words, and
-    FOLDER/plain.rs by bench/build_plain.sh."""
-    subprocess.run(["git", "-C", work, "init", "-q"], check=True)
-    name = os.path.basename(folder) + "_bench"
-    lines = lines_of(crate)
-    for line in lines:
-        copied = line.split(":")[0]
-        shutil.copytree(os.path.join(TOP, "crates", copied), os.path.join(work, "crates", copied))
-    program = os.path.join(work, "crates", name)
-    os.makedirs(os.path.join(program, "src"))
-    shutil.copy(os.path.join(folder, "bench.rt.txt"), os.path.join(program, "src/main.rt"))
-    with open(os.path.join(work, "crates.txt"), "w") as out:
-        out.writelines(lines + ["%s: %s anyhow\n" % (name, " ".join([crate, *beside]))])
-    ran = subprocess.run(["rt", "run", "--", *words], cwd=program, stdout=subprocess.PIPE, stderr=subprocess.STDOUT, text=True)
-    if ran.returncode:
-        sys.exit("\n".join(ran.stdout.splitlines()[-30:]))
-    return os.path.join(program, "out", name), plain_program(work, folder)
+def build(work, folder):
+    """What the proved program and the plain one of a job are run as. The proved one is that of bench/build_proved.sh,
+    whose job is the folder's name, the plain one FOLDER/plain.rs."""
+    subprocess.run([os.path.join(HERE, "build_proved.sh")], check=True)
+    return [PROVED, os.path.basename(folder)], [plain_program(work, folder)]
 
 
 def write_bundles(count, names):
@@ -54,9 +29,9 @@ def write_bundles(count, names):
 
 def once(program, words):
     """Nanoseconds of the least round, and what else the program wrote."""
-    ran = subprocess.run([program, *words], stdout=subprocess.PIPE, text=True)
+    ran = subprocess.run([*program, *words], stdout=subprocess.PIPE, text=True)
     if ran.returncode:
-        sys.exit("%s failed" % program)
+        sys.exit("%s failed" % " ".join(program))
     nanos, *told = ran.stdout.split()
     return int(nanos), told
 
@@ -81,7 +56,7 @@ def compare_jobs(programs, jobs, turns=7, limit=1.5):
     held = True
     for label, words in jobs:
         least, _ = turn_about(programs, words, turns)
-        peaks = [peak([program, *words]) for program in programs]
+        peaks = [peak([*program, *words]) for program in programs]
         ratio = least[0] / least[1]
         print("%-18s proved %9.3f ms %7d KB   plain %9.3f ms %7d KB   time %.2f   memory %.2f"
               % (label, least[0] / 1e6, peaks[0], least[1] / 1e6, peaks[1], ratio, peaks[0] / peaks[1]))

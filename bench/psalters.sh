@@ -1,6 +1,5 @@
-# Sourced by run.sh of a bench over psalters, after head.sh: makes a sheet, `$work/sheet`, and psalters of a size and of
-# ten times the size, `$work/psalter.SIZE`, and builds the two programs. What run.sh was given is the size and how many
-# turns; a run has some rounds.
+# Sourced by run.sh of a bench over psalters, after head.sh. What run.sh was given is the size and how many turns; a run
+# has some rounds.
 bytes=${1:-250000}
 turns=${2:-8}
 rounds=20
@@ -27,22 +26,11 @@ make_sheet() {
         }'
 }
 
-# The sheet, and the psalters of these bytes and of ten times as many.
+# Makes a sheet, `$work/sheet`, and psalters of the size and of ten times the size, `$work/psalter.SIZE`.
 make_psalters() {
     local size
     make_sheet >"$work/sheet"
-    for size in "$1" "$((10 * $1))"; do
+    for size in "$bytes" "$((10 * bytes))"; do
         awk -v size="$size" -f "$top/bench/psalter.awk" >"$work/psalter.$size"
     done
-}
-
-# Makes the sheet and the psalters and builds both programs: the name of the proved one's crate, and the words after the
-# sheet and the psalter that it is run with once.
-build_both() {
-    local name=$1
-    shift
-    echo "building"
-    make_psalters "$bytes"
-    build_plain
-    build_proved "$name" 'usfm_ref sty_sheet concordance anyhow' "$work/sheet" "$work/psalter.$bytes" "$@"
 }

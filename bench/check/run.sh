@@ -1,8 +1,7 @@
 #!/usr/bin/env bash
-# Times the proved check of a book (bench.rt.txt) against a plain checker in Rust (plain.rs), both built for
-# the processor that Rattle builds for, over a generated sheet and generated texts of a size and of ten times
-# the size: prose, words each in a pair of marks, and prose with faults. Needs rt, rustc and awk, and takes a
-# few minutes.
+# Times the proved check of a book against a plain checker in Rust (plain.rs), both built for the processor that Rattle
+# builds for, over a generated sheet and generated texts of a size and of ten times the size: prose, words each in a
+# pair of marks, and prose with faults. Needs rt, rustc and awk, and takes a few minutes.
 #
 # A last text has one mark alone, of a style with as many bytes of words in OccursUnder. The two are not compared on it,
 # since the proved sheet has made a set of such words when it is read, and looks them up in next to no time.
@@ -75,8 +74,7 @@ for size in "$bytes" "$((10 * bytes))"; do
 done
 for size in "$bytes" "$((10 * bytes))"; do with_words "$size" >"$work/words.$size"; done
 printf '\\p \\em a\\em*' >"$work/one"
-build_plain
-build_proved check_bench "usfm_ref sty_sheet segment_check anyhow" "$work/sheet" "$work/prose.$bytes" 1
+build_both
 
 limit=4
 for text in prose marks faults; do

@@ -3,10 +3,9 @@
 
     run.py [OPERATIONS ..]      by default 10000 100000: how many the bundle has
 
-The proved call is built by `rt run` (bench.rt.txt, in a folder of its own), the plain one by bench/build_plain.sh
-(plain.rs). Both judge every field, that each text is UTF-8, and that it fits its book and key; neither copies anything.
-The least time of a round counts. The exit status is 1 where the two find different bundles, or the proved one takes
-more than twice as long.
+The proved call is built by bench/build_proved.sh, the plain one by bench/build_plain.sh (plain.rs). Both judge every
+field, that each text is UTF-8, and that it fits its book and key; neither copies anything. The least time of a round
+counts. The exit status is 1 where the two find different bundles, or the proved one takes more than twice as long.
 """
 import os
 import sys
@@ -32,8 +31,7 @@ def main():
     counts = [int(word) for word in sys.argv[1:]] or [10_000, 100_000]
     with tempfile.TemporaryDirectory() as work:
         name = os.path.join(work, "bundle")
-        write_bundles(counts[0], [name])
-        programs = build(work, HERE, "bundle_codec", [name, "1"])
+        programs = build(work, HERE)
         held = [compare(count, programs, name) for count in counts]
     sys.exit(not all(held))
 

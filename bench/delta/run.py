@@ -5,11 +5,11 @@
 
 The project is the one of 66 books of bench/project/generate.py, and its 100 later edits are what one replica has and
 the other one lacks. The job `delta` writes them as a bundle for the other's summary, the job `receive` takes that
-bundle in. The proved calls are built by `rt run` (bench.rt.txt, in a folder of its own), the plain ones by
-bench/build_plain.sh (plain.rs); both keep what each segment shows. The plain one lends names and texts from the
-bundles, numbers the names as they come, and writes operations by their bytes. Told are the least time of a round, and
-the peak of resident memory of a process that holds the project twice. The exit status is 1 where the two programs write
-different deltas, or a proved call takes more than 8 times as long.
+bundle in. The proved calls are built by bench/build_proved.sh, the plain ones by bench/build_plain.sh (plain.rs); both
+keep what each segment shows. The plain one lends names and texts from the bundles, numbers the names as they come, and
+writes operations by their bytes. Told are the least time of a round, and the peak of resident memory of a process that
+holds the project twice. The exit status is 1 where the two programs write different deltas, or a proved call takes more
+than 8 times as long.
 """
 import os
 import subprocess
@@ -20,7 +20,6 @@ HERE = os.path.dirname(os.path.abspath(__file__))
 sys.path.insert(0, os.path.dirname(HERE))
 from pairs import build, compare_jobs
 
-BESIDE = ("bundle_codec", "op_core")
 ROUNDS = "20"
 
 
@@ -38,7 +37,7 @@ def files_of(work):
 def main():
     with tempfile.TemporaryDirectory() as work:
         names = files_of(work)
-        programs = build(work, HERE, "replica_state", [*names, "delta", "1"], BESIDE)
+        programs = build(work, HERE)
         held = compare_jobs(programs, [(job, [*names, job, ROUNDS]) for job in ("delta", "receive")], limit=8)
     sys.exit(not held)
 

@@ -1,4 +1,4 @@
-//! The jobs of bench.rt.txt in plain Rust, to be measured against: sets of operations with what each segment shows,
+//! The jobs of `call_times index` in plain Rust, to be measured against: sets of operations with what each segment shows,
 //! made by single inserts and joined. Names and texts are lent by whoever makes an operation.
 
 use std::collections::{HashMap, HashSet};

@@ -1,8 +1,9 @@
 #!/usr/bin/env bash
-# Times sets of operations (bench.rt.txt) against sets in plain Rust (plain.rs: a list that rises by id, and a map of what
+# Times proved sets of operations against sets in plain Rust (plain.rs: a list that rises by id, and a map of what
 # segments show), both built for the processor that Rattle builds for: this many single inserts with the making of the
-# operations, two thirds of them each in a new segment and the others over what a segment shows; the join of a first
-# set of six tenths of them into an empty one, and then of two more, which lie after it or overlap. Needs rt and rustc, and takes some minutes.
+# operations, two thirds of them each in a new segment and the others over what a segment shows; the join of a first set
+# of six tenths of them into an empty one, and then of two more, which lie after it or overlap. Needs rt and rustc, and
+# takes some minutes.
 #
 # The plain program takes a set over where it holds none, so that its first join takes no time.
 #
@@ -18,12 +19,11 @@ turns=${2:-5}
 rounds=5
 
 echo "building"
-build_plain
-build_proved index_bench "usfm_ref verse_cut op_core anyhow" 1000 1
+build_both
 
 for _ in $(seq "$turns"); do
     "$plain" "$count" "$rounds" >>"$work/plain.out"
-    "$proved" "$count" "$rounds" >>"$work/proved.out"
+    "${proved[@]}" "$count" "$rounds" >>"$work/proved.out"
 done
 if [ "$(grep -hv inserts "$work"/{plain,proved}.out | sort -u | wc -l)" != 1 ]; then
     echo "the two show different ids"

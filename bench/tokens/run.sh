@@ -1,7 +1,7 @@
 #!/usr/bin/env bash
-# Times the proved token iterator (bench.rt.txt) against a plain tokenizer in Rust with a like search
-# (plain.rs), both built for the processor that Rattle builds for, over two generated texts: prose,
-# and words each in a pair of marks. Needs rt, rustc and awk, and takes a minute or two.
+# Times the proved token iterator against a plain tokenizer in Rust with a like search (plain.rs), both built for the
+# processor that Rattle builds for, over two generated texts: prose, and words each in a pair of marks. Needs rt, rustc
+# and awk, and takes a minute or two.
 #
 # The two are run turn about, and of each the least time of a round counts. The exit status is 1 where
 # the two count different tokens, or the proved one takes more than 1.5 times as long.
@@ -17,8 +17,7 @@ rounds=20
 echo "building"
 make_text prose "$bytes" >"$work/prose"
 make_text marks "$bytes" >"$work/marks"
-build_plain
-build_proved token_bench "usfm_token anyhow" "$work/prose" 1
+build_both
 
 for text in prose marks; do
     compare "$text" "$work/$text"

@@ -1,8 +1,7 @@
 #!/usr/bin/env bash
-# Times the proved reading of a style sheet and of a text's tree (bench.rt.txt) against a plain reader in
-# Rust of the same tree (plain.rs), both built for the processor that Rattle builds for, over a generated
-# sheet of 250 markers and two generated texts: prose, and words each in a pair of marks. Needs rt, rustc
-# and awk, and takes a few minutes.
+# Times the proved reading of a style sheet and of a text's tree against a plain reader in Rust of the same tree
+# (plain.rs), both built for the processor that Rattle builds for, over a generated sheet of 250 markers and two
+# generated texts: prose, and words each in a pair of marks. Needs rt, rustc and awk, and takes a few minutes.
 #
 # The two are run turn about, and of each the least time of a round counts. The exit status is 1 where
 # the two find different trees, the proved tree takes more than 2 times as long, or the proved sheet
@@ -43,8 +42,7 @@ echo "building"
 make_sheet >"$work/sheet"
 make_text prose "$bytes" >"$work/prose"
 make_text marks "$bytes" >"$work/marks"
-build_plain
-build_proved tree_bench "sty_sheet usfm_tree anyhow" "$work/sheet" "$work/prose" 1
+build_both
 
 # A run prints the time of the sheet before that of the tree.
 column=2

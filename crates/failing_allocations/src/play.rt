@@ -24,7 +24,7 @@ pub(crate) enum Said {
 }
 
 impl Said {
-    pub(crate) fn word(self) -> &'static str {
+    pub(crate) fn line(self) -> &'static str {
         match self {
             Said::NotBegun => "not begun\n",
             Said::Refused => "refused\n",
@@ -34,12 +34,13 @@ impl Said {
     }
 }
 
-// Makes the call, and says whether it gives what is wanted, or the line of a fault that is; None where it is out of memory.
+// Makes the call, and says whether it gives what is wanted, or the line of a fault that is; None
+// where it is out of memory.
 fn gives<P: Play>(play: &mut P, wanted: &[&[u8]]) -> Option<bool> {
     let mut told = Told::new();
     match play.make(&mut told) {
         Ok(()) => Some(told.is(wanted)),
-        Err(_) if !told.bytes().is_empty() => Some(false),
+        Err(_) if !told.is_empty() => Some(false),
         Err(Fault::Memory) => None,
         Err(fault) => {
             told.push(fault_line(&fault).bytes());

@@ -1,10 +1,6 @@
-//! Counts the tokens of a USFM text with the proved iterator. It is run as `token_bench FILE ROUNDS`,
-//! and prints the least time of a round in nanoseconds, and what a round counted.
-#![tactic(auto)]
-
-use anyhow::{Context, Result};
-use std::time::{Duration, Instant};
-use std::{env, fs};
+//! `tokens FILE ROUNDS`: counts the tokens of a text.
+use crate::rounds::Given;
+use anyhow::Result;
 use usfm_token::{Token, TokenIter};
 
 #[derive(Clone, Copy, Debug, Default)]
@@ -16,6 +12,14 @@ struct Tally {
     closing: u64,
     texts: u64,
     text_bytes: u64,
+}
+
+pub(crate) fn told(given: &Given<'_>) -> Result<String> {
+    let text = given.text(1, "a file")?;
+    let rounds = given.rounds(2)?;
+    let (least, counts) = rounds.least(|| Ok(count_tokens(text.as_str())))?;
+    let nanos = least.as_nanos();
+    Ok(format!(in given.rt.alloc(); "{nanos} {counts:?}")?)
 }
 
 #[inline(never)]
@@ -37,21 +41,4 @@ fn count_tokens(text: &str) -> Tally {
         }
     }
     counts
-}
-
-fn main(rt: HostRuntime) -> Result<()> {
-    let mut words = env::args(&rt)?.skip(1);
-    let path = words.next().context("a file")?;
-    let rounds = words.next().context("a number of rounds")?;
-    let text = fs::read_to_string(&rt, path.as_str())?;
-    let mut least = Duration::MAX;
-    let mut counts = Tally::default();
-    for _ in 0..rounds.as_str().parse::<u32>()? {
-        let start = Instant::now(&rt)?;
-        counts = count_tokens(text.as_str());
-        least = least.min(start.elapsed(&rt)?);
-    }
-    let nanos = least.as_nanos();
-    println!(rt; "{nanos} {counts:?}")?;
-    Ok(())
 }

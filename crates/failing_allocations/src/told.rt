@@ -1,4 +1,6 @@
 // What a call gave, put down without an allocation.
+use arrayvec::ArrayVec;
+use itoa::Buffer;
 
 // As much as the longest of them has.
 const ROOM: usize = 512;
@@ -6,25 +8,23 @@ const ROOM: usize = 512;
 /// Texts one after another.
 #[derive(Drop)]
 pub(crate) struct Told {
-    bytes: [u8; ROOM],
-    length: usize,
+    bytes: ArrayVec<u8, ROOM>,
 }
 
 impl Told {
     pub(crate) fn new() -> Told {
         Told {
-            bytes: [0; ROOM],
-            length: 0,
+            bytes: ArrayVec::new(),
         }
     }
 
-    pub(crate) fn bytes(&self) -> &[u8] {
-        &self.bytes[..self.length]
+    pub(crate) fn is_empty(&self) -> bool {
+        self.bytes.as_slice().is_empty()
     }
 
     /// Whether it is these pieces, joined.
     pub(crate) fn is(&self, pieces: &[&[u8]]) -> bool {
-        let mut rest = self.bytes();
+        let mut rest = self.bytes.as_slice();
         for piece in pieces {
             match rest.strip_prefix(*piece) {
                 None => return false,
@@ -34,12 +34,10 @@ impl Told {
         rest.is_empty()
     }
 
+    /// Puts down as many of the bytes as there is room for.
     pub(crate) fn push(&mut self, bytes: &[u8]) {
         for byte in bytes {
-            if self.length < ROOM {
-                self.bytes[self.length] = *byte;
-                self.length += 1;
-            }
+            let _ = self.bytes.try_push(*byte);
         }
     }
 
@@ -49,17 +47,8 @@ impl Told {
 
     /// In decimal, with a blank after it.
     pub(crate) fn push_number(&mut self, number: u64) {
-        let mut digits = [0u8; 20];
-        let mut at = digits.len();
-        let mut left = number;
-        for _ in 0..20 {
-            if left > 0 || at == digits.len() {
-                at -= 1;
-                digits[at] = b'0' + (left % 10) as u8;
-                left /= 10;
-            }
-        }
-        self.push(&digits[at..]);
-        self.push(b" ");
+        let mut buffer = Buffer::new();
+        self.push_text(buffer.format(number));
+        self.push_text(" ");
     }
 }

@@ -5,9 +5,7 @@ use crate::vectors::{
     ALL_BUT_2_ANA, ALL_THREE, B1, CLASHING, COUNT_3, COUNT_4, FOURTH, JOINED, S1, THREE_THINNED,
     UNNAMED, V2, VERSE_THINNED, Y, Z, operations,
 };
-use bundle_codec::{
-    JoinFault, Summary, decode, decode_whole, encode, encode_outside, join_bundles,
-};
+use bundle_codec::{Summary, decode, decode_whole, encode, encode_outside, join_bundles};
 use op_core::{OpId, OpSet, ReplicaName, SetFault};
 use std::alloc::Global;
 use usfm_cli::Fault;
@@ -37,39 +35,63 @@ pub(crate) struct Row {
 // Nothing is held.
 const NO_SET: [&[u8]; 3] = [b"", b"", b""];
 
-pub(crate) fn row(name: &str) -> Option<Row> {
-    let (call, held, wanted): (Call, [&'static [u8]; 3], [&'static [u8]; 4]) = match name {
-        "decode" => (Call::Decode(V2), NO_SET, [b"2 104 ", b"", b"", b""]),
-        "decode unnamed" => (Call::Decode(UNNAMED), NO_SET, [b"fault 69 1\n", b"", b"", b""]),
-        "decode_whole" => (Call::DecodeWhole(V2), NO_SET, [b"2 ", b"", b"", b""]),
-        "to_set" => (Call::ToSet(V2), NO_SET, [b"2 3 ", b"", b"", b""]),
+pub(crate) fn row_of(name: &str) -> Option<Row> {
+    match on_bundles(name) {
+        Some(row) => Some(row),
+        None => on_set(name),
+    }
+}
+
+fn on_bundles(name: &str) -> Option<Row> {
+    let (call, wanted): (Call, [&'static [u8]; 4]) = match name {
+        "decode" => (Call::Decode(V2), [b"2 104 ", b"", b"", b""]),
+        "decode unnamed" => (Call::Decode(UNNAMED), [b"fault 69 1\n", b"", b"", b""]),
+        "decode_whole" => (Call::DecodeWhole(V2), [b"2 ", b"", b"", b""]),
+        "to_set" => (Call::ToSet(V2), [b"2 3 ", b"", b"", b""]),
         "join_bundles" => (
             Call::Join(B1, Y),
-            NO_SET,
             [COUNT_3, operations(B1), operations(Y), b""],
         ),
         "join_bundles back" => (
             Call::Join(Y, B1),
-            NO_SET,
             [COUNT_3, operations(B1), operations(Y), b""],
         ),
-        "join_bundles thinned" => (Call::Join(B1, V2), NO_SET, [JOINED, b"", b"", b""]),
-        "join_bundles thinned back" => (Call::Join(V2, B1), NO_SET, [JOINED, b"", b"", b""]),
+        "join_bundles thinned" => (Call::Join(B1, V2), [JOINED, b"", b"", b""]),
+        "join_bundles thinned back" => (Call::Join(V2, B1), [JOINED, b"", b"", b""]),
         "join_bundles clash" => (
             Call::Join(B1, CLASHING),
-            NO_SET,
             [b"fault 51 2 ana\n", b"", b"", b""],
         ),
+        "summary read" => (Call::ReadSummary, [b"1 2 3 5 ", b"", b"", b""]),
+        "summary write" => (Call::WriteSummary, [S1, b"", b"", b""]),
+        _ => return None,
+    };
+    Some(Row {
+        call,
+        held: NO_SET,
+        summary: S1,
+        wanted,
+    })
+}
+
+fn on_set(name: &str) -> Option<Row> {
+    let (call, held, wanted): (Call, [&'static [u8]; 3], [&'static [u8]; 4]) = match name {
         "encode" => (
             Call::Encode,
             [B1, Y, Z],
             [COUNT_4, operations(B1), operations(Z), operations(Y)],
         ),
-        "encode thinned" => (Call::Encode, [THREE_THINNED, b"", b""], [THREE_THINNED, b"", b"", b""]),
-        "summary read" => (Call::ReadSummary, NO_SET, [b"1 2 3 5 ", b"", b"", b""]),
-        "summary write" => (Call::WriteSummary, NO_SET, [S1, b"", b"", b""]),
+        "encode thinned" => (
+            Call::Encode,
+            [THREE_THINNED, b"", b""],
+            [THREE_THINNED, b"", b"", b""],
+        ),
         "summary of" => (Call::SummaryOf, [B1, Y, Z], [ALL_THREE, b"", b"", b""]),
-        "encode_outside" => (Call::EncodeOutside, [B1, Z, FOURTH], [FOURTH, b"", b"", b""]),
+        "encode_outside" => (
+            Call::EncodeOutside,
+            [B1, Z, FOURTH],
+            [FOURTH, b"", b"", b""],
+        ),
         "encode_outside thinned" => (
             Call::EncodeOutside,
             [THREE_THINNED, b"", b""],
@@ -81,7 +103,12 @@ pub(crate) fn row(name: &str) -> Option<Row> {
         "encode_outside thinned" => ALL_BUT_2_ANA,
         _ => S1,
     };
-    Some(Row { call, held, summary, wanted })
+    Some(Row {
+        call,
+        held,
+        summary,
+        wanted,
+    })
 }
 
 impl Row {
@@ -107,40 +134,18 @@ impl OnBytes {
                 continue;
             }
             let (bundle, _) = decode(alloc, bytes)?;
-            match set.join(bundle.to_set(alloc)?) {
-                Ok(_) => {}
-                Err(SetFault::Memory) => return Err(Fault::Memory),
-                Err(SetFault::Clash(id)) => return Err(Fault::Clash(id)),
-            }
+            set.join(bundle.to_set(alloc)?).map_err(fault_of)?;
         }
         let summary = match row.call {
             Call::WriteSummary | Call::EncodeOutside => Some(Summary::read(alloc, row.summary)?),
             _ => None,
         };
-        Ok(OnBytes { alloc, row, set, summary })
-    }
-}
-
-fn joined(alloc: Global, one: &[u8], other: &[u8]) -> Result<Vec<u8>, Fault> {
-    match join_bundles(alloc, one, other) {
-        Ok(bytes) => Ok(bytes),
-        Err(JoinFault::Memory) => Err(Fault::Memory),
-        Err(JoinFault::Bundle(fault)) => Err(Fault::from(fault)),
-        Err(JoinFault::Clash(id)) => Err(Fault::Clash(id)),
-    }
-}
-
-// The numbers of ana's ids that a summary covers.
-fn push_covered(told: &mut Told, summary: &Summary) {
-    let Ok(name) = ReplicaName::read("ana") else {
-        return;
-    };
-    for number in 1..8u64 {
-        if let Some(id) = OpId::new(number, name) {
-            if summary.covers(&id) {
-                told.push_number(number);
-            }
-        }
+        Ok(OnBytes {
+            alloc,
+            row,
+            set,
+            summary,
+        })
     }
 }
 
@@ -161,7 +166,7 @@ impl Play for OnBytes {
                     told.push_number(op.id().number);
                 }
             }
-            (Call::Join(one, other), _) => told.push(&joined(alloc, one, other)?),
+            (Call::Join(one, other), _) => told.push(&join_bundles(alloc, one, other)?),
             (Call::Encode, _) => told.push(&encode(alloc, &self.set)?),
             (Call::ReadSummary, _) => push_covered(told, &Summary::read(alloc, self.row.summary)?),
             (Call::SummaryOf, _) => told.push(&Summary::of(alloc, &self.set)?.write(alloc)?),
@@ -176,5 +181,26 @@ impl Play for OnBytes {
 
     fn is_as_before(&self) -> bool {
         true
+    }
+}
+
+fn fault_of(fault: SetFault) -> Fault {
+    match fault {
+        SetFault::Memory => Fault::Memory,
+        SetFault::Clash(id) => Fault::Clash(id),
+    }
+}
+
+// The numbers of ana's ids that a summary covers.
+fn push_covered(told: &mut Told, summary: &Summary) {
+    let Ok(name) = ReplicaName::read("ana") else {
+        return;
+    };
+    for number in 1..8u64 {
+        if let Some(id) = OpId::new(number, name) {
+            if summary.covers(&id) {
+                told.push_number(number);
+            }
+        }
     }
 }

@@ -51,6 +51,9 @@ pub(crate) const TWO_VERSES: &str = "\\id MAT\n\\c 1\n\\v 3 x\n\\v 4 y\n";
 pub(crate) const GNATS: &str =
     "\\id MAT\n\\c 1\n\\p\n\\v 1 In \\w gnat|lemma=\"gnat\"\\w* the gnat\\f + \\ft gnat\\f*\n";
 
+// How many bytes of a bundle come before its operations.
+const FRONT: usize = 16;
+
 // How the file of ana's project begins, and the bundles of three and of four operations.
 pub(crate) const BEGUN: &[u8] = b"USFMPJ1\n\x03ana";
 
@@ -64,5 +67,5 @@ pub(crate) const CONFLICT: &[u8] =
 
 /// The operations of a bundle, without its front.
 pub(crate) fn operations(bundle: &'static [u8]) -> &'static [u8] {
-    bundle.split_at(16).1
+    bundle.get(FRONT..).unwrap_or_default()
 }

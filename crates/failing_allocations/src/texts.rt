@@ -31,12 +31,13 @@ pub(crate) struct Row {
     wanted: &'static [u8],
 }
 
-pub(crate) fn row(name: &str) -> Option<Row> {
+pub(crate) fn row_of(name: &str) -> Option<Row> {
     let (call, text, wanted): (Call, &'static str, &'static [u8]) = match name {
         "tokens" => (
             Call::Tokens,
             NESTED,
-            b"\\p|\\add| a |\\+nd| b|\\+nd*| c|\\add*|\\wj| d|\\f| + |\\ft| e|\\f*| g|\\wj*|\\nd*|\n|",
+            b"\\p|\\add| a |\\+nd| b|\\+nd*| c|\\add*|\\wj| d|\
+              \\f| + |\\ft| e|\\f*| g|\\wj*|\\nd*|\n|",
         ),
         "cut" => (
             Call::Cut,
@@ -46,7 +47,11 @@ pub(crate) fn row(name: &str) -> Option<Row> {
         "sheet" => (Call::Sheet, SHEET, b"id c v p add nd wj w f ft qt-s "),
         "tree" => (Call::Tree, NESTED, b"19 9 \\+nd b\\+nd*"),
         "check" => (Call::Check, NESTED, b"stray-close 51 "),
-        "check overlap" => (Call::Check, "\\id MAT\n\\c 1\n\\v 3-4 xy\n\\v 4 y\n", b"overlap 23 "),
+        "check overlap" => (
+            Call::Check,
+            "\\id MAT\n\\c 1\n\\v 3-4 xy\n\\v 4 y\n",
+            b"overlap 23 ",
+        ),
         "find" => (Call::Find("gnat"), GNATS, b"27 1 1 52 1 1 "),
         "find nothing" => (Call::Find("lemma"), GNATS, b""),
         "find of nothing" => (Call::Find(""), GNATS, b"fault 100\n"),
@@ -135,13 +140,9 @@ fn push_records(alloc: Global, text: &str, told: &mut Told) -> Result<(), Fault>
     Ok(())
 }
 
-// How many leaves there are, and where a part starts and what it is; nothing where they do not join to the text.
-fn push_tree(
-    alloc: Global,
-    text: &str,
-    sheet: &Sheet<'_>,
-    told: &mut Told,
-) -> Result<(), Fault> {
+// How many leaves there are, and where a part starts and what it is; nothing where the leaves do
+// not join to the text.
+fn push_tree(alloc: Global, text: &str, sheet: &Sheet<'_>, told: &mut Told) -> Result<(), Fault> {
     let tree = Tree::read(alloc, text, sheet)?;
     let mut rest = text.as_bytes();
     let mut count: u64 = 0;
@@ -150,7 +151,7 @@ fn push_tree(
             return Ok(());
         };
         rest = left;
-        count += 1;
+        count = count.wrapping_add(1);
     }
     let Some(part) = tree.part(&[0, 0, 1]) else {
         return Ok(());
@@ -191,12 +192,7 @@ fn push_hits(
     Ok(())
 }
 
-fn push_words(
-    alloc: Global,
-    text: &str,
-    sheet: &Sheet<'_>,
-    told: &mut Told,
-) -> Result<(), Fault> {
+fn push_words(alloc: Global, text: &str, sheet: &Sheet<'_>, told: &mut Told) -> Result<(), Fault> {
     for word in &words(alloc, text, sheet)? {
         told.push_text(word.form());
         told.push_text(" ");
