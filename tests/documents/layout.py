@@ -11,13 +11,6 @@ TESTS = re.compile(r"^crates/(usfm_team|\w+/src/tests)\b")
 WRITTEN = ["crates/carried_sheet/src/sheet.rt"]
 # Lines that may be as wide as they are: comments, imports and attributes.
 WIDE = re.compile(r"\s*(//|--|#\[|(pub )?(ghost )?use )")
-# Lemmas that crates above cite, and that have no comment yet: with one, all crates above would be proved anew.
-UNTOLD = {
-    "bundle_codec": {"takes_bytes", "ok_is", "operation_reads", "each_follows", "magic_reads"},
-    "op_core": {"pick_is_text", "each-join"},
-    "replica_state": {"none_outside", "all_fit", "there_kept", "book_is_code", "book_is_headed", "none_pass", "held_at", "at_held",
-                      "pieces_have_keys"},
-}
 CITED = re.compile(r"^use Rattle\.(\w+)\.proofs\.([\w.]+)\.\{([^}]*)\}", re.M)
 
 
@@ -38,7 +31,7 @@ def check_width(path, lines):
 
 
 def check_comments(files):
-    """Each lemma that another crate cites has a comment directly above it, but for those that are listed."""
+    """Each lemma that another crate cites has a comment directly above it."""
     cited = defaultdict(set)
     for path in files:
         for crate, module, names in CITED.findall(text_of(path)):
@@ -46,7 +39,6 @@ def check_comments(files):
                 cited[f"crates/{crate}/proofs/{module.replace('.', '/')}.antt"] |= {it.strip().split(" as ")[0] for it in names.split(",")}
     for path, names in sorted(cited.items()):
         lines = text_of(path).splitlines() if path in files else []
-        names -= UNTOLD.get(path.split("/")[1], set())
         for at, line in enumerate(lines):
             found = re.match(r"(?:(?:abbrev|unfoldable) )?pub (?:record |data )?([^\s:(){}]+)", line)
             if found and found[1] in names:

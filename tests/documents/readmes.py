@@ -5,7 +5,7 @@ from tally import TOP, check, crates, kept_files, sources_of, text_of
 
 FEWEST_LINES, MOST_LINES, WIDEST = 12, 35, 100
 # A file or a folder of the crate, and a name: of a call, a type, a law, a definition or a crate.
-FILE = re.compile(r"(?:src|specs|proofs|must-fail)(?:/[\w./+-]+)?")
+FILE = re.compile(r"(?:src|specs|proofs|must-fail)(?:/[\w./+-]+)?|stdin|stdout|data")
 NAME = re.compile(r"[A-Za-z_]\w*(?:::\w+)*")
 ITEM = re.compile(r"^- ((?:`[\w:]+`(?:,\s+)?)+):\s", re.M)
 # Names that are std's.

@@ -13,8 +13,8 @@ are_alike Lf = true
 are_alike CrLf = true
 are_alike Mixed = false
 
--- whether a book's file is as it was written: it is like the text that it got, which begins with the
--- book's `\id`, and all lines of that end in one manner
+-- whether a book's file is as it was written: it is like the text that it got, which begins with
+-- the book's `\id`, and all lines of that end in one manner
 abbrev pub is_as_written : List ℕ → List ℕ → List ℕ → Bool
 is_as_written was book file =
     is_book (book_begun was) book && are_alike (line_ends was) && like was file

@@ -32,7 +32,8 @@ shown_in_files headless held =
 abbrev pub next_base : List (List ℕ) → List Operation → List ℕ
 next_base headless held = bundle (shown_in_files headless held)
 
--- the text that a file has for an operation's segment, where that is another one than its base picks
+-- the text that a file has for an operation's segment, where that is another one than its base
+-- picks
 abbrev pub stood_text : List StoodParts → Operation → Option (List ℕ)
 stood_text stood o =
     option_map (λ s. s.text)
@@ -47,7 +48,8 @@ is_text (Some text) o = same_bytes text (own_text o)
 abbrev pub kept_shown : List StoodParts → List Operation → List Operation
 kept_shown stood base = filter (λ o. shows base o && is_none (stood_text stood o)) base
 
--- what the project shows with the text that a file has, where that is another one than the base picks
+-- what the project shows with the text that a file has, where that is another one than the base
+-- picks
 abbrev pub found_shown : List StoodParts → List Operation → List Operation
 found_shown stood held = filter (λ o. shows held o && is_text (stood_text stood o) o) held
 

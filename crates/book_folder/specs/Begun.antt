@@ -1,4 +1,5 @@
--- What a folder begins with (this project's own rule): the project with what its files were written from.
+-- What a folder begins with (this project's own rule): the project with what its files were written
+-- from.
 use Rattle.std.specs.Prelude.{ℕ, suc, ◌-◌, nat_le, Bool, true, false, not, ◌||◌, List, [], ◌∷◌, length, map, filter, Option, None, Some, is_some, Result, Ok, Err, if◌then◌else◌, codes}
 use Rattle.std.specs.List.{list_any, flat_map}
 use Rattle.usfm_ref.specs.Books.{same_bytes}
@@ -212,7 +213,8 @@ begun_with seen wishes =
     with_bases wishes 0 (begun_alone s) seen.bases >>= λ based.
     with_next seen.unplaced based seen.next
 
--- the union of the bundles of the base, of which the first has this place, with what was received before
+-- the union of the bundles of the base, of which the first has this place, with what was received
+-- before
 abbrev pub bases_from : ℕ → State → List (List ℕ) → Result State Refusal
 bases_from at base [] = Ok base
 bases_from at base (bytes ∷ later) =

@@ -67,7 +67,8 @@ added_view a = record { book = a.book; count = a.count }
 abbrev pub added_by : List ℕ → ℕ → List AddedParts
 added_by book count = if nat_eq count 0 then [] else record { book = book; count = count } ∷ []
 
--- a project after files were taken in, what they have beside their bases, and how many edits they made
+-- a project after files were taken in, what they have beside their bases, and how many edits they
+-- made
 pub record AllTaken : Type 0 where
   pub after : State
   pub stood : List StoodParts

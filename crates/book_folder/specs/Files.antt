@@ -1,4 +1,5 @@
--- Which files of a folder are books' (this project's own rule): by their names, and by how they begin.
+-- Which files of a folder are books' (this project's own rule): by their names, and by how they
+-- begin.
 use Rattle.std.specs.Prelude.{ℕ, suc, ◌-◌, Bool, false, not, ◌&&◌, ◌||◌, List, [], ◌∷◌, ◌++◌, length, take, drop, map, codes}
 use Rattle.std.specs.Prelude.{Option, None, Some, option_map, Result, Ok, Err, if◌then◌else◌}
 use Rattle.std.specs.Char.{to_ascii_lowercase}

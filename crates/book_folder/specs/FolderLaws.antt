@@ -110,8 +110,8 @@ pub record IsSyncedFile (held : List Operation) (f : FileParts) : Type 0 where
 
 -- A project and its folder as a sync leaves them, with no bundle given: the one base has what the
 -- books show that get a file; nothing is left of a sync that was cut short; each book of which the
--- project has the head has a file like its text; each file is such a one; and the names of the files
--- are those that were written down.
+-- project has the head has a file like its text; each file is such a one; and the names of the
+-- files are those that were written down.
 pub record IsSynced (seen : SeenParts) (files : List FileParts) (s : State) : Type 0 where
   pub project : project_at seen.project ≡ Ok s
   pub base : seen.bases ≡ next_base (headless s.held) s.held ∷ []

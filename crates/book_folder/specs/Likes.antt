@@ -36,7 +36,8 @@ line_ends text =
     if list_any (λ b. b == 10) text && each_lf_has_cr 0 text then CrLf
     else (if list_any (λ b. b == 13) text then Mixed else Lf)
 
--- a text in which each line ends in one manner: each LF, with a CR directly before it or without, is this end
+-- a text in which each line ends in one manner: each LF, with a CR directly before it or without,
+-- is this end
 abbrev pub with_ends : List ℕ → List ℕ → List ℕ
 with_ends end text = flat_map (λ b. if b == 10 then end else b ∷ []) (without_cr text)
 

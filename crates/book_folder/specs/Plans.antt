@@ -56,9 +56,9 @@ by_ends CrLf file text = in_manner_of file text
 abbrev pub if_begun : List ℕ → List ℕ → List ℕ → List ℕ
 if_begun book text made = if is_book (book_begun made) book then made else text
 
--- a book's text as its file gets it: as it is where the book has no file, else in the manner of that
--- file; but as it is, too, where the book would not be known by it any more (its code may stand in
--- the line after its `\id`)
+-- a book's text as its file gets it: as it is where the book has no file, else in the manner of
+-- that file; but as it is, too, where the book would not be known by it any more (its code may
+-- stand in the line after its `\id`)
 abbrev pub text_for : Option FileParts → List ℕ → List ℕ → List ℕ
 text_for None book text = text
 text_for (Some f) book text = if_begun book text (by_ends (line_ends f.bytes) f.bytes text)
@@ -98,7 +98,8 @@ file_by_text seen files form book text =
     else (new_name seen form book (file_of files book) >>= λ name.
     Ok (Some (new_file (file_of files book) book text name)))
 
--- a new file of a book, if it gets one: the project has its head, and it has no file like its export
+-- a new file of a book, if it gets one: the project has its head, and it has no file like its
+-- export
 abbrev pub new_file_if : SeenParts → List Operation → List FileParts → FormParts → List ℕ
     → Result (Option NewFileParts) Refusal
 new_file_if seen held files form book =
@@ -142,7 +143,8 @@ step_view (steps.Place placing) =
     PutInPlace placing.book (string_bytes placing.name) placing.replaces
 step_view steps.SyncFolder = SyncFolder
 
--- what is written into the program's folder beside the new files, each if it is other than what is there
+-- what is written into the program's folder beside the new files, each if it is other than what is
+-- there
 pub record OwnParts : Type 0 where
   pub base : Option (List ℕ)
   pub names : Option (List ℕ)

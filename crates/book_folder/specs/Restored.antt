@@ -17,7 +17,8 @@ use Rattle.book_folder.specs.declared.likes.LineEnds.TheVariants.{Lf, CrLf, Mixe
 abbrev pub front_of : List ℕ → List ℕ
 front_of text = if same_bytes (take 3 text) byte_order_mark then byte_order_mark else []
 
--- the line ends that texts get which come in beside a text of such line ends: where that has some of each, LF
+-- the line ends that texts get which come in beside a text of such line ends: where that has some
+-- of each, LF
 abbrev pub coming_ends : LineEnds → LineEnds
 coming_ends CrLf = CrLf
 coming_ends Lf = Lf

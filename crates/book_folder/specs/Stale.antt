@@ -16,7 +16,8 @@ use Rattle.book_folder.specs.declared.refusal.Place.TheVariants as places
 use Rattle.book_folder.specs.declared.refusal.Refusal.{Refusal}
 use Rattle.book_folder.specs.declared.stale.Choice.{Choice}
 
--- an older base, by its place among them, and of how many keys a file has another text than it picks
+-- an older base, by its place among them, and of how many keys a file has another text than it
+-- picks
 pub record Candidate : Type 0 where
   pub at : ℕ
   pub unlike : ℕ
@@ -75,7 +76,8 @@ abbrev pub with_book_of : Place → List Operation → List Operation → List �
 with_book_of place base was book =
     joined_at place (ops_not_of (book ∷ []) base) (ops_of (book ∷ []) was)
 
--- the base with what an older one has of a book in the place of its own, where the older one was received
+-- the base with what an older one has of a book in the place of its own, where the older one was
+-- received
 abbrev pub rebased_to : BegunParts → Place → State → List ℕ → Result BegunParts Refusal
 rebased_to b place was book =
     judged place (bundle was.held) >>= λ ops.

@@ -78,7 +78,8 @@ abbrev pub settling_ids : List Operation → List Operation → List WantedParts
 settling_ids held base wanted book key =
     if settles held base wanted book key then Some (still_shown held base book key) else None
 
--- the change of a key by which a file settles its conflict, or what was changed in the file, if anything was
+-- the change of a key by which a file settles its conflict, or what was changed in the file, if
+-- anything was
 abbrev pub change_by : Option (List Id) → List Operation → List Operation → List ℕ
     → List PieceParts → KeyParts → Option ChangeParts
 change_by (Some ids) held base book pieces key =
@@ -132,7 +133,8 @@ stood_of held base book pieces =
 
 -- ---- a file is taken in
 
--- a project after files were taken in, what they have beside their base, and how many edits the last one made
+-- a project after files were taken in, what they have beside their base, and how many edits the
+-- last one made
 pub record Taken : Type 0 where
   pub after : State
   pub stood : List StoodParts

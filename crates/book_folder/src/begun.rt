@@ -152,7 +152,8 @@ pub(crate) fn receive_if_alike(
     Ok(new)
 }
 
-// Whether a replica holds an operation of a bundle, or one that an operation of the bundle replaces.
+// Whether a replica holds an operation of a bundle, or one that an operation of the bundle
+// replaces.
 fn shares_an_id(replica: &Replica, bundle: &Bundle<'_>) -> bool
     ensures { result ≡ begins.shares_an_id replica.now.held bundle.now }
 {

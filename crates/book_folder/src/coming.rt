@@ -36,7 +36,8 @@ pub(crate) struct CameIn {
     pub(crate) stood: Vec<Stood>,
 }
 
-// All that comes in: what the files were written from, then the bundles, then what was changed in the files.
+// All that comes in: what the files were written from, then the bundles, then what was changed in
+// the files.
 pub(crate) fn come_in(
     alloc: Global,
     seen: &Seen<'_>,
@@ -153,7 +154,8 @@ fn take_all(
     Ok(added)
 }
 
-// Takes in, in turn, the files of which it is known what they were written from, or those of which it is not.
+// Takes in, in turn, the files of which it is known what they were written from, or those of which
+// it is not.
 fn take_files(
     alloc: Global,
     replica: &mut Replica,

@@ -1,5 +1,6 @@
 // Which files of a folder are books'.
-ghost use Rattle.std.specs.Prelude.{◌≡◌, ◌+◌, ◌<◌, ◌^◌, IfOk, length, IsUtf8, map, option_map, string_bytes, take};
+ghost use Rattle.std.specs.Prelude.{◌≡◌, ◌+◌, ◌<◌, ◌^◌, IfOk, length, IsUtf8, map, option_map};
+ghost use Rattle.std.specs.Prelude.{string_bytes, take};
 ghost use Rattle.std.specs.Str.Lossy.{utf8_valid_len};
 ghost use Rattle.usfm_ref.specs.Books.{same_bytes};
 ghost use Rattle.book_folder.specs.Files as which;
@@ -32,8 +33,8 @@ fn ends_in(name: &[u8], ending: &[u8]) -> bool
     end.eq_ignore_ascii_case(ending)
 }
 
-/// The book that a file begins with, by its front that is UTF-8: at most one U+FEFF, `\id`, a blank,
-/// and a book's code that ends. It does not allocate.
+/// The book that a file begins with, by its front that is UTF-8: at most one U+FEFF, `\id`, a
+/// blank, and a book's code that ends. It does not allocate.
 pub fn book_begun(file: &[u8]) -> Option<Book>
     ensures { result ≡ which.book_begun file.now }
 {

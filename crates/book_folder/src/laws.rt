@@ -2,8 +2,8 @@
 ghost use Rattle.book_folder.specs.FolderLaws as folder;
 ghost use Rattle.book_folder.specs.Laws as laws;
 
-/// Line ends say nothing: two files of a book that are like each other, and were written from the same
-/// base, lead to the same project, or are refused alike.
+/// Line ends say nothing: two files of a book that are like each other, and were written from the
+/// same base, lead to the same project, or are refused alike.
 pub fn line_ends_say_nothing()
     ensures { laws.LineEndsSayNothing }
 {}

@@ -119,10 +119,11 @@ pub struct Told {
 /// The first of these, and of what; nothing is to be done then.
 /// - `FileChanged` of a second file of a book, and of what stands under the name of a book's file
 ///   and is no longer that book's.
-/// - What is refused of what comes in, in its order: `Project`, `Bundle`, `Clash`, `NotText`, `Edit`
-///   as the layers below refuse the project, a bundle or a file; `Unlike`, `Undone`, `Emptied` where
-///   it is to be asked first, unless it is wished; `FileChanged` of a file that is not known to be
-///   written from the base, of a book that the project has, where it is not like the book's text.
+/// - What is refused of what comes in, in its order: `Project`, `Bundle`, `Clash`, `NotText`,
+///   `Edit` as the layers below refuse the project, a bundle or a file; `Unlike`, `Undone`,
+///   `Emptied` where it is to be asked first, unless it is wished; `FileChanged` of a file that is
+///   not known to be written from the base, of a book that the project has, where it is not like
+///   the book's text.
 /// - `BadForm` where the name that is to say how files are named does not.
 /// - `FileChanged` of what stands where a new file is to be put.
 /// - `Bundle` and `Clash`, of the project, where no base can be made of what the files have.

@@ -10,7 +10,8 @@ use replica_state::{EditFault, ImportFault, ReceiveFault};
 use std::alloc::{AllocError, AllocFailed};
 use thiserror::Error;
 
-/// What a refusal is of: the project, or one of the things that were read, by its place among its like.
+/// What a refusal is of: the project, or one of the things that were read, by its place among its
+/// like.
 #[derive(Clone, Copy, Debug, PartialEq, Eq)]
 pub enum Place {
     /// The project's file.

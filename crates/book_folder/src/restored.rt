@@ -73,7 +73,8 @@ impl<'p, 'a> Iterator for RestoredPieces<'p, 'a> {
     }
 }
 
-// The pieces of a file, each as the text that a base picks there, where the two are like each other.
+// The pieces of a file, each as the text that a base picks there, where the two are like each
+// other.
 pub(crate) fn restored_pieces<'a>(
     alloc: Global,
     base: &'a Replica,

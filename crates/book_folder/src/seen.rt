@@ -31,7 +31,8 @@ pub struct Seen<'a> {
     pub next: Option<&'a [u8]>,
     /// The bases before the base, the newest first.
     pub older: &'a [Vec<u8>],
-    /// The books of which a new file stands in the program's folder, as a command that was cut short left it.
+    /// The books of which a new file stands in the program's folder, as a command that was cut
+    /// short left it.
     pub unplaced: &'a [Book],
     /// The names of the books' files as they were written down, in the order of books.
     pub names: &'a [Named],

@@ -11,7 +11,8 @@ use usfm_ref::Book;
 /// What stands in the program's folder when the base is to be settled.
 #[derive(Clone, Copy, Debug)]
 pub struct Unsettled<'a> {
-    /// The base; none where there is none, or bundles of an older version of the program stand for it.
+    /// The base; none where there is none, or bundles of an older version of the program stand for
+    /// it.
     pub base: Option<&'a [u8]>,
     /// The bundles that make up the base: it alone, or those of an older version.
     pub bases: &'a [Vec<u8>],
@@ -36,9 +37,9 @@ pub enum SettlingStep {
     RemoveNew(Book),
 }
 
-/// The steps by which the base is settled: where there is a next one, what `settled` makes of the two
-/// is put as the base, unless it is that, and the next one is removed; then the new files that were
-/// left are.
+/// The steps by which the base is settled: where there is a next one, what `settled` makes of the
+/// two is put as the base, unless it is that, and the next one is removed; then the new files that
+/// were left are.
 ///
 /// # Errors
 /// - `Bundle` of a base, or of the next one, that is no bundle; `Clash` of two of them.

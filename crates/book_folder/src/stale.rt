@@ -134,7 +134,8 @@ fn older_of(
     oldest_alike(alloc, base, older, file.book, &pieces)
 }
 
-// An older base, by its place among them, and of how many keys a file has another text than it picks.
+// An older base, by its place among them, and of how many keys a file has another text than it
+// picks.
 #[derive(Clone, Copy, Debug)]
 struct Choice {
     at: usize,

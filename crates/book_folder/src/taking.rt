@@ -33,7 +33,8 @@ use usfm_ref::{Book, Key};
 use usfm_token::{TokenFault, read_text};
 use verse_cut::{Piece, cut};
 
-// A segment for which a file has another text than the base that it was written from shows, and that text.
+// A segment for which a file has another text than the base that it was written from shows, and
+// that text.
 #[derive(Debug, Drop)]
 pub(crate) struct Stood {
     pub(crate) book: Book,
@@ -181,7 +182,8 @@ fn take_changed(
     }
 }
 
-// What a file is asked about first: texts that came in and that it undoes, then texts that are gone from it.
+// What a file is asked about first: texts that came in and that it undoes, then texts that are gone
+// from it.
 fn asked(
     alloc: Global,
     beside: &Beside<'_>,
@@ -230,7 +232,8 @@ fn undone(
     Ok(None)
 }
 
-// How many texts came in since an older base, where a file has none of them and for some the older text.
+// How many texts came in since an older base, where a file has none of them and for some the older
+// text.
 #[tactic(auto, unfolding(crate::specs::Asks::undone_since))]
 fn undone_since(
     alloc: Global,

@@ -1,5 +1,5 @@
--- The words of several books (this project's own rule): each word of each book, by the forms, and those of one form in the order
--- in which they come.
+-- The words of several books (this project's own rule): each word of each book, by the forms, and
+-- those of one form in the order in which they come.
 use Rattle.std.specs.Prelude.{ℕ, List, [], ◌∷◌, ◌++◌, map, filter}
 use Rattle.std.specs.List.{flat_map}
 use Rattle.std.specs.Str.{bytes_eq}

@@ -1,4 +1,5 @@
--- The lines of what is reported by a style sheet (this project's own rule): findings, hits and words.
+-- The lines of what is reported by a style sheet (this project's own rule): findings, hits and
+-- words.
 use Rattle.std.specs.Prelude.{ℕ, ◌+◌, List, [], ◌∷◌, ◌++◌, length, drop}
 use Rattle.std.specs.Fmt.{decimal}
 use Rattle.std.specs.List.{flat_map}

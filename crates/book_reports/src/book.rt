@@ -34,8 +34,8 @@ pub fn check_book(
     }
 }
 
-/// The hits of a needle in the text of a book, a line `REF START` for each; with the line of the text
-/// after it, where something is to set off the needle.
+/// The hits of a needle in the text of a book, a line `REF START` for each; with the line of the
+/// text after it, where something is to set off the needle.
 ///
 /// # Errors
 /// `EmptyNeedle` exactly where the needle is empty, and else `Memory` where an allocation failed.

@@ -1,9 +1,9 @@
-//! What is reported of books by a style sheet, as lines: their findings, the hits of a needle, and their
-//! words.
+//! What is reported of books by a style sheet, as lines: their findings, the hits of a needle, and
+//! their words.
 //!
-//! A finding or a hit may have the line of the text where it stands, with the mark or the needle set off
-//! (`line_excerpt`). The words of several books are one list: a line for each word of each book, by the
-//! words, and those of one word in the order of the books.
+//! A finding or a hit may have the line of the text where it stands, with the mark or the needle
+//! set off (`line_excerpt`). The words of several books are one list: a line for each word of each
+//! book, by the words, and those of one word in the order of the books.
 #![tactic(auto)]
 
 mod book;

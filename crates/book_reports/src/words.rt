@@ -38,8 +38,8 @@ pub fn push_words(
     Ok(())
 }
 
-/// The words of several books, a line `FORM BOOK KEY ..` for each: by their forms, and those of one form
-/// in the order in which they were given.
+/// The words of several books, a line `FORM BOOK KEY ..` for each: by their forms, and those of one
+/// form in the order in which they were given.
 ///
 /// # Errors
 /// `AllocError` where an allocation failed.

@@ -8,10 +8,10 @@ use Rattle.op_core.specs.Ops.{Operation, is_thinned, in_segment}
 use Rattle.op_core.specs.Sets.{IsOpSet, get, join, clash, differs}
 use Rattle.op_core.specs.Thinned.{is_legal, all_full, skeleton, is_lacked, is_sent}
 use Rattle.op_core.specs.Loops.Index.{AreApart}
-use Rattle.op_core.proofs.Fresh.{fresh, fresh_apart, join_fresh}
-use Rattle.op_core.proofs.Legal.{delta_legal, full_delta}
-use Rattle.op_core.proofs.Groupings.{delta_joins}
-use Rattle.op_core.proofs.Union.{held_itself}
+use Rattle.op_core.proofs.Sets.Fresh.{fresh, fresh_apart, join_fresh}
+use Rattle.op_core.proofs.Sets.Legal.{delta_legal, full_delta}
+use Rattle.op_core.proofs.Sets.Groupings.{delta_joins}
+use Rattle.op_core.proofs.Sets.Union.{held_itself}
 use Rattle.bundle_codec.specs.Summaries.{NameRanges, IsSummaryOf, covers, outside}
 
 not_some : {A : Type 0} (x : Option A) → not (is_some x) ≡ is_none x

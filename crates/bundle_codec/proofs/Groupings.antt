@@ -6,11 +6,11 @@ use Rattle.op_core.specs.Sets.{IsOpSet, join, clash}
 use Rattle.op_core.specs.Thinned.{is_legal, IsOf}
 use Rattle.op_core.specs.Laws.{Joining, IsInOne, SameOperations, joined_or_clash, with_both, union_by, ThinnedAgree}
 use Rattle.op_core.specs.Laws.Joining.{Part, Joined}
-use Rattle.op_core.proofs.Union.{IsOpSet-join, join_assoc, join_itself, join_comm, no_clash_itself, agree_from_no_clash}
-use Rattle.op_core.proofs.Clashes.{clash_comm}
-use Rattle.op_core.proofs.Legal.{join_legal}
-use Rattle.op_core.proofs.Joinings.{refused_alike}
-use Rattle.op_core.proofs.Families.{family_joins}
+use Rattle.op_core.proofs.Sets.Union.{IsOpSet-join, join_assoc, join_itself, join_comm, no_clash_itself, agree_from_no_clash}
+use Rattle.op_core.proofs.Sets.Clashes.{clash_comm}
+use Rattle.op_core.proofs.Sets.Legal.{join_legal}
+use Rattle.op_core.proofs.Sets.Joinings.{refused_alike}
+use Rattle.op_core.proofs.Sets.Families.{family_joins}
 use Rattle.bundle_codec.specs.declared.fault.JoinFault.{JoinFault}
 use Rattle.bundle_codec.specs.declared.fault.JoinFault.TheVariants.{Clash}
 use Rattle.bundle_codec.specs.Spelling.{bundle}

@@ -15,8 +15,8 @@ use Rattle.op_core.specs.Names.{name_cmp}
 use Rattle.op_core.specs.Ids.{Id, id_below, same_id, is_number}
 use Rattle.op_core.specs.Equal.{id_from_same}
 use Rattle.op_core.specs.Ops.{Operation}
-use Rattle.op_core.proofs.NextIds.{below_number}
-use Rattle.op_core.proofs.Union.{apart_below}
+use Rattle.op_core.proofs.IdOrders.NextIds.{below_number}
+use Rattle.op_core.proofs.Sets.Union.{apart_below}
 use Rattle.op_core.specs.Sets.{get, rises}
 use Rattle.bundle_codec.specs.declared.summaries.range.NumberRange.{NumberRange}
 use Rattle.bundle_codec.specs.Summaries.{is_range, has_number}

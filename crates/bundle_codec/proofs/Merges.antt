@@ -10,10 +10,10 @@ use Rattle.op_core.specs.Ops.{Operation, is_full, agree}
 use Rattle.op_core.specs.Sets.{rises, meet_text, meet, join, clash}
 use Rattle.op_core.specs.Thinned.{all_full}
 use Rattle.op_core.specs.Equal.{same_parts}
-use Rattle.op_core.proofs.Agreement.{agree-is}
-use Rattle.op_core.proofs.Union.{rises_parts}
-use Rattle.op_core.proofs.SideBySide.{clash_none, clash_less, clash_greater, clash_equal, clash_here}
-use Rattle.op_core.proofs.Fronts.{join_none, join_less, join_greater, join_tied}
+use Rattle.op_core.proofs.Sets.Agreement.{agree-is}
+use Rattle.op_core.proofs.Sets.Union.{rises_parts}
+use Rattle.op_core.proofs.Sets.SideBySide.{clash_none, clash_less, clash_greater, clash_equal, clash_here}
+use Rattle.op_core.proofs.Sets.Fronts.{join_none, join_less, join_greater, join_tied}
 use Rattle.bundle_codec.specs.Spelling.{operation}
 use Rattle.bundle_codec.specs.Views.{lent}
 use Rattle.bundle_codec.specs.Loops.Merging.{GoesPast, Meets, Leaves, TakesFirst}

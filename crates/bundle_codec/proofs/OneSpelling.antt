@@ -43,6 +43,7 @@ operation_length o = omega (
   body_length o.text,
 )
 
+-- each operation spells at least one byte
 pub takes_bytes : (o : Operation) → 1 ≤ length (operation o)
 takes_bytes o = omega (arith, operation_length o, id_some o.id)
 

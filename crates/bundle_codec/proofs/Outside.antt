@@ -9,11 +9,11 @@ use Rattle.op_core.specs.Ids.{id_cmp}
 use Rattle.op_core.specs.Ops.{Operation, is_full}
 use Rattle.op_core.specs.Sets.{IsOpSet}
 use Rattle.op_core.specs.Thinned.{all_full, is_sent}
-use Rattle.op_core.proofs.Rising.{id_total}
+use Rattle.op_core.proofs.IdOrders.Rising.{id_total}
 use Rattle.bundle_codec.specs.Spelling.{magic_of, operation, bundle}
 use Rattle.bundle_codec.specs.Summaries.{NameRanges, covers, outside}
 use Rattle.bundle_codec.proofs.Refronted.{begun, refronted}
-use Rattle.op_core.proofs.Past.{counts_within}
+use Rattle.op_core.proofs.ThinnedSets.Past.{counts_within}
 
 all_filter : {A : Type 0} (P : A → Type 0) (p : A → Bool) (xs : List A) → AllByRecursion P xs → AllByRecursion P (filter p xs)
 all_filter P p [] h = tt

@@ -101,6 +101,7 @@ passed false d x y e = absurd cc
 abbrev done : {A : Type 0} → A → Result A BundleFault
 done x = Ok x
 
+-- readings that end alike read the same
 pub ok_is : {A : Type 0} (x y : A) → done x ≡ done y → x ≡ y
 ok_is x y e = cc
 

@@ -5,7 +5,7 @@ use Rattle.std.proofs.lemmas.Bool.{and_parts, and_from}
 use Rattle.usfm_ref.specs.Rising.{rises_by}
 use Rattle.usfm_ref.proofs.Sorted.{is_less, above_trans}
 use Rattle.op_core.specs.Ids.{Id, id_cmp, id_below}
-use Rattle.op_core.proofs.Rising.{id_total}
+use Rattle.op_core.proofs.IdOrders.Rising.{id_total}
 use Rattle.bundle_codec.specs.Reading.{comes_after}
 
 module _ {X : Type 0} (key : X → Id) where

@@ -13,7 +13,7 @@ use Rattle.op_core.specs.Ids.{Id}
 use Rattle.op_core.specs.Ops.{Operation, IsOperation, MayBeText, is_full}
 use Rattle.op_core.specs.Sets.{IsOpSet}
 use Rattle.op_core.specs.Thinned.{is_past, is_legal, all_full}
-use Rattle.op_core.proofs.Legal.{full_legal}
+use Rattle.op_core.proofs.Sets.Legal.{full_legal}
 use Rattle.bundle_codec.specs.declared.fault.BundleFault.TheVariants.{Magic, Truncated, NotRising, BadId, BadKey, BadReplaced, NotUtf8, BadText, Unsupported}
 use Rattle.bundle_codec.specs.Spelling.{digit, magic_of, id, key, ids, body, operation, counted_operations, bundle, IsCounted, AreCounted}
 use Rattle.bundle_codec.specs.Reading.{any, comes_after, is_tag, may_be_utf8, may_fit, operation_at, after_operation, counted_operations_at, is_digit, magic_at, fields_at, unnamed_from, unnamed_place, judge_named, judge_thinned, bundle_at}
@@ -39,6 +39,7 @@ pub text_from : (g : Segment) (text : Option (List ℕ)) → MayBeText g text �
 text_from g None f = (refl, refl)
 text_from g (Some text) f = (is_utf8-from_IsUtf8 text f.utf8, (fits_is_read g.book g.key text).1 f.fits)
 
+-- an operation that follows is read off its spelling
 pub operation_reads : (full : Bool) (k : ℕ) (before : Option Id)
     → Reads (operation_at full k before) operation (Follows full before)
 unfolding operation_at
@@ -131,6 +132,7 @@ each_of_format : (full : Bool) (ops : List Operation) → Each (FollowsAt full) 
 each_of_format true ops e h = each_full 1 None ops e
 each_of_format false ops e h = absurd cc
 
+-- operations that rise, and are of the format, follow one another
 pub each_follows : (full : Bool) (k : ℕ) (before : Option Id) (ops : List Operation) → Climbs (λ o. o.id) before ops
     → AllByRecursion IsOperation ops → AllByRecursion IsCounted ops → IsOfFormat full ops
     → Each (FollowsAt full) after_operation (k, before) ops
@@ -187,6 +189,7 @@ digit_of b h = by (eqb b 49) refl h
     by true e f = sym (eqb-true b 49 e)
     by false e f = sym (eqb-true b 50 f)
 
+-- the first bytes of a bundle are read off their spelling
 pub magic_reads : Reads magic_at magic_of (λ _. Unit {0})
 unfolding magic_at magic_of
 magic_reads =

@@ -15,7 +15,7 @@ use Rattle.op_core.specs.Names.{is_name, name_cmp}
 use Rattle.op_core.specs.Ids.{Id, id_below, is_number}
 use Rattle.op_core.specs.Ops.{Operation, IsOperation}
 use Rattle.op_core.specs.Sets.{IsOpSet, get, rises}
-use Rattle.op_core.proofs.Union.{held_itself}
+use Rattle.op_core.proofs.Sets.Union.{held_itself}
 use Rattle.bundle_codec.specs.Summaries.{NameRanges, AreNameRanges, IsSummaryOf, has_number, covers, numbers_of, ranges_of, summary_of}
 use Rattle.bundle_codec.proofs.SummaryReads.{name_total}
 use Rattle.bundle_codec.proofs.Holding.{below_strict, id_of}

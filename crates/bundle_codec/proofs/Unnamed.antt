@@ -10,9 +10,9 @@ use Rattle.op_core.specs.Equal.{id_from_same, same_id-refl}
 use Rattle.op_core.specs.Ops.{Operation, is_full}
 use Rattle.op_core.specs.Sets.{rises, get}
 use Rattle.op_core.specs.Thinned.{is_past, all_full}
-use Rattle.op_core.proofs.Rising.{same_id-cmp}
-use Rattle.op_core.proofs.Union.{rises_parts, get_above, held_itself}
-use Rattle.op_core.proofs.Left.{same_id-sym}
+use Rattle.op_core.proofs.IdOrders.Rising.{same_id-cmp}
+use Rattle.op_core.proofs.Sets.Union.{rises_parts, get_above, held_itself}
+use Rattle.op_core.proofs.ThinnedSets.Left.{same_id-sym}
 use Rattle.bundle_codec.specs.declared.fault.BundleFault.TheVariants.{Unsupported}
 use Rattle.bundle_codec.specs.Reading.{unnamed_from, unnamed_place, judge_named, judge_thinned}
 use Rattle.bundle_codec.specs.Views.{lent}

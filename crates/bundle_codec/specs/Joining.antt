@@ -51,8 +51,8 @@ pub record IsFollowed (bytes : List ℕ) : Type 0 where
 abbrev pub out_of_memory : WholeFault
 out_of_memory = whole.Bundle bundle_faults.Memory
 
--- A refusal is the one that there is. Out of memory is answered only where a bundle's own fields are right and an operation
--- is thinned.
+-- A refusal is the one that there is. Out of memory is answered only where a bundle's own fields
+-- are right and an operation is thinned.
 abbrev pub RefusesWhole : List ℕ → WholeFault → Type 0
 RefusesWhole bytes (whole.Bundle fault) = RefusesBundle bytes fault
 RefusesWhole bytes whole.Trailing = whole_at bytes ≡ Err whole.Trailing
@@ -64,24 +64,27 @@ abbrev pub union_or_clash : List Operation → List Operation → Option Id → 
 union_or_clash a b None = Ok (bundle (join a b))
 union_or_clash a b (Some id) = Err (Clash id)
 
--- what two readings give: the refusal of the first, else that of the second, else the bundle of the union
+-- what two readings give: the refusal of the first, else that of the second, else the bundle of the
+-- union
 abbrev pub of_both : Result (List Operation) WholeFault → Result (List Operation) WholeFault
     → Result (List ℕ) JoinFault
 of_both (Err fault) second = Err (Bundle fault)
 of_both (Ok a) (Err fault) = Err (Bundle fault)
 of_both (Ok a) (Ok b) = union_or_clash a b (clash a b)
 
--- the bundle of the union of what both bytes spell; else the refusal of the first, else that of the second, else
--- their clash
+-- the bundle of the union of what both bytes spell; else the refusal of the first, else that of the
+-- second, else their clash
 abbrev pub bundles_joined : List ℕ → List ℕ → Result (List ℕ) JoinFault
 bundles_joined x y = of_both (whole_at x) (whole_at y)
 
--- Memory is taken to judge the first, or to judge the second where the first is a bundle, or to join two bundles.
+-- Memory is taken to judge the first, or to judge the second where the first is a bundle, or to
+-- join two bundles.
 abbrev pub JoinTakesMemory : List ℕ → List ℕ → Type 0
 JoinTakesMemory x y =
     TakesMemory x ⊎ (IsOk (whole_at x) × (TakesMemory y ⊎ IsOk (whole_at y)))
 
--- why two bundles are not joined, where one of them is refused: out of memory is that of the joining
+-- why two bundles are not joined, where one of them is refused: out of memory is that of the
+-- joining
 abbrev pub join_fault : WholeFault → JoinFault
 join_fault (whole.Bundle bundle_faults.Memory) = Memory
 join_fault fault = Bundle fault

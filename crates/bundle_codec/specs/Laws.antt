@@ -1,5 +1,5 @@
--- Laws of bundles (this project's own format). Joining them is associative, commutative and idempotent, as joining is in
--- a join semilattice (INRIA RR-7506).
+-- Laws of bundles (this project's own format). Joining them is associative, commutative and
+-- idempotent, as joining is in a join semilattice (INRIA RR-7506).
 use Rattle.std.specs.Prelude.{◌≡◌, ◌≢◌, ◌<◌, ◌^◌, ℕ, List, [], ◌++◌, length, Result, Ok, Err, IsTrue}
 use Rattle.op_core.specs.Ids.{Id}
 use Rattle.op_core.specs.Ops.{Operation}
@@ -75,8 +75,9 @@ abbrev pub IsHeld : Result (List ℕ) JoinFault → Type 0
 IsHeld (Ok made) = length made < 2 ^ 64
 IsHeld (Err fault) = Unit {0}
 
--- Both groupings of three bundles in which no id of a thinned operation has two operations, as where none is thinned, give the
--- same bytes, and one is refused with a clash exactly where the other is.
+-- Both groupings of three bundles in which no id of a thinned operation has two operations, as
+-- where none is thinned, give the same bytes, and one is refused with a clash exactly where the
+-- other is.
 abbrev pub BundlesAssociate : Type 0
 BundlesAssociate =
     (x y z : List ℕ) (a : IsBundle x) (b : IsBundle y) (c : IsBundle z) →
@@ -95,7 +96,8 @@ GroupingsGiveTheSame =
     (then_joined (bundles_joined x y) (λ made. bundles_joined made z))
     (then_joined (bundles_joined y z) (λ made. bundles_joined x made))
 
--- Both groupings of three bundles of one family, thinned or not, give the same bytes, and none is refused.
+-- Both groupings of three bundles of one family, thinned or not, give the same bytes, and none is
+-- refused.
 abbrev pub BundlesOfOneFamily : Type 0
 BundlesOfOneFamily =
     (family : Id → Operation) (x y z : List ℕ) →

@@ -1,6 +1,7 @@
--- Reading a bundle from left to right (this project's own format). A field is read whole and then judged, before the next
--- one is looked at, so a refusal is the fault of the first field that is cut or breaks its rule. Last of all it is judged
--- whether each thinned operation may be one. What follows the last operation is not read.
+-- Reading a bundle from left to right (this project's own format). A field is read whole and then
+-- judged, before the next one is looked at, so a refusal is the fault of the first field that is
+-- cut or breaks its rule. Last of all it is judged whether each thinned operation may be one. What
+-- follows the last operation is not read.
 use Rattle.std.specs.Prelude.{ℕ, zero, suc, ◌+◌, ◌<◌, slice_index, ◌&&◌, ◌||◌, ◌≡◌, Bool, true, false, not, List, [], ◌∷◌, length, take, drop, codes, Option, Some, None, Result, Ok, Err, nat_le, nat_lt, ◌==◌, if◌then◌else◌}
 use Rattle.std.specs.Int.{Width, w16, w64, byte_len, from_be_bytes}
 use Rattle.std.specs.Str.{is_utf8}
@@ -100,8 +101,8 @@ is_verse kind n = if kind == 0 then n == 0 else is_place (Verse n None)
 abbrev pub is_letter_byte : ℕ → ℕ → Bool
 is_letter_byte kind b = b == 0 || (kind == 1 && is_letter (Some b))
 
--- the place of these three numbers: a head where the first is 0, and else a verse, whose letter is absent where the
--- last is 0
+-- the place of these three numbers: a head where the first is 0, and else a verse, whose letter is
+-- absent where the last is 0
 abbrev pub place_of : ℕ → ℕ → ℕ → Place
 place_of zero verse letter = Head
 place_of (suc kind) verse zero = Verse verse None
@@ -179,7 +180,8 @@ may_fit book key (Some text) = text_fits book key text
 abbrev pub judge_text : ℕ → Option (List ℕ) → Result (Unit {0}) BundleFault
 judge_text k text = check (may_be_utf8 text) (NotUtf8 k)
 
--- the k-th operation of a bundle of a format, after one of the id `before`; its text is judged last, by its rule and then by its segment
+-- the k-th operation of a bundle of a format, after one of the id `before`; its text is judged
+-- last, by its rule and then by its segment
 unfoldable pub operation_at : Bool → ℕ → Option Id → List ℕ
     → Result (Operation × List ℕ) BundleFault
 operation_at full k before bytes = do
@@ -237,8 +239,8 @@ fields_at bytes = do
   ops ← counted_operations_at full.0 full.1
   Ok ((full.0, ops.0), ops.1)
 
--- of operations that are held, the place of the first that is thinned and that no held one of its segment names; k is
--- the place of the first of them
+-- of operations that are held, the place of the first that is thinned and that no held one of its
+-- segment names; k is the place of the first of them
 abbrev pub unnamed_from : List Operation → ℕ → List Operation → Option ℕ
 unnamed_from held k [] = None
 unnamed_from held k (o ∷ rest) =
@@ -253,28 +255,31 @@ abbrev pub judge_named : Option ℕ → Result (Unit {0}) BundleFault
 judge_named None = Ok tt
 judge_named (Some k) = Err (Unsupported k)
 
--- of format 2, at least one operation is thinned, and each that is thinned is named by one of its segment
+-- of format 2, at least one operation is thinned, and each that is thinned is named by one of its
+-- segment
 abbrev pub judge_thinned : Bool → List Operation → Result (Unit {0}) BundleFault
 judge_thinned true ops = Ok tt
 judge_thinned false ops =
     if all_full ops then Err (Unsupported 0) else judge_named (unnamed_place ops)
 
--- the set of the bundle at the front of the bytes, and the bytes after it; or the first fault by place
+-- the set of the bundle at the front of the bytes, and the bytes after it; or the first fault by
+-- place
 unfoldable pub bundle_at : List ℕ → Result (List Operation × List ℕ) BundleFault
 bundle_at bytes = do
   fields ← fields_at bytes
   _ ← judge_thinned fields.0.0 fields.0.1
   Ok (fields.0.1, fields.1)
 
--- Each field is right, and an operation is thinned. Memory is taken then, to find out whether each such one is named.
+-- Each field is right, and an operation is thinned. Memory is taken then, to find out whether each
+-- such one is named.
 pub record TakesMemory (bytes : List ℕ) : Type 0 where
   pub ops : List Operation
   pub rest : List ℕ
   pub read : fields_at bytes ≡ Ok ((false, ops), rest)
   pub thinned : all_full ops ≡ false
 
--- A refusal is the first fault by place. Out of memory is answered only where all fields are right and an operation is
--- thinned.
+-- A refusal is the first fault by place. Out of memory is answered only where all fields are right
+-- and an operation is thinned.
 abbrev pub RefusesBundle : List ℕ → BundleFault → Type 0
 RefusesBundle bytes Memory = TakesMemory bytes
 RefusesBundle bytes fault = bundle_at bytes ≡ Err fault

@@ -1,5 +1,6 @@
--- The one spelling of a set of operations: a bundle, of format 1 where each operation has its text, and else of
--- format 2 (this project's own format). Numbers are big-endian and unsigned, in two or eight bytes.
+-- The one spelling of a set of operations: a bundle, of format 1 where each operation has its text,
+-- and else of format 2 (this project's own format). Numbers are big-endian and unsigned, in two or
+-- eight bytes.
 use Rattle.std.specs.Prelude.{ℕ, ◌<◌, ◌^◌, Bool, true, false, List, [], ◌∷◌, ◌++◌, length, Option, Some, None, codes}
 use Rattle.std.specs.List.{flat_map, AllByRecursion}
 use Rattle.std.specs.Int.{w16, w64, to_be_bytes}
@@ -28,7 +29,8 @@ abbrev pub letter : Option ℕ → ℕ
 letter None = 0
 letter (Some c) = c
 
--- 0 for a head and 1 for a verse; the verse's number in two bytes, and its letter in one, which are 0 for a head
+-- 0 for a head and 1 for a verse; the verse's number in two bytes, and its letter in one, which are
+-- 0 for a head
 abbrev pub place : Place → List ℕ
 place Head = 0 ∷ (to_be_bytes w16 0 ++ (0 ∷ []))
 place (Verse n l) = 1 ∷ (to_be_bytes w16 n ++ (letter l ∷ []))

@@ -1,4 +1,5 @@
--- What a copy holds, as ranges of numbers under names, and what another copy lacks (this project's own format).
+-- What a copy holds, as ranges of numbers under names, and what another copy lacks (this project's
+-- own format).
 use Rattle.std.specs.Prelude.{◌≡◌, ◌≢◌, ℕ, suc, ◌+◌, ◌-◌, nat_le, nat_lt, ◌==◌, Bool, true, ◌&&◌, List, [], ◌∷◌, ◌++◌, length, map, filter, codes, IsTrue, if◌then◌else◌}
 use Rattle.std.specs.Int.{w64, to_be_bytes}
 use Rattle.std.specs.List.{list_all, list_any, flat_map, sum_by, AllByRecursion}
@@ -41,8 +42,8 @@ pub record AreNameRanges (k : NameRanges) : Type 0 where
   pub each : IsTrue (list_all is_range k.ranges)
   pub apart : IsTrue (are_apart k.ranges)
 
--- a summary: names that rise by their bytes, each with ranges that lie from 1 to 10^15, at least one, no two of
--- which touch
+-- a summary: names that rise by their bytes, each with ranges that lie from 1 to 10^15, at least
+-- one, no two of which touch
 pub record IsSummary (s : List NameRanges) : Type 0 where
   pub rising : IsTrue (rises_by name_cmp (λ k. k.name) s)
   pub each : AllByRecursion AreNameRanges s
@@ -69,8 +70,8 @@ ids_in s = sum_by numbers_in s
 
 -- ---- the summary of a set
 
--- Each held number lies in a range of its name, and no range has another number. Since no two ranges touch, each is as
--- long as can be, and each number lies in one of them alone.
+-- Each held number lies in a range of its name, and no range has another number. Since no two
+-- ranges touch, each is as long as can be, and each number lies in one of them alone.
 pub record IsSummaryOf (held : List Operation) (s : List NameRanges) : Type 0 where
   pub form : IsSummary s
   pub exactly : (id : Id) → covers s id ≡ is_some (get held id)
@@ -97,7 +98,8 @@ summary_of held =
     map (λ name. record { name = name; ranges = ranges_of (numbers_of held name) })
     (rising name_cmp (map (λ o. o.id.name) held))
 
--- the operations whose ids lie outside a summary, and where one of these is thinned, all others of its segment
+-- the operations whose ids lie outside a summary, and where one of these is thinned, all others of
+-- its segment
 abbrev pub outside : List NameRanges → List Operation → List Operation
 outside s held = delta held (covers s)
 
@@ -134,7 +136,8 @@ pub record SpellsSummary (bytes : List ℕ) : Type 0 where
   pub form : IsSummary names
   pub spelled : bytes ≡ summary names
 
--- Bytes are refused as bad exactly where they are no summary, and out of memory is answered for a summary alone.
+-- Bytes are refused as bad exactly where they are no summary, and out of memory is answered for a
+-- summary alone.
 abbrev pub RefusesSummary : List ℕ → SummaryFault → Type 0
 RefusesSummary bytes Memory = SpellsSummary bytes
 RefusesSummary bytes BadSummary = SpellsSummary bytes → ⊥

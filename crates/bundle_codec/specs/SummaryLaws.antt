@@ -21,16 +21,16 @@ OneSpellingOfASummary =
     (a b : List NameRanges) → IsSummary a → IsSummary b → length (summary a) < 2 ^ 64 →
     summary a ≡ summary b → a ≡ b
 
--- What a set without thinned operations has outside the summary of another one, joined to that one, gives the union of
--- both, and never clashes.
+-- What a set without thinned operations has outside the summary of another one, joined to that one,
+-- gives the union of both, and never clashes.
 abbrev pub OutsideGivesUnion : Type 0
 OutsideGivesUnion =
     (own other : List Operation) (s : List NameRanges) →
     IsOpSet own → IsOpSet other → IsTrue (all_full own) → IsSummaryOf other s →
     (join other (outside s own) ≡ join other own) × (clash other (outside s own) ≡ None)
 
--- Where two sets do not clash, what the one has outside the summary of the other, joined to that one, does not clash
--- either, and gives the union of both but for texts that are left out.
+-- Where two sets do not clash, what the one has outside the summary of the other, joined to that
+-- one, does not clash either, and gives the union of both but for texts that are left out.
 abbrev pub OutsideGivesSkeleton : Type 0
 OutsideGivesSkeleton =
     (own other : List Operation) (s : List NameRanges) →

@@ -1,4 +1,5 @@
--- Reading a summary from left to right. It has one fault, whichever field is cut or breaks its rule.
+-- Reading a summary from left to right. It has one fault, whichever field is cut or breaks its
+-- rule.
 use Rattle.std.specs.Prelude.{◌≡◌, ℕ, suc, nat_le, nat_lt, ◌&&◌, Bool, true, List, [], ◌∷◌, IsSome, IfSome, Option, Some, None, Result, Ok, Err, Vec}
 use Rattle.std.specs.Borrow.{Bor}
 use Rattle.std.specs.Int.{w64}
@@ -72,7 +73,8 @@ after_name before k = Some k.name
 abbrev pub names_at : ℕ → List ℕ → Result (List NameRanges × List ℕ) BundleFault
 names_at n bytes = many_at name_ranges_at after_name n None bytes
 
--- where memory was there to keep what is read, it is what the bytes spell, and the bytes after it are left
+-- where memory was there to keep what is read, it is what the bytes spell, and the bytes after it
+-- are left
 abbrev pub Keeps : {X A : Type 0} → Result (List X × List ℕ) BundleFault →
     Option (Vec X A) × Bor (List ℕ) → Type 0
 Keeps read x = IfSome x.0 (λ v. read ≡ Ok (v.items, x.1.now))
@@ -100,7 +102,8 @@ read_whole (Err fault) = None
 abbrev pub read_summary : List ℕ → Option (List NameRanges)
 read_summary bytes = read_whole (summary_at bytes)
 
--- bytes are refused as bad exactly where they are no summary, and out of memory is answered for a summary alone
+-- bytes are refused as bad exactly where they are no summary, and out of memory is answered for a
+-- summary alone
 abbrev pub ReadFails : Option (List NameRanges) → SummaryFault → Type 0
 ReadFails found Memory = IsSome found
 ReadFails found BadSummary = found ≡ None

@@ -78,7 +78,8 @@ pub record SpellsSet (n : ℕ) (bytes : List ℕ) : Type 0 where
   pub count : n ≡ length (operations_in n bytes)
   pub set : IsOpSet (operations_in n bytes)
 
--- the bytes after the count spell a legal set of this many operations, and no more, and the format is the set's
+-- the bytes after the count spell a legal set of this many operations, and no more, and the format
+-- is the set's
 pub record Spells (full : Bool) (n : ℕ) (bytes : List ℕ) : Type 0 where
   pub spells : SpellsSet n bytes
   pub legal : IsTrue (is_legal (operations_in n bytes))

@@ -1,10 +1,12 @@
 // Bundles: whole sets of operations, judged and read where they are in the bytes.
-ghost use Rattle.std.specs.Prelude.{◌≡◌, ℕ, false, List, [], ◌++◌, take, drop, length, Ok, Err, IfOk, MatchResult, IsTrue, ◌↔◌};
+ghost use Rattle.std.specs.Prelude.{◌≡◌, ℕ, false, List, [], ◌++◌, take, drop, length, Ok, Err};
+ghost use Rattle.std.specs.Prelude.{IfOk, MatchResult, IsTrue, ◌↔◌};
 ghost use Rattle.op_core.specs.Ops.{Operation};
 ghost use Rattle.op_core.specs.Sets.{IsOpSet};
 ghost use Rattle.op_core.specs.Thinned.{is_legal, all_full};
 ghost use Rattle.bundle_codec.specs.Spelling.{bundle};
-ghost use Rattle.bundle_codec.specs.Reading.{Gives, is_digit, magic_at, counted_operations_at, fields_at, bundle_at, RefusesBundle};
+ghost use Rattle.bundle_codec.specs.Reading.{Gives, is_digit, magic_at, counted_operations_at};
+ghost use Rattle.bundle_codec.specs.Reading.{fields_at, bundle_at, RefusesBundle};
 ghost use Rattle.bundle_codec.specs.Views.{operations_in, SpellsSet};
 
 mod thinning;
@@ -19,8 +21,8 @@ use op_core::OpSet;
 use std::alloc::{AllocError, Global};
 use std::marker::Model;
 
-/// A set of operations, lent from the bytes that spell it. Each thinned operation is named by one of
-/// its segment. Made by `decode`.
+/// A set of operations, lent from the bytes that spell it. Each thinned operation is named by one
+/// of its segment. Made by `decode`.
 #[derive(Debug, Drop)]
 pub struct Bundle<'a> {
     full: bool,
@@ -124,8 +126,8 @@ fn after_magic(bytes: &[u8]) -> Result<(bool, &[u8]), BundleFault>
     Ok((digit == b'1', rest))
 }
 
-// Judges the operations of a format after their count, each by itself, and gives the bytes after them
-// too.
+// Judges the operations of a format after their count, each by itself, and gives the bytes after
+// them too.
 #[tactic(auto, unfolding(crate::specs::Reading::counted_operations_at))]
 fn counted_operations_of(full: bool, bytes: &[u8]) -> Result<(Fields<'_>, &[u8]), BundleFault>
     ensures reads { Gives (λ x. (operations_in x.0.count x.0.bytes.now, x.1.now)) result
@@ -171,16 +173,16 @@ fn bundle_of(alloc: Global, bytes: &[u8]) -> Result<(Bundle<'_>, &[u8]), BundleF
 ///
 /// # Errors
 /// The first field from left to right that is cut or breaks its rule, by `BundleFault`. A field is
-/// judged once it is whole, before the next one is looked at. After them all comes, of format 2, that
-/// no operation is thinned (`Unsupported(0)`), or the first thinned operation that none of its segment
-/// names, and in the place of this one `Memory` where an allocation failed.
+/// judged once it is whole, before the next one is looked at. After them all comes, of format 2,
+/// that no operation is thinned (`Unsupported(0)`), or the first thinned operation that none of its
+/// segment names, and in the place of this one `Memory` where an allocation failed.
 pub fn decode(alloc: Global, bytes: &[u8]) -> Result<(Bundle<'_>, usize), BundleFault>
     // What is read is a legal set of operations, and spelled so.
     ensures set { IfOk result (λ x. IsOpSet x.0) }
     ensures legal { IfOk result (λ x. IsTrue (is_legal x.0)) }
     ensures spelled { IfOk result (λ x. take x.1 bytes.now ≡ bundle x.0) }
-    // What is spelled so is read, whatever follows. Only for a set with a thinned operation can memory
-    // be refused.
+    // What is spelled so is read, whatever follows. Only for a set with a thinned operation can
+    // memory be refused.
     ensures only { (ops : List Operation) (rest : List ℕ) →
         IsOpSet ops → IsTrue (is_legal ops) → bytes.now ≡ bundle ops ++ rest
         → MatchResult result (λ x. x.0 ≡ ops)

@@ -16,8 +16,8 @@ pub enum BundleFault {
     /// An allocation failed, where all fields are right and an operation is thinned.
     #[error("out of memory")]
     Memory,
-    /// The bytes differ from `USFMSR1` and from `USFMSR2`, each with a line feed, with one of which a
-    /// bundle begins.
+    /// The bytes differ from `USFMSR1` and from `USFMSR2`, each with a line feed, with one of which
+    /// a bundle begins.
     #[error("not a bundle")]
     Magic,
     /// The bytes end inside a field. A proper front of a bundle, the empty one too, is refused so.
@@ -26,15 +26,17 @@ pub enum BundleFault {
     /// An operation's id is not greater than the one before it.
     #[error("operation {0}: its id does not come after the one before")]
     NotRising(u64),
-    /// An operation's number is 0 or above 10^15, or its name is not 1 to 32 of a to z, 0 to 9 and `-`.
+    /// An operation's number is 0 or above 10^15, or its name is not 1 to 32 of a to z, 0 to 9 and
+    /// `-`.
     #[error("operation {0}: not an id")]
     BadId(u64),
-    /// An operation's book is not three of A to Z and 0 to 9, its chapter or verse is above 999, its
-    /// place is neither head nor verse, its letter is none of a to z, or a head has a verse or a letter.
+    /// An operation's book is not three of A to Z and 0 to 9, its chapter or verse is above 999,
+    /// its place is neither head nor verse, its letter is none of a to z, or a head has a verse or
+    /// a letter.
     #[error("operation {0}: not a book and a key in it")]
     BadKey(u64),
-    /// A replaced id breaks the rules of an id, does not come after the one before it, or has a number
-    /// that is not smaller than the operation's.
+    /// A replaced id breaks the rules of an id, does not come after the one before it, or has a
+    /// number that is not smaller than the operation's.
     #[error("operation {0}: not the ids that it can replace")]
     BadReplaced(u64),
     /// An operation's tag is not 1, and in format 2 not 0 either.

@@ -16,17 +16,18 @@ use std::alloc::Global;
 
 /// The bundle of the union of two bundles, each operation copied with the bytes that spell it.
 ///
-/// An operation that one of them has in full and the other without its text is thinned in the union.
+/// An operation that one of them has in full and the other without its text is thinned in the
+/// union.
 ///
 /// The first bytes are judged, then the second, and then the two together. Judging allocates for
 /// what is thinned alone, as `decode` does. Once both are known to be bundles, as much is taken at
 /// once as both of them fill; nothing goes by a count that they state.
 ///
 /// # Errors
-/// - `Bundle` with the refusal of the first bytes, as `decode_whole` answers it, or else with that of
-///   the second.
-/// - `Clash` with the least id under which the two have operations that do not agree: their segments or
-///   the ids that they name differ, or both have a text and these differ.
+/// - `Bundle` with the refusal of the first bytes, as `decode_whole` answers it, or else with that
+///   of the second.
+/// - `Clash` with the least id under which the two have operations that do not agree: their
+///   segments or the ids that they name differ, or both have a text and these differ.
 /// - `Memory` where an allocation failed.
 pub fn join_bundles(alloc: Global, first: &[u8], second: &[u8]) -> Result<Vec<u8>, JoinFault>
     ensures joined { IfOk result (λ bytes.
@@ -42,12 +43,13 @@ pub fn join_bundles(alloc: Global, first: &[u8], second: &[u8]) -> Result<Vec<u8
 }
 
 impl Bundle<'_> {
-    /// The bytes with the bundle of the union of two bundles after them, for a file that has it after
-    /// something else, and how many operations the union has. Each is copied with the bytes that spell
-    /// it. The bytes are taken, and dropped on an error.
+    /// The bytes with the bundle of the union of two bundles after them, for a file that has it
+    /// after something else, and how many operations the union has. Each is copied with the bytes
+    /// that spell it. The bytes are taken, and dropped on an error.
     ///
-    /// An operation that one of them has in full and the other without its text is thinned in the union.
-    /// As much is taken at once as both of them fill; nothing goes by a count that they state.
+    /// An operation that one of them has in full and the other without its text is thinned in the
+    /// union. As much is taken at once as both of them fill; nothing goes by a count that they
+    /// state.
     ///
     /// # Errors
     /// - `Clash` with the least id under which the two have operations that do not agree, as of

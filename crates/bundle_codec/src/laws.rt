@@ -1,4 +1,5 @@
-//! Laws of bundles, over the definitions alone. Each function does nothing: its contract is the law.
+//! Laws of bundles, over the definitions alone. Each function does nothing: its contract is the
+//! law.
 ghost use Rattle.bundle_codec.specs.Laws as laws;
 
 pub mod summaries;
@@ -24,13 +25,14 @@ pub fn bundle_with_itself()
     ensures { laws.BundleWithItself }
 {}
 
-/// Both groupings of three bundles in which no id of a thinned operation has two operations give the same
-/// bytes, and one is refused with a clash exactly where the other is.
+/// Both groupings of three bundles in which no id of a thinned operation has two operations give
+/// the same bytes, and one is refused with a clash exactly where the other is.
 pub fn bundles_associate()
     ensures { laws.BundlesAssociate }
 {}
 
-/// Where both groupings of three bundles give bytes, these are the same, with thinned operations too.
+/// Where both groupings of three bundles give bytes, these are the same, with thinned operations
+/// too.
 pub fn groupings_give_the_same()
     ensures { laws.GroupingsGiveTheSame }
 {}

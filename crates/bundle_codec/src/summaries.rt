@@ -26,8 +26,8 @@ use std::alloc::{AllocError, Global};
 use std::marker::Model;
 use writing::{push_front, push_name_ranges};
 
-/// Which ids a copy holds: names, in ascending order of bytes, each with ranges of numbers, of which
-/// no two touch.
+/// Which ids a copy holds: names, in ascending order of bytes, each with ranges of numbers, of
+/// which no two touch.
 #[derive(Debug, Drop)]
 pub struct Summary {
     names: Vec<NameRanges>,
@@ -50,10 +50,10 @@ impl Summary {
     /// number. Numbers are big-endian, of eight bytes.
     ///
     /// # Errors
-    /// - `BadSummary` exactly where the bytes are anything else, or break a rule: names are 1 to 32 of
-    ///   a to z, 0 to 9 and `-`, rise by their bytes and have at least one range; a range is from 1 to
-    ///   10^15, its first no greater than its last, and begins more than one above the end of the one
-    ///   before it; nothing follows.
+    /// - `BadSummary` exactly where the bytes are anything else, or break a rule: names are 1 to 32
+    ///   of a to z, 0 to 9 and `-`, rise by their bytes and have at least one range; a range is
+    ///   from 1 to 10^15, its first no greater than its last, and begins more than one above the
+    ///   end of the one before it; nothing follows.
     /// - `Memory` where the bytes are a summary, and an allocation failed.
     pub fn read(alloc: Global, bytes: &[u8]) -> Result<Summary, SummaryFault>
         ensures form { IfOk result sums.IsSummary }
@@ -91,8 +91,8 @@ impl Summary {
         Ok(bytes)
     }
 
-    /// The summary of a set: for each name in an id of it, the longest ranges of held numbers. It is
-    /// made by one walk over the ids.
+    /// The summary of a set: for each name in an id of it, the longest ranges of held numbers. It
+    /// is made by one walk over the ids.
     ///
     /// # Errors
     /// Out of memory alone.
@@ -105,8 +105,8 @@ impl Summary {
         Ok(Summary { names })
     }
 
-    /// Whether an id's number lies in a range of its name. Names and ranges are searched by halves, and
-    /// it does not allocate.
+    /// Whether an id's number lies in a range of its name. Names and ranges are searched by halves,
+    /// and it does not allocate.
     pub fn covers(&self, id: &OpId) -> bool
         ensures { result ≡ sums.covers self.now id.now }
     {

@@ -1,5 +1,6 @@
 // Sets of operations, written as bundles.
-ghost use Rattle.std.specs.Prelude.{◌≡◌, ◌≤◌, ◌+◌, ◌++◌, Ok, IfOk, length, map, take, drop, vec_len};
+ghost use Rattle.std.specs.Prelude.{◌≡◌, ◌≤◌, ◌+◌, ◌++◌, Ok, IfOk, length, map, take, drop};
+ghost use Rattle.std.specs.Prelude.{vec_len};
 ghost use Rattle.std.specs.Int.{w64, to_be_bytes};
 ghost use Rattle.op_core.specs.Thinned.{all_full};
 ghost use Rattle.bundle_codec.specs.Spelling as spelled;
@@ -10,8 +11,8 @@ use op_core::{Op, OpId, OpSet};
 use std::alloc::{AllocError, Global};
 use usfm_ref::{Key, Place};
 
-/// The bundle of a set of operations, of format 1 where each has its text, and else of format 2. There
-/// is one for each set.
+/// The bundle of a set of operations, of format 1 where each has its text, and else of format 2.
+/// There is one for each set.
 ///
 /// # Errors
 /// Out of memory alone.
@@ -40,8 +41,8 @@ pub fn encode_after(mut bytes: Vec<u8>, set: &OpSet) -> Result<Vec<u8>, AllocErr
     Ok(bytes)
 }
 
-/// The bundle of some operations, lent one by one; of a set where they rise by id, as those do that a
-/// walk over a set passes on.
+/// The bundle of some operations, lent one by one; of a set where they rise by id, as those do that
+/// a walk over a set passes on.
 ///
 /// # Errors
 /// Out of memory alone.

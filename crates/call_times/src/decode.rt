@@ -1,5 +1,5 @@
-//! `decode FILE ROUNDS`: judges the bundle that a file begins with. It tells how many operations and
-//! bytes the bundle has.
+//! `decode FILE ROUNDS`: judges the bundle that a file begins with. It tells how many operations
+//! and bytes the bundle has.
 use crate::rounds::Given;
 use anyhow::Result;
 use bundle_codec::decode;

@@ -30,7 +30,8 @@ pub(crate) fn told(given: &Given<'_>) -> Result<String> {
     Ok(format!(in alloc; "{nanos} {} {} {new}", delta.len(), sum_of(&delta))?)
 }
 
-// The least time in which a replica of the project takes a delta in, and how many operations are new.
+// The least time in which a replica of the project takes a delta in, and how many operations are
+// new.
 fn receive_time(
     alloc: Global,
     rounds: Rounds,

@@ -1,5 +1,5 @@
-//! `find SHEET FILE NEEDLE ROUNDS`: looks for a needle in a book by a style sheet. It tells how many
-//! hits there are, and the sum of their ends and of the numbers of their keys.
+//! `find SHEET FILE NEEDLE ROUNDS`: looks for a needle in a book by a style sheet. It tells how
+//! many hits there are, and the sum of their ends and of the numbers of their keys.
 use crate::rounds::Given;
 use crate::sums::key_sum;
 use anyhow::Result;

@@ -1,5 +1,5 @@
-//! `join_bundles FIRST SECOND ROUNDS`: joins two bundles. It tells the length and a sum of the joined
-//! bytes.
+//! `join_bundles FIRST SECOND ROUNDS`: joins two bundles. It tells the length and a sum of the
+//! joined bytes.
 use crate::rounds::Given;
 use crate::sums::sum_of;
 use anyhow::Result;

@@ -24,8 +24,9 @@ pub record HitParts : Type 0 where
 abbrev pub keyed : List PieceParts → Passage → HitParts
 keyed ps p = record { key = key_at ps p.start; start = p.start; text = p.text }
 
--- the hits of a needle in a text, by the records of a style sheet: where it occurs within one plain leaf, from the
--- left, none overlapping one before it, each with the key of the piece that holds its start
+-- the hits of a needle in a text, by the records of a style sheet: where it occurs within one plain
+-- leaf, from the left, none overlapping one before it, each with the key of the piece that holds
+-- its start
 unfoldable pub hits_of : List Record → List ℕ → List ℕ → List HitParts
 hits_of sheet s needle =
     map (keyed (pieces_of s)) (flat_map (occurrences needle) (plain_leaves sheet s))

@@ -6,8 +6,9 @@ use Rattle.concordance.specs.Passages.{Passage}
 use Rattle.concordance.specs.Words.{is_word_char, runs_in}
 
 -- A run is a longest one of a passage. The passage's characters are those before the run, the run's
--- own, and those after it; the run has at least one, and all of its own are word characters. The last
--- one before it is none, and the first one after it is none; or there is none before, or after.
+-- own, and those after it; the run has at least one, and all of its own are word characters. The
+-- last one before it is none, and the first one after it is none; or there is none before, or
+-- after.
 pub record IsLongestRun (p run : Passage) : Type 0 where
   pub before : List ℕ
   pub own : List ℕ

@@ -10,7 +10,8 @@ pub record Passage : Type 0 where
 abbrev pub StandsIn : List ℕ → Passage → Type 0
 StandsIn s p = slice_range s p.start (p.start + length p.text) ≡ p.text
 
--- From a place on the passages are in the text one after another, and none overlaps the one before it.
+-- From a place on the passages are in the text one after another, and none overlaps the one before
+-- it.
 abbrev pub StandApart : List ℕ → ℕ → List Passage → Type 0
 StandApart s from [] = Unit {0}
 StandApart s from (p ∷ ps) = (from ≤ p.start) × StandsIn s p × (p.start + length p.text ≤ length s)

@@ -1,9 +1,9 @@
--- The plain leaves of a text: the words that are read as the text of Scripture. They are what is left of texts of its tree, without
--- notes, milestones, attributes and verse numbers.
+-- The plain leaves of a text: the words that are read as the text of Scripture. They are what is
+-- left of texts of its tree, without notes, milestones, attributes and verse numbers.
 --
--- USFM 3.0 has the attributes of a character marker after a bar before its closing mark, and the number after `\v`. Paratext's
--- style sheets say by TextType which paragraphs have the text of verses. Which texts count, and what of them, is this project's own
--- rule.
+-- USFM 3.0 has the attributes of a character marker after a bar before its closing mark, and the
+-- number after `\v`. Paratext's style sheets say by TextType which paragraphs have the text of
+-- verses. Which texts count, and what of them, is this project's own rule.
 use Rattle.sty_sheet.specs.declared.kind.StyleKind.{StyleKind}
 use Rattle.sty_sheet.specs.declared.kind.StyleKind.TheVariants as kinds
 use Rattle.std.specs.Prelude.{ℕ, ◌+◌, ◌==◌, Bool, true, false, not, ◌&&◌, List, [], ◌∷◌, ◌++◌, map}
@@ -23,8 +23,8 @@ use Rattle.concordance.specs.Passages.{Passage}
 
 -- ---- the texts of a tree
 
--- A text of a tree: where it begins and its bytes; the nodes around it, the innermost first; the mark directly before it, if one
--- is there; and whether it is the last kid of the innermost node.
+-- A text of a tree: where it begins and its bytes; the nodes around it, the innermost first; the
+-- mark directly before it, if one is there; and whether it is the last kid of the innermost node.
 pub record Site : Type 0 where
   pub start : ℕ
   pub bytes : List ℕ
@@ -94,8 +94,8 @@ abbrev pub verse_length : Option VerseMark → ℕ
 verse_length None = 0
 verse_length (Some v) = v.length
 
--- the bytes of the number directly after the mark `\v`, with its bridge and the blanks before; after `\+v` and
--- `\v*` is none
+-- the bytes of the number directly after the mark `\v`, with its bridge and the blanks before;
+-- after `\+v` and `\v*` is none
 abbrev pub number_length : Option MarkParts → List ℕ → ℕ
 number_length None bytes = 0
 number_length (Some m) bytes =
@@ -132,6 +132,7 @@ trimmed t =
 abbrev pub plain_in : List Record → Forest → List Passage
 plain_in sheet tree = map trimmed (filter (is_plain sheet) (sites_in [] None tree))
 
--- the plain leaves of a text by the records of a style sheet, in order, each without number and attributes
+-- the plain leaves of a text by the records of a style sheet, in order, each without number and
+-- attributes
 unfoldable pub plain_leaves : List Record → List ℕ → List Passage
 plain_leaves sheet s = plain_in sheet (tree_of (styles_in sheet) s)

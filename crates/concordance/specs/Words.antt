@@ -1,5 +1,6 @@
--- The words of a text: Unicode's alphabetic characters and the marks that combine with characters, in Normalization Form C (UAX #15).
--- That a word is a longest run of these within one plain leaf is this project's own rule.
+-- The words of a text: Unicode's alphabetic characters and the marks that combine with characters,
+-- in Normalization Form C (UAX #15). That a word is a longest run of these within one plain leaf is
+-- this project's own rule.
 use Rattle.std.specs.Prelude.{ℕ, ◌+◌, Bool, true, false, ◌&&◌, ◌||◌, not, List, [], ◌∷◌, map}
 use Rattle.std.specs.Prelude.{filter, length, take_while, if◌then◌else◌, chars, encode_utf8}
 use Rattle.std.specs.Prelude.{encode_utf8_all}
@@ -35,8 +36,9 @@ is_combining _ = false
 abbrev pub is_word_char : ℕ → Bool
 is_word_char c = is_alphabetic c || is_combining (general_category c)
 
--- The longest runs of word characters, in characters that begin at a place, where a word character comes before them or not: a run
--- begins at each that has none directly before it, and goes on as far as they last.
+-- The longest runs of word characters, in characters that begin at a place, where a word character
+-- comes before them or not: a run begins at each that has none directly before it, and goes on as
+-- far as they last.
 abbrev pub runs_from : Bool → ℕ → List ℕ → List Passage
 runs_from within at [] = []
 runs_from within at (c ∷ cs) =
@@ -60,7 +62,8 @@ pub record Spelling : Type 0 where
 abbrev pub form_of : List ℕ → List ℕ
 form_of bytes = encode_utf8_all (nfc (chars bytes))
 
--- the form is the run in Normalization Form C, and the key is that of the piece that holds its start
+-- the form is the run in Normalization Form C, and the key is that of the piece that holds its
+-- start
 abbrev pub spelling_at : List PieceParts → Passage → Spelling
 spelling_at ps run = record { form = form_of run.text; key = key_at ps run.start }
 
@@ -87,8 +90,8 @@ word_with ss form = record { form = form; keys = rising key_cmp (keys_with ss fo
 abbrev pub words_in : List Spelling → List WordParts
 words_in ss = map (word_with ss) (rising form_cmp (map (λ s. s.form) ss))
 
--- the words of a text, by the records of a style sheet: the forms of the longest runs of word characters in its
--- plain leaves, rising, each with the keys at which it occurs
+-- the words of a text, by the records of a style sheet: the forms of the longest runs of word
+-- characters in its plain leaves, rising, each with the keys at which it occurs
 unfoldable pub words_of : List Record → List ℕ → List WordParts
 words_of sheet s =
     words_in (map (spelling_at (pieces_of s)) (flat_map runs_in (plain_leaves sheet s)))

@@ -2,7 +2,8 @@ ghost use Rattle.std.specs.Prelude.{◌≡◌, ◌<◌, length, map, IsTrue, IsF
 ghost use Rattle.sty_sheet.specs.Views.{records_of};
 ghost use Rattle.usfm_ref.specs.Keys.{key_cmp};
 ghost use Rattle.usfm_ref.specs.Rising.{rising};
-ghost use Rattle.concordance.specs.Loops.Groups.{all_spellings, spellings_with, has_bare, rise, SpellsBoth, SpellsSame};
+ghost use Rattle.concordance.specs.Loops.Groups.{all_spellings, spellings_with, has_bare, rise};
+ghost use Rattle.concordance.specs.Loops.Groups.{SpellsBoth, SpellsSame};
 ghost use Rattle.concordance.specs.Loops.Groups.{form_at, composed};
 ghost use Rattle.concordance.specs.Loops.KeyedViews.{hits_left, spelled};
 ghost use Rattle.concordance.specs.Loops.FormViews.{forms_view};

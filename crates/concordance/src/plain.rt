@@ -15,7 +15,8 @@ ghost use Rattle.usfm_tree.specs.StepViews.{IsStyled, entry_before, step_before}
 ghost use Rattle.concordance.specs.Loops.Gathered as gathered;
 ghost use Rattle.concordance.specs.Loops.Gathered.{EntryFits, innermost, settled};
 ghost use Rattle.concordance.specs.Plain as plain;
-ghost use Rattle.concordance.specs.Loops.LeafViews.{passage_view, passages_view, mark_before, waiting_of};
+ghost use Rattle.concordance.specs.Loops.LeafViews.{passage_view, passages_view, mark_before};
+ghost use Rattle.concordance.specs.Loops.LeafViews.{waiting_of};
 ghost use Rattle.concordance.specs.Loops.LeafViews.{enclosures, leaves_with};
 
 use crate::passage::Passage;

@@ -21,7 +21,7 @@ use Rattle.op_core.specs.Sets.{IsOpSet}
 use Rattle.op_core.specs.Shown.{is_shown, shown}
 use Rattle.op_core.specs.Export.{of_book, keys_in}
 use Rattle.op_core.specs.Lists.{awaited, books_of, keys_of}
-use Rattle.op_core.proofs.Rising.{id_total}
+use Rattle.op_core.proofs.IdOrders.Rising.{id_total}
 use Rattle.conflict_report.specs.Reports.{is_repeated, distinct_texts, conflict_line, text_lines, conflict_lines, conflict_at, conflicts_in, awaited_line, report}
 use Rattle.conflict_report.specs.Laws.{ShowsOneText, EmptyReports}
 use Rattle.conflict_report.proofs.Latest.{has_text, latest, any_latest, latest_is}

@@ -15,7 +15,7 @@ use Rattle.op_core.specs.Ids.{Id, id_cmp, id_below}
 use Rattle.op_core.specs.Ops.{Operation, own_text}
 use Rattle.op_core.specs.Sets.{rises, IsOpSet}
 use Rattle.op_core.specs.Shown.{is_shown, shown}
-use Rattle.op_core.proofs.Rising.{id_total}
+use Rattle.op_core.proofs.IdOrders.Rising.{id_total}
 use Rattle.conflict_report.specs.Reports.{is_repeated, distinct_texts, repeated_texts}
 
 -- whether one of the operations has the text

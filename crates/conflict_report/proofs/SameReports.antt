@@ -6,8 +6,8 @@ use Rattle.usfm_ref.specs.declared.segment.Segment.{Segment}
 use Rattle.op_core.specs.Ops.{Operation}
 use Rattle.op_core.specs.Shown.{shown}
 use Rattle.op_core.specs.Thinned.{skeleton}
-use Rattle.op_core.proofs.Alike.{answers_alike}
-use Rattle.op_core.proofs.Groupings.{skeleton_shows}
+use Rattle.op_core.proofs.ThinnedSets.Alike.{answers_alike}
+use Rattle.op_core.proofs.Sets.Groupings.{skeleton_shows}
 use Rattle.replica_state.proofs.ThinnedRuns.{run_alike}
 use Rattle.conflict_report.specs.Reports.{is_repeated, conflict_lines, awaited_line, report}
 use Rattle.conflict_report.specs.Laws.{SkeletonReports, ThinnedBundlesSameReports}

@@ -8,8 +8,8 @@ use Rattle.conflict_report.specs.Reports.{report}
 use Rattle.conflict_report.specs.declared.fault.ReportFault.{ReportFault}
 use Rattle.conflict_report.specs.declared.fault.ReportFault.TheVariants.{Memory, WriteFailed}
 
--- What an answer says of what the sink took: all of the report, the front of it whose length is answered, or
--- nothing where there was no memory.
+-- What an answer says of what the sink took: all of the report, the front of it whose length is
+-- answered, or nothing where there was no memory.
 abbrev pub AnswersReport : List Operation → Option (List ℕ) → Option (List ℕ)
     → Result (Unit {0}) ReportFault → Type 0
 AnswersReport held before after (Ok done) = Appends before after (report held)
@@ -17,7 +17,8 @@ AnswersReport held before after (Err Memory) = after ≡ before
 AnswersReport held before after (Err (WriteFailed gone)) =
     TakesFront before after (report held) 0 gone
 
--- the sink's failures after the call: one more exactly where the call answers that the writer failed
+-- the sink's failures after the call: one more exactly where the call answers that the writer
+-- failed
 abbrev pub sink_failures : Result (Unit {0}) ReportFault → ℕ → ℕ
 sink_failures (Ok done) failures = failures
 sink_failures (Err Memory) failures = failures

@@ -1,5 +1,5 @@
--- The conflict report (this project's own rule): the texts of each segment that shows two or more distinct ones, and the ids
--- that operations name and none has.
+-- The conflict report (this project's own rule): the texts of each segment that shows two or more
+-- distinct ones, and the ids that operations name and none has.
 use Rattle.std.specs.Prelude.{ℕ, nat_le, Bool, not, ◌&&◌, List, [], ◌∷◌, ◌++◌, length, filter, reverse, codes, if◌then◌else◌}
 use Rattle.std.specs.List.{list_any, flat_map}
 use Rattle.std.specs.Fmt.{decimal}
@@ -18,11 +18,13 @@ use Rattle.op_core.specs.Lists.{awaited, books_of, keys_of}
 abbrev pub is_repeated : List Operation → Operation → Bool
 is_repeated ops o = list_any (λ p. id_below o.id p.id && same_bytes (own_text p) (own_text o)) ops
 
--- the distinct texts that a segment shows, each by the operation with the greatest id that has it, ids falling
+-- the distinct texts that a segment shows, each by the operation with the greatest id that has it,
+-- ids falling
 abbrev pub distinct_texts : List Operation → Segment → List Operation
 distinct_texts held g = reverse (filter (λ o. not (is_repeated (shown held g) o)) (shown held g))
 
--- the other operations that a segment shows: those with whose text one of a greater id is shown, ids falling
+-- the other operations that a segment shows: those with whose text one of a greater id is shown,
+-- ids falling
 abbrev pub repeated_texts : List Operation → Segment → List Operation
 repeated_texts held g = reverse (filter (λ o. is_repeated (shown held g) o) (shown held g))
 
@@ -46,7 +48,8 @@ text_lines o = text_line o ++ (own_text o ++ 10 ∷ [])
 abbrev pub awaited_line : Id → List ℕ
 awaited_line id = codes "awaited " ++ (decimal id.number ++ 32 ∷ (id.name ++ 10 ∷ []))
 
--- what is reported of a segment that shows these distinct texts: nothing unless they are two or more
+-- what is reported of a segment that shows these distinct texts: nothing unless they are two or
+-- more
 abbrev pub conflict_lines : Segment → List Operation → List ℕ
 conflict_lines g texts =
     if nat_le 2 (length texts) then conflict_line g (length texts) ++ flat_map text_lines texts

@@ -1,4 +1,5 @@
--- Laws of reports in worlds (this project's own rule): what holds after every list of events, at any number of replicas.
+-- Laws of reports in worlds (this project's own rule): what holds after every list of events, at
+-- any number of replicas.
 use Rattle.std.specs.Prelude.{◌≡◌, ℕ, Bool, true, List, ◌++◌}
 use Rattle.std.specs.List.{flat_map}
 use Rattle.op_core.specs.Ops.{Operation}
@@ -31,8 +32,8 @@ pub record ReportAlike (s t : List Operation) : Type 0 where
   pub same : report s ≡ report t
   pub no_awaited_line : report s ≡ flat_map (conflicts_in s) (books_of s)
 
--- Where after the last edit a relay leads from each replica to each other, any two of them give the same report, and it
--- has no `awaited` line.
+-- Where after the last edit a relay leads from each replica to each other, any two of them give the
+-- same report, and it has no `awaited` line.
 abbrev pub AllReportTheSame : Type 0
 AllReportTheSame =
     (is_there : List ℕ → Bool) (later past : List Event) → EndsInRelays is_there later past →

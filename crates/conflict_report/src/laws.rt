@@ -1,4 +1,5 @@
-//! Laws of reports, over the definitions alone. Each function does nothing: its contract is the law.
+//! Laws of reports, over the definitions alone. Each function does nothing: its contract is the
+//! law.
 ghost use Rattle.conflict_report.specs.Laws as laws;
 
 pub mod worlds;

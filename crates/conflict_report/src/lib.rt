@@ -1,5 +1,5 @@
-//! The conflict report of a replica: the texts of each segment that shows two or more distinct ones, and the
-//! ids of operations that are named and not held, as bytes or written to a sink.
+//! The conflict report of a replica: the texts of each segment that shows two or more distinct
+//! ones, and the ids of operations that are named and not held, as bytes or written to a sink.
 #![tactic(auto)]
 
 mod fault;

@@ -12,9 +12,9 @@ use usfm_export::{ByteSink, StdSink};
 
 /// The conflict report of a replica. For each segment that shows two or more distinct texts, in the
 /// order of books and keys: the line `conflict REF n`, n how many they are; then for each, in
-/// descending order of their greatest shown ids, the line `text NUMBER NAME LENGTH`, the text, and a
-/// line feed. Then the line `awaited NUMBER NAME` for each id that a held operation names and none
-/// has, in ascending order.
+/// descending order of their greatest shown ids, the line `text NUMBER NAME LENGTH`, the text, and
+/// a line feed. Then the line `awaited NUMBER NAME` for each id that a held operation names and
+/// none has, in ascending order.
 ///
 /// # Errors
 /// Out of memory alone.
@@ -28,13 +28,14 @@ pub fn report_text(alloc: Global, replica: &Replica) -> Result<Vec<u8>, AllocErr
     }
 }
 
-/// Writes the conflict report of a replica to a sink, the bytes of `report_text`. All lists are made
-/// before the first byte is written; the texts are lent from the replica.
+/// Writes the conflict report of a replica to a sink, the bytes of `report_text`. All lists are
+/// made before the first byte is written; the texts are lent from the replica.
 ///
 /// # Errors
 /// - `Memory` (1) where an allocation failed. Nothing was written.
-/// - `WriteFailed` (90) where the sink answers an error, of whatever kind, or takes 0 bytes, with the
-///   bytes that were written: they are the front of the report of that length. No write is tried again.
+/// - `WriteFailed` (90) where the sink answers an error, of whatever kind, or takes 0 bytes, with
+///   the bytes that were written: they are the front of the report of that length. No write is
+///   tried again.
 pub fn write_report<W: ByteSink>(
     alloc: Global,
     replica: &Replica,

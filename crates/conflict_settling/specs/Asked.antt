@@ -18,19 +18,21 @@ use Rattle.conflict_settling.specs.declared.asked.SettleFault.TheVariants.{Memor
 use Rattle.conflict_settling.specs.declared.question.Manner.{Manner}
 use Rattle.conflict_settling.specs.declared.wanted.Wanted.{Wanted}
 
--- a conflict as it is asked: the segment, the ids that are listed, its distinct texts, and what a person reads
+-- a conflict as it is asked: the segment, the ids that are listed, its distinct texts, and what a
+-- person reads
 pub record AskedParts : Type 0 where
   pub segment : Segment
   pub ids : List Id
   pub texts : List (List ℕ)
   pub question : List ℕ
 
--- the ids that are listed of a segment: those beside its distinct texts, and then those that have one of these too
+-- the ids that are listed of a segment: those beside its distinct texts, and then those that have
+-- one of these too
 abbrev pub listed_ids : List Operation → Segment → List Id
 listed_ids held g = ids_of (distinct_texts held g) ++ ids_of (repeated_texts held g)
 
--- What a person reads of a segment that shows these distinct texts and these other operations: the entries of the texts are
--- compared as they can be, and all else is one text.
+-- What a person reads of a segment that shows these distinct texts and these other operations: the
+-- entries of the texts are compared as they can be, and all else is one text.
 pub record IsQuestionOf (held : List Operation) (g : Segment) (left : ℕ) (manner : Manner)
     (distinct repeated : List Operation) (bytes : List ℕ) : Type 0 where
   pub entries : List EntryView
@@ -56,7 +58,8 @@ IsFirstOf held manner conflicts (Some asked) =
     (g : Segment) × (rest : List Segment) × (conflicts ≡ g ∷ rest)
     × IsAskedOf held g (length conflicts) manner asked
 
--- What is asked next: the first open conflict, or none; nothing where a book that is wanted has no operation.
+-- What is asked next: the first open conflict, or none; nothing where a book that is wanted has no
+-- operation.
 abbrev pub Asks : List Operation → List Wanted → Option Segment → Manner
     → Result (Option AskedParts) SettleFault → Type 0
 Asks held wanted passed manner (Ok asked) =

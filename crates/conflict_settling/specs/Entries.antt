@@ -1,4 +1,5 @@
--- The distinct texts of a segment, each compared with the one that is picked (this project's own rule).
+-- The distinct texts of a segment, each compared with the one that is picked (this project's own
+-- rule).
 use Rattle.std.specs.Prelude.{◌≡◌, ℕ, ◌+◌, max, List, map, length, slice_get, Some}
 use Rattle.word_diff.specs.Differences.{JoinsToOld, JoinsToNew, CutsOld, CutsNew, KeepsCommon, KeepsLongest, KeepsEnds}
 use Rattle.word_diff.specs.Parts.{AreApart, spans}
@@ -7,7 +8,8 @@ use Rattle.op_core.specs.Ops.{Operation}
 use Rattle.op_core.specs.Shown.{text_if_any}
 use Rattle.conflict_settling.specs.declared.sides.Entry.{Entry}
 
--- what differs between two texts: parts of whole words that are in both, in the old one or in the new one
+-- what differs between two texts: parts of whole words that are in both, in the old one or in the
+-- new one
 pub record IsDifference (old new : List ℕ) (parts : List Part) : Type 0 where
   pub old_text : JoinsToOld parts old
   pub new_text : JoinsToNew parts new
@@ -36,8 +38,8 @@ views entries = map view entries
 abbrev pub text_of : List Operation → ℕ → List ℕ
 text_of ops k = text_if_any (slice_get ops k)
 
--- An entry is that of the operation at an index: numbered from 1, and compared with the first text; the first is
--- compared with the second.
+-- An entry is that of the operation at an index: numbered from 1, and compared with the first text;
+-- the first is compared with the second.
 pub record IsEntryAt (ops : List Operation) (k : ℕ) (e : EntryView) : Type 0 where
   pub number : e.number ≡ k + 1
   pub op : slice_get ops k ≡ Some e.op

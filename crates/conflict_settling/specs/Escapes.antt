@@ -1,5 +1,6 @@
--- Control characters of a text, spelled out for a terminal (this project's own rule). Control characters are those of
--- Unicode's general category Cc: U+0000 to U+001F, U+007F, and U+0080 to U+009F, which are two bytes in UTF-8.
+-- Control characters of a text, spelled out for a terminal (this project's own rule). Control
+-- characters are those of Unicode's general category Cc: U+0000 to U+001F, U+007F, and U+0080 to
+-- U+009F, which are two bytes in UTF-8.
 use Rattle.std.specs.Prelude.{ℕ, ◌+◌, ◌==◌, nat_le, nat_lt, Bool, false, not, ◌&&◌, ◌||◌, List, [], ◌∷◌, ◌++◌, codes, if◌then◌else◌}
 use Rattle.std.specs.Prelude.{◌/◌, ◌%◌}
 use Rattle.conflict_settling.specs.declared.escape.Glyph.{Glyph}

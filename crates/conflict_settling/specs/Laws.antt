@@ -18,15 +18,17 @@ ListsWhatIsShown =
     (held : List Operation) (g : Segment) (id : Id) →
     is_among (listed_ids held g) id ≡ is_among (shown_ids held g) id
 
--- What was not listed stays: of what a replica shows when the answer to an earlier question is made, an operation that
--- the question did not list is shown after it, such as one that came in since.
+-- What was not listed stays: of what a replica shows when the answer to an earlier question is
+-- made, an operation that the question did not list is shown after it, such as one that came in
+-- since.
 abbrev pub UnlistedStays : Type 0
 UnlistedStays =
     (s : State) (asked_of : List Operation) (g h : Segment) (text : List ℕ) (o : Operation) →
     IsState s → Contains (shown s.held h) o → is_among (listed_ids asked_of g) o.id ≡ false →
     Contains (shown (step s (EditOver g text (listed_ids asked_of g))).after.held h) o
 
--- Where nothing came in since, the answer replaces all that the segment shows, as an edit of it does.
+-- Where nothing came in since, the answer replaces all that the segment shows, as an edit of it
+-- does.
 abbrev pub SettlesAll : Type 0
 SettlesAll =
     (s : State) (g : Segment) (text : List ℕ) →

@@ -29,13 +29,15 @@ before_lines text = if is_empty text then [] else codes "before it:\n" ++ (escap
 abbrev pub id_words : Id → List ℕ
 id_words id = decimal id.number ++ 32 ∷ id.name
 
--- what is said of the first text by what is picked: the book has it, or in the place of no text its chapter's line
+-- what is said of the first text by what is picked: the book has it, or in the place of no text its
+-- chapter's line
 abbrev pub pick_mark : Pick → List ℕ
 pick_mark (Line chapter) = codes ", in the book as \\c " ++ decimal chapter
 pick_mark (Greatest o) = codes ", in the book"
 pick_mark Empty = []
 
--- the line before a text: its number, the id of its operation, for the first what is picked, and that it is empty
+-- the line before a text: its number, the id of its operation, for the first what is picked, and
+-- that it is empty
 abbrev pub entry_head : Pick → EntryView → List ℕ
 entry_head picked e =
     decimal e.number ++ (codes ": " ++ (id_words e.op.id
@@ -53,7 +55,8 @@ choice_line count = codes "Type 1 to " ++ (decimal count
 
 -- ---- what differs
 
--- what is written before what differs: a bracket, or the sequence that begins reverse video (ECMA-48, SGR 7)
+-- what is written before what differs: a bracket, or the sequence that begins reverse video
+-- (ECMA-48, SGR 7)
 abbrev pub opening : Manner → List ℕ
 opening Brackets = codes "["
 opening Reverse = 27 ∷ codes "[7m"

@@ -11,8 +11,8 @@ use op_core::Picked;
 use replica_state::Replica;
 use usfm_ref::{Book, Key};
 
-/// What the book has after the segment: the first text there that is not empty, lent from the replica, or the line of a
-/// chapter. It takes no memory.
+/// What the book has after the segment: the first text there that is not empty, lent from the
+/// replica, or the line of a chapter. It takes no memory.
 pub fn picked_after(replica: &Replica, book: Book, key: Key) -> Picked<'_>
     ensures { picks.picked_text (picks.picked result)
         ≡ after.text_after replica.now.held (segment book key) }
@@ -38,7 +38,8 @@ fn key_after(replica: &Replica, book: Book, key: Key) -> Option<Key>
     None
 }
 
-// The first such key of `at` and, before it, the head of its chapter, where no key of the chapter was before.
+// The first such key of `at` and, before it, the head of its chapter, where no key of the chapter
+// was before.
 fn first_with_head(
     replica: &Replica,
     book: Book,

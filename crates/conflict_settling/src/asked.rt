@@ -38,8 +38,8 @@ impl From<AllocError> for SettleFault {
     }
 }
 
-/// A conflict as it is asked: what a person reads, and what an answer needs. It is a copy: the replica may change
-/// before the answer comes.
+/// A conflict as it is asked: what a person reads, and what an answer needs. It is a copy: the
+/// replica may change before the answer comes.
 #[derive(Debug, Drop)]
 pub struct Asked {
     segment: Segment,
@@ -77,16 +77,17 @@ impl Asked {
         &self.ids
     }
 
-    /// What a person reads: the segment, the text before it, its distinct texts by number, each with who made it and with
-    /// what differs set off, and what may be answered.
+    /// What a person reads: the segment, the text before it, its distinct texts by number, each
+    /// with who made it and with what differs set off, and what may be answered.
     pub fn question(&self) -> &[u8]
         ensures { result.now ≡ self.now.question }
     {
         &self.question
     }
 
-    /// What a line answers, without the blanks around it: a number, the text with this number; `e`, a text of one's own;
-    /// `s`, nothing here; `q`, nothing more. Any other line leaves the question as it is.
+    /// What a line answers, without the blanks around it: a number, the text with this number; `e`,
+    /// a text of one's own; `s`, nothing here; `q`, nothing more. Any other line leaves the
+    /// question as it is.
     pub fn answer(&self, line: &str) -> Answer<'_>
         ensures { Answers self.now.texts line.now result }
     {
@@ -102,11 +103,12 @@ impl Asked {
     }
 }
 
-/// The first of the conflicts that are wanted and come after the segment that was passed (`open_conflicts`), as it is
-/// asked. None where there is none.
+/// The first of the conflicts that are wanted and come after the segment that was passed
+/// (`open_conflicts`), as it is asked. None where there is none.
 ///
 /// # Errors
-/// - `NoBook` (82) exactly where a book that is wanted, or that of a wanted segment, has no operation.
+/// - `NoBook` (82) exactly where a book that is wanted, or that of a wanted segment, has no
+///   operation.
 /// - `Memory` (1) where an allocation failed.
 pub fn next_question(
     alloc: Global,

@@ -9,8 +9,8 @@ use op_core::Picked;
 use replica_state::Replica;
 use usfm_ref::{Book, Key, Place};
 
-/// What the book has before the segment: the last text there that is not empty, lent from the replica, or the line of a
-/// chapter. It takes no memory.
+/// What the book has before the segment: the last text there that is not empty, lent from the
+/// replica, or the line of a chapter. It takes no memory.
 pub fn picked_before(replica: &Replica, book: Book, key: Key) -> Picked<'_>
     ensures { picks.picked_text (picks.picked result)
         ≡ before.text_before replica.now.held (segment book key) }
@@ -34,7 +34,8 @@ fn key_before(replica: &Replica, book: Book, key: Key) -> Option<Key>
     last
 }
 
-// The last such key up to `at`: before it comes the head of its chapter, where no key of the chapter was before.
+// The last such key up to `at`: before it comes the head of its chapter, where no key of the
+// chapter was before.
 fn last_with_head(
     replica: &Replica,
     book: Book,

@@ -13,9 +13,9 @@ enum Glyph {
     Control(u8),
 }
 
-/// Adds a text in which each control character but the line feed stands as `\x` and its number in two hexadecimal
-/// digits: U+0000 to U+001F, and U+007F to U+009F, which a terminal may take for commands. All else stays. What it adds
-/// has no control character but line feeds.
+/// Adds a text in which each control character but the line feed stands as `\x` and its number in
+/// two hexadecimal digits: U+0000 to U+001F, and U+007F to U+009F, which a terminal may take for
+/// commands. All else stays. What it adds has no control character but line feeds.
 ///
 /// # Errors
 /// Out of memory alone.

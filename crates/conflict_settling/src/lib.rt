@@ -1,9 +1,10 @@
-//! Settling the conflicts of a replica one after another: which of them are wanted, what a person reads of one, what
-//! the answer says, and the ids that the edit replaces: those that the person read.
+//! Settling the conflicts of a replica one after another: which of them are wanted, what a person
+//! reads of one, what the answer says, and the ids that the edit replaces: those that the person
+//! read.
 //!
-//! Nothing is changed here. An answer comes back when the replica may hold more than when the question was
-//! written, so the edit is one over the ids of the question (`Replica::edit_over`): what came in since is not
-//! replaced, and an id that is shown no more refuses it.
+//! Nothing is changed here. An answer comes back when the replica may hold more than when the
+//! question was written, so the edit is one over the ids of the question (`Replica::edit_over`):
+//! what came in since is not replaced, and an id that is shown no more refuses it.
 #![tactic(auto)]
 
 mod after;

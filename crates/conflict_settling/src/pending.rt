@@ -11,8 +11,9 @@ use replica_state::Replica;
 use std::alloc::{AllocError, Global};
 use usfm_ref::{Book, Key, Segment};
 
-/// The segments that show two or more distinct texts, in the order of books and keys: those that are wanted (all, where
-/// nothing is named), and of these those after the segment that was passed, if there is one.
+/// The segments that show two or more distinct texts, in the order of books and keys: those that
+/// are wanted (all, where nothing is named), and of these those after the segment that was passed,
+/// if there is one.
 ///
 /// # Errors
 /// Out of memory alone.
@@ -52,7 +53,8 @@ fn push_book(
     Ok(())
 }
 
-// Whether the segment is wanted, comes after the one that was passed, and shows two or more distinct texts.
+// Whether the segment is wanted, comes after the one that was passed, and shows two or more
+// distinct texts.
 fn is_open(
     alloc: Global,
     replica: &Replica,

@@ -1,5 +1,6 @@
 // What a person reads of a conflict.
-ghost use Rattle.std.specs.Prelude.{◌≡◌, ℕ, ◌==◌, ◌++◌, [], ◌∷◌, codes, length, map, string_bytes, IfOk, OnOk, if◌then◌else◌};
+ghost use Rattle.std.specs.Prelude.{◌≡◌, ℕ, ◌==◌, ◌++◌, [], ◌∷◌, codes, length, map, string_bytes};
+ghost use Rattle.std.specs.Prelude.{IfOk, OnOk, if◌then◌else◌};
 ghost use Rattle.std.specs.Fmt.{decimal};
 ghost use Rattle.std.specs.List.{flat_map};
 ghost use Rattle.usfm_ref.specs.Segments.{segment};
@@ -105,7 +106,8 @@ pub(crate) fn push_entries(
     Ok(())
 }
 
-// Adds the line before a text: its number, the id of its operation, whether the book has it, and whether it is empty.
+// Adds the line before a text: its number, the id of its operation, whether the book has it, and
+// whether it is empty.
 fn push_entry_head(
     alloc: Global,
     bytes: &mut Vec<u8>,

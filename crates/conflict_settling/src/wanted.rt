@@ -21,8 +21,8 @@ impl Wanted {
     /// Reads a word: a book's code, as `MAT`, or else a reference, as `MAT 5:3`.
     ///
     /// # Errors
-    /// `BadBook` where the word is neither and its first three bytes are no book's code, and `BadRef` where they
-    /// are, and what follows is no key.
+    /// `BadBook` where the word is neither and its first three bytes are no book's code, and
+    /// `BadRef` where they are, and what follows is no key.
     pub fn read(word: &str) -> Result<Wanted, RefFault>
         ensures { result ≡ wanted.wanted_in word.now }
     {

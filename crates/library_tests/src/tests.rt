@@ -1,5 +1,5 @@
-// A call each with ample memory, and what no contract says: how often a search compares, and what is called of a reader or a
-// writer of std.
+// A call each with ample memory, and what no contract says: how often a search compares, and what
+// is called of a reader or a writer of std.
 mod commands;
 mod replicas;
 mod sets;
@@ -37,7 +37,8 @@ pub(crate) fn op_of(
     Ok(Op::new(id, book, key, named.to_vec(alloc)?, text))
 }
 
-// Inserts an operation. The contract of `insert` stays out of the proofs of the tests that call this.
+// Inserts an operation. The contract of `insert` stays out of the proofs of the tests that call
+// this.
 pub(crate) fn put(set: &mut OpSet, op: Op) -> Result<bool, Fail> {
     if op.text().is_none() {
         return Err(Fail::from("the operation is thinned"));

@@ -5,7 +5,8 @@ use Rattle.line_excerpt.specs.Escapes.{escaped}
 use Rattle.line_excerpt.specs.declared.excerpt.SetOff.{SetOff}
 use Rattle.line_excerpt.specs.declared.excerpt.SetOff.TheVariants.{Brackets, Reverse}
 
--- how many bytes of a line are shown at most on either side of a place, but for the rest of a character
+-- how many bytes of a line are shown at most on either side of a place, but for the rest of a
+-- character
 abbrev pub reach : ℕ
 reach = 200
 
@@ -25,7 +26,8 @@ is_continuation b = nat_le 128 b && nat_lt b 192
 abbrev pub after_continued : List ℕ → List ℕ
 after_continued bytes = drop (prefix_len is_continuation bytes) bytes
 
--- what comes before a place in its line, of the bytes within reach, without the rest of a character whose first byte is not
+-- what comes before a place in its line, of the bytes within reach, without the rest of a character
+-- whose first byte is not
 abbrev pub before : List ℕ → ℕ → List ℕ
 before text at = after_continued (after_last ends_line (slice_range text (at - reach) at))
 
@@ -57,7 +59,8 @@ closing Reverse = 27 ∷ codes "[27m"
 abbrev pub found_shown : SetOff → List ℕ → List ℕ
 found_shown set_off found = opening set_off ++ shown set_off found ++ closing set_off
 
--- the line of a place, where this many bytes from the place on are set off, as far as they are in the line
+-- the line of a place, where this many bytes from the place on are set off, as far as they are in
+-- the line
 abbrev pub excerpt : SetOff → List ℕ → ℕ → ℕ → List ℕ
 excerpt set_off text start len =
     let line = from_place text start len in

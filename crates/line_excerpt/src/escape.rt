@@ -6,11 +6,11 @@ use std::alloc::AllocError;
 
 const HEX: &[u8; 16] = b"0123456789abcdef";
 
-/// Appends a text of UTF-8 without its control characters: each of them is written as `\x` and the two
-/// hexadecimal digits of its code, as `\x1b` for Escape.
+/// Appends a text of UTF-8 without its control characters: each of them is written as `\x` and the
+/// two hexadecimal digits of its code, as `\x1b` for Escape.
 ///
-/// Control characters are those of Unicode, U+0000 to U+001F and U+007F to U+009F. Bytes that are no
-/// UTF-8 are appended as they are, but for such as would be these characters.
+/// Control characters are those of Unicode, U+0000 to U+001F and U+007F to U+009F. Bytes that are
+/// no UTF-8 are appended as they are, but for such as would be these characters.
 ///
 /// # Errors
 /// `AllocError` where an allocation failed. The bytes then end with some part of it.

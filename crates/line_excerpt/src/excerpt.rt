@@ -20,9 +20,9 @@ pub enum SetOff {
     Reverse,
 }
 
-/// Appends the line of a place of a text, where this many bytes from the place on are set off, as far
-/// as they are in that line. A line feed or a carriage return ends a line. Nothing of the line is
-/// written that is more than [`REACH`] bytes away.
+/// Appends the line of a place of a text, where this many bytes from the place on are set off, as
+/// far as they are in that line. A line feed or a carriage return ends a line. Nothing of the line
+/// is written that is more than [`REACH`] bytes away.
 ///
 /// # Errors
 /// `AllocError` where an allocation failed. The bytes then end with some part of the excerpt.
@@ -125,8 +125,8 @@ fn from_place(text: &[u8], start: usize, len: usize) -> &[u8]
     near.split_at(in_line(near)).0
 }
 
-// The bytes at the front, this many and those within reach after them, and the rest of the character that
-// they end in.
+// The bytes at the front, this many and those within reach after them, and the rest of the
+// character that they end in.
 fn whole_characters(bytes: &[u8], len: usize) -> &[u8]
     requires { len ≤ length bytes.now }
     ensures { result.now ≡ spec.whole_characters (len + spec.reach) bytes.now }

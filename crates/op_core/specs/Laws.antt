@@ -1,4 +1,5 @@
--- Laws of sets of operations: of a join semilattice, and of what a multi-value register shows (INRIA RR-7506).
+-- Laws of sets of operations: of a join semilattice, and of what a multi-value register shows
+-- (INRIA RR-7506).
 use Rattle.std.specs.Prelude.{◌≡◌, ◌≢◌, ℕ, true, false, List, [], ◌∷◌, None, Some, Result, Ok, Err, Option, ◌⊎◌, IsTrue, is_ok}
 use Rattle.std.specs.List.{list_any, Contains}
 use Rattle.usfm_ref.specs.declared.segment.Segment.{Segment}
@@ -26,7 +27,8 @@ ClashCommutes = (a b : List Operation) → IsOpSet a → IsOpSet b → clash a b
 abbrev pub AgreeAt : List Operation → List Operation → Id → Type 0
 AgreeAt a b id = (o p : Operation) → get a id ≡ Some o → get b id ≡ Some p → agree o p ≡ true
 
--- two sets clash at an id: each holds an operation under it, the two do not agree, and below it the sets agree
+-- two sets clash at an id: each holds an operation under it, the two do not agree, and below it the
+-- sets agree
 pub record ClashAt (a b : List Operation) (id : Id) : Type 0 where
   pub one : Operation
   pub other : Operation
@@ -49,7 +51,8 @@ NoClashAgrees =
 abbrev pub JoinWithItself : Type 0
 JoinWithItself = (a : List Operation) → IsOpSet a → (join a a ≡ a) × (clash a a ≡ None)
 
--- the union is a set that holds at each id what one of the two holds there, or what the two meet in, and nothing else
+-- the union is a set that holds at each id what one of the two holds there, or what the two meet
+-- in, and nothing else
 abbrev pub JoinHoldsBoth : Type 0
 JoinHoldsBoth =
     (a b : List Operation) → IsOpSet a → IsOpSet b
@@ -106,8 +109,8 @@ union_by (Part set) = Ok set
 union_by (Joined left right) =
     with_both (union_by left) (union_by right) (λ a b. joined_or_clash a b (clash a b))
 
--- Sets that have the same operations together, thinned ones as thinned, joined in whatever order, grouping and repetition,
--- have one union, and so one export of every book.
+-- Sets that have the same operations together, thinned ones as thinned, joined in whatever order,
+-- grouping and repetition, have one union, and so one export of every book.
 abbrev pub EqualUnionsExportAlike : Type 0
 EqualUnionsExportAlike =
     (one other : Joining) (a b : List Operation) → AreSets one → AreSets other
@@ -115,16 +118,17 @@ EqualUnionsExportAlike =
     union_by one ≡ Ok a → union_by other ≡ Ok b →
     (a ≡ b) × ((book : List ℕ) → export a book ≡ export b book)
 
--- Where one of the sets has a thinned operation of an id, any two of their operations of that id agree. So it is where none
--- is thinned.
+-- Where one of the sets has a thinned operation of an id, any two of their operations of that id
+-- agree. So it is where none is thinned.
 abbrev pub ThinnedAgree : Joining → Type 0
 ThinnedAgree way =
     (thinned o p : Operation) → IsInOne way thinned → IsInOne way o → IsInOne way p
     → is_full thinned ≡ false →
     o.id ≡ thinned.id → p.id ≡ thinned.id → agree o p ≡ true
 
--- Sets that have the same operations together, and in which no id of a thinned operation has two operations, are joined either
--- way, or refused either way. An id of full operations may have two: then they are refused.
+-- Sets that have the same operations together, and in which no id of a thinned operation has two
+-- operations, are joined either way, or refused either way. An id of full operations may have two:
+-- then they are refused.
 abbrev pub RefusedAlike : Type 0
 RefusedAlike =
     (one other : Joining) → AreSets one → AreSets other → SameOperations one other

@@ -1,4 +1,5 @@
--- What contracts of private functions alone speak of: the states of loops, and views of what they keep.
+-- What contracts of private functions alone speak of: the states of loops, and views of what they
+-- keep.
 pub mod Index
 pub mod Changes
 pub mod Turns

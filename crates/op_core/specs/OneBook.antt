@@ -1,4 +1,5 @@
--- The operations of one book: all that its export, and what its segments show, are made of (this project's own rule).
+-- The operations of one book: all that its export, and what its segments show, are made of (this
+-- project's own rule).
 use Rattle.std.specs.Prelude.{ℕ, List, filter}
 use Rattle.op_core.specs.Ops.{Operation}
 use Rattle.op_core.specs.Export.{of_book}

@@ -1,5 +1,5 @@
--- Operations: a multi-value register's writes (Shapiro, Preguiça, Baquero and Zawirski, INRIA RR-7506,
--- "MV-Register"), where a write names the writes that it replaces by their ids.
+-- Operations: a multi-value register's writes (Shapiro, Preguiça, Baquero and Zawirski, INRIA
+-- RR-7506, "MV-Register"), where a write names the writes that it replaces by their ids.
 use Rattle.std.specs.Prelude.{ℕ, Bool, true, false, not, ◌&&◌, List, [], Option, Some, None, IsTrue}
 use Rattle.std.specs.List.{list_all, list_any}
 use Rattle.std.specs.Option.{is_some}
@@ -12,8 +12,8 @@ use Rattle.usfm_ref.specs.declared.segment.Segment.{Segment}
 use Rattle.verse_cut.specs.Fits.{Fits}
 use Rattle.op_core.specs.Ids.{Id, same_id, is_id, names_fall}
 
--- the text that a replica gave to a segment, and the ids of the operations that it replaces there; a thinned operation is
--- kept without its text (this project's own rule)
+-- the text that a replica gave to a segment, and the ids of the operations that it replaces there;
+-- a thinned operation is kept without its text (this project's own rule)
 pub record Operation : Type 0 where
   pub id : Id
   pub segment : Segment
@@ -34,8 +34,8 @@ abbrev pub MayBeText : Segment → Option (List ℕ) → Type 0
 MayBeText g None = Unit {0}
 MayBeText g (Some text) = IsTextFor g text
 
--- each part within its ranges; the replaced ids rise, and each has a smaller number than the operation; the text, if it
--- is not left out, is UTF-8 and fits the segment
+-- each part within its ranges; the replaced ids rise, and each has a smaller number than the
+-- operation; the text, if it is not left out, is UTF-8 and fits the segment
 pub record IsOperation (o : Operation) : Type 0 where
   pub id : IsTrue (is_id o.id)
   pub segment : IsTrue (is_segment o.segment)
@@ -102,6 +102,7 @@ texts_agree None t = true
 texts_agree (Some s) None = true
 texts_agree (Some s) (Some t) = same_bytes s t
 
--- whether two operations are equal, or at least one is thinned and they are equal but for their texts
+-- whether two operations are equal, or at least one is thinned and they are equal but for their
+-- texts
 abbrev pub agree : Operation → Operation → Bool
 agree o p = same_bare o p && texts_agree o.text p.text

@@ -1,5 +1,5 @@
--- Sets of operations, as lists that rise by id: the states of a join semilattice (INRIA RR-7506), where
--- joining is the union.
+-- Sets of operations, as lists that rise by id: the states of a join semilattice (INRIA RR-7506),
+-- where joining is the union.
 use Rattle.std.specs.Prelude.{◌≡◌, ℕ, Bool, false, not, List, [], ◌∷◌, Option, Some, None, IsTrue, option_map}
 use Rattle.std.specs.List.{find, AllByRecursion}
 use Rattle.std.specs.FinMap.Entries.{by_order}
@@ -28,7 +28,8 @@ meet_text None new = None
 meet_text (Some held) None = None
 meet_text (Some held) (Some new) = Some held
 
--- what stays of two operations of one id that agree: the thinned one where either is thinned, else the held one
+-- what stays of two operations of one id that agree: the thinned one where either is thinned, else
+-- the held one
 abbrev pub meet : Operation → Operation → Operation
 meet held new = with_text held (meet_text held.text new.text)
 

@@ -1,6 +1,6 @@
--- What a segment shows, and the text that is picked for it. A multi-value register shows each write that no
--- write of the register replaces (INRIA RR-7506); which of several is picked, and the chapter's own line, are
--- this project's own rule.
+-- What a segment shows, and the text that is picked for it. A multi-value register shows each write
+-- that no write of the register replaces (INRIA RR-7506); which of several is picked, and the
+-- chapter's own line, are this project's own rule.
 use Rattle.std.specs.Prelude.{ℕ, nat_le, Bool, not, ◌&&◌, cond, List, [], ◌∷◌, Option, Some, None, filter}
 use Rattle.std.specs.List.{list_any}
 use Rattle.usfm_ref.specs.Keys.{is_head}
@@ -48,14 +48,16 @@ is_verse_with_text held book chapter o =
 abbrev pub has_verse_text : List Operation → List ℕ → ℕ → Bool
 has_verse_text held book chapter = list_any (is_verse_with_text held book chapter) held
 
--- whether the segment is the head of a chapter from 1 on without a text while a verse of the chapter has one:
--- without a line of its own, such a chapter's verses would be read as verses of the chapter before
+-- whether the segment is the head of a chapter from 1 on without a text while a verse of the
+-- chapter has one: without a line of its own, such a chapter's verses would be read as verses of
+-- the chapter before
 abbrev pub wants_chapter_line : List Operation → Segment → Bool
 wants_chapter_line held g =
     is_head g.key.place && nat_le 1 g.key.chapter && is_empty (text_of held g)
     && has_verse_text held g.book g.key.chapter
 
--- what stands for a segment's text: the chapter's own line, the greatest shown operation, or nothing
+-- what stands for a segment's text: the chapter's own line, the greatest shown operation, or
+-- nothing
 pub data Pick : Type 0 where
   Line : (chapter : ℕ) → Pick
   Greatest : (o : Operation) → Pick
@@ -66,8 +68,8 @@ abbrev pub greatest : Option Operation → Pick
 greatest None = Empty
 greatest (Some o) = Greatest o
 
--- what is picked for a segment: the chapter's own line where it is wanted, else the shown operation with the
--- greatest id, and nothing where none is shown
+-- what is picked for a segment: the chapter's own line where it is wanted, else the shown operation
+-- with the greatest id, and nothing where none is shown
 abbrev pub pick : List Operation → Segment → Pick
 pick held g = cond (wants_chapter_line held g) (Line g.key.chapter) (greatest (last (shown held g)))
 

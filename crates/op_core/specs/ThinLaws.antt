@@ -16,7 +16,8 @@ use Rattle.op_core.specs.Laws.Joining.{Part, Joined}
 
 -- ---- agreement, and the union
 
--- two operations agree if they are equal, or if at least one is thinned and they are equal but for their texts
+-- two operations agree if they are equal, or if at least one is thinned and they are equal but for
+-- their texts
 pub record AgreesAs (a b : Operation) : Type 0 where
   pub says : agree a b ≡ true → (a ≡ b) ⊎
       (((is_full a ≡ false) ⊎ (is_full b ≡ false)) × (bare a ≡ bare b))
@@ -111,7 +112,8 @@ pub record AnswersSame (s u : List Operation) : Type 0 where
   pub books : books_of s ≡ books_of u
   pub export : (book : List ℕ) → export s book ≡ export u book
 
--- a set that stands for another answers the same as that one, whatever is asked but an operation's text
+-- a set that stands for another answers the same as that one, whatever is asked but an operation's
+-- text
 abbrev pub SaysSame : Type 0
 SaysSame = (s u : List Operation) → StandsFor s u → AnswersSame s u
 
@@ -142,7 +144,8 @@ pub record SameButTexts (s t : List Operation) : Type 0 where
   pub keys : (book : List ℕ) → keys_of s book ≡ keys_of t book
   pub books : books_of s ≡ books_of t
 
--- sets that are equal but for texts left out, legal or not, answer alike whatever does not hang on texts
+-- sets that are equal but for texts left out, legal or not, answer alike whatever does not hang on
+-- texts
 abbrev pub SkeletonAnswers : Type 0
 SkeletonAnswers = (s t : List Operation) → skeleton s ≡ skeleton t → SameButTexts s t
 
@@ -170,32 +173,36 @@ FullGroupingsAlike = (a b c : List Operation) → rises a ≡ true → rises b �
     → all_full a ≡ true → all_full b ≡ true →
     clash a b ≡ None → clash (join a b) c ≡ None → (clash b c ≡ None) × (clash a (join b c) ≡ None)
 
--- Legal sets that are equal but for texts left out, and in which no id has two operations, show the same. So a full
--- set, if there is one, need not be known.
+-- Legal sets that are equal but for texts left out, and in which no id has two operations, show the
+-- same. So a full set, if there is one, need not be known.
 abbrev pub SkeletonShows : Type 0
 SkeletonShows =
     (s t : List Operation) (g : Segment) → rises s ≡ true → rises t ≡ true → is_legal s ≡ true
     → is_legal t ≡ true → clash s t ≡ None → skeleton s ≡ skeleton t → shown s g ≡ shown t g
 
--- legal sets that are equal but for texts left out, and do not clash, pick the same operation, or line, for each segment
+-- legal sets that are equal but for texts left out, and do not clash, pick the same operation, or
+-- line, for each segment
 abbrev pub SkeletonPicks : Type 0
 SkeletonPicks =
     (s t : List Operation) (g : Segment) → rises s ≡ true → rises t ≡ true → is_legal s ≡ true
     → is_legal t ≡ true → clash s t ≡ None → skeleton s ≡ skeleton t → pick s g ≡ pick t g
 
--- legal sets that are equal but for texts left out, and do not clash, have the same export of each book
+-- legal sets that are equal but for texts left out, and do not clash, have the same export of each
+-- book
 abbrev pub SkeletonExports : Type 0
 SkeletonExports =
     (s t : List Operation) (book : List ℕ) → rises s ≡ true → rises t ≡ true → is_legal s ≡ true
     → is_legal t ≡ true → clash s t ≡ None → skeleton s ≡ skeleton t
     → export s book ≡ export t book
 
--- sets that are equal but for texts left out, and stand for full sets that do not clash, stand for one set
+-- sets that are equal but for texts left out, and stand for full sets that do not clash, stand for
+-- one set
 abbrev pub SameSkeletonOneWhole : Type 0
 SameSkeletonOneWhole = (s u t v : List Operation) → StandsFor s u → StandsFor t v → clash u v ≡ None
     → skeleton s ≡ skeleton t → u ≡ v
 
--- sets that are equal but for texts left out, and stand for full sets that do not clash, show the same
+-- sets that are equal but for texts left out, and stand for full sets that do not clash, show the
+-- same
 abbrev pub SameSkeletonShowsSame : Type 0
 SameSkeletonShowsSame =
     (s u t v : List Operation) (g : Segment) → StandsFor s u → StandsFor t v → clash u v ≡ None
@@ -207,7 +214,8 @@ SameSkeletonShowsSame =
 abbrev pub KnowsNoMore : (Id → Bool) → List Operation → Type 0
 KnowsNoMore knows held = (id : Id) → knows id ≡ true → is_some (get held id) ≡ true
 
--- What is sent to a set that may know less than it holds is not refused there, and adds what the whole adds, but for texts.
+-- What is sent to a set that may know less than it holds is not refused there, and adds what the
+-- whole adds, but for texts.
 abbrev pub DeltaJoins : Type 0
 DeltaJoins = (s t : List Operation) (knows : Id → Bool) → rises s ≡ true → rises t ≡ true
     → clash s t ≡ None → KnowsNoMore knows s →
@@ -259,8 +267,9 @@ pub record Alike (one other : Result (List Operation) Id) : Type 0 where
   pub picks : (g : Segment) → pick a g ≡ pick b g
   pub exports : (book : List ℕ) → export a book ≡ export b book
 
--- Sets of one family, which together hold the same ids, joined in whatever order, grouping and repetition: none is refused,
--- and the unions are equal but for texts left out, and show and pick the same.
+-- Sets of one family, which together hold the same ids, joined in whatever order, grouping and
+-- repetition: none is refused, and the unions are equal but for texts left out, and show and pick
+-- the same.
 abbrev pub UnionsAlike : Type 0
 UnionsAlike =
     (family : Id → Operation) (one other : Joining) → AreOf family one → AreOf family other →
@@ -281,8 +290,8 @@ ThinWhereIsLegal =
     (s : List Operation) (p : Id → Bool) → rises s ≡ true → is_legal s ≡ true → ArePast p s
     → is_legal (thin_where p s) ≡ true
 
--- What is held is joined in two steps: first what is new, then the texts of those are left out that the other has thinned. In
--- between the set is legal too.
+-- What is held is joined in two steps: first what is new, then the texts of those are left out that
+-- the other has thinned. In between the set is legal too.
 pub record TwoSteps (a b : List Operation) : Type 0 where
   pub joins : join a b ≡ thin_where (is_thinned_in b)
       (join a (filter (λ o. is_none (get a o.id)) b))

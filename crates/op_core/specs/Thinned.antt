@@ -61,8 +61,9 @@ ArePast p held =
 abbrev pub skeleton : List Operation → List Operation
 skeleton held = map bare held
 
--- A set in which some operations may be thinned stands for the set that has all of them in full: both rise, the first is
--- legal, their skeletons are equal, and each full operation of the first is in the second.
+-- A set in which some operations may be thinned stands for the set that has all of them in full:
+-- both rise, the first is legal, their skeletons are equal, and each full operation of the first is
+-- in the second.
 pub record StandsFor (held whole : List Operation) : Type 0 where
   pub rising : IsTrue (rises held)
   pub whole_rising : IsTrue (rises whole)
@@ -77,8 +78,8 @@ pub record StandsIn (o whole : Operation) : Type 0 where
   pub bares : bare o ≡ bare whole
   pub same : is_full o ≡ true → o ≡ whole
 
--- The set is legal, and each of its operations is the one of its id in a family, in full or thinned: so no id stands
--- for two operations in sets of one family.
+-- The set is legal, and each of its operations is the one of its id in a family, in full or
+-- thinned: so no id stands for two operations in sets of one family.
 pub record IsOf (family : Id → Operation) (held : List Operation) : Type 0 where
   pub rising : IsTrue (rises held)
   pub legal : IsTrue (is_legal held)
@@ -103,7 +104,7 @@ lacks_thinned held knows g =
 abbrev pub is_sent : List Operation → (Id → Bool) → Operation → Bool
 is_sent held knows o = is_lacked knows o || lacks_thinned held knows o.segment
 
--- what is lacked where some ids are known; of a segment of which a thinned operation is lacked, all that is held, since
--- a thinned operation goes with one that names it
+-- what is lacked where some ids are known; of a segment of which a thinned operation is lacked, all
+-- that is held, since a thinned operation goes with one that names it
 abbrev pub delta : List Operation → (Id → Bool) → List Operation
 delta held knows = filter (is_sent held knows) held

@@ -37,9 +37,9 @@ use crate::operations::op::Op;
 use std::alloc::{AllocError, Global};
 use usfm_ref::{Book, Segment};
 
-// Takes in operations that rise and of which none is held. What they change at each segment is reckoned
-// aside, with the room for it, before the first change is made. Where nothing is held, the whole index is
-// made aside.
+// Takes in operations that rise and of which none is held. What they change at each segment is
+// reckoned aside, with the room for it, before the first change is made. Where nothing is held, the
+// whole index is made aside.
 pub(crate) fn enroll(
     chapters: &mut Vec<Chapter>,
     alloc: Global,

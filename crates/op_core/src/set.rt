@@ -125,8 +125,9 @@ impl OpSet {
     /// held stays, thinned if it was, and nothing is allocated.
     ///
     /// # Errors
-    /// `Clash` with the operation's id where a held operation has that id and does not agree with it;
-    /// `Memory` where an allocation failed. The set is then unchanged, and the operation dropped.
+    /// `Clash` with the operation's id where a held operation has that id and does not agree with
+    /// it; `Memory` where an allocation failed. The set is then unchanged, and the operation
+    /// dropped.
     pub fn insert(&mut self, op: Op) -> Result<bool, SetFault>
         requires full { IsTrue (ops.is_full op) }
         ensures ok { OnOk result (self.new ≡ sets.put op self.old) }
@@ -183,9 +184,10 @@ impl OpSet {
         Ok(count)
     }
 
-    /// Adds operations that rise by id and of which none is held, and says how many they are. In the
-    /// union each thinned operation has to be named by one of its segment. What lies after the first
-    /// of them is moved once, however many they are. Where there are none, it does not allocate.
+    /// Adds operations that rise by id and of which none is held, and says how many they are. In
+    /// the union each thinned operation has to be named by one of its segment. What lies after the
+    /// first of them is moved once, however many they are. Where there are none, it does not
+    /// allocate.
     ///
     /// # Errors
     /// Out of memory alone. The set is then unchanged, and the operations dropped.
@@ -251,9 +253,9 @@ impl OpSet {
         Ok(ids)
     }
 
-    /// How many comparisons the calls that change the set made to find what they change: each of two
-    /// ids or of two segments adds one, up to `u64::MAX`. Whether two operations of one id agree is
-    /// not counted. It is no part of the set, and may rise in a refused call.
+    /// How many comparisons the calls that change the set made to find what they change: each of
+    /// two ids or of two segments adds one, up to `u64::MAX`. Whether two operations of one id
+    /// agree is not counted. It is no part of the set, and may rise in a refused call.
     pub fn compared(&self) -> u64 {
         self.search.compared
     }
@@ -279,9 +281,9 @@ impl OpSet {
         Ok(shown)
     }
 
-    /// What is picked for the segment's text in its book's export: the chapter's own line for a head
-    /// from chapter 1 on whose text would be empty while some verse of the chapter has a text, else
-    /// the shown operation with the greatest id, if there is one. It does not allocate.
+    /// What is picked for the segment's text in its book's export: the chapter's own line for a
+    /// head from chapter 1 on whose text would be empty while some verse of the chapter has a text,
+    /// else the shown operation with the greatest id, if there is one. It does not allocate.
     pub fn pick(&self, book: Book, key: Key) -> Picked<'_>
         ensures { texts.picked result ≡ texts.pick self.now (segment book key) }
     {
@@ -299,7 +301,8 @@ impl OpSet {
         }
     }
 
-    // The index, chapter by chapter. What holds of it, and of the operations, is known to those who read it.
+    // The index, chapter by chapter. What holds of it, and of the operations, is known to those who
+    // read it.
     fn index(&self) -> &[Chapter]
         ensures set { sets.IsOpSet self.now }
         ensures index { IsIndex self.now result.now }

@@ -5,8 +5,8 @@ use Rattle.op_core.specs.Ids.{Id}
 use Rattle.op_core.specs.Ops.{Operation}
 use Rattle.op_core.specs.Sets.{IsOpSet, clash}
 use Rattle.op_core.specs.Thinned.{is_legal}
-use Rattle.op_core.proofs.Fronts.{join_none}
-use Rattle.op_core.proofs.SideBySide.{clash_none}
+use Rattle.op_core.proofs.Sets.Fronts.{join_none}
+use Rattle.op_core.proofs.Sets.SideBySide.{clash_none}
 use Rattle.bundle_codec.specs.declared.fault.WholeFault.{WholeFault}
 use Rattle.bundle_codec.specs.Spelling.{bundle}
 use Rattle.bundle_codec.specs.Reading.{AreBytes}

@@ -4,8 +4,8 @@ use Rattle.std.proofs.lemmas.List.{length-map}
 use Rattle.op_core.specs.Ops.{Operation}
 use Rattle.op_core.specs.Sets.{IsOpSet, rises, join, clash}
 use Rattle.op_core.specs.Thinned.{is_legal, bare_where, is_thinned_in}
-use Rattle.op_core.proofs.Fresh.{fresh, fresh_rises, fresh_apart, length_join}
-use Rattle.op_core.proofs.TwoSteps.{two_steps}
+use Rattle.op_core.proofs.Sets.Fresh.{fresh, fresh_rises, fresh_apart, length_join}
+use Rattle.op_core.proofs.ThinnedSets.TwoSteps.{two_steps}
 use Rattle.bundle_codec.specs.Spelling.{bundle}
 use Rattle.replica_state.specs.Receives.{lacked}
 use Rattle.replica_state.specs.States.{State, IsState}

@@ -22,7 +22,8 @@ abbrev pub refusal_of : WholeFault → LoadFault
 refusal_of (whole.Bundle bundle.Memory) = Memory
 refusal_of fault = Bundle fault
 
--- after a name, memory is taken to judge the bundle, where one of its operations is thinned, or to copy it
+-- after a name, memory is taken to judge the bundle, where one of its operations is thinned, or to
+-- copy it
 abbrev pub TakesMemoryAfter : Option (List ℕ × List ℕ) → Type 0
 TakesMemoryAfter None = ⊥
 TakesMemoryAfter (Some front) = TakesMemory front.1 ⊎ IsOk (whole_at front.1)

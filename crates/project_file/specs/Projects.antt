@@ -1,4 +1,5 @@
--- Project files: a replica as bytes, its name in front of the bundle of what it holds (this project's own format).
+-- Project files: a replica as bytes, its name in front of the bundle of what it holds (this
+-- project's own format).
 use Rattle.std.specs.Prelude.{◌≡◌, ℕ, nat_eq, nat_le, ◌&&◌, List, [], ◌∷◌, ◌++◌, length, take, drop, codes, Option, Some, None, option_and_then, Result, Ok, Err, if◌then◌else◌}
 use Rattle.std.specs.List.{starts_with}
 use Rattle.op_core.specs.Names.{is_name}
@@ -15,7 +16,8 @@ use Rattle.project_file.specs.declared.fault.LoadFault.TheVariants.{BadProject, 
 unfoldable pub magic : List ℕ
 magic = codes "USFMPJ1" ++ 10 ∷ []
 
--- the project file of a replica: the magic, the name's length in one byte, the name, and the bundle of what is held
+-- the project file of a replica: the magic, the name's length in one byte, the name, and the bundle
+-- of what is held
 unfoldable pub project : State → List ℕ
 project s = magic ++ (length s.name ∷ (s.name ++ bundle s.held))
 
@@ -46,13 +48,14 @@ abbrev pub state_of : List ℕ → Result (List Operation) WholeFault → Result
 state_of name (Ok held) = Ok (record { name = name; held = held })
 state_of name (Err fault) = Err (Bundle fault)
 
--- the replica of the name at the front and of the one bundle that all bytes after it are, or the first fault
+-- the replica of the name at the front and of the one bundle that all bytes after it are, or the
+-- first fault
 abbrev pub after_front : Option (List ℕ × List ℕ) → Result State LoadFault
 after_front None = Err BadProject
 after_front (Some front) = state_of front.0 (whole_at front.1)
 
--- the replica whose project file the bytes are, to their end; or the first fault: that the magic or the name is cut
--- or wrong, or else that of the bundle
+-- the replica whose project file the bytes are, to their end; or the first fault: that the magic or
+-- the name is cut or wrong, or else that of the bundle
 abbrev pub project_at : List ℕ → Result State LoadFault
 project_at bytes = after_front (front_at bytes)
 
@@ -63,6 +66,7 @@ abbrev pub with_book : List ℕ → Result State LoadFault → Result State Load
 with_book book (Ok s) = Ok (of_one_book s book)
 with_book book (Err fault) = Err fault
 
--- the replica whose project file the bytes are, with the operations of the book alone; or the first fault
+-- the replica whose project file the bytes are, with the operations of the book alone; or the first
+-- fault
 abbrev pub book_at : List ℕ → List ℕ → Result State LoadFault
 book_at bytes book = with_book book (project_at bytes)

@@ -24,8 +24,8 @@ pub enum LoadFault {
     /// 1: an allocation failed.
     #[error("out of memory")]
     Memory,
-    /// 110: the bytes do not begin with `USFMPJ1`, a line feed, a length and a replica's name of that
-    /// length.
+    /// 110: the bytes do not begin with `USFMPJ1`, a line feed, a length and a replica's name of
+    /// that length.
     #[error("not a project file")]
     BadProject,
     /// 60 to 70: what follows the name is not one whole bundle.

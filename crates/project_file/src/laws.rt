@@ -1,4 +1,5 @@
-//! Laws of project files, over the definitions alone. Each function does nothing: its contract is the law.
+//! Laws of project files, over the definitions alone. Each function does nothing: its contract is
+//! the law.
 ghost use Rattle.project_file.specs.Laws as laws;
 
 /// What is saved is loaded as it was.

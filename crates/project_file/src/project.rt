@@ -49,11 +49,11 @@ pub fn create(alloc: Global, name: &str) -> Result<Vec<u8>, CreateFault>
 ///
 /// # Errors
 /// - `BadProject` (110) where the magic or the name is cut or wrong.
-/// - `Bundle` with the refusal of what follows the name, as `bundle_codec::decode_whole` answers it: 60
-///   to 69, and 70 where something follows the bundle.
-/// - `Memory` (1) where an allocation failed. It may be in the place of 69 and 70 where each field of
-///   the bundle is right and an operation is thinned, and of no other refusal. A replica that holds
-///   nothing is loaded without allocating.
+/// - `Bundle` with the refusal of what follows the name, as `bundle_codec::decode_whole` answers
+///   it: 60 to 69, and 70 where something follows the bundle.
+/// - `Memory` (1) where an allocation failed. It may be in the place of 69 and 70 where each field
+///   of the bundle is right and an operation is thinned, and of no other refusal. A replica that
+///   holds nothing is loaded without allocating.
 pub fn load(alloc: Global, bytes: &[u8]) -> Result<Replica, LoadFault>
     // What is loaded is a replica, and the bytes are its project file.
     ensures loaded { IfOk result (λ s. projects.project_at bytes.now ≡ Ok s) }
@@ -78,12 +78,12 @@ pub fn load(alloc: Global, bytes: &[u8]) -> Result<Replica, LoadFault>
 }
 
 /// The replica whose project file the bytes are, with the operations of one book alone. All of the
-/// file is judged, as `load` does, but only what is of the book is copied. It is to be looked at alone:
-/// an edit of it may give an id that the project has in another book.
+/// file is judged, as `load` does, but only what is of the book is copied. It is to be looked at
+/// alone: an edit of it may give an id that the project has in another book.
 ///
 /// # Errors
-/// Those of `load`. `Memory` (1) is not answered where the book has no operation and none of any book
-/// is thinned.
+/// Those of `load`. `Memory` (1) is not answered where the book has no operation and none of any
+/// book is thinned.
 pub fn load_book(alloc: Global, bytes: &[u8], book: Book) -> Result<Replica, LoadFault>
     // The bytes are a project file, and of its replica what is of the book is loaded.
     ensures loaded { IfOk result (λ s. projects.book_at bytes.now book ≡ Ok s) }
@@ -102,8 +102,8 @@ pub fn load_book(alloc: Global, bytes: &[u8], book: Book) -> Result<Replica, Loa
     Ok(Replica::of_book(alloc, project.name, &project.bundle, book)?)
 }
 
-/// A project file, judged: a replica's name, and the bundle of what the replica holds, lent from the
-/// bytes of the file. Made by `judge`.
+/// A project file, judged: a replica's name, and the bundle of what the replica holds, lent from
+/// the bytes of the file. Made by `judge`.
 #[derive(Debug, Drop)]
 pub struct Project<'a> {
     name: ReplicaName,
@@ -142,21 +142,21 @@ impl<'a> Project<'a> {
         self.bundle.to_set(alloc)
     }
 
-    /// The bundle of all operations that the replica holds, as `Replica::bundle` writes it. It is lent from
-    /// the bytes of the file, of which it is all that follows the name.
+    /// The bundle of all operations that the replica holds, as `Replica::bundle` writes it. It is
+    /// lent from the bytes of the file, of which it is all that follows the name.
     pub fn bundle(&self) -> &'a [u8]
         ensures { result.now ≡ spelled.bundle self.now.held }
     {
         self.bytes
     }
 
-    /// The project file of the replica after it took in the operations of a bundle, and how many of them
-    /// are new, as `Replica::receive` says it. Each operation is copied with the bytes that spell it, out
-    /// of one or the other; no replica is made.
+    /// The project file of the replica after it took in the operations of a bundle, and how many of
+    /// them are new, as `Replica::receive` says it. Each operation is copied with the bytes that
+    /// spell it, out of one or the other; no replica is made.
     ///
     /// # Errors
-    /// Those of `Bundle::join_after`: `Clash` (51) with the least id under which the replica and the
-    /// bundle have operations that do not agree, and `Memory` (1) where an allocation failed.
+    /// Those of `Bundle::join_after`: `Clash` (51) with the least id under which the replica and
+    /// the bundle have operations that do not agree, and `Memory` (1) where an allocation failed.
     pub fn receive(&self, alloc: Global, bundle: &Bundle<'_>) -> Result<(Vec<u8>, u64), JoinFault>
         ensures spelled { IfOk result (λ made.
             made.0.items ≡ projects.project (with_ops self.now bundle.now)) }
@@ -235,7 +235,8 @@ pub fn save(alloc: Global, replica: &Replica) -> Result<Vec<u8>, AllocError>
     replica.bundle_after(bytes)
 }
 
-// What a project file of a replica of this name begins with: the magic, and the name after its length.
+// What a project file of a replica of this name begins with: the magic, and the name after its
+// length.
 fn front_for(alloc: Global, name: &ReplicaName) -> Result<Vec<u8>, AllocError>
     ensures { IfOk result (λ bytes.
         bytes.items ≡ projects.magic ++ (length name.now ∷ name.now)) }

@@ -6,7 +6,8 @@ use Rattle.project_page.specs.Pages.{page, page_by}
 use Rattle.project_page.specs.Parts.{PageView}
 use Rattle.project_page.specs.Said.{said}
 
--- whether a byte is one that HTML reads as markup, beside the one that begins a reference: `<`, `>`, `"` or `'`
+-- whether a byte is one that HTML reads as markup, beside the one that begins a reference: `<`,
+-- `>`, `"` or `'`
 abbrev pub is_markup : ℕ → Bool
 is_markup b = b == 60 || b == 62 || b == 34 || b == 39
 

@@ -1,5 +1,6 @@
--- The page about a project (this project's own rule, in HTML 5): the fixed pieces of `src/markup.rt`, each by its name, and between
--- them numbers, and the project's texts and names, each as `say` writes it.
+-- The page about a project (this project's own rule, in HTML 5): the fixed pieces of
+-- `src/markup.rt`, each by its name, and between them numbers, and the project's texts and names,
+-- each as `say` writes it.
 use Rattle.std.specs.Prelude.{◌≡◌, ℕ, ◌*◌, ◌==◌, nat_le, Bool, List, [], ◌++◌, length, if◌then◌else◌}
 use Rattle.std.specs.List.{flat_map}
 use Rattle.std.specs.Fmt.{decimal}
@@ -79,7 +80,8 @@ progress say books = html.PROGRESS.now ++ flat_map (book_row say) books
 
 -- ---- texts
 
--- a mark apart, so that its Latin letters do not say in which direction the text runs; a text as it is
+-- a mark apart, so that its Latin letters do not say in which direction the text runs; a text as it
+-- is
 abbrev pub token_said : Saying → Lexeme → List ℕ
 token_said say (mark m) = html.MARK.now ++ (say (mark_bytes m) ++ html.MARK_END.now)
 token_said say (words t) = say t
@@ -88,7 +90,8 @@ token_said say (words t) = say t
 abbrev pub text_said : Saying → List ℕ → List ℕ
 text_said say text = flat_map (token_said say) (tokens_of text)
 
--- a text that stands before or after a segment, after the piece that says so; nothing where it is empty
+-- a text that stands before or after a segment, after the piece that says so; nothing where it is
+-- empty
 unfoldable pub near : Saying → List ℕ → List ℕ → List ℕ
 near say named text =
     if is_empty text then [] else

@@ -25,8 +25,8 @@ pub record BookView : Type 0 where
   pub book : List ℕ
   pub chapters : List Chapter
 
--- a conflict: its segment, the texts of the book before and after it, what is picked, its texts, and the operations that have one
--- of these too
+-- a conflict: its segment, the texts of the book before and after it, what is picked, its texts,
+-- and the operations that have one of these too
 pub record ConflictView : Type 0 where
   pub segment : Segment
   pub before : List ℕ
@@ -101,7 +101,8 @@ pub record AreConflictsOf (held : List Operation) (gs : List Segment) (cs : List
   pub count : length cs ≡ length gs
   pub each : (k : ℕ) (c : ConflictView) → slice_get cs k ≡ Some c → IsConflictAt held gs k c
 
--- what a page says is so of a replica: its numbers are those of its status, its conflicts those of its report
+-- what a page says is so of a replica: its numbers are those of its status, its conflicts those of
+-- its report
 pub record ArePartsOf (s : State) (p : PageView) : Type 0 where
   pub name : p.name ≡ s.name
   pub books : p.books ≡ map (progress_of s.held) (books_of s.held)

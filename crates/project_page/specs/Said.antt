@@ -1,10 +1,11 @@
--- How a text of a project stands in a page (this project's own rule, over HTML 5): with its control characters spelled out, and
--- with references in the place of what HTML reads as markup.
+-- How a text of a project stands in a page (this project's own rule, over HTML 5): with its control
+-- characters spelled out, and with references in the place of what HTML reads as markup.
 use Rattle.std.specs.Prelude.{ℕ, ◌==◌, List, [], ◌∷◌, codes, if◌then◌else◌}
 use Rattle.std.specs.List.{flat_map}
 use Rattle.conflict_settling.specs.Escapes.{escaped}
 
--- what stands for a byte: a reference for `&` (38), `<` (60), `>` (62), `"` (34) and `'` (39), and each other byte for itself
+-- what stands for a byte: a reference for `&` (38), `<` (60), `>` (62), `"` (34) and `'` (39), and
+-- each other byte for itself
 abbrev pub reference : ℕ → List ℕ
 reference b =
     if b == 38 then codes "&amp;"

@@ -1,5 +1,5 @@
-//! What holds of each page, over the definitions alone. Each function does nothing: its contract is the
-//! law.
+//! What holds of each page, over the definitions alone. Each function does nothing: its contract is
+//! the law.
 ghost use Rattle.project_page.specs.Laws as laws;
 
 /// Where a text stands in a page it has no markup: no `<`, `>`, `"` or `'`, and each `&` begins a
@@ -10,7 +10,8 @@ pub fn texts_have_no_markup()
     ensures plain { laws.SaidHasNoControl }
 {}
 
-/// The markup of a page is that of the same page with each text and name left out: no text adds any.
+/// The markup of a page is that of the same page with each text and name left out: no text adds
+/// any.
 pub fn markup_is_fixed()
     ensures { laws.MarkupIsFixed }
 {}

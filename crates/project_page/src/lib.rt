@@ -1,6 +1,6 @@
 //! A page about a project: one HTML 5 file for who would rather look than read, to be mailed and
-//! printed. It says how the project stands, shows how far each chapter is, has each conflict with its
-//! texts side by side, and lists what is awaited.
+//! printed. It says how the project stands, shows how far each chapter is, has each conflict with
+//! its texts side by side, and lists what is awaited.
 //!
 //! The page has no script and names nothing outside itself. Each text of the project goes into it
 //! with its control characters spelled out and with named references in the place of the characters

@@ -26,9 +26,10 @@ pub fn page(alloc: Global, replica: &Replica) -> Result<Vec<u8>, AllocError>
     page_bytes(alloc, &parts)
 }
 
-/// The page that says these parts, in HTML 5: how the project stands; its books, each chapter shaded by
-/// how many of its verses have a text; each conflict between the texts around it, its texts side by side
-/// with their makers, what differs marked, the picked one named, and a box to tick; and what is awaited.
+/// The page that says these parts, in HTML 5: how the project stands; its books, each chapter
+/// shaded by how many of its verses have a text; each conflict between the texts around it, its
+/// texts side by side with their makers, what differs marked, the picked one named, and a box to
+/// tick; and what is awaited.
 ///
 /// # Errors
 /// Out of memory alone. Nothing is kept of the page then.

@@ -23,12 +23,14 @@ pub record OtherParts : Type 0 where
 abbrev pub other_line : List ℕ → List ℕ → ℕ → List ℕ
 other_line word file n = unless_none n (word ++ 32 ∷ (file ++ 32 ∷ (decimal n ++ 10 ∷ [])))
 
--- how many operations another copy does not have of those that are held, and how many ids it has that are not held
+-- how many operations another copy does not have of those that are held, and how many ids it has
+-- that are not held
 abbrev pub other_lines : List Operation → OtherParts → List ℕ
 other_lines held other = other_line (codes "lacks") other.file (lacks other.known held)
     ++ other_line (codes "lacked") other.file (lacked other.known held)
 
--- how a copy stands, the lines of its folder's files, and what other copies and it do not have of each other
+-- how a copy stands, the lines of its folder's files, and what other copies and it do not have of
+-- each other
 abbrev pub status : List ℕ → List Operation → List ℕ → List OtherParts → List ℕ
 status name held folder others =
     copy_line name ++ (held_lines held ++ (folder ++ flat_map (other_lines held) others))

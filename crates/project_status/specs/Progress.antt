@@ -21,8 +21,8 @@ abbrev pub count_to : ℕ → (ℕ → Bool) → ℕ
 count_to zero p = 0
 count_to (suc n) p = count_to n p + (if p (suc n) then 1 else 0)
 
--- how many of the numbers from 1 to the greatest are written in one of the verses; a number with several parts, such as 3a
--- and 3b, counts once, and a bridge counts for each of its numbers
+-- how many of the numbers from 1 to the greatest are written in one of the verses; a number with
+-- several parts, such as 3a and 3b, counts once, and a bridge counts for each of its numbers
 abbrev pub count_written : List Verse → ℕ
 count_written vs = count_to (greatest vs) (λ n. list_any (writes n) vs)
 
@@ -46,7 +46,8 @@ abbrev pub chapters_of : List Operation → List ℕ → List Chapter
 chapters_of held book =
     flat_map (λ c. chapter_of c (in_chapter c (verses_of held book))) (below 1000)
 
--- the line of a chapter: the book's code, the chapter, how many of its verses are written, `of`, and how many there are
+-- the line of a chapter: the book's code, the chapter, how many of its verses are written, `of`,
+-- and how many there are
 abbrev pub progress_line : List ℕ → Chapter → List ℕ
 progress_line book c =
     book ++ 32 ∷ (decimal c.chapter ++ 32 ∷

@@ -1,5 +1,5 @@
--- The verses of a book as its export has them (this project's own rule): which numbers a verse's text has, and whether it is
--- written.
+-- The verses of a book as its export has them (this project's own rule): which numbers a verse's
+-- text has, and whether it is written.
 use Rattle.std.specs.Prelude.{ℕ, max, not, ◌||◌, Bool, false, List, [], ◌∷◌, drop, Option, None, Some, if◌then◌else◌}
 use Rattle.std.specs.List.{list_any, flat_map}
 use Rattle.usfm_ref.specs.Keys.{KeyParts}
@@ -46,8 +46,8 @@ abbrev pub number_length : Option VerseMark → ℕ
 number_length None = 0
 number_length (Some verse) = verse.length
 
--- Whether a verse's tokens have more than its mark, its number, other marks and blanks. A verse of which no more stands in
--- its book, as in a book that was only laid out, is not written.
+-- Whether a verse's tokens have more than its mark, its number, other marks and blanks. A verse of
+-- which no more stands in its book, as in a book that was only laid out, is not written.
 abbrev pub is_written : List Lexeme → Bool
 is_written ts =
     has_ink (drop (number_length (verse_in (number_text ts))) (number_text ts))

@@ -1,5 +1,5 @@
-//! How a project stands: who made what is shown, what is in conflict and what is awaited, what other
-//! copies have, and how far the chapters are written.
+//! How a project stands: who made what is shown, what is in conflict and what is awaited, what
+//! other copies have, and how far the chapters are written.
 #![tactic(auto)]
 
 mod chapters;

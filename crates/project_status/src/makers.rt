@@ -54,8 +54,8 @@ fn push_names(ids: &[OpId], names: &mut Vec<ReplicaName>) -> Result<(), AllocErr
     Ok(())
 }
 
-/// How many of some operations each of their makers made, given the maker's name of each, in the order
-/// of names.
+/// How many of some operations each of their makers made, given the maker's name of each, in the
+/// order of names.
 ///
 /// # Errors
 /// Out of memory alone.

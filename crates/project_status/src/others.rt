@@ -69,13 +69,13 @@ fn common(set: &OpSet, known: &Summary) -> usize
     set.iter().filter(|op| known.covers(&op.id())).count()
 }
 
-/// How a copy of this name stands that holds these operations, in lines of which each is left out where it
-/// has nothing to say: `copy NAME`; `books N, verses N`, the books with an operation and the verses that
-/// are written; `shown NAME N, ..`, who made what is shown; `replaced N, of these N without their
-/// texts`; `conflict REF` for each segment that shows two or more distinct texts, in the order of the
-/// report; `awaited NUMBER NAME`, as the report has it; the lines of the copy's folder, as they are given; and
-/// for each other copy `lacks FILE N`, how many of the operations it does not have, and `lacked FILE N`, how
-/// many it has that are not held.
+/// How a copy of this name stands that holds these operations, in lines of which each is left out
+/// where it has nothing to say: `copy NAME`; `books N, verses N`, the books with an operation and
+/// the verses that are written; `shown NAME N, ..`, who made what is shown; `replaced N, of these N
+/// without their texts`; `conflict REF` for each segment that shows two or more distinct texts, in
+/// the order of the report; `awaited NUMBER NAME`, as the report has it; the lines of the copy's
+/// folder, as they are given; and for each other copy `lacks FILE N`, how many of the operations it
+/// does not have, and `lacked FILE N`, how many it has that are not held.
 ///
 /// # Errors
 /// Out of memory alone.

@@ -7,8 +7,9 @@ use op_core::OpSet;
 use std::alloc::{AllocError, Global};
 use usfm_ref::Book;
 
-/// Adds the lines of a book's chapters: for each in which a verse has a text the book, the chapter, how many of
-/// its verses are written, `of`, and the greatest number of a verse, as `MAT 1 25 of 25`.
+/// Adds the lines of a book's chapters: for each in which a verse has a text the book, the chapter,
+/// how many of its verses are written, `of`, and the greatest number of a verse, as `MAT 1 25 of
+/// 25`.
 ///
 /// # Errors
 /// Out of memory alone.

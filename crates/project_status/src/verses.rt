@@ -99,8 +99,8 @@ fn plain(token: Option<Token<'_>>) -> &str
     }
 }
 
-// Of the text directly after a verse's mark: the last number of its bridge, 0 where there is none, and
-// how many bytes the number takes with its bridge.
+// Of the text directly after a verse's mark: the last number of its bridge, 0 where there is none,
+// and how many bytes the number takes with its bridge.
 fn number_of(text: &str) -> (u16, usize)
     ensures end { result.0 ≡ verses.bridge_end (verse_in text.now) }
     ensures length { result.1 ≡ verses.number_length (verse_in text.now) }

@@ -6,7 +6,7 @@ use Rattle.std.specs.Option.{option_or}
 use Rattle.std.proofs.lemmas.List.{map-append}
 use Rattle.usfm_ref.specs.Keys.{KeyParts}
 use Rattle.op_core.specs.Ops.{Operation}
-use Rattle.op_core.proofs.Enrolled.{at_item, more_items}
+use Rattle.op_core.proofs.Indexed.Enrolled.{at_item, more_items}
 use Rattle.op_core.proofs.Walk.{kept_yes, kept_no}
 use Rattle.replica_state.specs.States.{State}
 use Rattle.replica_state.specs.Edits.{first_number}

@@ -23,7 +23,7 @@ use Rattle.op_core.specs.Lists.{ids_of, shown_ids}
 use Rattle.op_core.specs.NextIds.{greatest_number, next_number, is_among}
 use Rattle.op_core.specs.Export.{of_book, has_book}
 use Rattle.op_core.proofs.FilteredLists.{filter_all}
-use Rattle.op_core.proofs.Union.{rises-join}
+use Rattle.op_core.proofs.Sets.Union.{rises-join}
 use Rattle.replica_state.specs.States.{State}
 use Rattle.replica_state.specs.Edits.{has_numbers, edit_fault, first_not_shown, own_id, first_number, next_id, edit_by, unless}
 use Rattle.replica_state.specs.Changes.{ChangeParts, edits_from, edits_by, first_fault}
@@ -58,6 +58,7 @@ all_given ids = filter_all (is_among ids) ids (all_among ids ids (λ q a. a))
     all_among given (x ∷ ids) h =
         and_from _ _ (h x (or_left _ _ (same_id-refl x))) (all_among given ids (λ q a. h q (or_right (same_id q x) _ a)))
 
+-- of ids that are all among others none is outside
 pub none_outside : (ids given : List Id) → ((q : Id) → is_among given q ≡ true → is_among ids q ≡ true)
     → find (λ id. not (is_among ids id)) given ≡ None
 none_outside ids [] h = refl
@@ -100,6 +101,7 @@ none_wrong held book c later e = by (text_fits book c.key c.text) refl (first_no
     by true f (Some id) i e = cc e
     by false f id i e = cc e
 
+-- changes without a fault fit their segments
 pub all_fit : (held : List Operation) (book : List ℕ) (changes : List ChangeParts) → first_fault held book changes ≡ None
     → AllByRecursion (λ (c : ChangeParts). Fits book c.key c.text) changes
 all_fit held book [] e = tt

@@ -19,11 +19,11 @@ use Rattle.op_core.specs.Shown.{is_replaced}
 use Rattle.op_core.specs.Lists.{shown_ids}
 use Rattle.op_core.specs.NextIds.{greatest_number, next_number, is_among, given_ids}
 use Rattle.op_core.specs.Thinned.{is_legal, all_full}
-use Rattle.op_core.proofs.Enrolled.{more_items, apart_at}
-use Rattle.op_core.proofs.Left.{join_full_legal}
-use Rattle.op_core.proofs.NextIds.{beyond, shown_fall, some_fall}
-use Rattle.op_core.proofs.Shows.{not_named, names_none}
-use Rattle.op_core.proofs.Union.{rises_parts, rises-join, get-join, same_gets}
+use Rattle.op_core.proofs.Indexed.Enrolled.{more_items, apart_at}
+use Rattle.op_core.proofs.ThinnedSets.Left.{join_full_legal}
+use Rattle.op_core.proofs.IdOrders.NextIds.{beyond, shown_fall, some_fall}
+use Rattle.op_core.proofs.Books.Shows.{not_named, names_none}
+use Rattle.op_core.proofs.Sets.Union.{rises_parts, rises-join, get-join, same_gets}
 use Rattle.replica_state.specs.States.{State, IsState}
 use Rattle.replica_state.specs.Edits.{has_numbers, edit_with, own_id, first_number}
 use Rattle.replica_state.specs.Changes.{ChangeParts, edits_from}

@@ -20,12 +20,13 @@ use Rattle.op_core.specs.Shown.{wants_chapter_line}
 use Rattle.op_core.specs.Export.{keys_in, exported_keys}
 use Rattle.op_core.specs.CutsBack.{picked_at}
 use Rattle.op_core.specs.Lists.{keys_of}
-use Rattle.op_core.proofs.Exported.{any-rising, picks_are_exported}
+use Rattle.op_core.proofs.Books.Exported.{any-rising, picks_are_exported}
 use Rattle.op_core.proofs.FilteredLists.{any_map}
 use Rattle.replica_state.specs.Imports.{piece_own_text, piece_of, is_due, walked_keys, due_keys, has_verse}
 use Rattle.replica_state.proofs.Appended.{is_there, key_is}
 use Rattle.replica_state.proofs.KeyLists.{same_key-cmp}
 
+-- a key that passes a test is among the keys that do
 pub there_kept : (p : KeyParts → Bool) (q : KeyParts) (ks : List KeyParts) → p q ≡ true → is_there q ks ≡ true
     → is_there q (filter p ks) ≡ true
 there_kept p q [] t h = h

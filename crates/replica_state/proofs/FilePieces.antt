@@ -35,6 +35,7 @@ code_leads bytes book h = by (is_book_code (take 3 bytes) && ends_code (drop 3 b
         ap is_book_code (sym is) ∙ (and_parts (is_book_code (take 3 bytes)) (ends_code (drop 3 bytes)) e).0
     by false e h = absurd (cc)
 
+-- the book of a file is a code
 pub book_is_code : (text book : List ℕ) → book_in text ≡ Ok book → is_book_code book ≡ true
 unfolding book_in
 book_is_code text book h = by (after_id text) h
@@ -47,6 +48,7 @@ book_is_code text book h = by (after_id text) h
     by None h = absurd (cc)
     by (Some bytes) h = second (leading_book bytes) bytes refl h
 
+-- a file is headed by its book
 pub book_is_headed : (text book : List ℕ) → book_in text ≡ Ok book → IsHeaded book text
 book_is_headed text book h = book_reads text (Ok book) (sym h)
 

@@ -14,11 +14,11 @@ use Rattle.op_core.specs.Ops.{Operation, IsOperation, is_full, agree}
 use Rattle.op_core.specs.Sets.{IsOpSet, rises, get, meet, met, put, differs, clash, join}
 use Rattle.op_core.specs.Loops.Index.{AreApart}
 use Rattle.op_core.specs.Thinned.{is_legal}
-use Rattle.op_core.proofs.Fronts.{join_none}
-use Rattle.op_core.proofs.Legal.{join_legal}
-use Rattle.op_core.proofs.Rising.{same_id-cmp}
-use Rattle.op_core.proofs.Union.{AllAbove, apart_above, get_above, rises_parts, met_none, get-put, rises-put, same_gets}
-use Rattle.op_core.proofs.Union.{rises-join, get-join, IsOpSet-put, agree_from_no_clash}
+use Rattle.op_core.proofs.Sets.Fronts.{join_none}
+use Rattle.op_core.proofs.Sets.Legal.{join_legal}
+use Rattle.op_core.proofs.IdOrders.Rising.{same_id-cmp}
+use Rattle.op_core.proofs.Sets.Union.{AllAbove, apart_above, get_above, rises_parts, met_none, get-put, rises-put, same_gets}
+use Rattle.op_core.proofs.Sets.Union.{rises-join, get-join, IsOpSet-put, agree_from_no_clash}
 use Rattle.bundle_codec.proofs.Merges.{meets_thinned}
 use Rattle.replica_state.specs.Loops.Gathering.{by_id}
 use Rattle.replica_state.specs.Receives.{lacked, before_clash}

@@ -3,7 +3,7 @@ use Rattle.std.proofs.Common.{◌≡◌, ℕ, ◌<◌, ◌+◌, Bool, true, fals
 use Rattle.std.specs.List.{find}
 use Rattle.std.specs.Option.{option_or}
 use Rattle.std.proofs.lemmas.List.Folds.{find-append}
-use Rattle.op_core.proofs.Enrolled.{at_item, more_items}
+use Rattle.op_core.proofs.Indexed.Enrolled.{at_item, more_items}
 use Rattle.op_core.specs.Ids.{Id}
 
 module _ (p : Id → Bool) (ids : List Id) (i : ℕ) (id : Id) (l : i < length ids) (is : id ≡ get_or ids i id)

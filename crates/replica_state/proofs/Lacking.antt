@@ -6,8 +6,8 @@ use Rattle.std.proofs.lemmas.Bool.{cond-true, cond-false}
 use Rattle.op_core.specs.Ops.{Operation, agree}
 use Rattle.op_core.specs.Sets.{IsOpSet, get, differs, clash, join, AreHeld}
 use Rattle.op_core.specs.Thinned.{all_full, is_legal, thin_where, is_thinned_in, ArePast}
-use Rattle.op_core.proofs.Fresh.{none_new, nothing_fresh, held_without_clash}
-use Rattle.op_core.proofs.TwoSteps.{two_steps, past_between}
+use Rattle.op_core.proofs.Sets.Fresh.{none_new, nothing_fresh, held_without_clash}
+use Rattle.op_core.proofs.ThinnedSets.TwoSteps.{two_steps, past_between}
 use Rattle.replica_state.specs.declared.fault.ReceiveFault.{ReceiveFault}
 use Rattle.replica_state.specs.declared.fault.ReceiveFault.TheVariants.{Memory, Clash}
 use Rattle.replica_state.specs.Receives.{lacked, before_clash, RefusesReceive}

@@ -6,9 +6,9 @@ use Rattle.op_core.specs.Ids.{Id, same_id}
 use Rattle.op_core.specs.Ops.{Operation, is_full, is_thinned, bare}
 use Rattle.op_core.specs.Sets.{get}
 use Rattle.op_core.specs.Thinned.{is_past, all_full, bare_where, thin_where, is_thinned_in, ArePast}
-use Rattle.op_core.proofs.Clashes.{get_id}
-use Rattle.op_core.proofs.Left.{same_id-sym, where_then, where_agree, where_never}
-use Rattle.op_core.proofs.TwoSteps.{get_where, past_where}
+use Rattle.op_core.proofs.Sets.Clashes.{get_id}
+use Rattle.op_core.proofs.ThinnedSets.Left.{same_id-sym, where_then, where_agree, where_never}
+use Rattle.op_core.proofs.ThinnedSets.TwoSteps.{get_where, past_where}
 
 -- what is held so far, and the walk over what is left of the bundle
 pub record IsLeaving (old all now walk : List Operation) : Type 0 where

@@ -26,10 +26,10 @@ use Rattle.op_core.specs.Shown.{last, shown, text_if_any, wants_chapter_line}
 use Rattle.op_core.specs.Export.{exported_keys, export}
 use Rattle.op_core.specs.CutsBack.{picked_at, later_texts}
 use Rattle.op_core.specs.NextIds.{greatest_number, next_number}
-use Rattle.op_core.proofs.CutsBack.{exports_cut_back, keys_rise, split, texts_fit, texts_rise}
-use Rattle.op_core.proofs.Exported.{IsOf, filled_verse, shown_last, picked_own, picks_are_exported, wants_line}
-use Rattle.op_core.proofs.Legal.{shown_full, full_last}
-use Rattle.op_core.proofs.Shows.{shows_one}
+use Rattle.op_core.proofs.Books.CutsBack.{exports_cut_back, keys_rise, split, texts_fit, texts_rise}
+use Rattle.op_core.proofs.Books.Exported.{IsOf, filled_verse, shown_last, picked_own, picks_are_exported, wants_line}
+use Rattle.op_core.proofs.Sets.Legal.{shown_full, full_last}
+use Rattle.op_core.proofs.Books.Shows.{shows_one}
 use Rattle.replica_state.specs.States.{State, IsState}
 use Rattle.replica_state.specs.Edits.{first_number}
 use Rattle.replica_state.specs.Imports as spec
@@ -56,6 +56,7 @@ text_has_fit o h full = by o.text h.text full
     by None h e = cc e
     by (Some t) h e = h.fits
 
+-- where no key passes a test, none is kept
 pub none_pass : (p : KeyParts → Bool) (ks : List KeyParts) → ((q : KeyParts) → p q ≡ false) → filter p ks ≡ []
 none_pass p [] f = refl
 none_pass p (k ∷ ks) f = (λ i. cond (f k i) (k ∷ filter p ks) (filter p ks)) ∙ none_pass p ks f

@@ -7,7 +7,7 @@ use Rattle.op_core.specs.Ops.{Operation}
 use Rattle.op_core.specs.Sets.{IsOpSet, clash, join}
 use Rattle.op_core.specs.Laws.{Joining, joined_or_clash, with_both, union_by, SameTogether}
 use Rattle.op_core.specs.Laws.Joining.{Part, Joined}
-use Rattle.op_core.proofs.Together.{joined_in, same_from_none}
+use Rattle.op_core.proofs.Sets.Together.{joined_in, same_from_none}
 use Rattle.replica_state.specs.States.{State, begun}
 use Rattle.replica_state.specs.Steps.{received, step, Receive}
 use Rattle.replica_state.specs.Runs.{after_all, IsTaken, NoneRefused}

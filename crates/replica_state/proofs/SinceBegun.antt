@@ -28,7 +28,7 @@ use Rattle.op_core.specs.CutsBack.{picked_at}
 use Rattle.op_core.specs.NextIds.{next_number}
 use Rattle.op_core.specs.Export.{of_book, has_book}
 use Rattle.op_core.proofs.FilteredLists.{filter_none, none_of_less}
-use Rattle.op_core.proofs.Union.{rises-join}
+use Rattle.op_core.proofs.Sets.Union.{rises-join}
 use Rattle.replica_state.specs.States.{State}
 use Rattle.replica_state.specs.Receives.{lacked}
 use Rattle.replica_state.specs.Imports.{piece_own_text, piece_of, piece_at, is_due, walked_keys}
@@ -45,7 +45,7 @@ use Rattle.replica_state.proofs.FilePieces.{book_is_code, book_is_headed, head_h
 use Rattle.replica_state.proofs.SinceRuns.{Accepted, accepted, any_received, changed_rise, keys_back, none_wrong}
 
 -- a book without operations shows nothing
-none_shown : (ops : List Operation) (book : List ℕ) (key : KeyParts) → has_book ops book ≡ false → shown ops (segment book key) ≡ []
+pub none_shown : (ops : List Operation) (book : List ℕ) (key : KeyParts) → has_book ops book ≡ false → shown ops (segment book key) ≡ []
 none_shown ops book key h =
     let g = segment book key in
     filter_none (is_shown ops g) ops
@@ -54,7 +54,7 @@ none_shown ops book key h =
     (and_parts (in_segment g o) (not (is_replaced ops g o.id)) e).0).0) ops h)
 
 -- a text with a book's heading is not empty
-headed_differs : (book text : List ℕ) → IsHeaded book text → same_bytes [] text ≡ false
+pub headed_differs : (book text : List ℕ) → IsHeaded book text → same_bytes [] text ≡ false
 headed_differs book text h = ap (same_bytes []) h.begins.text_is ∙ by h.begins.marked
   where
     by : (m : Bool)
@@ -63,7 +63,7 @@ headed_differs book text h = ap (same_bytes []) h.begins.text_is ∙ by h.begins
     by false = refl
 
 -- the head of the book, where it is among rising keys, is the first
-head_begins : (held : List Operation) (book : List ℕ) (f : KeyParts → ChangeParts) → ((key : KeyParts) → (f key).key ≡ key)
+pub head_begins : (held : List Operation) (book : List ℕ) (f : KeyParts → ChangeParts) → ((key : KeyParts) → (f key).key ≡ key)
     → (keys : List KeyParts) → rises_by key_cmp (λ k. k) keys ≡ true → is_there book_head keys ≡ true → begins held book (map f keys) ≡ true
 head_begins held book f of_key [] rise h = refl
 head_begins held book f of_key (key ∷ keys) rise h = by (same_key key book_head) refl

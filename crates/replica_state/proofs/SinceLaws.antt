@@ -18,7 +18,7 @@ use Rattle.op_core.specs.Lists.{ids_of, shown_ids}
 use Rattle.op_core.specs.NextIds.{next_number, is_among}
 use Rattle.op_core.specs.Export.{export}
 use Rattle.op_core.specs.Equal.{id_from_same}
-use Rattle.op_core.proofs.Union.{IsOpSet-join}
+use Rattle.op_core.proofs.Sets.Union.{IsOpSet-join}
 use Rattle.replica_state.specs.States.{State, IsState}
 use Rattle.replica_state.specs.Changes.{ChangeParts, edits_from, edits_by}
 use Rattle.replica_state.specs.Steps.{with_ops, edited_all}

@@ -18,8 +18,8 @@ use Rattle.op_core.specs.Ops.{Operation}
 use Rattle.op_core.specs.Sets.{rises, get, join, met, meet, clash}
 use Rattle.op_core.specs.Lists.{keys_of, shown_ids}
 use Rattle.op_core.specs.NextIds.{greatest_number, is_among}
-use Rattle.op_core.proofs.Gets.{AnyHeld, any_held, any_from}
-use Rattle.op_core.proofs.Union.{agree_from_no_clash, get-join}
+use Rattle.op_core.proofs.Sets.Gets.{AnyHeld, any_held, any_from}
+use Rattle.op_core.proofs.Sets.Union.{agree_from_no_clash, get-join}
 use Rattle.replica_state.specs.States.{State}
 use Rattle.replica_state.specs.Edits.{first_number}
 use Rattle.replica_state.specs.Changes.{ChangeParts, edits_from, edits_by, first_fault}

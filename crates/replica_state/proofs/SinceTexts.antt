@@ -6,7 +6,7 @@ use Rattle.std.proofs.lemmas.List.{map-append}
 use Rattle.std.proofs.lemmas.List.Folds.{list_any-append}
 use Rattle.op_core.specs.Ops.{Operation, own_text}
 use Rattle.op_core.specs.Shown.{last, text_if_any}
-use Rattle.op_core.proofs.Enrolled.{at_item, more_items}
+use Rattle.op_core.proofs.Indexed.Enrolled.{at_item, more_items}
 use Rattle.op_core.proofs.Walk.{last_push}
 
 module _ {X : Type 0} (f : X → Operation) (xs : List X) (i : ℕ) (x : X) (l : i < length xs) (is : x ≡ get_or xs i x) where

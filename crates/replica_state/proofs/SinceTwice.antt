@@ -21,16 +21,16 @@ use Rattle.op_core.specs.Shown.{shown, is_shown, is_replaced}
 use Rattle.op_core.specs.Export.{of_book, keys_in}
 use Rattle.op_core.specs.Lists.{ids_of, shown_ids, keys_of}
 use Rattle.op_core.specs.NextIds.{greatest_number, next_number, is_among, given_ids}
-use Rattle.op_core.proofs.Agreement.{Agree, agree_itself}
-use Rattle.op_core.proofs.Enrolled.{apart_at}
-use Rattle.op_core.proofs.Exported.{any-rising}
+use Rattle.op_core.proofs.Sets.Agreement.{Agree, agree_itself}
+use Rattle.op_core.proofs.Indexed.Enrolled.{apart_at}
+use Rattle.op_core.proofs.Books.Exported.{any-rising}
 use Rattle.op_core.proofs.FilteredLists.{any_filter, any_map, filter_none}
-use Rattle.op_core.proofs.Filters.{filter_kept}
-use Rattle.op_core.proofs.Gets.{AnyHeld, any_held}
-use Rattle.op_core.proofs.Groupings.{join_agrees}
-use Rattle.op_core.proofs.NextIds.{beyond}
-use Rattle.op_core.proofs.NoClash.{no_clash}
-use Rattle.op_core.proofs.Union.{AgreeAtAll, IsOpSet-join, agree_from_no_clash, get-join, join_assoc, join_comm, join_itself}
+use Rattle.op_core.proofs.Sets.Filters.{filter_kept}
+use Rattle.op_core.proofs.Sets.Gets.{AnyHeld, any_held}
+use Rattle.op_core.proofs.Sets.Groupings.{join_agrees}
+use Rattle.op_core.proofs.IdOrders.NextIds.{beyond}
+use Rattle.op_core.proofs.Sets.NoClash.{no_clash}
+use Rattle.op_core.proofs.Sets.Union.{AgreeAtAll, IsOpSet-join, agree_from_no_clash, get-join, join_assoc, join_comm, join_itself}
 use Rattle.replica_state.specs.States.{State, IsState}
 use Rattle.replica_state.specs.Edits.{has_numbers}
 use Rattle.replica_state.specs.Changes.{ChangeParts, edits_from, edits_by}

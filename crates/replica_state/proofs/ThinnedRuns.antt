@@ -8,12 +8,12 @@ use Rattle.op_core.specs.Ops.{Operation}
 use Rattle.op_core.specs.Sets.{get, clash, join}
 use Rattle.op_core.specs.Lists.{is_held}
 use Rattle.op_core.specs.Thinned.{is_sent, delta, thin, IsOf}
-use Rattle.op_core.proofs.Bare.{held_same}
-use Rattle.op_core.proofs.Families.{family_joins, family_thins, held_either}
-use Rattle.op_core.proofs.Filters.{rises-filter, filter_within}
-use Rattle.op_core.proofs.Groupings.{delta_joins}
-use Rattle.op_core.proofs.Legal.{delta_legal, skeleton_thin}
-use Rattle.op_core.proofs.Union.{get-join}
+use Rattle.op_core.proofs.ThinnedSets.Bare.{held_same}
+use Rattle.op_core.proofs.Sets.Families.{family_joins, family_thins, held_either}
+use Rattle.op_core.proofs.Sets.Filters.{rises-filter, filter_within}
+use Rattle.op_core.proofs.Sets.Groupings.{delta_joins}
+use Rattle.op_core.proofs.Sets.Legal.{delta_legal, skeleton_thin}
+use Rattle.op_core.proofs.Sets.Union.{get-join}
 use Rattle.bundle_codec.specs.Summaries.{NameRanges, IsSummaryOf, covers, outside}
 use Rattle.replica_state.specs.States.{State, begun}
 use Rattle.replica_state.specs.Steps.{Command, Receive, Edit, EditOver, Import, Thin, Received, received, step, with_ops}
@@ -21,7 +21,7 @@ use Rattle.replica_state.specs.Runs.{after_all, IsTaken, NoneRefused}
 use Rattle.replica_state.specs.ThinLaws.{SameButThinned, TakesFrom, brought, is_brought, RunAlike, GivesUnion}
 use Rattle.replica_state.proofs.DeltasJoined.{delta_new}
 use Rattle.replica_state.proofs.Thinning.{same_family}
-use Rattle.op_core.proofs.Awaited.{held-get}
+use Rattle.op_core.proofs.Indexed.Awaited.{held-get}
 
 module _ (family : Id → Operation) where
   pub held_by_both : (s t : List Operation) → IsOf family s → IsOf family t → (q : Id) → is_held (join s t) q ≡ (is_held s q || is_held t q)

@@ -11,11 +11,11 @@ use Rattle.op_core.specs.NextIds.{is_among}
 use Rattle.op_core.specs.Thinned.{is_past, is_left_out, thinned_in, thin, IsOf}
 use Rattle.op_core.specs.Laws.Joining.{Part}
 use Rattle.op_core.specs.ThinLaws.{Alike}
-use Rattle.op_core.proofs.Bare.{held_same, past_same}
-use Rattle.op_core.proofs.Alike.{skeleton_answers}
-use Rattle.op_core.proofs.Families.{among_held, family_thins, unions_alike}
-use Rattle.op_core.proofs.Left.{IsOpSet-thin}
-use Rattle.op_core.proofs.Legal.{bare_thinned, skeleton_thin, thin_again, thin_legal}
+use Rattle.op_core.proofs.ThinnedSets.Bare.{held_same, past_same}
+use Rattle.op_core.proofs.ThinnedSets.Alike.{skeleton_answers}
+use Rattle.op_core.proofs.Sets.Families.{among_held, family_thins, unions_alike}
+use Rattle.op_core.proofs.ThinnedSets.Left.{IsOpSet-thin}
+use Rattle.op_core.proofs.Sets.Legal.{bare_thinned, skeleton_thin, thin_again, thin_legal}
 use Rattle.bundle_codec.specs.Summaries.{NameRanges, IsSummaryOf}
 use Rattle.replica_state.specs.States.{State, IsState}
 use Rattle.replica_state.specs.Steps.{Thinned, without_replaced_texts}

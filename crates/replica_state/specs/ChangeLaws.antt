@@ -14,13 +14,14 @@ use Rattle.replica_state.specs.Runs.{after_all, NoneRefused}
 abbrev pub edits_over : List ℕ → List ChangeParts → List Command
 edits_over book changes = map (λ c. EditOver (segment book c.key) c.text c.ids) changes
 
--- the book is begun by the first of some changes, if it is not yet: it has an operation, or the change is that of its head
+-- the book is begun by the first of some changes, if it is not yet: it has an operation, or the
+-- change is that of its head
 abbrev pub begins : List Operation → List ℕ → List ChangeParts → Bool
 begins held book [] = true
 begins held book (c ∷ later) = has_book held book || same_key c.key book_head
 
--- Changes of rising keys of a book that is begun, where they are not refused, are edits over their ids, one after the other, of
--- which none is refused; so all that holds of edits holds of them.
+-- Changes of rising keys of a book that is begun, where they are not refused, are edits over their
+-- ids, one after the other, of which none is refused; so all that holds of edits holds of them.
 abbrev pub ChangesAreEdits : Type 0
 ChangesAreEdits =
     (s : State) (book : List ℕ) (changes : List ChangeParts) (ops : List Operation) → IsState s →

@@ -1,5 +1,6 @@
--- Edits of a replica: a write of a multi-value register that names the writes which it replaces (Shapiro, Preguiça,
--- Baquero and Zawirski, INRIA RR-7506). What may be edited, and the numbers of edits, are this project's own rule.
+-- Edits of a replica: a write of a multi-value register that names the writes which it replaces
+-- (Shapiro, Preguiça, Baquero and Zawirski, INRIA RR-7506). What may be edited, and the numbers of
+-- edits, are this project's own rule.
 use Rattle.std.specs.Prelude.{ℕ, ◌+◌, nat_le, Bool, not, ◌||◌, List, Option, None}
 use Rattle.std.specs.Prelude.{Some, option_map, Result, Ok, Err, if◌then◌else◌}
 use Rattle.std.specs.List.{find}
@@ -42,8 +43,8 @@ abbrev pub edit_by : Option Id → Segment → List Id → List ℕ → Result O
 edit_by None g replaced text = Err NumbersUsedUp
 edit_by (Some id) g replaced text = Ok (edit_with id g replaced text)
 
--- why an edit of the segment may not begin: the text does not fit it; or else its book has no operation, and it is
--- not the book's head
+-- why an edit of the segment may not begin: the text does not fit it; or else its book has no
+-- operation, and it is not the book's head
 abbrev pub edit_fault : List Operation → Segment → List ℕ → Option EditFault
 edit_fault held g text =
     if not (text_fits g.book g.key text) then Some BadSegment
@@ -58,13 +59,14 @@ abbrev pub unless : {X : Type 0} → Option EditFault → Result X EditFault →
 unless None edit = edit
 unless (Some fault) edit = Err fault
 
--- the operation of an edit, by the next id, which names all ids that the segment shows; or the first refusal
+-- the operation of an edit, by the next id, which names all ids that the segment shows; or the
+-- first refusal
 abbrev pub edit_op : State → Segment → List ℕ → Result Operation EditFault
 edit_op s g text =
     unless (edit_fault s.held g text) (edit_by (next_id s) g (shown_ids s.held g) text)
 
--- the operation of an edit over given ids, which names these; or the first refusal, where an id that is not shown
--- comes before that no number is left
+-- the operation of an edit over given ids, which names these; or the first refusal, where an id
+-- that is not shown comes before that no number is left
 abbrev pub edit_over_op : State → Segment → List ℕ → List Id → Result Operation EditFault
 edit_over_op s g text given =
     unless (edit_fault s.held g text)

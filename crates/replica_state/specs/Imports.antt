@@ -1,4 +1,5 @@
--- Imports of a book's file into a replica (this project's own rule): the edits that make the file the export of its book.
+-- Imports of a book's file into a replica (this project's own rule): the edits that make the file
+-- the export of its book.
 use Rattle.std.specs.Prelude.{ℕ, Bool, not, ◌&&◌, ◌||◌, List, [], ◌++◌, map}
 use Rattle.std.specs.Prelude.{filter, Option, None, Some, Result, Ok, Err}
 use Rattle.std.specs.List.{find, list_any}
@@ -37,22 +38,23 @@ piece_at pieces key = piece_own_text (piece_of pieces key)
 abbrev pub has_verse : List PieceParts → ℕ → Bool
 has_verse pieces chapter = list_any (λ p. is_verse_of chapter p.key) pieces
 
--- whether the key is picked as its chapter's line, and a file has a piece there and no verse of the chapter: without an
--- edit the line would be gone with the last verse
+-- whether the key is picked as its chapter's line, and a file has a piece there and no verse of the
+-- chapter: without an edit the line would be gone with the last verse
 abbrev pub loses_line : List Operation → List ℕ → List PieceParts → KeyParts → Bool
 loses_line held book pieces key =
     wants_chapter_line held (segment book key)
     && is_some (piece_of pieces key)
     && not (has_verse pieces key.chapter)
 
--- whether an import edits the key: what is picked differs from the file's piece, or the chapter's line would be gone
+-- whether an import edits the key: what is picked differs from the file's piece, or the chapter's
+-- line would be gone
 abbrev pub is_due : List Operation → List ℕ → List PieceParts → KeyParts → Bool
 is_due held book pieces key =
     not (same_bytes (picked_at held book key) (piece_at pieces key))
     || loses_line held book pieces key
 
--- the keys that an import may edit, rising: those with an operation, the heads of their chapters, and those of the
--- file
+-- the keys that an import may edit, rising: those with an operation, the heads of their chapters,
+-- and those of the file
 abbrev pub walked_keys : List Operation → List ℕ → List PieceParts → List KeyParts
 walked_keys held book pieces =
     rising key_cmp
@@ -80,7 +82,7 @@ abbrev pub import_into : State → List PieceParts → Result (List ℕ) BookFau
 import_into s pieces (Err fault) = Err (BadFile fault)
 import_into s pieces (Ok book) = edits_or NumbersUsedUp s book (due_changes s.held book pieces)
 
--- the operations of an import: the edits of its changes, by rising numbers; or that the file begins with no book, or else
--- that no number is left
+-- the operations of an import: the edits of its changes, by rising numbers; or that the file begins
+-- with no book, or else that no number is left
 abbrev pub import_ops : State → List ℕ → Result (List Operation) ImportFault
 import_ops s file = import_into s (pieces_of file) (book_in file)

@@ -9,8 +9,9 @@ use Rattle.replica_state.specs.States.{begun}
 use Rattle.replica_state.specs.Steps.{Receive}
 use Rattle.replica_state.specs.Runs.{after_all, NoneRefused}
 
--- Two replicas that received bundles with the same operations together, thinned ones as thinned, in whatever order, grouping and
--- repetition, hold the same operations, and export the same bytes of every book, if no bundle was refused.
+-- Two replicas that received bundles with the same operations together, thinned ones as thinned, in
+-- whatever order, grouping and repetition, hold the same operations, and export the same bytes of
+-- every book, if no bundle was refused.
 abbrev pub SameBundlesSameBooks : Type 0
 SameBundlesSameBooks =
     (name other : List ℕ) (bundles others : List (List Operation)) →

@@ -1,4 +1,5 @@
--- Replicas of one book (this project's own rule): what a command that looks at one book needs of a replica.
+-- Replicas of one book (this project's own rule): what a command that looks at one book needs of a
+-- replica.
 use Rattle.std.specs.Prelude.{ℕ, List}
 use Rattle.op_core.specs.OneBook.{ops_of_book}
 use Rattle.replica_state.specs.States.{State}

@@ -1,4 +1,5 @@
--- Taking in a bundle: the join of two states (Shapiro, Preguiça, Baquero and Zawirski, INRIA RR-7506).
+-- Taking in a bundle: the join of two states (Shapiro, Preguiça, Baquero and Zawirski, INRIA
+-- RR-7506).
 use Rattle.std.specs.Prelude.{◌≡◌, List, [], ◌∷◌, filter, is_none, Option, Some, if◌then◌else◌}
 use Rattle.op_core.specs.Ids.{Id}
 use Rattle.op_core.specs.Ops.{Operation}
@@ -10,7 +11,8 @@ use Rattle.replica_state.specs.declared.fault.ReceiveFault.TheVariants.{Memory, 
 abbrev pub lacked : List Operation → List Operation → List Operation
 lacked held bundle = filter (λ o. is_none (get held o.id)) bundle
 
--- the operations of a bundle before the first that does not agree with the one that is held under its id
+-- the operations of a bundle before the first that does not agree with the one that is held under
+-- its id
 abbrev pub before_clash : List Operation → List Operation → List Operation
 before_clash held [] = []
 before_clash held (o ∷ rest) = if differs (get held o.id) o then [] else o ∷ before_clash held rest

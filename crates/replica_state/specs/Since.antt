@@ -1,5 +1,6 @@
--- Imports of a file that was changed since a bundle (this project's own rule): what was changed in it replaces what stood in it,
--- and nothing else. The bundle is the base: the file was written from it, and then changed.
+-- Imports of a file that was changed since a bundle (this project's own rule): what was changed in
+-- it replaces what stood in it, and nothing else. The bundle is the base: the file was written from
+-- it, and then changed.
 use Rattle.std.specs.Prelude.{ℕ, Bool, not, ◌&&◌, List, map, filter, Option, None, Some, Result, Ok, Err}
 use Rattle.std.specs.List.{list_any}
 use Rattle.usfm_ref.specs.Books.{same_bytes}
@@ -34,7 +35,8 @@ of_receiving (receiving.Clash id) = Clash id
 abbrev pub has_greatest_text : List Operation → Segment → Operation → Bool
 has_greatest_text base g o = same_bytes (own_text o) (text_of base g)
 
--- the ids that the base shows in a segment with the text of the greatest of them: those whose text stood in the file
+-- the ids that the base shows in a segment with the text of the greatest of them: those whose text
+-- stood in the file
 abbrev pub stood_ids : List Operation → Segment → List Id
 stood_ids base g = ids_of (filter (has_greatest_text base g) (shown base g))
 
@@ -46,8 +48,9 @@ seen_ids held base g = given_ids held g (stood_ids base g)
 abbrev pub shows_text : List Operation → Segment → List ℕ → Bool
 shows_text held g text = list_any (λ o. same_bytes (own_text o) text) (shown held g)
 
--- Whether the key was changed in the file since the base, as an import into the base would see it; but not where nothing is
--- shown any more of what stood in the file, and the new text is shown already.
+-- Whether the key was changed in the file since the base, as an import into the base would see it;
+-- but not where nothing is shown any more of what stood in the file, and the new text is shown
+-- already.
 abbrev pub is_changed : List Operation → List Operation → List ℕ → List PieceParts → KeyParts → Bool
 is_changed held base book pieces key =
     is_due base book pieces key
@@ -59,7 +62,8 @@ abbrev pub changed_keys : List Operation → List Operation → List ℕ → Lis
 changed_keys held base book pieces =
     filter (is_changed held base book pieces) (walked_keys held book pieces)
 
--- the change of a key to the file's piece, which replaces what the segment shows of that which stood in the file
+-- the change of a key to the file's piece, which replaces what the segment shows of that which
+-- stood in the file
 abbrev pub since_change : List Operation → List Operation → List ℕ → List PieceParts → KeyParts
     → ChangeParts
 since_change held base book pieces key = record {
@@ -78,7 +82,8 @@ since_changes held base book pieces =
 abbrev pub SinceStep : Type 0
 SinceStep = EditsStep SinceFault
 
--- The changes of a replica that has received the base are made; where they are refused it is as it was before.
+-- The changes of a replica that has received the base are made; where they are refused it is as it
+-- was before.
 abbrev pub changed : State → State → List ℕ → List ChangeParts → SinceStep
 changed before s book changes = edited_all before s (edits_or NumbersUsedUp s book changes)
 
@@ -94,8 +99,9 @@ abbrev pub changed_in : State → List Operation → List PieceParts → Result 
 changed_in s base pieces (Err fault) = record { after = s; answer = Err (BadFile fault) }
 changed_in s base pieces (Ok book) = changed_after s base book pieces (clash s.held base)
 
--- An import of a file since a base: the base is received, and then what was changed in the file is made, by edits over what the
--- replica shows of that which stood there, by rising numbers. Refused are a file that begins with no book, then a
--- base that clashes with what is held, then an edit for which no number is left.
+-- An import of a file since a base: the base is received, and then what was changed in the file is
+-- made, by edits over what the replica shows of that which stood there, by rising numbers. Refused
+-- are a file that begins with no book, then a base that clashes with what is held, then an edit for
+-- which no number is left.
 abbrev pub imported_since : State → List Operation → List ℕ → SinceStep
 imported_since s base file = changed_in s base (pieces_of file) (book_in file)

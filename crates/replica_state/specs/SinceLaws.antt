@@ -24,7 +24,8 @@ abbrev pub changes_of : State → List Operation → List ℕ → List PiecePart
 changes_of s base book pieces =
     edits_from (next_number s.held) s book (since_changes s.held base book pieces)
 
--- an operation of the id stood in the file: the base shows it in the segment, with the text of the greatest one that it shows there
+-- an operation of the id stood in the file: the base shows it in the segment, with the text of the
+-- greatest one that it shows there
 pub record StoodInFile (base : List Operation) (g : Segment) (id : Id) : Type 0 where
   pub op : Operation
   pub shown : Contains (shown base g) op
@@ -40,8 +41,8 @@ ReplacesNothingUnseen =
     Contains (changes_of s base book pieces) edit → Contains edit.replaced id →
     StoodInFile base edit.segment id
 
--- What did not stand in the file stays: of what the replica shows once it has received the base, an operation that did not
--- stand in the file is shown after the edits.
+-- What did not stand in the file stays: of what the replica shows once it has received the base, an
+-- operation that did not stand in the file is shown after the edits.
 abbrev pub UnseenStays : Type 0
 UnseenStays =
     (s : State) (base : List Operation) (book : List ℕ) (pieces : List PieceParts) (g : Segment)
@@ -49,7 +50,8 @@ UnseenStays =
     IsState s → Contains (shown s.held g) o → (StoodInFile base g o.id → ⊥) →
     Contains (shown (with_ops s (changes_of s base book pieces)).held g) o
 
--- An unchanged file changes nothing: where it is the base's export, whatever came in since, there is no edit.
+-- An unchanged file changes nothing: where it is the base's export, whatever came in since, there
+-- is no edit.
 abbrev pub UnchangedFilesAddNothing : Type 0
 UnchangedFilesAddNothing =
     (s b : State) (book : List ℕ) → IsState s → IsState b → clash s.held b.held ≡ None →
@@ -57,13 +59,14 @@ UnchangedFilesAddNothing =
     imported_since s b.held (export b.held book)
     ≡ record { after = with_ops s b.held; answer = Ok 0 }
 
--- the commands that an import of a book since a base is: the base is received, and then each changed key is edited
+-- the commands that an import of a book since a base is: the base is received, and then each
+-- changed key is edited
 abbrev pub since_commands : State → List Operation → List ℕ → List PieceParts → List Command
 since_commands s base book pieces =
     Receive base ∷ edits_over book (since_changes (with_ops s base).held base book pieces)
 
--- An import since a base that is not refused is a receiving and then edits over given ids, of which none is refused; so all that
--- holds of receivings and edits holds of it.
+-- An import since a base that is not refused is a receiving and then edits over given ids, of which
+-- none is refused; so all that holds of receivings and edits holds of it.
 abbrev pub IsReceivingAndEdits : Type 0
 IsReceivingAndEdits =
     (s : State) (base : List Operation) (file book : List ℕ) (count : ℕ) →
@@ -81,8 +84,9 @@ TwiceIsOnce =
     imported_since (imported_since s base file).after base file
     ≡ record { after = (imported_since s base file).after; answer = Ok 0 }
 
--- It is the import of the file where, with the base received, each segment of the file's book shows what the base shows there, and
--- of several operations that the base shows in one segment all have one text, so that nothing is in conflict there.
+-- It is the import of the file where, with the base received, each segment of the file's book shows
+-- what the base shows there, and of several operations that the base shows in one segment all have
+-- one text, so that nothing is in conflict there.
 abbrev pub IsImportWhereNothingCame : Type 0
 IsImportWhereNothingCame =
     (s : State) (base : List Operation) (file book : List ℕ) (count : ℕ) →

@@ -1,5 +1,5 @@
--- What a replica is: the name that its own operations get, and the set of operations that it holds (Shapiro,
--- Preguiça, Baquero and Zawirski, INRIA RR-7506: the state of a replica).
+-- What a replica is: the name that its own operations get, and the set of operations that it holds
+-- (Shapiro, Preguiça, Baquero and Zawirski, INRIA RR-7506: the state of a replica).
 use Rattle.std.specs.Prelude.{ℕ, List, [], IsTrue}
 use Rattle.op_core.specs.Names.{is_name}
 use Rattle.op_core.specs.Ops.{Operation}
@@ -15,7 +15,8 @@ pub record State : Type 0 where
 abbrev pub begun : List ℕ → State
 begun name = record { name = name; held = [] }
 
--- a right name, no two operations with one id, and no thinned operation that no held one of its segment names
+-- a right name, no two operations with one id, and no thinned operation that no held one of its
+-- segment names
 pub record IsState (s : State) : Type 0 where
   pub name : IsTrue (is_name s.name)
   pub set : IsOpSet s.held

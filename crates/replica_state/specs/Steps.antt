@@ -1,5 +1,5 @@
--- The steps of a replica: what it is after a command, and what is answered (this project's own rule, over the joining of
--- states in INRIA RR-7506).
+-- The steps of a replica: what it is after a command, and what is answered (this project's own
+-- rule, over the joining of states in INRIA RR-7506).
 use Rattle.std.specs.Prelude.{ℕ, List, [], ◌∷◌, length, filter, Option, None, Some, Result, Ok, Err}
 use Rattle.usfm_ref.specs.declared.segment.Segment.{Segment}
 use Rattle.op_core.specs.Ids.{Id}
@@ -15,8 +15,9 @@ use Rattle.replica_state.specs.declared.fault.ImportFault.{ImportFault}
 use Rattle.replica_state.specs.declared.fault.ReceiveFault.{ReceiveFault}
 use Rattle.replica_state.specs.declared.fault.ReceiveFault.TheVariants as receiving
 
--- what a replica may be told to do: to take in the operations of a bundle, to give a segment a text, over all or over given
--- ids, to take in a book's file, and to leave out the texts that were replaced
+-- what a replica may be told to do: to take in the operations of a bundle, to give a segment a
+-- text, over all or over given ids, to take in a book's file, and to leave out the texts that were
+-- replaced
 pub data Command : Type 0 where
   Receive : (bundle : List Operation) → Command
   Edit : (g : Segment) (text : List ℕ) → Command
@@ -24,8 +25,8 @@ pub data Command : Type 0 where
   Import : (file : List ℕ) → Command
   Thin : Command
 
--- what is answered: how many operations are new, or the clash; the id that an edit made; how many edits an import made; how
--- many texts were left out
+-- what is answered: how many operations are new, or the clash; the id that an edit made; how many
+-- edits an import made; how many texts were left out
 pub data Reply : Type 0 where
   Received : (answer : Result ℕ ReceiveFault) → Reply
   Edited : (answer : Result Id EditFault) → Reply
@@ -59,7 +60,8 @@ pub record EditsStep (F : Type 0) : Type 0 where
   pub after : State
   pub answer : Result ℕ F
 
--- The step of several edits: they are joined to what the replica holds, unless they are refused; it is then as it was before.
+-- The step of several edits: they are joined to what the replica holds, unless they are refused; it
+-- is then as it was before.
 abbrev pub edited_all : {F : Type 0} → State → State → Result (List Operation) F → EditsStep F
 edited_all before s (Ok ops) = record { after = with_ops s ops; answer = Ok (length ops) }
 edited_all before s (Err fault) = record { after = before; answer = Err fault }
@@ -82,7 +84,8 @@ thinned s = record {
   reply = Thinned (length (filter (is_left_out s.held) s.held));
 }
 
--- the step of a command: what a replica is after it, and what it answers; a refused command changes nothing
+-- the step of a command: what a replica is after it, and what it answers; a refused command changes
+-- nothing
 abbrev pub step : State → Command → Step
 step s (Receive bundle) = received s bundle (clash s.held bundle)
 step s (Edit g text) = edited s (edit_op s g text)

@@ -1,5 +1,6 @@
--- Laws of replicas that hold thinned operations (this project's own rule): a thinned operation counts as the one that it was,
--- so that sets are the same here where they are equal but for texts left out.
+-- Laws of replicas that hold thinned operations (this project's own rule): a thinned operation
+-- counts as the one that it was, so that sets are the same here where they are equal but for texts
+-- left out.
 use Rattle.std.specs.Prelude.{◌≡◌, ℕ, Bool, List, [], length, Ok}
 use Rattle.std.specs.List.{list_any, AllByRecursion}
 use Rattle.usfm_ref.specs.declared.segment.Segment.{Segment}
@@ -17,8 +18,8 @@ use Rattle.replica_state.specs.Steps.{Command, Receive, Edit, EditOver, Import}
 use Rattle.replica_state.specs.Steps.{Thin, Received, Thinned, step, with_ops}
 use Rattle.replica_state.specs.Runs.{after_all, NoneRefused}
 
--- Two replicas hold the same but for texts left out: they show and pick the same texts, and export the same bytes of every
--- book; and ids, awaited ids, keys, books and summaries are the same.
+-- Two replicas hold the same but for texts left out: they show and pick the same texts, and export
+-- the same bytes of every book; and ids, awaited ids, keys, books and summaries are the same.
 pub record SameButThinned (s t : State) : Type 0 where
   pub skeletons : skeleton s.held ≡ skeleton t.held
   pub shows : (g : Segment) → shown s.held g ≡ shown t.held g
@@ -27,14 +28,16 @@ pub record SameButThinned (s t : State) : Type 0 where
   pub answers : SameButTexts s.held t.held
   pub summaries : (k : List NameRanges) → IsSummaryOf s.held k → IsSummaryOf t.held k
 
--- A thinning leaves a replica that holds the same but for texts left out. A second one leaves out nothing more.
+-- A thinning leaves a replica that holds the same but for texts left out. A second one leaves out
+-- nothing more.
 pub record ThinsUnseen (s : State) : Type 0 where
   pub state : IsState (step s Thin).after
   pub same : SameButThinned s (step s Thin).after
   pub again : step (step s Thin).after Thin
       ≡ record { after = (step s Thin).after; reply = Thinned 0 }
 
--- the law: whatever replica is thinned, all that is asked of it stays, but an operation's own text where it is replaced
+-- the law: whatever replica is thinned, all that is asked of it stays, but an operation's own text
+-- where it is replaced
 abbrev pub ThinningIsUnseen : Type 0
 ThinningIsUnseen = (s : State) → IsState s → ThinsUnseen s
 
@@ -60,14 +63,16 @@ brought Thin = []
 abbrev pub is_brought : List Command → Id → Bool
 is_brought commands id = list_any (λ c. is_held (brought c) id) commands
 
--- what two runs leave: none of their commands is refused, and the replicas hold the same but for texts left out
+-- what two runs leave: none of their commands is refused, and the replicas hold the same but for
+-- texts left out
 pub record RunAlike (s t : State) (commands others : List Command) : Type 0 where
   pub taken : NoneRefused s commands
   pub others_taken : NoneRefused t others
   pub same : SameButThinned (after_all s commands) (after_all t others)
 
--- Two replicas that received bundles of one family, with the same ids together, in whatever order, grouping and repetition, and
--- thinned at whatever moments, hold the same but for texts left out. No bundle is refused.
+-- Two replicas that received bundles of one family, with the same ids together, in whatever order,
+-- grouping and repetition, and thinned at whatever moments, hold the same but for texts left out.
+-- No bundle is refused.
 abbrev pub ThinnedBundlesSameBooks : Type 0
 ThinnedBundlesSameBooks =
     (family : Id → Operation) (name other : List ℕ) (commands others : List Command) →
@@ -75,8 +80,9 @@ ThinnedBundlesSameBooks =
     ((id : Id) → is_brought commands id ≡ is_brought others id) →
     RunAlike (begun name) (begun other) commands others
 
--- Of two replicas with sets of one family, one that receives the other one's delta for its own summary holds the union of both
--- sets but for texts left out, and never refuses it. It counts as new what it lacked.
+-- Of two replicas with sets of one family, one that receives the other one's delta for its own
+-- summary holds the union of both sets but for texts left out, and never refuses it. It counts as
+-- new what it lacked.
 pub record GivesUnion (own other : State) (delta : List Operation) : Type 0 where
   pub reply : (step own (Receive delta)).reply ≡ Received (Ok (length (lacked own.held other.held)))
   pub same : SameButThinned (step own (Receive delta)).after (with_ops own other.held)

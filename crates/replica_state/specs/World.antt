@@ -1,5 +1,6 @@
--- Worlds of replicas (this project's own rule, over replicas that deliver their states to each other as in Shapiro,
--- Preguiça, Baquero and Zawirski, INRIA RR-7506): what may happen at any number of replicas, in any order.
+-- Worlds of replicas (this project's own rule, over replicas that deliver their states to each
+-- other as in Shapiro, Preguiça, Baquero and Zawirski, INRIA RR-7506): what may happen at any
+-- number of replicas, in any order.
 pub mod Twin
 pub mod Schedules
 pub mod Exchanges
@@ -22,8 +23,9 @@ use Rattle.replica_state.specs.Edits.{edit_op, edit_over_op}
 use Rattle.replica_state.specs.Imports.{import_ops}
 use Rattle.replica_state.specs.Steps.{Command, Receive, Edit, EditOver, Import, Thin, step}
 
--- What each replica holds, and every bundle and every summary that was made so far, the last one first. A replica is
--- known by its name, so no two have one name, and there may be any number of them.
+-- What each replica holds, and every bundle and every summary that was made so far, the last one
+-- first. A replica is known by its name, so no two have one name, and there may be any number of
+-- them.
 pub record World : Type 0 where
   pub held : List ℕ → List Operation
   pub bundles : List (List Operation)
@@ -37,10 +39,10 @@ beginning = record { held = λ name. []; bundles = []; summaries = [] }
 abbrev pub replica : World → List ℕ → State
 replica w name = record { name = name; held = w.held name }
 
--- What may happen at the replica of a name: an edit, an edit over given ids, an import, a thinning; a summary; a bundle of
--- what it holds of some ids, whichever these are; the receiving of a bundle that was made, which is named by its place
--- among all of them, or of a cut one, a front of its bytes; a call that finds no memory. A bundle is lost that is not
--- received.
+-- What may happen at the replica of a name: an edit, an edit over given ids, an import, a thinning;
+-- a summary; a bundle of what it holds of some ids, whichever these are; the receiving of a bundle
+-- that was made, which is named by its place among all of them, or of a cut one, a front of its
+-- bytes; a call that finds no memory. A bundle is lost that is not received.
 pub data Event : Type 0 where
   Edits : (name : List ℕ) (g : Segment) (text : List ℕ) → Event
   EditsOver : (name : List ℕ) (g : Segment) (text : List ℕ) (given : List Id) → Event
@@ -81,8 +83,8 @@ with_bundle w ops true =
     record { held = w.held; bundles = ops ∷ w.bundles; summaries = w.summaries }
 with_bundle w ops false = w
 
--- the world after an event. A bundle that would not be legal is not made. A cut bundle is refused, and a call that finds no
--- memory is too: both change nothing.
+-- the world after an event. A bundle that would not be legal is not made. A cut bundle is refused,
+-- and a call that finds no memory is too: both change nothing.
 abbrev pub happens : World → Event → World
 happens w (Edits name g text) = steps w name (Edit g text)
 happens w (EditsOver name g text given) = steps w name (EditOver g text given)

@@ -1,5 +1,6 @@
 // Changes of segments: what an import makes, however it found them.
-ghost use Rattle.std.specs.Prelude.{◌≡◌, ◌≢◌, ◌<◌, ◌≤◌, ◌+◌, [], Ok, Err, IfOk, IfErr, IfSome, IsOk, OnErr, OnOk, length};
+ghost use Rattle.std.specs.Prelude.{◌≡◌, ◌≢◌, ◌<◌, ◌≤◌, ◌+◌, [], Ok, Err, IfOk, IfErr, IfSome};
+ghost use Rattle.std.specs.Prelude.{IsOk, OnErr, OnOk, length};
 ghost use Rattle.std.specs.List.{AllByRecursion};
 ghost use Rattle.usfm_ref.specs.Segments.{segment};
 ghost use Rattle.verse_cut.specs.Fits.{Fits};
@@ -29,16 +30,16 @@ pub struct Change<'a> {
 }
 
 impl Replica {
-    /// Makes changes of a book, and says how many edits that is: for each, in their order, an operation
-    /// of the replica that gives the segment the text and names the ids, each once. The first one's
-    /// number is the greatest held number and one, and those of the others follow on. No edit names
-    /// another: where two changes have one key, both texts are shown. Where there are no changes, it
-    /// does not allocate.
+    /// Makes changes of a book, and says how many edits that is: for each, in their order, an
+    /// operation of the replica that gives the segment the text and names the ids, each once. The
+    /// first one's number is the greatest held number and one, and those of the others follow on.
+    /// No edit names another: where two changes have one key, both texts are shown. Where there are
+    /// no changes, it does not allocate.
     ///
     /// # Errors
-    /// - `BadSegment` or `NotShown` for the first of the changes that may not be made: where its text
-    ///   does not fit the book and the key; or else with the first of its ids that the segment does
-    ///   not show.
+    /// - `BadSegment` or `NotShown` for the first of the changes that may not be made: where its
+    ///   text does not fit the book and the key; or else with the first of its ids that the segment
+    ///   does not show.
     /// - `NumbersUsedUp` where there are changes and the last one's number would be above 10^15.
     /// - `Memory` where an allocation failed.
     ///

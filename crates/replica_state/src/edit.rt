@@ -1,5 +1,6 @@
 // Edits of a replica.
-ghost use Rattle.std.specs.Prelude.{◌≡◌, ◌≢◌, [], None, Err, IfOk, IfErr, IsOk, IsTrue, OnOk, OnErr, length};
+ghost use Rattle.std.specs.Prelude.{◌≡◌, ◌≢◌, [], None, Err, IfOk, IfErr, IsOk, IsTrue, OnOk};
+ghost use Rattle.std.specs.Prelude.{OnErr, length};
 ghost use Rattle.std.specs.List.{AllByRecursion};
 ghost use Rattle.std.specs.Option.{option_copied};
 ghost use Rattle.usfm_ref.specs.Segments.{segment};
@@ -152,8 +153,8 @@ impl Replica {
         first_not_among(ids, self.set.shown_ids(book, key))
     }
 
-    // Adds operations that rise by id and of which none is held, and says how many they are. Nothing
-    // is allocated where there are none.
+    // Adds operations that rise by id and of which none is held, and says how many they are.
+    // Nothing is allocated where there are none.
     pub(crate) fn join_new(&mut self, new: Vec<Op>) -> Result<u64, AllocError>
         requires rising { IsTrue (rises new.items) }
         requires apart { AllByRecursion (λ o. get self.old.held o.id ≡ None) new.items }

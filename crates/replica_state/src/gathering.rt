@@ -19,9 +19,9 @@ use std::collections::BTreeMap;
 use std::marker::Model;
 use usfm_ref::Book;
 
-/// The operations of bundles that are taken in one after another, lent from the bundles' bytes. What a
-/// bundle costs depends on what it has, and hardly on what was taken in before it, in whatever order
-/// they come.
+/// The operations of bundles that are taken in one after another, lent from the bundles' bytes.
+/// What a bundle costs depends on what it has, and hardly on what was taken in before it, in
+/// whatever order they come.
 #[derive(Debug, Drop)]
 pub struct Gathering<'a> {
     alloc: Global,
@@ -55,8 +55,8 @@ impl<'a> Gathering<'a> {
         }
     }
 
-    /// Takes in the operations of a bundle. Nothing is copied out of its bytes. Where an operation was
-    /// taken in before and the bundle has it too, the thinned one stays, if either is thinned.
+    /// Takes in the operations of a bundle. Nothing is copied out of its bytes. Where an operation
+    /// was taken in before and the bundle has it too, the thinned one stays, if either is thinned.
     ///
     /// # Errors
     /// `Clash` with the least id under which it and the bundle have operations that do not agree:
@@ -67,8 +67,8 @@ impl<'a> Gathering<'a> {
         ensures agrees { OnOk result (sets.clash self.entry bundle.now ≡ None) }
         ensures refused { IfErr result
             (receives.RefusesReceive (sets.clash self.entry bundle.now)) }
-        // A clash is not reported as out of memory where nothing new comes before it, nor is anything
-        // where nothing is new.
+        // A clash is not reported as out of memory where nothing new comes before it, nor is
+        // anything where nothing is new.
         ensures clash { let before = receives.before_clash self.entry bundle.now in
             receives.lacked self.entry before ≡ [] → result ≢ Err ReceiveFault.Memory }
     {
@@ -80,9 +80,9 @@ impl<'a> Gathering<'a> {
         Ok(Gathering { alloc, ops })
     }
 
-    /// A replica of this name that holds those of the operations which are of one book. Only these are
-    /// copied. Where there is none, it does not allocate. It is to be looked at alone, as that of
-    /// `Replica::of_book`.
+    /// A replica of this name that holds those of the operations which are of one book. Only these
+    /// are copied. Where there is none, it does not allocate. It is to be looked at alone, as that
+    /// of `Replica::of_book`.
     ///
     /// # Errors
     /// Out of memory alone.
@@ -110,8 +110,8 @@ impl<'a> Gathering<'a> {
     }
 }
 
-// Takes an operation in. Where one of its id is held, which has to agree with it, the thinned one stays, if
-// either is thinned.
+// Takes an operation in. Where one of its id is held, which has to agree with it, the thinned one
+// stays, if either is thinned.
 fn hold<'a>(ops: &mut BTreeMap<OpId, OpView<'a>>, view: OpView<'a>) -> Result<(), ReceiveFault>
     requires entries { ops.old.entries ≡ by_id (values ops.old) }
     requires rising { IsTrue (sets.rises (values ops.old)) }

@@ -76,8 +76,9 @@ impl Replica {
         Ok(changes)
     }
 
-    /// The keys that a change of a book's file may concern: those of the book with an operation, the heads of their chapters,
-    /// and the keys of the file's pieces, in ascending order, each once.
+    /// The keys that a change of a book's file may concern: those of the book with an operation,
+    /// the heads of their chapters, and the keys of the file's pieces, in ascending order, each
+    /// once.
     ///
     /// # Errors
     /// Out of memory alone.

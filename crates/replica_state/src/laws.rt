@@ -1,4 +1,5 @@
-//! Laws of replicas, over the definitions alone. Each function does nothing: its contract is the law.
+//! Laws of replicas, over the definitions alone. Each function does nothing: its contract is the
+//! law.
 ghost use Rattle.replica_state.specs.Laws as laws;
 
 pub mod calls;

@@ -1,5 +1,6 @@
-//! Replicas: the copies of a Scripture project, one for each person who edits. A replica takes in bundles of
-//! operations from the others, edits segments, imports books, and shows and picks texts from the set of all that it holds.
+//! Replicas: the copies of a Scripture project, one for each person who edits. A replica takes in
+//! bundles of operations from the others, edits segments, imports books, and shows and picks texts
+//! from the set of all that it holds.
 #![tactic(auto)]
 
 mod change;

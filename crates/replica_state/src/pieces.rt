@@ -11,8 +11,8 @@ use std::cmp::Ordering;
 use usfm_ref::Key;
 use verse_cut::Piece;
 
-/// The text of the piece of a key, of pieces in ascending order of keys; empty where there is none. It does
-/// not allocate.
+/// The text of the piece of a key, of pieces in ascending order of keys; empty where there is none.
+/// It does not allocate.
 pub fn piece_at<'a>(pieces: &[Piece<'a>], key: Key) -> &'a str
     requires rising { IsTrue (rises_by key_cmp (λ p. p.key) pieces.now) }
     ensures { result.now ≡ imports.piece_at (pieces_view pieces.now) key }

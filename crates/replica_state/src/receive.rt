@@ -11,15 +11,15 @@ use bundle_codec::Bundle;
 use op_core::{Op, OpSet};
 
 impl Replica {
-    /// Takes in the operations of a bundle, and says how many are new. Only the new ones are copied;
-    /// then the text of each held one is left out that the bundle has thinned. So a bundle whose
-    /// operations are all held, alike or thinned on either side, is never refused as out of memory, nor
-    /// is one whose new operations all come after a clash.
+    /// Takes in the operations of a bundle, and says how many are new. Only the new ones are
+    /// copied; then the text of each held one is left out that the bundle has thinned. So a bundle
+    /// whose operations are all held, alike or thinned on either side, is never refused as out of
+    /// memory, nor is one whose new operations all come after a clash.
     ///
     /// # Errors
     /// `Clash` with the least id under which the replica and the bundle have operations that do not
-    /// agree: their segments or the ids that they name differ, or both have a text and these differ.
-    /// `Memory` where an allocation failed. The replica is then unchanged.
+    /// agree: their segments or the ids that they name differ, or both have a text and these
+    /// differ. `Memory` where an allocation failed. The replica is then unchanged.
     pub fn receive(&mut self, bundle: &Bundle<'_>) -> Result<u64, ReceiveFault>
         ensures step { result ≢ Err ReceiveFault.Memory →
             step self.old (Receive bundle.now)

@@ -109,9 +109,9 @@ impl Replica {
         self.set.shown(alloc, book, key)
     }
 
-    /// What is picked for the segment's text in its book's export: the chapter's own line for a head
-    /// from chapter 1 on whose text would be empty while some verse of the chapter has a text, else
-    /// the shown operation with the greatest id, if there is one. It does not allocate.
+    /// What is picked for the segment's text in its book's export: the chapter's own line for a
+    /// head from chapter 1 on whose text would be empty while some verse of the chapter has a text,
+    /// else the shown operation with the greatest id, if there is one. It does not allocate.
     pub fn pick(&self, book: Book, key: Key) -> Picked<'_>
         ensures { texts.picked result ≡ texts.pick self.now.held (segment book key) }
     {
@@ -129,8 +129,8 @@ impl Replica {
         encode(alloc, &self.set)
     }
 
-    /// The bytes with the bundle of all operations that the replica holds after them, for a file that
-    /// has it after something else. The bytes are taken, and dropped on an error.
+    /// The bytes with the bundle of all operations that the replica holds after them, for a file
+    /// that has it after something else. The bytes are taken, and dropped on an error.
     ///
     /// # Errors
     /// Out of memory alone.
@@ -153,8 +153,8 @@ impl Replica {
 
     /// The bundle of the held operations whose ids lie outside a summary: what the copy with that
     /// summary lacks. Where one of them is thinned, it also has all others that are held of its
-    /// segment, so that one that names it goes along. They are lent and written one by one; no second
-    /// set is made.
+    /// segment, so that one that names it goes along. They are lent and written one by one; no
+    /// second set is made.
     ///
     /// # Errors
     /// Out of memory alone.
@@ -167,9 +167,9 @@ impl Replica {
         encode_outside(alloc, &self.set, summary)
     }
 
-    /// Leaves out the text of every operation that a held operation of its segment names as replaced,
-    /// and says how many texts it left out. What is shown, picked, awaited and summed up stays. It
-    /// does not allocate.
+    /// Leaves out the text of every operation that a held operation of its segment names as
+    /// replaced, and says how many texts it left out. What is shown, picked, awaited and summed up
+    /// stays. It does not allocate.
     pub fn thin(&mut self) -> u64
         ensures { step self.old Thin ≡ record { after = self.new; reply = Thinned result } }
     {
@@ -179,8 +179,8 @@ impl Replica {
         count
     }
 
-    /// How many comparisons the replica's set counted (`OpSet::compared`), up to `u64::MAX`. It is no
-    /// part of the replica's state, and may rise in a refused call.
+    /// How many comparisons the replica's set counted (`OpSet::compared`), up to `u64::MAX`. It is
+    /// no part of the replica's state, and may rise in a refused call.
     pub fn compared(&self) -> u64 {
         self.set.compared()
     }

@@ -1,5 +1,6 @@
 // Imports of a file that was changed since a bundle.
-ghost use Rattle.std.specs.Prelude.{◌≡◌, ◌≢◌, [], None, Some, option_map, Err, IfOk, IfErr, IfSome, IsOk, IsTrue, OnErr, map, if◌then◌else◌};
+ghost use Rattle.std.specs.Prelude.{◌≡◌, ◌≢◌, [], None, Some, option_map, Err, IfOk, IfErr, IfSome};
+ghost use Rattle.std.specs.Prelude.{IsOk, IsTrue, OnErr, map, if◌then◌else◌};
 ghost use Rattle.std.specs.List.{list_any};
 ghost use Rattle.usfm_ref.specs.Books.{same_bytes};
 ghost use Rattle.usfm_ref.specs.Keys.{key_cmp};
@@ -28,15 +29,15 @@ use usfm_ref::{Book, Key};
 use verse_cut::{Piece, book_of, cut};
 
 impl Replica {
-    /// Takes in what was changed in a file since it was written, and says how many edits that is. The
-    /// base is the bundle that the file was written from, as its book's export.
+    /// Takes in what was changed in a file since it was written, and says how many edits that is.
+    /// The base is the bundle that the file was written from, as its book's export.
     ///
     /// The base is received first. Then, for each key whose piece in the file differs from what the
-    /// base picks there, absent counting as empty, and for the head of a chapter that would lose its
-    /// line as in an import, the segment gets the file's piece, in the order of keys. The edit names
-    /// what the segment shows of that which stood in the file, and no other id: the texts that came
-    /// in since stay shown beside it. There is none where nothing is left to name and the new text is
-    /// shown already.
+    /// base picks there, absent counting as empty, and for the head of a chapter that would lose
+    /// its line as in an import, the segment gets the file's piece, in the order of keys. The edit
+    /// names what the segment shows of that which stood in the file, and no other id: the texts
+    /// that came in since stay shown beside it. There is none where nothing is left to name and the
+    /// new text is shown already.
     ///
     /// # Errors
     /// - `BadFile` where the file does not begin with at most one U+FEFF, `\id`, a blank, and a
@@ -46,9 +47,9 @@ impl Replica {
     /// - `NumbersUsedUp` where an edit is due and the last one's number would be above 10^15.
     /// - `Memory` where an allocation failed.
     ///
-    /// The first of them is answered, and the replica is then unchanged: it has not received the base
-    /// either. A file that is no book's is never refused as out of memory, nor is a clash that comes in
-    /// the base before what is new.
+    /// The first of them is answered, and the replica is then unchanged: it has not received the
+    /// base either. A file that is no book's is never refused as out of memory, nor is a clash that
+    /// comes in the base before what is new.
     pub fn import_since(&mut self, base: &Bundle<'_>, file: &str) -> Result<u64, SinceFault>
         ensures step { result ≢ Err SinceFault.Memory →
             since.imported_since self.old base.now file.now
@@ -164,8 +165,9 @@ impl Replica {
         Ok(changes)
     }
 
-    /// The change of a key, if it was changed in a file since another replica wrote it: the file's piece, over what the segment
-    /// shows of that which stood in the file. The pieces are those of the file, in ascending order of keys.
+    /// The change of a key, if it was changed in a file since another replica wrote it: the file's
+    /// piece, over what the segment shows of that which stood in the file. The pieces are those of
+    /// the file, in ascending order of keys.
     ///
     /// # Errors
     /// Out of memory alone.

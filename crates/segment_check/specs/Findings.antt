@@ -1,4 +1,5 @@
--- The findings in a text by a style sheet (this project's own rule): at each mark each code whose condition holds.
+-- The findings in a text by a style sheet (this project's own rule): at each mark each code whose
+-- condition holds.
 use Rattle.std.specs.Prelude.{ℕ, ◌==◌, Bool, ◌&&◌, List, [], ◌∷◌, map, filter}
 use Rattle.std.specs.List.{flat_map, list_any}
 use Rattle.sty_sheet.specs.Records.{Record}
@@ -24,7 +25,8 @@ all_codes =
 abbrev pub stands_at : List Spot → ℕ → (Spot → Bool) → Bool
 stands_at tree at test = list_any (λ spot. spot.start == at && test spot) tree
 
--- whether the condition of a code holds of a mark: that of the tree where the mark begins, or that of its number
+-- whether the condition of a code holds of a mark: that of the tree where the mark begins, or that
+-- of its number
 abbrev pub holds_of : List Record → List Spot → Scene → Code → Bool
 holds_of sheet tree scene code.UnknownMarker = stands_at tree scene.here.at (unknown_marker sheet)
 holds_of sheet tree scene code.StrayClose = stands_at tree scene.here.at stray_close
@@ -37,8 +39,8 @@ holds_of sheet tree scene code.NotRising = not_rising scene
 holds_of sheet tree scene code.Overlap = overlap scene
 holds_of sheet tree scene code.NotUnder = stands_at tree scene.here.at (not_under sheet)
 
--- a finding for each code whose condition holds of a mark, with the mark's start and the key of the piece that
--- holds it
+-- a finding for each code whose condition holds of a mark, with the mark's start and the key of the
+-- piece that holds it
 abbrev pub found_at : List Record → List Spot → List PieceParts → Scene → List Finding
 found_at sheet tree pieces scene =
     map (λ c. record { code = c; start = scene.here.at; key = key_at pieces scene.here.at })

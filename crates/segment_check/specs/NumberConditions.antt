@@ -1,7 +1,7 @@
 -- What is found at a mark of a text by its number: one condition for each code.
 --
--- USFM 3.0 has the numbers after `\c` and `\v`, the bridge `\v 3-4` and the part `\v 3a`. What is wrong with a number is this
--- project's own rule.
+-- USFM 3.0 has the numbers after `\c` and `\v`, the bridge `\v 3-4` and the part `\v 3a`. What is
+-- wrong with a number is this project's own rule.
 use Rattle.std.specs.Prelude.{ℕ, nat_lt, ◌==◌, Bool, false, not, ◌&&◌, ◌||◌, List, [], codes, Option, None, Some}
 use Rattle.std.specs.Option.{is_some, option_map_or}
 use Rattle.std.specs.List.{list_any, slice_get}
@@ -31,7 +31,8 @@ hyphen_at text place = option_map_or (λ b. b == 45) (slice_get text place) fals
 abbrev pub bridges_forward : VerseMark → ℕ × Option ℕ → Bool
 bridges_forward v last = is_lt (place_cmp (Verse v.number v.letter) (Verse last.0 last.1))
 
--- a hyphen directly after a verse's number without a bridge, or a bridge whose last verse is not after its first
+-- a hyphen directly after a verse's number without a bridge, or a bridge whose last verse is not
+-- after its first
 abbrev pub fails_bridge : List ℕ → VerseMark → Bool
 fails_bridge after v =
     option_map_or (λ last. not (bridges_forward v last)) v.last (hyphen_at after v.length)
@@ -54,8 +55,8 @@ is_after None last = false
 is_after (Some a) None = false
 is_after (Some a) (Some b) = nat_lt b a
 
--- A bridge's last verse reaches a verse whose number is less than its own, or equal to it where one of the two has no letter or
--- the verse's letter is not after the bridge's.
+-- A bridge's last verse reaches a verse whose number is less than its own, or equal to it where one
+-- of the two has no letter or the verse's letter is not after the bridge's.
 abbrev pub reaches : ℕ × Option ℕ → VerseMark → Bool
 reaches last v = nat_lt v.number last.0 || (v.number == last.0 && not (is_after v.letter last.1))
 
@@ -74,6 +75,7 @@ abbrev pub is_reached : Scene → VerseMark → Bool
 is_reached scene v =
     list_any (overlaps_from (chapter_of scene) v) (scenes_after [] scene.before)
 
--- `overlap`: a verse's mark that opens a piece, after one of its chapter that opens a piece and whose bridge reaches it
+-- `overlap`: a verse's mark that opens a piece, after one of its chapter that opens a piece and
+-- whose bridge reaches it
 abbrev pub overlap : Scene → Bool
 overlap scene = option_map_or (is_reached scene) (opened_verse scene) false

@@ -1,4 +1,5 @@
--- The findings, as a reading of the marks from the left. A law says that they are the findings of the definition.
+-- The findings, as a reading of the marks from the left. A law says that they are the findings of
+-- the definition.
 use Rattle.std.specs.Prelude.{ℕ, ◌+◌, ◌==◌, nat_lt, nat_le, Bool, true, false, not, ◌&&◌, ◌||◌}
 use Rattle.std.specs.Prelude.{List, [], ◌∷◌, ◌++◌, length, map, filter, Option, None, Some}
 use Rattle.std.specs.Prelude.{if◌then◌else◌}
@@ -37,7 +38,8 @@ seen_of sheet spot = record {
 abbrev pub Last : Type 0
 Last = ℕ × Option ℕ
 
--- of last verses with one number, all that one with the first letter reaches is reached by one with the second
+-- of last verses with one number, all that one with the first letter reaches is reached by one with
+-- the second
 abbrev pub is_letter_within : Option ℕ → Option ℕ → Bool
 is_letter_within last None = true
 is_letter_within None (Some b) = false
@@ -58,8 +60,8 @@ further (Some reach) (Some last) = if is_within last reach then Some reach else 
 abbrev pub any_reaches : Option Last → VerseMark → Bool
 any_reaches reach v = option_map_or (λ last. reaches last v) reach false
 
--- Where a reading is: the key of the open piece; of the bridges of its chapter so far the last verse that reaches most; and
--- what a tree says of the marks that are left.
+-- Where a reading is: the key of the open piece; of the bridges of its chapter so far the last
+-- verse that reaches most; and what a tree says of the marks that are left.
 pub record State : Type 0 where
   pub key : KeyParts
   pub reach : Option Last
@@ -77,8 +79,8 @@ unseen start = record {
   not_under = false;
 }
 
--- what the tree says of the mark that begins at a place: the first that is left, if it is of that place, and else
--- that nothing holds
+-- what the tree says of the mark that begins at a place: the first that is left, if it is of that
+-- place, and else that nothing holds
 abbrev pub seen_first : ℕ → List Seen → Seen
 seen_first at [] = unseen at
 seen_first at (t ∷ ts) = if t.start == at then t else unseen at
@@ -97,13 +99,14 @@ abbrev pub key_then : KeyParts → Option KeyParts → KeyParts
 key_then key None = key
 key_then key (Some k) = if key_below key k then k else key
 
--- the last verse that reaches most, after a mark that opens a piece: a verse adds its bridge, and a chapter begins
--- anew
+-- the last verse that reaches most, after a mark that opens a piece: a verse adds its bridge, and a
+-- chapter begins anew
 abbrev pub reach_with : Option Last → Option VerseMark → Option Last
 reach_with reach None = None
 reach_with reach (Some v) = further reach v.last
 
--- which conditions hold of a mark from a state on: those that the tree says, and those of its number
+-- which conditions hold of a mark from a state on: those that the tree says, and those of its
+-- number
 abbrev pub held_at : State → ℕ → MarkParts → List ℕ → Held
 held_at st at m after =
     let key = key_by st.key.chapter (mark_chapter m after) (mark_verse m after) in record {

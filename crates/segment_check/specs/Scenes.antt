@@ -23,7 +23,8 @@ scenes_after before (s ∷ ss) =
 unfoldable pub scenes_of : List ℕ → List Scene
 scenes_of s = scenes_after [] (sites_from 0 (tokens_of s))
 
--- the chapter in force before a mark: the greatest number of the chapter marks before it, and 0 where there is none
+-- the chapter in force before a mark: the greatest number of the chapter marks before it, and 0
+-- where there is none
 abbrev pub chapter_of : Scene → ℕ
 chapter_of scene = chapter_in_force 0 scene.before
 
@@ -31,8 +32,8 @@ chapter_of scene = chapter_in_force 0 scene.before
 abbrev pub key_of : Scene → Option KeyParts
 key_of scene = key_after 0 scene.before scene.here
 
--- whether a mark would open a piece by a key: one greater than the book head and than the key of every mark before
--- it
+-- whether a mark would open a piece by a key: one greater than the book head and than the key of
+-- every mark before it
 abbrev pub opens_by : Scene → KeyParts → Bool
 opens_by scene k = opens (keyed_after 0 [] scene.before) (record { key = k; at = scene.here.at })
 

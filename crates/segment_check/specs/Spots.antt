@@ -6,8 +6,8 @@ use Rattle.usfm_token.specs.Tokens.{MarkParts}
 use Rattle.usfm_tree.specs.Around.{Around}
 use Rattle.usfm_tree.specs.Forest.{Forest, nothing, text, leaf, node}
 
--- A mark of a tree: where it begins; the kind of the node that it begins, or none where it is a leaf; whether that node ends with
--- a closing mark; and the nodes around it, the innermost first.
+-- A mark of a tree: where it begins; the kind of the node that it begins, or none where it is a
+-- leaf; whether that node ends with a closing mark; and the nodes around it, the innermost first.
 pub record Spot : Type 0 where
   pub start : ℕ
   pub mark : MarkParts

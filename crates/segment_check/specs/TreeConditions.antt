@@ -1,6 +1,7 @@
 -- What is found at a mark of a tree, by a style sheet: one condition for each code.
 --
--- The codes and their conditions are this project's own rule. OccursUnder, with the word NEST, is Paratext's.
+-- The codes and their conditions are this project's own rule. OccursUnder, with the word NEST, is
+-- Paratext's.
 use Rattle.sty_sheet.specs.declared.kind.StyleKind.{StyleKind}
 use Rattle.sty_sheet.specs.declared.kind.StyleKind.TheVariants as kinds
 use Rattle.std.specs.Prelude.{ℕ, nat_le, ◌==◌, Bool, true, false, not, ◌&&◌, ◌||◌, List, [], ◌∷◌, length, codes, find, if◌then◌else◌}
@@ -72,15 +73,16 @@ nearest test around = option_to_list (option_map (λ a. a.mark.name) (find test 
 abbrev pub holds_characters : Around → Bool
 holds_characters a = is_paragraph a || is_note a
 
--- Words that allow a character node: directly in a character node that node's name and NEST, and else the name of the nearest
--- paragraph or note around it.
+-- Words that allow a character node: directly in a character node that node's name and NEST, and
+-- else the name of the nearest paragraph or note around it.
 abbrev pub allow_character : List Around → List (List ℕ)
 allow_character [] = []
 allow_character (a ∷ around) =
     if is_character_kind a.kind then a.mark.name ∷ codes "NEST" ∷ []
     else nearest holds_characters (a ∷ around)
 
--- Words that allow a node of a kind: a note is allowed by the name of the nearest paragraph around it.
+-- Words that allow a node of a kind: a note is allowed by the name of the nearest paragraph around
+-- it.
 abbrev pub allow : StyleKind → List Around → List (List ℕ)
 allow kinds.Paragraph around = []
 allow kinds.Character around = allow_character around

@@ -13,13 +13,13 @@ pub enum Code {
     TooDeep,
     /// A mark `\c` or `\v`, neither nested nor closing, without a number.
     BadNumber,
-    /// A verse with a hyphen directly after its number and no bridge, or whose bridge does not lead to
-    /// a later verse.
+    /// A verse with a hyphen directly after its number and no bridge, or whose bridge does not lead
+    /// to a later verse.
     BadBridge,
     /// A mark with a key that opens no piece of the book.
     NotRising,
-    /// A verse that opens a piece and lies within the bridge of a verse before it in its chapter that
-    /// opens one too.
+    /// A verse that opens a piece and lies within the bridge of a verse before it in its chapter
+    /// that opens one too.
     Overlap,
     /// A character or note node that is where its style's OccursUnder does not allow it.
     NotUnder,

@@ -1,7 +1,8 @@
 //! What holds of the findings in all texts, by whatever style sheet. Each function does nothing:
 //! its contract is the law.
 
-ghost use Rattle.segment_check.specs.Laws.{CodesRise, FindingsAreRead, LeavesAreTooDeep, NoTwoAlike};
+ghost use Rattle.segment_check.specs.Laws.{CodesRise, FindingsAreRead, LeavesAreTooDeep};
+ghost use Rattle.segment_check.specs.Laws.{NoTwoAlike};
 ghost use Rattle.segment_check.specs.Laws.{StartsAreTokens, StartsNeverFall};
 
 /// The reading of the marks from the left, with what the tree says of them, gives the findings.

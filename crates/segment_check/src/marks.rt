@@ -30,8 +30,9 @@ struct Held {
     overlap: bool,
 }
 
-// How far a walk over the marks of a text has come: the key of the piece that is open, the last verse
-// of its chapter that a bridge reaches so far, and what the tree says of the marks that are left.
+// How far a walk over the marks of a text has come: the key of the piece that is open, the last
+// verse of its chapter that a bridge reaches so far, and what the tree says of the marks that are
+// left.
 #[derive(Drop)]
 struct Walk<'t> {
     key: Key,

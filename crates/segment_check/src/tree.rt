@@ -5,7 +5,8 @@ ghost use Rattle.std.specs.List.{list_any};
 ghost use Rattle.std.specs.Option.{option_map, option_map_or};
 ghost use Rattle.segment_check.specs.TreeConditions as conditions;
 ghost use Rattle.segment_check.specs.TreeConditions.{is_among, is_restricted_kind, under_words};
-ghost use Rattle.segment_check.specs.Loops.TreeViews.{Tells, allowed_names, inside_view, is_misplaced};
+ghost use Rattle.segment_check.specs.Loops.TreeViews.{Tells, allowed_names, inside_view};
+ghost use Rattle.segment_check.specs.Loops.TreeViews.{is_misplaced};
 ghost use Rattle.segment_check.specs.Loops.TreeViews.{kind_here};
 ghost use Rattle.segment_check.specs.Loops.TreeViews.{seen_by, seen_under};
 ghost use Rattle.sty_sheet.specs.Records.{has_word};
@@ -62,8 +63,8 @@ fn has_name(sheet: &Sheet<'_>, name: &str, around: Option<&str>) -> bool
     }
 }
 
-// Whether a word of OccursUnder of a mark's style allows a node. The words are not gone through: each
-// that would allow one is looked up.
+// Whether a word of OccursUnder of a mark's style allows a node. The words are not gone through:
+// each that would allow one is looked up.
 fn any_allows(sheet: &Sheet<'_>, name: &str, allowed: Allowed<'_>) -> bool
     ensures { let words = under_words (records_of sheet.now) name.now in
         result ≡ list_any (is_among (allowed_names allowed.entry)) words }

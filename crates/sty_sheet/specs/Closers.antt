@@ -1,4 +1,5 @@
--- The milestones of a sheet by their closing names, as a sheet keeps them. No public contract speaks of them.
+-- The milestones of a sheet by their closing names, as a sheet keeps them. No public contract
+-- speaks of them.
 use Rattle.std.specs.Prelude.{◌≡◌, ℕ, List, Option, None, Some, find, if◌then◌else◌}
 use Rattle.std.specs.Option.{option_or}
 use Rattle.std.specs.Map.{lookup}

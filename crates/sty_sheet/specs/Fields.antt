@@ -1,7 +1,7 @@
 -- The fields of a sheet's lines.
 --
--- Their names and the style types are those of Paratext's `usfm.sty`. That both are compared without ASCII case, and a value is
--- judged whole, is this project's own rule.
+-- Their names and the style types are those of Paratext's `usfm.sty`. That both are compared
+-- without ASCII case, and a value is judged whole, is this project's own rule.
 use Rattle.std.specs.Prelude.{ℕ, ◌==◌, Bool, true, false, List, [], ◌∷◌, map, Option, None, Some, if◌then◌else◌, codes}
 use Rattle.std.specs.Str.{str_eq_ignore_ascii_case}
 use Rattle.std.specs.Str.Lines.{lines}

@@ -1,7 +1,7 @@
 -- What counts of a sheet's line, as bytes.
 --
--- Paratext's `usfm.sty` has a field in a line and comments after '#'. What a blank is, which '#' begins a comment, and how '#!' and
--- U+FEFF are passed over is this project's own rule.
+-- Paratext's `usfm.sty` has a field in a line and comments after '#'. What a blank is, which '#'
+-- begins a comment, and how '#!' and U+FEFF are passed over is this project's own rule.
 use Rattle.std.specs.Prelude.{ℕ, suc, ◌-◌, ◌==◌, Bool, true, ◌&&◌, not, List, [], ◌∷◌, length, take, drop, take_while, if◌then◌else◌}
 use Rattle.std.specs.List.{prefix_len, suffix_len}
 use Rattle.std.specs.Str.{bytes_eq}
@@ -48,7 +48,7 @@ comment_at may (b ∷ bs) = if may && b == 35 then 0 else suc (comment_at (is_bl
 abbrev pub uncommented : List ℕ → List ℕ
 uncommented bs = take (comment_at true bs) bs
 
--- what counts of a line: what comes after its blanks and one '#!', and before a comment, which a '#' begins at the
--- start or after a blank
+-- what counts of a line: what comes after its blanks and one '#!', and before a comment, which a
+-- '#' begins at the start or after a blank
 abbrev pub body : List ℕ → List ℕ
 body line = uncommented (after_bang (after_blanks line))

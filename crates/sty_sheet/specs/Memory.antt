@@ -1,4 +1,5 @@
--- Where memory may be taken before a sheet is refused (this project's own rule): a record is kept when the next one begins.
+-- Where memory may be taken before a sheet is refused (this project's own rule): a record is kept
+-- when the next one begins.
 use Rattle.std.specs.Prelude.{ℕ, ◌+◌, nat_le, Bool, true, false, ◌||◌, List, [], ◌∷◌, length, if◌then◌else◌, Result, Ok, Err}
 use Rattle.std.specs.Option.{is_some}
 use Rattle.sty_sheet.specs.Fields.{Field, fields_of, is_marker}
@@ -7,7 +8,8 @@ use Rattle.sty_sheet.specs.Sheets.{field_fault, all_records, sheet_of}
 use Rattle.sty_sheet.specs.declared.fault.SheetFault.{SheetFault}
 use Rattle.sty_sheet.specs.declared.fault.SheetFault.TheVariants.{FieldBeforeMarker}
 
--- the fields before the first faulty one, where lines are counted from n on and a marker line was seen before or none was
+-- the fields before the first faulty one, where lines are counted from n on and a marker line was
+-- seen before or none was
 abbrev pub before_fault : Bool → ℕ → List Field → List Field
 before_fault seen n [] = []
 before_fault seen n (f ∷ fs) =
@@ -18,8 +20,9 @@ before_fault seen n (f ∷ fs) =
 abbrev pub begun_before_fault : List ℕ → ℕ
 begun_before_fault text = length (all_records (before_fault false 1 (fields_of text)))
 
--- Whether memory may be taken before this is answered, where this many records begin before the first faulty line: of a right
--- sheet; and of a faulty one where two begin, as the first is kept then. None begins before a field that is misplaced.
+-- Whether memory may be taken before this is answered, where this many records begin before the
+-- first faulty line: of a right sheet; and of a faulty one where two begin, as the first is kept
+-- then. None begins before a field that is misplaced.
 abbrev pub may_take : ℕ → Result (List Record) SheetFault → Bool
 may_take begun (Ok records) = true
 may_take begun (Err (FieldBeforeMarker n)) = false

@@ -1,7 +1,7 @@
 -- The records of a sheet, and the style of a mark.
 --
--- The fields are those of Paratext's `usfm.sty`. That a closing name is an Endmarker without its last '*', and which record a mark
--- has where none has its name, is this project's own rule.
+-- The fields are those of Paratext's `usfm.sty`. That a closing name is an Endmarker without its
+-- last '*', and which record a mark has where none has its name, is this project's own rule.
 use Rattle.std.specs.Prelude.{ℕ, ◌-◌, ◌==◌, Bool, true, false, ◌&&◌, not, List, [], ◌∷◌, length, take, filter, Option, None, Some, find, if◌then◌else◌, slice_index}
 use Rattle.std.specs.List.{list_any, slice_split}
 use Rattle.std.specs.Option.{option_map_or}
@@ -10,8 +10,8 @@ use Rattle.usfm_ref.specs.Numbers.{is_blank}
 use Rattle.sty_sheet.specs.declared.kind.StyleKind.{StyleKind}
 use Rattle.sty_sheet.specs.declared.kind.StyleKind.TheVariants as kinds
 
--- the record of a marker: closer is the name of the mark that closes it, under the words of OccursUnder, kind its
--- StyleType, and verse_text whether its TextType is VerseText
+-- the record of a marker: closer is the name of the mark that closes it, under the words of
+-- OccursUnder, kind its StyleType, and verse_text whether its TextType is VerseText
 pub record Record : Type 0 where
   pub marker : List ℕ
   pub name : List ℕ
@@ -70,13 +70,13 @@ closes_milestone name r = is_milestone r.kind && is_name name r.closer
 abbrev pub under_in : Option Record → List (List ℕ)
 under_in r = option_map_or (λ s. s.under) r []
 
--- the record that was found; where none was and the name is not empty, the first milestone that a mark of this name
--- closes
+-- the record that was found; where none was and the name is not empty, the first milestone that a
+-- mark of this name closes
 abbrev pub or_milestone : List Record → List ℕ → Option Record → Option Record
 or_milestone rs name None = if bytes_eq name [] then None else find (closes_milestone name) rs
 or_milestone rs name (Some r) = Some r
 
--- the style of a mark: the record of its name; if none has it, and it is not empty, the first milestone whose
--- closing name it is
+-- the style of a mark: the record of its name; if none has it, and it is not empty, the first
+-- milestone whose closing name it is
 abbrev pub mark_style : List Record → List ℕ → Option Record
 mark_style rs name = or_milestone rs name (named name rs)

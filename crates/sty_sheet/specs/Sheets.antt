@@ -1,7 +1,7 @@
 -- The records of a sheet's text, or the fault of its first faulty line.
 --
--- Paratext's `usfm.sty` has records begun by Marker. The faults, and that a second record of a marker replaces the first and keeps
--- its place, are this project's own rule.
+-- Paratext's `usfm.sty` has records begun by Marker. The faults, and that a second record of a
+-- marker replaces the first and keeps its place, are this project's own rule.
 use Rattle.std.specs.Prelude.{ℕ, ◌+◌, Bool, false, ◌||◌, not, List, [], ◌∷◌, filter, take_while, Option, None, Some, if◌then◌else◌, codes, Result, Ok, Err}
 use Rattle.std.specs.Option.{option_or, unwrap_or}
 use Rattle.std.specs.Str.{bytes_eq}
@@ -31,8 +31,9 @@ field_fault seen n (name value) = misplaced seen n
 field_fault seen n (style_type value) = option_or (misplaced seen n) (kind_fault n value)
 field_fault seen n (text_type value) = misplaced seen n
 
--- the first fault of fields, if there is one, where lines are counted from n on and a marker line was seen before
--- or none was: a field before the first marker, a marker without a name, or an unknown style type
+-- the first fault of fields, if there is one, where lines are counted from n on and a marker line
+-- was seen before or none was: a field before the first marker, a marker without a name, or an
+-- unknown style type
 abbrev pub first_fault : Bool → ℕ → List Field → Option SheetFault
 first_fault seen n [] = None
 first_fault seen n (f ∷ fs) =

@@ -1,4 +1,5 @@
--- What a contract sees of a style and of a sheet: its records, and not where their texts lie in memory.
+-- What a contract sees of a style and of a sheet: its records, and not where their texts lie in
+-- memory.
 pub use Rattle.sty_sheet.specs.StyleViews.{record_of}
 use Rattle.sty_sheet.specs.Listing.{styles_in}
 use Rattle.std.specs.Prelude.{◌≡◌, ℕ, List, map, Result, Ok, Err}
@@ -26,7 +27,8 @@ records_left styles = map record_of (map (λ l. l.style) styles.values)
 abbrev pub words_left : UnderWords → List (List ℕ)
 words_left words = words_of words.rest.now
 
--- what a reading answers: the records that are to be read, or their fault; out of memory alone says nothing of them
+-- what a reading answers: the records that are to be read, or their fault; out of memory alone says
+-- nothing of them
 abbrev pub Gives : Result Sheet SheetFault → Result (List Record) SheetFault → Type 0
 Gives (Ok sheet) read = read ≡ Ok (records_of sheet)
 Gives (Err Memory) read = Unit {0}

@@ -11,7 +11,8 @@ use crate::style::Style;
 use indexmap::IndexSet;
 use std::alloc::Global;
 
-// This many bytes of OccursUnder are gone through where a word is looked up. Sheets that are in use have fewer.
+// This many bytes of OccursUnder are gone through where a word is looked up. Sheets that are in use
+// have fewer.
 const FEW: usize = 1024;
 
 // A style, and a set of its words of OccursUnder where they have many bytes.

@@ -34,12 +34,13 @@ impl<'s> Sheet<'s> {
 
     /// The records of a sheet's text.
     ///
-    /// A line that begins with a backslash is a field: its name up to a blank (a space, a tab, CR or
-    /// LF), and its value. Other lines are passed over, and so are fields of other names; of a field
-    /// that a record has twice the last counts. U+FEFF at the text's start, blanks at a line's start,
-    /// and one `#!` with the blanks after it are passed over; any other `#` at the start or after a
-    /// blank begins a comment. Field names, style types and `VerseText` are compared without ASCII
-    /// case. A second record of a marker replaces the first wholly and keeps its place.
+    /// A line that begins with a backslash is a field: its name up to a blank (a space, a tab, CR
+    /// or LF), and its value. Other lines are passed over, and so are fields of other names; of a
+    /// field that a record has twice the last counts. U+FEFF at the text's start, blanks at a
+    /// line's start, and one `#!` with the blanks after it are passed over; any other `#` at the
+    /// start or after a blank begins a comment. Field names, style types and `VerseText` are
+    /// compared without ASCII case. A second record of a marker replaces the first wholly and keeps
+    /// its place.
     ///
     /// # Errors
     ///
@@ -88,8 +89,8 @@ impl<'s> Sheet<'s> {
         }
     }
 
-    /// Whether a word is one of those of OccursUnder of a mark's record, as `style_of` finds it. Many
-    /// words are looked up, and not gone through. It does not allocate.
+    /// Whether a word is one of those of OccursUnder of a mark's record, as `style_of` finds it.
+    /// Many words are looked up, and not gone through. It does not allocate.
     pub fn has_under(&self, name: &str, word: &str) -> bool
         ensures { let style = mark_style (records_of self.now) name.now in
             result ≡ has_word word.now (under_in style) }

@@ -5,7 +5,7 @@ use Rattle.op_core.specs.Ids.{Id}
 use Rattle.op_core.specs.Ops.{Operation}
 use Rattle.op_core.specs.Sets.{IsOpSet, clash, join}
 use Rattle.op_core.specs.Export.{has_book, export}
-use Rattle.op_core.proofs.Union.{IsOpSet-join}
+use Rattle.op_core.proofs.Sets.Union.{IsOpSet-join}
 use Rattle.usfm_export.specs.Books.{IsBookOf}
 use Rattle.usfm_export.proofs.Books.{is_book}
 use Rattle.usfm_cli.specs.Books.{FoldedBooksCutBack}

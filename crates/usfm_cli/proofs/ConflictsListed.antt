@@ -15,7 +15,7 @@ use Rattle.op_core.specs.Lists.{keys_of}
 use Rattle.op_core.specs.Ops.{Operation, own_text}
 use Rattle.op_core.specs.Sets.{IsOpSet}
 use Rattle.op_core.specs.Shown.{is_shown, last, shown, text_if_any}
-use Rattle.op_core.proofs.Rising.{id_total}
+use Rattle.op_core.proofs.IdOrders.Rising.{id_total}
 use Rattle.conflict_report.specs.Reports.{is_repeated, distinct_texts}
 use Rattle.conflict_report.proofs.Latest.{has_text, latest, latest_is}
 use Rattle.project_status.specs.Numbers.{has_other_text, differ}

@@ -5,9 +5,9 @@ use Rattle.op_core.specs.Ids.{Id}
 use Rattle.op_core.specs.Ops.{Operation}
 use Rattle.op_core.specs.Sets.{rises, clash, join}
 use Rattle.op_core.specs.Thinned.{is_legal}
-use Rattle.op_core.proofs.Groupings.{skeleton_exports}
-use Rattle.op_core.proofs.Legal.{join_legal}
-use Rattle.op_core.proofs.Union.{rises-join, agree_from_no_clash}
+use Rattle.op_core.proofs.Sets.Groupings.{skeleton_exports}
+use Rattle.op_core.proofs.Sets.Legal.{join_legal}
+use Rattle.op_core.proofs.Sets.Union.{rises-join, agree_from_no_clash}
 use Rattle.project_file.proofs.Files.{project_is}
 use Rattle.conflict_report.specs.Reports.{report}
 use Rattle.conflict_report.proofs.SameReports.{skeleton_reports}

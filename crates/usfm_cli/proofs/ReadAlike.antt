@@ -12,10 +12,10 @@ use Rattle.op_core.specs.Thinned.{skeleton, is_legal, IsOf}
 use Rattle.op_core.specs.Laws.{Joining, union_by}
 use Rattle.op_core.specs.Laws.Joining.{Part, Joined}
 use Rattle.op_core.specs.ThinLaws.{AreOf, one_holds as holds_by}
-use Rattle.op_core.proofs.Bare.{any_same}
-use Rattle.op_core.proofs.Families.{family_joins, unions_alike}
-use Rattle.op_core.proofs.Groupings.{skeleton_exports}
-use Rattle.op_core.proofs.Together.{joined_in}
+use Rattle.op_core.proofs.ThinnedSets.Bare.{any_same}
+use Rattle.op_core.proofs.Sets.Families.{family_joins, unions_alike}
+use Rattle.op_core.proofs.Sets.Groupings.{skeleton_exports}
+use Rattle.op_core.proofs.Sets.Together.{joined_in}
 use Rattle.replica_state.specs.States.{State}
 use Rattle.replica_state.proofs.World.Held.{among_is_held}
 use Rattle.project_file.specs.Projects.{project_at}

@@ -4,8 +4,8 @@ use Rattle.op_core.specs.Laws.Joining.{Part}
 use Rattle.op_core.specs.Ops.{Operation}
 use Rattle.std.specs.List.{Contains}
 use Rattle.op_core.specs.Laws.{IsAmong}
-use Rattle.op_core.proofs.Joinings.{same_unions}
-use Rattle.op_core.proofs.Together.{set_from_none}
+use Rattle.op_core.proofs.Sets.Joinings.{same_unions}
+use Rattle.op_core.proofs.Sets.Together.{set_from_none}
 use Rattle.usfm_cli.specs.Streams.{AreSpelled, union_in, book_from, book_of_stream}
 use Rattle.usfm_cli.proofs.StreamLemmas.{are_sets, union_joined, gives_union}
 use Rattle.replica_state.specs.States.{State, IsState}

@@ -21,8 +21,8 @@ pub record WritesBook (book : List ℕ) (to_come left : Option (List ℕ))
   pub consumed : Consumes to_come left given
   pub written : WritesUnion book given before after
 
--- What a stream gives for a book is the export of that book of the union of its bundles, which cuts back into the
--- picked texts.
+-- What a stream gives for a book is the export of that book of the union of its bundles, which cuts
+-- back into the picked texts.
 abbrev pub FoldedBooksCutBack : Type 0
 FoldedBooksCutBack =
     (book input text : List ℕ) → AreBytes input → book_of_stream book input ≡ Ok text →

@@ -1,4 +1,5 @@
--- What a command does to a replica, and what it answers (this project's own rule, over the steps of a replica).
+-- What a command does to a replica, and what it answers (this project's own rule, over the steps of
+-- a replica).
 use Rattle.std.specs.Prelude.{◌≡◌, ℕ, List, [], ◌∷◌, ◌++◌, length, codes, Option, None, Some, option_map}
 use Rattle.std.specs.Prelude.{Result, Ok, Err, Vec, Bool, true, false, not, ◌&&◌, IsTrue, if◌then◌else◌}
 use Rattle.std.specs.Fmt.{decimal}
@@ -54,8 +55,8 @@ abbrev pub shown_line : Operation → List ℕ
 shown_line o = line_of (codes "op") (id_words o.id ++ 32 ∷ decimal (length (own_text o)))
     ++ own_text o ++ 10 ∷ []
 
--- what a command writes of a step: how many operations are new, the id that an edit made, how many edits an import
--- made, how many texts were left out; or the step's refusal
+-- what a command writes of a step: how many operations are new, the id that an edit made, how many
+-- edits an import made, how many texts were left out; or the step's refusal
 abbrev pub reply_line : Reply → Result (List ℕ) Fault
 reply_line (Received (Ok count)) = Ok (line_of (codes "new") (decimal count))
 reply_line (Received (Err fault)) = Err (of_receiving fault)
@@ -143,8 +144,8 @@ abbrev pub delta_for : List Operation → Option (List NameRanges) → Result (L
 delta_for held (Some known) = Ok (bundle (outside known held))
 delta_for held None = Err BadSummary
 
--- The replica after a command and what the command writes, or why it is refused. From `Shown` on commands leave the
--- replica as it is.
+-- The replica after a command and what the command writes, or why it is refused. From `Shown` on
+-- commands leave the replica as it is.
 abbrev pub outcome : State → Command → Result Done Fault
 outcome s (Import file) = import_done s file.now
 outcome s (ImportSince file base) = since_done s file.now (whole_at base.now)
@@ -197,12 +198,14 @@ abbrev pub has_thinned : Result ((Bool × List Operation) × List ℕ) BundleFau
 has_thinned (Ok fields) = not (all_full fields.0.1)
 has_thinned (Err fault) = false
 
--- the fault is a clash, or it is found once each field of the bytes was right and an operation is thinned
+-- the fault is a clash, or it is found once each field of the bytes was right and an operation is
+-- thinned
 abbrev pub is_late_in : List ℕ → Fault → Bool
 is_late_in bytes (Clash id) = true
 is_late_in bytes fault = has_thinned (fields_at bytes)
 
--- the same of the bytes of a base, or that no number is left; but that the file is not UTF-8 is found before
+-- the same of the bytes of a base, or that no number is left; but that the file is not UTF-8 is
+-- found before
 abbrev pub is_late_since : List ℕ → Fault → Bool
 is_late_since base (NotText valid) = false
 is_late_since base NumbersUsedUp = true
@@ -213,10 +216,11 @@ abbrev pub is_numbers_used_up : Fault → Bool
 is_numbers_used_up NumbersUsedUp = true
 is_numbers_used_up fault = false
 
--- The refusals of a command that are found only with memory: a clash, since what a bundle brings is copied before all of
--- it was looked at; what is wrong with a bundle that has a thinned operation, once each field was right; that an import has
--- no number left, since its edits are counted from its pieces; what an edit by the text of an operation is refused for, since
--- that text is looked up first; and what comes after a sheet was read, or after two records of it.
+-- The refusals of a command that are found only with memory: a clash, since what a bundle brings is
+-- copied before all of it was looked at; what is wrong with a bundle that has a thinned operation,
+-- once each field was right; that an import has no number left, since its edits are counted from
+-- its pieces; what an edit by the text of an operation is refused for, since that text is looked up
+-- first; and what comes after a sheet was read, or after two records of it.
 abbrev pub is_late : Command → Fault → Bool
 is_late (Import file) = is_numbers_used_up
 is_late (ImportSince file base) = is_late_since base.now
@@ -240,16 +244,16 @@ abbrev pub MayWantMemory : {T : Type 0} → (Fault → Bool) → Result T Fault 
 MayWantMemory late (Ok x) = Unit {0}
 MayWantMemory late (Err fault) = IsTrue (late fault)
 
--- What is answered of what a command that only reports is to write: it, or the refusal; or out of memory, where
--- that may be answered.
+-- What is answered of what a command that only reports is to write: it, or the refusal; or out of
+-- memory, where that may be answered.
 abbrev pub Gives : {A : Type 0} → (Fault → Bool) → Result (List ℕ) Fault →
     Result (Vec ℕ A) Fault → Type 0
 Gives late wanted (Ok output) = wanted ≡ Ok output.items
 Gives late wanted (Err Memory) = MayWantMemory late wanted
 Gives late wanted (Err fault) = wanted ≡ Err fault
 
--- What is answered of what is wanted, where the replica is then so: what is written, or the refusal; or out of
--- memory, where that may be answered.
+-- What is answered of what is wanted, where the replica is then so: what is written, or the
+-- refusal; or out of memory, where that may be answered.
 abbrev pub Answers : {A : Type 0} → (Fault → Bool) → Result Done Fault → State →
     Result (Vec ℕ A) Fault → Type 0
 Answers late wanted after (Ok output) =

@@ -58,12 +58,14 @@ abbrev pub known_of : List ℕ → Result (List NameRanges) Fault
 known_of bytes = if is_like_summary bytes then summary_or (read_summary bytes)
     else ids_of_bundle (whole_at bytes)
 
--- What is answered of a file: the ids that it tells, or its fault; or out of memory, where that may be answered.
+-- What is answered of a file: the ids that it tells, or its fault; or out of memory, where that may
+-- be answered.
 abbrev pub Tells : List ℕ → Result (List NameRanges) Fault → Type 0
 Tells bytes (Ok known) = known_of bytes ≡ Ok known
 Tells bytes (Err fault) = RefusedFor (is_late_in bytes) (known_of bytes) fault
 
--- a file with the ids that it tells, before what the later ones tell; a later one that is refused is one place further on
+-- a file with the ids that it tells, before what the later ones tell; a later one that is refused
+-- is one place further on
 abbrev pub other_before : List ℕ → Result (List NameRanges) Fault →
     Result (List OtherParts) TurnFault → Result (List OtherParts) TurnFault
 other_before file (Ok known) (Ok others) = Ok (record { file = file; known = known } ∷ others)
@@ -76,7 +78,8 @@ abbrev pub others_of : List FileParts → Result (List OtherParts) TurnFault
 others_of [] = Ok []
 others_of (file ∷ later) = other_before file.name (known_of file.bytes) (others_of later)
 
--- A file is refused in its turn: the files before it, which are this many, tell their ids, and it may be refused for this.
+-- A file is refused in its turn: the files before it, which are this many, tell their ids, and it
+-- may be refused for this.
 pub record RefusedAt (files : List FileParts) (at : ℕ) (fault : Fault) : Type 0 where
   pub before : List FileParts
   pub file : FileParts
@@ -91,8 +94,8 @@ abbrev pub FirstTells : List FileParts → Type 0
 FirstTells [] = Unit {0}
 FirstTells (file ∷ later) = IsOk (known_of file.bytes)
 
--- What is answered of files: what they tell, or the first that is refused; or out of memory in no turn, where what a file told is
--- kept.
+-- What is answered of files: what they tell, or the first that is refused; or out of memory in no
+-- turn, where what a file told is kept.
 abbrev pub TellsAll : List FileParts → Result (List OtherParts) TurnFault → Type 0
 TellsAll files (Ok others) = others_of files ≡ Ok others
 TellsAll files (Err (Turn at fault)) = RefusedAt files at fault
@@ -106,14 +109,16 @@ abbrev pub status_beside : State → List ℕ → Result (List OtherParts) TurnF
 status_beside s folder (Ok others) = Ok (status s.name s.held folder others)
 status_beside s folder (Err fault) = Err fault
 
--- the lines of a project and of its folder beside files, or why the project is refused, or else the first file that is
+-- the lines of a project and of its folder beside files, or why the project is refused, or else the
+-- first file that is
 abbrev pub status_of : Result State LoadFault → List ℕ → List FileParts →
     Result (List ℕ) TurnFault
 status_of (Ok s) folder files = status_beside s folder (others_of files)
 status_of (Err fault) folder files = Err (Project (of_loading fault))
 
--- What is answered of a project that is read: its lines, or the first file that is refused; or out of memory in no turn, which in
--- the place of a first file's refusal is answered only where the project has an operation without its text.
+-- What is answered of a project that is read: its lines, or the first file that is refused; or out
+-- of memory in no turn, which in the place of a first file's refusal is answered only where the
+-- project has an operation without its text.
 abbrev pub AnswersStatus : State → List ℕ → List FileParts → Result (List ℕ) TurnFault → Type 0
 AnswersStatus s folder files (Ok text) = status_beside s folder (others_of files) ≡ Ok text
 AnswersStatus s folder files (Err (Turn at fault)) = RefusedAt files at fault
@@ -147,7 +152,8 @@ abbrev pub reported_in : List Operation → List ℕ → List KeyParts
 reported_in held book =
     filter (λ key. nat_le 2 (length (distinct_texts held (segment book key)))) (keys_of held book)
 
--- The segments of a book that a project's status names as in conflict are those that the report lists texts of.
+-- The segments of a book that a project's status names as in conflict are those that the report
+-- lists texts of.
 abbrev pub ConflictsAreReported : Type 0
 ConflictsAreReported =
     (held : List Operation) (book : List ℕ) → IsOpSet held →

@@ -22,8 +22,8 @@ SummariesAreRead =
     (held : List Operation) → IsOpSet held → length (summary (summary_of held)) < 2 ^ 64 →
     read_summary (summary (summary_of held)) ≡ Some (summary_of held)
 
--- A project that is given the summary which another one wrote refuses it never, and writes the bundle of what it holds outside
--- that summary.
+-- A project that is given the summary which another one wrote refuses it never, and writes the
+-- bundle of what it holds outside that summary.
 abbrev pub DeltasAnswerSummaries : Type 0
 DeltasAnswerSummaries =
     (file other : List ℕ) (s t : State) (asked : Bor (List ℕ)) →
@@ -31,8 +31,8 @@ DeltasAnswerSummaries =
     output_of (executed other Summary) ≡ Ok asked.now → length asked.now < 2 ^ 64 →
     output_of (executed file (Delta asked)) ≡ Ok (bundle (outside (summary_of t.held) s.held))
 
--- The other project, given what is written so by one without thinned operations, holds the union of both sets, and counts as new
--- what it lacked.
+-- The other project, given what is written so by one without thinned operations, holds the union of
+-- both sets, and counts as new what it lacked.
 abbrev pub DeltasBringUnion : Type 0
 DeltasBringUnion =
     (file other : List ℕ) (s t : State) (asked sent : Bor (List ℕ)) →

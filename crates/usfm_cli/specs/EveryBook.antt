@@ -1,4 +1,5 @@
--- What is reported of every book of a set of operations by the records of a style sheet (this project's own rule).
+-- What is reported of every book of a set of operations by the records of a style sheet (this
+-- project's own rule).
 use Rattle.std.specs.Prelude.{ℕ, List, Option}
 use Rattle.std.specs.List.{flat_map}
 use Rattle.sty_sheet.specs.Records.{Record}
@@ -9,7 +10,8 @@ use Rattle.line_excerpt.specs.declared.excerpt.SetOff.{SetOff}
 use Rattle.book_reports.specs.Reports.{checked, searched}
 use Rattle.book_reports.specs.BookWords.{in_book, by_form, word_lines}
 
--- what is made of the export of each book with an operation, one after another, in the order of the books
+-- what is made of the export of each book with an operation, one after another, in the order of the
+-- books
 abbrev pub of_each_book : {A : Type 0} → (List ℕ → List ℕ → List A) → List Operation → List A
 of_each_book made held = flat_map (λ book. made book (export held book)) (books_of held)
 
@@ -21,6 +23,7 @@ all_checked set_off sheet held = of_each_book (checked set_off sheet) held
 abbrev pub all_searched : Option SetOff → List Record → List ℕ → List Operation → List ℕ
 all_searched set_off sheet needle held = of_each_book (searched set_off sheet needle) held
 
--- the words of all books, a line for each word of each book: by the forms, those of one form in the order of the books
+-- the words of all books, a line for each word of each book: by the forms, those of one form in the
+-- order of the books
 abbrev pub all_listed : List Record → List Operation → List ℕ
 all_listed sheet held = word_lines (by_form (of_each_book (in_book sheet) held))

@@ -1,4 +1,5 @@
--- What a call that folds a stream into a book answers, and what it leaves of its source and its sink.
+-- What a call that folds a stream into a book answers, and what it leaves of its source and its
+-- sink.
 use Rattle.std.specs.Prelude.{◌≡◌, ℕ, ◌+◌, ◌<◌, ◌≤◌, List, [], length, Option, Result, Ok, Err}
 use Rattle.std.specs.Io.KnownBytes.{Consumes, Appends, IsAtEnd}
 use Rattle.usfm_export.specs.Counts.{one_more}
@@ -9,8 +10,8 @@ use Rattle.usfm_cli.specs.declared.fault.Fault.{Fault}
 use Rattle.usfm_cli.specs.declared.fault.Fault.TheVariants.{Memory, WriteFailed}
 use Rattle.usfm_cli.specs.declared.fault.Fault.TheVariants.{ReadFailed, TooLong}
 
--- What an answer says of the text that is to be written, or of its refusal, and of what the sink took: all of the
--- text, the front of it whose length is answered, or nothing.
+-- What an answer says of the text that is to be written, or of its refusal, and of what the sink
+-- took: all of the text, the front of it whose length is answered, or nothing.
 abbrev pub AnswersText : Result (List ℕ) Fault → Option (List ℕ) → Option (List ℕ) →
     Result (Unit {0}) Fault → Type 0
 AnswersText wanted before after (Ok done) =
@@ -20,8 +21,8 @@ AnswersText wanted before after (Err (WriteFailed gone)) =
 AnswersText wanted before after (Err Memory) = after ≡ before
 AnswersText wanted before after (Err fault) = (wanted ≡ Err fault) × (after ≡ before)
 
--- What an answer says of bundles that were read whole: what the book of their stream says; out of memory only where
--- one of them was received, or judged with memory, and then nothing was written.
+-- What an answer says of bundles that were read whole: what the book of their stream says; out of
+-- memory only where one of them was received, or judged with memory, and then nothing was written.
 abbrev pub AnswersBundles : List ℕ → List ℕ → Option (List ℕ) → Option (List ℕ) →
     Result (Unit {0}) Fault → Type 0
 AnswersBundles book input before after (Err ReadFailed) = ⊥
@@ -30,9 +31,9 @@ AnswersBundles book input before after (Err Memory) = ReceivesOne [] input × (a
 AnswersBundles book input before after answer =
     AnswersText (book_of_stream book input) before after answer
 
--- What an answer says of the bytes that the source gave: where a read failed, where they are too long and where
--- memory ran out, which is taken for bytes alone, that nothing was written; else that they are all of them, and what
--- the book of that stream says.
+-- What an answer says of the bytes that the source gave: where a read failed, where they are too
+-- long and where memory ran out, which is taken for bytes alone, that nothing was written; else
+-- that they are all of them, and what the book of that stream says.
 abbrev pub AnswersStream : List ℕ → List ℕ → Option (List ℕ) → Option (List ℕ) → Option (List ℕ) →
     Result (Unit {0}) Fault → Type 0
 AnswersStream book given left before after (Err ReadFailed) =
@@ -45,8 +46,8 @@ AnswersStream book given left before after answer =
     (length given ≤ most_bytes) × IsAtEnd left
     × AnswersText (book_of_stream book given) before after answer
 
--- A call folded a stream: the source gave some bytes, in at most one read for each and one more, and the call
--- answered by them.
+-- A call folded a stream: the source gave some bytes, in at most one read for each and one more,
+-- and the call answered by them.
 pub record FoldsStream (book : List ℕ) (to_come left : Option (List ℕ))
     (reads_before reads_after : ℕ) (before after : Option (List ℕ))
     (answer : Result (Unit {0}) Fault) : Type 0 where
@@ -55,12 +56,14 @@ pub record FoldsStream (book : List ℕ) (to_come left : Option (List ℕ))
   pub reads : reads_after ≤ reads_before + length given + 1
   pub answered : AnswersStream book given left before after answer
 
--- the source's failures after the call: one more exactly where the call answers that the reader failed
+-- the source's failures after the call: one more exactly where the call answers that the reader
+-- failed
 abbrev pub source_failures : Result (Unit {0}) Fault → ℕ → ℕ
 source_failures (Err ReadFailed) failures = one_more failures
 source_failures answer failures = failures
 
--- the sink's failures after the call: one more exactly where the call answers that the writer failed
+-- the sink's failures after the call: one more exactly where the call answers that the writer
+-- failed
 abbrev pub sink_failures : Result (Unit {0}) Fault → ℕ → ℕ
 sink_failures (Err (WriteFailed gone)) failures = one_more failures
 sink_failures answer failures = failures

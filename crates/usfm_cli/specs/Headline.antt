@@ -1,5 +1,5 @@
--- What replicas that accepted the same operations write (this project's own rule, over the convergence of states in
--- INRIA RR-7506): projects under commands, and streams of bundles.
+-- What replicas that accepted the same operations write (this project's own rule, over the
+-- convergence of states in INRIA RR-7506): projects under commands, and streams of bundles.
 use Rattle.std.specs.Prelude.{◌≡◌, ℕ, List, [], None, Result, Ok}
 use Rattle.op_core.specs.Ops.{Operation}
 use Rattle.op_core.specs.Sets.{clash}
@@ -14,7 +14,8 @@ use Rattle.usfm_cli.specs.declared.command.Command.{Command}
 use Rattle.usfm_cli.specs.declared.command.Command.TheVariants.{Export, Report}
 use Rattle.usfm_cli.specs.declared.fault.Fault.{Fault}
 
--- a replica: a project's file, to which commands were given one after another, or a stream of bundles
+-- a replica: a project's file, to which commands were given one after another, or a stream of
+-- bundles
 pub data Replica : Type 0 where
   Project : (file : List ℕ) (commands : List Command) → Replica
   Stream : (input : List ℕ) → Replica
@@ -42,8 +43,9 @@ abbrev pub book_of : Replica → List ℕ → Result (List ℕ) Fault
 book_of (Project file commands) book = output_of (executed (file_after file commands) (Export book))
 book_of (Stream input) book = book_of_stream book input
 
--- Replicas that accepted the same operations but for texts left out, in whatever order, grouping and repetition, write
--- the same bytes of every book, or refuse it alike, if no id has two operations.
+-- Replicas that accepted the same operations but for texts left out, in whatever order, grouping
+-- and repetition, write the same bytes of every book, or refuse it alike, if no id has two
+-- operations.
 abbrev pub SameOperationsSameBytes : Type 0
 SameOperationsSameBytes =
     (one other : Replica) (held also : List Operation) → Accepted one held → Accepted other also →

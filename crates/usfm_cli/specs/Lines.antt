@@ -1,5 +1,5 @@
--- The line that reports a fault (this project's own rule): `fault`, the fault's number, its details, each after
--- one space, and a line feed.
+-- The line that reports a fault (this project's own rule): `fault`, the fault's number, its
+-- details, each after one space, and a line feed.
 use Rattle.std.specs.Prelude.{ℕ, List, [], ◌∷◌, ◌++◌, codes}
 use Rattle.std.specs.List.{flat_map}
 use Rattle.std.specs.Fmt.{decimal}
@@ -36,8 +36,8 @@ bundle_number (NotUtf8 at) = 67
 bundle_number (BadText at) = 68
 bundle_number (Unsupported at) = 69
 
--- the details of a fault of a bundle: the place of the operation, counted from 1, where it has one; 0 stands for the whole
--- bundle
+-- the details of a fault of a bundle: the place of the operation, counted from 1, where it has one;
+-- 0 stands for the whole bundle
 abbrev pub bundle_details : BundleFault → List (List ℕ)
 bundle_details bundle.Memory = []
 bundle_details Magic = []
@@ -82,8 +82,8 @@ fault_number (Emptied count) = 132
 fault_number (Undone count) = 133
 fault_number (Unlike count) = 134
 
--- the details of a fault: an id by its number and its name; a count of bytes or segments, a line or the place of an
--- operation in decimal
+-- the details of a fault: an id by its number and its name; a count of bytes or segments, a line or
+-- the place of an operation in decimal
 abbrev pub fault_details : Fault → List (List ℕ)
 fault_details (NotText valid) = decimal valid ∷ []
 fault_details (FieldBeforeMarker line) = decimal line ∷ []

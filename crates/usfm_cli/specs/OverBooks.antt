@@ -1,5 +1,5 @@
--- What is reported of a project by a style sheet (this project's own rule): of all its books, or of one with the lines of its
--- text.
+-- What is reported of a project by a style sheet (this project's own rule): of all its books, or of
+-- one with the lines of its text.
 use Rattle.std.specs.Prelude.{◌≡◌, ◌≢◌, ℕ, List, Option, None, Some, Result, Ok, Err, Vec}
 use Rattle.sty_sheet.specs.Records.{Record}
 use Rattle.op_core.specs.Ops.{Operation}
@@ -27,7 +27,8 @@ abbrev pub checked : List Operation → Option SetOff → Option (List ℕ) → 
     → Result (List ℕ) Fault
 checked held set_off book sheet = by_sheet sheet (findings_of held set_off book)
 
--- the hits of a needle in all books, or in one; where it is empty it is refused after a book without an operation
+-- the hits of a needle in all books, or in one; where it is empty it is refused after a book
+-- without an operation
 abbrev pub hits_of : List Operation → Option SetOff → Option (List ℕ) → List ℕ → List Record
     → Result (List ℕ) Fault
 hits_of held set_off None needle sheet =
@@ -55,14 +56,15 @@ abbrev pub told_by : {A : Type 0} → Result (Vec ℕ A) Fault → Result (List 
 told_by (Ok lines) = Ok lines.items
 told_by (Err fault) = Err fault
 
--- What is answered of a project: what is reported of its replica, or why none was read or nothing is reported; or out of
--- memory.
+-- What is answered of a project: what is reported of its replica, or why none was read or nothing
+-- is reported; or out of memory.
 abbrev pub AnswersProject : {A : Type 0} → List ℕ → (List Operation → Result (List ℕ) Fault)
     → Result (Vec ℕ A) Fault → Type 0
 AnswersProject bytes reported result =
     result ≢ Err Memory → of_loaded (project_at bytes) reported ≡ told_by result
 
--- bytes are a project file, and a replica is what is seen of its replica: of one book what it holds, or all
+-- bytes are a project file, and a replica is what is seen of its replica: of one book what it
+-- holds, or all
 pub record IsSeenOf (bytes : List ℕ) (book : Option (List ℕ)) (seen : State) : Type 0 where
   pub whole : State
   pub loads : project_at bytes ≡ Ok whole

@@ -1,5 +1,5 @@
--- What commands make of a project's file (this project's own rule): the file is read, the command is done, and the file of the
--- replica after it is written.
+-- What commands make of a project's file (this project's own rule): the file is read, the command
+-- is done, and the file of the replica after it is written.
 use Rattle.std.specs.Prelude.{◌≡◌, ◌⊎◌, ℕ, List, [], ◌∷◌, Option, Result, Ok, Err}
 use Rattle.op_core.specs.Ops.{Operation}
 use Rattle.bundle_codec.specs.declared.fault.WholeFault.{WholeFault}
@@ -29,13 +29,13 @@ abbrev pub of_loaded : Result State LoadFault → Command → Result Written Fau
 of_loaded (Ok s) command = written (outcome s command)
 of_loaded (Err fault) command = Err (of_loading fault)
 
--- what a command makes of a project's file: the file of the replica after it, and what it writes; or why it is
--- refused
+-- what a command makes of a project's file: the file of the replica after it, and what it writes;
+-- or why it is refused
 abbrev pub executed : List ℕ → Command → Result Written Fault
 executed bytes command = of_loaded (project_at bytes) command
 
--- what a receive makes of a replica that was read, and of the set of a bundle; or why one of the two was not read, the
--- replica first
+-- what a receive makes of a replica that was read, and of the set of a bundle; or why one of the
+-- two was not read, the replica first
 abbrev pub received : Result State LoadFault → Result (List Operation) WholeFault
     → Result Written Fault
 received (Ok s) bundle = written (with_bundle s bundle)
@@ -50,7 +50,8 @@ abbrev pub delta_made : Result State LoadFault → Option (List NameRanges) → 
 delta_made (Ok s) known = written (delta_done s known)
 delta_made (Err fault) known = Err (of_loading fault)
 
--- A file that is no project is refused with its fault; or with out of memory, where memory is taken to judge its bundle.
+-- A file that is no project is refused with its fault; or with out of memory, where memory is taken
+-- to judge its bundle.
 abbrev pub RefusesFile : {X : Type 0} → List ℕ → Fault → Result X Fault → Type 0
 RefusesFile bytes fault answer =
     (answer ≡ Err fault) ⊎ ((answer ≡ Err Memory) × TakesMemoryAfter (front_at bytes))

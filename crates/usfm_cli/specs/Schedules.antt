@@ -1,5 +1,6 @@
--- Every schedule of commands on the files of a team (this project's own rule, over the worlds of replicas): commands one after
--- another, each on the file of a copy, where what is received is what one of the files wrote before.
+-- Every schedule of commands on the files of a team (this project's own rule, over the worlds of
+-- replicas): commands one after another, each on the file of a copy, where what is received is what
+-- one of the files wrote before.
 pub mod Relays
 use Rattle.std.specs.Prelude.{◌≡◌, ◌≢◌, ◌<◌, ◌^◌, ℕ, true, List, [], ◌∷◌, ◌++◌, length, codes, Some, Result, Ok, Err, IsTrue}
 use Rattle.std.specs.Prelude.{slice_get, if◌then◌else◌}
@@ -26,8 +27,8 @@ use Rattle.usfm_cli.specs.declared.command.Command.TheVariants.{Receive, Send, S
 use Rattle.usfm_cli.specs.declared.fault.Fault.{Fault}
 use Rattle.usfm_cli.specs.declared.fault.Fault.TheVariants.{Bundle}
 
--- What the file of each copy has, by the copies' names, so that no two have one name; and every bundle and every summary that was
--- written so far, the last one first.
+-- What the file of each copy has, by the copies' names, so that no two have one name; and every
+-- bundle and every summary that was written so far, the last one first.
 pub record Files : Type 0 where
   pub file : List ℕ → List ℕ
   pub bundles : List (List ℕ)
@@ -83,9 +84,10 @@ pub record IsFrontOf (outputs : List (List ℕ)) (bytes : List ℕ) : Type 0 whe
   pub more : List ℕ
   pub parts : whole ≡ bytes ++ more
 
--- What a command is given that is not a text or a book's file, which may be any bytes: a segment within its ranges; to receive, a
--- front of a bundle that was written, whole or cut, whoever wrote it, and however often it was received; a summary that was written;
--- and as the base of an import a bundle that was written.
+-- What a command is given that is not a text or a book's file, which may be any bytes: a segment
+-- within its ranges; to receive, a front of a bundle that was written, whole or cut, whoever wrote
+-- it, and however often it was received; a summary that was written; and as the base of an import a
+-- bundle that was written.
 abbrev pub IsGiven : Files → Command → Type 0
 IsGiven w (ImportSince file base) = IsWritten w.bundles base.now
 IsGiven w (Edit book key text) = IsTrue (is_segment (segment book key))
@@ -151,15 +153,17 @@ OneForEachId =
     AreDone past → IsFileOf (files past) a s → IsFileOf (files past) b t →
     get s.held id ≡ Some x → get t.held id ≡ Some y → agree x y ≡ true
 
--- From an operation that a file holds a chain of replacements, all held in its segment, leads to a shown one.
+-- From an operation that a file holds a chain of replacements, all held in its segment, leads to a
+-- shown one.
 abbrev pub ShownInTheEnd : Type 0
 ShownInTheEnd =
     (past : List FileCommand) (name : List ℕ) (s : State) (id : Id) (o : Operation) →
     AreDone past → IsFileOf (files past) name s → get s.held id ≡ Some o →
     (chain : List Operation) × IsChain s.held o.segment o chain
 
--- a receive was not refused: the file is then that of a replica of the same name that holds the union of two sets, but for texts
--- left out, and what was written is how many operations it had lacked
+-- a receive was not refused: the file is then that of a replica of the same name that holds the
+-- union of two sets, but for texts left out, and what was written is how many operations it had
+-- lacked
 pub record BringsUnion (s t : State) (r : Result Written Fault) : Type 0 where
   pub after : State
   pub answer : r ≡ Ok (record {
@@ -169,8 +173,8 @@ pub record BringsUnion (s t : State) (r : Result Written Fault) : Type 0 where
   pub named : after.name ≡ s.name
   pub skeletons : skeleton after.held ≡ skeleton (join s.held t.held)
 
--- A copy that receives what another one writes for its summary is not refused, and holds the union of both but for texts left
--- out, whatever texts either has left out before.
+-- A copy that receives what another one writes for its summary is not refused, and holds the union
+-- of both but for texts left out, whatever texts either has left out before.
 abbrev pub DeltasBringUnion : Type 0
 DeltasBringUnion =
     (past : List FileCommand) (a b : List ℕ) (s t : State) (asked sent : Bor (List ℕ)) →

@@ -53,8 +53,8 @@ goes_by_bytes (Check book sheet) = false
 goes_by_bytes (Find book sheet needle) = false
 goes_by_bytes (Words book sheet) = false
 
--- A command reads a replica's file without memory: no operation is thinned, and nothing is held of what the command sees, unless it
--- goes by the bytes.
+-- A command reads a replica's file without memory: no operation is thinned, and nothing is held of
+-- what the command sees, unless it goes by the bytes.
 pub record ReadInPlace (command : Command) (s : State) : Type 0 where
   pub full : IsTrue (all_full s.held)
   pub nothing_copied : goes_by_bytes command ≡ false → (seen_of (looked_at command) s).held ≡ []

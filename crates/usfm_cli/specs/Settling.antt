@@ -10,8 +10,8 @@ use Rattle.conflict_settling.specs.declared.wanted.Wanted.{Wanted}
 use Rattle.usfm_cli.specs.declared.fault.Fault.{Fault}
 use Rattle.usfm_cli.specs.declared.fault.Fault.TheVariants.{Memory, NoBook}
 
--- what is answered of a project that holds these operations: the next question; or that a book has no operation, or out of
--- memory, and nothing else
+-- what is answered of a project that holds these operations: the next question; or that a book has
+-- no operation, or out of memory, and nothing else
 abbrev pub AsksOf : List Operation → List Wanted → Option Segment → Manner
     → Result (Option AskedParts) Fault → Type 0
 AsksOf held wanted passed manner (Ok asked) = Asks held wanted passed manner (Ok asked)

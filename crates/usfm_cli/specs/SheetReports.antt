@@ -1,5 +1,5 @@
--- What commands report of a book by a style sheet (this project's own rule): its findings, the hits of a needle, and its
--- words.
+-- What commands report of a book by a style sheet (this project's own rule): its findings, the hits
+-- of a needle, and its words.
 use Rattle.std.specs.Prelude.{ℕ, Bool, true, false, List, [], ◌∷◌, Result, Ok, Err, if◌then◌else◌}
 use Rattle.std.specs.Str.{is_utf8}
 use Rattle.std.specs.Str.Lossy.{utf8_valid_len}
@@ -58,8 +58,9 @@ listed held book sheet =
     by_sheet sheet
     (λ records. by_book_text held book (λ text. Ok (word_lines (words_of records text))))
 
--- Whether a refusal of a command that goes by this sheet is found only after memory may have been taken: the book and the
--- needle are looked at after the sheet was read. That the sheet is no text takes none, and a fault of it only some (takes_memory).
+-- Whether a refusal of a command that goes by this sheet is found only after memory may have been
+-- taken: the book and the needle are looked at after the sheet was read. That the sheet is no text
+-- takes none, and a fault of it only some (takes_memory).
 abbrev pub is_after_sheet : List ℕ → Fault → Bool
 is_after_sheet sheet (NotText valid) = false
 is_after_sheet sheet NoBook = true

@@ -9,7 +9,8 @@ use Rattle.op_core.specs.Laws.{SameTogether}
 use Rattle.bundle_codec.specs.Reading.{AreBytes}
 use Rattle.usfm_cli.specs.Streams.{union_in, union_with, AreSpelled, book_of_stream}
 
--- bundles one after another give the union of their sets, taken one after another, or the first clash
+-- bundles one after another give the union of their sets, taken one after another, or the first
+-- clash
 abbrev pub StreamsGiveUnions : Type 0
 StreamsGiveUnions = (sets : List (List Operation)) (input : List ℕ) → AreSpelled sets input →
     union_in [] input ≡ union_with [] sets
@@ -25,8 +26,8 @@ abbrev pub UnionsAreOfStreams : Type 0
 UnionsAreOfStreams = (input : List ℕ) (union : List Operation) → AreBytes input →
     union_in [] input ≡ Ok union → IsStreamOf input union
 
--- Streams whose bundles have the same operations together, thinned ones as thinned, in whatever order, grouping and repetition,
--- give the same bytes of every book, if neither is refused.
+-- Streams whose bundles have the same operations together, thinned ones as thinned, in whatever
+-- order, grouping and repetition, give the same bytes of every book, if neither is refused.
 abbrev pub SameOperationsSameBooks : Type 0
 SameOperationsSameBooks =
     (sets others : List (List Operation)) (input other : List ℕ) (a b : List Operation) →
@@ -48,8 +49,9 @@ pub record FoldAlike (input other : List ℕ) : Type 0 where
   pub other_is : union_in [] other ≡ Ok other_union
   pub books : (book : List ℕ) → book_of_stream book input ≡ book_of_stream book other
 
--- Streams of bundles of one family, which have the same ids together, in whatever order, grouping and repetition, and whatever
--- texts are left out, give the same bytes of every book. Neither is refused.
+-- Streams of bundles of one family, which have the same ids together, in whatever order, grouping
+-- and repetition, and whatever texts are left out, give the same bytes of every book. Neither is
+-- refused.
 abbrev pub SameIdsSameBooks : Type 0
 SameIdsSameBooks =
     (family : Id → Operation) (sets others : List (List Operation)) (input other : List ℕ) →

@@ -1,5 +1,5 @@
--- What a stream of bundles folds into (this project's own rule): bundles one after another, whose union is taken
--- in their order, and then the export of one book.
+-- What a stream of bundles folds into (this project's own rule): bundles one after another, whose
+-- union is taken in their order, and then the export of one book.
 use Rattle.std.specs.Prelude.{◌≡◌, ℕ, zero, suc, IsTrue, List, [], ◌∷◌, length}
 use Rattle.std.specs.Prelude.{Option, Some, None, Result, Ok, Err, if◌then◌else◌}
 use Rattle.std.specs.List.{flat_map, AllByRecursion}
@@ -25,8 +25,9 @@ abbrev pub unless_clash : {X : Type 0} → Option Id → Result X Fault → Resu
 unless_clash None next = next
 unless_clash (Some id) next = Err (Clash id)
 
--- The union of a set and of the bundles that the bytes spell, each joined before the next is read; or the first
--- refusal. A bundle is not empty, so the length of the bytes bounds how many there are.
+-- The union of a set and of the bundles that the bytes spell, each joined before the next is read;
+-- or the first refusal. A bundle is not empty, so the length of the bytes bounds how many there
+-- are.
 unfoldable pub union_within : ℕ → List Operation → List ℕ → Result (List Operation) Fault
 union_within bound held [] = Ok held
 union_within zero held (b ∷ bytes) = Ok held
@@ -34,8 +35,8 @@ union_within (suc bound) held (b ∷ bytes) =
     with_set (bundle_at (b ∷ bytes))
     (λ set rest. unless_clash (clash held set) (union_within bound (join held set) rest))
 
--- the union of a set and of all bundles that the bytes spell, each joined before the next is read; or the first
--- refusal
+-- the union of a set and of all bundles that the bytes spell, each joined before the next is read;
+-- or the first refusal
 abbrev pub union_in : List Operation → List ℕ → Result (List Operation) Fault
 union_in held bytes = union_within (length bytes) held bytes
 
@@ -66,8 +67,8 @@ abbrev pub union_with : List Operation → List (List Operation) → Result (Lis
 union_with held [] = Ok held
 union_with held (set ∷ rest) = unless_clash (clash held set) (union_with (join held set) rest)
 
--- A bundle is received, or judged with memory: the bytes begin with it, or with bundles that join to a set, the one after the
--- other, and then with it.
+-- A bundle is received, or judged with memory: the bytes begin with it, or with bundles that join
+-- to a set, the one after the other, and then with it.
 pub data ReceivesOne : List Operation → List ℕ → Type 0 where
   Here : (held : List Operation) (bytes : List ℕ) (set : List Operation) (rest : List ℕ) →
       bundle_at bytes ≡ Ok (set, rest) → ReceivesOne held bytes
@@ -76,8 +77,8 @@ pub data ReceivesOne : List Operation → List ℕ → Type 0 where
       bundle_at bytes ≡ Ok (set, rest) → clash held set ≡ None →
       ReceivesOne (join held set) rest → ReceivesOne held bytes
 
--- what a call that makes the union answers: the union, a bundle's fault, a clash, or out of memory, where it received a
--- bundle or judged one with memory
+-- what a call that makes the union answers: the union, a bundle's fault, a clash, or out of memory,
+-- where it received a bundle or judged one with memory
 abbrev pub UnionAnswers : List ℕ → Result (List Operation) Fault → Type 0
 UnionAnswers input (Ok union) = union_in [] input ≡ Ok union
 UnionAnswers input (Err Memory) = ReceivesOne [] input

@@ -1,4 +1,5 @@
--- Which files of a folder are texts that have another ending than books' files (this project's own rule).
+-- Which files of a folder are texts that have another ending than books' files (this project's own
+-- rule).
 use Rattle.std.specs.Prelude.{ℕ, ◌-◌, Bool, false, not, ◌&&◌, List, [], ◌∷◌, length, drop, map, codes}
 use Rattle.std.specs.Char.{to_ascii_lowercase}
 use Rattle.usfm_ref.specs.Books.{same_bytes}

@@ -1,5 +1,5 @@
--- That the leaves of an exported book's tree are the book. Every mark and every text of a USFM text is kept in its tree, whatever
--- the style sheet says of the marks (this project's own rule).
+-- That the leaves of an exported book's tree are the book. Every mark and every text of a USFM text
+-- is kept in its tree, whatever the style sheet says of the marks (this project's own rule).
 use Rattle.std.specs.Prelude.{◌≡◌, ℕ, List}
 use Rattle.sty_sheet.specs.Records.{Record}
 use Rattle.op_core.specs.Ops.{Operation}

@@ -1,5 +1,5 @@
--- Commands in turn on one replica (this project's own rule): each is done on what the ones before it made, and the first
--- that is refused refuses them all.
+-- Commands in turn on one replica (this project's own rule): each is done on what the ones before
+-- it made, and the first that is refused refuses them all.
 use Rattle.std.specs.Prelude.{◌≡◌, ◌⊎◌, ℕ, suc, List, [], ◌∷◌, ◌++◌, length, map, take}
 use Rattle.std.specs.Prelude.{Vec, Bool, true, false, Result, Ok, Err}
 use Rattle.replica_state.specs.States.{State}
@@ -16,12 +16,14 @@ use Rattle.usfm_cli.specs.declared.fault.Fault.TheVariants.{Memory}
 use Rattle.usfm_cli.specs.declared.turns.TurnFault.{TurnFault}
 use Rattle.usfm_cli.specs.declared.turns.TurnFault.TheVariants.{Project, Turn}
 
--- what there is after commands in turn, a replica or a project's file, and what each of them writes, in their order
+-- what there is after commands in turn, a replica or a project's file, and what each of them
+-- writes, in their order
 pub record InTurn (A : Type 0) : Type 0 where
   pub after : A
   pub outputs : List (List ℕ)
 
--- what a command writes, before what the ones after it do; one of them that is refused is one place further on
+-- what a command writes, before what the ones after it do; one of them that is refused is one place
+-- further on
 abbrev pub after_one : {A : Type 0} → List ℕ →
     Result (InTurn A) TurnFault → Result (InTurn A) TurnFault
 after_one output (Ok done) = Ok (record { after = done.after; outputs = output ∷ done.outputs })
@@ -34,7 +36,8 @@ abbrev pub done_before : Result Done Fault → (State → Result (InTurn State) 
 done_before (Ok done) later = after_one done.output (later done.after)
 done_before (Err fault) later = Err (Turn 0 fault)
 
--- the replica after commands in turn with what they write; or the first that is refused, by the number of those before it
+-- the replica after commands in turn with what they write; or the first that is refused, by the
+-- number of those before it
 abbrev pub in_turn : State → List Command → Result (InTurn State) TurnFault
 in_turn s [] = Ok (record { after = s; outputs = [] })
 in_turn s (command ∷ later) = done_before (outcome s command) (λ next. in_turn next later)
@@ -50,20 +53,21 @@ abbrev pub loaded_in_turn : Result State LoadFault → List Command →
 loaded_in_turn (Ok s) commands = written_in_turn (in_turn s commands)
 loaded_in_turn (Err fault) commands = Err (Project (of_loading fault))
 
--- What commands in turn make of a project's file: the file of the replica after the last, and what each writes; or why the
--- project is refused, or else the first command that is.
+-- What commands in turn make of a project's file: the file of the replica after the last, and what
+-- each writes; or why the project is refused, or else the first command that is.
 abbrev pub executed_in_turn : List ℕ → List Command → Result (InTurn (List ℕ)) TurnFault
 executed_in_turn bytes commands = loaded_in_turn (project_at bytes) commands
 
 -- ---- refusals, and out of memory
 
--- what a command may be refused for: what there is to refuse; or out of memory, where that may be answered
+-- what a command may be refused for: what there is to refuse; or out of memory, where that may be
+-- answered
 abbrev pub RefusedFor : {T : Type 0} → (Fault → Bool) → Result T Fault → Fault → Type 0
 RefusedFor late wanted Memory = MayWantMemory late wanted
 RefusedFor late wanted fault = wanted ≡ Err fault
 
--- A command is refused in its turn: the commands before it, which are this many, are accepted, and on what they made it may be
--- refused for this by itself.
+-- A command is refused in its turn: the commands before it, which are this many, are accepted, and
+-- on what they made it may be refused for this by itself.
 pub record RefusedIn (s : State) (commands : List Command) (at : ℕ) (fault : Fault) : Type 0 where
   pub before : List Command
   pub command : Command
@@ -84,8 +88,8 @@ with_output before (Ok done) =
     Ok (record { after = done.after; outputs = before ++ done.output ∷ [] })
 with_output before (Err fault) = Err fault
 
--- What is answered of a command in its turn, where the replica and the outputs are then so: its output comes after the others;
--- or it is refused, and the outputs are those that there were.
+-- What is answered of a command in its turn, where the replica and the outputs are then so: its
+-- output comes after the others; or it is refused, and the outputs are those that there were.
 abbrev pub AnswersTurn : (Fault → Bool) → Result Done Fault → List (List ℕ) → State →
     List (List ℕ) → Result (Unit {0}) Fault → Type 0
 AnswersTurn late wanted before after outputs (Ok done) =
@@ -93,7 +97,8 @@ AnswersTurn late wanted before after outputs (Ok done) =
 AnswersTurn late wanted before after outputs (Err fault) =
     RefusedFor late wanted fault × (outputs ≡ before)
 
--- What is answered of commands in turn, where the replica is then so: what they write, or the first that is refused.
+-- What is answered of commands in turn, where the replica is then so: what they write, or the first
+-- that is refused.
 abbrev pub AnswersInTurn : {A B : Type 0} → State → List Command → State →
     Result (Vec (Vec ℕ A) B) TurnFault → Type 0
 AnswersInTurn s commands after (Ok outputs) =
@@ -101,14 +106,15 @@ AnswersInTurn s commands after (Ok outputs) =
 AnswersInTurn s commands after (Err (Turn at fault)) = RefusedIn s commands at fault
 AnswersInTurn s commands after (Err (Project fault)) = ⊥
 
--- What is answered of commands in turn on the file of a replica: what they make of it, or the first that is refused; or out of
--- memory in no turn, where the file is read or written.
+-- What is answered of commands in turn on the file of a replica: what they make of it, or the first
+-- that is refused; or out of memory in no turn, where the file is read or written.
 abbrev pub AnswersFile : State → List Command → Result (InTurn (List ℕ)) TurnFault → Type 0
 AnswersFile s commands (Ok made) = written_in_turn (in_turn s commands) ≡ Ok made
 AnswersFile s commands (Err (Turn at fault)) = RefusedIn s commands at fault
 AnswersFile s commands (Err (Project fault)) = fault ≡ Memory
 
--- A file that is no project is refused with its fault; or with out of memory, where memory is taken to judge its bundle.
+-- A file that is no project is refused with its fault; or with out of memory, where memory is taken
+-- to judge its bundle.
 abbrev pub RefusesProject : {X : Type 0} → List ℕ → Fault → Result X TurnFault → Type 0
 RefusesProject bytes fault answer =
     (answer ≡ Err (Project fault))
@@ -137,15 +143,15 @@ abbrev pub written_before : Result Written Fault → (List ℕ → Result (InTur
 written_before (Ok made) later = after_one made.output (later made.project)
 written_before (Err fault) later = Err (Turn 0 fault)
 
--- what commands one after another make of a project's file, each on the file of the one before: the last file and what they
--- write, or the first that is refused
+-- what commands one after another make of a project's file, each on the file of the one before: the
+-- last file and what they write, or the first that is refused
 abbrev pub one_after_another : List ℕ → List Command → Result (InTurn (List ℕ)) TurnFault
 one_after_another bytes [] = Ok (record { after = bytes; outputs = [] })
 one_after_another bytes (command ∷ later) =
     written_before (executed bytes command) (λ next. one_after_another next later)
 
--- Commands in turn on a project are the same commands one after another, where each file on the way is read again as the
--- replica that the steps of the commands make.
+-- Commands in turn on a project are the same commands one after another, where each file on the way
+-- is read again as the replica that the steps of the commands make.
 abbrev pub InTurnIsOneAfterAnother : Type 0
 InTurnIsOneAfterAnother =
     (bytes : List ℕ) (s : State) (commands : List Command) → AreBytes bytes →
@@ -153,8 +159,8 @@ InTurnIsOneAfterAnother =
     ≡ Ok (state_after s (take n commands))) →
     executed_in_turn bytes commands ≡ one_after_another bytes commands
 
--- Where commands one after another are all accepted, the project's file after them is that after any commands of which a
--- refused one leaves it as it is.
+-- Where commands one after another are all accepted, the project's file after them is that after
+-- any commands of which a refused one leaves it as it is.
 abbrev pub AcceptedIsFileAfter : Type 0
 AcceptedIsFileAfter =
     (bytes : List ℕ) (commands : List Command) (made : InTurn (List ℕ)) →

@@ -11,8 +11,8 @@ use usfm_ref::{Book, Key};
 pub enum Command<'a> {
     /// Takes in the file of a book, by the edits that make it the book's export: `added N`.
     Import(&'a [u8]),
-    /// Takes in what was changed in the file of a book since it was written from the base, a bundle:
-    /// `added N`.
+    /// Takes in what was changed in the file of a book since it was written from the base, a
+    /// bundle: `added N`.
     ImportSince {
         file: &'a [u8],
         base: &'a [u8],
@@ -30,7 +30,8 @@ pub enum Command<'a> {
         text: &'a [u8],
         ids: &'a [OpId],
     },
-    /// Gives a segment the text of one of the operations that it shows, in the place of some: `made NUMBER NAME`.
+    /// Gives a segment the text of one of the operations that it shows, in the place of some: `made
+    /// NUMBER NAME`.
     EditWith {
         book: Book,
         key: Key,
@@ -51,8 +52,8 @@ pub enum Command<'a> {
     Export(Book),
     /// Gives the summary of the operations that are held.
     Summary,
-    /// Gives the bundle of the operations that lie outside a summary, which is what another copy lacks,
-    /// and where one of these is thinned, of all others of its segment.
+    /// Gives the bundle of the operations that lie outside a summary, which is what another copy
+    /// lacks, and where one of these is thinned, of all others of its segment.
     Delta(&'a [u8]),
     /// Reports the conflicts, and the operations that are awaited.
     Report,

@@ -55,18 +55,18 @@ impl<'a> CopyFile<'a> {
     }
 }
 
-/// How a project stands, given as the bytes of its file, with the lines of its folder, and what other
-/// copies have and lack, as `project_status::status_text` writes it. A file that begins as a summary does
-/// is read as one, any other as a bundle.
+/// How a project stands, given as the bytes of its file, with the lines of its folder, and what
+/// other copies have and lack, as `project_status::status_text` writes it. A file that begins as a
+/// summary does is read as one, any other as a bundle.
 ///
 /// # Errors
 /// - `Project` with the fault of the project, as `exec` answers it: 110, 60 to 69, 70.
 /// - `Turn` with the number of the files before the first one that is refused, and its fault:
 ///   `BadSummary` (71), or `Bundle` (60 to 69) or `Trailing` (70).
 ///
-/// `Memory` (1) where an allocation failed: of a `Turn` where its file is a summary or a bundle, or one
-/// with a thinned operation that is refused; else of the `Project`, and then the first file is not one
-/// that is refused, unless the project has a thinned operation.
+/// `Memory` (1) where an allocation failed: of a `Turn` where its file is a summary or a bundle, or
+/// one with a thinned operation that is refused; else of the `Project`, and then the first file is
+/// not one that is refused, unless the project has a thinned operation.
 pub fn project_status(
     alloc: Global,
     project: &[u8],
@@ -78,8 +78,8 @@ pub fn project_status(
     // Which file is refused, and where memory may have run out.
     ensures beside { (s : State) → project_at project.now ≡ Ok s
         → copies.AnswersStatus s folder.now files.now (copies.as_list result) }
-    // A file that is no project is refused for that, whatever memory there is; but for its bundle, where
-    // an operation of it is thinned.
+    // A file that is no project is refused for that, whatever memory there is; but for its bundle,
+    // where an operation of it is thinned.
     ensures no_project { IfErr (project_at project.now) (λ fault.
         turns.RefusesProject project.now (of_loading fault) result) }
 {

@@ -54,8 +54,8 @@ fn push_checked(
     bytes.extend_from_slice(&lines)
 }
 
-// The hits of a needle in all books of a replica, as `find_book` gives them of each, in the order of
-// the books.
+// The hits of a needle in all books of a replica, as `find_book` gives them of each, in the order
+// of the books.
 //
 // # Errors
 // `EmptyNeedle` exactly where the needle is empty, and else `Memory` where an allocation failed.
@@ -117,8 +117,8 @@ fn push_found(
     }
 }
 
-// The words of all books of a replica, a line `FORM BOOK KEY ..` for each word of each book: by their forms, and
-// those of one form in the order of the books.
+// The words of all books of a replica, a line `FORM BOOK KEY ..` for each word of each book: by
+// their forms, and those of one form in the order of the books.
 //
 // # Errors
 // `AllocError` where an allocation failed.

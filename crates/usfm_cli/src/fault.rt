@@ -88,16 +88,16 @@ pub enum Fault {
     /// 130: a project's file, or one of a folder, was not made, replaced or renamed.
     #[error("the file was not written")]
     FileFailed,
-    /// 131: a book's file in a folder was changed, and what it was written from is not known; or there
-    /// are two of one book, or another file in the place of one.
+    /// 131: a book's file in a folder was changed, and what it was written from is not known; or
+    /// there are two of one book, or another file in the place of one.
     #[error("the folder's file would lose what stands in it")]
     FileChanged,
-    /// 132: of this many segments that have a text in what a book's file was written from, the file has
-    /// none.
+    /// 132: of this many segments that have a text in what a book's file was written from, the file
+    /// has none.
     #[error("{count} texts are gone from the file")]
     Emptied { count: u64 },
-    /// 133: of this many segments a book's file does not have the text that came in, and has an older
-    /// one.
+    /// 133: of this many segments a book's file does not have the text that came in, and has an
+    /// older one.
     #[error("the file undoes {count} texts that came in")]
     Undone { count: u64 },
     /// 134: a bundle that has nothing in common with the project would put this many segments in

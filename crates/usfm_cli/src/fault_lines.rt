@@ -9,10 +9,11 @@ use bundle_codec::BundleFault;
 use op_core::{IdFault, OpId, ShortLine};
 use usfm_ref::RefFault;
 
-/// The line that reports a fault: `fault`, its number, its details, each after one space, and a line feed.
-/// The details are an operation's id as its number and its name, the place of an operation in its bundle
-/// or a line of a sheet, counted from 1, the bytes that were written, the length of the longest front that
-/// is text, or how many segments a file or a bundle would change. It does not allocate.
+/// The line that reports a fault: `fault`, its number, its details, each after one space, and a
+/// line feed. The details are an operation's id as its number and its name, the place of an
+/// operation in its bundle or a line of a sheet, counted from 1, the bytes that were written, the
+/// length of the longest front that is text, or how many segments a file or a bundle would change.
+/// It does not allocate.
 pub fn fault_line(fault: &Fault) -> ShortLine
     ensures { result ≡ lines.fault_text fault.now }
 {

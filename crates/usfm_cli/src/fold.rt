@@ -24,15 +24,16 @@ use usfm_ref::Book;
 /// each byte and once more. An empty input is a list of no bundles.
 ///
 /// # Errors
-/// - `ReadFailed` (120) at the first error of the source, of whatever kind; `TooLong` (121) where it
-///   gives more than 268,435,456 bytes.
-/// - `Bundle` (60 to 69) where the bytes are no bundle; `Clash` (51) where a bundle has an operation
-///   that does not agree with one of a bundle before under the same id, with the least such id.
+/// - `ReadFailed` (120) at the first error of the source, of whatever kind; `TooLong` (121) where
+///   it gives more than 268,435,456 bytes.
+/// - `Bundle` (60 to 69) where the bytes are no bundle; `Clash` (51) where a bundle has an
+///   operation that does not agree with one of a bundle before under the same id, with the least
+///   such id.
 /// - `NoBook` (82) where no operation is of the book.
-/// - `WriteFailed` (90) where the sink answers an error or takes 0 bytes, with the bytes that were written:
-///   they are the front of the book of that length.
-/// - `Memory` (1) where an allocation failed. Nothing was written. For a source that gives no byte nothing
-///   is allocated.
+/// - `WriteFailed` (90) where the sink answers an error or takes 0 bytes, with the bytes that were
+///   written: they are the front of the book of that length.
+/// - `Memory` (1) where an allocation failed. Nothing was written. For a source that gives no byte
+///   nothing is allocated.
 pub fn fold_stream<R: ByteSource, W: ByteSink>(
     alloc: Global,
     source: &mut R,
@@ -50,13 +51,13 @@ pub fn fold_stream<R: ByteSource, W: ByteSink>(
     fold_bundles(alloc, &input, sink, book)
 }
 
-/// Takes the union of the operations of the bundles that the bytes spell, one after another, and writes
-/// the book's text to the sink, as `fold_stream` does once it has read its source.
+/// Takes the union of the operations of the bundles that the bytes spell, one after another, and
+/// writes the book's text to the sink, as `fold_stream` does once it has read its source.
 ///
 /// # Errors
 /// Those of `fold_stream` for bytes that were read. `Memory` is answered only where a bundle was
-/// received, or its texts that are left out were judged: so a first bundle that has none of these and
-/// is refused is never said to be out of memory.
+/// received, or its texts that are left out were judged: so a first bundle that has none of these
+/// and is refused is never said to be out of memory.
 pub fn fold_bundles<W: ByteSink>(
     alloc: Global,
     input: &[u8],

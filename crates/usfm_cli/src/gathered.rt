@@ -11,8 +11,8 @@ use replica_state::{Gathering, ReceiveFault, Replica};
 use std::alloc::{AllocError, Global};
 use usfm_ref::Book;
 
-// The operations of the bundles that were read so far. One bundle is a set as it is, so they are gathered
-// only when a second one comes.
+// The operations of the bundles that were read so far. One bundle is a set as it is, so they are
+// gathered only when a second one comes.
 #[derive(Debug, Drop)]
 pub(crate) enum Gathered<'a> {
     Nothing,
@@ -47,8 +47,8 @@ impl<'a> Gathered<'a> {
         }
     }
 
-    // A replica of this name that holds those of the operations which are of one book. Where there is
-    // none, it does not allocate.
+    // A replica of this name that holds those of the operations which are of one book. Where there
+    // is none, it does not allocate.
     pub(crate) fn of_book(
         &self,
         alloc: Global,

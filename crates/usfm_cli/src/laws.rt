@@ -1,5 +1,5 @@
-//! Laws of streams of bundles, of projects and of the trees of books, over the definitions alone. Each function
-//! does nothing: its contract is the law.
+//! Laws of streams of bundles, of projects and of the trees of books, over the definitions alone.
+//! Each function does nothing: its contract is the law.
 ghost use Rattle.usfm_cli.specs.Books as books;
 ghost use Rattle.usfm_cli.specs.ExecLaws as projects;
 ghost use Rattle.usfm_cli.specs.StreamLaws as laws;
@@ -45,32 +45,32 @@ pub fn exports_are_leaves()
     ensures { trees.ExportsAreLeaves }
 {}
 
-/// Projects that hold the same operations after whatever commands write the same bytes of every book,
-/// and the same conflict report.
+/// Projects that hold the same operations after whatever commands write the same bytes of every
+/// book, and the same conflict report.
 pub fn same_operations_read_the_same()
     ensures { projects.SameOperationsReadTheSame }
 {}
 
-/// Projects that hold the same but for texts left out, after whatever commands, write the same bytes of
-/// every book, and the same conflict report, if no id has two operations.
+/// Projects that hold the same but for texts left out, after whatever commands, write the same
+/// bytes of every book, and the same conflict report, if no id has two operations.
 pub fn skeletons_read_the_same()
     ensures { projects.SkeletonsReadTheSame }
 {}
 
-/// Projects that hold operations of one family and of the same ids, after whatever commands, write the
-/// same bytes of every book, and the same conflict report, whatever texts are left out.
+/// Projects that hold operations of one family and of the same ids, after whatever commands, write
+/// the same bytes of every book, and the same conflict report, whatever texts are left out.
 pub fn same_ids_read_alike()
     ensures { projects.SameIdsReadAlike }
 {}
 
-/// A project, after whatever commands, and a stream of bundles of one family with the same ids write the
-/// same bytes of every book, or refuse it alike, whatever texts are left out.
+/// A project, after whatever commands, and a stream of bundles of one family with the same ids
+/// write the same bytes of every book, or refuse it alike, whatever texts are left out.
 pub fn thinned_projects_read_as_streams()
     ensures { projects.ThinnedProjectsReadAsStreams }
 {}
 
-/// A project, after whatever commands, and a stream of bundles with the same operations, none of them
-/// refused, write the same bytes of every book, or refuse it alike.
+/// A project, after whatever commands, and a stream of bundles with the same operations, none of
+/// them refused, write the same bytes of every book, or refuse it alike.
 pub fn projects_read_as_streams()
     ensures { projects.ProjectsReadAsStreams }
 {}

@@ -1,9 +1,9 @@
-//! The commands of a Scripture project over the bytes of its file, and the folding of a stream of bundles
-//! into a book, from a byte source to a byte sink.
+//! The commands of a Scripture project over the bytes of its file, and the folding of a stream of
+//! bundles into a book, from a byte source to a byte sink.
 //!
-//! A [`ByteSource`] gives bytes and counts its reads and failures, as a [`ByteSink`] takes bytes and
-//! counts its failures, so that contracts can say what was read, what was written and which of them
-//! failed. [`StdSource`] and [`StdSink`] make them of std's readers and writers.
+//! A [`ByteSource`] gives bytes and counts its reads and failures, as a [`ByteSink`] takes bytes
+//! and counts its failures, so that contracts can say what was read, what was written and which of
+//! them failed. [`StdSource`] and [`StdSink`] make them of std's readers and writers.
 #![tactic(auto)]
 
 mod command;

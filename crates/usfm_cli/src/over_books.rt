@@ -1,4 +1,5 @@
-// What is reported of a project by a style sheet: of all its books, or of one with the lines of its text.
+// What is reported of a project by a style sheet: of all its books, or of one with the lines of its
+// text.
 ghost use Rattle.std.specs.Prelude.{◌≡◌, [], Ok, IfOk, IfErr};
 ghost use Rattle.replica_state.specs.States.{State};
 ghost use Rattle.project_file.specs.Answers.{RefusesLoad};
@@ -20,14 +21,15 @@ use sty_sheet::Sheet;
 use usfm_export::book_text;
 use usfm_ref::Book;
 
-/// Reports what is found by a style sheet in all books of a project, given as the bytes of its file, or
-/// in one: for each finding `REF CODE START`, and the line of the text where something is to set off the
-/// mark. Of all books it is what each gives by itself, in the order of the books.
+/// Reports what is found by a style sheet in all books of a project, given as the bytes of its
+/// file, or in one: for each finding `REF CODE START`, and the line of the text where something is
+/// to set off the mark. Of all books it is what each gives by itself, in the order of the books.
 ///
 /// # Errors
-/// First those of the project: `BadProject` (110), `Bundle` (60 to 69), `Trailing` (70). Then `NotText`
-/// (10) of the sheet, `FieldBeforeMarker` (40), `EmptyMarker` (41) or `BadStyleType` (42), whichever its
-/// first faulty line has, and `NoBook` (82) of the one book. `Memory` (1) where an allocation failed.
+/// First those of the project: `BadProject` (110), `Bundle` (60 to 69), `Trailing` (70). Then
+/// `NotText` (10) of the sheet, `FieldBeforeMarker` (40), `EmptyMarker` (41) or `BadStyleType`
+/// (42), whichever its first faulty line has, and `NoBook` (82) of the one book. `Memory` (1) where
+/// an allocation failed.
 pub fn check_project(
     alloc: Global,
     project: &[u8],
@@ -37,8 +39,8 @@ pub fn check_project(
 ) -> Result<Vec<u8>, Fault>
     ensures answer { over.AnswersProject project.now
         (λ held. over.checked held set_off book sheet.now) result }
-    // A file that is no project is refused for that, whatever memory there is; but for its bundle, where
-    // an operation of it is thinned.
+    // A file that is no project is refused for that, whatever memory there is; but for its bundle,
+    // where an operation of it is thinned.
     ensures no_project { IfErr (project_at project.now) (λ fault.
         RefusesFile project.now (of_loading fault) result) }
 {
@@ -46,9 +48,9 @@ pub fn check_project(
     check(alloc, &replica, book, sheet, set_off)
 }
 
-/// Finds a needle by a style sheet in all books of a project, given as the bytes of its file, or in one:
-/// for each hit `REF START`, and the line of the text where something is to set off the hit. Of all books
-/// it is what each gives by itself, in the order of the books.
+/// Finds a needle by a style sheet in all books of a project, given as the bytes of its file, or in
+/// one: for each hit `REF START`, and the line of the text where something is to set off the hit.
+/// Of all books it is what each gives by itself, in the order of the books.
 ///
 /// # Errors
 /// Those of `check_project`, and then `EmptyNeedle` (100).
@@ -70,8 +72,9 @@ pub fn find_project(
     find(alloc, &replica, book, sheet, needle, set_off)
 }
 
-/// Lists the words of all books of a project by a style sheet, given as the bytes of its file: for each
-/// word of each book `FORM BOOK KEY ..`, by the forms, and those of one form in the order of the books.
+/// Lists the words of all books of a project by a style sheet, given as the bytes of its file: for
+/// each word of each book `FORM BOOK KEY ..`, by the forms, and those of one form in the order of
+/// the books.
 ///
 /// # Errors
 /// Those of `check_project` but for `NoBook`.

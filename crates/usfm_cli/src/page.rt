@@ -15,8 +15,8 @@ use std::alloc::Global;
 /// The page about a project, given as the bytes of its file, as `project_page::page` writes it.
 ///
 /// # Errors
-/// Those of the project, as `exec` answers them: 110, 60 to 69, 70; `Memory` (1) where an allocation
-/// failed, and for a project nothing else.
+/// Those of the project, as `exec` answers them: 110, 60 to 69, 70; `Memory` (1) where an
+/// allocation failed, and for a project nothing else.
 pub fn project_page(alloc: Global, project: &[u8]) -> Result<Vec<u8>, Fault>
     ensures answer { (s : State) → project_at project.now ≡ Ok s → AnswersPage s (as_list result) }
     ensures no_project { IfErr (project_at project.now) (λ fault.

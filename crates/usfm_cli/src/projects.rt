@@ -22,8 +22,9 @@ use replica_state::Replica;
 use std::alloc::{AllocError, Global};
 use std::marker::Model;
 
-/// What a command made: the project's file after it, and what it writes. It also keeps the replica, if
-/// one was read, which nothing shows: a program that ends after it need not free so much, and forgets it.
+/// What a command made: the project's file after it, and what it writes. It also keeps the replica,
+/// if one was read, which nothing shows: a program that ends after it need not free so much, and
+/// forgets it.
 #[derive(Debug, Drop)]
 pub struct Outcome {
     project: Vec<u8>,
@@ -55,45 +56,45 @@ impl Outcome {
     }
 }
 
-/// Does a command on a project, given as the bytes of its file: reads the project, does the command's
-/// step, and answers the file of the project after it and what the command writes. A command that
-/// only reports gives the project's bytes back as they are. All of the file is judged; of what it
-/// holds, a command that looks at one book copies what is of that book, and a receive, a send or a
-/// delta nothing but the bytes that it writes.
+/// Does a command on a project, given as the bytes of its file: reads the project, does the
+/// command's step, and answers the file of the project after it and what the command writes. A
+/// command that only reports gives the project's bytes back as they are. All of the file is judged;
+/// of what it holds, a command that looks at one book copies what is of that book, and a receive, a
+/// send or a delta nothing but the bytes that it writes.
 ///
 /// # Errors
-/// First those of the project: `BadProject` (110) where the bytes do not begin as a project does, and
-/// then those of its bundle, `Bundle` (60 to 69) and `Trailing` (70). Then those of the command, in
-/// this order:
+/// First those of the project: `BadProject` (110) where the bytes do not begin as a project does,
+/// and then those of its bundle, `Bundle` (60 to 69) and `Trailing` (70). Then those of the
+/// command, in this order:
 /// - `Import`: `NotText` (10), `NoId` (30), `Reference` (20), `NumbersUsedUp` (81).
-/// - `ImportSince`: `NotText` (10), `Bundle` (60 to 69), `Trailing` (70), `NoId` (30), `Reference` (20),
-///   `Clash` (51), `NumbersUsedUp` (81).
+/// - `ImportSince`: `NotText` (10), `Bundle` (60 to 69), `Trailing` (70), `NoId` (30), `Reference`
+///   (20), `Clash` (51), `NumbersUsedUp` (81).
 /// - `Edit`: `NotText` (10), `BadSegment` (80), `NoBook` (82), `NumbersUsedUp` (81).
 /// - `EditOver`: the same, with `NotShown` (83) before `NumbersUsedUp`.
 /// - `EditWith`: `NotShown` (83), first of the operation whose text it is, `NumbersUsedUp` (81).
 /// - `Receive`: `Bundle` (60 to 69), `Trailing` (70), `Clash` (51).
 /// - `Export`: `NoBook` (82).
 /// - `Delta`: `BadSummary` (71).
-/// - `Check` and `Words`: `NotText` (10) of the sheet, `FieldBeforeMarker` (40), `EmptyMarker` (41) or
-///   `BadStyleType` (42), whichever its first faulty line has, `NoBook` (82).
+/// - `Check` and `Words`: `NotText` (10) of the sheet, `FieldBeforeMarker` (40), `EmptyMarker` (41)
+///   or `BadStyleType` (42), whichever its first faulty line has, `NoBook` (82).
 /// - `Find`: the same, and then `EmptyNeedle` (100).
 ///
 /// `Thin`, `Shown`, `Send`, `Summary` and `Report` refuse nothing.
 ///
-/// `Memory` (1) where an allocation failed; of bytes that are no project only where an operation of their bundle
-/// is thinned, since finding the other refusals does not allocate. Nor does finding those of the command once
-/// the project was read, but for `NumbersUsedUp` of an import, `Clash`, 69 and 70 of a bundle with a thinned
-/// operation, `NoId` and `Reference` of an `ImportSince` whose base has one, those of an `EditWith`, and what is
-/// found after records of a sheet were kept. The project is the bytes that were given, so that a refused command
-/// leaves it as it is.
+/// `Memory` (1) where an allocation failed; of bytes that are no project only where an operation of
+/// their bundle is thinned, since finding the other refusals does not allocate. Nor does finding
+/// those of the command once the project was read, but for `NumbersUsedUp` of an import, `Clash`,
+/// 69 and 70 of a bundle with a thinned operation, `NoId` and `Reference` of an `ImportSince` whose
+/// base has one, those of an `EditWith`, and what is found after records of a sheet were kept. The
+/// project is the bytes that were given, so that a refused command leaves it as it is.
 pub fn exec(alloc: Global, project: &[u8], command: &Command<'_>) -> Result<Outcome, Fault>
     ensures answer { result ≢ Err Fault.Memory → executed project.now command.now ≡ result }
-    // A file that is no project is refused for that, whatever memory there is; but for its bundle, where
-    // an operation of it is thinned.
+    // A file that is no project is refused for that, whatever memory there is; but for its bundle,
+    // where an operation of it is thinned.
     ensures no_project { IfErr (project_at project.now) (λ fault.
         RefusesFile project.now (of_loading fault) result) }
-    // Where the project is read without memory, out of memory is answered only where the command may
-    // want some, and so in the place of no refusal that needs none.
+    // Where the project is read without memory, out of memory is answered only where the command
+    // may want some, and so in the place of no refusal that needs none.
     ensures memory { result ≡ Err Fault.Memory → (s : State) → project_at project.now ≡ Ok s
         → ReadInPlace command.now s → MayWantMemory (is_late command.now) (outcome s command.now) }
     // A command that only reports gives the file back as it is.
@@ -147,8 +148,8 @@ fn receive_into(alloc: Global, project: &[u8], bytes: &[u8]) -> Result<Outcome, 
     })
 }
 
-// Copies the bundle of all operations out of the bytes of a project's file, which is judged. The file stays
-// as it is.
+// Copies the bundle of all operations out of the bytes of a project's file, which is judged. The
+// file stays as it is.
 fn send_of(alloc: Global, project: &[u8]) -> Result<Outcome, Fault>
     ensures answer { result ≢ Err Fault.Memory → executed project.now Command.Send ≡ result }
     ensures no_project { IfErr (project_at project.now) (λ fault.
@@ -164,8 +165,8 @@ fn send_of(alloc: Global, project: &[u8]) -> Result<Outcome, Fault>
     })
 }
 
-// Writes what a summary lacks of a project's file out of its bytes: the project and then the summary are
-// judged. The file stays as it is.
+// Writes what a summary lacks of a project's file out of its bytes: the project and then the
+// summary are judged. The file stays as it is.
 fn delta_of(alloc: Global, project: &[u8], summary: &[u8]) -> Result<Outcome, Fault>
     ensures answer { result ≢ Err Fault.Memory →
         delta_made (project_at project.now) (read_summary summary.now) ≡ result }

@@ -18,8 +18,8 @@ use usfm_ref::Segment;
 /// (`conflict_settling::next_question`). None where no more is open.
 ///
 /// # Errors
-/// First those of the project (`exec`), and then `NoBook` (82) where a book that is wanted, or that of a wanted
-/// segment, has no operation. `Memory` (1) where an allocation failed.
+/// First those of the project (`exec`), and then `NoBook` (82) where a book that is wanted, or that
+/// of a wanted segment, has no operation. `Memory` (1) where an allocation failed.
 pub fn next_question(
     alloc: Global,
     project: &[u8],
@@ -50,8 +50,8 @@ pub fn conflict_count(alloc: Global, project: &[u8], wanted: &[Wanted]) -> Resul
     Ok(open_conflicts(alloc, &replica, wanted, None)?.len())
 }
 
-/// The edit that gives an asked segment a text: over exactly the ids that its question has, whatever the project shows by
-/// then.
+/// The edit that gives an asked segment a text: over exactly the ids that its question has,
+/// whatever the project shows by then.
 pub fn settling_edit<'a>(asked: &'a Asked, text: &'a [u8]) -> Command<'a>
     ensures { (s : State) → outcome s result
         ≡ edit_over_done s asked.now.segment text.now asked.now.ids }

@@ -37,8 +37,8 @@ pub trait ByteSource {
 
 /// A reader of std as a source.
 ///
-/// A reader that reports more bytes than the buffer holds has failed: the source answers an error and
-/// counts it.
+/// A reader that reports more bytes than the buffer holds has failed: the source answers an error
+/// and counts it.
 #[derive(Drop)]
 pub struct StdSource<R> {
     reader: R,

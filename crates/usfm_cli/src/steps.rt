@@ -1,5 +1,6 @@
 // What commands do to a replica, and what they write.
-ghost use Rattle.std.specs.Prelude.{◌≡◌, true, false, ◌++◌, IfOk, IfErr, OnOk, codes, map, option_map, string_bytes};
+ghost use Rattle.std.specs.Prelude.{◌≡◌, true, false, ◌++◌, IfOk, IfErr, OnOk, codes, map};
+ghost use Rattle.std.specs.Prelude.{option_map, string_bytes};
 ghost use Rattle.std.specs.Fmt.{decimal};
 ghost use Rattle.std.specs.List.{find};
 ghost use Rattle.std.specs.Str.{is_utf8};
@@ -211,7 +212,8 @@ fn shown_lines(
     Ok(bytes)
 }
 
-// Appends a shown operation: a line with its id and the length of its text, the text, and a line feed.
+// Appends a shown operation: a line with its id and the length of its text, the text, and a line
+// feed.
 fn push_op(alloc: Global, bytes: &mut Vec<u8>, op: &Op) -> Result<(), AllocError>
     ensures { OnOk result (bytes.new.items ≡ bytes.old.items ++ commands.shown_line op.now) }
 {

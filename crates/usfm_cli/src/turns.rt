@@ -18,8 +18,8 @@ use std::alloc::{AllocError, AllocFailed, Global};
 use std::marker::Model;
 use thiserror::Error;
 
-/// What commands in turn made: the project's file after the last, and what each writes. It also keeps
-/// the replica, as `Outcome` does.
+/// What commands in turn made: the project's file after the last, and what each writes. It also
+/// keeps the replica, as `Outcome` does.
 #[derive(Debug, Drop)]
 pub struct Outcomes {
     project: Vec<u8>,
@@ -97,8 +97,8 @@ impl From<LoadFault> for TurnFault {
 }
 
 /// Does commands in turn on a project, given as the bytes of its file: reads the project once, does
-/// each command on what those before it made, and answers the file of the project after the last and
-/// what each writes. It is all or nothing: the first that is refused refuses them all.
+/// each command on what those before it made, and answers the file of the project after the last
+/// and what each writes. It is all or nothing: the first that is refused refuses them all.
 ///
 /// So it is what `exec` makes of the project by each of them, one after another, up to the first
 /// that is refused.
@@ -109,8 +109,9 @@ impl From<LoadFault> for TurnFault {
 ///   `exec` answers it of the project after those.
 ///
 /// `Memory` (1) where an allocation failed: of a `Turn`, where `exec` may answer it of that command
-/// by itself; of the `Project`, where it is read or written, and of one that holds nothing only where
-/// it is written. The project is the bytes that were given, so that a refusal leaves it as it is.
+/// by itself; of the `Project`, where it is read or written, and of one that holds nothing only
+/// where it is written. The project is the bytes that were given, so that a refusal leaves it as it
+/// is.
 pub fn exec_in_turn(
     alloc: Global,
     project: &[u8],
@@ -126,8 +127,8 @@ pub fn exec_in_turn(
     ensures memory { result ≡ Err (refusals.Project Memory) → (s : State)
         → project_at project.now ≡ Ok s → s.held ≡ []
         → IsOk (turns.in_turn s commands.now) }
-    // A file that is no project is refused for that, whatever memory there is; but for its bundle, where
-    // an operation of it is thinned.
+    // A file that is no project is refused for that, whatever memory there is; but for its bundle,
+    // where an operation of it is thinned.
     ensures no_project { IfErr (project_at project.now) (λ fault.
         turns.RefusesProject project.now (of_loading fault) result) }
     // The file after them is that of the replica after their steps.

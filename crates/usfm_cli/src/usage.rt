@@ -1,5 +1,5 @@
-// The program's subcommands: of each its words, its help, and the line that it is read as. `program` and
-// `line_of` name them all.
+// The program's subcommands: of each its words, its help, and the line that it is read as.
+// `program` and `line_of` name them all.
 mod folders;
 mod reports;
 mod settling;
@@ -111,8 +111,8 @@ error: no subcommand was given
 For more information, try '--help'.
 ";
 
-// The program with one more subcommand. What it has by then stays out of the proof of `program`, which
-// would repeat it at each of them.
+// The program with one more subcommand. What it has by then stays out of the proof of `program`,
+// which would repeat it at each of them.
 fn with<'a>(
     program: Command<'a>,
     made: Result<Command<'a>, AllocError>,
@@ -137,7 +137,8 @@ written to PROJECT.new, which is renamed to PROJECT; if PROJECT is a link, this
 replaces the file that it leads to. A project of more than 268,435,456 bytes is
 written, but cannot be read again.";
 
-// A subcommand with its words, each of them required, and with `--explain`, which `read_words` takes out of every line.
+// A subcommand with its words, each of them required, and with `--explain`, which `read_words`
+// takes out of every line.
 pub(crate) fn command<'a>(
     alloc: Global,
     name: &'a str,

@@ -26,8 +26,8 @@ pub enum Line {
         project: String,
         name: ReplicaName,
     },
-    /// `import PROJECT FILE..`: take in the files of books, all or none; with `--since BUNDLE` what was
-    /// changed in them since they were written from the bundle.
+    /// `import PROJECT FILE..`: take in the files of books, all or none; with `--since BUNDLE` what
+    /// was changed in them since they were written from the bundle.
     Import {
         project: String,
         files: Vec<String>,
@@ -39,8 +39,8 @@ pub enum Line {
         book: Book,
         key: Key,
     },
-    /// `edit-over PROJECT REF [ID..]`: the same, in the place of these operations alone; with `--text-of ID` by the
-    /// text of this one.
+    /// `edit-over PROJECT REF [ID..]`: the same, in the place of these operations alone; with
+    /// `--text-of ID` by the text of this one.
     EditOver {
         project: String,
         book: Book,
@@ -48,8 +48,8 @@ pub enum Line {
         ids: Vec<OpId>,
         text_of: Option<OpId>,
     },
-    /// `settle PROJECT [REF|BOOK]..`: ask the conflicts, all where none is named, and make the edits that are
-    /// answered.
+    /// `settle PROJECT [REF|BOOK]..`: ask the conflicts, all where none is named, and make the
+    /// edits that are answered.
     Settle {
         project: String,
         wanted: Vec<Wanted>,
@@ -74,14 +74,15 @@ pub enum Line {
         project: String,
         book: Book,
     },
-    /// `export PROJECT --into FOLDER [BOOK..]`: write the books into a folder, all where none is given.
+    /// `export PROJECT --into FOLDER [BOOK..]`: write the books into a folder, all where none is
+    /// given.
     ExportInto {
         project: String,
         folder: String,
         books: Vec<Book>,
     },
-    /// `sync PROJECT FOLDER [BUNDLE..]`: take in what was changed in a folder and bundles, and write the
-    /// books into the folder.
+    /// `sync PROJECT FOLDER [BUNDLE..]`: take in what was changed in a folder and bundles, and
+    /// write the books into the folder.
     Sync(SyncWords),
     /// `summary PROJECT`: write the summary of what the project holds.
     Summary {
@@ -92,16 +93,16 @@ pub enum Line {
         project: String,
         summary: String,
     },
-    /// `check PROJECT [BOOK [SHEET]]`: report what is found in a book by a style sheet, or in all; with
-    /// `--text` with the lines of the text.
+    /// `check PROJECT [BOOK [SHEET]]`: report what is found in a book by a style sheet, or in all;
+    /// with `--text` with the lines of the text.
     Check {
         project: String,
         book: Option<Book>,
         sheet: Option<String>,
         with_text: bool,
     },
-    /// `find PROJECT [BOOK [SHEET]] NEEDLE`: find a needle in a book by a style sheet, or in all; with
-    /// `--text` with the lines of the text.
+    /// `find PROJECT [BOOK [SHEET]] NEEDLE`: find a needle in a book by a style sheet, or in all;
+    /// with `--text` with the lines of the text.
     Find {
         project: String,
         book: Option<Book>,
@@ -123,8 +124,8 @@ pub enum Line {
     Report {
         project: String,
     },
-    /// `status PROJECT [FILE..]`: say how a project stands, and what the copies of the summaries and
-    /// bundles have and lack.
+    /// `status PROJECT [FILE..]`: say how a project stands, and what the copies of the summaries
+    /// and bundles have and lack.
     Status {
         project: String,
         files: Vec<String>,
@@ -145,8 +146,8 @@ pub enum Line {
 }
 
 impl Line {
-    /// What is said at a terminal of a line whose answer is bytes and no text: that it goes into a file. Other lines answer
-    /// text.
+    /// What is said at a terminal of a line whose answer is bytes and no text: that it goes into a
+    /// file. Other lines answer text.
     pub fn only_into_file(&self) -> Option<&'static str> {
         match self {
             Line::Send { .. } => Some(SEND_INTO_FILE),
@@ -236,7 +237,8 @@ impl From<IdFault> for LineFault {
     }
 }
 
-/// Whether a command line asks for what a fault means in words: by the word `--explain` before any `--`.
+/// Whether a command line asks for what a fault means in words: by the word `--explain` before any
+/// `--`.
 pub fn asks_for_words(words: &[String]) -> bool
     ensures { result ≡ list_any (λ word. bytes_eq (string_bytes word) EXPLAIN.now)
         (take_while (λ word. not (bytes_eq (string_bytes word) END.now)) words.now) }
@@ -255,17 +257,17 @@ fn is_word(word: &String, wanted: &str) -> bool
 }
 
 /// Reads the words of a command line, without the program's own name: first its shape, which is the
-/// subcommand and the number of its words, and then its values from left to right. `--explain` may stand
-/// anywhere before `--`; it says nothing of the line.
+/// subcommand and the number of its words, and then its values from left to right. `--explain` may
+/// stand anywhere before `--`; it says nothing of the line.
 ///
 /// Tests alone show what it answers; no contract says it.
 ///
 /// # Errors
 /// - `Help` where `--help`, `-h` or `help` asks for it, or `--version` or `-V` for the version.
 /// - `Usage` where the words have the shape of no subcommand.
-/// - `RefusedWord` with `Reference` (20, 21) where a book is no code or a reference is none; `Refused` with
-///   `Naming` (50, 52) where a name is no replica's or an id is none, with `Memory` (1) where an allocation
-///   failed.
+/// - `RefusedWord` with `Reference` (20, 21) where a book is no code or a reference is none;
+///   `Refused` with `Naming` (50, 52) where a name is no replica's or an id is none, with `Memory`
+///   (1) where an allocation failed.
 pub fn read_words(alloc: Global, words: &[String]) -> Result<Line, LineFault> {
     let words = without_explain(alloc, words)?;
     match program(alloc)?.try_get_matches_from(&words) {
@@ -277,8 +279,8 @@ pub fn read_words(alloc: Global, words: &[String]) -> Result<Line, LineFault> {
     }
 }
 
-/// Whether a reference stands in the words as two of them, as it does without quotes: a book's code and
-/// then a key. It does not allocate.
+/// Whether a reference stands in the words as two of them, as it does without quotes: a book's code
+/// and then a key. It does not allocate.
 ///
 /// Tests alone show what it answers.
 pub fn has_split_reference(words: &[String]) -> bool {

@@ -1,4 +1,5 @@
--- How a source and a sink count: in 64 bits, and a count stays at the greatest number of these (this project's own rule).
+-- How a source and a sink count: in 64 bits, and a count stays at the greatest number of these
+-- (this project's own rule).
 use Rattle.std.specs.Prelude.{ℕ, ◌+◌, ◌-◌, ◌^◌, ◌==◌, min, nat_lt, ◌&&◌, if◌then◌else◌, Result, Ok, Err}
 
 -- a number as a count
@@ -14,8 +15,8 @@ abbrev pub failures_after : {T E : Type 0} → Result T E → ℕ → ℕ
 failures_after (Ok _) failures = failures
 failures_after (Err _) failures = one_more failures
 
--- the count of failures after a write of a piece of this length: an error is one more, and so is it to take 0 bytes
--- of a piece that is not empty
+-- the count of failures after a write of a piece of this length: an error is one more, and so is it
+-- to take 0 bytes of a piece that is not empty
 abbrev pub failures_after_write : {E : Type 0} → Result ℕ E → ℕ → ℕ → ℕ
 failures_after_write (Ok taken) len failures =
     if taken == 0 && nat_lt 0 len then one_more failures else failures

@@ -9,8 +9,8 @@ pub record TakesAll (before after : Option (List ℕ)) (text : List ℕ)
   pub taken : Appends before after text
   pub counted : gone_after ≡ as_count (gone_before + length text)
 
--- The sink took exactly a front of this text, which is not all of it, and the front's bytes are counted on from
--- `gone_before` to `gone_after`.
+-- The sink took exactly a front of this text, which is not all of it, and the front's bytes are
+-- counted on from `gone_before` to `gone_after`.
 pub record TakesFront (before after : Option (List ℕ)) (text : List ℕ)
     (gone_before gone_after : ℕ) : Type 0 where
   pub count : ℕ

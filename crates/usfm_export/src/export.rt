@@ -37,8 +37,9 @@ pub fn book_text(alloc: Global, replica: &Replica, book: Book) -> Result<Vec<u8>
 ///
 /// # Errors
 /// - `NoBook` (82) exactly where the book has no operation. Nothing was written.
-/// - `WriteFailed` (90) where the sink answers an error, of whatever kind, or takes 0 bytes, with the
-///   bytes that were written: they are the front of the book of that length. No write is tried again.
+/// - `WriteFailed` (90) where the sink answers an error, of whatever kind, or takes 0 bytes, with
+///   the bytes that were written: they are the front of the book of that length. No write is tried
+///   again.
 pub fn write_book<W: ByteSink>(
     replica: &Replica,
     book: Book,

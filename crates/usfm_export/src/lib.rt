@@ -1,8 +1,8 @@
 //! The export of a book out of a replica: its picked texts in ascending order of keys, written to a
 //! sink or given as bytes.
 //!
-//! A [`ByteSink`] takes bytes and counts its failures, so that contracts can say what was written and
-//! whether it failed. [`StdSink`] makes one of a writer of std.
+//! A [`ByteSink`] takes bytes and counts its failures, so that contracts can say what was written
+//! and whether it failed. [`StdSink`] makes one of a writer of std.
 #![tactic(auto)]
 
 mod export;

@@ -9,8 +9,8 @@ use std::io::Write;
 
 /// What bytes are written to.
 ///
-/// Contracts speak of the bytes taken, where they are known, and of the count of its failures, which
-/// stays at `u64::MAX`.
+/// Contracts speak of the bytes taken, where they are known, and of the count of its failures,
+/// which stays at `u64::MAX`.
 pub trait ByteSink {
     /// The bytes taken so far, where they are known.
     ghost taken: { Self → Option (List ℕ) };
@@ -32,8 +32,8 @@ pub trait ByteSink {
 
 /// A writer of std as a sink.
 ///
-/// A writer that reports more bytes than it was given has failed: the sink answers an error and counts
-/// it.
+/// A writer that reports more bytes than it was given has failed: the sink answers an error and
+/// counts it.
 #[derive(Drop)]
 pub struct StdSink<W> {
     writer: W,

@@ -3,11 +3,11 @@ ghost use Rattle.std.specs.Prelude.{◌≡◌, ◌≤◌, IfOk};
 
 use std::io;
 
-/// The answer of a reader or a writer that was given room or bytes for this many, with an error in place
-/// of a count that is greater.
+/// The answer of a reader or a writer that was given room or bytes for this many, with an error in
+/// place of a count that is greater.
 ///
-/// std's contracts rule such a count out; the test is for a reader or a writer of the system that does
-/// not keep to them.
+/// std's contracts rule such a count out; the test is for a reader or a writer of the system that
+/// does not keep to them.
 ///
 /// # Errors
 /// The answer's own error, and `InvalidData` where the count is greater than what was given.

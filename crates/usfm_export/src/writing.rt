@@ -18,8 +18,8 @@ pub struct WriteFault {
 /// Writes all of the piece. It does not allocate.
 ///
 /// # Errors
-/// The bytes that were written where the sink answers an error, of whatever kind, or takes 0 bytes. No write
-/// is tried again.
+/// The bytes that were written where the sink answers an error, of whatever kind, or takes 0 bytes.
+/// No write is tried again.
 pub fn write_all<W: ByteSink>(sink: &mut W, piece: &[u8]) -> Result<(), WriteFault>
     ensures all { OnOk result (Appends (W.taken sink.old) (W.taken sink.new) piece.now) }
     ensures front { IfErr result (λ fault.
@@ -45,8 +45,8 @@ pub fn write_all<W: ByteSink>(sink: &mut W, piece: &[u8]) -> Result<(), WriteFau
 /// error how much of the whole text went out.
 ///
 /// # Errors
-/// The bytes of the text that were written where the sink answers an error, of whatever kind, or takes 0
-/// bytes. No write is tried again.
+/// The bytes of the text that were written where the sink answers an error, of whatever kind, or
+/// takes 0 bytes. No write is tried again.
 pub fn write_more<W: ByteSink>(sink: &mut W, gone: u64, piece: &[u8]) -> Result<u64, WriteFault>
     ensures all { IfOk result (λ total.
         TakesAll (W.taken sink.old) (W.taken sink.new) piece.now gone total) }

@@ -1,5 +1,5 @@
--- Codes of books, and the order of books: USFM 3.0's identifiers of books in the order of the canon of 66,
--- and every other code after them by its bytes (this project's own rule).
+-- Codes of books, and the order of books: USFM 3.0's identifiers of books in the order of the canon
+-- of 66, and every other code after them by its bytes (this project's own rule).
 use Rattle.std.specs.Prelude.{ℕ, ◌==◌, nat_le, Bool, false, ◌&&◌, ◌||◌, List, [], ◌∷◌, codes, Result, Ok, Err, if◌then◌else◌}
 use Rattle.std.specs.List.{position_or_len, list_all, list_any}
 use Rattle.std.specs.declared.cmp.Ordering.{Ordering}
@@ -53,7 +53,8 @@ rank_of code = position_or_len (λ one. same_bytes one code) canon
 abbrev pub code_cmp : List ℕ → List ℕ → Ordering
 code_cmp = slice_cmp nat_cmp
 
--- a list of codes with their places has the canon: each place is right, and each code of the canon is there
+-- a list of codes with their places has the canon: each place is right, and each code of the canon
+-- is there
 abbrev pub has_canon : List (List ℕ × ℕ) → Bool
 has_canon known = list_all (λ e. rank_of e.0 == e.1) known
     && list_all (λ one. list_any (λ e. is_eq (code_cmp one e.0)) known) canon

@@ -1,6 +1,6 @@
--- Numbers of chapters and verses, in the text directly after a mark: USFM 3.0's `\c 12`, `\v 3`, the part `\v 3a` and the
--- bridge `\v 3-4`. The blanks, the limits of three digits and of one letter, and what may follow a number are this
--- project's own rule.
+-- Numbers of chapters and verses, in the text directly after a mark: USFM 3.0's `\c 12`, `\v 3`,
+-- the part `\v 3a` and the bridge `\v 3-4`. The blanks, the limits of three digits and of one
+-- letter, and what may follow a number are this project's own rule.
 use Rattle.std.specs.Prelude.{◌≡◌, ℕ, ◌+◌, ◌-◌, ◌*◌, nat_le, ◌==◌, Bool, true, not, ◌&&◌, ◌||◌, IsTrue, List, [], ◌∷◌, ◌++◌, length, take, drop, Option, None, Some, if◌then◌else◌, ◌↔◌}
 use Rattle.std.specs.List.{list_all, prefix_len}
 use Rattle.std.specs.Option.{option_and_then, option_map, option_to_list}
@@ -37,8 +37,8 @@ abbrev pub ends_number : List ℕ → Bool
 ends_number [] = true
 ends_number (b ∷ rest) = not (is_ascii_alphanumeric b)
 
--- Bytes are digits that write a number, a letter or none, and a rest before which a number ends. So the digits are the
--- longest run, and no second letter follows.
+-- Bytes are digits that write a number, a letter or none, and a rest before which a number ends. So
+-- the digits are the longest run, and no second letter follows.
 pub record StartsWithNumber (bytes : List ℕ) (number : ℕ) (letter : Option ℕ)
     (rest : List ℕ) : Type 0 where
   pub digits : List ℕ
@@ -54,8 +54,8 @@ pub record StartsWithBridge (bytes : List ℕ) (last : ℕ × Option ℕ) (rest 
   pub bytes_are : bytes ≡ 45 ∷ after
   pub last_is : StartsWithNumber after last.0 last.1 rest
 
--- What comes after a verse's number: the bridge to its last verse and a rest, or no bridge and all of it is the
--- rest. A bridge is read wherever there is one.
+-- What comes after a verse's number: the bridge to its last verse and a rest, or no bridge and all
+-- of it is the rest. A bridge is read wherever there is one.
 abbrev pub BridgesTo : List ℕ → Option (ℕ × Option ℕ) → List ℕ → Type 0
 BridgesTo bytes None rest = (rest ≡ bytes)
     × ((last : ℕ × Option ℕ) (after : List ℕ) → StartsWithBridge bytes last after → ⊥)
@@ -70,8 +70,8 @@ pub record ReadsChapter (text : List ℕ) (number : ℕ) : Type 0 where
   pub are_blanks : IsTrue (are_blanks blanks)
   pub number_is : StartsWithNumber bytes number None rest
 
--- The text after a verse's mark is blanks, the number of the verse, a bridge if one is there, and a rest: what is read
--- is all but the rest.
+-- The text after a verse's mark is blanks, the number of the verse, a bridge if one is there, and a
+-- rest: what is read is all but the rest.
 pub record ReadsVerse (text : List ℕ) (mark : VerseMark) : Type 0 where
   pub blanks : List ℕ
   pub bytes : List ℕ
@@ -147,7 +147,8 @@ bridged text verse after (Some b) =
           b.1;
     }
 
--- the verse in the text directly after its mark, if one is there, with its bridge and how many bytes were read
+-- the verse in the text directly after its mark, if one is there, with its bridge and how many
+-- bytes were read
 unfoldable pub verse_in : List ℕ → Option VerseMark
 verse_in text = option_map (λ v. bridged text v.0 v.1 (bridge_at v.1))
     (option_and_then verse_at (blanks_at text))
@@ -167,7 +168,8 @@ abbrev pub ChaptersAreRead : Type 0
 ChaptersAreRead =
     (text : List ℕ) (number : ℕ) → (chapter_in text ≡ Some number) ↔ ReadsChapter text number
 
--- the reading from the left gives a verse with its bridge and its length exactly where the grammar has it
+-- the reading from the left gives a verse with its bridge and its length exactly where the grammar
+-- has it
 abbrev pub VersesAreRead : Type 0
 VersesAreRead =
     (text : List ℕ) (mark : VerseMark) → (verse_in text ≡ Some mark) ↔ ReadsVerse text mark

@@ -1,6 +1,6 @@
--- References and keys as text: this project's own rule, over the book codes, chapters and verses of USFM 3.0. A key is
--- written `0`, `5`, `5:3` or `5:3a`, its numbers in decimal, and so without leading zeros. A reference is a book's code, one
--- space and a key.
+-- References and keys as text: this project's own rule, over the book codes, chapters and verses of
+-- USFM 3.0. A key is written `0`, `5`, `5:3` or `5:3a`, its numbers in decimal, and so without
+-- leading zeros. A reference is a book's code, one space and a key.
 use Rattle.std.specs.Prelude.{◌≡◌, ◌↔◌, ℕ, ◌==◌, Bool, false, ◌&&◌, IsTrue, List, [], ◌∷◌, ◌++◌, take, drop, codes, Option, None, Some, Result, Ok, Err, if◌then◌else◌}
 use Rattle.std.specs.Option.{option_and_then, option_to_list}
 use Rattle.std.specs.Fmt.{decimal}
@@ -86,8 +86,8 @@ abbrev pub ref_to : List ℕ → Option KeyParts → Result (List ℕ × KeyPart
 ref_to book None = Err BadRef
 ref_to book (Some key) = Ok (book, key)
 
--- the reference that all of the text is; else that its first three bytes are no book's code, or else that what
--- follows is not a space and a key
+-- the reference that all of the text is; else that its first three bytes are no book's code, or
+-- else that what follows is not a space and a key
 unfoldable pub ref_in : List ℕ → Result (List ℕ × KeyParts) RefFault
 ref_in text = if is_book_code (take 3 text)
     then ref_to (take 3 text) (key_after (drop 3 text)) else Err BadBook

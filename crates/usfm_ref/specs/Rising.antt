@@ -1,4 +1,5 @@
--- Lists in a rising order (this project's own rule). The order is given, and how an item's key is read.
+-- Lists in a rising order (this project's own rule). The order is given, and how an item's key is
+-- read.
 use Rattle.std.specs.Prelude.{Bool, true, ◌&&◌, List, [], ◌∷◌}
 use Rattle.std.specs.List.{list_all}
 use Rattle.std.specs.declared.cmp.Ordering.{Ordering}
@@ -20,7 +21,8 @@ abbrev pub rising : {K : Type 0} → (K → K → Ordering) → List K → List 
 rising cmp [] = []
 rising cmp (x ∷ xs) = with_item cmp x (rising cmp xs)
 
--- a rising list with one item more in the place of its key; where one of its key is there, that one is replaced
+-- a rising list with one item more in the place of its key; where one of its key is there, that one
+-- is replaced
 abbrev pub placed : {K X : Type 0} → (K → K → Ordering) → (X → K) → X → List X → List X
 placed cmp key y [] = y ∷ []
 placed cmp key y (x ∷ xs) =

@@ -1,7 +1,8 @@
 ghost use Rattle.std.specs.Prelude.{◌≡◌, ◌↔◌, not, Some, IsTrue, IsOk, IfOk, IfErr, IsSome, IfSome};
 ghost use Rattle.std.specs.List.{position_or_len};
 ghost use Rattle.std.specs.Ordering.{is_lt};
-ghost use Rattle.usfm_ref.specs.Books.{is_book_code, book_of, rank_of, is_code_char, code_cmp, has_canon};
+ghost use Rattle.usfm_ref.specs.Books.{is_book_code, book_of, rank_of, is_code_char, code_cmp};
+ghost use Rattle.usfm_ref.specs.Books.{has_canon};
 ghost use Rattle.usfm_ref.specs.Rising.{rises_by};
 
 use crate::fault::RefFault;
@@ -35,7 +36,8 @@ impl Model for Book {
     ghost inverse_ok = { λ b h i. record { rank = sym h.1 i; code = b.code } };
 }
 
-// The codes of the canon by their bytes, each with its place in the canon, so that a code is found by halves.
+// The codes of the canon by their bytes, each with its place in the canon, so that a code is found
+// by halves.
 static BY_CODE: [([u8; 3], u8); 66] = [
     (*b"1CH", 12),
     (*b"1CO", 45),

@@ -7,8 +7,8 @@ pub enum RefFault {
     /// and 0 to 9.
     #[error("not a book code, which is three of A to Z and 0 to 9")]
     BadBook,
-    /// The text begins with a book code, and is no reference: a code, one space and a key. Where a key
-    /// alone is read, the text is none.
+    /// The text begins with a book code, and is no reference: a code, one space and a key. Where a
+    /// key alone is read, the text is none.
     #[error("not a reference, which is a book code, one space and a key, as MAT 5:3")]
     BadRef,
 }

@@ -1,6 +1,6 @@
-//! That `cmp` of books, of keys and of segments is the order that this project defines, that a text has one
-//! number of a chapter or verse at most, and that references are read as they are written. Each
-//! function does nothing: its contract is the law.
+//! That `cmp` of books, of keys and of segments is the order that this project defines, that a text
+//! has one number of a chapter or verse at most, and that references are read as they are written.
+//! Each function does nothing: its contract is the law.
 ghost use Rattle.std.specs.Prelude.{◌≡◌, List, ℕ};
 ghost use Rattle.usfm_ref.specs.Books.{book_cmp};
 ghost use Rattle.usfm_ref.specs.Keys.{KeyParts, key_cmp};

@@ -1,4 +1,5 @@
-ghost use Rattle.std.specs.Prelude.{◌≡◌, ◌↔◌, ◌≤◌, ℕ, List, take, IfOk, IfSome, MatchOption, None, Some, Ok, Err, false};
+ghost use Rattle.std.specs.Prelude.{◌≡◌, ◌↔◌, ◌≤◌, ℕ, List, take, IfOk, IfSome, MatchOption, None};
+ghost use Rattle.std.specs.Prelude.{Some, Ok, Err, false};
 ghost use Rattle.std.specs.String.{string_bytes};
 ghost use Rattle.usfm_ref.specs.Books.{is_book_code};
 ghost use Rattle.usfm_ref.specs.Keys.{KeyParts};

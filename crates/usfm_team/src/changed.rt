@@ -11,8 +11,8 @@ use usfm_ref::Book;
 // How many files are named at most that a sync would refuse.
 const MOST_REFUSED: usize = 20;
 
-// The lines of a folder: of each file that was changed, how many edits a sync would take in, and of each that it would refuse, why.
-// Nothing is locked, and nothing is changed.
+// The lines of a folder: of each file that was changed, how many edits a sync would take in, and of
+// each that it would refuse, why. Nothing is locked, and nothing is changed.
 pub(crate) fn folder_lines(
     rt: &HostRuntime,
     project: Given<'_>,
@@ -102,7 +102,8 @@ fn leave_other(read: &mut Read, at: usize) -> bool {
     is_there
 }
 
-// The lines of the files that a plan takes something in of, and after them those of the files that were left out.
+// The lines of the files that a plan takes something in of, and after them those of the files that
+// were left out.
 fn lines(what: What<'_>, read: &Read, plan: &Plan, refused: &[u8]) -> Result<Vec<u8>, Refusal> {
     let mut text = Vec::new(what.rt.alloc());
     for added in &plan.told.files {

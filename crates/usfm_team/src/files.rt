@@ -47,14 +47,16 @@ impl Other {
     }
 }
 
-// Opens the plain file of this name, and no other: what a link leads to is not opened, and a pipe is not waited for.
+// Opens the plain file of this name, and no other: what a link leads to is not opened, and a pipe
+// is not waited for.
 pub(crate) fn open_plain(rt: &HostRuntime, path: &str) -> Result<Found, Fault> {
     open_named(rt, path, 1)
 }
 
 // The same of a file that has no more than so many names.
 //
-// The file that was opened is the one that was looked at before; where another one took its place, it is looked at anew.
+// The file that was opened is the one that was looked at before; where another one took its place,
+// it is looked at anew.
 pub(crate) fn open_named(rt: &HostRuntime, path: &str, most_names: u64) -> Result<Found, Fault> {
     for _ in 0..MOST_TRIES {
         let seen = match fs::symlink_metadata(rt, path) {
@@ -133,8 +135,8 @@ pub(crate) fn is_same_file(one: &Metadata, other: &Metadata) -> bool {
     one.dev() == other.dev() && one.ino() == other.ino()
 }
 
-// Opens a file to read it, where the rights allow it in a way that waits for nobody at the other end of a pipe, and by which a
-// network's folder gives a lock: for writing too.
+// Opens a file to read it, where the rights allow it in a way that waits for nobody at the other
+// end of a pipe, and by which a network's folder gives a lock: for writing too.
 pub(crate) fn open_at_once(rt: &HostRuntime, path: &str) -> io::Result<File> {
     match OpenOptions::new().read(true).write(true).open(rt, path) {
         Ok(file) => Ok(file),
@@ -176,7 +178,8 @@ pub(crate) fn remove_if_there(rt: &HostRuntime, path: &str) -> Result<(), Fault>
     }
 }
 
-// Makes a file with the rights that the system gives a new one, in the place of a file or a link that stands there.
+// Makes a file with the rights that the system gives a new one, in the place of a file or a link
+// that stands there.
 pub(crate) fn make_file(rt: &HostRuntime, path: &str) -> Result<File, Fault> {
     remove_if_there(rt, path)?;
     File::create_new(rt, path).map_err(|_| Fault::FileFailed)
@@ -213,7 +216,8 @@ pub(crate) fn open_folder(rt: &HostRuntime, path: &str) -> Result<File, Fault> {
     File::open(rt, folder).map_err(|_| Fault::FileFailed)
 }
 
-// Waits until a folder's names are on the disk. A file system that syncs no folders answers by one of these two kinds.
+// Waits until a folder's names are on the disk. A file system that syncs no folders answers by one
+// of these two kinds.
 pub(crate) fn sync_folder(folder: &File) -> Result<(), Fault> {
     match folder.sync_all() {
         Err(error) => match error.kind() {
@@ -237,7 +241,8 @@ pub(crate) fn lock_file(
     }
 }
 
-// Locks a file or a folder. Where another command has the lock, a line says what is waited for, if it was not said by then.
+// Locks a file or a folder. Where another command has the lock, a line says what is waited for, if
+// it was not said by then.
 pub(crate) fn lock_after_others(
     rt: &HostRuntime,
     file: &File,
@@ -266,8 +271,8 @@ pub(crate) fn link_fault(error: io::Error) -> Fault {
     }
 }
 
-// An open folder. What is in it is reached by its handle, where the system has paths for handles: no folder, and no link to one, that
-// takes its place meanwhile is gone into.
+// An open folder. What is in it is reached by its handle, where the system has paths for handles:
+// no folder, and no link to one, that takes its place meanwhile is gone into.
 #[derive(Drop)]
 pub(crate) struct Folder {
     handle: File,
@@ -339,7 +344,8 @@ impl Folder {
         }
     }
 
-    // Waits until no other command has the folder. Where the lock is refused, for whatever reason, the command goes on.
+    // Waits until no other command has the folder. Where the lock is refused, for whatever reason,
+    // the command goes on.
     pub(crate) fn lock(&self, rt: &HostRuntime) {
         let _ = lock_after_others(rt, &self.handle, &self.name, &mut false);
     }

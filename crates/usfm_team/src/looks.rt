@@ -1,4 +1,5 @@
-// What is looked up in a project's books by a style sheet: the one that the line names, or the program's own.
+// What is looked up in a project's books by a style sheet: the one that the line names, or the
+// program's own.
 use crate::refusal::{Given, Refusal, read_named};
 use crate::telling::say;
 use crate::{answer, write_as_it_is, write_output};
@@ -113,7 +114,8 @@ fn read_sheet(rt: &HostRuntime, path: Option<String>) -> Result<GivenSheet, Refu
     Ok(GivenSheet { path, bytes })
 }
 
-// Writes what was found. At a terminal the lines with the text have no control character but those that set something off.
+// Writes what was found. At a terminal the lines with the text have no control character but those
+// that set something off.
 fn write_lines(
     rt: &HostRuntime,
     project: &Given<'_>,

@@ -77,8 +77,9 @@ fn main(rt: HostRuntime) -> ExitCode {
     }
 }
 
-// Has something open under each of the numbers of the standard streams, so that no file is opened under one of them, and a
-// message written into it. A stream that was closed is a folder then, which gives no bytes and takes none.
+// Has something open under each of the numbers of the standard streams, so that no file is opened
+// under one of them, and a message written into it. A stream that was closed is a folder then,
+// which gives no bytes and takes none.
 fn hold_streams(rt: &HostRuntime) -> io::Result<()> {
     for _ in 0..STREAMS {
         let held = File::open(rt, "/").or_else(|_| File::open(rt, "."))?;
@@ -90,7 +91,8 @@ fn hold_streams(rt: &HostRuntime) -> io::Result<()> {
     Ok(())
 }
 
-// What the words of the command line ask for, and whether they ask for what a fault means. The first is the program's own name.
+// What the words of the command line ask for, and whether they ask for what a fault means. The
+// first is the program's own name.
 fn read_line(rt: &HostRuntime, explains: &mut bool) -> Result<Line, LineFault> {
     let alloc = rt.alloc();
     match std::env::args(rt) {
@@ -115,8 +117,9 @@ fn read_line(rt: &HostRuntime, explains: &mut bool) -> Result<Line, LineFault> {
     }
 }
 
-// Does what a line asks for. Files are read in the order of the words, and standard input last. An edit, an import and a
-// receive read the project again when no other command can change it: who types a text holds up nobody.
+// Does what a line asks for. Files are read in the order of the words, and standard input last. An
+// edit, an import and a receive read the project again when no other command can change it: who
+// types a text holds up nobody.
 fn run(rt: &HostRuntime, line: Line, explains: bool) -> Result<(), Refusal> {
     match line {
         Line::Init { project, name } => init(rt, &project, &name),
@@ -250,8 +253,8 @@ fn ask(
     answer(rt, &project, command, None, explains)
 }
 
-// Does a command that changes nothing on the bytes of a project's file. What it made is not freed, since
-// the program ends.
+// Does a command that changes nothing on the bytes of a project's file. What it made is not freed,
+// since the program ends.
 pub(crate) fn answer(
     rt: &HostRuntime,
     project: &Given<'_>,
@@ -273,8 +276,8 @@ pub(crate) fn answer(
     Ok(written?)
 }
 
-// Does a command on a project's file while no other command changes it. Only then, when others may go on, the output is
-// written.
+// Does a command on a project's file while no other command changes it. Only then, when others may
+// go on, the output is written.
 fn change(
     rt: &HostRuntime,
     path: &str,
@@ -287,8 +290,8 @@ fn change(
     Ok(written?)
 }
 
-// What a command made that was done on a project's file while no other command changed it. The file is replaced where its
-// bytes are others.
+// What a command made that was done on a project's file while no other command changed it. The file
+// is replaced where its bytes are others.
 fn done(
     rt: &HostRuntime,
     path: &str,
@@ -311,7 +314,8 @@ fn done(
     Ok(outcome)
 }
 
-// Folds the bundles of standard input into a book. What is written to a terminal is written when it is whole.
+// Folds the bundles of standard input into a book. What is written to a terminal is written when it
+// is whole.
 fn fold(rt: &HostRuntime, book: Book) -> Result<(), Refusal> {
     say_at_terminal(rt, GIVE_BUNDLES);
     let mut source = StdSource::new(rt.reader());
@@ -344,8 +348,8 @@ fn say_at_terminal(rt: &HostRuntime, line: &str) {
     }
 }
 
-// Writes to standard output; to a terminal without the control characters of others' texts. It has no buffer here, so nothing
-// is left to flush.
+// Writes to standard output; to a terminal without the control characters of others' texts. It has
+// no buffer here, so nothing is left to flush.
 pub(crate) fn write_output(rt: &HostRuntime, bytes: &[u8]) -> Result<(), Fault> {
     if rt.stdout().is_terminal() {
         if let Ok(text) = str::from_utf8(bytes) {
@@ -357,7 +361,8 @@ pub(crate) fn write_output(rt: &HostRuntime, bytes: &[u8]) -> Result<(), Fault> 
     write_as_it_is(rt, bytes)
 }
 
-// Writes to standard output what has no control characters but those that set something off at a terminal.
+// Writes to standard output what has no control characters but those that set something off at a
+// terminal.
 pub(crate) fn write_as_it_is(rt: &HostRuntime, bytes: &[u8]) -> Result<(), Fault> {
     let mut sink = StdSink::new(io::writer(rt));
     Ok(write_all(&mut sink, bytes)?)

@@ -1,4 +1,5 @@
-// A project's file. One command at a time changes it, and what a command changed is on the disk before it answers.
+// A project's file. One command at a time changes it, and what a command changed is on the disk
+// before it answers.
 use crate::files::{
     Found, is_same_file, is_there, link_fault, lock_file, make_private, open_at_once, open_folder,
     open_named, read_open, remove_if_there, sync_file, sync_folder, write_made,
@@ -27,8 +28,8 @@ pub(crate) struct Project {
 
 // Waits for the file of a project until no other command changes it.
 //
-// The command that was waited for may have put a new file in the place of the one that was opened. So the name has
-// to lead to this file still, else the new one is waited for.
+// The command that was waited for may have put a new file in the place of the one that was opened.
+// So the name has to lead to this file still, else the new one is waited for.
 pub(crate) fn lock_project(rt: &HostRuntime, path: &str) -> Result<Project, Fault> {
     let mut is_said = false;
     for _ in 0..u64::MAX {
@@ -42,9 +43,9 @@ pub(crate) fn lock_project(rt: &HostRuntime, path: &str) -> Result<Project, Faul
     Err(Fault::FileFailed)
 }
 
-// Begins a project where nothing is under its name. The file is made whole under another name, and gets its own by a link, which
-// fails where something has it: of two commands at once one makes the project, and a command that is killed leaves none, or all
-// of it.
+// Begins a project where nothing is under its name. The file is made whole under another name, and
+// gets its own by a link, which fails where something has it: of two commands at once one makes the
+// project, and a command that is killed leaves none, or all of it.
 pub(crate) fn begin_project(rt: &HostRuntime, path: &str, bytes: &[u8]) -> Result<(), Fault> {
     let folder = open_folder(rt, path)?;
     if is_there(rt, path).map_err(|_| Fault::FileFailed)? {
@@ -75,7 +76,8 @@ fn begun_path(rt: &HostRuntime, path: &str) -> Result<String, Fault> {
     Ok(format!(in rt.alloc(); "{path}{BEGUN_END}")?)
 }
 
-// Makes a file, and locks it. One that a command has left which was killed is removed; a command that is at work is waited for.
+// Makes a file, and locks it. One that a command has left which was killed is removed; a command
+// that is at work is waited for.
 fn make_begun(rt: &HostRuntime, begun: &str) -> Result<File, Fault> {
     // It is a matter of milliseconds, which nobody is told of.
     let mut is_said = true;
@@ -100,8 +102,8 @@ fn make_begun(rt: &HostRuntime, begun: &str) -> Result<File, Fault> {
     Err(Fault::FileFailed)
 }
 
-// Removes a file that a command has left which was killed. It stays locked until its name is gone: else who has just made it would
-// have it for its own then, and lose the name.
+// Removes a file that a command has left which was killed. It stays locked until its name is gone:
+// else who has just made it would have it for its own then, and lose the name.
 fn remove_left(rt: &HostRuntime, old: &File, begun: &str) -> Result<(), Fault> {
     lock_file(rt, old, begun, &mut true)?;
     if is_at(rt, old, begun)? {
@@ -120,7 +122,8 @@ fn is_at(rt: &HostRuntime, file: &File, path: &str) -> Result<bool, Fault> {
     }
 }
 
-// Writes a project that is begun, and gives it its name. A disk that has no links has a new file of this name in its place.
+// Writes a project that is begun, and gives it its name. A disk that has no links has a new file of
+// this name in its place.
 fn write_begun(
     rt: &HostRuntime,
     path: &str,
@@ -152,9 +155,10 @@ impl Project {
         read_open(rt, &self.file)
     }
 
-    // Gives the project these bytes: writes them to `PLACE.new` and renames that to `PLACE`, so that the file has
-    // either its old bytes or the new ones. The folder is opened first: where that cannot be, the project stays. The new file is
-    // locked before it has the name, so that the project still is nobody else's.
+    // Gives the project these bytes: writes them to `PLACE.new` and renames that to `PLACE`, so
+    // that the file has either its old bytes or the new ones. The folder is opened first: where
+    // that cannot be, the project stays. The new file is locked before it has the name, so that the
+    // project still is nobody else's.
     pub(crate) fn replace(&mut self, rt: &HostRuntime, bytes: &[u8]) -> Result<(), Fault> {
         self.refuse_kept(rt)?;
         let place = self.place.as_str();
@@ -170,8 +174,9 @@ impl Project {
         sync_folder(&folder)
     }
 
-    // Refuses a change of a file that is kept as it is, since nobody may write it, and of one that has another name too: that
-    // one would stay as it was, and be a second project of one copy from then on.
+    // Refuses a change of a file that is kept as it is, since nobody may write it, and of one that
+    // has another name too: that one would stay as it was, and be a second project of one copy from
+    // then on.
     pub(crate) fn refuse_kept(&self, rt: &HostRuntime) -> Result<(), Fault> {
         let found = look_at(&self.file)?;
         if found.mode() & MAY_WRITE == 0 || found.nlink() > 1 && !self.is_begun(rt)? {
@@ -180,7 +185,8 @@ impl Project {
         Ok(())
     }
 
-    // Whether the other name is the one under which the file was made, by a command that was killed then. It is taken away.
+    // Whether the other name is the one under which the file was made, by a command that was killed
+    // then. It is taken away.
     fn is_begun(&self, rt: &HostRuntime) -> Result<bool, Fault> {
         let begun = begun_path(rt, self.place.as_str())?;
         if !is_at(rt, &self.file, &begun)? {
@@ -191,8 +197,8 @@ impl Project {
     }
 }
 
-// Where a file is: under its name, or where that leads, if it is a link. Were a project's link replaced, the two would be
-// two projects of one name from then on.
+// Where a file is: under its name, or where that leads, if it is a link. Were a project's link
+// replaced, the two would be two projects of one name from then on.
 pub(crate) fn real_path(rt: &HostRuntime, path: &str) -> Result<PathBuf, Fault> {
     let found = fs::symlink_metadata(rt, path).map_err(|_| Fault::FileFailed)?;
     if found.is_symlink() {

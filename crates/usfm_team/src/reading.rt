@@ -1,5 +1,5 @@
-// What is read before it is planned what a folder and a project become: the books' files, what the program keeps beside them, and
-// bundles.
+// What is read before it is planned what a folder and a project become: the books' files, what the
+// program keeps beside them, and bundles.
 use crate::files::{Folder, Found as Opened, are_one, is_still, open_named, open_plain, read_open};
 use crate::refusal::Refusal;
 use crate::rights::look_at;
@@ -115,7 +115,8 @@ impl Read {
         Ok(true)
     }
 
-    // Says of a folder in which no file is a book's that there is none, and which names may have the wrong ending.
+    // Says of a folder in which no file is a book's that there is none, and which names may have
+    // the wrong ending.
     pub(crate) fn say_no_book(&self, rt: &HostRuntime, folder: &Folder) -> Result<(), Fault> {
         if self.book_looks.is_empty() {
             say_of(rt, "no file of ", folder.name(), NO_BOOK_FILE);
@@ -213,7 +214,8 @@ fn no_kept(rt: &HostRuntime) -> Kept {
     }
 }
 
-// Reads what the program keeps in its folder. Where there is no base, the bundles of an older version's books are the bases.
+// Reads what the program keeps in its folder. Where there is no base, the bundles of an older
+// version's books are the bases.
 pub(crate) fn read_kept(rt: &HostRuntime, own: &Folder, is_said: bool) -> Result<Kept, Refusal> {
     let mut kept = no_kept(rt);
     let mut old_bases = Vec::new(rt.alloc());
@@ -253,7 +255,8 @@ pub(crate) fn read_kept(rt: &HostRuntime, own: &Folder, is_said: bool) -> Result
     Ok(kept)
 }
 
-// Reads the base and those before it. The base is the first of these too, where a command was cut short before it put another.
+// Reads the base and those before it. The base is the first of these too, where a command was cut
+// short before it put another.
 fn read_base(
     rt: &HostRuntime,
     own: &Folder,
@@ -312,8 +315,8 @@ pub(crate) fn read_given(rt: &HostRuntime, names: Vec<String>) -> Result<Given, 
     })
 }
 
-// Reads the bundles of a box, in the order of their names, but for a copy's own where it is what the project has. One that is none,
-// or is cut, is skipped and said.
+// Reads the bundles of a box, in the order of their names, but for a copy's own where it is what
+// the project has. One that is none, or is cut, is skipped and said.
 pub(crate) fn read_box(
     rt: &HostRuntime,
     folder: &Folder,

@@ -27,8 +27,8 @@ impl From<Fault> for Refusal {
 }
 
 impl Refusal {
-    // The refusal of a file, with what it was to be, where the line names several, or a folder. Where
-    // out of memory keeps its name from being copied, the fault alone is said.
+    // The refusal of a file, with what it was to be, where the line names several, or a folder.
+    // Where out of memory keeps its name from being copied, the fault alone is said.
     pub(crate) fn expecting(
         rt: &HostRuntime,
         fault: Fault,

@@ -5,7 +5,8 @@ use std::os::unix::fs::{MetadataExt, PermissionsExt, fchown};
 use std::str;
 use usfm_cli::Fault;
 
-// The bits of a mode that are given to a file. Those beyond them have programs run as somebody else.
+// The bits of a mode that are given to a file. Those beyond them have programs run as somebody
+// else.
 const RIGHTS: u32 = 0o777;
 
 // The bits of a mode that a file may have besides, which a file that was made has not.
@@ -28,15 +29,15 @@ pub(crate) fn look_at(file: &File) -> Result<Metadata, Fault> {
     file.metadata().map_err(|_| Fault::FileFailed)
 }
 
-// Gives a file the owner and the group of the one that it will replace, where the system allows it, and its mode. Of a file of
-// another owner no more of its mode is taken than a new file would have. A new file's mode is no more than that of its owner's
-// by then.
+// Gives a file the owner and the group of the one that it will replace, where the system allows it,
+// and its mode. Of a file of another owner no more of its mode is taken than a new file would have.
+// A new file's mode is no more than that of its owner's by then.
 pub(crate) fn keep_rights(rt: &HostRuntime, old: &File, new: &File) -> Result<(), Fault> {
     keep_least_rights(rt, &[look_at(old)?], new)
 }
 
-// The same of a file that is kept beside some files: it gets the owner and the group of the first, and no more rights than each of
-// them has; where there is none, those of a new file.
+// The same of a file that is kept beside some files: it gets the owner and the group of the first,
+// and no more rights than each of them has; where there is none, those of a new file.
 pub(crate) fn keep_least_rights(
     rt: &HostRuntime,
     olds: &[Metadata],
@@ -83,7 +84,8 @@ fn set_rights(new: &File, made: &Metadata, rights: u32) -> Result<(), Fault> {
     new.set_permissions(rights).map_err(|_| Fault::FileFailed)
 }
 
-// Rights by which the file's group may do what all others may: those of a file whose group is another one now.
+// Rights by which the file's group may do what all others may: those of a file whose group is
+// another one now.
 fn without_group(rights: u32) -> u32 {
     rights & !0o070 | (rights & 0o007) << 3
 }

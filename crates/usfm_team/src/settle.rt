@@ -54,7 +54,8 @@ enum Typed {
     Ended,
 }
 
-// Asks one conflict after another, and makes the edits that are answered. What an edit leaves in conflict is asked again.
+// Asks one conflict after another, and makes the edits that are answered. What an edit leaves in
+// conflict is asked again.
 pub(crate) fn settle(rt: &HostRuntime, project: &str, wanted: &[Wanted]) -> Result<(), Refusal> {
     let of_project = |fault| Refusal::of_project(rt, fault, project);
     let manner = manner(rt);
@@ -123,7 +124,8 @@ fn ask<R: BufRead>(
     Ok(Turn::Stopped)
 }
 
-// Makes the edit of an answer, under the lock. None where the text is refused, and the question stands.
+// Makes the edit of an answer, under the lock. None where the text is refused, and the question
+// stands.
 fn make(
     rt: &HostRuntime,
     project: &str,
@@ -165,8 +167,9 @@ fn ask_again(rt: &HostRuntime, why: &str) -> Result<Option<Turn>, Refusal> {
     Ok(None)
 }
 
-// Reads the lines up to one with only a full stop. A terminal leaves out what is too long for a line of it, and a text of which
-// something is left out would be taken for the whole. So would an empty one, by which a segment leaves the book.
+// Reads the lines up to one with only a full stop. A terminal leaves out what is too long for a
+// line of it, and a text of which something is left out would be taken for the whole. So would an
+// empty one, by which a segment leaves the book.
 fn read_text<R: BufRead>(rt: &HostRuntime, input: &mut R) -> Result<Typed, Refusal> {
     say(rt, TYPE_A_TEXT)?;
     let is_terminal = rt.stdin().is_terminal();

@@ -7,8 +7,8 @@ use crate::write_output;
 use usfm_cli::{CopyFile, Expected, TurnFault, project_page, project_progress, project_status};
 use usfm_ref::Book;
 
-// Says how a project stands, what was changed in its folder, where the first file is one, and what the copies that files are of have
-// and lack.
+// Says how a project stands, what was changed in its folder, where the first file is one, and what
+// the copies that files are of have and lack.
 pub(crate) fn status(rt: &HostRuntime, path: &str, names: &[String]) -> Result<(), Refusal> {
     let bytes = read_named(rt, path, Expected::Project)?;
     let (folder, names) = match names {

@@ -14,7 +14,8 @@ use std::io::ErrorKind;
 use usfm_cli::Fault;
 use usfm_ref::Book;
 
-// A file that was left as it is, and why it could not be replaced, where it was not changed meanwhile.
+// A file that was left as it is, and why it could not be replaced, where it was not changed
+// meanwhile.
 #[derive(Drop)]
 pub(crate) struct Left {
     pub(crate) book: Book,
@@ -118,7 +119,8 @@ fn make_own(disk: Disk<'_>) -> Result<Folder, Fault> {
     }
 }
 
-// Takes away the new files of steps that were broken off. Where a next base stands, which tells of them, they stay.
+// Takes away the new files of steps that were broken off. Where a next base stands, which tells of
+// them, they stay.
 fn take_back(disk: Disk<'_>, own: &Folder, steps: &[Step]) {
     let rt = disk.rt;
     let is_told = own
@@ -153,8 +155,8 @@ fn remove_new(rt: &HostRuntime, own: &Folder, book: Book) -> Result<(), Refusal>
     removed.map_err(|fault| own.refusal(rt, fault, &name))
 }
 
-// Writes a book's new file, and waits until it is on the disk. It gets the rights of the one that it replaces, and nobody may read it
-// before who may not read that one.
+// Writes a book's new file, and waits until it is on the disk. It gets the rights of the one that
+// it replaces, and nobody may read it before who may not read that one.
 fn write_new(disk: Disk<'_>, own: &Folder, file: &NewFile) -> Result<(), Fault> {
     let rt = disk.rt;
     let path = new_path(rt, own, file.book)?;
@@ -173,8 +175,8 @@ fn write_new(disk: Disk<'_>, own: &Folder, file: &NewFile) -> Result<(), Fault> 
     sync_file(&made)
 }
 
-// Writes a file of the program's own folder under another name, and puts it in the place of the one that is there. Nobody may read
-// it who may not read each book's file.
+// Writes a file of the program's own folder under another name, and puts it in the place of the one
+// that is there. Nobody may read it who may not read each book's file.
 fn put(disk: Disk<'_>, own: &Folder, name: &str, bytes: &[u8]) -> Result<(), Refusal> {
     put_at(disk, own, name, bytes).map_err(|fault| own.refusal(disk.rt, fault, name))
 }
@@ -217,7 +219,8 @@ fn place(disk: Disk<'_>, own: &Folder, placing: &Placing) -> Result<bool, Fault>
     Ok(is_same)
 }
 
-// Settles the base: what the books' files were written from, now that they are in their places, or were left.
+// Settles the base: what the books' files were written from, now that they are in their places, or
+// were left.
 fn settle(disk: Disk<'_>, own: &Folder) -> Result<(), Refusal> {
     let rt = disk.rt;
     let kept = read_kept(rt, own, false)?;
@@ -253,8 +256,8 @@ fn do_settling(
     }
 }
 
-// Gives the base the name of the newest of those before it, after these have moved on. It is copied where it can have no second
-// name.
+// Gives the base the name of the newest of those before it, after these have moved on. It is copied
+// where it can have no second name.
 fn move_on(disk: Disk<'_>, own: &Folder, bytes: Option<&[u8]>) -> Result<(), Fault> {
     let rt = disk.rt;
     let base = own.way_to(rt, BASE)?;
@@ -274,7 +277,8 @@ fn move_on(disk: Disk<'_>, own: &Folder, bytes: Option<&[u8]>) -> Result<(), Fau
     put_at(disk, own, OLDER[0], bytes)
 }
 
-// Removes what an older version of the program kept, and what was half written, where the base is there.
+// Removes what an older version of the program kept, and what was half written, where the base is
+// there.
 pub(crate) fn sweep(disk: Disk<'_>) -> Result<(), Fault> {
     let rt = disk.rt;
     let outdated = &disk.read.kept.outdated;

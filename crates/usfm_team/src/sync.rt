@@ -1,5 +1,5 @@
-// A folder of books' files: what was changed in it comes into the project, and the project's books go into it. What is to be done is
-// a plan, which is made of all that was read.
+// A folder of books' files: what was changed in it comes into the project, and the project's books
+// go into it. What is to be done is a plan, which is made of all that was read.
 use crate::files::Folder;
 use crate::project::{Project, lock_project};
 use crate::reading::{Given, NEXT, OWN, Read, read_folder, read_given};
@@ -18,8 +18,8 @@ const MOST_READINGS: usize = 3;
 // How many segments in conflict are named.
 const MOST_NAMED: usize = 20;
 
-// Takes in bundles and what was changed in a folder, and writes the books into the folder. The project and the folder are locked
-// until all is done.
+// Takes in bundles and what was changed in a folder, and writes the books into the folder. The
+// project and the folder are locked until all is done.
 pub(crate) fn sync(rt: &HostRuntime, words: SyncWords, explains: bool) -> Result<(), Refusal> {
     let wishes = wishes_of(rt, &words)?;
     let path = words.project;
@@ -51,7 +51,8 @@ pub(crate) fn sync(rt: &HostRuntime, words: SyncWords, explains: bool) -> Result
     sent
 }
 
-// Writes books into a folder, all where none is named. A file of theirs that was changed is refused.
+// Writes books into a folder, all where none is named. A file of theirs that was changed is
+// refused.
 pub(crate) fn export_into(
     rt: &HostRuntime,
     project: &str,
@@ -101,8 +102,8 @@ fn open_project(rt: &HostRuntime, path: &str) -> Result<(Project, Vec<u8>), Refu
     Ok((project, bytes))
 }
 
-// Plans what is to be done, and does it, unless it is only tried; answers the plan, and the files that were left. Where books are
-// exported, nothing is taken in.
+// Plans what is to be done, and does it, unless it is only tried; answers the plan, and the files
+// that were left. Where books are exported, nothing is taken in.
 fn planned_and_done(
     what: What<'_>,
     exported: Option<&[Book]>,
@@ -163,8 +164,8 @@ fn settled_of(wanted: usfm_cli::Wanted) -> Wanted {
     }
 }
 
-// Reads the folder and plans what is done. Where a file is another one by then, all is read and planned anew; at the last time it is
-// left as it is.
+// Reads the folder and plans what is done. Where a file is another one by then, all is read and
+// planned anew; at the last time it is left as it is.
 fn planned(what: What<'_>, exported: Option<&[Book]>) -> Result<(Read, Plan), Refusal> {
     let mut made = read_and_plan(what, exported, true)?;
     for _ in 1..MOST_READINGS {
@@ -216,7 +217,8 @@ fn project_after<'a>(plan: &'a Plan, before: &'a [u8]) -> &'a [u8] {
     after
 }
 
-// What is answered: what the bases, the bundles and the files brought, the files that were written or left, and what is in conflict.
+// What is answered: what the bases, the bundles and the files brought, the files that were written
+// or left, and what is in conflict.
 fn told(what: What<'_>, plan: &Plan, left: &[Left]) -> Result<Vec<u8>, Fault> {
     let told = &plan.told;
     let mut text = Vec::new(what.rt.alloc());

@@ -16,8 +16,9 @@ pub(crate) struct TeamBox {
     own: String,
 }
 
-// Opens a box, and reads the bundles in it. What a copy left there comes in too where the project has something else: a project
-// that was set back has it again, and of two copies of one name neither replaces the other's bundle unseen.
+// Opens a box, and reads the bundles in it. What a copy left there comes in too where the project
+// has something else: a project that was set back has it again, and of two copies of one name
+// neither replaces the other's bundle unseen.
 pub(crate) fn open_box(
     rt: &HostRuntime,
     name: &str,

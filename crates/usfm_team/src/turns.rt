@@ -52,7 +52,8 @@ fn import_in_turn(rt: &HostRuntime, project: &str, names: &[String]) -> Result<(
     change_in_turn(rt, project, &commands)
 }
 
-// The first command judges the base, and a book's file has none of the faults of a bundle, so these are of no file.
+// The first command judges the base, and a book's file has none of the faults of a bundle, so these
+// are of no file.
 fn import_since(
     rt: &HostRuntime,
     project: &str,
@@ -123,9 +124,9 @@ pub(crate) fn read_files(rt: &HostRuntime, names: &[String]) -> Result<Vec<Vec<u
     Ok(files)
 }
 
-// Does commands in turn on a project's file while no other command changes it. The file is replaced where
-// its bytes are others, and only then, when others may go on, what each command writes is written. What
-// they made is not freed, since the program ends.
+// Does commands in turn on a project's file while no other command changes it. The file is replaced
+// where its bytes are others, and only then, when others may go on, what each command writes is
+// written. What they made is not freed, since the program ends.
 fn change_in_turn(rt: &HostRuntime, path: &str, commands: &[Command<'_>]) -> Result<(), TurnFault> {
     let mut project = lock_project(rt, path)?;
     let bytes = project.read(rt)?;

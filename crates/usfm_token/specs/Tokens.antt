@@ -1,7 +1,8 @@
 -- The marks and texts that a USFM text is cut into.
 --
--- The USFM 3.0 documentation has markers that begin with a backslash, the `+` of nested character markers and the `*` of
--- closing ones. Which bytes a name has, and that each backslash begins a mark, is this project's own rule.
+-- The USFM 3.0 documentation has markers that begin with a backslash, the `+` of nested character
+-- markers and the `*` of closing ones. Which bytes a name has, and that each backslash begins a
+-- mark, is this project's own rule.
 use Rattle.std.specs.Prelude.{◌≡◌, ◌≢◌, ℕ, zero, suc, ◌+◌, ◌<◌, ◌≤◌, Bool, true, ◌||◌, ◌==◌, List, [], ◌∷◌, ◌++◌, length, drop, take_while, slice_index, slice_range, if◌then◌else◌, EachIndex, ◌↔◌}
 use Rattle.std.specs.List.{flat_map, before_first}
 use Rattle.std.specs.Char.{is_ascii_alphanumeric}
@@ -70,14 +71,15 @@ BeginsWithNoText [] = Unit {0}
 BeginsWithNoText (mark m ∷ ts) = Unit {0}
 BeginsWithNoText (words t ∷ ts) = ⊥
 
--- each mark is the longest at its place, each text is not empty and has no backslash, and no two texts are neighbours
+-- each mark is the longest at its place, each text is not empty and has no backslash, and no two
+-- texts are neighbours
 abbrev pub AreLexemes : List Lexeme → Type 0
 AreLexemes [] = Unit {0}
 AreLexemes (mark m ∷ ts) = IsMark m × IsLongest m (joined ts) × AreLexemes ts
 AreLexemes (words t ∷ ts) = IsText t × BeginsWithNoText ts × AreLexemes ts
 
--- ts is what s is cut into: its slices join to s, each mark is the longest at its place, and what is between
--- two marks is one text
+-- ts is what s is cut into: its slices join to s, each mark is the longest at its place, and what
+-- is between two marks is one text
 pub record AreTokensOf (ts : List Lexeme) (s : List ℕ) : Type 0 where
   pub join : joined ts ≡ s
   pub each : AreLexemes ts

@@ -1,6 +1,7 @@
 //! What holds of the tokens of all texts. Each function does nothing: its contract is the law.
 
-ghost use Rattle.usfm_token.specs.Tokens.{OneCut, OneSpelling, TokensJoin, TokensLie, TokensPart, TokensRest};
+ghost use Rattle.usfm_token.specs.Tokens.{OneCut, OneSpelling, TokensJoin, TokensLie, TokensPart};
+ghost use Rattle.usfm_token.specs.Tokens.{TokensRest};
 
 /// Each text is cut in exactly one way: `tokens_of` is the one list of longest marks and of texts
 /// between them.

@@ -5,8 +5,9 @@ use Rattle.usfm_token.specs.Tokens.{MarkParts}
 use Rattle.usfm_tree.specs.Forest.{Forest, nothing, text, leaf, node}
 use Rattle.usfm_tree.specs.Reading.{Styles, Open, Placed, kids_of_list, take_close}
 
--- A text, by where it begins and its bytes; a mark that is a leaf; a node that begins, by its kind and its mark; and the end of the
--- innermost node that has begun, by its closing mark, if it has one.
+-- A text, by where it begins and its bytes; a mark that is a leaf; a node that begins, by its kind
+-- and its mark; and the end of the innermost node that has begun, by its closing mark, if it has
+-- one.
 pub data Event : Type 0 where
   words : ℕ → List ℕ → Event
   single : MarkParts → Event

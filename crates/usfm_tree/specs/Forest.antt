@@ -1,13 +1,14 @@
 -- Trees over a text, as what is side by side: each entry, and what comes after it.
 --
--- That each mark and text of a USFM text is kept, within a node or as a leaf, is this project's own rule.
+-- That each mark and text of a USFM text is kept, within a node or as a leaf, is this project's own
+-- rule.
 use Rattle.sty_sheet.specs.declared.kind.StyleKind.{StyleKind}
 use Rattle.std.specs.Prelude.{ℕ, zero, suc, option_and_then, List, [], ◌∷◌, ◌++◌, Option, None, Some}
 use Rattle.std.specs.List.{flat_map}
 use Rattle.usfm_token.specs.Tokens.{MarkParts, mark_bytes}
 
--- Texts, marks that are leaves, and nodes with their kids and closing marks, in order. Each begins at a place of
--- the source.
+-- Texts, marks that are leaves, and nodes with their kids and closing marks, in order. Each begins
+-- at a place of the source.
 pub data Forest : Type 0 where
   nothing : Forest
   text : (start : ℕ) (slice : List ℕ) (after : Forest) → Forest
@@ -98,8 +99,8 @@ entry_at (suc i) (text s t f) = entry_at i f
 entry_at (suc i) (leaf s m f) = entry_at i f
 entry_at (suc i) (node k s b m ks c f) = entry_at i f
 
--- what a path leads to: its first place is among these entries, and each next one among the kids of the entry
--- before; nothing for the empty path
+-- what a path leads to: its first place is among these entries, and each next one among the kids of
+-- the entry before; nothing for the empty path
 abbrev pub part_at : List ℕ → Forest → Option Forest
 part_at [] f = None
 part_at (i ∷ []) f = entry_at i f

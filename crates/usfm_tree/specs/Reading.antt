@@ -1,8 +1,9 @@
 -- The tree of a text by a style sheet, as a recursive reading of its tokens.
 --
--- The USFM 3.0 documentation has paragraph markers without and character and note markers with closing markers, '+' for
--- nested character markers, and milestones that end with `\*`. What an opening or a closing mark ends where marks are
--- missing, which marks are leaves, and that nodes are at most 64 deep, is this project's own rule.
+-- The USFM 3.0 documentation has paragraph markers without and character and note markers with
+-- closing markers, '+' for nested character markers, and milestones that end with `\*`. What an
+-- opening or a closing mark ends where marks are missing, which marks are leaves, and that nodes
+-- are at most 64 deep, is this project's own rule.
 use Rattle.sty_sheet.specs.declared.kind.StyleKind.{StyleKind}
 use Rattle.sty_sheet.specs.declared.kind.StyleKind.TheVariants as kinds
 use Rattle.std.specs.Prelude.{ℕ, zero, suc, ◌+◌, ◌==◌, nat_lt, Bool, true, false, ◌&&◌, ◌||◌, List, [], ◌∷◌, length, Option, None, Some, if◌then◌else◌, not}
@@ -30,8 +31,9 @@ abbrev pub placed : ℕ → List Lexeme → List Placed
 placed n [] = []
 placed n (t ∷ ts) = record { start = n; token = t } ∷ placed (n + length (slice_of t)) ts
 
--- what a token does: plain is a text; alone a mark that is a leaf by its record, or has none; spans a milestone mark; opens a mark that
--- begins a node of a kind, which a mark of the name closes; closes a closing mark
+-- what a token does: plain is a text; alone a mark that is a leaf by its record, or has none; spans
+-- a milestone mark; opens a mark that begins a node of a kind, which a mark of the name closes;
+-- closes a closing mark
 pub data Role : Type 0 where
   plain : List ℕ → Role
   alone : MarkParts → Role
@@ -39,7 +41,8 @@ pub data Role : Type 0 where
   opens : StyleKind → Option (List ℕ) → MarkParts → Role
   closes : MarkParts → Role
 
--- a leaf is a mark without a StyleType, a Character without a closing name, and any other than a Character that has '+'
+-- a leaf is a mark without a StyleType, a Character without a closing name, and any other than a
+-- Character that has '+'
 abbrev pub styled : MarkParts → Option (List ℕ) → Option StyleKind → Role
 styled m closer None = alone m
 styled m None (Some kinds.Character) = alone m
@@ -52,8 +55,8 @@ abbrev pub marked : MarkParts → Option Style → Role
 marked m None = alone m
 marked m (Some style) = styled m style.closer style.kind
 
--- what a token does by the style of its mark's name: a text, a leaf, a milestone, a mark that begins a node, or a
--- closing mark
+-- what a token does by the style of its mark's name: a text, a leaf, a milestone, a mark that
+-- begins a node, or a closing mark
 abbrev pub role : Styles → Lexeme → Role
 role styles (words t) = plain t
 role styles (mark m) = if m.closing then closes m else marked m (styles m.name)
@@ -74,7 +77,8 @@ is_span (spans m) = true
 is_span (opens kind closer m) = false
 is_span (closes m) = false
 
--- a node that is open; nested is whether its mark has '+'. Lists of open nodes have the innermost first, and not the root.
+-- a node that is open; nested is whether its mark has '+'. Lists of open nodes have the innermost
+-- first, and not the root.
 pub record Open : Type 0 where
   pub kind : StyleKind
   pub nested : Bool
@@ -118,12 +122,14 @@ fits_closer m (Some name) = not (bytes_eq name []) && bytes_eq name m.name
 abbrev pub same_bool : Bool → Bool → Bool
 same_bool a b = if a then b else not b
 
--- whether a closing mark has the name that closes an open node, and '+' exactly if the node's mark has it
+-- whether a closing mark has the name that closes an open node, and '+' exactly if the node's mark
+-- has it
 abbrev pub is_closed_by : MarkParts → Open → Bool
 is_closed_by m o = fits_closer m o.closer && same_bool m.nested o.nested
 
--- How many open nodes a closing mark ends: it reaches the character nodes above the innermost note, and that note, and closes the
--- innermost in reach whose closing name it has and whose mark has '+' exactly if it has. All above ends with it.
+-- How many open nodes a closing mark ends: it reaches the character nodes above the innermost note,
+-- and that note, and closes the innermost in reach whose closing name it has and whose mark has '+'
+-- exactly if it has. All above ends with it.
 abbrev pub closed_by : MarkParts → List Open → ℕ
 closed_by m [] = 0
 closed_by m (o ∷ os) =
@@ -135,8 +141,8 @@ abbrev pub to_note : List Open → ℕ
 to_note [] = 0
 to_note (o ∷ os) = if is_note o then 1 else (let n = to_note os in if n == 0 then 0 else suc n)
 
--- A paragraph mark ends all, a note mark an open note with all inside it, a character mark the character nodes above the innermost
--- note, paragraph or root, and with '+' nothing.
+-- A paragraph mark ends all, a note mark an open note with all inside it, a character mark the
+-- character nodes above the innermost note, paragraph or root, and with '+' nothing.
 abbrev pub opening_ends : StyleKind → Bool → List Open → ℕ
 opening_ends kinds.Paragraph nested os = length os
 opening_ends kinds.Character true os = 0
@@ -156,8 +162,8 @@ ended os (closes m) = closed_by m os
 abbrev pub Closed : Type 0
 Closed = Option MarkParts × List Placed
 
--- what a token in this role closes of the innermost open node, and what follows: a closing mark that ends that node
--- alone closes it, and every other token stays
+-- what a token in this role closes of the innermost open node, and what follows: a closing mark
+-- that ends that node alone closes it, and every other token stays
 abbrev pub close_by : List Open → Placed → List Placed → Role → Closed
 close_by os t l (closes m) = if closed_by m os == 1 then (Some m, l) else (None, t ∷ l)
 close_by os t l (plain b) = (None, t ∷ l)
@@ -189,8 +195,8 @@ Taken_none l = record { kids = nothing; close = None; rest = l }
 abbrev pub bare : MarkParts
 bare = record { nested = false; name = []; closing = true }
 
--- a milestone takes these kids and the `\*` at the front of the tokens; where none is there, it takes nothing
--- of the whole
+-- a milestone takes these kids and the `\*` at the front of the tokens; where none is there, it
+-- takes nothing of the whole
 abbrev pub take_bare : List Placed → Forest → List Placed → Taken
 take_bare whole kids [] = Taken_none whole
 take_bare whole kids (t ∷ l) = if is_bare_close t.token
@@ -232,8 +238,8 @@ abbrev pub closing : (List Open → List Placed → Read) → List Open → Plac
 closing go os t kind m inside closed =
     followed (spanning kind t.start m inside closed.0) (go os closed.1)
 
--- a node with the kids that were read inside it and the closing mark that the tokens after them give it, before
--- what follows
+-- a node with the kids that were read inside it and the closing mark that the tokens after them
+-- give it, before what follows
 abbrev pub opened : Styles → (List Open → List Placed → Read) → Open → List Open → Placed
     → MarkParts → Read → Read
 opened styles go o os t m inner =
@@ -261,7 +267,8 @@ enter styles go os t l (opens kind closer m) =
     (go (open_of kind closer m ∷ os) l)
     else followed (leaf t.start m) (go os l)
 
--- the kids of the innermost of the open nodes, up to a token that ends it, and the rest; the bound falls with the list
+-- the kids of the innermost of the open nodes, up to a token that ends it, and the rest; the bound
+-- falls with the list
 unfoldable pub kids : Styles → ℕ → List Open → List Placed → Read
 kids styles zero os l = (nothing, l)
 kids styles (suc n) os [] = (nothing, [])
@@ -269,8 +276,8 @@ kids styles (suc n) os (t ∷ l) =
     if nat_lt 0 (ended os (role styles t.token)) then (nothing, t ∷ l)
     else enter styles (kids styles n) os t l (role styles t.token)
 
--- the kids of the innermost of the open nodes, up to a token that ends it, and the rest, with a bound that is never
--- met, since each of the lists inside is shorter
+-- the kids of the innermost of the open nodes, up to a token that ends it, and the rest, with a
+-- bound that is never met, since each of the lists inside is shorter
 abbrev pub kids_of_list : Styles → List Open → List Placed → Read
 kids_of_list styles os l = kids styles (suc (length l)) os l
 

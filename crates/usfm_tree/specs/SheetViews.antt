@@ -11,7 +11,8 @@ use Rattle.usfm_tree.specs.Reading as reading
 abbrev pub style_view : Record → reading.Style
 style_view r = record { kind = r.kind; closer = r.closer }
 
--- the style of each name by some records: that of the record which a mark of the name has, if it has one
+-- the style of each name by some records: that of the record which a mark of the name has, if it
+-- has one
 abbrev pub styles_in : List Record → Styles
 styles_in rs name = option_map style_view (mark_style rs name)
 

@@ -41,7 +41,8 @@ abbrev pub IsNext : List Event → Option Step → List Event → Type 0
 IsNext whole None later = (n : ℕ) × (whole ≡ ends_before n [])
 IsNext whole (Some step) later = whole ≡ step_before step later
 
--- the style of a mark that begins a node is the one that the records have for it, and has the node's kind
+-- the style of a mark that begins a node is the one that the records have for it, and has the
+-- node's kind
 abbrev pub IsStyled : List Record → Entry → Type 0
 IsStyled rs (entries.Text start t) = Unit {0}
 IsStyled rs (entries.Leaf m) = Unit {0}
@@ -59,12 +60,14 @@ BeginsNoMilestone (entries.Begin kind m style) = kind ≢ kinds.Milestone
 BeginsNoMilestone (entries.Close m) = Unit {0}
 BeginsNoMilestone (entries.Milestone m t close) = Unit {0}
 
--- after nodes that end without a closing mark, an end with this one, if any, and then what the nodes that are left give
+-- after nodes that end without a closing mark, an end with this one, if any, and then what the
+-- nodes that are left give
 abbrev pub closed_before : Option MarkParts → List Event → List Event → List Event
 closed_before None used unused = unused
 closed_before (Some m) used unused = ends (Some m) ∷ used
 
--- a token in this role ends this many nodes without a closing mark, and one more with this mark, if any; after that one it is used up
+-- a token in this role ends this many nodes without a closing mark, and one more with this mark, if
+-- any; after that one it is used up
 abbrev pub Unwinds : Role → List reading.Open → ℕ → Option MarkParts → List reading.Open → Type 0
 Unwinds role os count close new_os =
     (styles : reading.Styles) (t : reading.Placed) (l : List reading.Placed)
@@ -73,7 +76,8 @@ Unwinds role os count close new_os =
     ≡ ends_before count (closed_before close (events_left styles new_os l)
     (events_left styles new_os (t ∷ l)))
 
--- a token in this role at start, with rest after it, is an entry, after which this is left: the source has end bytes
+-- a token in this role at start, with rest after it, is an entry, after which this is left: the
+-- source has end bytes
 abbrev pub EntersAs : Role → ℕ → ℕ → List ℕ → List ℕ → Entry → List reading.Open → List reading.Open
     → Type 0
 EntersAs role start end rest after entry os new_os =

@@ -2,8 +2,8 @@ use crate::tree::Tree;
 use std::marker::PhantomData;
 use usfm_token::{Token, TokenIter};
 
-/// The leaves of a tree. They are the tokens of the text that the tree was read from, so they are read
-/// from it again, without allocating.
+/// The leaves of a tree. They are the tokens of the text that the tree was read from, so they are
+/// read from it again, without allocating.
 #[derive(Drop)]
 pub struct Leaves<'t, 'a> {
     tokens: TokenIter<'a>,

@@ -54,9 +54,9 @@ impl<'a> Tree<'a> {
         self.kids.as_slice()
     }
 
-    /// The node to which a path leads: the place of a kid of the root, the place of a kid of that, and
-    /// so on, counted from 0. `None` where it leads nowhere, and for the empty path. The node's slice
-    /// is that of the text from the node's start on. It does not allocate.
+    /// The node to which a path leads: the place of a kid of the root, the place of a kid of that,
+    /// and so on, counted from 0. `None` where it leads nowhere, and for the empty path. The node's
+    /// slice is that of the text from the node's start on. It does not allocate.
     pub fn part(&self, path: &[usize]) -> Option<&Node<'a>>
         ensures value { option_map (λ n. view n.now) result
             ≡ part_at path.now (forest_in self.now) }
@@ -65,8 +65,8 @@ impl<'a> Tree<'a> {
         part_in(self.kids.as_slice(), path)
     }
 
-    /// The marks, texts and closing marks, in order. They join to the text, whose slices they are. It
-    /// does not allocate.
+    /// The marks, texts and closing marks, in order. They join to the text, whose slices they are.
+    /// It does not allocate.
     pub fn leaves(&self) -> Leaves<'_, 'a>
         ensures { leaves_left result ≡ leaves_of (forest_in self.now) }
     {

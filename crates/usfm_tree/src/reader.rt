@@ -9,7 +9,8 @@ ghost use Rattle.usfm_tree.specs.Forest.{nothing, leaf, close_bytes, ◌then◌}
 ghost use Rattle.usfm_tree.specs.Reading as reading;
 ghost use Rattle.usfm_tree.specs.Loops.ReaderViews.{frames_of, sofar_of, spans_of, Adjoins, EndsIn};
 ghost use Rattle.usfm_tree.specs.Loops.RoleViews.{role_view};
-ghost use Rattle.usfm_tree.specs.Loops.Stack.{Ends, Resumes, Enters, resume, opens_of, closing_mark};
+ghost use Rattle.usfm_tree.specs.Loops.Stack.{Ends, Resumes, Enters, resume, opens_of};
+ghost use Rattle.usfm_tree.specs.Loops.Stack.{closing_mark};
 ghost use Rattle.usfm_tree.specs.Loops.TakenViews.{EntersTo};
 ghost use Rattle.usfm_tree.specs.Views.{view, forest_of};
 
@@ -277,8 +278,8 @@ impl<'a, 's> Reader<'a, 's> {
         }
     }
 
-    // Takes a milestone mark, with what of the rest belongs to it: the source ends at `end`. Answers
-    // what is left.
+    // Takes a milestone mark, with what of the rest belongs to it: the source ends at `end`.
+    // Answers what is left.
     fn enter_milestone(
         &mut self,
         alloc: Global,

@@ -24,13 +24,15 @@ abbrev pub ends_code : List ℕ → Bool
 ends_code [] = true
 ends_code (b ∷ rest) = is_blank b || b == 92
 
--- The text begins with `\id` and the book's code, after which a blank, a backslash or the end comes.
+-- The text begins with `\id` and the book's code, after which a blank, a backslash or the end
+-- comes.
 pub record IsHeaded (book text : List ℕ) : Type 0 where
   pub rest : List ℕ
   pub begins : BeginsWithId text (book ++ rest)
   pub ends : IsTrue (ends_code rest)
 
--- A text of the head of a book begins with `\id` and the book's code, and no mark in it opens a piece.
+-- A text of the head of a book begins with `\id` and the book's code, and no mark in it opens a
+-- piece.
 abbrev pub FitsHead : List ℕ → List ℕ → Type 0
 FitsHead book text = IsHeaded book text × (opening (keyed_marks 0 text) ≡ [])
 
@@ -39,8 +41,8 @@ abbrev pub LeadsWith : KeyParts → List Keyed → Type 0
 LeadsWith k [] = ⊥
 LeadsWith k (m ∷ ms) = (m.at ≡ 0) × (m.key ≡ k) × All (λ later. key_below k later.key ≡ false) ms
 
--- A text of another key is empty, or it begins with a mark of that key, and no later mark has a greater one. The key's
--- chapter is in force at its front.
+-- A text of another key is empty, or it begins with a mark of that key, and no later mark has a
+-- greater one. The key's chapter is in force at its front.
 abbrev pub FitsKey : KeyParts → List ℕ → Type 0
 FitsKey k text = (text ≡ []) ⊎ LeadsWith k (keyed_marks k.chapter text)
 
@@ -49,8 +51,8 @@ abbrev pub FitsBy : List ℕ → KeyParts → List ℕ → Bool → Type 0
 FitsBy book k text true = FitsHead book text
 FitsBy book k text false = FitsKey k text
 
--- a text fits a book and a key: as the head of that book where the key is the book head, and else as a text of the
--- key
+-- a text fits a book and a key: as the head of that book where the key is the book head, and else
+-- as a text of the key
 abbrev pub Fits : List ℕ → KeyParts → List ℕ → Type 0
 Fits book k text = FitsBy book k text (same_key k book_head)
 

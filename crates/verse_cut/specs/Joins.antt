@@ -1,4 +1,5 @@
--- Texts that fit keys, joined (this project's own rule: what makes the export of a book a book again).
+-- Texts that fit keys, joined (this project's own rule: what makes the export of a book a book
+-- again).
 use Rattle.std.specs.Prelude.{◌≡◌, ℕ, ◌+◌, ◌<◌, ◌≤◌, false, not, IsTrue, List, [], ◌∷◌, ◌++◌, length, codes, ◌⊎◌}
 use Rattle.std.specs.Fmt.{decimal}
 use Rattle.std.specs.List.{All, Contains, flat_map, filter}
@@ -34,7 +35,8 @@ TextsFit book ts = All (λ t. Fits book t.key t.text) ts
 abbrev pub HasHead : KeyParts → List KeyText → Type 0
 HasHead key ts = (h : KeyText) × Contains ts h × (h.key ≡ head_of key) × (is_empty h.text ≡ false)
 
--- For each verse with a text that is not empty the head of its chapter is there with one too; chapter 0 needs none.
+-- For each verse with a text that is not empty the head of its chapter is there with one too;
+-- chapter 0 needs none.
 abbrev pub HeadsAreThere : List KeyText → Type 0
 HeadsAreThere ts = All
     (λ t. is_empty t.text ≡ false → is_head t.key.place ≡ false → 0 < t.key.chapter
@@ -50,9 +52,9 @@ pieces_from at [] = []
 pieces_from at (t ∷ ts) =
     record { key = t.key; start = at; text = t.text } ∷ pieces_from (at + length t.text) ts
 
--- A text for the head of a book, which fits or is empty, and texts that fit, by rising key, where no verse lacks its
--- chapter's head, cut back from their join: the first piece is the head's text, and the others are the texts that are not
--- empty, each with its key.
+-- A text for the head of a book, which fits or is empty, and texts that fit, by rising key, where
+-- no verse lacks its chapter's head, cut back from their join: the first piece is the head's text,
+-- and the others are the texts that are not empty, each with its key.
 abbrev pub FittingTextsCutBack : Type 0
 FittingTextsCutBack =
     (book head : List ℕ) (ts : List KeyText) →
@@ -74,14 +76,14 @@ pub record IsJoinOf (book text : List ℕ) : Type 0 where
   pub rise : TextsRise (at_book_head head ∷ later)
   pub heads : HeadsAreThere later
 
--- Each text that begins with `\id` and a book's code is the join of its pieces, which are such texts as cut back
--- from their join.
+-- Each text that begins with `\id` and a book's code is the join of its pieces, which are such
+-- texts as cut back from their join.
 abbrev pub BooksAreJoins : Type 0
 BooksAreJoins =
     (book text : List ℕ) → IsTrue (is_book_code book) → IsHeaded book text → IsJoinOf book text
 
--- A head and texts that fit, by rising key, join to a text that begins with `\id` and the book's code where the
--- head does.
+-- A head and texts that fit, by rising key, join to a text that begins with `\id` and the book's
+-- code where the head does.
 abbrev pub JoinsKeepTheirBook : Type 0
 JoinsKeepTheirBook = (book head : List ℕ) (ts : List KeyText) → IsHeaded book head
     → TextsFit book ts → TextsRise (at_book_head head ∷ ts)

@@ -1,5 +1,6 @@
--- The keys of marks: of USFM 3.0's chapter mark `\c` and verse mark `\v`, by the numbers directly after them. That nested
--- and closing marks have no key, and that a verse is in the greatest chapter so far, is this project's own rule.
+-- The keys of marks: of USFM 3.0's chapter mark `\c` and verse mark `\v`, by the numbers directly
+-- after them. That nested and closing marks have no key, and that a verse is in the greatest
+-- chapter so far, is this project's own rule.
 use Rattle.std.specs.Prelude.{ℕ, Bool, ◌||◌, List, [], ◌∷◌, codes, Option, None, option_map, if◌then◌else◌}
 use Rattle.std.specs.Ordering.{is_lt}
 use Rattle.std.specs.Str.{bytes_eq}
@@ -17,8 +18,9 @@ key_below j k = is_lt (key_cmp j k)
 abbrev pub verse_key : ℕ → VerseMark → KeyParts
 verse_key chapter v = record { chapter = chapter; place = Verse v.number v.letter }
 
--- The key of a mark with the text directly after it, where a verse is in the chapter: of `\c` with a number the
--- head of that chapter, of `\v` with a number that verse; no other mark, no nested and no closing one has a key.
+-- The key of a mark with the text directly after it, where a verse is in the chapter: of `\c` with
+-- a number the head of that chapter, of `\v` with a number that verse; no other mark, no nested and
+-- no closing one has a key.
 abbrev pub mark_key : ℕ → MarkParts → List ℕ → Option KeyParts
 mark_key chapter m after =
     if m.nested || m.closing then None

@@ -1,3 +1,4 @@
--- What contracts of private functions alone speak of: the states of loops, and views of what they keep.
+-- What contracts of private functions alone speak of: the states of loops, and views of what they
+-- keep.
 pub mod Walks
 pub mod Left

@@ -1,5 +1,5 @@
--- The marks of a text, their keys, and those that open a piece. Each is judged by all marks before it (this project's
--- own rule).
+-- The marks of a text, their keys, and those that open a piece. Each is judged by all marks before
+-- it (this project's own rule).
 use Rattle.std.specs.Prelude.{ℕ, ◌+◌, max, Bool, true, ◌||◌, ◌&&◌, List, [], ◌∷◌, ◌++◌, length, codes, Option, None, Some, if◌then◌else◌}
 use Rattle.std.specs.Str.{bytes_eq}
 use Rattle.usfm_ref.specs.Keys.{KeyParts, book_head}
@@ -36,8 +36,8 @@ abbrev pub greater_of : Option ℕ → ℕ → ℕ
 greater_of None n = n
 greater_of (Some m) n = max n m
 
--- the chapter in force after some marks: the greatest of the start chapter and the numbers of all `\c` marks among
--- them
+-- the chapter in force after some marks: the greatest of the start chapter and the numbers of all
+-- `\c` marks among them
 abbrev pub chapter_in_force : ℕ → List Site → ℕ
 chapter_in_force chapter [] = chapter
 chapter_in_force chapter (s ∷ ss) = greater_of (chapter_number s) (chapter_in_force chapter ss)
@@ -57,7 +57,8 @@ keyed_after chapter before [] = []
 keyed_after chapter before (s ∷ ss) =
     with_key (key_after chapter before s) s.at (keyed_after chapter (before ++ s ∷ []) ss)
 
--- the marks of a text that have a key, in order, where a verse before all chapter marks is in the chapter
+-- the marks of a text that have a key, in order, where a verse before all chapter marks is in the
+-- chapter
 unfoldable pub keyed_marks : ℕ → List ℕ → List Keyed
 keyed_marks chapter s = keyed_after chapter [] (sites_from 0 (tokens_of s))
 
@@ -66,7 +67,8 @@ abbrev pub is_above_all : KeyParts → List Keyed → Bool
 is_above_all k [] = true
 is_above_all k (m ∷ before) = key_below m.key k && is_above_all k before
 
--- a mark opens a piece if its key is greater than the book head and than the key of every mark before it
+-- a mark opens a piece if its key is greater than the book head and than the key of every mark
+-- before it
 abbrev pub opens : List Keyed → Keyed → Bool
 opens before m = key_below book_head m.key && is_above_all m.key before
 

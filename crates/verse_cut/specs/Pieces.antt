@@ -1,4 +1,5 @@
--- The pieces that a book is cut into: what lies between the marks that open one (this project's own rule).
+-- The pieces that a book is cut into: what lies between the marks that open one (this project's own
+-- rule).
 use Rattle.std.specs.Prelude.{◌≡◌, ℕ, ◌+◌, ◌-◌, List, [], ◌∷◌, length, map, take, drop, IsTrue, slice_range, ◌↔◌}
 use Rattle.std.specs.List.{All, flat_map}
 use Rattle.usfm_ref.specs.Keys.{KeyParts, key_cmp, book_head}
@@ -17,8 +18,8 @@ pieces_between s k at [] = record { key = k; start = at; text = drop at s } ∷ 
 pieces_between s k at (m ∷ ms) = record { key = k; start = at; text = take (m.at - at) (drop at s) }
     ∷ pieces_between s m.key m.at ms
 
--- the pieces of a text, between the marks that open one; the first begins at 0, perhaps empty, and has the key of
--- the book head
+-- the pieces of a text, between the marks that open one; the first begins at 0, perhaps empty, and
+-- has the key of the book head
 unfoldable pub pieces_of : List ℕ → List PieceParts
 pieces_of s = pieces_between s book_head 0 (opening (keyed_marks 0 s))
 
@@ -37,8 +38,8 @@ AreNeighbours at (p ∷ ps) = (p.start ≡ at) × AreNeighbours (at + length p.t
 abbrev pub opened : PieceParts → Keyed
 opened p = record { key = p.key; at = p.start }
 
--- The pieces join to the text, each starts where the one before it ends, and they start at 0, with the key of the book
--- head, and at each mark that opens a piece, with that mark's key.
+-- The pieces join to the text, each starts where the one before it ends, and they start at 0, with
+-- the key of the book head, and at each mark that opens a piece, with that mark's key.
 pub record IsCutOf (ps : List PieceParts) (s : List ℕ) : Type 0 where
   pub join : pieces_joined ps ≡ s
   pub neighbours : AreNeighbours 0 ps

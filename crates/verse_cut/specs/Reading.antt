@@ -1,5 +1,5 @@
--- The cut, and the tests of what fits, as readings from the left. The laws say that they are equal to the definitions by all
--- marks before.
+-- The cut, and the tests of what fits, as readings from the left. The laws say that they are equal
+-- to the definitions by all marks before.
 use Rattle.std.specs.Prelude.{◌≡◌, ℕ, ◌+◌, Bool, true, false, not, ◌||◌, ◌&&◌, List, [], ◌∷◌, ◌++◌, length, take, drop, codes, Option, None, Some, Result, Ok, Err, if◌then◌else◌, ◌↔◌, IsTrue}
 use Rattle.usfm_ref.specs.Books.{is_book_code, same_bytes}
 use Rattle.usfm_ref.specs.Keys.{KeyParts, book_head, same_key}
@@ -30,8 +30,8 @@ goes_on bytes later = (bytes ++ later.0, later.1)
 abbrev pub opens_at : KeyParts → ℕ → List ℕ → Later → Later
 opens_at k at bytes later = ([], record { key = k; start = at; text = bytes ++ later.0 } ∷ later.1)
 
--- What tokens from a place on give, where the key of the open piece is the greatest so far. So its chapter is the greatest
--- too.
+-- What tokens from a place on give, where the key of the open piece is the greatest so far. So its
+-- chapter is the greatest too.
 abbrev pub cut_from : KeyParts → ℕ → List Lexeme → Later
 cut_from greatest at [] = ([], [])
 cut_from greatest at (t ∷ ts) =
@@ -100,13 +100,14 @@ abbrev pub book_or_bad : Option (List ℕ) → Result (List ℕ) BookFault
 book_or_bad None = Err BadBook
 book_or_bad (Some book) = Ok book
 
--- the book whose code is at the front of what follows an `\id`, or that there is no `\id`, or no such code
+-- the book whose code is at the front of what follows an `\id`, or that there is no `\id`, or no
+-- such code
 abbrev pub book_at : Option (List ℕ) → Result (List ℕ) BookFault
 book_at None = Err NoId
 book_at (Some bytes) = book_or_bad (leading_book bytes)
 
--- the book that a text begins with; else that it does not begin with `\id` and a blank, or else that no book's code
--- follows
+-- the book that a text begins with; else that it does not begin with `\id` and a blank, or else
+-- that no book's code follows
 unfoldable pub book_in : List ℕ → Result (List ℕ) BookFault
 book_in text = book_at (after_id text)
 

@@ -1,4 +1,5 @@
-ghost use Rattle.std.specs.Prelude.{◌≡◌, ◌↔◌, ℕ, List, IsTrue, IfOk, MatchOption, None, Some, Ok, Err};
+ghost use Rattle.std.specs.Prelude.{◌≡◌, ◌↔◌, ℕ, List, IsTrue, IfOk, MatchOption, None, Some, Ok};
+ghost use Rattle.std.specs.Prelude.{Err};
 ghost use Rattle.usfm_ref.specs.Books.{is_book_code};
 ghost use Rattle.verse_cut.specs.Fits.{BeginsWithId, IsHeaded, ends_code};
 ghost use Rattle.verse_cut.specs.Reading as reading;

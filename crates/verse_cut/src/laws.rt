@@ -2,7 +2,8 @@
 //! nothing: its contract is the law.
 
 ghost use Rattle.verse_cut.specs.Fits.{PiecesFit};
-ghost use Rattle.verse_cut.specs.Joins.{BooksAreJoins, ChapterLinesFit, FittingTextsCutBack, JoinsKeepTheirBook};
+ghost use Rattle.verse_cut.specs.Joins.{BooksAreJoins, ChapterLinesFit, FittingTextsCutBack};
+ghost use Rattle.verse_cut.specs.Joins.{JoinsKeepTheirBook};
 ghost use Rattle.verse_cut.specs.Pieces.{OneCut, PiecesLie, PiecesRise};
 ghost use Rattle.verse_cut.specs.Reading.{CutIsRead, FitsIsRead};
 
@@ -42,8 +43,8 @@ pub fn fitting_texts_cut_back()
     ensures { FittingTextsCutBack }
 {}
 
-/// Each text that begins with `\id` and a book's code is the join of its pieces, which are such texts
-/// as cut back from their join.
+/// Each text that begins with `\id` and a book's code is the join of its pieces, which are such
+/// texts as cut back from their join.
 pub fn books_are_joins()
     ensures { BooksAreJoins }
 {}

@@ -1,11 +1,12 @@
--- Common subsequences of two lists of words, as the literature on comparing texts has them. That long texts are compared
--- by their ends alone, and from how many words on, is this project's own rule.
+-- Common subsequences of two lists of words, as the literature on comparing texts has them. That
+-- long texts are compared by their ends alone, and from how many words on, is this project's own
+-- rule.
 use Rattle.std.specs.Prelude.{◌≡◌, ℕ, ◌-◌, ◌<◌, ◌≤◌, max, List, [], ◌∷◌, ◌++◌, ◌⊎◌, length, take, drop, reverse}
 use Rattle.std.specs.List.{common_prefix_len}
 use Rattle.word_diff.specs.Words.{same_word}
 
--- zs is ys with some words left out, in the same order: it is taken from what follows the first of ys,
--- or it is that first one and then taken from what follows
+-- zs is ys with some words left out, in the same order: it is taken from what follows the first of
+-- ys, or it is that first one and then taken from what follows
 abbrev pub IsSubsequence : List (List ℕ) → List (List ℕ) → Type 0
 IsSubsequence zs [] = zs ≡ []
 IsSubsequence zs (y ∷ ys) =

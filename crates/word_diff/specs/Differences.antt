@@ -27,7 +27,8 @@ abbrev pub KeepsCommon : List Part → List ℕ → List ℕ → Type 0
 KeepsCommon parts old new =
     IsCommonSubsequence (words_by is_kept (spans parts)) (words_of old) (words_of new)
 
--- of texts of at most 2,000 words each, no common subsequence of the words is longer than what is kept
+-- of texts of at most 2,000 words each, no common subsequence of the words is longer than what is
+-- kept
 abbrev pub KeepsLongest : List Part → List ℕ → List ℕ → Type 0
 KeepsLongest parts old new = AreFew (words_of old) (words_of new)
     → IsLongest (words_by is_kept (spans parts)) (words_of old) (words_of new)

@@ -21,8 +21,8 @@ is_kept Kept = true
 is_kept Removed = false
 is_kept Added = false
 
--- Whether a part of the second kind may come directly after one of the first: no two neighbours are of
--- one kind, and what is removed comes before what is added in its place.
+-- Whether a part of the second kind may come directly after one of the first: no two neighbours are
+-- of one kind, and what is removed comes before what is added in its place.
 abbrev pub may_follow : Kind → Kind → Bool
 may_follow Kept Kept = false
 may_follow Kept Removed = true

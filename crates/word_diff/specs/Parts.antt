@@ -1,4 +1,5 @@
--- What a contract sees of the parts of two texts. That neighbours are joined is this project's own rule.
+-- What a contract sees of the parts of two texts. That neighbours are joined is this project's own
+-- rule.
 use Rattle.std.specs.Prelude.{◌≡◌, ℕ, ◌<◌, Bool, true, List, [], ◌∷◌, length, map, if◌then◌else◌}
 use Rattle.std.specs.List.{flat_map}
 use Rattle.word_diff.specs.Kinds.{may_follow}

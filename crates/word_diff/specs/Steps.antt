@@ -1,5 +1,5 @@
--- What a comparison adds to the steps that it has, which are parts of one word each. No public contract
--- cites this.
+-- What a comparison adds to the steps that it has, which are parts of one word each. No public
+-- contract cites this.
 use Rattle.std.specs.Prelude.{◌≡◌, ℕ, ◌+◌, Bool, true, false, List, [], ◌∷◌, ◌++◌, length, map}
 use Rattle.word_diff.specs.Kinds.{is_kept, is_new, is_old}
 use Rattle.word_diff.specs.Parts.{Span, spans, texts_of}
@@ -23,8 +23,8 @@ same_kind Added Kept = false
 same_kind Added Removed = false
 same_kind Added Added = true
 
--- whether a step of the second kind may come directly after one of the first: what is removed does not
--- come after what is added
+-- whether a step of the second kind may come directly after one of the first: what is removed does
+-- not come after what is added
 abbrev pub may_stand : Kind → Kind → Bool
 may_stand Kept kind = true
 may_stand Removed kind = true
@@ -67,8 +67,8 @@ pub record AddsLongest (before now : List Span) (xs ys : List (List ℕ)) : Type
   pub kept : length (texts_of is_kept now) ≡ length (texts_of is_kept before) + common_len xs ys
   pub ordered : AreOrdered before → AtLast MayRemove before → AreOrdered now
 
--- these are the words of both, in order; what is kept is common, and of two short lists a longest, else
--- their common ends
+-- these are the words of both, in order; what is kept is common, and of two short lists a longest,
+-- else their common ends
 pub record Compares (ss : List Span) (xs ys : List (List ℕ)) : Type 0 where
   pub old : texts_of is_old ss ≡ xs
   pub new : texts_of is_new ss ≡ ys

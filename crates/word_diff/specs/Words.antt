@@ -1,5 +1,6 @@
--- The words of a text, by which two texts are compared. What a word is, is this project's own rule; marks are those of
--- usfm_token, which has the backslash, the '+' and the '*' of USFM 3.0, and blanks are those of usfm_ref.
+-- The words of a text, by which two texts are compared. What a word is, is this project's own rule;
+-- marks are those of usfm_token, which has the backslash, the '+' and the '*' of USFM 3.0, and
+-- blanks are those of usfm_ref.
 use Rattle.std.specs.Prelude.{◌≡◌, ℕ, zero, suc, ◌<◌, ◌==◌, Bool, true, false, not, ◌&&◌, List, [], ◌∷◌, ◌++◌, length, drop, take_while, slice_index, if◌then◌else◌, EachIndex, ◌⊎◌, ◌↔◌, map}
 use Rattle.std.specs.Borrow.{Bor}
 use Rattle.std.specs.List.{flat_map}
@@ -11,8 +12,8 @@ use Rattle.usfm_token.specs.Tokens.{MarkParts, is_backslash, mark_after, mark_by
 abbrev pub is_plain : ℕ → Bool
 is_plain b = not (is_blank b) && not (is_backslash b)
 
--- The word that begins with the byte b and then bs: the mark where b is a backslash (92), else the longest
--- run of blanks, or of bytes that are neither.
+-- The word that begins with the byte b and then bs: the mark where b is a backslash (92), else the
+-- longest run of blanks, or of bytes that are neither.
 abbrev pub first_word : ℕ → List ℕ → List ℕ
 first_word b bs =
     if b == 92 then mark_bytes (mark_after bs)

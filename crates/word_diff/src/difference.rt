@@ -1,5 +1,6 @@
 ghost use Rattle.std.specs.Prelude.{IfOk};
-ghost use Rattle.word_diff.specs.Differences.{CutsNew, CutsOld, JoinsToNew, JoinsToOld, KeepsCommon, KeepsEnds, KeepsLongest};
+ghost use Rattle.word_diff.specs.Differences.{CutsNew, CutsOld, JoinsToNew, JoinsToOld};
+ghost use Rattle.word_diff.specs.Differences.{KeepsCommon, KeepsEnds, KeepsLongest};
 ghost use Rattle.word_diff.specs.Parts.{AreApart, spans};
 
 use crate::joining::join_neighbours;
@@ -11,11 +12,11 @@ use std::alloc::{AllocError, Global};
 /// What differs between two texts: parts of whole words that are in both, in the old one alone, or
 /// in the new one alone.
 ///
-/// The parts that are in a text join to it. Of texts of at most `MAX_WORDS` words each no more words
-/// could be kept: these are a longest common subsequence. Of longer ones the words that they have in
-/// common at their front and then at their end are kept, and no others. No part is empty, no two
-/// neighbours are of one kind, and between two kept parts what is removed comes before what is
-/// added.
+/// The parts that are in a text join to it. Of texts of at most `MAX_WORDS` words each no more
+/// words could be kept: these are a longest common subsequence. Of longer ones the words that they
+/// have in common at their front and then at their end are kept, and no others. No part is empty,
+/// no two neighbours are of one kind, and between two kept parts what is removed comes before what
+/// is added.
 ///
 /// # Errors
 ///

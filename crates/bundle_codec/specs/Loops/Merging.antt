@@ -21,13 +21,15 @@ pub record Meet (xs ys xs' ys' : List Operation) (both : Operation) : Type 0 whe
   pub right : ys ≡ y ∷ ys'
   pub met : agree x y ≡ true → both ≡ meet x y
 
--- two walks go past their first operations, and give what stays of both if these agree; or one is at its end
+-- two walks go past their first operations, and give what stays of both if these agree; or one is
+-- at its end
 abbrev pub Meets : List Operation → List Operation → List Operation → List Operation
     → Option Operation → Type 0
 Meets xs ys xs' ys' None = (xs ≡ []) ⊎ (ys ≡ [])
 Meets xs ys xs' ys' (Some both) = Meet xs ys xs' ys' both
 
--- A step of a joining takes the first operation of the union, and leaves what is still to be joined.
+-- A step of a joining takes the first operation of the union, and leaves what is still to be
+-- joined.
 pub record Leaves (xs ys : List Operation) (first : Operation)
     (xs' ys' : List Operation) : Type 0 where
   pub union : join xs ys ≡ first ∷ join xs' ys'

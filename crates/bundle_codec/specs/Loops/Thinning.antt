@@ -1,4 +1,5 @@
--- How the first thinned operation of a bundle is found that none of its segment names: by a map of the thinned ones.
+-- How the first thinned operation of a bundle is found that none of its segment names: by a map of
+-- the thinned ones.
 use Rattle.std.specs.Prelude.{◌≡◌, ◌+◌, ◌&&◌, ℕ, Bool, false, List, [], ◌∷◌, Option, Some, None, Err, if◌then◌else◌}
 use Rattle.std.specs.List.{list_any}
 use Rattle.std.specs.Option.{is_some}

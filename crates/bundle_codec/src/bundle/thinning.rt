@@ -1,5 +1,6 @@
 // Thinned operations of a bundle, each of which an operation of its segment has to name.
-ghost use Rattle.std.specs.Prelude.{◌≡◌, ◌∷◌, [], false, Ok, IfOk, IfErr, IsTrue, MatchResult, length};
+ghost use Rattle.std.specs.Prelude.{◌≡◌, ◌∷◌, [], false, Ok, IfOk, IfErr, IsTrue, MatchResult};
+ghost use Rattle.std.specs.Prelude.{length};
 ghost use Rattle.std.specs.Option.{option_copied};
 ghost use Rattle.op_core.specs.Sets.{rises};
 ghost use Rattle.op_core.specs.Thinned.{all_full};
@@ -19,8 +20,8 @@ use usfm_ref::{Book, Key};
 type Thinned = BTreeMap<OpId, (Book, Key)>;
 
 // Judges the operations of a bundle of format 2, this many, which the bytes spell: at least one is
-// thinned, and each that is thinned is named by one of its segment. Each operation is looked at three
-// times, and only for the thinned ones it allocates.
+// thinned, and each that is thinned is named by one of its segment. Each operation is looked at
+// three times, and only for the thinned ones it allocates.
 pub(crate) fn judge_thinned(alloc: Global, count: u64, bytes: &[u8]) -> Result<(), BundleFault>
     requires { SpellsSet count bytes.now }
     ensures { MatchResult result

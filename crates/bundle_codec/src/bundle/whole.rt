@@ -1,5 +1,6 @@
 // Bytes that are one bundle and nothing more.
-ghost use Rattle.std.specs.Prelude.{◌≡◌, ◌≢◌, false, List, Ok, Err, IfOk, IfErr, IsTrue, MatchResult};
+ghost use Rattle.std.specs.Prelude.{◌≡◌, ◌≢◌, false, List, Ok, Err, IfOk, IfErr, IsTrue};
+ghost use Rattle.std.specs.Prelude.{MatchResult};
 ghost use Rattle.op_core.specs.Ops.{Operation};
 ghost use Rattle.op_core.specs.Sets.{IsOpSet};
 ghost use Rattle.op_core.specs.Thinned.{is_legal, all_full};

@@ -1,5 +1,6 @@
 // Two walks side by side, which join the operations of two bundles one at a time.
-ghost use Rattle.std.specs.Prelude.{◌≡◌, ◌++◌, ◌∷◌, List, [], MatchOption, IfOk, IfErr, IsTrue, length};
+ghost use Rattle.std.specs.Prelude.{◌≡◌, ◌++◌, ◌∷◌, List, [], MatchOption, IfOk, IfErr, IsTrue};
+ghost use Rattle.std.specs.Prelude.{length};
 ghost use Rattle.std.specs.List.{flat_map};
 ghost use Rattle.op_core.specs.Ops.{Operation};
 ghost use Rattle.op_core.specs.Sets as sets;
@@ -84,7 +85,8 @@ fn pass_least<'a>(
     }
 }
 
-// Goes past the first operations of both, which agree, and gives the thinned one where one is thinned.
+// Goes past the first operations of both, which agree, and gives the thinned one where one is
+// thinned.
 fn pass_both<'a>(left: &mut Walk<'a>, right: &mut Walk<'a>) -> Option<OpView<'a>>
     ensures { merging.Meets left.old right.old left.new right.new result }
 {

@@ -1,6 +1,6 @@
-// Fields of fixed form: each function gives the value at the front, and the bytes after it. Those called
-// `_at` or `_of` judge whether the bytes have it; those called `_in` are for bytes that were judged, and test
-// nothing.
+// Fields of fixed form: each function gives the value at the front, and the bytes after it. Those
+// called `_at` or `_of` judge whether the bytes have it; those called `_in` are for bytes that were
+// judged, and test nothing.
 ghost use Rattle.std.specs.Prelude.{MatchOption, true, false, ◌≡◌, Ok, Err, IsOk};
 ghost use Rattle.std.specs.Int.{w16, w64};
 ghost use Rattle.std.specs.Str.{is_utf8};

@@ -29,8 +29,8 @@ pub(crate) struct IdList<'a> {
     pub(crate) bytes: &'a [u8],
 }
 
-/// The ids that an operation names as replaced, in ascending order. Made by `OpView::replaced`; it does
-/// not allocate.
+/// The ids that an operation names as replaced, in ascending order. Made by `OpView::replaced`; it
+/// does not allocate.
 #[derive(Debug, Drop)]
 pub struct ReplacedIds<'a> {
     left: u64,

@@ -2,7 +2,8 @@
 ghost use Rattle.std.specs.Prelude.{◌≡◌, None, false, Ok, Err, IfOk, IsOk, IsTrue, option_map};
 ghost use Rattle.usfm_ref.specs.Books.{is_book_code};
 ghost use Rattle.usfm_ref.specs.Keys.{is_key};
-ghost use Rattle.bundle_codec.specs.Reading.{Gives, is_tag, counted_text_at, text_after, body_at, judge_text};
+ghost use Rattle.bundle_codec.specs.Reading.{Gives, is_tag, counted_text_at, text_after, body_at};
+ghost use Rattle.bundle_codec.specs.Reading.{judge_text};
 ghost use Rattle.bundle_codec.specs.Reading.{may_fit, operation_at, operations_at, ahead};
 ghost use Rattle.bundle_codec.specs.Views.{id_view, key_view, op_view, lent};
 

@@ -1,4 +1,5 @@
-//! Laws of summaries, over the definitions alone. Each function does nothing: its contract is the law.
+//! Laws of summaries, over the definitions alone. Each function does nothing: its contract is the
+//! law.
 ghost use Rattle.bundle_codec.specs.SummaryLaws as laws;
 
 /// The summary of a set covers exactly its ids, by ranges as long as can be.
@@ -16,14 +17,14 @@ pub fn one_spelling_of_a_summary()
     ensures { laws.OneSpellingOfASummary }
 {}
 
-/// What a set without thinned operations has outside the summary of another one, joined to that one,
-/// gives the union of both, and never clashes.
+/// What a set without thinned operations has outside the summary of another one, joined to that
+/// one, gives the union of both, and never clashes.
 pub fn outside_gives_union()
     ensures { laws.OutsideGivesUnion }
 {}
 
-/// Where two sets do not clash, what the one has outside the summary of the other, joined to that one,
-/// does not clash either, and gives the union of both but for texts that are left out.
+/// Where two sets do not clash, what the one has outside the summary of the other, joined to that
+/// one, does not clash either, and gives the union of both but for texts that are left out.
 pub fn outside_gives_skeleton()
     ensures { laws.OutsideGivesSkeleton }
 {}

@@ -34,8 +34,8 @@ pub(crate) fn held_ranges(
     Ok(held)
 }
 
-// Adds the numbers of a run, which begins with an id and goes on with the operations, and answers the
-// operation after it.
+// Adds the numbers of a run, which begins with an id and goes on with the operations, and answers
+// the operation after it.
 fn hold_run<'a>(
     alloc: Global,
     held: &mut BTreeMap<ReplicaName, Vec<NumberRange>>,

@@ -19,8 +19,8 @@ use std::collections::BTreeSet;
 use usfm_ref::{Book, Key};
 
 /// The bundle of the operations of a set whose ids lie outside a summary; and where one of these is
-/// thinned, of all operations of its segment, so that what names it goes with it. They are lent from
-/// the set and written one by one; no second set is made.
+/// thinned, of all operations of its segment, so that what names it goes with it. They are lent
+/// from the set and written one by one; no second set is made.
 ///
 /// # Errors
 /// Out of memory alone.
@@ -49,9 +49,9 @@ pub fn encode_outside(alloc: Global, set: &OpSet, summary: &Summary) -> Result<V
 }
 
 impl Bundle<'_> {
-    /// The bundle of those of its operations whose ids lie outside a summary; and where one of these is
-    /// thinned, of all operations of its segment, as `encode_outside` writes it of a set. The bytes of
-    /// each are copied as they are.
+    /// The bundle of those of its operations whose ids lie outside a summary; and where one of
+    /// these is thinned, of all operations of its segment, as `encode_outside` writes it of a set.
+    /// The bytes of each are copied as they are.
     ///
     /// # Errors
     /// Out of memory alone.
@@ -110,7 +110,8 @@ fn is_sent(
     !coverage.covers(id) || whole.contains(&(book, key))
 }
 
-// The segments of which a thinned operation lies outside a summary. Memory is taken for these alone.
+// The segments of which a thinned operation lies outside a summary. Memory is taken for these
+// alone.
 fn lacked_segments(
     alloc: Global,
     set: &OpSet,

@@ -1,5 +1,5 @@
-// Reading a summary in one walk. Where an allocation fails the walk goes on without keeping anything,
-// since a fault that comes later is answered before out of memory.
+// Reading a summary in one walk. Where an allocation fails the walk goes on without keeping
+// anything, since a fault that comes later is answered before out of memory.
 ghost use Rattle.std.specs.Prelude.{◌≡◌, ◌++◌, ◌∷◌, [], Ok, IfOk, IfSome};
 ghost use Rattle.std.specs.Option.{IsSomeAnd, option_copied};
 ghost use Rattle.bundle_codec.specs.Reading.{Gives, exactly_at, ahead};

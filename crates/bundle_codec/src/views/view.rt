@@ -135,8 +135,8 @@ impl<'a> OpView<'a> {
         own == other.bytes
     }
 
-    /// Whether the two are equal, or at least one is thinned and they are equal but for their texts. It
-    /// does not allocate.
+    /// Whether the two are equal, or at least one is thinned and they are equal but for their
+    /// texts. It does not allocate.
     pub fn agrees(&self, other: &OpView<'_>) -> bool
         ensures { result ≡ agree self.now other.now }
     {
@@ -146,8 +146,8 @@ impl<'a> OpView<'a> {
         }
     }
 
-    /// Whether it and an operation that is not lent from the bytes are equal, or at least one of them
-    /// is thinned and they are equal but for their texts. It does not allocate.
+    /// Whether it and an operation that is not lent from the bytes are equal, or at least one of
+    /// them is thinned and they are equal but for their texts. It does not allocate.
     pub fn agrees_with(&self, op: &Op) -> bool
         ensures { result ≡ agree op.now self.now }
     {

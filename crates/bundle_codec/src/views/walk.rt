@@ -2,7 +2,8 @@
 ghost use Rattle.std.specs.Prelude.{◌≡◌, None, false, Ok, IsOk, IsTrue};
 ghost use Rattle.std.specs.Iterator.{YieldsFirst, item_count};
 ghost use Rattle.bundle_codec.specs.Reading.{operation_at, may_be_utf8};
-ghost use Rattle.bundle_codec.specs.Views.{lent, op_view, each_id_at, each_operation_at, operations_in};
+ghost use Rattle.bundle_codec.specs.Views.{lent, op_view, each_id_at, each_operation_at};
+ghost use Rattle.bundle_codec.specs.Views.{operations_in};
 
 use super::view::OpView;
 use crate::fault::BundleFault;

@@ -35,7 +35,8 @@ enclosed sheet e kind m = record {
   is_character = is_character_kind kind;
 }
 
--- a text that counts, without the number before it; whether attributes may end it is known when the next entry is met
+-- a text that counts, without the number before it; whether attributes may end it is known when the
+-- next entry is met
 abbrev pub counted : Enclosure → Option MarkParts → ℕ → List ℕ → Option Passage
 counted e before start bytes =
     let n = number_length before bytes in
@@ -66,8 +67,8 @@ abbrev pub milestone_end : MarkParts → Option (List ℕ) → Option MarkParts 
 milestone_end m None close = node_end (Some m) close
 milestone_end m (Some t) close = node_end None close
 
--- The leaves that a walk gives which has this still to meet, where nodes are open, a mark comes directly before, if any, and a text
--- waits, if any.
+-- The leaves that a walk gives which has this still to meet, where nodes are open, a mark comes
+-- directly before, if any, and a text waits, if any.
 abbrev pub gathered : List Record → List Enclosure → Option MarkParts → Option Passage → List Event
     → List Passage
 gathered sheet es before waiting [] = settled false waiting []

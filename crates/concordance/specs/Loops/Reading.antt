@@ -1,4 +1,5 @@
--- The plain leaves as one reading of the tree, from the left, and what is left of the pieces on the way.
+-- The plain leaves as one reading of the tree, from the left, and what is left of the pieces on the
+-- way.
 use Rattle.std.specs.Prelude.{ℕ, ◌+◌, ◌^◌, ◌<◌, Bool, true, ◌==◌, nat_le, nat_lt, not, ◌&&◌, ◌||◌}
 use Rattle.std.specs.Prelude.{List, [], ◌∷◌, ◌++◌, length, drop, Option, None, Some, is_some}
 use Rattle.std.specs.Prelude.{IsUtf8, if◌then◌else◌}
@@ -13,8 +14,8 @@ use Rattle.concordance.specs.Passages.{Passage}
 use Rattle.concordance.specs.Plain.{is_verse_text, is_aside, in_closed_character, is_nothing}
 use Rattle.concordance.specs.Plain.{node_end, mark_at_end, number_length, without_attributes}
 
--- What the nodes around a text say of it: one of them has the text of verses, one is a note or a milestone, and the innermost is a
--- character node that ends with its closing mark.
+-- What the nodes around a text say of it: one of them has the text of verses, one is a note or a
+-- milestone, and the innermost is a character node that ends with its closing mark.
 pub record Surroundings : Type 0 where
   pub in_verse_text : Bool
   pub in_aside : Bool

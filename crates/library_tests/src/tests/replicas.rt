@@ -1,4 +1,5 @@
-// Changes that are made together, and how many comparisons an operation costs a replica of many segments.
+// Changes that are made together, and how many comparisons an operation costs a replica of many
+// segments.
 use super::{apart, id_of, op_of, put, since, verse};
 use bundle_codec::{decode, encode};
 use op_core::{OpSet, ReplicaName};

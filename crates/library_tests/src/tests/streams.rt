@@ -1,13 +1,13 @@
-// Readers and writers of std that count their calls: a source and a sink make one call of them for each of their own, none after
-// the end, and none after an error, of whatever kind.
+// Readers and writers of std that count their calls: a source and a sink make one call of them for
+// each of their own, none after the end, and none after an error, of whatever kind.
 use std::alloc::Global;
 use std::io;
 use std::io::{ErrorKind, Read, Write};
 use std::test::Fail;
 use usfm_cli::{ByteSource, ReadFault, StdSink, StdSource, WriteFault, read_to_end, write_all};
 
-/// A reader and writer of std that counts its calls, moves at most `step` bytes a call, and fails at the
-/// call `fail_at`, counted from 1, alone.
+/// A reader and writer of std that counts its calls, moves at most `step` bytes a call, and fails
+/// at the call `fail_at`, counted from 1, alone.
 #[derive(Drop)]
 pub struct Counted<'a> {
     rest: &'a [u8],
@@ -99,8 +99,8 @@ const KINDS: [ErrorKind; 3] = [
     ErrorKind::WouldBlock,
 ];
 
-// What came of reading to the end, the counts of the source, and those of the reader below it: its calls
-// and its answers that are the end.
+// What came of reading to the end, the counts of the source, and those of the reader below it: its
+// calls and its answers that are the end.
 fn read_from(
     alloc: Global,
     reader: Counted<'_>,

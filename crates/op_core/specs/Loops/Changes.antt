@@ -54,8 +54,8 @@ abbrev pub TakesIn : Option Change → Option Register → Option Register → T
 TakesIn None before after = after ≡ before
 TakesIn (Some c) before after = Taken c before after
 
--- a register, if there is one, as operations make it where there was none: it shows what arrives and is not named, and misses
--- what is named and does not arrive
+-- a register, if there is one, as operations make it where there was none: it shows what arrives
+-- and is not named, and misses what is named and does not arrive
 pub record IsBegun (arrives is_named : Id → Bool) (r : Option Register) : Type 0 where
   pub shown_rises : IsTrue (ids_rise (shown_in r))
   pub shown : (q : Id) → is_among (shown_in r) q ≡ (arrives q && not (is_named q))

@@ -1,8 +1,8 @@
 // What searches carry along.
 ghost use Rattle.op_core.specs.Loops.Searches.{Counted};
 
-/// Where the last searches ended, so that the next may begin there, and how many comparisons of two ids or
-/// two segments were counted so far.
+/// Where the last searches ended, so that the next may begin there, and how many comparisons of two
+/// ids or two segments were counted so far.
 #[derive(Clone, Copy, Debug, Default)]
 pub(crate) struct Search {
     // The place among operations, among chapters, and among the registers of a chapter.

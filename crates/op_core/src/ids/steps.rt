@@ -5,8 +5,8 @@ ghost use Rattle.op_core.specs.Loops.Searches.{AnswersAs, Counted};
 
 use super::search::Search;
 
-/// Where a search in a rising list looks next: on from a first place by steps that grow, and by halves as soon
-/// as a step leads out of what is left.
+/// Where a search in a rising list looks next: on from a first place by steps that grow, and by
+/// halves as soon as a step leads out of what is left.
 #[derive(Clone, Copy, Debug)]
 pub(crate) struct Steps {
     next: usize,
@@ -24,7 +24,8 @@ impl Steps {
         }
     }
 
-    // From one place of this many on by steps that double. A place that is not far from it is found in a few looks.
+    // From one place of this many on by steps that double. A place that is not far from it is found
+    // in a few looks.
     pub(crate) fn near(at: usize, len: usize) -> Steps {
         Steps {
             next: at.min(len.saturating_sub(1)),
@@ -67,7 +68,8 @@ impl Steps {
     }
 }
 
-// How many items at the front a test holds of, where it holds of a first part alone. Each test is counted.
+// How many items at the front a test holds of, where it holds of a first part alone. Each test is
+// counted.
 pub(crate) fn place_by<T, P: Fn(&T) -> bool>(
     items: &[T],
     holds: P,

@@ -1,4 +1,5 @@
-// The ids that registers miss and no operation has. One that is missed in a segment may be held in another.
+// The ids that registers miss and no operation has. One that is missed in a segment may be held in
+// another.
 ghost use Rattle.std.specs.Prelude.{◌≡◌, ◌&&◌, ◌||◌, not, IsTrue, OnOk, OnErr};
 ghost use Rattle.std.specs.List.{list_any};
 ghost use Rattle.op_core.specs.Ids.{Id, same_id};

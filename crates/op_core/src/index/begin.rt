@@ -1,5 +1,5 @@
-// The index of operations where none is held. It is made aside, one segment after the other, and no register
-// is looked for in it, since none is there before its segment's turns come.
+// The index of operations where none is held. It is made aside, one segment after the other, and no
+// register is looked for in it, since none is there before its segment's turns come.
 ghost use Rattle.std.specs.Prelude.{◌≡◌, IsTrue, IfOk, Some};
 ghost use Rattle.op_core.specs.Sets as sets;
 ghost use Rattle.op_core.specs.Loops.Index.{IsIndex};

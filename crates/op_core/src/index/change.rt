@@ -1,5 +1,5 @@
-// What new operations change of what a segment shows and misses: four sets of ids, which follow from the
-// ids that arrive, those that are named, and what the segment showed and missed before.
+// What new operations change of what a segment shows and misses: four sets of ids, which follow
+// from the ids that arrive, those that are named, and what the segment showed and missed before.
 ghost use Rattle.std.specs.Prelude.{◌≡◌, ◌&&◌, not, IsTrue, IfOk};
 ghost use Rattle.usfm_ref.specs.Segments.{segment};
 ghost use Rattle.op_core.specs.Ids.{Id, ids_rise};
@@ -28,8 +28,8 @@ pub(crate) struct Change {
     pub(crate) found: Vec<OpId>,
 }
 
-/// Lists that changes are reckoned in, one segment after the other: the ids that arrive and those that
-/// are named, and what of each is not in the other.
+/// Lists that changes are reckoned in, one segment after the other: the ids that arrive and those
+/// that are named, and what of each is not in the other.
 #[derive(Debug, Drop)]
 pub(crate) struct Aside {
     pub(crate) arrived: Vec<OpId>,
@@ -50,9 +50,10 @@ impl Aside {
     }
 }
 
-// What changes at a register's segment as the arrived ids of `aside` come there, whose operations name the
-// named ids of `aside`. What arrives is shown if it is neither named nor was missed; what is named and is of
-// no operation there is missed. The lists that a register may keep take no more than they need.
+// What changes at a register's segment as the arrived ids of `aside` come there, whose operations
+// name the named ids of `aside`. What arrives is shown if it is neither named nor was missed; what
+// is named and is of no operation there is missed. The lists that a register may keep take no more
+// than they need.
 pub(crate) fn change_of(
     alloc: Global,
     held: &[Op],

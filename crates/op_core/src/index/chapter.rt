@@ -69,8 +69,8 @@ pub(crate) fn put_register(
     Ok(())
 }
 
-// Makes room for one register more. A list that is full grows by a quarter, since a set's registers take
-// nearly as much as its operations beside their texts, and half of that would be empty room.
+// Makes room for one register more. A list that is full grows by a quarter, since a set's registers
+// take nearly as much as its operations beside their texts, and half of that would be empty room.
 fn reserve_register(registers: &mut Vec<Register>) -> Result<(), AllocError>
     ensures items { registers.new.items ≡ registers.old.items }
     ensures room { OnOk result (vec_len registers.new < vec_capacity registers.new) }
@@ -81,7 +81,8 @@ fn reserve_register(registers: &mut Vec<Register>) -> Result<(), AllocError>
     registers.reserve_exact(1 + registers.len() / 4)
 }
 
-// What changes in the register of a key as the arrived ids of `aside` come there, and the room for that.
+// What changes in the register of a key as the arrived ids of `aside` come there, and the room for
+// that.
 pub(crate) fn ready_at_key(
     registers: &mut Vec<Register>,
     alloc: Global,

@@ -7,8 +7,8 @@ use super::register::Register;
 use std::marker::Model;
 use usfm_ref::{Book, Key};
 
-/// The keys of a book with an operation, in ascending order, each once. Made by `OpSet::keys`; it does
-/// not allocate.
+/// The keys of a book with an operation, in ascending order, each once. Made by `OpSet::keys`; it
+/// does not allocate.
 #[derive(Debug, Drop)]
 pub struct Keys<'a> {
     book: Book,

@@ -24,8 +24,8 @@ use usfm_ref::{Key, Segment};
 // Fewer new segments are put in where they come: going over the lists would cost more.
 const FEW: usize = 16;
 
-// Puts in registers, and chapters for them, at the segments of the turns, where many have none. What the
-// index keeps stays, also where an allocation failed.
+// Puts in registers, and chapters for them, at the segments of the turns, where many have none.
+// What the index keeps stays, also where an allocation failed.
 #[tactic(auto, using(crate::proofs::Laid::lays_same, crate::proofs::Laid::lays_more))]
 pub(crate) fn lay_out(
     chapters: &mut Vec<Chapter>,
@@ -169,8 +169,9 @@ fn chapter_len(segments: &[Segment], search: &mut Search) -> usize
     segments.len()
 }
 
-// Puts in the chapters of the segments that are not there. Both lists have room for what is there: what is
-// after each new chapter goes to the tail, the last first, and at last from there to the end of the list.
+// Puts in the chapters of the segments that are not there. Both lists have room for what is there:
+// what is after each new chapter goes to the tail, the last first, and at last from there to the
+// end of the list.
 fn merge_chapters(
     chapters: &mut Vec<Chapter>,
     alloc: Global,

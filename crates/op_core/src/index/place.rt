@@ -18,8 +18,8 @@ use crate::ids::search::Search;
 use crate::ids::steps::{Steps, place_by};
 use usfm_ref::{Key, Segment};
 
-// How many chapters at the front are before the one of a segment. The search begins where the last one
-// ended.
+// How many chapters at the front are before the one of a segment. The search begins where the last
+// one ended.
 pub(crate) fn place_chapter(chapters: &[Chapter], segment: &Segment, search: &mut Search) -> usize
     requires rising { IsTrue (rises_by segment_cmp home_of chapters.now) }
     ensures place { result ≡ position_or_len

@@ -4,8 +4,10 @@ ghost use Rattle.std.specs.Prelude.{◌≡◌, IsTrue, IfOk};
 ghost use Rattle.op_core.specs.Ids.{ids_rise};
 ghost use Rattle.op_core.specs.Sets as sets;
 ghost use Rattle.op_core.specs.NextIds.{is_among};
-ghost use Rattle.op_core.specs.Loops.Index.{IsOrderly, IsIndex, register_of, shown_in, missing_in, is_there};
-ghost use Rattle.op_core.specs.Loops.Index.{IsAt, IsSameBut, IsChangeOf, IsRisingChange, HasRoomIn, Readies};
+ghost use Rattle.op_core.specs.Loops.Index.{IsOrderly, IsIndex, register_of, shown_in, missing_in};
+ghost use Rattle.op_core.specs.Loops.Index.{is_there};
+ghost use Rattle.op_core.specs.Loops.Index.{IsAt, IsSameBut, IsChangeOf, IsRisingChange, HasRoomIn};
+ghost use Rattle.op_core.specs.Loops.Index.{Readies};
 ghost use Rattle.op_core.specs.Loops.Turns.{never_fall, comes, is_called};
 ghost use Rattle.op_core.specs.Loops.Changes.{AreChanges, AllHaveRoom};
 
@@ -85,8 +87,8 @@ fn ready_run(
     ready(chapters, alloc, held, segment, aside, search)
 }
 
-// What changes at a segment, which has a register, as the arrived ids of `aside` come there, and the room
-// for that.
+// What changes at a segment, which has a register, as the arrived ids of `aside` come there, and
+// the room for that.
 fn ready(
     chapters: &mut Vec<Chapter>,
     alloc: Global,

@@ -1,4 +1,5 @@
-ghost use Rattle.std.specs.Prelude.{◌≡◌, ◌<◌, ◌≤◌, ◌+◌, IsTrue, [], OnOk, IfOk, vec_len, vec_capacity};
+ghost use Rattle.std.specs.Prelude.{◌≡◌, ◌<◌, ◌≤◌, ◌+◌, IsTrue, [], OnOk, IfOk, vec_len};
+ghost use Rattle.std.specs.Prelude.{vec_capacity};
 ghost use Rattle.usfm_ref.specs.Keys.{key_cmp};
 ghost use Rattle.usfm_ref.specs.Segments.{segment};
 ghost use Rattle.op_core.specs.Ids.{ids_rise};
@@ -45,8 +46,8 @@ impl Register {
         self.key.cmp(&key)
     }
 
-    // What changes in it as the arrived ids of `aside` come to its segment, whose operations name the
-    // named ids of `aside`. It gets the room for that.
+    // What changes in it as the arrived ids of `aside` come to its segment, whose operations name
+    // the named ids of `aside`. It gets the room for that.
     pub(crate) fn ready(
         &mut self,
         alloc: Global,
@@ -88,7 +89,8 @@ impl Register {
     }
 }
 
-// Makes room for this many ids more. A list that is empty needs none: other ids come as a list of their own.
+// Makes room for this many ids more. A list that is empty needs none: other ids come as a list of
+// their own.
 fn make_room(ids: &mut Vec<OpId>, more: usize) -> Result<(), AllocError>
     ensures items { ids.new.items ≡ ids.old.items }
     ensures len { vec_len ids.new ≡ vec_len ids.old }

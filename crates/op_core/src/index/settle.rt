@@ -5,7 +5,8 @@ ghost use Rattle.usfm_ref.specs.Segments.{segment_cmp};
 ghost use Rattle.usfm_ref.specs.declared.segment.Segment.{Segment};
 ghost use Rattle.usfm_ref.specs.Rising.{rises_by};
 ghost use Rattle.op_core.specs.Ids.{ids_rise};
-ghost use Rattle.op_core.specs.Loops.Index.{register_of, shown_in, missing_in, change_at, IsOrderly, IsAt, Takes};
+ghost use Rattle.op_core.specs.Loops.Index.{register_of, shown_in, missing_in, change_at};
+ghost use Rattle.op_core.specs.Loops.Index.{IsOrderly, IsAt, Takes};
 ghost use Rattle.op_core.specs.Loops.Index.{HasRoomIn, IsRisingChange};
 ghost use Rattle.op_core.specs.Loops.Changes.{AllHaveRoom, Settles};
 

@@ -9,8 +9,8 @@ use crate::operations::op::Op;
 use std::marker::Model;
 
 /// Finds the operations of a set by their ids, lent from it. Made by `OpSet::finder`; it does not
-/// allocate. It begins each search where the last one ended, so that an id that comes directly after
-/// the last one costs three comparisons at most; in any order it answers alike.
+/// allocate. It begins each search where the last one ended, so that an id that comes directly
+/// after the last one costs three comparisons at most; in any order it answers alike.
 #[derive(Debug, Drop)]
 pub struct Finder<'a> {
     ops: &'a [Op],

@@ -1,5 +1,6 @@
 // Two rising lists of operations, walked side by side.
-ghost use Rattle.std.specs.Prelude.{◌≡◌, ◌<◌, ◌+◌, ◌≤◌, OnOk, IfOk, [], ◌++◌, IsTrue, is_none, length};
+ghost use Rattle.std.specs.Prelude.{◌≡◌, ◌<◌, ◌+◌, ◌≤◌, OnOk, IfOk, [], ◌++◌, IsTrue, is_none};
+ghost use Rattle.std.specs.Prelude.{length};
 ghost use Rattle.std.specs.Prelude.{filter, take, drop, reverse, vec_len, vec_capacity};
 ghost use Rattle.std.specs.List.{AllByRecursion, list_any};
 ghost use Rattle.op_core.specs.Ops.{IsOperation};
@@ -82,7 +83,8 @@ pub(crate) fn place_first(held: &[Op], new: &[Op], search: &mut Search) -> usize
     }
 }
 
-// Looks at each operation, which shows that it is within its ranges. Nothing of it is left in the program.
+// Looks at each operation, which shows that it is within its ranges. Nothing of it is left in the
+// program.
 pub(crate) fn look_at_each(new: &[Op])
     ensures { AllByRecursion IsOperation new.now }
 {
@@ -91,8 +93,8 @@ pub(crate) fn look_at_each(new: &[Op])
     }
 }
 
-// Makes room for this many operations more. An empty list needs none: the list of the new ones takes its
-// place.
+// Makes room for this many operations more. An empty list needs none: the list of the new ones
+// takes its place.
 pub(crate) fn reserve_ops(ops: &mut Vec<Op>, count: usize) -> Result<(), AllocError>
     ensures items { ops.new.items ≡ ops.old.items }
     ensures len { vec_len ops.new ≡ vec_len ops.old }
@@ -105,8 +107,8 @@ pub(crate) fn reserve_ops(ops: &mut Vec<Op>, count: usize) -> Result<(), AllocEr
     ops.reserve(count)
 }
 
-// An empty list with room for this many new operations and what is after the first of them. Where nothing is
-// after it, none is needed.
+// An empty list with room for this many new operations and what is after the first of them. Where
+// nothing is after it, none is needed.
 pub(crate) fn tail_of(
     alloc: Global,
     len: usize,
@@ -123,8 +125,8 @@ pub(crate) fn tail_of(
     Vec::with_capacity(alloc, room)
 }
 
-// Merges new operations, none of whose ids is held, into a rising list. There is room for them, and in
-// `tail` for them and for what is after the first of them.
+// Merges new operations, none of whose ids is held, into a rising list. There is room for them, and
+// in `tail` for them and for what is after the first of them.
 pub(crate) fn merge(
     ops: &mut Vec<Op>,
     mut new: Vec<Op>,
@@ -151,8 +153,8 @@ pub(crate) fn merge(
     }
 }
 
-// Merges new operations into a rising list from the back: what is after each of them goes to the tail, the last
-// first, and at last from there to the end of the list.
+// Merges new operations into a rising list from the back: what is after each of them goes to the
+// tail, the last first, and at last from there to the end of the list.
 fn interleave(
     ops: &mut Vec<Op>,
     mut new: Vec<Op>,

@@ -6,8 +6,8 @@ ghost use Rattle.op_core.specs.Shown.{chapter_line};
 use arrayvec::ArrayString;
 use std::marker::Model;
 
-/// The most bytes of a short line: nine in front, as of `fault 51 `, then an id's number of 16 digits, a
-/// space, its name of 32 bytes and a line feed.
+/// The most bytes of a short line: nine in front, as of `fault 51 `, then an id's number of 16
+/// digits, a space, its name of 32 bytes and a line feed.
 pub const MOST_LINE_BYTES: usize = 59;
 
 /// A line of at most 59 bytes, in a value of fixed size. Its calls do not allocate.
@@ -52,7 +52,8 @@ impl ShortLine {
         self.text.push_str(text);
     }
 
-    /// Appends a number in decimal, without leading zeros. The line has to stay within `MOST_LINE_BYTES`.
+    /// Appends a number in decimal, without leading zeros. The line has to stay within
+    /// `MOST_LINE_BYTES`.
     pub fn push_number(&mut self, number: u64)
         requires { length self.old + length (decimal number) ≤ MOST_LINE_BYTES }
         ensures appended { self.new ≡ self.old ++ decimal number }
@@ -74,8 +75,8 @@ impl ShortLine {
     }
 }
 
-/// The line of a chapter's head that has none: `\c`, a space, the number and a line feed. It does not
-/// allocate.
+/// The line of a chapter's head that has none: `\c`, a space, the number and a line feed. It does
+/// not allocate.
 pub fn chapter_line(chapter: u16) -> ShortLine
     ensures { result ≡ chapter_line chapter }
 {

@@ -13,8 +13,8 @@ use std::alloc::{AllocError, Global};
 use std::marker::Model;
 use usfm_ref::{Book, Key, Segment};
 
-/// One text for one segment, with its id and the ids of the operations of that segment that it replaces.
-/// The text fits the segment's book and key. A thinned operation is kept without it.
+/// One text for one segment, with its id and the ids of the operations of that segment that it
+/// replaces. The text fits the segment's book and key. A thinned operation is kept without it.
 #[derive(Debug, Drop)]
 pub struct Op {
     id: OpId,
@@ -70,8 +70,8 @@ impl Op {
         }
     }
 
-    /// The operation of these parts whose text is left out. The replaced ids have to rise, each with
-    /// a smaller number than the operation's.
+    /// The operation of these parts whose text is left out. The replaced ids have to rise, each
+    /// with a smaller number than the operation's.
     pub fn thinned(id: OpId, book: Book, key: Key, replaced: Vec<OpId>) -> Op
         requires falls { IsTrue (ids.names_fall id replaced.items) }
         ensures { result ≡ record {
@@ -240,8 +240,8 @@ fn same_ids(left: &[OpId], right: &[OpId]) -> bool
     left == right
 }
 
-// Looks at the parts of an operation: a proof knows that a value is within its ranges once it was looked at.
-// Nothing of it is left in the program.
+// Looks at the parts of an operation: a proof knows that a value is within its ranges once it was
+// looked at. Nothing of it is left in the program.
 fn look_at_parts(id: &OpId, book: &Book, key: &Key, replaced: &[OpId])
     ensures id { IsTrue (ids.is_id id.now) }
     ensures segment { IsTrue (ops.is_segment (segment book.now key.now)) }

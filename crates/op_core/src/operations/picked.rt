@@ -7,6 +7,7 @@ pub enum Picked<'a> {
     Nothing,
     /// The shown operation with the greatest id. Its text may be empty.
     Held(&'a Op),
-    /// The line `\c N` of chapter N, for a head without a text where a verse of the chapter has one.
+    /// The line `\c N` of chapter N, for a head without a text where a verse of the chapter has
+    /// one.
     ChapterLine(u16),
 }

@@ -45,7 +45,8 @@ impl OpSet {
         }
     }
 
-    // Leaves out the texts of the operations of some ids, each of which a held operation of its segment names.
+    // Leaves out the texts of the operations of some ids, each of which a held operation of its
+    // segment names.
     pub(super) fn leave_texts(&mut self, ids: &[OpId])
         requires past { thinned.ArePast (next_ids.is_among ids.now) self.old }
         ensures { self.new ≡ thinned.thin_where (next_ids.is_among ids.now) self.old }

@@ -21,13 +21,13 @@ use Rattle.op_core.specs.NextIds.{is_among, greatest_number}
 use Rattle.op_core.specs.Export.{of_book, has_book}
 use Rattle.op_core.specs.Thinned.{StandsFor}
 use Rattle.op_core.specs.ThinLaws.{AnswersSame}
-use Rattle.op_core.proofs.Alike.{picks_same, answers_same}
-use Rattle.op_core.proofs.Bare.{any_same, told_same, ids_same, held_same}
-use Rattle.op_core.proofs.Clashes.{get_id}
-use Rattle.op_core.proofs.Gets.{all_from}
-use Rattle.op_core.proofs.NextIds.{beyond}
-use Rattle.op_core.proofs.NoClash.{no_clash}
-use Rattle.op_core.proofs.StandIns.{full_stands, join_stands}
+use Rattle.op_core.proofs.ThinnedSets.Alike.{picks_same, answers_same}
+use Rattle.op_core.proofs.ThinnedSets.Bare.{any_same, told_same, ids_same, held_same}
+use Rattle.op_core.proofs.Sets.Clashes.{get_id}
+use Rattle.op_core.proofs.Sets.Gets.{all_from}
+use Rattle.op_core.proofs.IdOrders.NextIds.{beyond}
+use Rattle.op_core.proofs.Sets.NoClash.{no_clash}
+use Rattle.op_core.proofs.ThinnedSets.StandIns.{full_stands, join_stands}
 use Rattle.bundle_codec.specs.Summaries.{summary_of, ranges_of}
 use Rattle.replica_state.specs.declared.fault.EditFault.{EditFault}
 use Rattle.replica_state.specs.declared.fault.EditFault.TheVariants.{BadSegment, NoBook, NotShown}
@@ -41,7 +41,7 @@ use Rattle.replica_state.specs.Imports.{piece_at, piece_of, has_verse}
 use Rattle.replica_state.specs.Imports.{due_keys, due_changes, import_into, import_ops}
 use Rattle.replica_state.specs.Steps.{Received, edited, imported, received}
 use Rattle.replica_state.specs.World.{edit_made, edits_made}
-use Rattle.op_core.proofs.Awaited.{held-get}
+use Rattle.op_core.proofs.Indexed.Awaited.{held-get}
 use Rattle.replica_state.proofs.World.Next.{AreNext}
 
 -- the replica of a name that holds a set

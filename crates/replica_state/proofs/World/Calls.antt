@@ -7,7 +7,7 @@ use Rattle.op_core.specs.Ops.{Operation}
 use Rattle.op_core.specs.Sets.{rises, clash}
 use Rattle.op_core.specs.Lists.{is_held}
 use Rattle.op_core.specs.Thinned.{is_legal, is_sent, of_ids}
-use Rattle.op_core.proofs.Legal.{delta_legal}
+use Rattle.op_core.proofs.Sets.Legal.{delta_legal}
 use Rattle.bundle_codec.specs.Spelling.{bundle}
 use Rattle.bundle_codec.specs.Summaries.{NameRanges, covers, outside}
 use Rattle.replica_state.specs.declared.fault.ReceiveFault.{ReceiveFault}

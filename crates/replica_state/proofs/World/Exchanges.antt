@@ -13,11 +13,11 @@ use Rattle.op_core.specs.Ops.{Operation, bare, names}
 use Rattle.op_core.specs.Sets.{rises, get, join}
 use Rattle.op_core.specs.Lists.{is_held}
 use Rattle.op_core.specs.Thinned.{is_legal, is_sent, skeleton, of_ids, delta, StandsFor}
-use Rattle.op_core.proofs.Bare.{held_same as ids_held}
-use Rattle.op_core.proofs.Clashes.{get_id}
-use Rattle.op_core.proofs.Groupings.{get_bare}
-use Rattle.op_core.proofs.Legal.{delta_legal}
-use Rattle.op_core.proofs.Union.{same_gets}
+use Rattle.op_core.proofs.ThinnedSets.Bare.{held_same as ids_held}
+use Rattle.op_core.proofs.Sets.Clashes.{get_id}
+use Rattle.op_core.proofs.Sets.Groupings.{get_bare}
+use Rattle.op_core.proofs.Sets.Legal.{delta_legal}
+use Rattle.op_core.proofs.Sets.Union.{same_gets}
 use Rattle.bundle_codec.specs.Summaries.{summary_of, covers, outside}
 use Rattle.bundle_codec.proofs.Told.{covers_its_ids}
 use Rattle.replica_state.specs.World.{Event, Bundles, Receives, world, replica_name, is_apart}
@@ -26,7 +26,7 @@ use Rattle.replica_state.specs.World.Exchanges.{HoldUnion, Request, Whole, Lacki
 use Rattle.replica_state.specs.World.Exchanges.{IsBefore, hearing, bundled, wanted, IsAsked, Hears, heard, IsRelay}
 use Rattle.replica_state.specs.World.Agreement.{HoldsAll, EndsInRelays}
 use Rattle.replica_state.proofs.World.Flights.{apart, all_apart, all_both, all_parts, bundles_stay}
-use Rattle.op_core.proofs.Awaited.{held-get}
+use Rattle.op_core.proofs.Indexed.Awaited.{held-get}
 use Rattle.replica_state.proofs.World.Held.{join_left, join_right, held_at, at_held, delta_holds}
 use Rattle.replica_state.proofs.World.Held.{delta_joins, join_turned, join_back, same_delta, of_its_ids, all_ids}
 use Rattle.replica_state.proofs.World.Moments.{the_twin, whole, holds_of, InFull, of_bare, stands, one_in_twin, found_whole}

@@ -9,14 +9,14 @@ use Rattle.op_core.specs.Sets.{rises, get, join, meet, meet_text, met, clash}
 use Rattle.op_core.specs.Lists.{is_held, ids_of}
 use Rattle.op_core.specs.NextIds.{is_among}
 use Rattle.op_core.specs.Thinned.{skeleton, of_ids, delta, is_sent}
-use Rattle.op_core.proofs.Agreement.{Agree, agree_itself}
-use Rattle.op_core.proofs.Bare.{rises_bare}
-use Rattle.op_core.proofs.Clashes.{get_id}
-use Rattle.op_core.proofs.Filters.{rises-filter, filter_within, filter_passes, filter_kept}
-use Rattle.op_core.proofs.Groupings.{get_bare}
-use Rattle.op_core.proofs.NoClash.{no_clash}
-use Rattle.op_core.proofs.Union.{same_gets, get-join, rises-join}
-use Rattle.op_core.proofs.Awaited.{held-get}
+use Rattle.op_core.proofs.Sets.Agreement.{Agree, agree_itself}
+use Rattle.op_core.proofs.ThinnedSets.Bare.{rises_bare}
+use Rattle.op_core.proofs.Sets.Clashes.{get_id}
+use Rattle.op_core.proofs.Sets.Filters.{rises-filter, filter_within, filter_passes, filter_kept}
+use Rattle.op_core.proofs.Sets.Groupings.{get_bare}
+use Rattle.op_core.proofs.Sets.NoClash.{no_clash}
+use Rattle.op_core.proofs.Sets.Union.{same_gets, get-join, rises-join}
+use Rattle.op_core.proofs.Indexed.Awaited.{held-get}
 
 -- ---- the union with a set that has every text
 
@@ -61,6 +61,7 @@ equal_no_clash xs ys h same = no_clash xs ys h (λ q x y gx gy. subst (Agree x) 
 
 -- ---- whether an id is held
 
+-- a held id has an operation
 pub held_at : (ops : List Operation) (q : Id) → is_held ops q ≡ true → (o : Operation) × (get ops q ≡ Some o)
 held_at ops q h = by (get ops q) refl
   where
@@ -68,6 +69,7 @@ held_at ops q h = by (get ops q) refl
     by (Some o) e = (o, e)
     by None e = absurd (false≢true (sym (held-get ops q ∙ ap is_some e) ∙ h))
 
+-- an id with an operation is held
 pub at_held : (ops : List Operation) (q : Id) (o : Operation) → get ops q ≡ Some o → is_held ops q ≡ true
 at_held ops q o g = held-get ops q ∙ ap is_some g
 

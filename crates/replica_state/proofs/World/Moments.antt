@@ -12,10 +12,10 @@ use Rattle.op_core.specs.Ops.{Operation, is_full, bare, with_text, agree, texts_
 use Rattle.op_core.specs.Sets.{get}
 use Rattle.op_core.specs.NextIds.{greatest_number}
 use Rattle.op_core.specs.Thinned.{skeleton, StandsFor, IsOf}
-use Rattle.op_core.proofs.Agreement.{Agree, agree-from, agree_itself}
-use Rattle.op_core.proofs.Clashes.{get_id}
-use Rattle.op_core.proofs.Families.{stands_of}
-use Rattle.op_core.proofs.Groupings.{get_bare}
+use Rattle.op_core.proofs.Sets.Agreement.{Agree, agree-from, agree_itself}
+use Rattle.op_core.proofs.Sets.Clashes.{get_id}
+use Rattle.op_core.proofs.Sets.Families.{stands_of}
+use Rattle.op_core.proofs.Sets.Groupings.{get_bare}
 use Rattle.replica_state.specs.World.{World, Event, world, replica_name}
 use Rattle.replica_state.specs.World.Twin.{twin}
 use Rattle.replica_state.specs.World.Schedules.{Holds, HoldsAs, Makes, Where, At, Within, found, in_bundle, IsMade, IsOrThinned, IsChain}

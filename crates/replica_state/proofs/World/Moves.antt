@@ -11,10 +11,10 @@ use Rattle.op_core.specs.Ops.{Operation, is_full}
 use Rattle.op_core.specs.Sets.{rises, get, join, clash}
 use Rattle.op_core.specs.NextIds.{greatest_number}
 use Rattle.op_core.specs.Thinned.{is_legal, of_ids}
-use Rattle.op_core.proofs.Clashes.{get_id}
-use Rattle.op_core.proofs.Filters.{filter_within, rises-filter}
-use Rattle.op_core.proofs.NextIds.{beyond}
-use Rattle.op_core.proofs.Union.{rises-join}
+use Rattle.op_core.proofs.Sets.Clashes.{get_id}
+use Rattle.op_core.proofs.Sets.Filters.{filter_within, rises-filter}
+use Rattle.op_core.proofs.IdOrders.NextIds.{beyond}
+use Rattle.op_core.proofs.Sets.Union.{rises-join}
 use Rattle.replica_state.specs.declared.fault.EditFault.{EditFault}
 use Rattle.replica_state.specs.declared.fault.ImportFault.{ImportFault}
 use Rattle.replica_state.specs.Edits.{edit_op, edit_over_op}

@@ -14,9 +14,9 @@ use Rattle.op_core.specs.Sets.{rises, get}
 use Rattle.op_core.specs.Shown.{is_shown, is_replaced}
 use Rattle.op_core.specs.Lists.{is_held, shown_ids}
 use Rattle.op_core.specs.NextIds.{is_among, given_ids, greatest_number, next_number}
-use Rattle.op_core.proofs.Clashes.{get_cases}
-use Rattle.op_core.proofs.Gets.{AnyHeld, any_held}
-use Rattle.op_core.proofs.NextIds.{beyond, shown_fall}
+use Rattle.op_core.proofs.Sets.Clashes.{get_cases}
+use Rattle.op_core.proofs.Sets.Gets.{AnyHeld, any_held}
+use Rattle.op_core.proofs.IdOrders.NextIds.{beyond, shown_fall}
 use Rattle.replica_state.specs.declared.fault.EditFault.{EditFault}
 use Rattle.replica_state.specs.declared.fault.ImportFault.TheVariants.{NumbersUsedUp}
 use Rattle.replica_state.specs.States.{State}

@@ -30,7 +30,7 @@ use Rattle.verse_cut.proofs.Quiet.{by_key}
 -- ---- texts
 
 -- where the second of two byte strings begins with a backslash, they can be parted there
-parted : (a b : List ℕ) → IsUtf8 (a ++ b) → BeginsMark b → IsUtf8 a × IsUtf8 b
+pub parted : (a b : List ℕ) → IsUtf8 (a ++ b) → BeginsMark b → IsUtf8 a × IsUtf8 b
 parted a [] h m = (subst IsUtf8 (append-nil a) h, IsUtf8-nil)
 parted a (x ∷ b) h m =
     let byte : x ≡ 92 = m (omega arith) in
@@ -121,6 +121,7 @@ later_keys g at (t ∷ ts) h =
         turn true = (is k refl, other k (is k refl))
         turn false = same
 
+-- the keys of the pieces of a text are keys
 pub pieces_have_keys : (text : List ℕ) → AllByRecursion (λ (p : PieceParts). IsKey p.key) (pieces_of text)
 unfolding cut_of
 pieces_have_keys text = subst HaveKeys (cut_is_read text) (refl, later_keys book_head 0 (tokens_of text) refl)

@@ -9,8 +9,8 @@ use Rattle.usfm_ref.proofs.Orders.{same_bytes-is}
 use Rattle.op_core.specs.Ids.{Id}
 use Rattle.op_core.specs.Ops.{Operation}
 use Rattle.op_core.specs.Sets.{get}
-use Rattle.op_core.proofs.Clashes.{get_id}
-use Rattle.op_core.proofs.Union.{same_gets}
+use Rattle.op_core.proofs.Sets.Clashes.{get_id}
+use Rattle.op_core.proofs.Sets.Union.{same_gets}
 use Rattle.replica_state.specs.World.{World, Event, Edits, EditsOver, Imports, Thins, Summarizes, Bundles, Receives}
 use Rattle.replica_state.specs.World.{ReceivesCut, FindsNoMemory, world, made, replica_name, edits_at, is_exchange}
 use Rattle.replica_state.specs.World.Schedules.{Makes, Where, At, Within, found, in_bundle, IsMade}

@@ -29,8 +29,8 @@ use Rattle.op_core.specs.NextIds.{is_among}
 use Rattle.op_core.specs.Equal.{same_id-refl}
 use Rattle.op_core.specs.Export.{of_book, has_book, keys_in}
 use Rattle.op_core.specs.Thinned.{StandsFor}
-use Rattle.op_core.proofs.Clashes.{get_cases, get_id}
-use Rattle.op_core.proofs.Gets.{all_held}
+use Rattle.op_core.proofs.Sets.Clashes.{get_cases, get_id}
+use Rattle.op_core.proofs.Sets.Gets.{all_held}
 use Rattle.replica_state.specs.declared.fault.EditFault.{EditFault}
 use Rattle.replica_state.specs.declared.fault.EditFault.TheVariants.{BadSegment, NoBook}
 use Rattle.replica_state.specs.declared.fault.ImportFault.TheVariants.{NumbersUsedUp}
@@ -63,12 +63,14 @@ module _ {A : Type 0} (P : A → Type 0) where
   all_append [] ys h k = k
   all_append (x ∷ xs) ys h k = (h.0, all_append xs ys h.1 k)
 
+-- what follows of each item from what it was made of
 all_map : {A B : Type 0} (P : A → Type 0) (Q : B → Type 0) (f : A → B) → ((x : A) → P x → Q (f x)) → (xs : List A)
     → AllByRecursion P xs → AllByRecursion Q (map f xs)
 all_map P Q f on [] h = tt
 all_map P Q f on (x ∷ xs) h = (on x h.0, all_map P Q f on xs h.1)
 
-abbrev AreKeys : List KeyParts → Type 0
+-- each is within its ranges
+abbrev pub AreKeys : List KeyParts → Type 0
 AreKeys ks = AllByRecursion IsKey ks
 
 key_item : (k : KeyParts) (ks : List KeyParts) → IsKey k → AreKeys ks → AreKeys (with_item key_cmp k ks)
@@ -97,20 +99,23 @@ held_keys held book h =
 head_key : (k : KeyParts) → IsKey k → IsKey (head_of k)
 head_key k h = and_from (nat_le k.chapter 999) true (and_parts (nat_le k.chapter 999) _ h).0 refl
 
-walked_are_keys : (held : List Operation) (book file : List ℕ) → AllByRecursion IsOperation held →
-    AreKeys (walked_keys held book (pieces_of file))
-walked_are_keys held book file h =
+-- the keys that are walked are within their ranges, where those of the pieces are
+pub walked_are_keys : (held : List Operation) (book : List ℕ) (pieces : List PieceParts) → AllByRecursion IsOperation held
+    → AllByRecursion (λ (p : PieceParts). IsKey p.key) pieces → AreKeys (walked_keys held book pieces)
+walked_are_keys held book pieces h g =
     let keys = held_keys held book h in
     keys_rising _ (all_append IsKey (map head_of (keys_of held book)) _ (all_map IsKey IsKey head_of head_key (keys_of held book) keys)
     (all_append IsKey (keys_of held book) _ keys
-    (all_map (λ (p : PieceParts). IsKey p.key) IsKey (λ p. p.key) (λ p is. is) (pieces_of file) (pieces_have_keys file))))
+    (all_map (λ (p : PieceParts). IsKey p.key) IsKey (λ p. p.key) (λ p is. is) pieces g)))
 
 due_are_keys : (held : List Operation) (book file : List ℕ) → AllByRecursion IsOperation held →
     AreKeys (due_keys held book (pieces_of file))
 due_are_keys held book file h =
-    all_filter IsKey (is_due held book (pieces_of file)) (walked_keys held book (pieces_of file)) (walked_are_keys held book file h)
+    all_filter IsKey (is_due held book (pieces_of file)) (walked_keys held book (pieces_of file))
+    (walked_are_keys held book (pieces_of file) h (pieces_have_keys file))
 
-text_at : (ps : List PieceParts) (key : KeyParts) → AllByRecursion (λ (p : PieceParts). IsUtf8 p.text) ps → IsUtf8 (piece_at ps key)
+-- of pieces that are UTF-8, what is at a key is, perhaps nothing
+pub text_at : (ps : List PieceParts) (key : KeyParts) → AllByRecursion (λ (p : PieceParts). IsUtf8 p.text) ps → IsUtf8 (piece_at ps key)
 text_at [] key h = IsUtf8-nil
 text_at (p ∷ ps) key h = by (is_eq (key_cmp key p.key)) (text_at ps key h.1)
   where

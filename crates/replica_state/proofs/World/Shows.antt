@@ -12,9 +12,9 @@ use Rattle.op_core.specs.NextIds.{is_among}
 use Rattle.op_core.specs.Equal.{same_id-refl}
 use Rattle.op_core.specs.Thinned.{skeleton, StandsFor}
 use Rattle.op_core.specs.ThinLaws.{AnswersSame}
-use Rattle.op_core.proofs.Alike.{picks_same, answers_same}
-use Rattle.op_core.proofs.Gets.{any_held}
-use Rattle.op_core.proofs.StandIns.{shows_same, thin_stands}
+use Rattle.op_core.proofs.ThinnedSets.Alike.{picks_same, answers_same}
+use Rattle.op_core.proofs.Sets.Gets.{any_held}
+use Rattle.op_core.proofs.ThinnedSets.StandIns.{shows_same, thin_stands}
 use Rattle.replica_state.specs.declared.fault.EditFault.{EditFault}
 use Rattle.replica_state.specs.declared.fault.ImportFault.{ImportFault}
 use Rattle.replica_state.specs.States.{State}

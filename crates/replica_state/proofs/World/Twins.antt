@@ -7,7 +7,7 @@ use Rattle.op_core.specs.Ids.{Id}
 use Rattle.op_core.specs.Ops.{Operation}
 use Rattle.op_core.specs.Sets.{get, clash}
 use Rattle.op_core.specs.Thinned.{is_legal, of_ids, thin, StandsFor}
-use Rattle.op_core.proofs.StandIns.{join_stands, thin_stands, full_stands, subset_stands}
+use Rattle.op_core.proofs.ThinnedSets.StandIns.{join_stands, thin_stands, full_stands, subset_stands}
 use Rattle.replica_state.specs.Edits.{edit_op, edit_over_op}
 use Rattle.replica_state.specs.Imports.{import_ops}
 use Rattle.replica_state.specs.Steps.{Receive, step, edited, imported}

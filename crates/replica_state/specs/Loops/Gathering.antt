@@ -10,8 +10,8 @@ use Rattle.replica_state.specs.declared.fault.ReceiveFault.TheVariants.{Memory, 
 abbrev pub by_id : List Operation → List (Id × Operation)
 by_id ops = map (λ o. (o.id, o)) ops
 
--- An operation is refused with its id where it does not agree with the one that is held under it, and as out of memory
--- only where none is held.
+-- An operation is refused with its id where it does not agree with the one that is held under it,
+-- and as out of memory only where none is held.
 abbrev pub RefusesOne : List Operation → Operation → ReceiveFault → Type 0
 RefusesOne held o Memory = get held o.id ≡ None
 RefusesOne held o (Clash id) = (id ≡ o.id) × (differs (get held o.id) o ≡ true)

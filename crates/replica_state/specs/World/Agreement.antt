@@ -15,8 +15,8 @@ use Rattle.replica_state.specs.World.{Event, world, edits_at, is_exchange}
 use Rattle.replica_state.specs.World.Schedules.{Holds, IsMade}
 use Rattle.replica_state.specs.World.Exchanges.{Hearing, IsRelay}
 
--- What two sets show and answer alike: they are equal but for texts left out, and each segment shows and picks the same.
--- Among the answers are the exports of all books.
+-- What two sets show and answer alike: they are equal but for texts left out, and each segment
+-- shows and picks the same. Among the answers are the exports of all books.
 pub record ShowSame (s t : List Operation) : Type 0 where
   pub skeletons : skeleton s ≡ skeleton t
   pub shown : (g : Segment) → shown s g ≡ shown t g
@@ -54,14 +54,15 @@ AllTell is_there from to =
     (a b : List ℕ) → is_there a ≡ true → is_there b ≡ true → same_bytes a b ≡ false →
     (hearings : List Hearing) × IsRelay a from hearings b to
 
--- no replica edits or imports but those that are there, none does so later, and later a relay leads from each of them to
--- each other
+-- no replica edits or imports but those that are there, none does so later, and later a relay leads
+-- from each of them to each other
 pub record EndsInRelays (is_there : List ℕ → Bool) (later past : List Event) : Type 0 where
   pub edits_there : list_all (edits_at is_there) past ≡ true
   pub exchanges : list_all is_exchange later ≡ true
   pub tell : AllTell is_there past (later ++ past)
 
--- Where after the last edit a relay leads from each replica to each other, all hold every operation.
+-- Where after the last edit a relay leads from each replica to each other, all hold every
+-- operation.
 abbrev pub AllHoldAll : Type 0
 AllHoldAll =
     (is_there : List ℕ → Bool) (later past : List Event) → EndsInRelays is_there later past →
@@ -72,8 +73,8 @@ pub record AgreeInTheEnd (s t : List Operation) : Type 0 where
   pub same : ShowSame s t
   pub awaits_none : awaited s ≡ []
 
--- Where after the last edit a relay leads from each replica to each other, any two of them show and answer the same, and
--- await nothing.
+-- Where after the last edit a relay leads from each replica to each other, any two of them show and
+-- answer the same, and await nothing.
 abbrev pub AllAgreeInTheEnd : Type 0
 AllAgreeInTheEnd =
     (is_there : List ℕ → Bool) (later past : List Event) → EndsInRelays is_there later past →

@@ -15,21 +15,23 @@ pub record IsReadWhole (ops : List Operation) : Type 0 where
   pub cut : (front more : List ℕ) → bundle ops ≡ front ++ more → more ≢ [] →
       whole_at front ≡ Err (Bundle Truncated)
 
--- The bytes of a bundle that was made, if a slice can have as many, are read as what it holds, and each proper front of
--- them is refused as cut.
+-- The bytes of a bundle that was made, if a slice can have as many, are read as what it holds, and
+-- each proper front of them is refused as cut.
 abbrev pub BundlesAreRead : Type 0
 BundlesAreRead =
     (events : List Event) → AllByRecursion IsWithin events →
     (k : ℕ) (ops : List Operation) → slice_get (world events).bundles k ≡ Some ops →
     length (bundle ops) < 2 ^ 64 → IsReadWhole ops
 
--- the first bytes of the bundle, as many as are received, are refused as cut, and their receiving changes nothing
+-- the first bytes of the bundle, as many as are received, are refused as cut, and their receiving
+-- changes nothing
 pub record IsRefusedAsCut (past : List Event) (name : List ℕ) (k n : ℕ)
     (ops : List Operation) : Type 0 where
   pub refused : whole_at (take n (bundle ops)) ≡ Err (Bundle Truncated)
   pub unchanged : world (ReceivesCut name k n ∷ past) ≡ world past
 
--- The receiving of a proper front of the bytes of a bundle that was made is refused as cut, and changes nothing.
+-- The receiving of a proper front of the bytes of a bundle that was made is refused as cut, and
+-- changes nothing.
 abbrev pub CutReceivingsAreRefused : Type 0
 CutReceivingsAreRefused =
     (past : List Event) → AllByRecursion IsWithin past →

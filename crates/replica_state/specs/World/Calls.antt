@@ -36,8 +36,8 @@ IsIn w s = replica w s.name ≡ s
 abbrev pub IsEvent : Event → State → State → Type 0
 IsEvent e s t = (w : World) → IsIn w s → IsIn (happens w e) t
 
--- A replica stays what it is through each event at another one. So calls of several replicas, one after the other,
--- are a list of events in one world.
+-- A replica stays what it is through each event at another one. So calls of several replicas, one
+-- after the other, are a list of events in one world.
 abbrev pub OthersStay : Type 0
 OthersStay =
     (w : World) (e : Event) (s : State) → same_bytes s.name (replica_name e) ≡ false →
@@ -47,8 +47,8 @@ OthersStay =
 abbrev pub IsReply : Event → State → Reply → Type 0
 IsReply e s r = (w : World) → IsIn w s → reply w e ≡ Some r
 
--- In each world that has the replica and in which the bundle was made, the event of its receiving makes of the replica what
--- the call did, and its reply is what the call answers.
+-- In each world that has the replica and in which the bundle was made, the event of its receiving
+-- makes of the replica what the call did, and its reply is what the call answers.
 pub record IsReceiving (bundle : List Operation) (s t : State) (r : Reply) : Type 0 where
   pub after : (w : World) (k : ℕ) → IsIn w s → slice_get w.bundles k ≡ Some bundle →
       IsIn (happens w (Receives s.name k)) t
@@ -59,8 +59,8 @@ pub record IsReceiving (bundle : List Operation) (s t : State) (r : Reply) : Typ
 abbrev pub edits_of : List ℕ → List ℕ → List ChangeParts → List Event
 edits_of name book changes = map (λ c. EditsOver name (segment book c.key) c.text c.ids) changes
 
--- the events of an import since a base, which is named by its place among the bundles that were made: its receiving, and then an
--- edit over given ids for each key that was changed
+-- the events of an import since a base, which is named by its place among the bundles that were
+-- made: its receiving, and then an edit over given ids for each key that was changed
 abbrev pub since_events : State → ℕ → List Operation → List ℕ → List PieceParts → List Event
 since_events s k base book pieces =
     Receives s.name k
@@ -71,28 +71,30 @@ abbrev pub all_happen : World → List Event → World
 all_happen w [] = w
 all_happen w (e ∷ later) = all_happen (happens w e) later
 
--- In each world in which the replica stands and the base was made, the events of the import since it make of the replica what the
--- call did.
+-- In each world in which the replica stands and the base was made, the events of the import since
+-- it make of the replica what the call did.
 abbrev pub IsImportingSince : List Operation → List ℕ → State → State → Type 0
 IsImportingSince base file s t =
     (w : World) (k : ℕ) (book : List ℕ) → IsIn w s → slice_get w.bundles k ≡ Some base →
     book_in file ≡ Ok book →
     IsIn (all_happen w (since_events s k base book (pieces_of file))) t
 
--- An import since a base answers how many keys were changed: so many edits come after the receiving of the base.
+-- An import since a base answers how many keys were changed: so many edits come after the receiving
+-- of the base.
 abbrev pub CountsChanges : List Operation → List ℕ → State → ℕ → Type 0
 CountsChanges base file s count =
     (book : List ℕ) → book_in file ≡ Ok book →
     count ≡ length (since_changes (with_ops s base).held base book (pieces_of file))
 
--- In each world that has the replica, the edits over given ids that the changes of a book are make of it what the call did. Their
--- keys rise, and the first begins the book if it has no operation.
+-- In each world that has the replica, the edits over given ids that the changes of a book are make
+-- of it what the call did. Their keys rise, and the first begins the book if it has no operation.
 abbrev pub AreChanges : List ℕ → List ChangeParts → State → State → Type 0
 AreChanges book changes s t =
     (w : World) → IsIn w s → rises_by key_cmp (λ k. k) (map (λ c. c.key) changes) ≡ true →
     begins s.held book changes ≡ true → IsIn (all_happen w (edits_of s.name book changes)) t
 
--- In no world in which the replica stands, and the bundle was made, is its receiving refused as a clash.
+-- In no world in which the replica stands, and the bundle was made, is its receiving refused as a
+-- clash.
 abbrev pub NeverClashes : List Operation → State → Result ℕ ReceiveFault → Type 0
 NeverClashes bundle s answer =
     (events : List Event) (k : ℕ) (id : Id) → IsIn (world events) s →
@@ -103,8 +105,8 @@ pub record IsSending (e : Event) (s : State) (ops : List Operation) (bytes : Lis
   pub makes : (w : World) → IsIn w s → (happens w e).bundles ≡ ops ∷ w.bundles
   pub spelled : bytes ≡ bundle ops
 
--- Of the bytes of a bundle that was made in a world that bundle is read. Memory can be refused only where one of its
--- operations is thinned.
+-- Of the bytes of a bundle that was made in a world that bundle is read. Memory can be refused only
+-- where one of its operations is thinned.
 abbrev pub ReadsWhole : List ℕ → Result (List Operation) WholeFault → Type 0
 ReadsWhole bytes read =
     (events : List Event) (k : ℕ) (ops : List Operation) → AllByRecursion IsWithin events →

@@ -1,5 +1,5 @@
--- What exchanges bring, after every list of events (this project's own rule): bundles in flight, deltas for summaries,
--- and relays of bundles from replica to replica.
+-- What exchanges bring, after every list of events (this project's own rule): bundles in flight,
+-- deltas for summaries, and relays of bundles from replica to replica.
 use Rattle.std.specs.Prelude.{◌≡◌, ℕ, Bool, true, false, ◌&&◌, List, [], ◌∷◌, ◌++◌, Some, slice_get}
 use Rattle.std.specs.List.{list_all}
 use Rattle.usfm_ref.specs.Books.{same_bytes}
@@ -17,8 +17,8 @@ pub record HoldUnion (w : World) (a b : List ℕ) (s t : List Operation) : Type 
   pub first : skeleton (w.held a) ≡ skeleton (join s t)
   pub second : skeleton (w.held b) ≡ skeleton (join s t)
 
--- Two replicas hold s and t. With no other event at the two, first a and then b receives the other's delta for its own
--- summary: both hold the union, but for texts left out.
+-- Two replicas hold s and t. With no other event at the two, first a and then b receives the
+-- other's delta for its own summary: both hold the union, but for texts left out.
 abbrev pub DeltasJoin : Type 0
 DeltasJoin =
     (last between first past : List Event) (a b : List ℕ) (k n : ℕ) → same_bytes a b ≡ false →
@@ -62,13 +62,14 @@ SummariesStay =
 abbrev pub IsBefore : List Event → List Event → Type 0
 IsBefore past events = (more : List Event) × (events ≡ more ++ past)
 
--- what a teller is asked for: its whole bundle, or its delta for the summary that the hearer made at a moment
+-- what a teller is asked for: its whole bundle, or its delta for the summary that the hearer made
+-- at a moment
 pub data Request : Type 0 where
   Whole : Request
   Lacking : (asked : List Event) → Request
 
--- one hearing: the hearer, what it asks for, the moment whose holdings it asks for, the bundle, and the moment before the hearer
--- receives it
+-- one hearing: the hearer, what it asks for, the moment whose holdings it asks for, the bundle, and
+-- the moment before the hearer receives it
 pub record Hearing : Type 0 where
   pub hearer : List ℕ
   pub request : Request
@@ -95,8 +96,8 @@ abbrev pub IsAsked : Request → List Event → Type 0
 IsAsked Whole sent = Unit {0}
 IsAsked (Lacking asked) sent = IsBefore asked sent
 
--- The hearer receives a bundle that has what the teller is asked for, each operation perhaps without its text. Who made the bundle,
--- when, and what else it has, does not matter.
+-- The hearer receives a bundle that has what the teller is asked for, each operation perhaps
+-- without its text. Who made the bundle, when, and what else it has, does not matter.
 pub record Hears (teller : List ℕ) (h : Hearing) : Type 0 where
   pub asked : IsAsked h.request h.sent
   pub later : IsBefore h.sent h.got
@@ -105,7 +106,8 @@ pub record Hears (teller : List ℕ) (h : Hearing) : Type 0 where
   pub has : (o : Operation) → Holds (bundled h.hearer h.request ((world h.sent).held teller)) o →
       Holds ops o
 
--- At every moment the teller makes a bundle of exactly that, which is there to be received from then on.
+-- At every moment the teller makes a bundle of exactly that, which is there to be received from
+-- then on.
 abbrev pub CanBeHeard : Type 0
 CanBeHeard =
     (later sent : List Event) (teller hearer : List ℕ) (request : Request) →
@@ -114,7 +116,8 @@ CanBeHeard =
     × (slice_get (world (later ++ Bundles teller (wanted hearer request held) ∷ sent)).bundles k
     ≡ Some (bundled hearer request held))
 
--- A bundle of any ids that is legal, and that has what the teller is asked for, tells it, at whatever replica it was made.
+-- A bundle of any ids that is legal, and that has what the teller is asked for, tells it, at
+-- whatever replica it was made.
 abbrev pub AnyBundleTells : Type 0
 AnyBundleTells =
     (later made sent : List Event) (teller maker hearer : List ℕ) (request : Request)
@@ -130,7 +133,8 @@ AnyBundleTells =
 abbrev pub heard : Hearing → List Event
 heard h = Receives h.hearer h.bundle ∷ h.got
 
--- hearings, each of which begins at the replica where, and after the event in which, the one before ended
+-- hearings, each of which begins at the replica where, and after the event in which, the one before
+-- ended
 abbrev pub IsRelay : List ℕ → List Event → List Hearing → List ℕ → List Event → Type 0
 IsRelay a from [] b to = (a ≡ b) × IsBefore from to
 IsRelay a from (h ∷ hearings) b to =

@@ -1,5 +1,6 @@
--- Thinning is invisible (this project's own rule): replicas that thin show, export and answer what they do in the twin, where none
--- thins and each bundle has the operations of the same ids. A delta made after a thinning may have more ids than one made without it.
+-- Thinning is invisible (this project's own rule): replicas that thin show, export and answer what
+-- they do in the twin, where none thins and each bundle has the operations of the same ids. A delta
+-- made after a thinning may have more ids than one made without it.
 use Rattle.std.specs.Prelude.{◌≡◌, ℕ, true, List, [], ◌∷◌, Option, Some, None, slice_get, IsTrue}
 use Rattle.std.specs.List.{list_all}
 use Rattle.op_core.specs.Ops.{Operation}
@@ -16,13 +17,14 @@ use Rattle.replica_state.specs.World.Agreement.{ShowSame}
 
 -- ---- one replica beside another, whose set it stands for
 
--- after a step of each the first one's set stands for the second one's again, and the replies are the same
+-- after a step of each the first one's set stands for the second one's again, and the replies are
+-- the same
 pub record StepsAlike (s u : State) (c d : Command) : Type 0 where
   pub after : StandsFor (step s c).after.held (step u d).after.held
   pub reply : (step s c).reply ≡ (step u d).reply
 
--- the commands are the same edit, edit over or import, or the receiving of sets that do not clash with what is held in
--- full, and of which the first stands for the second
+-- the commands are the same edit, edit over or import, or the receiving of sets that do not clash
+-- with what is held in full, and of which the first stands for the second
 abbrev pub AreAlike : List Operation → Command → Command → Type 0
 AreAlike whole (Edit g text) d = Edit g text ≡ d
 AreAlike whole (EditOver g text given) d = EditOver g text given ≡ d
@@ -30,16 +32,17 @@ AreAlike whole (Import file) d = Import file ≡ d
 AreAlike whole (Receive bundle) (Receive full) = StandsFor bundle full × (clash whole full ≡ None)
 AreAlike whole c d = ⊥
 
--- the steps of two replicas are alike; the set of the first one stands for that of the second one also when it has
--- thinned; and both show and answer the same
+-- the steps of two replicas are alike; the set of the first one stands for that of the second one
+-- also when it has thinned; and both show and answer the same
 pub record ActsFor (s u : State) : Type 0 where
   pub steps : (c d : Command) → AreAlike u.held c d → StepsAlike s u c d
   pub thins : StandsFor (step s Thin).after.held u.held
   pub shows : ShowSame s.held u.held
 
--- Of two replicas with one name, where the set of the first stands for that of the second, the same edit, edit over and
--- import has the same reply, and the first set stands for the second again. So it is with two bundles of which the first
--- stands for the second, if the second does not clash with what the second replica holds. So it is where the first one thins.
+-- Of two replicas with one name, where the set of the first stands for that of the second, the same
+-- edit, edit over and import has the same reply, and the first set stands for the second again. So
+-- it is with two bundles of which the first stands for the second, if the second does not clash
+-- with what the second replica holds. So it is where the first one thins.
 abbrev pub StandInsStepAlike : Type 0
 StandInsStepAlike = (s u : State) → s.name ≡ u.name → StandsFor s.held u.held → ActsFor s u
 
@@ -81,8 +84,8 @@ abbrev pub receive_reply : State → Option (List Operation) → Option Reply
 receive_reply s None = None
 receive_reply s (Some bundle) = Some (step s (Receive bundle)).reply
 
--- the reply to an edit, an edit over, an import or a receiving; the other events are in no need of one, or the twin has
--- them not
+-- the reply to an edit, an edit over, an import or a receiving; the other events are in no need of
+-- one, or the twin has them not
 abbrev pub reply : World → Event → Option Reply
 reply w (Edits name g text) = Some (step (replica w name) (Edit g text)).reply
 reply w (EditsOver name g text given) = Some (step (replica w name) (EditOver g text given)).reply
@@ -101,7 +104,8 @@ RepliesAreTheSame =
 
 -- ---- worlds in which no replica thins
 
--- the world is its twin, all is held in full, also what was made, and sets with equal skeletons are equal
+-- the world is its twin, all is held in full, also what was made, and sets with equal skeletons are
+-- equal
 pub record IsExact (events : List Event) : Type 0 where
   pub twin_is : world (twin events) ≡ world events
   pub full : (name : List ℕ) → IsTrue (all_full ((world events).held name))
@@ -111,7 +115,7 @@ pub record IsExact (events : List Event) : Type 0 where
   pub same : (a b : List ℕ) → skeleton ((world events).held a) ≡ skeleton ((world events).held b) →
       (world events).held a ≡ (world events).held b
 
--- Where no replica thins, the world is its twin, all is held in full, and replicas whose skeletons are equal hold equal
--- sets.
+-- Where no replica thins, the world is its twin, all is held in full, and replicas whose skeletons
+-- are equal hold equal sets.
 abbrev pub WithoutThinnings : Type 0
 WithoutThinnings = (events : List Event) → list_all keeps_texts events ≡ true → IsExact events

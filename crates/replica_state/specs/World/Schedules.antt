@@ -1,5 +1,5 @@
--- What holds after every list of events, thinnings among them (this project's own rule): what replicas hold of what was
--- made, and what it names.
+-- What holds after every list of events, thinnings among them (this project's own rule): what
+-- replicas hold of what was made, and what it names.
 use Rattle.std.specs.Prelude.{◌≡◌, ℕ, true, List, [], ◌∷◌, ◌++◌, ◌⊎◌}
 use Rattle.std.specs.Prelude.{Option, Some, None, IsTrue, slice_get}
 use Rattle.std.specs.List.{AllByRecursion}
@@ -33,7 +33,8 @@ pub record AreSets (w : World) : Type 0 where
   pub bundles_legal : (k : ℕ) (bundle : List Operation) →
       slice_get w.bundles k ≡ Some bundle → IsTrue (is_legal bundle)
 
--- What each replica holds is a legal set of operations, each within its ranges, and so is each bundle.
+-- What each replica holds is a legal set of operations, each within its ranges, and so is each
+-- bundle.
 abbrev pub WorldsHoldSets : Type 0
 WorldsHoldSets = (events : List Event) → AllByRecursion IsWithin events → AreSets (world events)
 
@@ -48,7 +49,8 @@ pub record HoldsAs (name : List ℕ) (held : List Operation) (o : Operation) : T
   pub is_held : Holds held o
   pub own_name : o.id.name ≡ name
 
--- A replica holds from then on, perhaps without its text, what it made. Its operations have its name.
+-- A replica holds from then on, perhaps without its text, what it made. Its operations have its
+-- name.
 abbrev pub HoldsItsOwn : Type 0
 HoldsItsOwn =
     (later : List Event) (e : Event) (past : List Event) (o : Operation) → Makes (world past) e o →
@@ -112,7 +114,8 @@ NamesWhatWasShown =
     Makes (world past) e o → names o id ≡ true →
     is_among (shown_ids ((world past).held (replica_name e)) o.segment) id ≡ true
 
--- each operation of the chain is held in the segment and names the one before it, and the last is shown
+-- each operation of the chain is held in the segment and names the one before it, and the last is
+-- shown
 abbrev pub IsChain : List Operation → Segment → Operation → List Operation → Type 0
 IsChain held g o [] = is_shown held g o ≡ true
 IsChain held g o (p ∷ chain) =

@@ -16,8 +16,8 @@ keeps_texts (Receives name k) = true
 keeps_texts (ReceivesCut name k length) = true
 keeps_texts (FindsNoMemory name) = true
 
--- whether the twin has the event: it is no thinning, no receiving of a cut bundle, no call that finds no memory, and no
--- bundle that is not made
+-- whether the twin has the event: it is no thinning, no receiving of a cut bundle, no call that
+-- finds no memory, and no bundle that is not made
 abbrev pub is_twins : World → Event → Bool
 is_twins w (Edits name g text) = true
 is_twins w (EditsOver name g text given) = true
@@ -29,8 +29,8 @@ is_twins w (Receives name k) = true
 is_twins w (ReceivesCut name k length) = false
 is_twins w (FindsNoMemory name) = false
 
--- the same events without the thinnings and what changes nothing. So each bundle of the twin holds the operations of the
--- same ids in full, and is at the same place among all.
+-- the same events without the thinnings and what changes nothing. So each bundle of the twin holds
+-- the operations of the same ids in full, and is at the same place among all.
 abbrev pub twin : List Event → List Event
 twin [] = []
 twin (e ∷ past) = if is_twins (world past) e then e ∷ twin past else twin past

@@ -1,7 +1,7 @@
-//! Laws of calls: each call that changes a replica, or makes bytes that travel, is an event of every world that
-//! has the replica: a receiving where the bundle was made in that world; changes made together, and an import
-//! since a base, are several. Each function makes the call that it is named after, `read` that of `decode_whole`,
-//! and its contract says which event that is.
+//! Laws of calls: each call that changes a replica, or makes bytes that travel, is an event of
+//! every world that has the replica: a receiving where the bundle was made in that world; changes
+//! made together, and an import since a base, are several. Each function makes the call that it is
+//! named after, `read` that of `decode_whole`, and its contract says which event that is.
 ghost use Rattle.std.specs.Prelude.{◌≡◌, ◌≢◌, ◌∷◌, Err, IfOk, OnErr, OnOk, length};
 ghost use Rattle.usfm_ref.specs.Segments.{segment};
 ghost use Rattle.op_core.specs.Lists.{is_held};
@@ -77,8 +77,8 @@ pub fn import(replica: &mut Replica, file: &str) -> Result<u64, ImportFault>
     replica.import(file)
 }
 
-/// A call of `import_since` that is not refused is the event of the receiving of its base, and then that
-/// of an edit over given ids for each key that was changed. It answers how many these are.
+/// A call of `import_since` that is not refused is the event of the receiving of its base, and then
+/// that of an edit over given ids for each key that was changed. It answers how many these are.
 ///
 /// # Errors
 /// Those of `import_since`.
@@ -95,9 +95,9 @@ pub fn import_since(replica: &mut Replica, base: &Bundle<'_>, file: &str) -> Res
     replica.import_since(base, file)
 }
 
-/// A call of `change` that is not refused, with changes whose keys rise and of which the first begins
-/// the book if it has no operation, is the event of an edit over given ids for each. It answers how many
-/// these are.
+/// A call of `change` that is not refused, with changes whose keys rise and of which the first
+/// begins the book if it has no operation, is the event of an edit over given ids for each. It
+/// answers how many these are.
 ///
 /// # Errors
 /// Those of `change`.
@@ -121,8 +121,8 @@ pub fn thin(replica: &mut Replica) -> u64
     replica.thin()
 }
 
-/// A call of `receive` with a bundle that was made is the event of its receiving, and is never refused as
-/// a clash.
+/// A call of `receive` with a bundle that was made is the event of its receiving, and is never
+/// refused as a clash.
 ///
 /// # Errors
 /// Those of `receive`.
@@ -175,8 +175,8 @@ pub fn delta(replica: &Replica, alloc: Global, summary: &Summary) -> Result<Vec<
     replica.delta(alloc, summary)
 }
 
-/// Of the bytes of a bundle that was made `decode_whole` reads that bundle, and it refuses each proper
-/// front of them as cut.
+/// Of the bytes of a bundle that was made `decode_whole` reads that bundle, and it refuses each
+/// proper front of them as cut.
 ///
 /// # Errors
 /// Those of `decode_whole`.

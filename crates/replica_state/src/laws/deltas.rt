@@ -1,8 +1,8 @@
 //! Laws of deltas, over the definitions alone. Each function does nothing: its contract is the law.
 ghost use Rattle.replica_state.specs.DeltaLaws as laws;
 
-/// A replica that receives the delta for its own summary, of another one without thinned operations,
-/// holds the union of both sets, and never refuses it.
+/// A replica that receives the delta for its own summary, of another one without thinned
+/// operations, holds the union of both sets, and never refuses it.
 pub fn deltas_give_union()
     ensures { laws.DeltasGiveUnion }
 {}

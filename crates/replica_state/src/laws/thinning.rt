@@ -1,8 +1,8 @@
 //! Laws of replicas that hold thinned operations.
 ghost use Rattle.replica_state.specs.ThinLaws as laws;
 
-/// A thinning leaves a replica that holds the same but for texts left out, and shows, picks, exports,
-/// awaits and sums up the same. A second one leaves out nothing more.
+/// A thinning leaves a replica that holds the same but for texts left out, and shows, picks,
+/// exports, awaits and sums up the same. A second one leaves out nothing more.
 pub fn thinning_is_unseen()
     ensures { laws.ThinningIsUnseen }
 {}

@@ -1,5 +1,5 @@
-//! Laws of worlds: what holds after every list of events, at any number of replicas, thinnings among
-//! the events. Each function does nothing: its contract is the law.
+//! Laws of worlds: what holds after every list of events, at any number of replicas, thinnings
+//! among the events. Each function does nothing: its contract is the law.
 ghost use Rattle.replica_state.specs.World.Agreement as agreement;
 ghost use Rattle.replica_state.specs.World.Bytes as bytes;
 ghost use Rattle.replica_state.specs.World.Calls as calls;
@@ -97,7 +97,8 @@ pub fn holds_all_awaits_none()
     ensures { agreement.HoldsAllAwaitsNone }
 {}
 
-/// Where after the last edit a relay leads from each replica to each other, all hold every operation.
+/// Where after the last edit a relay leads from each replica to each other, all hold every
+/// operation.
 pub fn all_hold_all()
     ensures { agreement.AllHoldAll }
 {}
@@ -108,9 +109,10 @@ pub fn all_agree_in_the_end()
     ensures { agreement.AllAgreeInTheEnd }
 {}
 
-/// Of two replicas with one name, where the set of the first stands for that of the second, the same edit,
-/// edit over and import has the same reply, and the sets stand so again; so it is with two bundles of which
-/// the first stands for the second, if the second does not clash with what the second one holds.
+/// Of two replicas with one name, where the set of the first stands for that of the second, the
+/// same edit, edit over and import has the same reply, and the sets stand so again; so it is with
+/// two bundles of which the first stands for the second, if the second does not clash with what the
+/// second one holds.
 pub fn stand_ins_step_alike()
     ensures { invisible.StandInsStepAlike }
 {}

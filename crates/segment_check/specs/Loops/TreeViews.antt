@@ -28,8 +28,9 @@ seen_in sheet around f = map (seen_of sheet) (spots around f)
 abbrev pub seen_under : List Record → Forest → List Seen
 seen_under sheet tree = seen_in sheet [] tree
 
--- what the nodes around a place decide: whether one is a note, how many nodes more may be inside, the name of
--- the innermost if it is a character node, and those of the nearest paragraph or note and of the nearest paragraph
+-- what the nodes around a place decide: whether one is a note, how many nodes more may be inside,
+-- the name of the innermost if it is a character node, and those of the nearest paragraph or note
+-- and of the nearest paragraph
 pub record Surroundings : Type 0 where
   pub in_note : Bool
   pub room : ℕ
@@ -106,7 +107,8 @@ seen_by sheet i start m kind is_closed = record {
   not_under = option_map_or (is_misplaced (under_words sheet m.name) i) kind false;
 }
 
--- within nodes that decide this, what holds of the marks of entries comes after what was said before
+-- within nodes that decide this, what holds of the marks of entries comes after what was said
+-- before
 abbrev pub Tells : List Record → Surroundings → Forest → List Seen → List Seen → Type 0
 Tells sheet i f old new =
     (around : List Around) → i ≡ surroundings_of around → new ≡ old ++ seen_in sheet around f

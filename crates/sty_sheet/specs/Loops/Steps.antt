@@ -1,4 +1,5 @@
--- What a reader of a sheet has after this many lines: the records that are whole, and the one that it is reading.
+-- What a reader of a sheet has after this many lines: the records that are whole, and the one that
+-- it is reading.
 use Rattle.std.specs.Prelude.{◌≡◌, ℕ, true, IsSome, List, [], ◌∷◌, Option, None, Some, if◌then◌else◌, codes, Result, Ok, Err}
 use Rattle.std.specs.Option.{option_map}
 use Rattle.std.specs.Str.{bytes_eq}

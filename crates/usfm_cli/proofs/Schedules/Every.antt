@@ -12,7 +12,7 @@ use Rattle.verse_cut.specs.Reading.{book_in}
 use Rattle.op_core.specs.Names.{is_name}
 use Rattle.op_core.specs.Ids.{Id}
 use Rattle.op_core.specs.Ops.{Operation, is_segment}
-use Rattle.op_core.proofs.Union.{IsOpSet-join}
+use Rattle.op_core.proofs.Sets.Union.{IsOpSet-join}
 use Rattle.bundle_codec.specs.Summaries.{NameRanges}
 use Rattle.bundle_codec.specs.SummaryReading.{read_summary}
 use Rattle.replica_state.specs.declared.fault.SinceFault.{SinceFault}

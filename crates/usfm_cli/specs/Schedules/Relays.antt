@@ -20,7 +20,8 @@ use Rattle.usfm_cli.specs.declared.command.Command.TheVariants.{Send, Summary, D
 abbrev pub IsBefore : List FileCommand → List FileCommand → Type 0
 IsBefore past commands = (more : List FileCommand) × (commands ≡ more ++ past)
 
--- what a teller's file is asked for: its whole bundle, or its delta for the summary that the hearer's file wrote at a moment
+-- what a teller's file is asked for: its whole bundle, or its delta for the summary that the
+-- hearer's file wrote at a moment
 pub data Request : Type 0 where
   Whole : Request
   Lacking : (asked : List FileCommand) (summary : Bor (List ℕ)) → Request
@@ -44,8 +45,8 @@ abbrev pub IsAsked : List ℕ → Request → List FileCommand → Type 0
 IsAsked hearer Whole sent = Unit {0}
 IsAsked hearer (Lacking asked summary) sent = WroteSummary hearer asked summary.now sent
 
--- one hearing: the hearer, what it asks for, the moment whose file it asks for, the bytes, and the moment before the hearer receives
--- them
+-- one hearing: the hearer, what it asks for, the moment whose file it asks for, the bytes, and the
+-- moment before the hearer receives them
 pub record Hearing : Type 0 where
   pub hearer : List ℕ
   pub request : Request
@@ -53,7 +54,8 @@ pub record Hearing : Type 0 where
   pub bytes : Bor (List ℕ)
   pub got : List FileCommand
 
--- The bytes are those that the teller's file gives at that moment, and the hearer receives them later.
+-- The bytes are those that the teller's file gives at that moment, and the hearer receives them
+-- later.
 pub record Hears (teller : List ℕ) (h : Hearing) : Type 0 where
   pub named : IsTrue (is_name teller)
   pub short : length ((files h.sent).file teller) < 2 ^ 64
@@ -65,7 +67,8 @@ pub record Hears (teller : List ℕ) (h : Hearing) : Type 0 where
 abbrev pub heard : Hearing → List FileCommand
 heard h = record { name = h.hearer; command = Receive h.bytes } ∷ h.got
 
--- hearings, each of which begins at the copy where, and after the command in which, the one before ended
+-- hearings, each of which begins at the copy where, and after the command in which, the one before
+-- ended
 abbrev pub IsRelay : List ℕ → List FileCommand → List Hearing → List ℕ → List FileCommand → Type 0
 IsRelay a from [] b to = (a ≡ b) × IsBefore from to
 IsRelay a from (h ∷ hearings) b to =
@@ -102,19 +105,22 @@ AllTell is_there from to =
     (a b : List ℕ) → is_there a ≡ true → is_there b ≡ true → same_bytes a b ≡ false →
     (hearings : List Hearing) × IsRelay a from hearings b to
 
--- no copy edits or imports but those that are there, none does so later, and later a relay leads from each of them to each other
+-- no copy edits or imports but those that are there, none does so later, and later a relay leads
+-- from each of them to each other
 pub record EndsInRelays (is_there : List ℕ → Bool) (later past : List FileCommand) : Type 0 where
   pub edits_there : list_all (edits_at is_there) past ≡ true
   pub exchanges : list_all is_exchange later ≡ true
   pub tell : AllTell is_there past (later ++ past)
 
--- the same is written for both files, each book and the conflict report; and none of what they name is awaited
+-- the same is written for both files, each book and the conflict report; and none of what they name
+-- is awaited
 pub record AgreeInBytes (file other : List ℕ) (s : State) : Type 0 where
   pub same : ReadTheSame file other
   pub awaits_none : awaited s.held ≡ []
 
--- Where after the last edit or import a relay leads from each copy to each other one, the files of any two of them write the same
--- bytes of every book and the same conflict report, and await nothing.
+-- Where after the last edit or import a relay leads from each copy to each other one, the files of
+-- any two of them write the same bytes of every book and the same conflict report, and await
+-- nothing.
 abbrev pub AllAgreeInTheEnd : Type 0
 AllAgreeInTheEnd =
     (is_there : List ℕ → Bool) (later past : List FileCommand) (a b : List ℕ) (s t : State) →

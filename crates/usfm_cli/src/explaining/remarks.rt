@@ -19,8 +19,8 @@ pub const NO_BOOK_FILE: &str =
 /// What is said of a file whose name ends in `.txt`, in a folder of books' files.
 pub const TEXT_NAME: &str = ": the name of a book's file ends in .usfm or .sfm";
 
-/// Whether a file of this name in a folder is a text that an editor gave another ending than books' files have: it is not
-/// hidden, and the name ends in `.txt`, in any case. It does not allocate.
+/// Whether a file of this name in a folder is a text that an editor gave another ending than books'
+/// files have: it is not hidden, and the name ends in `.txt`, in any case. It does not allocate.
 pub fn is_text_name(name: &str) -> bool
     ensures { result ≡ names.is_text_name name.now }
 {
@@ -48,7 +48,8 @@ pub fn remark(alloc: Global, command: &Command<'_>, output: &[u8]) -> Option<&'s
     }
 }
 
-/// What is to be said beside an answer by a style sheet: that the sheet has no record, if it has none.
+/// What is to be said beside an answer by a style sheet: that the sheet has no record, if it has
+/// none.
 pub fn sheet_remark(alloc: Global, sheet: &[u8]) -> Option<&'static str> {
     if has_no_record(alloc, sheet) {
         Some(NO_RECORD)

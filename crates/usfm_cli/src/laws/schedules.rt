@@ -1,5 +1,6 @@
-//! Laws of every schedule of commands on the files of a team's copies: what holds after any number of them, in whatever
-//! order, where what is received is what one of the files wrote. Each function does nothing: its contract is the law.
+//! Laws of every schedule of commands on the files of a team's copies: what holds after any number
+//! of them, in whatever order, where what is received is what one of the files wrote. Each function
+//! does nothing: its contract is the law.
 ghost use Rattle.usfm_cli.specs.Schedules as schedules;
 ghost use Rattle.usfm_cli.specs.Schedules.Relays as relays;
 
@@ -33,8 +34,8 @@ pub fn shown_in_the_end()
     ensures { schedules.ShownInTheEnd }
 {}
 
-/// A copy that receives what another one writes for its summary is not refused, and holds the union of
-/// both but for texts left out.
+/// A copy that receives what another one writes for its summary is not refused, and holds the union
+/// of both but for texts left out.
 pub fn deltas_bring_union()
     ensures { schedules.DeltasBringUnion }
 {}
@@ -44,8 +45,8 @@ pub fn relays_tell()
     ensures { relays.RelaysTell }
 {}
 
-/// Where after the last edit or import a relay leads from each copy to each other one, the files of any two
-/// of them write the same bytes of every book and the same report, and await nothing.
+/// Where after the last edit or import a relay leads from each copy to each other one, the files of
+/// any two of them write the same bytes of every book and the same report, and await nothing.
 pub fn all_agree_in_the_end()
     ensures { relays.AllAgreeInTheEnd }
 {}

@@ -1,5 +1,5 @@
-// The subcommands on a folder of books' files, and the export of one book: of each its words, its help, and
-// the line that it is read as.
+// The subcommands on a folder of books' files, and the export of one book: of each its words, its
+// help, and the line that it is read as.
 use super::{BOOK, PROJECT, command};
 use crate::given::{book_of, books, text, text_if_given, texts, wanted};
 use crate::words::{Line, LineFault, SyncWords};

@@ -1,4 +1,5 @@
-// The subcommands that change no project: of each its words, its help, and the line that it is read as.
+// The subcommands that change no project: of each its words, its help, and the line that it is read
+// as.
 use super::{BOOK, PROJECT, REF, command};
 use crate::given::{book, reference, text};
 use crate::words::{Line, LineFault};

@@ -1,4 +1,5 @@
-// The subcommands that go by a style sheet: of each its words, its help, and the line that it is read as.
+// The subcommands that go by a style sheet: of each its words, its help, and the line that it is
+// read as.
 use super::{BOOK, PROJECT, command};
 use crate::given::{book_if_given, text, text_if_given};
 use crate::words::{Line, LineFault};

@@ -1,4 +1,5 @@
-// The subcommands that say how a project stands: of each its words, its help, and the line that it is read as.
+// The subcommands that say how a project stands: of each its words, its help, and the line that it
+// is read as.
 use super::{PROJECT, command};
 use crate::given::{book_if_given, text, texts};
 use crate::words::{Line, LineFault};

@@ -1,5 +1,6 @@
--- A book's keys with the heads of its chapters (this project's own rule): the keys that may have a text are those with an
--- operation, and the head of each of their chapters, which comes before all others of the chapter.
+-- A book's keys with the heads of its chapters (this project's own rule): the keys that may have a
+-- text are those with an operation, and the head of each of their chapters, which comes before all
+-- others of the chapter.
 use Rattle.std.specs.Prelude.{ℕ, ◌==◌, Bool, not, ◌&&◌, List, [], ◌∷◌, ◌++◌, Option, None, Some, if◌then◌else◌}
 use Rattle.std.specs.List.{flat_map}
 use Rattle.usfm_ref.specs.Keys.{KeyParts, head_of, is_head}

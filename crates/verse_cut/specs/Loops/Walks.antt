@@ -14,8 +14,8 @@ IsFirst None ts = ts ≡ []
 IsFirst (Some t) [] = ⊥
 IsFirst (Some t) (x ∷ ts) = lexeme t ≡ x
 
--- a backslash (92) is at the front, before a `c` (99) or a `v` (118), with which the names of the marks that have a
--- key begin
+-- a backslash (92) is at the front, before a `c` (99) or a `v` (118), with which the names of the
+-- marks that have a key begin
 abbrev pub may_have_key : List ℕ → Bool
 may_have_key [] = false
 may_have_key (b ∷ []) = false
@@ -25,8 +25,8 @@ may_have_key (b ∷ (first ∷ rest)) = b == 92 && (first == 99 || first == 118)
 abbrev pub from_mark : List ℕ → List ℕ
 from_mark text = drop (position_or_len is_backslash text) text
 
--- A token is at the front of `here`, and then comes `after`, and has the key, where a verse is in the
--- chapter.
+-- A token is at the front of `here`, and then comes `after`, and has the key, where a verse is in
+-- the chapter.
 pub record TakesToken (chapter : ℕ) (here after : List ℕ) (key : Option KeyParts) : Type 0 where
   pub token : Lexeme
   pub front : tokens_of here ≡ token ∷ tokens_of after
@@ -46,8 +46,8 @@ pub record GoesToEnd (key : KeyParts) (text : List ℕ) : Type 0 where
   pub is_quiet : is_quiet key (tokens_of text) ≡ true
   pub cuts : (at : ℕ) → cut_from key at (tokens_of text) ≡ (text, [])
 
--- The first mark in the text with a key above this one is at the front of `here`, and then comes `after`. What
--- comes before `here` goes to the open piece, and the mark opens the next.
+-- The first mark in the text with a key above this one is at the front of `here`, and then comes
+-- `after`. What comes before `here` goes to the open piece, and the mark opens the next.
 pub record OpensAt (key : KeyParts) (text here after : List ℕ) (found : KeyParts) : Type 0 where
   pub not_quiet : is_quiet key (tokens_of text) ≡ false
   pub join : read_of text here ++ here ≡ text

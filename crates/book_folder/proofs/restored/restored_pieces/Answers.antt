@@ -11,7 +11,7 @@ use Rattle.verse_cut.proofs.CutLaws.{pieces_rise}
 use Rattle.replica_state.proofs.KeyLists.{piece_keys_rise}
 use Rattle.book_folder.specs.Loops.{pieces_left}
 use Rattle.book_folder.specs.Restored.{restored_piece, restored_pieces}
-use Rattle.book_folder.proofs.RestoredRise.{restored_rise}
+use Rattle.book_folder.proofs.Twice.RestoredRise.{restored_rise}
 use Rattle.book_folder.proofs.restored.restored_pieces.Goals as goal
 
 pub returns-clause-rise : goal.returns-clause-rise

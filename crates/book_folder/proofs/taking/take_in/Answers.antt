@@ -2,7 +2,7 @@ use Rattle.std.proofs.Common.{rules, map, is_some, sym, ap, ◌∙◌}
 use Rattle.book_folder.specs.Files.{file_view}
 use Rattle.book_folder.specs.Taking.{stood_view}
 use Rattle.book_folder.specs.Wanted.{wishes_view}
-use Rattle.book_folder.proofs.Untouched.{untouched_taken}
+use Rattle.book_folder.proofs.Twice.Untouched.{untouched_taken}
 use Rattle.book_folder.proofs.taking.take_in.Goals as goal
 
 pub returns-then-is_untouched : goal.returns-then-is_untouched

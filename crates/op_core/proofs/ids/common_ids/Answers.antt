@@ -1,5 +1,5 @@
 use Rattle.std.proofs.Common.{◌≡◌, filter, take_all, arith, ap, ◌∙◌}
-use Rattle.op_core.proofs.IdSets.{filter_rises, filter_members}
+use Rattle.op_core.proofs.IdOrders.IdSets.{filter_rises, filter_members}
 use Rattle.op_core.proofs.ids.common_ids.Goals as goal
 use Rattle.op_core.specs.NextIds.{is_among}
 

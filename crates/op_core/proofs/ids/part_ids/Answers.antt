@@ -1,7 +1,7 @@
 use Rattle.std.proofs.Common.{sym, ◌∙◌, not}
 use Rattle.std.proofs.lemmas.List.{nil_from_length}
-use Rattle.op_core.proofs.IdSets.{filter_rises, filter_members}
-use Rattle.op_core.proofs.Parting.{part_less, part_greater, part_equal, none_left, right_lone, none_right, left_alone}
+use Rattle.op_core.proofs.IdOrders.IdSets.{filter_rises, filter_members}
+use Rattle.op_core.proofs.IdOrders.Parting.{part_less, part_greater, part_equal, none_left, right_lone, none_right, left_alone}
 use Rattle.op_core.proofs.ids.part_ids.Goals as goal
 use Rattle.op_core.specs.NextIds.{is_among}
 

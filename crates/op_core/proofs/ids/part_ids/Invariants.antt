@@ -1,5 +1,5 @@
 use Rattle.std.proofs.Common.{◌+◌, length}
-use Rattle.op_core.proofs.Parting.{Parts}
+use Rattle.op_core.proofs.IdOrders.Parting.{Parts}
 use Rattle.op_core.proofs.ids.part_ids.Given as goal
 
 abbrev pub invariant-pairs : goal.invariant-pairs

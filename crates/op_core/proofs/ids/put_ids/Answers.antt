@@ -1,6 +1,6 @@
 use Rattle.std.proofs.Common.{arith}
-use Rattle.op_core.proofs.IdLists.{put_rises}
-use Rattle.op_core.proofs.IdSets.{put_one}
+use Rattle.op_core.proofs.IdOrders.IdLists.{put_rises}
+use Rattle.op_core.proofs.IdOrders.IdSets.{put_one}
 use Rattle.op_core.proofs.ids.put_ids.Goals as goal
 use Rattle.op_core.specs.NextIds.{is_among}
 

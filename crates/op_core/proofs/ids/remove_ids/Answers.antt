@@ -1,8 +1,8 @@
 use Rattle.std.proofs.Common.{◌&&◌, List, not, ap, sym, ◌∙◌}
 use Rattle.op_core.specs.Ids.{Id}
 use Rattle.op_core.specs.NextIds.{is_among}
-use Rattle.op_core.proofs.IdLists.{without_rises}
-use Rattle.op_core.proofs.IdSets.{filter_rises, filter_members, no_longer, only_one}
+use Rattle.op_core.proofs.IdOrders.IdLists.{without_rises}
+use Rattle.op_core.proofs.IdOrders.IdSets.{filter_rises, filter_members, no_longer, only_one}
 use Rattle.op_core.proofs.ids.remove_ids.Goals as goal
 
 pub returns-in-len1-clause-rising : goal.returns-in-len1-clause-rising

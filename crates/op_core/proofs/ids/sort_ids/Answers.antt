@@ -3,7 +3,7 @@ use Rattle.std.specs.Ordering.{is_lt}
 use Rattle.std.proofs.lemmas.List.Filters.{dedup_is}
 use Rattle.std.proofs.lemmas.List.Sorted.{answers_always}
 use Rattle.op_core.specs.Ids.{Id, id_cmp, same_id}
-use Rattle.op_core.proofs.IdSets.{ids_rank, sorted_rises, sorted_members}
+use Rattle.op_core.proofs.IdOrders.IdSets.{ids_rank, sorted_rises, sorted_members}
 use Rattle.op_core.proofs.ids.sort_ids.Goals as goal
 
 pub returns-clause-rising : goal.returns-clause-rising

@@ -3,11 +3,11 @@ use Rattle.std.proofs.lemmas.Bool.{eqb-true}
 use Rattle.std.proofs.lemmas.List.{nil_from_length}
 use Rattle.op_core.specs.Loops.Changes.{AreChanges}
 use Rattle.op_core.specs.declared.index.turns.Turn.{Turn}
-use Rattle.op_core.proofs.Begun.{begun_enrolled}
-use Rattle.op_core.proofs.Kept.{index_laid}
-use Rattle.op_core.proofs.There.{index_ready, ready_shown}
-use Rattle.op_core.proofs.Changed.{index_enrolled}
-use Rattle.op_core.proofs.Registers.{on_err}
+use Rattle.op_core.proofs.Indexed.Begun.{begun_enrolled}
+use Rattle.op_core.proofs.Indexed.Kept.{index_laid}
+use Rattle.op_core.proofs.Indexed.There.{index_ready, ready_shown}
+use Rattle.op_core.proofs.Indexed.Changed.{index_enrolled}
+use Rattle.op_core.proofs.Indexed.Registers.{on_err}
 use Rattle.op_core.proofs.index.enroll.Goals as goal
 
 pub returns-then-is_empty-clause-ok : goal.returns-then-is_empty-clause-ok

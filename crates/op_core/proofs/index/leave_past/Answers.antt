@@ -6,8 +6,8 @@ use Rattle.op_core.specs.Ids.{same_id, ids_rise}
 use Rattle.op_core.specs.Ops.{Operation, is_full, bare}
 use Rattle.op_core.specs.Loops.Index.{register_of, shown_in}
 use Rattle.op_core.specs.Thinned.{is_past, is_left_out, thinned_in}
-use Rattle.op_core.proofs.Kept.{shown_ids_rise}
-use Rattle.op_core.proofs.Past.{walk_get, walk_length, walk_past, walk_stays, told_past, counts_more, counts_same, counts_within}
+use Rattle.op_core.proofs.Indexed.Kept.{shown_ids_rise}
+use Rattle.op_core.proofs.ThinnedSets.Past.{walk_get, walk_length, walk_past, walk_stays, told_past, counts_more, counts_same, counts_within}
 use Rattle.op_core.proofs.index.leave_past.Goals.{then-is_past+then-leave_text, else-is_past, else-is_past-via-then-is_past+else-leave_text, else-is_past-via-else-is_past}
 use Rattle.op_core.proofs.index.leave_past.Goals as goal
 

@@ -9,8 +9,8 @@ use Rattle.usfm_ref.proofs.Placed.{set_same}
 use Rattle.op_core.specs.Loops.Index.{home_of, chapter_of, registers_in, registers_of, register_at, ChangesKey, Same}
 use Rattle.op_core.specs.declared.index.register.Register.{Register}
 use Rattle.op_core.specs.declared.index.chapter.Chapter.{Chapter}
-use Rattle.op_core.proofs.Registers.{rise, map_ok, map_err, on_err}
-use Rattle.op_core.proofs.Chapters.{were_there, set_chapter, insert_chapter, changes_in, same_in, same_chapters}
+use Rattle.op_core.proofs.Indexed.Registers.{rise, map_ok, map_err, on_err}
+use Rattle.op_core.proofs.Indexed.Chapters.{were_there, set_chapter, insert_chapter, changes_in, same_in, same_chapters}
 use Rattle.op_core.proofs.index.put_in.Goals.{then-at-len+else-is_eq, else-at-len}
 use Rattle.op_core.proofs.index.put_in.Goals as goal
 

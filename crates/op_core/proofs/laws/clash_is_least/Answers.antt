@@ -1,4 +1,4 @@
-use Rattle.op_core.proofs.Clashes.{clash_is}
+use Rattle.op_core.proofs.Sets.Clashes.{clash_is}
 use Rattle.op_core.proofs.laws.clash_is_least.Goals as goal
 
 pub returns : goal.returns

@@ -1,5 +1,5 @@
-use Rattle.op_core.proofs.Agreement.{agree-from}
-use Rattle.op_core.proofs.Union.{agree_from_no_clash}
+use Rattle.op_core.proofs.Sets.Agreement.{agree-from}
+use Rattle.op_core.proofs.Sets.Union.{agree_from_no_clash}
 use Rattle.op_core.proofs.laws.no_clash_agrees.Goals as goal
 
 pub returns : goal.returns

@@ -1,4 +1,4 @@
-use Rattle.op_core.proofs.Joinings.{refused_alike}
+use Rattle.op_core.proofs.Sets.Joinings.{refused_alike}
 use Rattle.op_core.proofs.laws.refused_alike.Goals as goal
 
 pub returns : goal.returns

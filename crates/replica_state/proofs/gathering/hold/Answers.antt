@@ -2,7 +2,7 @@ use Rattle.std.proofs.Common.{Some, None, sym, ap, ◌∙◌}
 use Rattle.std.specs.BTreeMap.{values, insert_entry}
 use Rattle.op_core.specs.Ids.{id_cmp}
 use Rattle.op_core.specs.Sets.{differs}
-use Rattle.op_core.proofs.Union.{put_held}
+use Rattle.op_core.proofs.Sets.Union.{put_held}
 use Rattle.bundle_codec.proofs.Merges.{lent_some}
 use Rattle.replica_state.specs.Loops.Gathering.{by_id}
 use Rattle.replica_state.proofs.Gathered.{held_at, inserted_new, inserted_thinned, differs_not, differs_from}

@@ -2,7 +2,7 @@ use Rattle.std.proofs.Common.{◌≡◌, List, rules, ap, ◌∙◌}
 use Rattle.std.proofs.lemmas.List.Filters.{dedup_is}
 use Rattle.op_core.specs.Ids.{Id, same_id}
 use Rattle.op_core.specs.NextIds.{is_among}
-use Rattle.op_core.proofs.IdSets.{sorted_rises, sorted_members}
+use Rattle.op_core.proofs.IdOrders.IdSets.{sorted_rises, sorted_members}
 use Rattle.replica_state.proofs.ids.in_order.Goals as goal
 
 pub returns-clause-rising : goal.returns-clause-rising

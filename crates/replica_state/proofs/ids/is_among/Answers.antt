@@ -1,5 +1,5 @@
 use Rattle.std.proofs.Common.{sym, ◌∙◌, arith}
-use Rattle.op_core.proofs.IdLists.{holds_at, holds_end}
+use Rattle.op_core.proofs.IdOrders.IdLists.{holds_at, holds_end}
 use Rattle.replica_state.proofs.ids.is_among.Goals as goal
 
 pub returns-then-eq : goal.returns-then-eq

@@ -3,7 +3,7 @@ use Rattle.std.proofs.lemmas.List.Sorted.{IsPartitionPoint-from_clause}
 use Rattle.usfm_ref.proofs.Sorted.{parted}
 use Rattle.usfm_ref.proofs.Placed.{partition_place}
 use Rattle.op_core.specs.Ids.{Id, id_cmp, id_below}
-use Rattle.op_core.proofs.Rising.{id_total}
+use Rattle.op_core.proofs.IdOrders.Rising.{id_total}
 use Rattle.replica_state.proofs.ids.place_id.Goals as goal
 
 pub returns-clause-place : goal.returns-clause-place

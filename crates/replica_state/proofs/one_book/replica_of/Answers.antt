@@ -3,7 +3,7 @@ use Rattle.op_core.specs.Ops.{Operation}
 use Rattle.op_core.specs.Sets.{join}
 use Rattle.op_core.specs.Loops.Index.{AreApart}
 use Rattle.op_core.specs.Thinned.{is_legal}
-use Rattle.op_core.proofs.Fronts.{join_none}
+use Rattle.op_core.proofs.Sets.Fronts.{join_none}
 use Rattle.replica_state.specs.States.{State}
 use Rattle.replica_state.specs.Steps.{with_ops}
 use Rattle.replica_state.proofs.Gathered.{apart_from_none, legal_from_none}

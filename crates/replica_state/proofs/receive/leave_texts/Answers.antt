@@ -3,7 +3,7 @@ use Rattle.std.proofs.lemmas.Bool.{not-true}
 use Rattle.op_core.specs.Ids.{Id, same_id}
 use Rattle.op_core.specs.Ops.{Operation, is_full}
 use Rattle.op_core.specs.Thinned.{thin_where}
-use Rattle.op_core.proofs.Left.{none_thinned}
+use Rattle.op_core.proofs.ThinnedSets.Left.{none_thinned}
 use Rattle.replica_state.proofs.Leaving.{IsLeaving, left, all_left, none_left}
 use Rattle.replica_state.proofs.receive.leave_texts.Goals as goal
 

@@ -1,7 +1,7 @@
 use Rattle.std.proofs.Common.{List, ap, ◌∙◌}
 use Rattle.op_core.specs.Ops.{Operation}
 use Rattle.op_core.specs.Sets.{join}
-use Rattle.op_core.proofs.Fronts.{join_none}
+use Rattle.op_core.proofs.Sets.Fronts.{join_none}
 use Rattle.usfm_cli.proofs.gathered.gather.Goals as goal
 
 pub returns-in-Ok : goal.returns-in-Ok

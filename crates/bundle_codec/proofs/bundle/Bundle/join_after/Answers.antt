@@ -3,8 +3,8 @@ use Rattle.std.specs.List.{flat_map}
 use Rattle.op_core.specs.Ops.{Operation}
 use Rattle.op_core.specs.Sets.{join, clash}
 use Rattle.op_core.specs.Thinned.{all_full}
-use Rattle.op_core.proofs.Union.{IsOpSet-join, agree_from_no_clash}
-use Rattle.op_core.proofs.Legal.{join_legal}
+use Rattle.op_core.proofs.Sets.Union.{IsOpSet-join, agree_from_no_clash}
+use Rattle.op_core.proofs.Sets.Legal.{join_legal}
 use Rattle.bundle_codec.specs.Spelling.{operation}
 use Rattle.bundle_codec.proofs.Refronted.{begun, has_front_at, refronted_at}
 use Rattle.bundle_codec.proofs.bundle.Bundle.join_after.Goals as goal

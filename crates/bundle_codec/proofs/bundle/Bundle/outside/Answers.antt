@@ -1,6 +1,6 @@
 use Rattle.std.proofs.Common.{◌∙◌, arith}
 use Rattle.op_core.specs.Thinned.{is_sent}
-use Rattle.op_core.proofs.Legal.{delta_legal}
+use Rattle.op_core.proofs.Sets.Legal.{delta_legal}
 use Rattle.bundle_codec.specs.Summaries.{covers, outside}
 use Rattle.bundle_codec.proofs.Refronted.{has_front}
 use Rattle.bundle_codec.proofs.Wholes.{whole_reads}

@@ -3,7 +3,7 @@ use Rattle.std.proofs.lemmas.List.{append-nil}
 use Rattle.op_core.specs.Ops.{Operation}
 use Rattle.op_core.specs.Sets.{rises, join}
 use Rattle.op_core.specs.Thinned.{is_legal}
-use Rattle.op_core.proofs.Fronts.{join_none}
+use Rattle.op_core.proofs.Sets.Fronts.{join_none}
 use Rattle.bundle_codec.proofs.bundle.Bundle.to_set.Goals as goal
 
 pub join_rising-requires-clause-legal : goal.join_rising-requires-clause-legal

@@ -2,7 +2,7 @@ use Rattle.std.proofs.Common.{◌≡◌, true, sym, ap, ◌∙◌}
 use Rattle.std.specs.Result.{result_ok}
 use Rattle.std.proofs.lemmas.Fmt.{parse-decimal}
 use Rattle.op_core.specs.Ids.{starts_plainly}
-use Rattle.op_core.proofs.IdTexts.{decimal_is_plain, read_is_written}
+use Rattle.op_core.proofs.IdOrders.IdTexts.{decimal_is_plain, read_is_written}
 use Rattle.op_core.proofs.ids.op_id.number_in.Goals as goal
 
 pub returns-then-not-starts_plainly-clause-only :

@@ -1,6 +1,6 @@
 use Rattle.std.proofs.Common.{arith, sym, ap, ◌∙◌}
 use Rattle.std.specs.Ordering.{is_lt}
-use Rattle.op_core.proofs.Rising.{ids_rise_first, ids_rise_step, ids_rise_stop}
+use Rattle.op_core.proofs.IdOrders.Rising.{ids_rise_first, ids_rise_step, ids_rise_stop}
 use Rattle.op_core.proofs.ids.op_id.rise.Goals as goal
 
 pub loop-i-init : goal.loop-i-init

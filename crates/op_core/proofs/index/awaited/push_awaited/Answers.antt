@@ -1,6 +1,6 @@
 use Rattle.std.proofs.Common.{not}
 use Rattle.op_core.specs.Lists.{is_held}
-use Rattle.op_core.proofs.Awaited.{missed_in_at, on_err}
+use Rattle.op_core.proofs.Indexed.Awaited.{missed_in_at, on_err}
 use Rattle.op_core.proofs.index.awaited.push_awaited.Goals as goal
 
 pub returns-in_err-push_missing_in-clause-one : goal.returns-in_err-push_missing_in-clause-one

@@ -1,5 +1,5 @@
 use Rattle.std.proofs.Common.{ap, not, ◌∙◌}
-use Rattle.op_core.proofs.Awaited.{held_none, gathered, passed, is_unheld, on_err}
+use Rattle.op_core.proofs.Indexed.Awaited.{held_none, gathered, passed, is_unheld, on_err}
 use Rattle.op_core.proofs.index.awaited.push_unheld.Goals.{then-is_none+in_ok-push, else-is_none}
 use Rattle.op_core.proofs.index.awaited.push_unheld.Goals as goal
 

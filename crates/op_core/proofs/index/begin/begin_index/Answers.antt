@@ -3,7 +3,7 @@ use Rattle.std.proofs.lemmas.List.{nil_from_length}
 use Rattle.usfm_ref.specs.Keys.{KeyParts}
 use Rattle.usfm_ref.specs.Segments.{segment}
 use Rattle.op_core.specs.Loops.Index.{register_of, Changes}
-use Rattle.op_core.proofs.Begun.{none_begun, none_yet, begun_more, begun_index}
+use Rattle.op_core.proofs.Indexed.Begun.{none_begun, none_yet, begun_more, begun_index}
 use Rattle.op_core.proofs.index.begin.begin_index.Goals as goal
 
 pub runs-init : goal.runs-init

@@ -1,5 +1,5 @@
 use Rattle.std.proofs.Common.{length}
-use Rattle.op_core.proofs.Begun.{Begun}
+use Rattle.op_core.proofs.Indexed.Begun.{Begun}
 use Rattle.op_core.proofs.index.begin.begin_index.Given as goal
 
 abbrev pub invariant-runs : goal.invariant-runs

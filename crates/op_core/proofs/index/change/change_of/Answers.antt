@@ -3,7 +3,7 @@ use Rattle.usfm_ref.specs.Segments.{segment}
 use Rattle.op_core.specs.Ids.{Id}
 use Rattle.op_core.specs.NextIds.{is_among}
 use Rattle.op_core.specs.Loops.Index.{is_in}
-use Rattle.op_core.proofs.IdSets.{arrived_table, lacking_table}
+use Rattle.op_core.proofs.IdOrders.IdSets.{arrived_table, lacking_table}
 use Rattle.op_core.proofs.index.change.change_of.Goals as goal
 
 pub returns-clause-change : goal.returns-clause-change

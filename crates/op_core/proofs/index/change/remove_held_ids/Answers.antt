@@ -1,7 +1,7 @@
 use Rattle.std.proofs.Common.{arith, not, sym, ap, ◌∙◌}
 use Rattle.std.proofs.lemmas.List.Filters.{FiltersInPlace-more_swap, FiltersInPlace-more_no, FiltersInPlace-all}
 use Rattle.op_core.specs.Loops.Index.{is_in}
-use Rattle.op_core.proofs.IdSets.{filter_rises, filter_members}
+use Rattle.op_core.proofs.IdOrders.IdSets.{filter_rises, filter_members}
 use Rattle.op_core.proofs.index.change.remove_held_ids.Goals.{then-not-is_in, else-not-is_in}
 use Rattle.op_core.proofs.index.change.remove_held_ids.Goals as goal
 

@@ -5,7 +5,7 @@ use Rattle.usfm_ref.specs.Keys.{key_cmp}
 use Rattle.usfm_ref.proofs.Orders.{key_total}
 use Rattle.usfm_ref.proofs.Sorted.{place}
 use Rattle.op_core.specs.declared.index.register.Register.{Register}
-use Rattle.op_core.proofs.Registers.{rise, insert_changes}
+use Rattle.op_core.proofs.Indexed.Registers.{rise, insert_changes}
 use Rattle.op_core.proofs.index.chapter.put_register.Goals as goal
 
 pub place_register-at-requires : goal.place_register-at-requires

@@ -4,9 +4,9 @@ use Rattle.op_core.specs.Ids.{ids_rise}
 use Rattle.op_core.specs.NextIds.{is_among}
 use Rattle.op_core.specs.Loops.Index.{shown_in, missing_in, HasRoomIn}
 use Rattle.op_core.specs.declared.index.register.Register.{Register}
-use Rattle.op_core.proofs.Registers.{there_at, at_was, at_is, at_changes, key_now}
-use Rattle.op_core.proofs.IdSets.{if_ok}
-use Rattle.op_core.proofs.Turned.{change_told}
+use Rattle.op_core.proofs.Indexed.Registers.{there_at, at_was, at_is, at_changes, key_now}
+use Rattle.op_core.proofs.IdOrders.IdSets.{if_ok}
+use Rattle.op_core.proofs.Indexed.Turned.{change_told}
 use Rattle.op_core.proofs.index.chapter.ready_at_key.Goals as goal
 
 pub index_mut-requires : goal.index_mut-requires

@@ -2,8 +2,8 @@ use Rattle.std.proofs.Common.{arith, subst, IsTrue, Option}
 use Rattle.op_core.specs.Ids.{ids_rise}
 use Rattle.op_core.specs.Loops.Index.{register_at, shown_in, missing_in, HasRoomIn}
 use Rattle.op_core.specs.declared.index.register.Register.{Register}
-use Rattle.op_core.proofs.Registers.{there_at, at_was, at_changes}
-use Rattle.op_core.proofs.There.{has_there}
+use Rattle.op_core.proofs.Indexed.Registers.{there_at, at_was, at_changes}
+use Rattle.op_core.proofs.Indexed.There.{has_there}
 use Rattle.op_core.proofs.index.chapter.take_at_key.Goals as goal
 
 pub index_mut-requires : goal.index_mut-requires

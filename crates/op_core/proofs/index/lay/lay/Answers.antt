@@ -2,8 +2,8 @@ use Rattle.std.proofs.Common.{sym, ap, subst, ◌∙◌, ◌≡◌, true, false}
 use Rattle.usfm_ref.specs.Keys.{KeyParts}
 use Rattle.usfm_ref.specs.Segments.{segment}
 use Rattle.op_core.specs.Loops.Index.{register_of, is_there}
-use Rattle.op_core.proofs.Registers.{map_ok}
-use Rattle.op_core.proofs.There.{not_there, there_itself, readies_same, readies_put, readies_like, either}
+use Rattle.op_core.proofs.Indexed.Registers.{map_ok}
+use Rattle.op_core.proofs.Indexed.There.{not_there, there_itself, readies_same, readies_put, readies_like, either}
 use Rattle.op_core.proofs.index.lay.lay.Goals as goal
 
 pub returns-then-is_laid-clause-same : goal.returns-then-is_laid-clause-same

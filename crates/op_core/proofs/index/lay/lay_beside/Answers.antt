@@ -3,8 +3,8 @@ use Rattle.std.specs.Ordering.{is_eq}
 use Rattle.usfm_ref.specs.Keys.{KeyParts, head_of}
 use Rattle.op_core.specs.Loops.Index.{registers_of, LaysKeys}
 use Rattle.op_core.specs.declared.index.register.Register.{Register}
-use Rattle.op_core.proofs.Registers.{rise}
-use Rattle.op_core.proofs.Chapters.{were_there, set_chapter, lays_in}
+use Rattle.op_core.proofs.Indexed.Registers.{rise}
+use Rattle.op_core.proofs.Indexed.Chapters.{were_there, set_chapter, lays_in}
 use Rattle.op_core.proofs.index.lay.lay_beside.Goals as goal
 
 pub lay_keys-requires : goal.lay_keys-requires

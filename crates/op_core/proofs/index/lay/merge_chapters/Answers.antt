@@ -5,8 +5,8 @@ use Rattle.usfm_ref.proofs.Orders.{segment_total}
 use Rattle.usfm_ref.proofs.Sorted.{place}
 use Rattle.op_core.specs.Loops.Index.{home_of, chapter_of, begins_above}
 use Rattle.op_core.specs.declared.index.chapter.Chapter.{Chapter}
-use Rattle.op_core.proofs.Between.{rises_front}
-use Rattle.op_core.proofs.Laid.{chapters_moved, chapter_more}
+use Rattle.op_core.proofs.Indexed.Between.{rises_front}
+use Rattle.op_core.proofs.Indexed.Laid.{chapters_moved, chapter_more}
 use Rattle.op_core.proofs.index.lay.merge_chapters.Goals as goal
 
 pub place_chapter-at-requires : goal.place_chapter-at-requires

@@ -5,8 +5,8 @@ use Rattle.usfm_ref.proofs.Orders.{key_total, same_key-is}
 use Rattle.usfm_ref.proofs.Sorted.{place}
 use Rattle.op_core.specs.Loops.Index.{begins_above}
 use Rattle.op_core.specs.declared.index.register.Register.{Register}
-use Rattle.op_core.proofs.Between.{rises_front}
-use Rattle.op_core.proofs.Laid.{keys_moved, key_more}
+use Rattle.op_core.proofs.Indexed.Between.{rises_front}
+use Rattle.op_core.proofs.Indexed.Laid.{keys_moved, key_more}
 use Rattle.op_core.proofs.index.lay.merge_registers.Goals as goal
 
 pub place_register-at-requires : goal.place_register-at-requires

@@ -4,9 +4,9 @@ use Rattle.op_core.specs.Ids.{ids_rise}
 use Rattle.op_core.specs.NextIds.{is_among}
 use Rattle.op_core.specs.Loops.Index.{register_at, shown_in, missing_in, HasRoomIn, IsAtKey, IsSameBut, IsChangeOf}
 use Rattle.op_core.specs.declared.index.register.Register.{Register}
-use Rattle.op_core.proofs.Registers.{rise}
-use Rattle.op_core.proofs.Chapters.{chapter_there, chapter_was, chapter_changes, now_in, is_at}
-use Rattle.op_core.proofs.IdSets.{if_ok}
+use Rattle.op_core.proofs.Indexed.Registers.{rise}
+use Rattle.op_core.proofs.Indexed.Chapters.{chapter_there, chapter_was, chapter_changes, now_in, is_at}
+use Rattle.op_core.proofs.IdOrders.IdSets.{if_ok}
 use Rattle.op_core.proofs.index.ready.ready.Goals as goal
 
 pub index_mut-requires : goal.index_mut-requires

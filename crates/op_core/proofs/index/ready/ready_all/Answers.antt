@@ -1,6 +1,6 @@
 use Rattle.std.proofs.lemmas.List.{nil_from_length}
-use Rattle.op_core.proofs.There.{readies_more}
-use Rattle.op_core.proofs.Runs.{walk_on, walk_ends}
+use Rattle.op_core.proofs.Indexed.There.{readies_more}
+use Rattle.op_core.proofs.Indexed.Runs.{walk_on, walk_ends}
 use Rattle.op_core.proofs.index.ready.ready_all.Goals as goal
 
 pub returns-in_err-change-clause-same : goal.returns-in_err-change-clause-same

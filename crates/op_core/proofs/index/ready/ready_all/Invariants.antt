@@ -1,5 +1,5 @@
 use Rattle.std.proofs.Common.{length}
-use Rattle.op_core.proofs.Runs.{Walked}
+use Rattle.op_core.proofs.Indexed.Runs.{Walked}
 use Rattle.op_core.proofs.index.ready.ready_all.Given as goal
 
 abbrev pub invariant-runs : goal.invariant-runs

@@ -2,9 +2,9 @@ use Rattle.std.proofs.Common.{refl, sym}
 use Rattle.op_core.specs.NextIds.{is_among}
 use Rattle.op_core.specs.Loops.Index.{register_of, shown_in, missing_in}
 use Rattle.op_core.specs.Loops.Turns.{comes, is_called}
-use Rattle.op_core.proofs.IdSets.{if_ok}
-use Rattle.op_core.proofs.There.{readies_more, readies_at, ready_shown, ready_missing}
-use Rattle.op_core.proofs.Turned.{change_told}
+use Rattle.op_core.proofs.IdOrders.IdSets.{if_ok}
+use Rattle.op_core.proofs.Indexed.There.{readies_more, readies_at, ready_shown, ready_missing}
+use Rattle.op_core.proofs.Indexed.Turned.{change_told}
 use Rattle.op_core.proofs.index.ready.ready_run.Goals as goal
 
 pub ready-requires-clause-orderly : goal.ready-requires-clause-orderly

@@ -3,9 +3,9 @@ use Rattle.usfm_ref.specs.Segments.{segment}
 use Rattle.op_core.specs.Ids.{ids_rise}
 use Rattle.op_core.specs.Loops.Index.{register_at, register_of, shown_in, missing_in, HasRoomIn, IsAtKey, Takes}
 use Rattle.op_core.specs.declared.index.register.Register.{Register}
-use Rattle.op_core.proofs.Registers.{rise}
-use Rattle.op_core.proofs.Chapters.{chapter_there, chapter_was, chapter_changes, is_at}
-use Rattle.op_core.proofs.There.{has_there}
+use Rattle.op_core.proofs.Indexed.Registers.{rise}
+use Rattle.op_core.proofs.Indexed.Chapters.{chapter_there, chapter_was, chapter_changes, is_at}
+use Rattle.op_core.proofs.Indexed.There.{has_there}
 use Rattle.op_core.proofs.index.settle.settle.Goals as goal
 
 pub index_mut-requires : goal.index_mut-requires

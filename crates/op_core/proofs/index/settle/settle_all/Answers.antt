@@ -5,7 +5,7 @@ use Rattle.op_core.specs.Loops.Index.{register_of, change_at, shown_in, missing_
 use Rattle.op_core.specs.Loops.Changes.{change_for}
 use Rattle.op_core.specs.declared.index.register.Register.{Register}
 use Rattle.op_core.specs.declared.index.change.Change.{Change}
-use Rattle.op_core.proofs.Settled.{front, rise_front, found_all, pending_first, as_it_was, pending_more, settled}
+use Rattle.op_core.proofs.Indexed.Settled.{front, rise_front, found_all, pending_first, as_it_was, pending_more, settled}
 use Rattle.op_core.proofs.index.settle.settle_all.Goals as goal
 
 pub changes-init : goal.changes-init

@@ -4,8 +4,8 @@ use Rattle.usfm_ref.specs.declared.segment.Segment.{Segment}
 use Rattle.op_core.specs.Loops.Index.{register_of, change_at, IsOrderly, IsRisingChange}
 use Rattle.op_core.specs.Loops.Changes.{change_for, AllHaveRoom}
 use Rattle.op_core.specs.declared.index.change.Change.{Change}
-use Rattle.op_core.proofs.Turned.{changes_rise}
-use Rattle.op_core.proofs.Settled.{Pending}
+use Rattle.op_core.proofs.Indexed.Turned.{changes_rise}
+use Rattle.op_core.proofs.Indexed.Settled.{Pending}
 use Rattle.op_core.proofs.index.settle.settle_all.Given as goal
 
 abbrev pub invariant-changes : goal.invariant-changes

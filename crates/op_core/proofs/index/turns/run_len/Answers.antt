@@ -4,8 +4,8 @@ use Rattle.std.specs.Cmp.{Equal-is}
 use Rattle.usfm_ref.specs.Segments.{segment_cmp}
 use Rattle.usfm_ref.proofs.Orders.{segment_exact}
 use Rattle.op_core.specs.declared.index.turns.Turn.{Turn}
-use Rattle.op_core.proofs.Enrolled.{all_more}
-use Rattle.op_core.proofs.Turned.{later_above}
+use Rattle.op_core.proofs.Indexed.Enrolled.{all_more}
+use Rattle.op_core.proofs.Indexed.Turned.{later_above}
 use Rattle.op_core.proofs.index.turns.run_len.Goals as goal
 
 pub loop-at-preserved : goal.loop-at-preserved

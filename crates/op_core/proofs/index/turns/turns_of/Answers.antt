@@ -5,7 +5,7 @@ use Rattle.std.proofs.lemmas.List.Sorted.{answers_always}
 use Rattle.usfm_ref.specs.Segments.{segment_cmp}
 use Rattle.op_core.specs.Ops.{Operation}
 use Rattle.op_core.specs.declared.index.turns.Turn.{Turn}
-use Rattle.op_core.proofs.Turned.{turns_rank, sorted_turns}
+use Rattle.op_core.proofs.Indexed.Turned.{turns_rank, sorted_turns}
 use Rattle.op_core.proofs.index.turns.turns_of.Goals as goal
 
 pub returns : goal.returns

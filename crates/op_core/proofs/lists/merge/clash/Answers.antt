@@ -1,5 +1,5 @@
 use Rattle.std.proofs.Common.{sym, ap, ◌∙◌, Some}
-use Rattle.op_core.proofs.SideBySide.{left_rises, right_rises, turn_less, turn_greater, turn_equal, turn_clash, ids_compare, none_left, from_empty}
+use Rattle.op_core.proofs.Sets.SideBySide.{left_rises, right_rises, turn_less, turn_greater, turn_equal, turn_clash, ids_compare, none_left, from_empty}
 use Rattle.op_core.proofs.lists.merge.clash.Goals as goal
 
 pub returns-then-not-agrees : goal.returns-then-not-agrees

@@ -3,7 +3,7 @@ use Rattle.std.specs.List.{list_any}
 use Rattle.std.proofs.lemmas.List.Folds.{list_any_at}
 use Rattle.op_core.specs.Ops.{Operation}
 use Rattle.op_core.specs.Sets.{get}
-use Rattle.op_core.proofs.Fresh.{looked_up, none_more}
+use Rattle.op_core.proofs.Sets.Fresh.{looked_up, none_more}
 use Rattle.op_core.proofs.lists.merge.has_new.Goals as goal
 
 pub loop-op-preserved : goal.loop-op-preserved

@@ -3,8 +3,8 @@ use Rattle.std.proofs.lemmas.Bool.{cond-true}
 use Rattle.op_core.specs.Ops.{Operation}
 use Rattle.op_core.specs.Sets.{rises, get}
 use Rattle.op_core.specs.Loops.Index.{AreApart, IsBefore}
-use Rattle.op_core.proofs.Enrolled.{front_rises}
-use Rattle.op_core.proofs.Merging.{place, all_last, join_last, rises_take, apart_left, before_left, union_more}
+use Rattle.op_core.proofs.Indexed.Enrolled.{front_rises}
+use Rattle.op_core.proofs.Sets.Merging.{place, all_last, join_last, rises_take, apart_left, before_left, union_more}
 use Rattle.op_core.proofs.lists.merge.interleave.Goals as goal
 
 pub move_after-requires-clause-room : goal.move_after-requires-clause-room

@@ -1,7 +1,7 @@
 use Rattle.std.proofs.Common.{subst, take_all}
 use Rattle.std.specs.List.{AllByRecursion}
 use Rattle.op_core.specs.Ops.{IsOperation}
-use Rattle.op_core.proofs.Enrolled.{all_more}
+use Rattle.op_core.proofs.Indexed.Enrolled.{all_more}
 use Rattle.op_core.proofs.lists.merge.look_at_each.Goals as goal
 
 pub loop-op-preserved : goal.loop-op-preserved

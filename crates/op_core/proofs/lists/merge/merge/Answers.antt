@@ -3,8 +3,8 @@ use Rattle.std.proofs.lemmas.Bool.{cond-true, eqb-true}
 use Rattle.std.proofs.lemmas.List.{nil_from_length}
 use Rattle.op_core.specs.Ops.{Operation}
 use Rattle.op_core.specs.Sets.{join}
-use Rattle.op_core.proofs.Fronts.{join_none}
-use Rattle.op_core.proofs.Merging.{join_after}
+use Rattle.op_core.proofs.Sets.Fronts.{join_none}
+use Rattle.op_core.proofs.Sets.Merging.{join_after}
 use Rattle.op_core.proofs.lists.merge.merge.Goals as goal
 
 pub returns-then-is_empty : goal.returns-then-is_empty

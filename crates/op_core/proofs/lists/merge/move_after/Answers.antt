@@ -1,6 +1,6 @@
 use Rattle.std.proofs.Common.{ap, ◌≡◌, ◌∙◌, true, is_ok, arith}
 use Rattle.std.proofs.lemmas.Bool.{cond-true}
-use Rattle.op_core.proofs.Merging.{moved_more}
+use Rattle.op_core.proofs.Sets.Merging.{moved_more}
 use Rattle.op_core.proofs.lists.merge.move_after.Goals as goal
 
 pub moving-preserved : goal.moving-preserved

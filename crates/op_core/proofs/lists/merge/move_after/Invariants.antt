@@ -1,5 +1,5 @@
 use Rattle.std.proofs.Common.{◌≡◌, ◌≤◌, ◌+◌, vec_len, vec_capacity}
-use Rattle.op_core.proofs.Merging.{Moved}
+use Rattle.op_core.proofs.Sets.Merging.{Moved}
 use Rattle.op_core.proofs.lists.merge.move_after.Given as goal
 
 abbrev pub invariant-moving : goal.invariant-moving

@@ -3,7 +3,7 @@ use Rattle.op_core.specs.Ids.{Id}
 use Rattle.op_core.specs.Ops.{Operation}
 use Rattle.op_core.specs.Sets.{rises}
 use Rattle.op_core.specs.Loops.Index.{IsBefore}
-use Rattle.op_core.proofs.Merging.{place, before_first}
+use Rattle.op_core.proofs.Sets.Merging.{place, before_first}
 use Rattle.op_core.proofs.lists.merge.place_first.Goals as goal
 
 pub returns-in-Some-clause-before : goal.returns-in-Some-clause-before

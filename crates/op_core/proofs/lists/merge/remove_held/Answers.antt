@@ -1,6 +1,6 @@
 use Rattle.std.proofs.Common.{arith, ◌∙◌}
 use Rattle.std.proofs.lemmas.List.Filters.{FiltersInPlace-more_swap, FiltersInPlace-more_no}
-use Rattle.op_core.proofs.Fresh.{looked_up}
+use Rattle.op_core.proofs.Sets.Fresh.{looked_up}
 use Rattle.op_core.proofs.lists.merge.remove_held.Goals.{then-is_none, else-is_none}
 use Rattle.op_core.proofs.lists.merge.remove_held.Goals as goal
 

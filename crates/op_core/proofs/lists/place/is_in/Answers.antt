@@ -1,4 +1,4 @@
-use Rattle.op_core.proofs.Inside.{in_none, in_some}
+use Rattle.op_core.proofs.IdOrders.Inside.{in_none, in_some}
 use Rattle.op_core.proofs.lists.place.is_in.Goals as goal
 
 pub returns-in-None-clause-found : goal.returns-in-None-clause-found

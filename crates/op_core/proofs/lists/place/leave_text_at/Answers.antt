@@ -6,9 +6,9 @@ use Rattle.op_core.specs.Ops.{Operation, is_full, bare}
 use Rattle.op_core.specs.Sets.{get}
 use Rattle.op_core.specs.Thinned.{has_text}
 use Rattle.std.specs.Prelude.{slice_set}
-use Rattle.op_core.proofs.Rising.{id_total}
-use Rattle.op_core.proofs.Held.{get-found, tied_at, apart_at}
-use Rattle.op_core.proofs.TwoSteps.{where_at, where_none}
+use Rattle.op_core.proofs.IdOrders.Rising.{id_total}
+use Rattle.op_core.proofs.Sets.Held.{get-found, tied_at, apart_at}
+use Rattle.op_core.proofs.ThinnedSets.TwoSteps.{where_at, where_none}
 use Rattle.usfm_ref.proofs.Sorted.{found_here, found_not, found_end}
 use Rattle.op_core.proofs.lists.place.leave_text_at.Goals as goal
 

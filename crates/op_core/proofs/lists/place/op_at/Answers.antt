@@ -1,8 +1,8 @@
 use Rattle.std.proofs.Common.{sym, ◌∙◌}
 use Rattle.op_core.specs.Ids.{id_cmp}
 use Rattle.op_core.specs.Ops.{Operation}
-use Rattle.op_core.proofs.Rising.{id_total}
-use Rattle.op_core.proofs.Held.{get-found, tied_at, apart_at}
+use Rattle.op_core.proofs.IdOrders.Rising.{id_total}
+use Rattle.op_core.proofs.Sets.Held.{get-found, tied_at, apart_at}
 use Rattle.usfm_ref.proofs.Sorted.{found_here, found_not, found_end}
 use Rattle.op_core.proofs.lists.place.op_at.Goals.{then-at-ops+else-eq, else-at-ops}
 use Rattle.op_core.proofs.lists.place.op_at.Goals as goal

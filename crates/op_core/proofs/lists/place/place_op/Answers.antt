@@ -1,7 +1,7 @@
 use Rattle.std.proofs.Common.{rules, of_calls}
 use Rattle.op_core.specs.Ids.{id_cmp, id_below}
 use Rattle.op_core.specs.Ops.{Operation}
-use Rattle.op_core.proofs.Rising.{id_total}
+use Rattle.op_core.proofs.IdOrders.Rising.{id_total}
 use Rattle.usfm_ref.proofs.Sorted.{parted}
 use Rattle.op_core.proofs.lists.place.place_op.Goals as goal
 

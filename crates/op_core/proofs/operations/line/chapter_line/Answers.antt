@@ -1,5 +1,5 @@
 use Rattle.std.proofs.Common.{arith}
-use Rattle.op_core.proofs.LineLengths.{digits_of_chapter}
+use Rattle.op_core.proofs.IdOrders.LineLengths.{digits_of_chapter}
 use Rattle.op_core.proofs.operations.line.chapter_line.Goals as goal
 
 pub push_number-requires : goal.push_number-requires

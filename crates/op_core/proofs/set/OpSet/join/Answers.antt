@@ -6,9 +6,9 @@ use Rattle.op_core.specs.Sets.{rises, get, join, clash}
 use Rattle.op_core.specs.NextIds.{is_among}
 use Rattle.op_core.specs.Loops.Index.{AreApart}
 use Rattle.op_core.specs.Thinned.{is_past, is_legal, thin_where, is_thinned_in}
-use Rattle.op_core.proofs.Fresh.{fresh, fresh_rises, fresh_apart, length_join, some_new, none_new, nothing_fresh}
-use Rattle.op_core.proofs.TwoSteps.{two_steps, past_between}
-use Rattle.op_core.proofs.Left.{where_agree, length_where}
+use Rattle.op_core.proofs.Sets.Fresh.{fresh, fresh_rises, fresh_apart, length_join, some_new, none_new, nothing_fresh}
+use Rattle.op_core.proofs.ThinnedSets.TwoSteps.{two_steps, past_between}
+use Rattle.op_core.proofs.ThinnedSets.Left.{where_agree, length_where}
 use Rattle.op_core.proofs.set.OpSet.join.Goals as goal
 
 pub leave_thinned-requires : goal.leave_thinned-requires

@@ -2,8 +2,8 @@ use Rattle.std.proofs.Common.{List, ap, sym, ◌∙◌, take, take_all}
 use Rattle.op_core.specs.Ids.{Id}
 use Rattle.op_core.specs.NextIds.{is_among}
 use Rattle.op_core.specs.Thinned.{thin_where}
-use Rattle.op_core.proofs.Enrolled.{more_items}
-use Rattle.op_core.proofs.Left.{past_on, among_at, where_more, where_never}
+use Rattle.op_core.proofs.Indexed.Enrolled.{more_items}
+use Rattle.op_core.proofs.ThinnedSets.Left.{past_on, among_at, where_more, where_never}
 use Rattle.op_core.proofs.set.OpSet.leave_texts.Goals as goal
 
 pub thin_id-requires : goal.thin_id-requires

@@ -2,7 +2,7 @@ use Rattle.std.proofs.Common.{ap, sym, subst, ◌∙◌, ◌≡◌, take, take_a
 use Rattle.op_core.specs.Ids.{Id, same_id}
 use Rattle.op_core.specs.Ops.{Operation, is_thinned}
 use Rattle.op_core.specs.Thinned.{ArePast, thin_where, is_thinned_in}
-use Rattle.op_core.proofs.Left.{none_thinned, past_on, thinned_item, leaves_more, leaves_same, where_never}
+use Rattle.op_core.proofs.ThinnedSets.Left.{none_thinned, past_on, thinned_item, leaves_more, leaves_same, where_never}
 use Rattle.op_core.proofs.set.OpSet.leave_thinned.Goals.{then-is_none, else-is_none}
 use Rattle.op_core.proofs.set.OpSet.leave_thinned.Goals as goal
 

@@ -4,8 +4,8 @@ use Rattle.op_core.specs.Ops.{Operation}
 use Rattle.op_core.specs.Sets.{IsOpSet}
 use Rattle.op_core.specs.Loops.Index.{IsIndex}
 use Rattle.op_core.specs.Thinned.{is_legal, is_left_out, thin}
-use Rattle.op_core.proofs.Legal.{thin_legal}
-use Rattle.op_core.proofs.Left.{IsOpSet-thin, index_thin, length_thin, written}
+use Rattle.op_core.proofs.Sets.Legal.{thin_legal}
+use Rattle.op_core.proofs.ThinnedSets.Left.{IsOpSet-thin, index_thin, length_thin, written}
 use Rattle.op_core.proofs.set.OpSet.thin.Goals as goal
 
 pub invariant_of-self : goal.invariant_of-self

@@ -5,8 +5,8 @@ use Rattle.op_core.specs.Ops.{Operation}
 use Rattle.op_core.specs.Sets.{get, IsOpSet}
 use Rattle.op_core.specs.Loops.Index.{IsIndex}
 use Rattle.op_core.specs.Thinned.{is_legal, thin_where, has_text}
-use Rattle.op_core.proofs.TwoSteps.{where_legal}
-use Rattle.op_core.proofs.Left.{IsOpSet-where, index_where, written, length_where}
+use Rattle.op_core.proofs.ThinnedSets.TwoSteps.{where_legal}
+use Rattle.op_core.proofs.ThinnedSets.Left.{IsOpSet-where, index_where, written, length_where}
 use Rattle.op_core.proofs.set.OpSet.thin_id.Goals as goal
 
 pub invariant_of-self : goal.invariant_of-self

@@ -1,7 +1,7 @@
 use Rattle.std.proofs.Common.{ap, ◌∙◌, take_all, List}
 use Rattle.op_core.specs.Ops.{Operation}
 use Rattle.op_core.specs.Thinned.{is_thinned_in}
-use Rattle.op_core.proofs.Left.{none_thinned, gathers, passes}
+use Rattle.op_core.proofs.ThinnedSets.Left.{none_thinned, gathers, passes}
 use Rattle.op_core.proofs.set.thinning.ids.Goals.{then-is_none+in_ok-push, else-is_none}
 use Rattle.op_core.proofs.set.thinning.ids.Goals as goal
 

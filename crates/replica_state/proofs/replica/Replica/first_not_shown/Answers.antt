@@ -1,7 +1,7 @@
 use Rattle.std.proofs.Common.{ap, ◌∙◌}
 use Rattle.usfm_ref.specs.Segments.{segment}
 use Rattle.op_core.specs.Ids.{ids_rise}
-use Rattle.op_core.proofs.Kept.{shown_ids_rise}
+use Rattle.op_core.proofs.Indexed.Kept.{shown_ids_rise}
 use Rattle.replica_state.specs.States.{IsState}
 use Rattle.replica_state.proofs.replica.Replica.first_not_shown.Goals as goal
 

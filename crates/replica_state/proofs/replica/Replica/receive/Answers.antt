@@ -1,6 +1,6 @@
 use Rattle.std.proofs.Common.{Ok, Err, ap, sym, ◌∙◌, length}
 use Rattle.std.proofs.lemmas.Bool.{false≢true}
-use Rattle.op_core.proofs.Fresh.{fresh_rises, fresh_apart}
+use Rattle.op_core.proofs.Sets.Fresh.{fresh_rises, fresh_apart}
 use Rattle.replica_state.specs.Receives.{lacked}
 use Rattle.replica_state.proofs.Lacking.{lacked_legal, lacked_past, all_before, all_joined, answered, nothing_lacked, not_refused}
 use Rattle.replica_state.proofs.replica.Replica.receive.Goals as goal

@@ -1,7 +1,7 @@
 use Rattle.std.proofs.Common.{sym, ap, ◌∙◌}
 use Rattle.op_core.specs.Sets.{clash, join}
-use Rattle.op_core.proofs.Fronts.{join_none}
-use Rattle.op_core.proofs.SideBySide.{clash_none}
+use Rattle.op_core.proofs.Sets.Fronts.{join_none}
+use Rattle.op_core.proofs.Sets.SideBySide.{clash_none}
 use Rattle.usfm_cli.specs.declared.gathered.Gathered.{Gathered}
 use Rattle.usfm_cli.specs.Loops.Gathered.{held_in}
 use Rattle.usfm_cli.proofs.gathered.Gathered.receive.Goals as goal

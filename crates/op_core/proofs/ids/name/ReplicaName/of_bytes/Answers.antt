@@ -1,5 +1,5 @@
 use Rattle.std.proofs.Common.{◌∙◌, sym}
-use Rattle.op_core.proofs.Texts.{name_found, padded_name}
+use Rattle.op_core.proofs.IdOrders.Texts.{name_found, padded_name}
 use Rattle.op_core.proofs.ids.name.ReplicaName.of_bytes.Goals as goal
 
 pub invariant_of-result : goal.invariant_of-result

@@ -1,6 +1,6 @@
 use Rattle.std.proofs.Common.{subst, sym, IsTrue, List, ℕ}
 use Rattle.op_core.specs.Names.{is_name}
-use Rattle.op_core.proofs.Texts.{IsUtf8-from_name}
+use Rattle.op_core.proofs.IdOrders.Texts.{IsUtf8-from_name}
 use Rattle.op_core.proofs.ids.name.ReplicaName.text.Goals as goal
 
 pub from_utf8_unchecked-requires : goal.from_utf8_unchecked-requires

@@ -6,7 +6,7 @@ use Rattle.std.proofs.lemmas.Str.Pattern.{IsSplitOnceResult, split_parts}
 use Rattle.op_core.specs.Ids.{Id, is_id, is_number, id_text}
 use Rattle.op_core.specs.Names.{is_name}
 use Rattle.op_core.specs.declared.fault.IdFault.TheVariants.{BadOpId}
-use Rattle.op_core.proofs.IdTexts.{id_parts, number_range}
+use Rattle.op_core.proofs.IdOrders.IdTexts.{id_parts, number_range}
 use Rattle.op_core.proofs.ids.op_id.OpId.read.Goals as goal
 
 record AreParts (id : Id) (x : Bor (List ℕ) × Bor (List ℕ)) : Type 0 where

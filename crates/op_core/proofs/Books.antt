@@ -1,0 +1,5 @@
+pub mod CutsBack
+pub mod Exported
+pub mod ByShown
+pub mod Shows
+pub mod OneBook

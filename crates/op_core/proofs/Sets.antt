@@ -1,0 +1,16 @@
+pub mod Agreement
+pub mod Union
+pub mod SideBySide
+pub mod Held
+pub mod Clashes
+pub mod Merging
+pub mod Fresh
+pub mod Fronts
+pub mod Gets
+pub mod NoClash
+pub mod Filters
+pub mod Legal
+pub mod Groupings
+pub mod Families
+pub mod Joinings
+pub mod Together

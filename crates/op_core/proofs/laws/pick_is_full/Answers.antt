@@ -1,5 +1,0 @@
-use Rattle.op_core.proofs.Legal.{pick_full}
-use Rattle.op_core.proofs.laws.pick_is_full.Goals as goal
-
-pub returns : goal.returns
-returns _ = pick_full

@@ -1,5 +1,0 @@
-use Rattle.op_core.proofs.Union.{put_held}
-use Rattle.op_core.proofs.laws.put_held.Goals as goal
-
-pub returns : goal.returns
-returns _ held p o h g _ f = put_held o p held h g f

@@ -1,5 +1,0 @@
-use Rattle.op_core.proofs.Legal.{shown_full}
-use Rattle.op_core.proofs.laws.shown_are_full.Goals as goal
-
-pub returns : goal.returns
-returns _ = shown_full
