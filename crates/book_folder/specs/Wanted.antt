@@ -1,5 +1,5 @@
 -- What was read of a project and a folder, and what a person asks for.
-use Rattle.std.specs.Prelude.{ℕ, Bool, List, Option, map, option_map, string_bytes}
+use Rattle.std.specs.Prelude.{ℕ, Bool, false, List, [], Option, None, map, option_map, string_bytes}
 use Rattle.usfm_ref.specs.Keys.{KeyParts}
 use Rattle.book_folder.specs.declared.seen.Found.{Found}
 use Rattle.book_folder.specs.declared.seen.Named.{Named}
@@ -78,4 +78,15 @@ wishes_view w = record {
   joined = w.joined;
   settled = map wanted_view w.settled.items;
   form = option_map string_bytes w.form;
+}
+
+-- what a person asks for who asks for nothing
+abbrev pub no_wishes : WishParts
+no_wishes = record {
+  emptied = false;
+  undone = false;
+  stale = false;
+  joined = false;
+  settled = [];
+  form = None;
 }

@@ -1,4 +1,7 @@
 // What was read of a project and a folder, and what a person asked for.
+ghost use Rattle.std.specs.Prelude.{◌≡◌};
+ghost use Rattle.book_folder.specs.Wanted as wanted;
+
 use std::alloc::Global;
 use usfm_ref::{Book, Key};
 
@@ -72,7 +75,9 @@ pub struct Wishes {
 
 impl Wishes {
     /// No wishes.
-    pub fn none(alloc: Global) -> Wishes {
+    pub fn none(alloc: Global) -> Wishes
+        ensures { wanted.wishes_view result ≡ wanted.no_wishes }
+    {
         Wishes {
             emptied: false,
             undone: false,
