@@ -6,7 +6,7 @@ use Rattle.op_core.specs.Ops.{Operation}
 use Rattle.op_core.specs.Export.{has_book, export}
 use Rattle.op_core.specs.OneBook.{ops_of_book}
 use Rattle.op_core.specs.Sets.{clash, join}
-use Rattle.op_core.proofs.Books.OneBook.{export_same, has_book_same}
+use Rattle.op_core.proofs.Exports.OneBook.{export_same, has_book_same}
 use Rattle.bundle_codec.specs.declared.fault.BundleFault.{BundleFault}
 use Rattle.bundle_codec.specs.Reading.{bundle_at}
 use Rattle.usfm_export.specs.Books as exports
