@@ -205,8 +205,10 @@ Go on with that project, or begin one under another name.";
 
 pub(crate) const FILE_CHANGED: &str = "\
 A file of the folder would lose text.
-Correct its first line, or save it as UTF-8. Else move it away, sync, and make
-its changes in the new file; or `import` it, to have it replace the book.";
+After `export`, try `sync`, which takes in changes. If two files are of one
+book, move one away. If a book's file does not begin with \\id and its code,
+or is not UTF-8, correct it. Else move the file away, sync, and make its
+changes in the new file; or `import` it, to have it replace all of the book.";
 
 pub(crate) const EMPTIED: &str = "\
 So many texts are gone from the file of a book.
