@@ -8,6 +8,8 @@ mod ChangeAt
 mod TextsUnder
 mod Fronts
 mod NamesOrder
+mod NamesUnder
+mod BooksIn
 mod NameLines
 mod Schedules
 mod Twice

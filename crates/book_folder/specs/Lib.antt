@@ -2,6 +2,7 @@ pub mod Likes
 pub mod Refusals
 pub mod Wanted
 pub mod Files
+pub mod BookSets
 pub mod Begun
 pub mod Restored
 pub mod Loops
@@ -12,6 +13,7 @@ pub mod Bases
 pub mod StoodTexts
 pub mod Coming
 pub mod Naming
+pub mod FirstNames
 pub mod Laws
 pub mod Plans
 pub mod Settling

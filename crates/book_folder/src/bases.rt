@@ -9,8 +9,8 @@ ghost use Rattle.book_folder.specs.Taking.{stood_view};
 ghost use Rattle.book_folder.specs.Wanted.{seen_view};
 
 use crate::begun::join;
+use crate::book_set::{book_set, is_in};
 use crate::coming::CameIn;
-use crate::files::is_one_of;
 use crate::plan::NewFile;
 use crate::refusal::{Place, Refusal};
 use crate::seen::Seen;
@@ -92,9 +92,10 @@ fn next_ops<'a>(
     ensures { IfOk result (λ ops. map (λ op. op.now) ops.items
         ≡ bases.shown_in_files headless.now replica.now.held) }
 {
+    let none = book_set(alloc, headless)?;
     let mut ops = Vec::new(alloc);
     for op in replica.set().iter() {
-        if !is_one_of(headless, op.book()) && replica.shows(op) {
+        if !is_in(&none, op.book()) && replica.shows(op) {
             ops.push(op)?;
         }
     }

@@ -7,7 +7,7 @@ ghost use Rattle.book_folder.specs.Begun as begins;
 ghost use Rattle.book_folder.specs.Refusals.{Answers, AnswersAfter, AnswersBy, AnswersStep};
 ghost use Rattle.book_folder.specs.Wanted.{seen_view, wishes_view};
 
-use crate::files::is_one_of;
+use crate::book_set::{book_set, is_in};
 use crate::refusal::{FolderFault, Place, Refusal};
 use crate::seen::{Seen, Wishes};
 use bundle_codec::{Bundle, OpView, decode_whole, encode_ops, join_bundles};
@@ -301,9 +301,10 @@ pub(crate) fn ops_of<'a>(
     ensures { IfOk result (λ ops. map (λ op. op.now) ops.items
         ≡ begins.ops_by is_among books.now set.now) }
 {
+    let some = book_set(alloc, books)?;
     let mut ops = Vec::new(alloc);
     for op in set.iter() {
-        if is_one_of(books, op.book()) == is_among {
+        if is_in(&some, op.book()) == is_among {
             ops.push(op)?;
         }
     }

@@ -11,6 +11,7 @@ ghost use Rattle.book_folder.specs.Wanted.{seen_view, wishes_view};
 
 use crate::bases::{OwnFiles, other_base};
 use crate::begun::{base_of, join, ops_of, project_of};
+use crate::book_set::{book_set, is_in};
 use crate::books::{is_whole, new_file};
 use crate::files::{BookFile, clear_files, file_of, is_one_of, is_same_book};
 use crate::likes::is_like;
@@ -245,9 +246,10 @@ fn shown_ops<'a>(
     ensures { IfOk result (λ ops. map (λ op. op.now) ops.items
         ≡ exports.shown_of books.now replica.now.held) }
 {
+    let some = book_set(alloc, books)?;
     let mut ops = Vec::new(alloc);
     for op in replica.set().iter() {
-        if is_one_of(books, op.book()) && replica.shows(op) {
+        if is_in(&some, op.book()) && replica.shows(op) {
             ops.push(op)?;
         }
     }

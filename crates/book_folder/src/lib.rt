@@ -6,11 +6,13 @@
 mod asks;
 mod bases;
 mod begun;
+mod book_set;
 mod books;
 mod changed;
 mod coming;
 mod export;
 mod files;
+mod first_names;
 pub mod laws;
 mod likes;
 mod names;
