@@ -10,6 +10,7 @@ mod Fronts
 mod NamesOrder
 mod NamesUnder
 mod BooksIn
+mod Stands
 mod NameLines
 mod Schedules
 mod Twice

@@ -16,6 +16,7 @@ pub mod Naming
 pub mod FirstNames
 pub mod Laws
 pub mod Plans
+pub mod Standing
 pub mod Settling
 pub mod Exports
 pub mod AsWritten

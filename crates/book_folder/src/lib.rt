@@ -24,6 +24,7 @@ mod restored;
 mod seen;
 mod settling;
 mod stale;
+mod standing;
 mod stood_texts;
 mod taking;
 
@@ -36,3 +37,4 @@ pub use plan::{Added, NewFile, Placing, Plan, Step, Told, make_plan};
 pub use refusal::{FolderFault, Place, Refusal};
 pub use seen::{Found, Named, Seen, Wanted, Wishes};
 pub use settling::{SettlingStep, Unsettled, settling_steps};
+pub use standing::{ChangedFile, LeftOut, Standing, folder_standing};

@@ -194,12 +194,13 @@ fn read_and_plan(
 }
 
 // What is to be done with what was read.
-pub(crate) fn plan_of(
+fn plan_of(
     what: What<'_>,
     read: &Read,
     exported: Option<&[Book]>,
 ) -> Result<Plan, book_folder::Refusal> {
-    let seen = read.seen(what.project, what.given);
+    let lent = read.lend(what.rt)?;
+    let seen = lent.seen(what.project, what.given);
     match exported {
         None => make_plan(what.rt.alloc(), &seen, what.wishes),
         Some(books) => export_plan(what.rt.alloc(), &seen, what.wishes, books),
