@@ -11,6 +11,7 @@ mod NamesOrder
 mod NamesUnder
 mod BooksIn
 mod Stands
+mod StepsLaws
 mod NameLines
 mod Schedules
 mod Twice

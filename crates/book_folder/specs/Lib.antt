@@ -17,6 +17,7 @@ pub mod FirstNames
 pub mod Laws
 pub mod Plans
 pub mod Standing
+pub mod Done
 pub mod Settling
 pub mod Exports
 pub mod AsWritten

@@ -10,6 +10,7 @@ mod book_set;
 mod books;
 mod changed;
 mod coming;
+mod done;
 mod export;
 mod files;
 mod first_names;
@@ -29,6 +30,7 @@ mod stood_texts;
 mod taking;
 
 pub use begun::settled;
+pub use done::{Line, lines_of, project_after};
 pub use export::export_plan;
 pub use files::{book_begun, may_be_book};
 pub use likes::{LineEnds, is_like, push_in_line_ends};
