@@ -20,3 +20,4 @@ pub mod DeltasMade
 pub mod Schedules
 pub mod OverBooks
 pub mod OtherCopies
+pub mod Asking
