@@ -21,3 +21,4 @@ pub mod Schedules
 pub mod OverBooks
 pub mod OtherCopies
 pub mod Asking
+pub mod SplitReferences
