@@ -2,6 +2,7 @@ pub mod Inputs
 pub mod LineLengths
 pub mod Loading
 pub mod Unions
+pub mod GatheredSets
 pub mod RefusedStreams
 pub mod StreamLemmas
 pub mod SummariesRead
