@@ -10,7 +10,6 @@ pub mod BooksCutBack
 pub mod BooksFolded
 pub mod ReadTheSame
 pub mod ReadAlike
-pub mod Running
 pub mod Seen
 pub mod Searched
 pub mod Headline

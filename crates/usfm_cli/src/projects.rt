@@ -11,7 +11,7 @@ ghost use Rattle.usfm_cli.specs.Commands.{is_late_in, no_fault, with_bundle};
 ghost use Rattle.usfm_cli.specs.Faults.{of_loading};
 ghost use Rattle.usfm_cli.specs.Projects.{RefusesFile, executed, received, delta_done, delta_made};
 ghost use Rattle.usfm_cli.specs.Seen.{looked_at, seen_of, IsSeen, ReadInPlace};
-ghost use Rattle.usfm_cli.specs.Projects.{file_or, file_after, state_or, state_after};
+ghost use Rattle.usfm_cli.specs.Projects.{state_or};
 
 use crate::command::Command;
 use crate::fault::Fault;
@@ -19,7 +19,7 @@ use crate::steps::{count_line, obey};
 use bundle_codec::{Summary, decode_whole};
 use project_file::{LoadFault, judge, load, load_book, save};
 use replica_state::Replica;
-use std::alloc::{AllocError, Global};
+use std::alloc::Global;
 use std::marker::Model;
 
 /// What a command made: the project's file after it, and what it writes. It also keeps the replica,
@@ -198,46 +198,5 @@ fn load_seen(alloc: Global, project: &[u8], command: &Command<'_>) -> Result<Rep
     match command.looked_at() {
         None => load(alloc, project),
         Some(book) => load_book(alloc, project, book),
-    }
-}
-
-/// Does commands one after another on a project, as this many calls of `exec` do, and answers the
-/// project's file after them. A command that is refused leaves the project as it is.
-///
-/// So the file is that of the replica that the steps of the commands make, one after another.
-///
-/// # Errors
-/// `Memory` (1) alone, where an allocation failed.
-pub fn exec_each(
-    alloc: Global,
-    project: &[u8],
-    commands: &[Command<'_>],
-) -> Result<Vec<u8>, AllocError>
-    ensures file { IfOk result (λ file. file.items ≡ file_after project.now commands.now) }
-    ensures run { IfOk result (λ file. (s : State) → project_at project.now ≡ Ok s
-        → project_at file.items ≡ Ok (state_after s commands.now)) }
-{
-    let mut file = project.to_vec(alloc)?;
-    for command in commands {
-        file = file_after(alloc, file, command)?;
-    }
-    Ok(file)
-}
-
-// A project's file after a command, the same where the command is refused.
-fn file_after(alloc: Global, file: Vec<u8>, command: &Command<'_>) -> Result<Vec<u8>, AllocError>
-    ensures file { IfOk result (λ next.
-        next.items ≡ file_or file.items (executed file.items command.now)) }
-    ensures run { IfOk result (λ next. (s : State) → project_at file.items ≡ Ok s
-        → project_at next.items ≡ Ok (state_or s (outcome s command.now))) }
-{
-    match exec(alloc, &file, command) {
-        Ok(outcome) => Ok(outcome.project),
-        Err(fault) => {
-            if fault == Fault::Memory {
-                return Err(AllocError);
-            }
-            Ok(file)
-        }
     }
 }
