@@ -6,6 +6,6 @@ pub mod Inside
 pub mod Listed
 pub mod IdSets
 pub mod NextIds
-mod LineLengths
+pub mod LineLengths
 pub mod Parting
 pub mod Counting

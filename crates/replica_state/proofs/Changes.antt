@@ -22,7 +22,7 @@ use Rattle.op_core.specs.Thinned.{is_legal, all_full}
 use Rattle.op_core.proofs.Indexed.Enrolled.{more_items, apart_at}
 use Rattle.op_core.proofs.ThinnedSets.Left.{join_full_legal}
 use Rattle.op_core.proofs.IdOrders.NextIds.{beyond, shown_fall, some_fall}
-use Rattle.op_core.proofs.Books.Shows.{not_named, names_none}
+use Rattle.op_core.proofs.Exports.Shows.{not_named, names_none}
 use Rattle.op_core.proofs.Sets.Union.{rises_parts, rises-join, get-join, same_gets}
 use Rattle.replica_state.specs.States.{State, IsState}
 use Rattle.replica_state.specs.Edits.{has_numbers, edit_with, own_id, first_number}

@@ -20,7 +20,7 @@ use Rattle.op_core.specs.Shown.{wants_chapter_line}
 use Rattle.op_core.specs.Export.{keys_in, exported_keys}
 use Rattle.op_core.specs.CutsBack.{picked_at}
 use Rattle.op_core.specs.Lists.{keys_of}
-use Rattle.op_core.proofs.Books.Exported.{any-rising, picks_are_exported}
+use Rattle.op_core.proofs.Exports.Exported.{any-rising, picks_are_exported}
 use Rattle.op_core.proofs.FilteredLists.{any_map}
 use Rattle.replica_state.specs.Imports.{piece_own_text, piece_of, is_due, walked_keys, due_keys, has_verse}
 use Rattle.replica_state.proofs.Appended.{is_there, key_is}

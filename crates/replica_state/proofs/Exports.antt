@@ -18,8 +18,8 @@ use Rattle.op_core.specs.Sets.{join}
 use Rattle.op_core.specs.Export.{exported_keys, export}
 use Rattle.op_core.specs.CutsBack.{picked_at, later_texts}
 use Rattle.op_core.specs.NextIds.{next_number}
-use Rattle.op_core.proofs.Books.CutsBack.{keys_rise, split, texts_rise}
-use Rattle.op_core.proofs.Books.Exported.{picks_are_exported}
+use Rattle.op_core.proofs.Exports.CutsBack.{keys_rise, split, texts_rise}
+use Rattle.op_core.proofs.Exports.Exported.{picks_are_exported}
 use Rattle.replica_state.specs.States.{State, IsState}
 use Rattle.replica_state.specs.Edits.{first_number}
 use Rattle.replica_state.specs.Changes.{ChangeParts, edits_from, edits_by, edits_or}

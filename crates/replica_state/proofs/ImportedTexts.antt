@@ -21,7 +21,7 @@ use Rattle.op_core.specs.Shown.{text_of, has_verse_text, wants_chapter_line}
 use Rattle.op_core.specs.CutsBack.{picked_at}
 use Rattle.op_core.specs.Lists.{shown_ids}
 use Rattle.op_core.specs.NextIds.{next_number}
-use Rattle.op_core.proofs.Books.Exported.{filled_verse, picked_line, picked_own, wants_line, head_picked}
+use Rattle.op_core.proofs.Exports.Exported.{filled_verse, picked_line, picked_own, wants_line, head_picked}
 use Rattle.replica_state.specs.States.{State, IsState}
 use Rattle.replica_state.specs.Imports.{piece_own_text, piece_of, piece_at, has_verse, loses_line, is_due, due_keys, due_changes}
 use Rattle.replica_state.specs.Changes.{edits_from}

@@ -26,10 +26,10 @@ use Rattle.op_core.specs.Shown.{last, shown, text_if_any, wants_chapter_line}
 use Rattle.op_core.specs.Export.{exported_keys, export}
 use Rattle.op_core.specs.CutsBack.{picked_at, later_texts}
 use Rattle.op_core.specs.NextIds.{greatest_number, next_number}
-use Rattle.op_core.proofs.Books.CutsBack.{exports_cut_back, keys_rise, split, texts_fit, texts_rise}
-use Rattle.op_core.proofs.Books.Exported.{IsOf, filled_verse, shown_last, picked_own, picks_are_exported, wants_line}
+use Rattle.op_core.proofs.Exports.CutsBack.{exports_cut_back, keys_rise, split, texts_fit, texts_rise}
+use Rattle.op_core.proofs.Exports.Exported.{IsOf, filled_verse, shown_last, picked_own, picks_are_exported, wants_line}
 use Rattle.op_core.proofs.Sets.Legal.{shown_full, full_last}
-use Rattle.op_core.proofs.Books.Shows.{shows_one}
+use Rattle.op_core.proofs.Exports.Shows.{shows_one}
 use Rattle.replica_state.specs.States.{State, IsState}
 use Rattle.replica_state.specs.Edits.{first_number}
 use Rattle.replica_state.specs.Imports as spec

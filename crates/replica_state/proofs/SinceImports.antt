@@ -14,7 +14,7 @@ use Rattle.op_core.specs.Ops.{Operation, own_text}
 use Rattle.op_core.specs.Shown.{shown}
 use Rattle.op_core.specs.Lists.{ids_of, shown_ids}
 use Rattle.op_core.specs.NextIds.{is_among}
-use Rattle.op_core.proofs.Books.ByShown.{ShowSame, picked_same, wants_same}
+use Rattle.op_core.proofs.Exports.ByShown.{ShowSame, picked_same, wants_same}
 use Rattle.op_core.proofs.FilteredLists.{filter_all}
 use Rattle.replica_state.specs.States.{State}
 use Rattle.replica_state.specs.Edits.{first_number}

@@ -23,7 +23,7 @@ use Rattle.op_core.specs.Lists.{ids_of, shown_ids, keys_of}
 use Rattle.op_core.specs.NextIds.{greatest_number, next_number, is_among, given_ids}
 use Rattle.op_core.proofs.Sets.Agreement.{Agree, agree_itself}
 use Rattle.op_core.proofs.Indexed.Enrolled.{apart_at}
-use Rattle.op_core.proofs.Books.Exported.{any-rising}
+use Rattle.op_core.proofs.Exports.Exported.{any-rising}
 use Rattle.op_core.proofs.FilteredLists.{any_filter, any_map, filter_none}
 use Rattle.op_core.proofs.Sets.Filters.{filter_kept}
 use Rattle.op_core.proofs.Sets.Gets.{AnyHeld, any_held}

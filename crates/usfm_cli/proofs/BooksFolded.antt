@@ -5,7 +5,7 @@ use Rattle.std.specs.Io.KnownBytes.{Appends}
 use Rattle.op_core.specs.Ops.{Operation}
 use Rattle.op_core.specs.Export.{of_book, has_book, export}
 use Rattle.op_core.specs.OneBook.{ops_of_book}
-use Rattle.op_core.proofs.Books.OneBook.{export_same, has_book_same}
+use Rattle.op_core.proofs.Exports.OneBook.{export_same, has_book_same}
 use Rattle.op_core.proofs.FilteredLists.{filter_none}
 use Rattle.usfm_export.specs.Books as exports
 use Rattle.usfm_export.specs.Books.{AnswersBook}

@@ -4,7 +4,7 @@ use Rattle.std.specs.List.{flat_map}
 use Rattle.usfm_ref.specs.Segments.{segment}
 use Rattle.op_core.specs.Ops.{Operation}
 use Rattle.op_core.specs.OneBook.{ops_of_book}
-use Rattle.op_core.proofs.Books.OneBook.{shown_same, export_same, has_book_same}
+use Rattle.op_core.proofs.Exports.OneBook.{shown_same, export_same, has_book_same}
 use Rattle.replica_state.specs.States.{State}
 use Rattle.bundle_codec.specs.Reading.{AreBytes}
 use Rattle.replica_state.specs.OneBook.{of_one_book}

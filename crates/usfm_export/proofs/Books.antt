@@ -3,7 +3,7 @@ use Rattle.std.proofs.Common.{ℕ, List, refl}
 use Rattle.op_core.specs.Ops.{Operation}
 use Rattle.op_core.specs.Sets.{IsOpSet}
 use Rattle.op_core.specs.Export.{export}
-use Rattle.op_core.proofs.Books.CutsBack.{exports_cut_back, exports_are_text}
+use Rattle.op_core.proofs.Exports.CutsBack.{exports_cut_back, exports_are_text}
 use Rattle.usfm_export.specs.Books.{IsBookOf}
 
 -- the export of a set is the book that it makes

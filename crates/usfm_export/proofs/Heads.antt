@@ -20,7 +20,7 @@ use Rattle.op_core.specs.Ops.{Operation}
 use Rattle.op_core.specs.Export.{of_book, has_book, keys_in, exported_keys}
 use Rattle.op_core.specs.Lists.{keys_of}
 use Rattle.usfm_export.specs.Loops.Heads.{lacks_head, with_heads}
-use Rattle.op_core.proofs.Books.Exported.{any-rising}
+use Rattle.op_core.proofs.Exports.Exported.{any-rising}
 
 -- ---- whether a book has keys
 

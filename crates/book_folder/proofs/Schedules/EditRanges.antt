@@ -15,7 +15,7 @@ use Rattle.op_core.specs.Lists.{ids_of, shown_ids}
 use Rattle.op_core.specs.NextIds.{greatest_number, is_among}
 use Rattle.op_core.specs.Ops.{Operation, IsOperation}
 use Rattle.op_core.specs.Shown.{is_shown, shown}
-use Rattle.op_core.proofs.Books.Exported.{found_of}
+use Rattle.op_core.proofs.Exports.Exported.{found_of}
 use Rattle.op_core.proofs.FilteredLists.{kept_each}
 use Rattle.replica_state.specs.Changes.{ChangeParts, edits_from}
 use Rattle.replica_state.specs.Imports.{due_change}

@@ -26,7 +26,7 @@ use Rattle.op_core.specs.Export.{export}
 use Rattle.op_core.specs.Ops.{Operation, own_text}
 use Rattle.op_core.specs.Sets.{IsOpSet}
 use Rattle.op_core.specs.Shown.{Pick, Line, Greatest, Empty, pick, picked_text}
-use Rattle.op_core.proofs.Books.Exported.{pick_is_text}
+use Rattle.op_core.proofs.Exports.Exported.{pick_is_text}
 use Rattle.replica_state.proofs.World.PieceRanges.{parted}
 use Rattle.book_folder.specs.Likes.{in_line_ends, like, line_ends, with_ends, without_cr}
 use Rattle.book_folder.specs.Restored.{coming_ends, coming_pieces, front_of, in_manner_of, restored_by, restored_piece}

@@ -17,7 +17,7 @@ use Rattle.op_core.specs.Export.{export}
 use Rattle.op_core.specs.Ops.{Operation, own_text}
 use Rattle.op_core.specs.Sets.{IsOpSet}
 use Rattle.op_core.specs.Shown.{Pick, Line, Greatest, Empty, pick, picked_text}
-use Rattle.op_core.proofs.Books.CutsBack.{exports_cut_back}
+use Rattle.op_core.proofs.Exports.CutsBack.{exports_cut_back}
 use Rattle.op_core.proofs.FilteredLists.{kept_each}
 use Rattle.book_folder.specs.AsWritten.{are_alike}
 use Rattle.book_folder.specs.Likes.{like, line_ends, in_line_ends, with_ends, without_cr, each_lf_has_cr}

@@ -22,15 +22,15 @@ use Rattle.op_core.specs.Sets.{IsOpSet, clash, get, join, met, rises}
 use Rattle.op_core.specs.Shown.{is_replaced, is_shown, last, shown}
 use Rattle.op_core.specs.Thinned.{all_full, is_legal}
 use Rattle.op_core.proofs.Sets.Agreement.{Agree, agree_itself}
-use Rattle.op_core.proofs.Books.ByShown.{ShowSame, picked_same}
+use Rattle.op_core.proofs.Exports.ByShown.{ShowSame, picked_same}
 use Rattle.op_core.proofs.Sets.Clashes.{get_id}
-use Rattle.op_core.proofs.Books.Exported.{any-rising, last_held}
+use Rattle.op_core.proofs.Exports.Exported.{any-rising, last_held}
 use Rattle.op_core.proofs.FilteredLists.{any_filter, any_flat, any_map, any_weaker}
 use Rattle.op_core.proofs.Sets.Filters.{filter_kept, filter_passes, filter_within, rises-filter}
 use Rattle.op_core.proofs.Sets.Gets.{any_from, any_held}
 use Rattle.op_core.proofs.Sets.Legal.{full_legal, legal_at}
 use Rattle.op_core.proofs.Sets.NoClash.{no_clash}
-use Rattle.op_core.proofs.Books.Shows.{shows_one}
+use Rattle.op_core.proofs.Exports.Shows.{shows_one}
 use Rattle.op_core.proofs.Sets.Union.{get-join, held_itself, join_itself, rises-join, same_gets}
 use Rattle.replica_state.proofs.World.Held.{among_is_held, at_held, held_at}
 use Rattle.book_folder.specs.Bases.{shown_in_files, shows}

@@ -27,8 +27,8 @@ use Rattle.op_core.specs.Lists.{books_of, keys_of}
 use Rattle.op_core.specs.Ops.{Operation, IsOperation, in_segment}
 use Rattle.op_core.specs.Sets.{IsOpSet}
 use Rattle.op_core.specs.Shown.{text_of}
-use Rattle.op_core.proofs.Books.CutsBack.{exports_are_text, exports_cut_back}
-use Rattle.op_core.proofs.Books.Exported.{picked_own, text_held}
+use Rattle.op_core.proofs.Exports.CutsBack.{exports_are_text, exports_cut_back}
+use Rattle.op_core.proofs.Exports.Exported.{picked_own, text_held}
 use Rattle.op_core.proofs.FilteredLists.{any_filter, filter_all, filter_none, kept_each}
 use Rattle.op_core.proofs.Sets.Filters.{rises-filter}
 use Rattle.replica_state.specs.Changes.{ChangeParts, changes_ops, edits_by}

@@ -14,7 +14,7 @@ use Rattle.op_core.specs.Lists.{ids_of}
 use Rattle.op_core.specs.Loops.Index.{register_of, shown_in, is_kept, IsIndex}
 use Rattle.op_core.specs.declared.index.register.Register.{Register}
 use Rattle.op_core.specs.declared.index.chapter.Chapter.{Chapter}
-use Rattle.op_core.proofs.Books.Shows.{shows_one}
+use Rattle.op_core.proofs.Exports.Shows.{shows_one}
 use Rattle.op_core.proofs.Indexed.Enrolled.{here}
 use Rattle.op_core.proofs.Indexed.Verses.{shown_none}
 use Rattle.op_core.proofs.Indexed.Walks.{any_in, from_any, to_any}

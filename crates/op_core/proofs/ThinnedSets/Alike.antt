@@ -9,7 +9,7 @@ use Rattle.op_core.specs.Shown.{is_shown, shown, last, text_if_any, pick, picked
 use Rattle.op_core.specs.Thinned.{skeleton, StandsFor}
 use Rattle.op_core.specs.ThinLaws.{AnswersSame, SameButTexts}
 use Rattle.op_core.proofs.ThinnedSets.Bare.{ids_same, number_same, awaited_same, is_shown_same, told_same}
-use Rattle.op_core.proofs.Books.ByShown.{pick_same}
+use Rattle.op_core.proofs.Exports.ByShown.{pick_same}
 use Rattle.op_core.proofs.ThinnedSets.StandIns.{shows_same, full_stands, join_stands}
 use Rattle.usfm_ref.specs.declared.segment.Segment.{Segment}
 use Rattle.usfm_ref.specs.Books.{book_cmp}

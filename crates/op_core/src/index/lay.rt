@@ -26,7 +26,7 @@ const FEW: usize = 16;
 
 // Puts in registers, and chapters for them, at the segments of the turns, where many have none.
 // What the index keeps stays, also where an allocation failed.
-#[tactic(auto, using(crate::proofs::Laid::lays_same, crate::proofs::Laid::lays_more))]
+#[tactic(auto, using(crate::proofs::Indexed::Laid::lays_same, crate::proofs::Indexed::Laid::lays_more))]
 pub(crate) fn lay_out(
     chapters: &mut Vec<Chapter>,
     alloc: Global,
@@ -105,7 +105,7 @@ pub(crate) fn lay(
 }
 
 // Puts in the chapters of the segments that are not there.
-#[tactic(auto, using(crate::proofs::Laid::lays_same, crate::proofs::Laid::lays_more))]
+#[tactic(auto, using(crate::proofs::Indexed::Laid::lays_same, crate::proofs::Indexed::Laid::lays_more))]
 fn lay_chapters(
     chapters: &mut Vec<Chapter>,
     alloc: Global,
@@ -211,7 +211,7 @@ fn is_under(chapters: &[Chapter], segment: &Segment, search: &mut Search) -> boo
 }
 
 // Puts registers of the segments into their chapters, where these are there.
-#[tactic(auto, using(crate::proofs::Laid::lays_same, crate::proofs::Laid::lays_more))]
+#[tactic(auto, using(crate::proofs::Indexed::Laid::lays_same, crate::proofs::Indexed::Laid::lays_more))]
 fn lay_registers(
     chapters: &mut Vec<Chapter>,
     alloc: Global,
@@ -231,7 +231,7 @@ fn lay_registers(
 }
 
 // Puts registers of the segments into the chapter of one of them, if it is there.
-#[tactic(auto, using(crate::proofs::Laid::lays_same, crate::proofs::Laid::lays_more))]
+#[tactic(auto, using(crate::proofs::Indexed::Laid::lays_same, crate::proofs::Indexed::Laid::lays_more))]
 fn lay_beside(
     chapters: &mut Vec<Chapter>,
     alloc: Global,
@@ -260,7 +260,7 @@ fn lay_beside(
 }
 
 // Puts registers of the segments into their chapter, which has this head.
-#[tactic(auto, using(crate::proofs::Laid::keys_same))]
+#[tactic(auto, using(crate::proofs::Indexed::Laid::keys_same))]
 fn lay_keys(
     registers: &mut Vec<Register>,
     alloc: Global,

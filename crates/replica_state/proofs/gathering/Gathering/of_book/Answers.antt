@@ -1,7 +1,7 @@
 use Rattle.std.proofs.Common.{sym, ap, subst, ◌∙◌}
 use Rattle.op_core.specs.Sets.{IsOpSet}
 use Rattle.op_core.specs.Thinned.{is_legal}
-use Rattle.op_core.proofs.Books.OneBook.{ops_of_book_set, ops_of_book_legal}
+use Rattle.op_core.proofs.Exports.OneBook.{ops_of_book_set, ops_of_book_legal}
 use Rattle.replica_state.proofs.gathering.Gathering.of_book.Goals as goal
 
 pub replica_of-requires-clause-set : goal.replica_of-requires-clause-set

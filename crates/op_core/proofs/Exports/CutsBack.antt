@@ -21,7 +21,7 @@ use Rattle.op_core.specs.Ops.{Operation}
 use Rattle.op_core.specs.Sets.{IsOpSet}
 use Rattle.op_core.specs.Export.{keys_in, exported_keys}
 use Rattle.op_core.specs.CutsBack.{picked_at, keyed_text, later_texts, ExportsCutBack, ExportsAreText}
-use Rattle.op_core.proofs.Books.Exported.{pick_fits, pick_is_text, picks_are_exported, head_picked}
+use Rattle.op_core.proofs.Exports.Exported.{pick_fits, pick_is_text, picks_are_exported, head_picked}
 use Rattle.op_core.proofs.FilteredLists.{filter_all}
 
 -- ---- keys after the head of the book

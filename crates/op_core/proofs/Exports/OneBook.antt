@@ -16,7 +16,7 @@ use Rattle.op_core.specs.Shown.{is_replaced, is_shown, shown}
 use Rattle.op_core.specs.Thinned.{is_legal, is_past}
 use Rattle.op_core.specs.Export.{of_book, has_book, exported_keys, export}
 use Rattle.op_core.specs.OneBook.{ops_of_book}
-use Rattle.op_core.proofs.Books.ByShown.{picked_same}
+use Rattle.op_core.proofs.Exports.ByShown.{picked_same}
 use Rattle.op_core.proofs.FilteredLists.{filter_both, any_filter, kept_each}
 use Rattle.op_core.proofs.Sets.Filters.{rises-filter, filter_within, filter_passes}
 use Rattle.op_core.proofs.Sets.Legal.{legal_at, legal_from}

@@ -7,7 +7,7 @@ use Rattle.op_core.specs.Ops.{Operation}
 use Rattle.op_core.specs.Shown.{shown, last, text_if_any, text_of, is_empty, has_verse_text, wants_chapter_line, greatest, pick, picked_text}
 use Rattle.op_core.specs.Shown.{Line}
 use Rattle.op_core.specs.CutsBack.{picked_at}
-use Rattle.op_core.proofs.Books.Exported.{filled_verse, has_filled_verse}
+use Rattle.op_core.proofs.Exports.Exported.{filled_verse, has_filled_verse}
 
 -- the segments of a book show the same of both lists
 abbrev pub ShowSame : List Operation → List Operation → List ℕ → Type 0
