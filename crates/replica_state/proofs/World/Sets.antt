@@ -324,4 +324,4 @@ module _ (name book file : List ℕ) (named : is_name name ≡ true) (begins : b
       → AllByRecursion IsWithin (edits_of name book (since_changes held base book (pieces_of file)))
   since_within h = keys_within (changed_keys held base book (pieces_of file))
       (all_filter IsKey (is_changed held base book (pieces_of file)) (walked_keys held book (pieces_of file))
-      (walked_are_keys held book file h))
+      (walked_are_keys held book (pieces_of file) h (pieces_have_keys file)))

@@ -19,7 +19,7 @@ The code of a book is written in capitals.
 Write it so: ";
 
 pub(crate) const NO_REFERENCE: &str = "\
-This is not a reference.
+This is not a verse, nor the head of a chapter or of a book.
 Write 'MAT 1:1' for a verse, 'MAT 1' for the head of a chapter, and 'MAT 0'
 for that of the book.";
 
@@ -113,7 +113,7 @@ The bundle is damaged: it leaves out this operation's text, or, at 0, none.
 Have it sent again.";
 
 pub(crate) const TRAILING: &str = "\
-Something follows the bundle.
+More follows after the end of the bundle.
 Have it sent again.";
 
 pub(crate) const NO_SUMMARY: &str = "\
@@ -138,7 +138,7 @@ The project has nothing of this book.
 Import its file. A file with only the line \\id MAT begins Matthew.";
 
 pub(crate) const NOT_SHOWN: &str = "\
-The segment does not show this edit, or no longer shows it.
+This edit is not, or no longer, among the texts of the segment.
 Look with `shown`, and name what it shows.";
 
 pub(crate) const WRITE_FAILED: &str = "\
@@ -205,19 +205,21 @@ Go on with that project, or begin one under another name.";
 
 pub(crate) const FILE_CHANGED: &str = "\
 A file of the folder would lose text.
-Correct its first line, or save it as UTF-8. Else move it away, sync, and make
-its changes in the new file; or `import` it, to have it replace the book.";
+After `export`, try `sync`, which takes in changes. If two files are of one
+book, move one away. If a book's file does not begin with \\id and its code,
+or is not UTF-8, correct it. Else move the file away, sync, and make its
+changes in the new file; or `import` it, to have it replace all of the book.";
 
 pub(crate) const EMPTIED: &str = "\
-So many texts are gone from the file of a book.
+This many texts are gone from the file of a book.
 An editor may have saved only a part of it: correct it, and try again. If they
 are gone on purpose, sync with --emptied.";
 
 pub(crate) const UNDONE: &str = "\
-The file of a book undoes so many texts that came in.
+In this many segments the file of a book lacks the text that came in.
 If it is an older file, or was open in an editor meanwhile, sync with --stale:
 what came in stays. If they were undone on purpose, sync with --undone.";
 
 pub(crate) const UNLIKE: &str = "\
-The bundle is of another project, and would put so many segments in conflict.
+The bundle is of another project, and puts this many segments in conflict.
 Leave it out, unless the two are to be one: then sync with --join.";

@@ -37,6 +37,7 @@ meanwhile, or a typed text does not fit, nothing is made, and you are asked
 again. In the end it writes
   settled N      how many edits were made
   conflicts N    how many conflicts are left, of those that were named
+The next sync writes the settled texts into the files of a folder.
 
 Example:
   usfm_team settle ana.project

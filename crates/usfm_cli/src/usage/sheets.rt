@@ -75,7 +75,7 @@ the markers of USFM 3.0. Writes a line `REF CODE START` for each finding: its
 segment, what is found, and how many bytes of the export come before it; with
 --text also the line of the text, with the mark in brackets. The codes:
 unknown-marker, stray-close, unclosed-char, unclosed-note, too-deep, bad-number,
-bad-bridge, not-rising, overlap, not-under.
+bad-bridge, not-rising, overlap, not-under. No line: nothing was found.
 
 Example: usfm_team check ana.project
 Example: usfm_team check ana.project MAT samples/small.sty
@@ -118,7 +118,7 @@ The last word is the NEEDLE. Looks in one BOOK, or in all, in paragraphs whose
 style in SHEET has `\\TextType VerseText`, outside notes, milestones, attributes
 and verse numbers; without SHEET by the program's own. Writes a line `REF START`
 for each hit: its segment, and how many bytes of the export come before it; with
---text also the line of the text, with the hit in brackets.
+--text also the line of the text, with the hit in brackets. No line: no hit.
 
 Example: usfm_team find ana.project beginning --text
 Example: usfm_team find ana.project MAT samples/small.sty beginning
