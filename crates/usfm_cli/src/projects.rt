@@ -147,11 +147,7 @@ pub fn exec<'a>(
 
 // Takes a bundle in on the bytes of a project's file: both are judged, and the file of the union is
 // written out of them.
-fn receive_into<'a>(
-    alloc: Global,
-    project: &'a [u8],
-    bytes: &[u8],
-) -> Result<Outcome<'a>, Fault>
+fn receive_into<'a>(alloc: Global, project: &'a [u8], bytes: &[u8]) -> Result<Outcome<'a>, Fault>
     ensures answer { result ≢ Err Fault.Memory →
         received (project_at project.now) (whole_at bytes.now) ≡ result }
     ensures no_project { IfErr (project_at project.now) (λ fault.
@@ -188,11 +184,7 @@ fn send_of(alloc: Global, project: &[u8]) -> Result<Outcome<'_>, Fault>
 
 // Writes what a summary lacks of a project's file out of its bytes: the project and then the
 // summary are judged. The file stays as it is.
-fn delta_of<'a>(
-    alloc: Global,
-    project: &'a [u8],
-    summary: &[u8],
-) -> Result<Outcome<'a>, Fault>
+fn delta_of<'a>(alloc: Global, project: &'a [u8], summary: &[u8]) -> Result<Outcome<'a>, Fault>
     ensures answer { result ≢ Err Fault.Memory →
         delta_made (project_at project.now) (read_summary summary.now) ≡ result }
     ensures no_project { IfErr (project_at project.now) (λ fault.

@@ -41,8 +41,7 @@ bundles-preserved c =
     let rest = drop c.in_ok-bundle.length c.bundles.rest.now in
     let before = c.bundles.invariant.1 in
     let on = way_on c.args.input.now before (held_in c.bundles.gathered) c.in_ok-bundle.bundle c.bundles.rest.now rest
-    c.bundles.invariant.3 some c.in_ok-bundle.ensures.exact c.in_ok-gathered.ensures.agrees shorter.1 in
-    (
+    c.bundles.invariant.3 some c.in_ok-bundle.ensures.exact c.in_ok-gathered.ensures.agrees shorter.1 in (
       c.in_ok-gathered.ensures.set,
       suc before,
       c.in_ok-gathered.ensures.count before c.bundles.invariant.2,
