@@ -11,7 +11,7 @@ use Rattle.usfm_cli.proofs.Unions.{taken_of_some}
 -- what is answered where the union of bundles is refused, and nothing is written
 pub refused_bundles : (book input : List ℕ) (sink : Option (List ℕ)) (fault : Fault) → UnionAnswers input (Err fault)
     → AnswersBundles book input sink sink (Err fault)
-refused_bundles book input sink Memory u = (u, refl)
+refused_bundles book input sink Memory u = (inl u, refl)
 refused_bundles book input sink (Clash id) u = (ap (book_from book) u, refl)
 refused_bundles book input sink (Bundle fault) u = (ap (book_from book) u, refl)
 refused_bundles book input sink (NotText valid) u = absurd u
