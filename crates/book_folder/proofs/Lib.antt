@@ -8,6 +8,9 @@ mod ChangeAt
 mod TextsUnder
 mod Fronts
 mod NamesOrder
+mod NamesUnder
+mod Stands
+mod StepsLaws
 mod NameLines
 mod Schedules
 mod Twice

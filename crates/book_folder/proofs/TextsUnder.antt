@@ -23,20 +23,24 @@ cmp_is i a b = same a b i
     same : (a b : Segment) → segments.ghosts.cmp a b ≡ segment_cmp a b
     same a b = search rules
 
-none_of : {A : Type 0} (x : Option A) → is_some x ≡ false → x ≡ None
+-- what is not there is none
+pub none_of : {A : Type 0} (x : Option A) → is_some x ≡ false → x ≡ None
 none_of None h = refl
 none_of (Some a) h = absurd (false≢true (sym h))
 
-or_none : {A : Type 0} (x : Option A) → x ≡ option_or x None
+-- none is taken in the place of nothing
+pub or_none : {A : Type 0} (x : Option A) → x ≡ option_or x None
 or_none None = refl
 or_none (Some a) = refl
 
-stays : {A B : Type 0} (f : A → B) (x : Option A) (y : Option B) → is_some x ≡ true
+-- what there is stays
+pub stays : {A B : Type 0} (f : A → B) (x : Option A) (y : Option B) → is_some x ≡ true
     → option_map f x ≡ option_or (option_map f x) y
 stays f None y h = absurd (false≢true h)
 stays f (Some a) y h = refl
 
-or_assoc : {A : Type 0} (x y z : Option A) → option_or (option_or x y) z ≡ option_or x (option_or y z)
+-- the first of three that there is
+pub or_assoc : {A : Type 0} (x y z : Option A) → option_or (option_or x y) z ≡ option_or x (option_or y z)
 or_assoc None y z = refl
 or_assoc (Some a) y z = refl
 

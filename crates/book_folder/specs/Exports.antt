@@ -5,10 +5,11 @@ use Rattle.usfm_ref.specs.Books.{same_bytes}
 use Rattle.op_core.specs.Ops.{Operation}
 use Rattle.op_core.specs.Export.{has_book, export}
 use Rattle.op_core.specs.Lists.{books_of}
+use Rattle.op_core.specs.Sets.{get, is_like}
 use Rattle.bundle_codec.specs.Spelling.{bundle}
 use Rattle.project_file.specs.Projects.{project_at}
 use Rattle.book_folder.specs.Bases.{shows}
-use Rattle.book_folder.specs.Begun.{base_of, is_held, is_one_of, joined_at, ops_not_of, project_or}
+use Rattle.book_folder.specs.Begun.{base_of, is_one_of, joined_at, ops_not_of, project_or}
 use Rattle.book_folder.specs.Files.{FileParts, clear_files, file_of}
 use Rattle.book_folder.specs.Likes.{like}
 use Rattle.book_folder.specs.Naming.{FormParts, form_of, other_names}
@@ -36,12 +37,12 @@ chosen held named =
 
 -- ---- files that were changed
 
--- whether an operation of a book is held, or it is of another book
+-- whether an operation of a book is held, by one that agrees with it, or it is of another book
 abbrev pub is_held_of : List Operation → List ℕ → Operation → Bool
-is_held_of held book o = not (same_bytes o.segment.book book) || is_held held o.id
+is_held_of held book o = not (same_bytes o.segment.book book) || is_like (get held o.id) o
 
 -- whether a file is as it was written, from what the project has: it is like its book's text in the
--- base, and the project holds all that the base has of the book
+-- base, and the project holds all that the base has of the book, by operations that agree with it
 abbrev pub is_unchanged : List Operation → List Operation → FileParts → List ℕ → Bool
 is_unchanged held base f book =
     has_book base book && like (export base book) f.bytes && list_all (is_held_of held book) base

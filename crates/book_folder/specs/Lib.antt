@@ -12,8 +12,11 @@ pub mod Bases
 pub mod StoodTexts
 pub mod Coming
 pub mod Naming
+pub mod FirstNames
 pub mod Laws
 pub mod Plans
+pub mod Standing
+pub mod Done
 pub mod Settling
 pub mod Exports
 pub mod AsWritten

@@ -1,5 +1,5 @@
 -- What was read of a project and a folder, and what a person asks for.
-use Rattle.std.specs.Prelude.{ℕ, Bool, List, Option, map, option_map, string_bytes}
+use Rattle.std.specs.Prelude.{ℕ, Bool, false, List, [], Option, None, map, option_map, string_bytes}
 use Rattle.usfm_ref.specs.Keys.{KeyParts}
 use Rattle.book_folder.specs.declared.seen.Found.{Found}
 use Rattle.book_folder.specs.declared.seen.Named.{Named}
@@ -14,7 +14,7 @@ pub record FoundParts : Type 0 where
 
 -- a plain file, as a contract sees it
 abbrev pub found_view : Found → FoundParts
-found_view f = record { name = string_bytes f.name; bytes = f.bytes.items }
+found_view f = record { name = f.name.now; bytes = f.bytes.now }
 
 -- a book with the name of its file
 pub record NamedParts : Type 0 where
@@ -47,7 +47,7 @@ seen_view s = record {
   unplaced = s.unplaced.now;
   names = map named_view s.names.now;
   files = map found_view s.files.now;
-  others = map string_bytes s.others.now;
+  others = map (λ name. name.now) s.others.now;
   bundles = map (λ b. b.items) s.bundles.now;
 }
 
@@ -78,4 +78,15 @@ wishes_view w = record {
   joined = w.joined;
   settled = map wanted_view w.settled.items;
   form = option_map string_bytes w.form;
+}
+
+-- what a person asks for who asks for nothing
+abbrev pub no_wishes : WishParts
+no_wishes = record {
+  emptied = false;
+  undone = false;
+  stale = false;
+  joined = false;
+  settled = [];
+  form = None;
 }

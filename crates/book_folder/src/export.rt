@@ -1,7 +1,10 @@
 // What an export into a folder does, as a plan.
 ghost use Rattle.std.specs.Prelude.{◌≡◌, [], IfOk, map, option_map};
 ghost use Rattle.std.specs.List.{list_all};
+ghost use Rattle.std.specs.Option.{option_copied};
 ghost use Rattle.op_core.specs.Export as export;
+ghost use Rattle.op_core.specs.Ops.{agree, in_segment, texts_agree};
+ghost use Rattle.op_core.specs.Sets as sets;
 ghost use Rattle.book_folder.specs.Exports as exports;
 ghost use Rattle.book_folder.specs.Files.{file_view, files_view};
 ghost use Rattle.book_folder.specs.Naming.{form_view};
@@ -208,17 +211,55 @@ fn is_unchanged(
     })
 }
 
-// Whether a project holds all that a base has of a book.
+// Whether a project holds all that a base has of a book, by operations that agree with it.
 fn holds_all(replica: &Replica, base: &Replica, book: Book) -> bool
     ensures { result ≡ list_all (exports.is_held_of replica.now.held book) base.now.held }
 {
     let mut finder = replica.set().finder();
     for op in base.set().iter() {
-        if is_same_book(op.book(), book) && finder.find(&op.id()).is_none() {
+        if is_same_book(op.book(), book) && !is_held_alike(finder.find(&op.id()), op) {
             return false;
         }
     }
     true
+}
+
+// Whether there is an operation, and it agrees with another one.
+fn is_held_alike(held: Option<&Op>, op: &Op) -> bool
+    ensures { result ≡ sets.is_like (option_copied held.entry) op.now }
+{
+    match held {
+        Some(held) => do_agree(held, op),
+        None => false,
+    }
+}
+
+// Whether two operations are equal, or equal but for a text that is left out.
+fn do_agree(held: &Op, op: &Op) -> bool
+    ensures { result ≡ agree held.now op.now }
+{
+    held.id() == op.id()
+        && is_beside(held, op)
+        && held.replaced() == op.replaced()
+        && do_texts_agree(held.text(), op.text())
+}
+
+// Whether an operation is of the segment of another one.
+fn is_beside(held: &Op, op: &Op) -> bool
+    ensures { result ≡ in_segment held.now.segment op.now }
+{
+    op.book() == held.book() && op.key() == held.key()
+}
+
+// Whether two texts are equal, or one is left out.
+fn do_texts_agree(held: Option<&str>, text: Option<&str>) -> bool
+    ensures { result ≡ texts_agree (option_map (λ t. t.now) held.entry)
+        (option_map (λ t. t.now) text.entry) }
+{
+    match (held, text) {
+        (Some(held), Some(text)) => held.as_bytes() == text.as_bytes(),
+        _ => true,
+    }
 }
 
 // What the base has, but of the books that are exported what the project shows.

@@ -1,6 +1,6 @@
 // Which files of a folder are books'.
 ghost use Rattle.std.specs.Prelude.{◌≡◌, ◌+◌, ◌<◌, ◌^◌, IfOk, length, IsUtf8, map, option_map};
-ghost use Rattle.std.specs.Prelude.{string_bytes, take};
+ghost use Rattle.std.specs.Prelude.{take};
 ghost use Rattle.std.specs.Str.Lossy.{utf8_valid_len};
 ghost use Rattle.usfm_ref.specs.Books.{same_bytes};
 ghost use Rattle.book_folder.specs.Files as which;
@@ -78,7 +78,7 @@ pub(crate) struct BookFile<'a> {
 #[derive(Drop)]
 struct BookFiles<'a> {
     at: usize,
-    left: &'a [Found],
+    left: &'a [Found<'a>],
     ghost within: { at + length left.now < 2 ^ 64 },
 }
 
@@ -97,14 +97,12 @@ impl<'a> Iterator for BookFiles<'a> {
             let at = self.at;
             self.left = later;
             self.at = at + 1;
-            if let Some(book) = book_begun(&found.bytes) {
-                let name = found.name.as_str();
-                let bytes = found.bytes.as_slice();
+            if let Some(book) = book_begun(found.bytes) {
                 return Some(BookFile {
                     at,
                     book,
-                    name,
-                    bytes,
+                    name: found.name,
+                    bytes: found.bytes,
                 });
             }
         }
@@ -271,13 +269,13 @@ pub(crate) fn place_of(seen: &Seen<'_>, name: &str) -> Option<Place>
 }
 
 // The place of the file of a name.
-fn file_at(found: &[Found], name: &str) -> Option<usize>
+fn file_at(found: &[Found<'_>], name: &str) -> Option<usize>
     ensures { result ≡ which.found_at 0 (map (λ f. f.name) (map found_view found.now)) name.now }
 {
     let mut at = 0;
     let mut left = found;
     'found: while let [one, later @ ..] = left {
-        if one.name.as_str() == name {
+        if one.name == name {
             return Some(at);
         }
         at += 1;
@@ -287,13 +285,13 @@ fn file_at(found: &[Found], name: &str) -> Option<usize>
 }
 
 // The place of a name.
-fn other_at(names: &[String], name: &str) -> Option<usize>
-    ensures { result ≡ which.found_at 0 (map string_bytes names.now) name.now }
+fn other_at(names: &[&str], name: &str) -> Option<usize>
+    ensures { result ≡ which.found_at 0 (map (λ one. one.now) names.now) name.now }
 {
     let mut at = 0;
     let mut left = names;
     'names: while let [one, later @ ..] = left {
-        if one.as_str() == name {
+        if *one == name {
             return Some(at);
         }
         at += 1;

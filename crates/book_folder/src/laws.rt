@@ -1,4 +1,5 @@
 //! Laws of a folder's files.
+ghost use Rattle.book_folder.specs.Done as done;
 ghost use Rattle.book_folder.specs.FolderLaws as folder;
 ghost use Rattle.book_folder.specs.Laws as laws;
 
@@ -41,6 +42,11 @@ pub fn base_makes_files()
 /// base before it was received.
 pub fn base_as_read_is_held()
     ensures { folder.BaseAsReadIsHeld }
+{}
+
+/// Once the steps of a plan were done, the project is the one into which all came in.
+pub fn steps_make_project()
+    ensures { done.StepsMakeProject }
 {}
 
 /// A sync of a project and a folder as a sync left them brings nothing in, and has nothing to do on

@@ -1,13 +1,14 @@
 // Which file is which book's, as it is written down.
 ghost use Rattle.std.specs.Prelude.{◌≡◌, ◌++◌, [], ◌∷◌, IfOk, OnOk, map, option_map};
-ghost use Rattle.book_folder.specs.Files.{files_view, name_of};
+ghost use Rattle.book_folder.specs.Files.{files_view};
 ghost use Rattle.book_folder.specs.Naming as naming;
 ghost use Rattle.book_folder.specs.Plans as plans;
 ghost use Rattle.book_folder.specs.Taking.{listed};
 ghost use Rattle.book_folder.specs.Wanted.{named_view, seen_view};
 
 use crate::bases::other_than;
-use crate::files::{BookFile, file_of, is_same_book, may_be_book, text_if};
+use crate::files::{BookFile, file_of, may_be_book, text_if};
+use crate::first_names::{first_name, first_names};
 use crate::naming::has_byte;
 use crate::plan::NewFile;
 use crate::seen::{Named, Seen};
@@ -162,10 +163,11 @@ fn in_order<'a>(alloc: Global, names: &[BookName<'a>]) -> Result<Vec<BookName<'a
         ≡ naming.in_order (map naming.book_name_view names.now)) }
 {
     let books = books_named(alloc, names)?;
+    let firsts = first_names(alloc, names)?;
     let mut ordered = Vec::new(alloc);
     let mut left = books.as_slice();
     'books: while let [book, later @ ..] = left {
-        if let Some(name) = first_of(names, *book) {
+        if let Some(name) = first_name(&firsts, *book) {
             push_name(&mut ordered, *book, name)?;
         }
         left = later;
@@ -196,21 +198,6 @@ fn books_in(alloc: Global, names: &[BookName<'_>]) -> Result<Vec<Book>, AllocErr
         left = later;
     }
     Ok(books)
-}
-
-// The first of some names that is a book's.
-fn first_of<'a>(names: &[BookName<'a>], book: Book) -> Option<&'a str>
-    ensures { option_map (λ name. name.now) result
-        ≡ name_of (map naming.book_name_view names.now) book }
-{
-    let mut left = names;
-    'names: while let [named, later @ ..] = left {
-        if is_same_book(named.book, book) {
-            return Some(named.name);
-        }
-        left = later;
-    }
-    None
 }
 
 /// The names that are written down in lines `CODE NAME`, in the order of books; of several of one

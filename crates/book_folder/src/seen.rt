@@ -1,14 +1,17 @@
 // What was read of a project and a folder, and what a person asked for.
+ghost use Rattle.std.specs.Prelude.{◌≡◌};
+ghost use Rattle.book_folder.specs.Wanted.{no_wishes, wishes_view};
+
 use std::alloc::Global;
 use usfm_ref::{Book, Key};
 
 /// A plain file of a folder whose name may be that of a book's file.
-#[derive(Debug, Drop)]
-pub struct Found {
+#[derive(Clone, Copy, Debug)]
+pub struct Found<'a> {
     /// Its name in the folder.
-    pub name: String,
+    pub name: &'a str,
     /// Its bytes.
-    pub bytes: Vec<u8>,
+    pub bytes: &'a [u8],
 }
 
 /// Which file is a book's, as it was written down.
@@ -37,9 +40,9 @@ pub struct Seen<'a> {
     /// The names of the books' files as they were written down, in the order of books.
     pub names: &'a [Named],
     /// The plain files whose names may be those of books' files, in the order of their names.
-    pub files: &'a [Found],
+    pub files: &'a [Found<'a>],
     /// The names of what else stands under such names.
-    pub others: &'a [String],
+    pub others: &'a [&'a str],
     /// The bundles that are given.
     pub bundles: &'a [Vec<u8>],
 }
@@ -72,7 +75,9 @@ pub struct Wishes {
 
 impl Wishes {
     /// No wishes.
-    pub fn none(alloc: Global) -> Wishes {
+    pub fn none(alloc: Global) -> Wishes
+        ensures { wishes_view result ≡ no_wishes }
+    {
         Wishes {
             emptied: false,
             undone: false,

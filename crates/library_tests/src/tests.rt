@@ -1,6 +1,5 @@
 // A call each with ample memory, and what no contract says: how often a search compares, and what
 // is called of a reader or a writer of std.
-mod commands;
 mod replicas;
 mod sets;
 mod streams;

@@ -1,14 +1,12 @@
 -- What is folded is written of the operations of one book alone, and is the same as of all.
-use Rattle.std.proofs.Common.{◌≡◌, true, ℕ, List, [], ◌∷◌, length, Option, Result, Ok, Err, refl, sym, ap, subst, ◌∙◌}
+use Rattle.std.proofs.Common.{◌≡◌, Bool, true, false, inr, is_ok, ℕ, List, [], Option, Result, Ok, Err, refl, sym, ap, subst, ◌∙◌}
 use Rattle.std.proofs.lemmas.Bool.{cond-true, cond-false}
 use Rattle.std.specs.Io.KnownBytes.{Appends}
 use Rattle.op_core.specs.Ops.{Operation}
-use Rattle.op_core.specs.Export.{has_book, export}
+use Rattle.op_core.specs.Export.{of_book, has_book, export}
 use Rattle.op_core.specs.OneBook.{ops_of_book}
-use Rattle.op_core.specs.Sets.{clash, join}
 use Rattle.op_core.proofs.Exports.OneBook.{export_same, has_book_same}
-use Rattle.bundle_codec.specs.declared.fault.BundleFault.{BundleFault}
-use Rattle.bundle_codec.specs.Reading.{bundle_at}
+use Rattle.op_core.proofs.FilteredLists.{filter_none}
 use Rattle.usfm_export.specs.Books as exports
 use Rattle.usfm_export.specs.Books.{AnswersBook}
 use Rattle.usfm_export.specs.Writing.{TakesFront}
@@ -16,11 +14,8 @@ use Rattle.usfm_export.specs.declared.fault.ExportFault.{ExportFault}
 use Rattle.usfm_export.specs.declared.fault.ExportFault.TheVariants as writing
 use Rattle.usfm_cli.specs.Faults.{of_export}
 use Rattle.usfm_cli.specs.Folding.{AnswersBundles, sink_failures}
-use Rattle.usfm_cli.specs.Streams.{union_within, union_in, book_from, book_of_stream, unless_clash, with_set}
-use Rattle.usfm_cli.specs.Streams.ReceivesOne.{Here}
-use Rattle.usfm_cli.specs.Streams.{ReceivesOne}
-use Rattle.usfm_cli.specs.declared.fault.Fault.{Fault}
-use Rattle.usfm_cli.specs.declared.fault.Fault.TheVariants.{Memory, Bundle, NoBook}
+use Rattle.usfm_cli.specs.Streams.{union_in, book_from, book_of_stream}
+use Rattle.usfm_cli.specs.declared.fault.Fault.TheVariants.{Memory, NoBook}
 
 -- what is answered of the book's operations, is answered of all
 pub answers_same : (union : List Operation) (book : List ℕ) (before after : Option (List ℕ)) (r : Result (Unit {0}) ExportFault)
@@ -39,19 +34,6 @@ pub failed_same : (fault : ExportFault) (failures : ℕ) → sink_failures (Err 
 failed_same writing.NoBook failures = refl
 failed_same (writing.WriteFailed gone) failures = refl
 
--- a union that has operations is one of bundles that were received
-some_received : (bytes : List ℕ) (union : List Operation) → union_in [] bytes ≡ Ok union → (union ≡ [] → ⊥) → ReceivesOne [] bytes
-unfolding union_within
-some_received [] union e some = let none : [] ≡ union = cc e in absurd (some (sym none))
-some_received (b ∷ bytes) union e some = by (bundle_at (b ∷ bytes)) refl
-  where
-    next : List Operation → List ℕ → Result (List Operation) Fault
-    next set rest = unless_clash (clash [] set) (union_within (length bytes) (join [] set) rest)
-
-    by : (read : Result (List Operation × List ℕ) BundleFault) → bundle_at (b ∷ bytes) ≡ read → ReceivesOne [] (b ∷ bytes)
-    by (Ok (set, rest)) r = Here [] (b ∷ bytes) set rest r
-    by (Err fault) r = let refused : Err (Bundle fault) ≡ Ok union = ap (λ x. with_set x next) (sym r) ∙ e in cc refused
-
 -- bundles were read whole, and have this union
 module _ (book input : List ℕ) (before after : Option (List ℕ)) (union : List Operation) (is : union_in [] input ≡ Ok union) where
   text_is : has_book union book ≡ true → book_of_stream book input ≡ Ok (export union book)
@@ -66,6 +48,10 @@ module _ (book input : List ℕ) (before after : Option (List ℕ)) (union : Lis
       (ap (book_from book) is ∙ cond-false (has_book union book) (Ok (export union book)) (Err NoBook) h.0, h.1)
   not_written (writing.WriteFailed gone) h = (export union book, text_is h.0, h.1)
 
-  -- out of memory is answered only where the book has operations, and so where a bundle was received
+  -- where the book has operations to copy, it is given
   pub not_copied : (ops_of_book union book ≡ [] → ⊥) → AnswersBundles book input before before (Err Memory)
-  not_copied some = (some_received input union is (λ none. some (ap (λ (ops : List Operation). ops_of_book ops book) none)), refl)
+  not_copied some = (inr (ap is_ok (text_is (has (has_book union book) refl))), refl)
+    where
+      has : (b : Bool) → has_book union book ≡ b → has_book union book ≡ true
+      has true e = e
+      has false e = absurd (some (filter_none (of_book book) union e))

@@ -39,18 +39,18 @@ pub if_so : {A E : Type 0} (X : Type 0) (P : A → Type 0) (answer : Result A E)
 if_so X P (Ok made) h = λ x. h
 if_so X P (Err fault) h = tt
 
-pub makes_bundle : (file : List ℕ) (s : State) (made output : List ℕ) → project_at file ≡ Ok s → made ≡ file → file ≡ project s
-    → output ≡ bundle s.held → executed file Send ≡ Ok (record { project = made; output = output })
-makes_bundle file s made output loads same spelled e =
+pub makes_bundle : (file : List ℕ) (s : State) (output : List ℕ) → project_at file ≡ Ok s → file ≡ project s
+    → output ≡ bundle s.held → executed file Send ≡ Ok (record { project = file; output = output })
+makes_bundle file s output loads spelled e =
     ap (λ (read : Result State LoadFault). of_loaded read Send) loads
-    ∙ (λ i. Ok (record { project = sym (same ∙ spelled) i; output = sym e i }))
+    ∙ (λ i. Ok (record { project = sym spelled i; output = sym e i }))
 
 module _ (file bytes : List ℕ) (s : State) (loads : project_at file ≡ Ok s) where
-  pub makes_delta : (known : List NameRanges) (made output : List ℕ) → read_summary bytes ≡ Some known → made ≡ file → file ≡ project s
+  pub makes_delta : (known : List NameRanges) (output : List ℕ) → read_summary bytes ≡ Some known → file ≡ project s
       → output ≡ bundle (outside known s.held)
-      → delta_made (project_at file) (read_summary bytes) ≡ Ok (record { project = made; output = output })
-  makes_delta known made output exact same spelled e =
-      (λ i. delta_made (loads i) (exact i)) ∙ (λ i. Ok (record { project = sym (same ∙ spelled) i; output = sym e i }))
+      → delta_made (project_at file) (read_summary bytes) ≡ Ok (record { project = file; output = output })
+  makes_delta known output exact spelled e =
+      (λ i. delta_made (loads i) (exact i)) ∙ (λ i. Ok (record { project = sym spelled i; output = sym e i }))
 
   pub summary_refused : (fault : SummaryFault) → ReadFails (read_summary bytes) fault → of_summary fault ≢ Memory
       → delta_made (project_at file) (read_summary bytes) ≡ Err (of_summary fault)

@@ -2,6 +2,7 @@ pub mod Inputs
 pub mod LineLengths
 pub mod Loading
 pub mod Unions
+pub mod GatheredSets
 pub mod RefusedStreams
 pub mod StreamLemmas
 pub mod SummariesRead
@@ -9,7 +10,6 @@ pub mod BooksCutBack
 pub mod BooksFolded
 pub mod ReadTheSame
 pub mod ReadAlike
-pub mod Running
 pub mod Seen
 pub mod Searched
 pub mod Headline
@@ -20,3 +20,5 @@ pub mod DeltasMade
 pub mod Schedules
 pub mod OverBooks
 pub mod OtherCopies
+pub mod Asking
+pub mod SplitReferences

@@ -20,6 +20,14 @@ loads_or_wants bytes s loading.BadProject loads refused other = let e : Ok s ≡
 loads_or_wants bytes s (loading.Bundle fault) loads refused other =
     let e : Ok s ≡ Err (loading.Bundle fault) = sym loads ∙ refused in cc e
 
+-- so that is its refusal
+pub loading_wants : (bytes : List ℕ) (s : State) (fault : LoadFault) → project_at bytes ≡ Ok s → RefusesLoad bytes fault
+    → fault ≡ loading.Memory
+loading_wants bytes s loading.Memory loads refused = refl
+loading_wants bytes s loading.BadProject loads refused = absurd (loads_or_wants bytes s loading.BadProject loads refused (λ m. cc))
+loading_wants bytes s (loading.Bundle fault) loads refused =
+    absurd (loads_or_wants bytes s (loading.Bundle fault) loads refused (λ m. cc))
+
 -- a command that was refused wants memory where its contract says so
 pub refused_wants : (A : Type 0) (late : Fault → Bool) (wanted : Result Done Fault) (after : State) (fault : Fault)
     → Answers {A = A} late wanted after (Err fault) → fault ≡ Memory → MayWantMemory late wanted

@@ -1,24 +1,39 @@
 -- What is reported of a project by a sheet: where memory may be wanted, and that it is what is seen of it.
-use Rattle.std.proofs.Common.{◌≡◌, ◌≢◌, ℕ, Bool, true, List, Option, Some, None, Result, Ok, Err, Vec, refl, sym, ap, subst, ◌∙◌}
+use Rattle.std.proofs.Common.{◌≡◌, ◌≢◌, ℕ, Bool, true, cond, List, map, Option, Some, None, Result, Ok, Err, Vec, refl, sym, ap, subst, ◌∙◌}
+use Rattle.std.specs.List.{flat_map}
 use Rattle.std.specs.Str.{is_utf8}
 use Rattle.std.proofs.lemmas.Bool.{cond-true, cond-false}
+use Rattle.usfm_ref.specs.Keys.{KeyParts, key_cmp}
+use Rattle.usfm_ref.specs.Rising.{rising}
+use Rattle.usfm_ref.specs.Segments.{segment}
 use Rattle.sty_sheet.specs.Records.{Record}
 use Rattle.sty_sheet.specs.Sheets.{sheet_of}
 use Rattle.line_excerpt.specs.declared.excerpt.SetOff.{SetOff}
 use Rattle.op_core.specs.Ops.{Operation}
-use Rattle.op_core.specs.Export.{has_book, export}
+use Rattle.op_core.specs.Export.{of_book, has_book, export}
+use Rattle.op_core.specs.Lists.{keys_of}
+use Rattle.op_core.specs.OneBook.{ops_of_book}
+use Rattle.op_core.specs.Shown.{pick}
+use Rattle.op_core.proofs.Exports.ByShown.{pick_same}
+use Rattle.op_core.proofs.Exports.OneBook.{shown_same, has_book_same}
+use Rattle.op_core.proofs.FilteredLists.{filter_both}
+use Rattle.verse_cut.proofs.MarkLaws.{both_second}
 use Rattle.usfm_export.specs.Books.{AnswersText}
 use Rattle.usfm_export.specs.declared.fault.TextFault.{TextFault}
 use Rattle.usfm_export.specs.declared.fault.TextFault.TheVariants as giving
 use Rattle.replica_state.specs.States.{State}
 use Rattle.project_file.specs.Answers.{RefusesLoad}
+use Rattle.project_file.specs.Projects.{project_at}
 use Rattle.project_file.specs.declared.fault.LoadFault.{LoadFault}
 use Rattle.project_file.specs.declared.fault.LoadFault.TheVariants as loading
 use Rattle.book_reports.specs.Reports as reports
+use Rattle.project_status.specs.Progress.{in_chapter, chapter_of, below, progress_line, book_progress}
+use Rattle.project_status.specs.Verses.{verse_picked, verses_of}
 use Rattle.usfm_cli.specs.Commands.{MayWantMemory, Gives}
+use Rattle.usfm_cli.specs.Copies.{progress_in, progress_by}
 use Rattle.usfm_cli.specs.Faults.{of_loading, of_book_text}
 use Rattle.usfm_cli.specs.EveryBook.{all_searched}
-use Rattle.usfm_cli.specs.OverBooks.{findings_of, checked, hits_of, searched, of_loaded, told_by, AnswersProject, IsSeenOf}
+use Rattle.usfm_cli.specs.OverBooks.{findings_of, checked, hits_of, searched, of_loaded, told_by, AnswersProject, IsSeenOf, SeesNothing, WantsMemory}
 use Rattle.usfm_cli.specs.Seen.{seen_of}
 use Rattle.usfm_cli.specs.SheetReports.{by_records, by_sheet, unless_empty, is_after_sheet}
 use Rattle.usfm_cli.specs.declared.fault.Fault.{Fault}
@@ -26,6 +41,7 @@ use Rattle.usfm_cli.specs.declared.fault.Fault.TheVariants.{Memory, NotText, Ref
 use Rattle.usfm_cli.specs.declared.fault.Fault.TheVariants.{Naming, Clash, Bundle, Trailing, BadSummary, BadSegment, NumbersUsedUp, NoBook}
 use Rattle.usfm_cli.specs.declared.fault.Fault.TheVariants.{NotShown, WriteFailed, EmptyNeedle, BadProject, ReadFailed, TooLong}
 use Rattle.usfm_cli.specs.declared.fault.Fault.TheVariants.{FileFailed, FileChanged, Emptied, Undone, Unlike}
+use Rattle.usfm_cli.proofs.Loading.{loads_or_wants}
 use Rattle.usfm_cli.proofs.Searched.{book_wanted, search_is_late}
 use Rattle.usfm_cli.proofs.Seen.{text_same}
 
@@ -78,17 +94,39 @@ findings_without_text A B held set_off book sheet records giving.Memory is read 
 
 -- ---- what is seen
 
-checked_same : (book : Option (List ℕ)) (s : State) (set_off : Option SetOff) (sheet : List ℕ)
+pub checked_same : (book : Option (List ℕ)) (s : State) (set_off : Option SetOff) (sheet : List ℕ)
     → checked (seen_of book s).held set_off book sheet ≡ checked s.held set_off book sheet
 checked_same None s set_off sheet = refl
 checked_same (Some book) s set_off sheet =
     λ i. by_sheet sheet (λ records. text_same s.held book (λ text. Ok (reports.checked set_off records book text)) i)
 
-searched_same : (book : Option (List ℕ)) (s : State) (set_off : Option SetOff) (needle sheet : List ℕ)
+pub searched_same : (book : Option (List ℕ)) (s : State) (set_off : Option SetOff) (needle sheet : List ℕ)
     → searched (seen_of book s).held set_off book needle sheet ≡ searched s.held set_off book needle sheet
 searched_same None s set_off needle sheet = refl
 searched_same (Some book) s set_off needle sheet = λ i. by_sheet sheet (λ records.
     text_same s.held book (λ text. unless_empty needle (Ok (reports.searched set_off records needle book text))) i)
+
+-- how far a book is, is the same where the operations of the book are all
+progress_in_same : (held : List Operation) (book : List ℕ) → progress_in (ops_of_book held book) book ≡ progress_in held book
+progress_in_same held book = λ i. cond (has_book_same held book i) (Ok (progress i)) (Err NoBook)
+  where
+    keys_same : keys_of (ops_of_book held book) book ≡ keys_of held book
+    keys_same = ap (λ (ops : List Operation). rising key_cmp (map (λ o. o.segment.key) ops))
+        (filter_both (of_book book) (of_book book) (of_book book) (λ o. both_second (of_book book o) (of_book book o) (λ h. h)) held)
+
+    picks_same : (key : KeyParts) → pick (ops_of_book held book) (segment book key) ≡ pick held (segment book key)
+    picks_same key = pick_same (ops_of_book held book) held book (λ k. shown_same held book (segment book k) refl) key
+
+    verses_same : verses_of (ops_of_book held book) book ≡ verses_of held book
+    verses_same = λ i. flat_map (λ key. verse_picked key (picks_same key i)) (keys_same i)
+
+    progress : book_progress (ops_of_book held book) book ≡ book_progress held book
+    progress = λ i. flat_map (progress_line book) (flat_map (λ c. chapter_of c (in_chapter c (verses_same i))) (below 1000))
+
+-- the same of one book or of all
+pub progress_same : (book : Option (List ℕ)) (s : State) → progress_by (seen_of book s).held book ≡ progress_by s.held book
+progress_same None s = refl
+progress_same (Some book) s = progress_in_same s.held book
 
 -- what is given is what is wanted, where it is not that memory ended
 given_for : (A : Type 0) (late : Fault → Bool) (wanted : Result (List ℕ) Fault) (result : Result (Vec ℕ A) Fault)
@@ -122,7 +160,7 @@ given_for A late wanted (Err (Undone count)) h other = h
 given_for A late wanted (Err (Unlike count)) h other = h
 
 -- what is given of what is seen of a project is what is wanted of all of it
-seen_given : (A : Type 0) (bytes : List ℕ) (book : Option (List ℕ)) (seen : State) (late : Fault → Bool)
+pub seen_given : (A : Type 0) (bytes : List ℕ) (book : Option (List ℕ)) (seen : State) (late : Fault → Bool)
     (reported : List Operation → Result (List ℕ) Fault) (result : Result (Vec ℕ A) Fault) → IsSeenOf bytes book seen
     → ((s : State) → reported (seen_of book s).held ≡ reported s.held) → Gives late (reported seen.held) result
     → AnswersProject bytes reported result
@@ -154,6 +192,25 @@ pub whole_given : (A : Type 0) (bytes : List ℕ) (seen : State) (late : Fault �
     → AnswersProject bytes reported result
 whole_given A bytes seen late reported result is gives =
     seen_given A bytes None seen late reported result is (λ s. refl) gives
+
+-- where out of memory may be answered of what is seen of a project, it may be of all of it
+pub seen_wants : (A : Type 0) (bytes : List ℕ) (book : Option (List ℕ)) (seen : State) (late : Fault → Bool)
+    (reported : List Operation → Result (List ℕ) Fault) (result : Result (Vec ℕ A) Fault) → IsSeenOf bytes book seen
+    → ((s : State) → reported (seen_of book s).held ≡ reported s.held) → Gives late (reported seen.held) result
+    → WantsMemory bytes book late reported result
+seen_wants A bytes book seen late reported result is same gives none s loads place =
+    let wants : MayWantMemory late (reported seen.held) = subst (Gives {A = A} late (reported seen.held)) none gives in
+    let whole : is.whole ≡ s = cc (sym is.loads ∙ loads) in
+    subst (MayWantMemory late)
+    (ap (λ (t : State). reported t.held) is.seen_is ∙ same is.whole ∙ ap (λ (t : State). reported t.held) whole) wants
+
+-- a project that can be read without memory is not refused while it is read
+pub reads_in_place : (A : Type 0) (bytes : List ℕ) (book : Option (List ℕ)) (late : Fault → Bool)
+    (reported : List Operation → Result (List ℕ) Fault) (fault : LoadFault) (result : Result (Vec ℕ A) Fault) → RefusesLoad bytes fault
+    → ((s : State) → project_at bytes ≡ Ok s → SeesNothing book s → fault ≢ loading.Memory)
+    → WantsMemory bytes book late reported result
+reads_in_place A bytes book late reported fault result refused place none s loads sees =
+    absurd (loads_or_wants bytes s fault loads refused (place s loads sees))
 
 -- a project that is not read is refused for that
 pub not_read : (A : Type 0) (bytes : List ℕ) (reported : List Operation → Result (List ℕ) Fault) (fault : LoadFault)

@@ -1,17 +1,17 @@
 -- Streams whose bundles are refused, and what an answer for bundles says of the stream that gave them.
-use Rattle.std.proofs.Common.{ℕ, ◌≤◌, List, [], length, Option, Result, Ok, Err, refl, ap}
+use Rattle.std.proofs.Common.{ℕ, ◌<◌, ◌≤◌, List, [], ◌∷◌, length, Option, Result, Ok, Err, IsOk, inl, inr, arith, refl, ap}
 use Rattle.std.specs.Io.KnownBytes.{IsAtEnd}
-use Rattle.usfm_cli.specs.Folding.{AnswersBundles, AnswersStream}
+use Rattle.usfm_cli.specs.Folding.{AnswersBundles, AnswersStream, FoldingTakesMemory}
 use Rattle.usfm_cli.specs.Reading.{most_bytes}
-use Rattle.usfm_cli.specs.Streams.{UnionAnswers, book_from}
+use Rattle.usfm_cli.specs.Streams.{UnionAnswers, union_within, book_from, book_of_stream}
 use Rattle.usfm_cli.specs.declared.fault.Fault.{Fault}
 use Rattle.usfm_cli.specs.declared.fault.Fault.TheVariants.{Memory, NotText, Reference, NoId, FieldBeforeMarker, EmptyMarker, BadStyleType, Naming, Clash, Bundle, Trailing, BadSummary, BadSegment, NumbersUsedUp, NoBook, NotShown, WriteFailed, EmptyNeedle, BadProject, ReadFailed, TooLong, FileFailed, FileChanged, Emptied, Undone, Unlike}
-use Rattle.usfm_cli.proofs.Unions.{receives_some}
+use Rattle.usfm_cli.proofs.Unions.{taken_of_some}
 
 -- what is answered where the union of bundles is refused, and nothing is written
 pub refused_bundles : (book input : List ℕ) (sink : Option (List ℕ)) (fault : Fault) → UnionAnswers input (Err fault)
     → AnswersBundles book input sink sink (Err fault)
-refused_bundles book input sink Memory u = (u, refl)
+refused_bundles book input sink Memory u = (inl u, refl)
 refused_bundles book input sink (Clash id) u = (ap (book_from book) u, refl)
 refused_bundles book input sink (Bundle fault) u = (ap (book_from book) u, refl)
 refused_bundles book input sink (NotText valid) u = absurd u
@@ -38,12 +38,22 @@ refused_bundles book input sink (Emptied count) u = absurd u
 refused_bundles book input sink (Undone count) u = absurd u
 refused_bundles book input sink (Unlike count) u = absurd u
 
+-- no bytes give a book, and memory is taken to fold some bytes alone
+some_book : (book given : List ℕ) → IsOk (book_of_stream book given) → 0 < length given
+unfolding union_within
+some_book book [] is = cc is
+some_book book (b ∷ given) is = omega arith
+
+folded_of_some : (book given : List ℕ) → FoldingTakesMemory book given → 0 < length given
+folded_of_some book given (inl taken) = taken_of_some 0 [] given taken
+folded_of_some book given (inr is) = some_book book given is
+
 -- what is answered for bundles is answered for the stream that gave them
 pub of_stream : (book given : List ℕ) (left before after : Option (List ℕ)) (answer : Result (Unit {0}) Fault)
     → length given ≤ most_bytes → IsAtEnd left → AnswersBundles book given before after answer
     → AnswersStream book given left before after answer
 of_stream book given left before after (Ok done) w e h = (w, e, h)
-of_stream book given left before after (Err Memory) w e h = (receives_some [] given h.0, w, h.1)
+of_stream book given left before after (Err Memory) w e h = (folded_of_some book given h.0, w, h.1)
 of_stream book given left before after (Err (Clash id)) w e h = (w, e, h)
 of_stream book given left before after (Err (Bundle fault)) w e h = (w, e, h)
 of_stream book given left before after (Err (NotText valid)) w e h = (w, e, h)

@@ -1,5 +1,5 @@
 -- A stream of bundles on its way.
-use Rattle.std.proofs.Common.{◌≡◌, ◌==◌, ◌⊎◌, inl, inr, Bool, true, false, ℕ, zero, suc, ◌<◌, ◌≤◌, List, [], ◌∷◌, length, take}
+use Rattle.std.proofs.Common.{◌≡◌, ◌==◌, Bool, true, false, ℕ, zero, suc, ◌<◌, ◌≤◌, List, [], ◌∷◌, length, take}
 use Rattle.std.proofs.Common.{drop, Some, None, Result, Ok, Err, arith, length-take, length-drop, refl, sym, ap, ◌∙◌}
 use Rattle.std.proofs.lemmas.Bool.{eqb-true}
 use Rattle.op_core.specs.Ids.{Id}
@@ -11,11 +11,11 @@ use Rattle.bundle_codec.specs.declared.fault.BundleFault.TheVariants as spelling
 use Rattle.bundle_codec.specs.Reading.{bundle_at, fields_at, magic_at, RefusesBundle, TakesMemory}
 use Rattle.replica_state.specs.declared.fault.ReceiveFault.{ReceiveFault}
 use Rattle.replica_state.specs.declared.fault.ReceiveFault.TheVariants as receiving
-use Rattle.replica_state.specs.Receives.{RefusesReceive}
 use Rattle.replica_state.specs.States.{State}
 use Rattle.usfm_cli.specs.Faults.{of_bundle, of_receiving}
-use Rattle.usfm_cli.specs.Streams.{with_set, unless_clash, union_within, union_in, UnionAnswers, ReceivesOne}
-use Rattle.usfm_cli.specs.Streams.ReceivesOne.{Here, Judged, After}
+use Rattle.usfm_cli.specs.Loops.Gathered.{RefusesNext}
+use Rattle.usfm_cli.specs.Streams.{with_set, unless_clash, union_within, union_in, UnionAnswers, GatheringTakesMemory}
+use Rattle.usfm_cli.specs.Streams.GatheringTakesMemory.{Judged, Received, After}
 use Rattle.usfm_cli.specs.declared.fault.Fault.{Fault}
 use Rattle.usfm_cli.specs.declared.fault.Fault.TheVariants.{Bundle, Clash}
 
@@ -89,10 +89,11 @@ unfolding fields_at magic_at
 some_judged [] t = cc t.read
 some_judged (b ∷ bytes) t = omega arith
 
-pub receives_some : (held : List Operation) (bytes : List ℕ) → ReceivesOne held bytes → 0 < length bytes
-receives_some h b (Here held bytes set rest e) = some_read bytes set rest e
-receives_some h b (Judged held bytes t) = some_judged bytes t
-receives_some h b (After held bytes set rest e c one) = some_read bytes set rest e
+-- memory is taken for bundles that are not empty
+pub taken_of_some : (before : ℕ) (held : List Operation) (bytes : List ℕ) → GatheringTakesMemory before held bytes → 0 < length bytes
+taken_of_some n h b (Judged before held bytes t) = some_judged bytes t
+taken_of_some n h b (Received before held bytes set rest e room) = some_read bytes set rest e
+taken_of_some n h b (After before held bytes set rest e c later) = some_read bytes set rest e
 
 -- what is left after a bundle is shorter
 pub left_is_shorter : (bytes : List ℕ) (n : ℕ) (set : List Operation) → take n bytes ≡ bundle set → n ≡ length (bundle set) →
@@ -112,47 +113,37 @@ pub none_left : (xs : List ℕ) (r : Bool) → r ≡ (length xs == 0) → r ≡ 
 none_left [] r e f = refl
 none_left (x ∷ xs) r e f = absurd (omega (arith, eqb-true (length (x ∷ xs)) 0 (sym e ∙ f)))
 
--- a stream on its way: what is left leads to what the whole leads to, and a bundle that is received of it is received of the whole;
--- where not all is left, one was
-pub record IsOnWay (input : List ℕ) (held : List Operation) (rest : List ℕ) : Type 0 where
+-- A stream on its way, after so many bundles: what is left leads to what the whole leads to, and where memory is taken for what is
+-- left, it is taken for the whole.
+pub record IsOnWay (input : List ℕ) (before : ℕ) (held : List Operation) (rest : List ℕ) : Type 0 where
   pub leads : LeadsTo held rest (union_in [] input)
-  pub back : ReceivesOne held rest → ReceivesOne [] input
-  pub begun : (rest ≡ input) ⊎ ReceivesOne [] input
+  pub back : GatheringTakesMemory before held rest → GatheringTakesMemory 0 [] input
 
 -- before the first bundle all of the stream is ahead
-pub way_start : (input : List ℕ) → IsOnWay input [] input
-way_start input = record { leads = leads_start input; back = λ one. one; begun = inl refl }
+pub way_start : (input : List ℕ) → IsOnWay input 0 [] input
+way_start input = record { leads = leads_start input; back = λ taken. taken }
 
--- at the end of a stream that is not empty a bundle was received
-pub received_one : (input : List ℕ) (held : List Operation) (rest : List ℕ) → IsOnWay input held rest → 0 < length input → rest ≡ []
-    → ReceivesOne [] input
-received_one input held rest w some e = by w.begun
-  where
-    by : (rest ≡ input) ⊎ ReceivesOne [] input → ReceivesOne [] input
-    by (inl same) = absurd (omega (arith, some, ap length (sym same ∙ e)))
-    by (inr one) = one
-
-module _ (input : List ℕ) (held set : List Operation) (rest left : List ℕ) (w : IsOnWay input held rest) (some : 0 < length rest)
-    (read : bundle_at rest ≡ Ok (set, left)) where
-  pub way_on : clash held set ≡ None → length left < length rest → IsOnWay input (join held set) left
+module _ (input : List ℕ) (before : ℕ) (held set : List Operation) (rest left : List ℕ) (w : IsOnWay input before held rest)
+    (some : 0 < length rest) (read : bundle_at rest ≡ Ok (set, left)) where
+  pub way_on : clash held set ≡ None → length left < length rest → IsOnWay input (suc before) (join held set) left
   way_on c s = record {
     leads = leads_on held rest (union_in [] input) w.leads some set left read c s;
-    back = λ one. w.back (After held rest set left read c one);
-    begun = inr (w.back (Here held rest set left read));
+    back = λ taken. w.back (After before held rest set left read c taken);
   }
 
   -- a refused bundle is refused with the clash, or out of memory
-  pub refused_bundle : (fault : ReceiveFault) → RefusesReceive (clash held set) fault → UnionAnswers input (Err (of_receiving fault))
-  refused_bundle receiving.Memory r = w.back (Here held rest set left read)
+  pub refused_bundle : (fault : ReceiveFault) → RefusesNext before held set fault → UnionAnswers input (Err (of_receiving fault))
+  refused_bundle receiving.Memory r = w.back (Received before held rest set left read r)
   refused_bundle (receiving.Clash id) r = leads_clash held rest (union_in [] input) w.leads some set left id read r
 
-module _ (input : List ℕ) (held : List Operation) (rest : List ℕ) (w : IsOnWay input held rest) (some : 0 < length rest) where
+module _ (input : List ℕ) (before : ℕ) (held : List Operation) (rest : List ℕ) (w : IsOnWay input before held rest)
+    (some : 0 < length rest) where
   leads_bad : (f : BundleFault) → bundle_at rest ≡ Err f → union_in [] input ≡ Err (Bundle f)
   leads_bad f e = leads_fault held rest (union_in [] input) w.leads some f e
 
   -- bytes that are no bundle are refused with the fault, or out of memory
   pub refused_bytes : (fault : BundleFault) → RefusesBundle rest fault → UnionAnswers input (Err (of_bundle fault))
-  refused_bytes spelling.Memory r = w.back (Judged held rest r)
+  refused_bytes spelling.Memory r = w.back (Judged before held rest r)
   refused_bytes spelling.Magic r = leads_bad spelling.Magic r
   refused_bytes spelling.Truncated r = leads_bad spelling.Truncated r
   refused_bytes (spelling.NotRising at) r = leads_bad (spelling.NotRising at) r

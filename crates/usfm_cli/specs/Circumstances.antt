@@ -1,9 +1,11 @@
 -- What is known of a refusal beside its fault (this project's own rule).
-use Rattle.std.specs.Prelude.{ℕ, ◌||◌, ◌==◌, Bool, List, [], ◌∷◌, length, slice_index, Option, Some, None, codes, nat_eq, if◌then◌else◌}
+use Rattle.std.specs.Prelude.{◌≡◌, ◌⊎◌, ℕ, ◌||◌, ◌==◌, Bool, List, [], ◌∷◌, length, slice_index, Option, Some, None, codes, nat_eq, if◌then◌else◌}
 use Rattle.std.specs.List.{starts_with}
 use Rattle.std.specs.Str.{bytes_eq}
 use Rattle.std.specs.Char.{to_ascii_uppercase}
 use Rattle.usfm_ref.specs.Books.{is_book_code}
+use Rattle.project_file.specs.Answers.{TakesMemoryAfter}
+use Rattle.project_file.specs.Projects.{front_at}
 use Rattle.usfm_cli.specs.declared.fault.Fault.{Fault}
 use Rattle.usfm_cli.specs.declared.fault.Fault.TheVariants.{NotText, Reference, NoId, FieldBeforeMarker}
 use Rattle.usfm_cli.specs.declared.fault.Fault.TheVariants.{EmptyMarker, BadStyleType, Clash, Bundle}
@@ -11,7 +13,7 @@ use Rattle.usfm_cli.specs.declared.fault.Fault.TheVariants.{Trailing, BadSummary
 use Rattle.usfm_cli.specs.declared.explaining.circumstances.Found.{Found}
 use Rattle.usfm_cli.specs.declared.explaining.circumstances.Found.TheVariants as found
 use Rattle.usfm_cli.specs.declared.explaining.circumstances.Input.{Input}
-use Rattle.usfm_cli.specs.declared.explaining.circumstances.Input.TheVariants.{Given, Neither}
+use Rattle.usfm_cli.specs.declared.explaining.circumstances.Input.TheVariants.{Project, Given, Neither}
 
 -- whether a file begins with these bytes
 abbrev pub begins : List ℕ → List ℕ → Bool
@@ -61,3 +63,9 @@ input_of (Bundle fault) = Given
 input_of Trailing = Given
 input_of BadSummary = Given
 input_of other = Neither
+
+-- The project is named where the bytes are none, or damaged; or, where memory is taken to judge the
+-- bundle in them, what is named of a whole project.
+abbrev pub NamesProject : List ℕ → Fault → Input → Type 0
+NamesProject bytes fault named =
+    (named ≡ Project) ⊎ ((named ≡ input_of fault) × TakesMemoryAfter (front_at bytes))

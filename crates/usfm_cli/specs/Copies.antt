@@ -140,11 +140,6 @@ abbrev pub progress_by : List Operation → Option (List ℕ) → Result (List �
 progress_by held None = Ok (all_progress held)
 progress_by held (Some book) = progress_in held book
 
--- how far a project is, or why it is refused
-abbrev pub progress_of : Result State LoadFault → Option (List ℕ) → Result (List ℕ) Fault
-progress_of (Ok s) book = progress_by s.held book
-progress_of (Err fault) book = Err (of_loading fault)
-
 -- ---- what is in conflict
 
 -- the keys of a book whose segments the report lists texts of

@@ -1,11 +1,12 @@
 -- What a call that folds a stream into a book answers, and what it leaves of its source and its
 -- sink.
-use Rattle.std.specs.Prelude.{◌≡◌, ℕ, ◌+◌, ◌<◌, ◌≤◌, List, [], length, Option, Result, Ok, Err}
+use Rattle.std.specs.Prelude.{◌≡◌, ◌⊎◌, ℕ, ◌+◌, ◌<◌, ◌≤◌, List, [], length}
+use Rattle.std.specs.Prelude.{Option, Result, Ok, Err, IsOk}
 use Rattle.std.specs.Io.KnownBytes.{Consumes, Appends, IsAtEnd}
 use Rattle.usfm_export.specs.Counts.{one_more}
 use Rattle.usfm_cli.specs.Reading.{most_bytes}
 use Rattle.usfm_export.specs.Writing.{TakesFront}
-use Rattle.usfm_cli.specs.Streams.{book_of_stream, ReceivesOne}
+use Rattle.usfm_cli.specs.Streams.{book_of_stream, GatheringTakesMemory}
 use Rattle.usfm_cli.specs.declared.fault.Fault.{Fault}
 use Rattle.usfm_cli.specs.declared.fault.Fault.TheVariants.{Memory, WriteFailed}
 use Rattle.usfm_cli.specs.declared.fault.Fault.TheVariants.{ReadFailed, TooLong}
@@ -21,13 +22,19 @@ AnswersText wanted before after (Err (WriteFailed gone)) =
 AnswersText wanted before after (Err Memory) = after ≡ before
 AnswersText wanted before after (Err fault) = (wanted ≡ Err fault) × (after ≡ before)
 
--- What an answer says of bundles that were read whole: what the book of their stream says; out of
--- memory only where one of them was received, or judged with memory, and then nothing was written.
+-- Memory may be taken to fold bundles that were read whole: to gather them; or where they give the
+-- book, whose operations are then copied.
+abbrev pub FoldingTakesMemory : List ℕ → List ℕ → Type 0
+FoldingTakesMemory book input = GatheringTakesMemory 0 [] input ⊎ IsOk (book_of_stream book input)
+
+-- What an answer says of bundles that were read whole: what the book of their stream says; or out of
+-- memory, only where memory may be taken to fold them, and then nothing was written.
 abbrev pub AnswersBundles : List ℕ → List ℕ → Option (List ℕ) → Option (List ℕ) →
     Result (Unit {0}) Fault → Type 0
 AnswersBundles book input before after (Err ReadFailed) = ⊥
 AnswersBundles book input before after (Err TooLong) = ⊥
-AnswersBundles book input before after (Err Memory) = ReceivesOne [] input × (after ≡ before)
+AnswersBundles book input before after (Err Memory) =
+    FoldingTakesMemory book input × (after ≡ before)
 AnswersBundles book input before after answer =
     AnswersText (book_of_stream book input) before after answer
 

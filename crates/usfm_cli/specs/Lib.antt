@@ -24,3 +24,6 @@ pub mod Loops
 pub mod Circumstances
 pub mod Explaining
 pub mod TextNames
+pub mod Listing
+pub mod Remarks
+pub mod Words

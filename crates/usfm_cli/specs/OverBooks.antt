@@ -1,14 +1,17 @@
 -- What is reported of a project by a style sheet (this project's own rule): of all its books, or of
--- one with the lines of its text.
-use Rattle.std.specs.Prelude.{◌≡◌, ◌≢◌, ℕ, List, Option, None, Some, Result, Ok, Err, Vec}
+-- one with the lines of its text. What is answered of a project at which one book is looked at, or
+-- all.
+use Rattle.std.specs.Prelude.{◌≡◌, ◌≢◌, ℕ, Bool, List, [], Option, None, Some, Result, Ok, Err, Vec, IsTrue}
 use Rattle.sty_sheet.specs.Records.{Record}
 use Rattle.op_core.specs.Ops.{Operation}
+use Rattle.op_core.specs.Thinned.{all_full}
 use Rattle.line_excerpt.specs.declared.excerpt.SetOff.{SetOff}
 use Rattle.book_reports.specs.Reports as reports
 use Rattle.usfm_cli.specs.EveryBook.{all_checked, all_searched, all_listed}
 use Rattle.replica_state.specs.States.{State}
 use Rattle.project_file.specs.declared.fault.LoadFault.{LoadFault}
 use Rattle.project_file.specs.Projects.{project_at}
+use Rattle.usfm_cli.specs.Commands.{MayWantMemory}
 use Rattle.usfm_cli.specs.Faults.{of_loading}
 use Rattle.usfm_cli.specs.Seen.{seen_of}
 use Rattle.usfm_cli.specs.SheetReports.{by_sheet, by_book_text, unless_empty}
@@ -62,6 +65,20 @@ abbrev pub AnswersProject : {A : Type 0} → List ℕ → (List Operation → Re
     → Result (Vec ℕ A) Fault → Type 0
 AnswersProject bytes reported result =
     result ≢ Err Memory → of_loaded (project_at bytes) reported ≡ told_by result
+
+-- Of a replica one book is looked at, or all, and nothing of that is held, nor is any operation
+-- thinned: so its file is read without memory.
+pub record SeesNothing (book : Option (List ℕ)) (s : State) : Type 0 where
+  pub full : IsTrue (all_full s.held)
+  pub none_seen : (seen_of book s).held ≡ []
+
+-- Where a project is read without memory, out of memory is answered only where it may be of what
+-- is reported, and so in the place of no refusal that is found without it.
+abbrev pub WantsMemory : {A : Type 0} → List ℕ → Option (List ℕ) → (Fault → Bool)
+    → (List Operation → Result (List ℕ) Fault) → Result (Vec ℕ A) Fault → Type 0
+WantsMemory bytes book late reported result =
+    result ≡ Err Memory → (s : State) → project_at bytes ≡ Ok s → SeesNothing book s
+    → MayWantMemory late (reported s.held)
 
 -- bytes are a project file, and a replica is what is seen of its replica: of one book what it
 -- holds, or all

@@ -1,6 +1,6 @@
 -- What commands make of a project's file (this project's own rule): the file is read, the command
 -- is done, and the file of the replica after it is written.
-use Rattle.std.specs.Prelude.{◌≡◌, ◌⊎◌, ℕ, List, [], ◌∷◌, Option, Result, Ok, Err}
+use Rattle.std.specs.Prelude.{◌≡◌, ◌⊎◌, ℕ, List, [], ◌∷◌, Vec, Option, Some, None, Result, Ok, Err}
 use Rattle.op_core.specs.Ops.{Operation}
 use Rattle.bundle_codec.specs.declared.fault.WholeFault.{WholeFault}
 use Rattle.bundle_codec.specs.Summaries.{NameRanges}
@@ -18,6 +18,11 @@ use Rattle.usfm_cli.specs.declared.fault.Fault.TheVariants.{Memory}
 pub record Written : Type 0 where
   pub project : List ℕ
   pub output : List ℕ
+
+-- the file that is written anew, or else the one that was given
+abbrev pub file_of : {A : Type 0} → List ℕ → Option (Vec ℕ A) → List ℕ
+file_of given None = given
+file_of given (Some made) = made.items
 
 -- the file of the replica after a command with what the command writes, or the refusal
 abbrev pub written : Result Done Fault → Result Written Fault

@@ -1,5 +1,5 @@
 -- What is asked of a project's conflicts (this project's own rule).
-use Rattle.std.specs.Prelude.{◌≡◌, ◌≢◌, ℕ, false, List, length, Option, None, Result, Ok, Err}
+use Rattle.std.specs.Prelude.{◌≡◌, ℕ, true, false, List, [], length, Option, None, Result, Ok, Err}
 use Rattle.usfm_ref.specs.declared.segment.Segment.{Segment}
 use Rattle.op_core.specs.Ops.{Operation}
 use Rattle.conflict_settling.specs.Asked.{AskedParts, Asks}
@@ -10,14 +10,18 @@ use Rattle.conflict_settling.specs.declared.wanted.Wanted.{Wanted}
 use Rattle.usfm_cli.specs.declared.fault.Fault.{Fault}
 use Rattle.usfm_cli.specs.declared.fault.Fault.TheVariants.{Memory, NoBook}
 
--- what is answered of a project that holds these operations: the next question; or that a book has
--- no operation, or out of memory, and nothing else
+-- What is answered of a project that holds these operations: the next question; or that a book has
+-- no operation. Out of memory is answered in the place of that only where something is held, since
+-- it is copied first.
 abbrev pub AsksOf : List Operation → List Wanted → Option Segment → Manner
     → Result (Option AskedParts) Fault → Type 0
 AsksOf held wanted passed manner (Ok asked) = Asks held wanted passed manner (Ok asked)
-AsksOf held wanted passed manner (Err fault) =
-    fault ≢ Memory → (fault ≡ NoBook) × (has_books held wanted ≡ false)
+AsksOf held wanted passed manner (Err NoBook) = has_books held wanted ≡ false
+AsksOf held wanted passed manner (Err Memory) = held ≡ [] → has_books held wanted ≡ true
+AsksOf held wanted passed manner (Err fault) = ⊥
 
--- how many conflicts are open
-abbrev pub CountsOpen : List Operation → List Wanted → ℕ → Type 0
-CountsOpen held wanted count = count ≡ length (open_conflicts held wanted None)
+-- what is answered of how many conflicts are open: how many there are; or out of memory, and
+-- nothing else
+abbrev pub CountsOpen : List Operation → List Wanted → Result ℕ Fault → Type 0
+CountsOpen held wanted (Ok count) = count ≡ length (open_conflicts held wanted None)
+CountsOpen held wanted (Err fault) = fault ≡ Memory

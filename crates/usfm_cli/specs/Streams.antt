@@ -1,6 +1,6 @@
 -- What a stream of bundles folds into (this project's own rule): bundles one after another, whose
 -- union is taken in their order, and then the export of one book.
-use Rattle.std.specs.Prelude.{◌≡◌, ℕ, zero, suc, IsTrue, List, [], ◌∷◌, length}
+use Rattle.std.specs.Prelude.{◌≡◌, ◌≢◌, ◌⊎◌, ℕ, zero, suc, IsTrue, List, [], ◌∷◌, length}
 use Rattle.std.specs.Prelude.{Option, Some, None, Result, Ok, Err, if◌then◌else◌}
 use Rattle.std.specs.List.{flat_map, AllByRecursion}
 use Rattle.op_core.specs.Ids.{Id}
@@ -11,6 +11,7 @@ use Rattle.op_core.specs.Export.{has_book, export}
 use Rattle.bundle_codec.specs.declared.fault.BundleFault.{BundleFault}
 use Rattle.bundle_codec.specs.Spelling.{bundle, AreCounted}
 use Rattle.bundle_codec.specs.Reading.{bundle_at, TakesMemory}
+use Rattle.replica_state.specs.Receives.{lacked, before_clash}
 use Rattle.usfm_cli.specs.declared.fault.Fault.{Fault}
 use Rattle.usfm_cli.specs.declared.fault.Fault.TheVariants.{Memory, Clash, Bundle, NoBook}
 
@@ -67,21 +68,38 @@ abbrev pub union_with : List Operation → List (List Operation) → Result (Lis
 union_with held [] = Ok held
 union_with held (set ∷ rest) = unless_clash (clash held set) (union_with (join held set) rest)
 
--- A bundle is received, or judged with memory: the bytes begin with it, or with bundles that join
--- to a set, the one after the other, and then with it.
-pub data ReceivesOne : List Operation → List ℕ → Type 0 where
-  Here : (held : List Operation) (bytes : List ℕ) (set : List Operation) (rest : List ℕ) →
-      bundle_at bytes ≡ Ok (set, rest) → ReceivesOne held bytes
-  Judged : (held : List Operation) (bytes : List ℕ) → TakesMemory bytes → ReceivesOne held bytes
-  After : (held : List Operation) (bytes : List ℕ) (set : List Operation) (rest : List ℕ) →
-      bundle_at bytes ≡ Ok (set, rest) → clash held set ≡ None →
-      ReceivesOne (join held set) rest → ReceivesOne held bytes
+-- ---- out of memory
+
+-- a set has an operation of an id that is not held, and before it none that clashes
+abbrev pub BringsNew : List Operation → List Operation → Type 0
+BringsNew held set = lacked held (before_clash held set) ≢ []
+
+-- Memory may be taken for a set after so many others, which are joined: not for the first, which is
+-- kept as it is; for the second where the first has an operation, since the two are then put into
+-- one map; and from the second on where one brings an operation of a new id.
+abbrev pub TakesRoom : ℕ → List Operation → List Operation → Type 0
+TakesRoom zero held set = ⊥
+TakesRoom (suc zero) held set = (held ≢ []) ⊎ BringsNew held set
+TakesRoom (suc (suc more)) held set = BringsNew held set
+
+-- Memory may be taken for the bundles that bytes spell, after so many others, which are joined: to
+-- judge the first of them; for its set; or for those that come after it.
+pub data GatheringTakesMemory : ℕ → List Operation → List ℕ → Type 0 where
+  Judged : (before : ℕ) (held : List Operation) (bytes : List ℕ) → TakesMemory bytes →
+      GatheringTakesMemory before held bytes
+  Received : (before : ℕ) (held : List Operation) (bytes : List ℕ) (set : List Operation)
+      (rest : List ℕ) → bundle_at bytes ≡ Ok (set, rest) → TakesRoom before held set →
+      GatheringTakesMemory before held bytes
+  After : (before : ℕ) (held : List Operation) (bytes : List ℕ) (set : List Operation)
+      (rest : List ℕ) → bundle_at bytes ≡ Ok (set, rest) → clash held set ≡ None →
+      GatheringTakesMemory (suc before) (join held set) rest →
+      GatheringTakesMemory before held bytes
 
 -- what a call that makes the union answers: the union, a bundle's fault, a clash, or out of memory,
--- where it received a bundle or judged one with memory
+-- where memory may be taken for the bundles
 abbrev pub UnionAnswers : List ℕ → Result (List Operation) Fault → Type 0
 UnionAnswers input (Ok union) = union_in [] input ≡ Ok union
-UnionAnswers input (Err Memory) = ReceivesOne [] input
+UnionAnswers input (Err Memory) = GatheringTakesMemory 0 [] input
 UnionAnswers input (Err (Clash id)) = union_in [] input ≡ Err (Clash id)
 UnionAnswers input (Err (Bundle fault)) = union_in [] input ≡ Err (Bundle fault)
 UnionAnswers input (Err other) = ⊥

@@ -1,14 +1,17 @@
 // How a project stands, as lines: beside the files of other copies, or chapter by chapter.
-ghost use Rattle.std.specs.Prelude.{◌≡◌, ◌≢◌, false, Ok, Err, IfOk, IfErr};
+ghost use Rattle.std.specs.Prelude.{◌≡◌, false, Ok, IfOk, IfErr};
 ghost use Rattle.op_core.specs.Export.{has_book};
 ghost use Rattle.project_file.specs.Projects.{project_at};
 ghost use Rattle.replica_state.specs.States.{State};
+ghost use Rattle.usfm_cli.specs.Commands.{Gives, no_fault};
 ghost use Rattle.usfm_cli.specs.Copies as copies;
 ghost use Rattle.usfm_cli.specs.Faults.{of_loading};
+ghost use Rattle.usfm_cli.specs.OverBooks as over;
 ghost use Rattle.usfm_cli.specs.Projects.{RefusesFile};
 ghost use Rattle.usfm_cli.specs.Turns as turns;
 
 use crate::fault::Fault;
+use crate::over_books::load_seen;
 use crate::turns::TurnFault;
 use bundle_codec::{Summary, decode_whole};
 use op_core::OpSet;
@@ -124,21 +127,33 @@ fn is_like_summary(bytes: &[u8]) -> bool
 }
 
 /// How far the chapters of a project's books are written, of one book or of all, as
-/// `project_status::push_progress` writes it.
+/// `project_status::push_progress` writes it. All of the file is judged; of one book, what is of it
+/// is copied.
 ///
 /// # Errors
 /// Those of the project, as `exec` answers them: 110, 60 to 69, 70; `NoBook` (82) where the project
-/// does not have the book; `Memory` (1) where an allocation failed.
+/// does not have the book; `Memory` (1) where an allocation failed, in the place of `NoBook` only
+/// where the project has an operation without its text.
 pub fn project_progress(alloc: Global, project: &[u8], book: Option<Book>) -> Result<Vec<u8>, Fault>
-    ensures answer { result ≢ Err Fault.Memory →
-        copies.progress_of (project_at project.now) book ≡ copies.as_list result }
+    ensures answer { over.AnswersProject project.now
+        (λ held. copies.progress_by held book) result }
+    // Where the project is read without memory, that it does not have the book is told.
+    ensures memory { over.WantsMemory project.now book no_fault
+        (λ held. copies.progress_by held book) result }
     ensures no_project { IfErr (project_at project.now) (λ fault.
         RefusesFile project.now (of_loading fault) result) }
 {
-    let set = judge(alloc, project)?.to_set(alloc)?;
+    let replica = load_seen(alloc, project, &book)?;
+    progress_by(alloc, replica.set(), book)
+}
+
+// How far the books of a set are, or one of them.
+fn progress_by(alloc: Global, set: &OpSet, book: Option<Book>) -> Result<Vec<u8>, Fault>
+    ensures { Gives no_fault (copies.progress_by set.now book) result }
+{
     match book {
-        None => Ok(progress_of_all(alloc, &set)?),
-        Some(book) => progress_in(alloc, &set, book),
+        None => Ok(progress_of_all(alloc, set)?),
+        Some(book) => progress_in(alloc, set, book),
     }
 }
 
@@ -153,7 +168,7 @@ fn progress_of_all(alloc: Global, set: &OpSet) -> Result<Vec<u8>, AllocError>
 }
 
 fn progress_in(alloc: Global, set: &OpSet, book: Book) -> Result<Vec<u8>, Fault>
-    ensures { result ≢ Err Fault.Memory → copies.progress_in set.now book ≡ copies.as_list result }
+    ensures { Gives no_fault (copies.progress_in set.now book) result }
 {
     if !has_book(set, book) {
         return Err(Fault::NoBook);

@@ -55,9 +55,11 @@ pub fn fold_stream<R: ByteSource, W: ByteSink>(
 /// writes the book's text to the sink, as `fold_stream` does once it has read its source.
 ///
 /// # Errors
-/// Those of `fold_stream` for bytes that were read. `Memory` is answered only where a bundle was
-/// received, or its texts that are left out were judged: so a first bundle that has none of these
-/// and is refused is never said to be out of memory.
+/// Those of `fold_stream` for bytes that were read. `Memory` is answered only where memory may be
+/// taken: to judge a bundle of which texts are left out; to gather a second bundle, if the first
+/// has an operation, or, from the second on, one that brings an operation of a new id; or to copy
+/// the operations of the book. So it hides no fault of the first bundle's bytes nor of the second's,
+/// if these have all their texts, nor that one bundle alone lacks the book.
 pub fn fold_bundles<W: ByteSink>(
     alloc: Global,
     input: &[u8],

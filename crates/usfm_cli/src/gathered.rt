@@ -1,9 +1,8 @@
 // The bundles of a stream, before the one book that is written is made of them.
-ghost use Rattle.std.specs.Prelude.{◌≡◌, [], None, IsOk, IfOk, IfErr, OnOk};
+ghost use Rattle.std.specs.Prelude.{◌≡◌, ℕ, suc, [], None, IsOk, IfOk, IfErr, OnOk};
 ghost use Rattle.op_core.specs.OneBook.{ops_of_book};
 ghost use Rattle.op_core.specs.Sets as sets;
-ghost use Rattle.replica_state.specs.Receives.{RefusesReceive};
-ghost use Rattle.usfm_cli.specs.Loops.Gathered.{held_in};
+ghost use Rattle.usfm_cli.specs.Loops.Gathered.{held_in, AreSoMany, RefusesNext};
 
 use bundle_codec::Bundle;
 use op_core::ReplicaName;
@@ -21,7 +20,7 @@ pub(crate) enum Gathered<'a> {
 }
 
 impl<'a> Gathered<'a> {
-    // Takes in the operations of a bundle.
+    // Takes in the operations of a bundle. The first does not allocate.
     pub(crate) fn receive(
         self,
         alloc: Global,
@@ -31,9 +30,11 @@ impl<'a> Gathered<'a> {
         ensures ok { IfOk result (λ after.
             held_in after ≡ sets.join (held_in self.entry) bundle.entry) }
         ensures set { IfOk result (λ after. sets.IsOpSet (held_in after)) }
+        ensures count { (before : ℕ) → AreSoMany before self.entry
+            → IfOk result (AreSoMany (suc before)) }
         ensures agrees { OnOk result (sets.clash (held_in self.entry) bundle.entry ≡ None) }
-        ensures refused { IfErr result
-            (RefusesReceive (sets.clash (held_in self.entry) bundle.entry)) }
+        ensures refused { (before : ℕ) → AreSoMany before self.entry
+            → IfErr result (RefusesNext before (held_in self.entry) bundle.entry) }
     {
         // The bundle's operations show that they rise.
         let _ = bundle.ops();
@@ -67,9 +68,10 @@ impl<'a> Gathered<'a> {
     }
 }
 
-// The operations of a first bundle, gathered.
+// The operations of a first bundle, gathered. Where there is none, it does not allocate.
 fn gather<'a>(alloc: Global, first: &Bundle<'a>) -> Result<Gathering<'a>, AllocError>
-    ensures { IfOk result (λ gathered. gathered ≡ first.now) }
+    ensures ok { IfOk result (λ gathered. gathered ≡ first.now) }
+    ensures none { first.now ≡ [] → IsOk result }
 {
     // The bundle's operations show that they rise.
     let _ = first.ops();

@@ -45,7 +45,7 @@ pub use op_core::{MOST_LINE_BYTES, ShortLine as FaultLine};
 pub use over_books::{check_project, find_project, word_project};
 pub use page::project_page;
 pub use project_file::create;
-pub use projects::{Outcome, exec, exec_each};
+pub use projects::{Outcome, exec};
 pub use reading::{MOST_BYTES, ReadFault, read_to_end};
 pub use settling::{conflict_count, next_question, settling_edit};
 pub use source::{ByteSource, StdSource};

@@ -1,6 +1,6 @@
 // What is reported of a project by a style sheet: of all its books, or of one with the lines of its
 // text.
-ghost use Rattle.std.specs.Prelude.{◌≡◌, [], Ok, IfOk, IfErr};
+ghost use Rattle.std.specs.Prelude.{◌≡◌, ◌≢◌, [], Ok, Err, IfOk, IfErr};
 ghost use Rattle.replica_state.specs.States.{State};
 ghost use Rattle.project_file.specs.Answers.{RefusesLoad};
 ghost use Rattle.project_file.specs.Projects.{project_at};
@@ -29,7 +29,9 @@ use usfm_ref::Book;
 /// First those of the project: `BadProject` (110), `Bundle` (60 to 69), `Trailing` (70). Then
 /// `NotText` (10) of the sheet, `FieldBeforeMarker` (40), `EmptyMarker` (41) or `BadStyleType`
 /// (42), whichever its first faulty line has, and `NoBook` (82) of the one book. `Memory` (1) where
-/// an allocation failed.
+/// an allocation failed; where the project holds nothing of what is looked at, and no operation
+/// without its text, in the place of no refusal but those that are found after records of the sheet
+/// were kept.
 pub fn check_project(
     alloc: Global,
     project: &[u8],
@@ -38,6 +40,10 @@ pub fn check_project(
     set_off: Option<SetOff>,
 ) -> Result<Vec<u8>, Fault>
     ensures answer { over.AnswersProject project.now
+        (λ held. over.checked held set_off book sheet.now) result }
+    // Where the project is read without memory, out of memory is answered only where a report may
+    // want some, and so in the place of no refusal that needs none.
+    ensures memory { over.WantsMemory project.now book (is_after_sheet sheet.now)
         (λ held. over.checked held set_off book sheet.now) result }
     // A file that is no project is refused for that, whatever memory there is; but for its bundle,
     // where an operation of it is thinned.
@@ -64,7 +70,9 @@ pub fn find_project(
 ) -> Result<Vec<u8>, Fault>
     ensures answer { over.AnswersProject project.now
         (λ held. over.searched held set_off book needle.now sheet.now) result }
-    // As for `check_project`.
+    // These two as for `check_project`.
+    ensures memory { over.WantsMemory project.now book (is_after_sheet sheet.now)
+        (λ held. over.searched held set_off book needle.now sheet.now) result }
     ensures no_project { IfErr (project_at project.now) (λ fault.
         RefusesFile project.now (of_loading fault) result) }
 {
@@ -81,7 +89,9 @@ pub fn find_project(
 pub fn word_project(alloc: Global, project: &[u8], sheet: &[u8]) -> Result<Vec<u8>, Fault>
     ensures answer { over.AnswersProject project.now
         (λ held. over.listed held sheet.now) result }
-    // As for `check_project`.
+    // These two as for `check_project`.
+    ensures memory { over.WantsMemory project.now None (is_after_sheet sheet.now)
+        (λ held. over.listed held sheet.now) result }
     ensures no_project { IfErr (project_at project.now) (λ fault.
         RefusesFile project.now (of_loading fault) result) }
 {
@@ -90,9 +100,15 @@ pub fn word_project(alloc: Global, project: &[u8], sheet: &[u8]) -> Result<Vec<u
 }
 
 // What is seen of the replica of a project's file: of one book what it holds, or all.
-fn load_seen(alloc: Global, project: &[u8], book: &Option<Book>) -> Result<Replica, LoadFault>
+pub(crate) fn load_seen(
+    alloc: Global,
+    project: &[u8],
+    book: &Option<Book>,
+) -> Result<Replica, LoadFault>
     ensures seen { IfOk result (over.IsSeenOf project.now book.now) }
     ensures refused { IfErr result (RefusesLoad project.now) }
+    ensures nothing_seen { (s : State) → project_at project.now ≡ Ok s
+        → over.SeesNothing book.now s → result ≢ Err LoadFault.Memory }
 {
     match book {
         None => load(alloc, project),

@@ -11,7 +11,7 @@ ghost use Rattle.usfm_cli.specs.Commands.{is_late_in, no_fault, with_bundle};
 ghost use Rattle.usfm_cli.specs.Faults.{of_loading};
 ghost use Rattle.usfm_cli.specs.Projects.{RefusesFile, executed, received, delta_done, delta_made};
 ghost use Rattle.usfm_cli.specs.Seen.{looked_at, seen_of, IsSeen, ReadInPlace};
-ghost use Rattle.usfm_cli.specs.Projects.{file_or, file_after, state_or, state_after};
+ghost use Rattle.usfm_cli.specs.Projects.{state_or};
 
 use crate::command::Command;
 use crate::fault::Fault;
@@ -19,33 +19,50 @@ use crate::steps::{count_line, obey};
 use bundle_codec::{Summary, decode_whole};
 use project_file::{LoadFault, judge, load, load_book, save};
 use replica_state::Replica;
-use std::alloc::{AllocError, Global};
+use std::alloc::Global;
 use std::marker::Model;
 
-/// What a command made: the project's file after it, and what it writes. It also keeps the replica,
-/// if one was read, which nothing shows: a program that ends after it need not free so much, and
-/// forgets it.
+/// What a command made: the project's file after it, which is lent from the given one where that
+/// stays, and what it writes. It also keeps the replica, if one was read, which nothing shows: a
+/// program that ends after it need not free so much, and forgets it.
 #[derive(Debug, Drop)]
-pub struct Outcome {
-    project: Vec<u8>,
+pub struct Outcome<'a> {
+    given: &'a [u8],
+    // The file after the command, where it is written anew.
+    made: Option<Vec<u8>>,
     output: Vec<u8>,
     replica: Option<Replica>,
 }
 
-impl Model for Outcome {
-    ghost use Rattle.usfm_cli.specs.Projects.{Written};
+impl<'a> Model for Outcome<'a> {
+    ghost use Rattle.usfm_cli.specs.Projects.{Written, file_of};
 
     ghost Value = { Written };
 
-    ghost view = { λ o. record { project = o.project.items; output = o.output.items } };
+    ghost view = { λ o. record { project = file_of o.given.now o.made; output = o.output.items } };
 }
 
-impl Outcome {
+impl<'a> Outcome<'a> {
+    // What a command made that leaves the file as it is.
+    fn telling(given: &'a [u8], output: Vec<u8>, replica: Option<Replica>) -> Outcome<'a>
+        ensures { result ≡ record { project = given.now; output = output.items } }
+    {
+        Outcome {
+            given,
+            made: None,
+            output,
+            replica,
+        }
+    }
+
     /// The project's file after the command.
     pub fn project(&self) -> &[u8]
         ensures { result.now ≡ self.now.project }
     {
-        &self.project
+        match &self.made {
+            Some(made) => made,
+            None => self.given,
+        }
     }
 
     /// What the command writes.
@@ -58,8 +75,8 @@ impl Outcome {
 
 /// Does a command on a project, given as the bytes of its file: reads the project, does the
 /// command's step, and answers the file of the project after it and what the command writes. A
-/// command that only reports gives the project's bytes back as they are. All of the file is judged;
-/// of what it holds, a command that looks at one book copies what is of that book, and a receive, a
+/// command that only reports lends the project's bytes as they are. All of the file is judged; of
+/// what it holds, a command that looks at one book copies what is of that book, and a receive, a
 /// send or a delta nothing but the bytes that it writes.
 ///
 /// # Errors
@@ -87,7 +104,11 @@ impl Outcome {
 /// 69 and 70 of a bundle with a thinned operation, `NoId` and `Reference` of an `ImportSince` whose
 /// base has one, those of an `EditWith`, and what is found after records of a sheet were kept. The
 /// project is the bytes that were given, so that a refused command leaves it as it is.
-pub fn exec(alloc: Global, project: &[u8], command: &Command<'_>) -> Result<Outcome, Fault>
+pub fn exec<'a>(
+    alloc: Global,
+    project: &'a [u8],
+    command: &Command<'_>,
+) -> Result<Outcome<'a>, Fault>
     ensures answer { result ≢ Err Fault.Memory → executed project.now command.now ≡ result }
     // A file that is no project is refused for that, whatever memory there is; but for its bundle,
     // where an operation of it is thinned.
@@ -112,13 +133,13 @@ pub fn exec(alloc: Global, project: &[u8], command: &Command<'_>) -> Result<Outc
     }
     let mut replica = load_seen(alloc, project, command)?;
     let output = obey(alloc, &mut replica, command)?;
-    let project = if command.only_tells() {
-        project.to_vec(alloc)?
-    } else {
-        save(alloc, &replica)?
-    };
+    if command.only_tells() {
+        return Ok(Outcome::telling(project, output, Some(replica)));
+    }
+    let made = save(alloc, &replica)?;
     Ok(Outcome {
-        project,
+        given: project,
+        made: Some(made),
         output,
         replica: Some(replica),
     })
@@ -126,7 +147,7 @@ pub fn exec(alloc: Global, project: &[u8], command: &Command<'_>) -> Result<Outc
 
 // Takes a bundle in on the bytes of a project's file: both are judged, and the file of the union is
 // written out of them.
-fn receive_into(alloc: Global, project: &[u8], bytes: &[u8]) -> Result<Outcome, Fault>
+fn receive_into<'a>(alloc: Global, project: &'a [u8], bytes: &[u8]) -> Result<Outcome<'a>, Fault>
     ensures answer { result ≢ Err Fault.Memory →
         received (project_at project.now) (whole_at bytes.now) ≡ result }
     ensures no_project { IfErr (project_at project.now) (λ fault.
@@ -139,10 +160,11 @@ fn receive_into(alloc: Global, project: &[u8], bytes: &[u8]) -> Result<Outcome, 
 {
     let given = judge(alloc, project)?;
     let bundle = decode_whole(alloc, bytes)?;
-    let (project, new) = given.receive(alloc, &bundle)?;
+    let (made, new) = given.receive(alloc, &bundle)?;
     let output = count_line(alloc, "new", new)?;
     Ok(Outcome {
-        project,
+        given: project,
+        made: Some(made),
         output,
         replica: None,
     })
@@ -150,24 +172,19 @@ fn receive_into(alloc: Global, project: &[u8], bytes: &[u8]) -> Result<Outcome, 
 
 // Copies the bundle of all operations out of the bytes of a project's file, which is judged. The
 // file stays as it is.
-fn send_of(alloc: Global, project: &[u8]) -> Result<Outcome, Fault>
+fn send_of(alloc: Global, project: &[u8]) -> Result<Outcome<'_>, Fault>
     ensures answer { result ≢ Err Fault.Memory → executed project.now Command.Send ≡ result }
     ensures no_project { IfErr (project_at project.now) (λ fault.
         RefusesFile project.now (of_loading fault) result) }
     ensures unchanged { IfOk result (λ made. made.project ≡ project.now) }
 {
     let output = judge(alloc, project)?.bundle().to_vec(alloc)?;
-    let project = project.to_vec(alloc)?;
-    Ok(Outcome {
-        project,
-        output,
-        replica: None,
-    })
+    Ok(Outcome::telling(project, output, None))
 }
 
 // Writes what a summary lacks of a project's file out of its bytes: the project and then the
 // summary are judged. The file stays as it is.
-fn delta_of(alloc: Global, project: &[u8], summary: &[u8]) -> Result<Outcome, Fault>
+fn delta_of<'a>(alloc: Global, project: &'a [u8], summary: &[u8]) -> Result<Outcome<'a>, Fault>
     ensures answer { result ≢ Err Fault.Memory →
         delta_made (project_at project.now) (read_summary summary.now) ≡ result }
     ensures no_project { IfErr (project_at project.now) (λ fault.
@@ -180,12 +197,7 @@ fn delta_of(alloc: Global, project: &[u8], summary: &[u8]) -> Result<Outcome, Fa
     let judged = judge(alloc, project)?;
     let summary = Summary::read(alloc, summary)?;
     let output = judged.delta(alloc, &summary)?;
-    let project = project.to_vec(alloc)?;
-    Ok(Outcome {
-        project,
-        output,
-        replica: None,
-    })
+    Ok(Outcome::telling(project, output, None))
 }
 
 // What a command sees of the replica of a project's file: all of it, or what it holds of one book.
@@ -198,46 +210,5 @@ fn load_seen(alloc: Global, project: &[u8], command: &Command<'_>) -> Result<Rep
     match command.looked_at() {
         None => load(alloc, project),
         Some(book) => load_book(alloc, project, book),
-    }
-}
-
-/// Does commands one after another on a project, as this many calls of `exec` do, and answers the
-/// project's file after them. A command that is refused leaves the project as it is.
-///
-/// So the file is that of the replica that the steps of the commands make, one after another.
-///
-/// # Errors
-/// `Memory` (1) alone, where an allocation failed.
-pub fn exec_each(
-    alloc: Global,
-    project: &[u8],
-    commands: &[Command<'_>],
-) -> Result<Vec<u8>, AllocError>
-    ensures file { IfOk result (λ file. file.items ≡ file_after project.now commands.now) }
-    ensures run { IfOk result (λ file. (s : State) → project_at project.now ≡ Ok s
-        → project_at file.items ≡ Ok (state_after s commands.now)) }
-{
-    let mut file = project.to_vec(alloc)?;
-    for command in commands {
-        file = file_after(alloc, file, command)?;
-    }
-    Ok(file)
-}
-
-// A project's file after a command, the same where the command is refused.
-fn file_after(alloc: Global, file: Vec<u8>, command: &Command<'_>) -> Result<Vec<u8>, AllocError>
-    ensures file { IfOk result (λ next.
-        next.items ≡ file_or file.items (executed file.items command.now)) }
-    ensures run { IfOk result (λ next. (s : State) → project_at file.items ≡ Ok s
-        → project_at next.items ≡ Ok (state_or s (outcome s command.now))) }
-{
-    match exec(alloc, &file, command) {
-        Ok(outcome) => Ok(outcome.project),
-        Err(fault) => {
-            if fault == Fault::Memory {
-                return Err(AllocError);
-            }
-            Ok(file)
-        }
     }
 }

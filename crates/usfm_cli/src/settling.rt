@@ -1,5 +1,5 @@
 // Conflicts of a project's file that are asked, and the edits that answers make.
-ghost use Rattle.std.specs.Prelude.{◌≡◌, ◌≢◌, Ok, IfOk, IfErr};
+ghost use Rattle.std.specs.Prelude.{◌≡◌, Ok, IfErr};
 ghost use Rattle.replica_state.specs.States.{State};
 ghost use Rattle.project_file.specs.Projects.{project_at};
 ghost use Rattle.usfm_cli.specs.Commands.{outcome, edit_over_done};
@@ -19,7 +19,8 @@ use usfm_ref::Segment;
 ///
 /// # Errors
 /// First those of the project (`exec`), and then `NoBook` (82) where a book that is wanted, or that
-/// of a wanted segment, has no operation. `Memory` (1) where an allocation failed.
+/// of a wanted segment, has no operation. `Memory` (1) where an allocation failed; in the place of
+/// `NoBook` only where the project holds something.
 pub fn next_question(
     alloc: Global,
     project: &[u8],
@@ -41,8 +42,8 @@ pub fn next_question(
 /// # Errors
 /// Those of the project (`exec`), and `Memory` (1) where an allocation failed.
 pub fn conflict_count(alloc: Global, project: &[u8], wanted: &[Wanted]) -> Result<usize, Fault>
-    ensures count { IfOk result (λ count. (s : State) → project_at project.now ≡ Ok s
-        → CountsOpen s.held wanted.now count) }
+    ensures count { (s : State) → project_at project.now ≡ Ok s
+        → CountsOpen s.held wanted.now result }
     ensures no_project { IfErr (project_at project.now) (λ fault.
         RefusesFile project.now (of_loading fault) result) }
 {

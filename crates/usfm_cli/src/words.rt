@@ -1,7 +1,9 @@
 // The words of the command line.
-ghost use Rattle.std.specs.Prelude.{◌≡◌, not, take_while, string_bytes};
+ghost use Rattle.std.specs.Prelude.{◌≡◌, not, ◌&&◌, codes, map, option_map, take_while, string_bytes};
 ghost use Rattle.std.specs.List.{list_any};
 ghost use Rattle.std.specs.Str.{bytes_eq};
+ghost use Rattle.usfm_ref.specs.Books.{is_book_code};
+ghost use Rattle.usfm_cli.specs.Words as said;
 
 use crate::Fault;
 use crate::usage::{NO_SUBCOMMAND, line_of, program};
@@ -148,7 +150,9 @@ pub enum Line {
 impl Line {
     /// What is said at a terminal of a line whose answer is bytes and no text: that it goes into a
     /// file. Other lines answer text.
-    pub fn only_into_file(&self) -> Option<&'static str> {
+    pub fn only_into_file(&self) -> Option<&'static str>
+        ensures { option_map (λ text. text.now) result ≡ said.only_into_file self.now }
+    {
         match self {
             Line::Send { .. } => Some(SEND_INTO_FILE),
             Line::Summary { .. } => Some(SUMMARY_INTO_FILE),
@@ -240,8 +244,8 @@ impl From<IdFault> for LineFault {
 /// Whether a command line asks for what a fault means in words: by the word `--explain` before any
 /// `--`.
 pub fn asks_for_words(words: &[String]) -> bool
-    ensures { result ≡ list_any (λ word. bytes_eq (string_bytes word) EXPLAIN.now)
-        (take_while (λ word. not (bytes_eq (string_bytes word) END.now)) words.now) }
+    ensures { result ≡ list_any (λ word. bytes_eq (string_bytes word) (codes "--explain"))
+        (take_while (λ word. not (bytes_eq (string_bytes word) (codes "--"))) words.now) }
 {
     words
         .iter()
@@ -281,18 +285,32 @@ pub fn read_words(alloc: Global, words: &[String]) -> Result<Line, LineFault> {
 
 /// Whether a reference stands in the words as two of them, as it does without quotes: a book's code
 /// and then a key. It does not allocate.
-///
-/// Tests alone show what it answers.
-pub fn has_split_reference(words: &[String]) -> bool {
+pub fn has_split_reference(words: &[String]) -> bool
+    ensures { result
+        ≡ said.has_split_reference (map (λ word. string_bytes word) words.now) }
+{
     let mut is_after_book = false;
     for word in words {
-        let word = word.as_str();
-        if is_after_book && word.parse::<Key>().is_ok() {
+        if ends_reference(is_after_book, word) {
             return true;
         }
-        is_after_book = Book::read(word).is_ok();
+        is_after_book = is_book(word);
     }
     false
+}
+
+// Whether a word is a key, where a book's code was the one before.
+fn ends_reference(is_after_book: bool, word: &String) -> bool
+    ensures { result ≡ (is_after_book && said.is_key (string_bytes word.now)) }
+{
+    is_after_book && word.as_str().parse::<Key>().is_ok()
+}
+
+// Whether a word is a book's code.
+fn is_book(word: &String) -> bool
+    ensures { result ≡ is_book_code (string_bytes word.now) }
+{
+    Book::read(word.as_str()).is_ok()
 }
 
 // The words without those before `--` that ask for an explanation.

@@ -1,15 +1,10 @@
 // What a sync would take in of a folder's files, and what it would refuse.
-use crate::files::Folder;
 use crate::reading::{Read, read_folder, read_given};
 use crate::refusal::{Given, Refusal};
-use crate::sync::{What, open_folder, plan_of, refusal_of, tell};
-use book_folder::{Place, Plan, Wishes, book_begun};
+use crate::sync::{What, open_folder, refusal_of, tell};
+use book_folder::{Standing, Wishes, folder_standing};
 use std::io::Write;
 use usfm_cli::{Fault, fault_line};
-use usfm_ref::Book;
-
-// How many files are named at most that a sync would refuse.
-const MOST_REFUSED: usize = 20;
 
 // The lines of a folder: of each file that was changed, how many edits a sync would take in, and of
 // each that it would refuse, why. Nothing is locked, and nothing is changed.
@@ -29,96 +24,30 @@ pub(crate) fn folder_lines(
         is_try: true,
         explains: false,
     };
-    let mut read = read_folder(rt, &folder, false)?;
-    let mut refused = Vec::new(rt.alloc());
-    for _ in 0..MOST_REFUSED {
-        match plan_of(what, &read, None) {
-            Ok(plan) => return lines(what, &read, &plan, &refused),
-            Err(refusal) => {
-                let place = place_of(&refusal);
-                let said = refusal_of(what, &read, refusal);
-                leave_out(&mut read, place, said, &mut refused)?;
-            }
-        }
-    }
-    match plan_of(what, &read, None) {
-        Ok(plan) => lines(what, &read, &plan, &refused),
+    let read = read_folder(rt, &folder, false)?;
+    let lent = read.lend(rt).map_err(Fault::from)?;
+    match folder_standing(rt.alloc(), &lent.seen(what.project, what.given)) {
+        Ok(standing) => lines(what, &read, &standing),
         Err(refusal) => Err(refusal_of(what, &read, refusal)),
     }
 }
 
-// What a plan is refused for, if not for want of memory.
-fn place_of(refusal: &book_folder::Refusal) -> Option<Place> {
-    match refusal {
-        book_folder::Refusal::Memory => None,
-        book_folder::Refusal::Of(place, _) => Some(*place),
-    }
-}
-
-// Leaves a file out that a sync would refuse, and says why. What is no file's is refused here too.
-fn leave_out(
-    read: &mut Read,
-    place: Option<Place>,
-    said: Refusal,
-    refused: &mut Vec<u8>,
-) -> Result<(), Refusal> {
-    let is_left = match place {
-        Some(place) => leave(read, place),
-        None => false,
-    };
-    if let Some(file) = &said.file {
-        if is_left {
-            tell(write!(refused, "unread {} ", file.name))?;
-            tell(refused.write_all(fault_line(&said.fault).bytes()))?;
-            return Ok(());
-        }
-    }
-    Err(said)
-}
-
-// Leaves out what stands at a place, if that is under a file's name.
-fn leave(read: &mut Read, place: Place) -> bool {
-    match place {
-        Place::File(at) => leave_file(read, at),
-        Place::Other(at) => leave_other(read, at),
-        _ => false,
-    }
-}
-
-fn leave_file(read: &mut Read, at: usize) -> bool {
-    let is_there = at < read.files.len() && at < read.looks.len();
-    if is_there {
-        read.files.remove(at);
-        read.looks.remove(at);
-    }
-    is_there
-}
-
-fn leave_other(read: &mut Read, at: usize) -> bool {
-    let is_there = at < read.others.len();
-    if is_there {
-        read.others.remove(at);
-    }
-    is_there
-}
-
-// The lines of the files that a plan takes something in of, and after them those of the files that
-// were left out.
-fn lines(what: What<'_>, read: &Read, plan: &Plan, refused: &[u8]) -> Result<Vec<u8>, Refusal> {
+fn lines(what: What<'_>, read: &Read, standing: &Standing) -> Result<Vec<u8>, Refusal> {
     let mut text = Vec::new(what.rt.alloc());
-    for added in &plan.told.files {
-        if let Some(name) = name_of(read, added.book) {
-            let path = what.folder.name_of(what.rt, name)?;
-            tell(writeln!(text, "changed {path} {}", added.count))?;
+    for changed in &standing.changed {
+        if let Some(file) = read.files.get(changed.at) {
+            let path = what.folder.name_of(what.rt, &file.name)?;
+            tell(writeln!(text, "changed {path} {}", changed.count))?;
         }
     }
-    text.extend_from_slice(refused).map_err(Fault::from)?;
+    for left in &standing.left_out {
+        let refusal = book_folder::Refusal::Of(left.place, left.fault);
+        let said = refusal_of(what, read, refusal);
+        let Some(file) = &said.file else {
+            return Err(said);
+        };
+        tell(write!(text, "unread {} ", file.name))?;
+        tell(text.write_all(fault_line(&said.fault).bytes()))?;
+    }
     Ok(text)
-}
-
-// The name of a book's file.
-fn name_of(read: &Read, book: Book) -> Option<&str> {
-    let mut files = read.files.iter();
-    let file = files.find(|file| book_begun(&file.bytes) == Some(book));
-    file.map(|file| file.name.as_str())
 }

@@ -17,7 +17,7 @@ mod telling;
 mod turns;
 
 use crate::looks::{check, find, words};
-use crate::project::{begin_project, lock_project};
+use crate::project::{Project, begin_project, lock_project};
 use crate::refusal::{Given, Refusal, read_named};
 use crate::settle::settle;
 use crate::standing::{page, progress, status};
@@ -284,32 +284,41 @@ fn change(
     command: &Command<'_>,
     other: Option<(&str, Expected)>,
 ) -> Result<(), Refusal> {
-    let outcome = done(rt, path, command, other)?;
+    let (project, bytes) = locked(rt, path)?;
+    let outcome = done(rt, path, project, &bytes, command, other)?;
     let written = write_output(rt, outcome.output());
     mem::forget(outcome);
     Ok(written?)
 }
 
-// What a command made that was done on a project's file while no other command changed it. The file
-// is replaced where its bytes are others.
-fn done(
-    rt: &HostRuntime,
-    path: &str,
-    command: &Command<'_>,
-    other: Option<(&str, Expected)>,
-) -> Result<Outcome, Refusal> {
+// A project's file, which no other command changes from now on, and its bytes.
+fn locked(rt: &HostRuntime, path: &str) -> Result<(Project, Vec<u8>), Refusal> {
     let of_project = |fault| Refusal::of_project(rt, fault, path);
     let mut project = lock_project(rt, path).map_err(of_project)?;
     let bytes = project.read(rt).map_err(of_project)?;
-    let outcome = match exec(rt.alloc(), &bytes, command) {
+    Ok((project, bytes))
+}
+
+// What a command made that was done on the bytes of a project's file, which others may change after
+// it. The file is replaced where its bytes are others.
+fn done<'a>(
+    rt: &HostRuntime,
+    path: &str,
+    mut project: Project,
+    bytes: &'a [u8],
+    command: &Command<'_>,
+    other: Option<(&str, Expected)>,
+) -> Result<Outcome<'a>, Refusal> {
+    let outcome = match exec(rt.alloc(), bytes, command) {
         Ok(outcome) => outcome,
         Err(fault) => {
-            let project = Given::of(path, &bytes);
-            return Err(Refusal::of_inputs(rt, fault, &project, other));
+            return Err(Refusal::of_inputs(rt, fault, &Given::of(path, bytes), other));
         }
     };
-    if outcome.project() != bytes.as_slice() {
-        project.replace(rt, outcome.project()).map_err(of_project)?;
+    if outcome.project() != bytes {
+        if let Err(fault) = project.replace(rt, outcome.project()) {
+            return Err(Refusal::of_project(rt, fault, path));
+        }
     }
     Ok(outcome)
 }

@@ -7,6 +7,7 @@ use crate::telling::{say, say_of};
 use crate::turns::{read_files, refusal_in};
 use book_folder::{Found, Named, Seen, Unsettled, book_begun, may_be_book, read_names};
 use bundle_codec::{BundleFault, WholeFault, decode_whole};
+use std::alloc::AllocError;
 use std::fs::Metadata;
 use usfm_cli::{Fault, NO_BOOK_FILE, TEXT_NAME, is_text_name};
 use usfm_ref::Book;
@@ -30,10 +31,17 @@ const BUNDLE_END: &str = ".bundle";
 // A file of more bytes is no book's: it is not read.
 const MOST_BYTES: u64 = 16_777_216;
 
+// A plain file that may be a book's.
+#[derive(Drop)]
+pub(crate) struct OneFile {
+    pub(crate) name: String,
+    pub(crate) bytes: Vec<u8>,
+}
+
 // The books' files of a folder, and what is kept beside them.
 #[derive(Drop)]
 pub(crate) struct Read {
-    pub(crate) files: Vec<Found>,
+    pub(crate) files: Vec<OneFile>,
     // How each of them was found, and each that is a book's.
     pub(crate) looks: Vec<Metadata>,
     pub(crate) book_looks: Vec<Metadata>,
@@ -89,20 +97,50 @@ pub(crate) struct Given {
     pub(crate) own: Option<usize>,
 }
 
-impl Read {
+// What a folder has, as it is lent to a plan.
+#[derive(Drop)]
+pub(crate) struct Lent<'a> {
+    read: &'a Read,
+    files: Vec<Found<'a>>,
+    others: Vec<&'a str>,
+}
+
+impl Lent<'_> {
     // All that was read.
     pub(crate) fn seen<'a>(&'a self, project: &'a [u8], given: &'a Given) -> Seen<'a> {
+        let kept = &self.read.kept;
         Seen {
             project,
-            bases: &self.kept.bases,
-            next: self.kept.next.as_deref(),
-            older: &self.kept.older,
-            unplaced: &self.kept.unplaced,
-            names: &self.kept.names,
+            bases: &kept.bases,
+            next: kept.next.as_deref(),
+            older: &kept.older,
+            unplaced: &kept.unplaced,
+            names: &kept.names,
             files: &self.files,
             others: &self.others,
             bundles: &given.bundles,
         }
+    }
+}
+
+impl Read {
+    pub(crate) fn lend(&self, rt: &HostRuntime) -> Result<Lent<'_>, AllocError> {
+        let mut files = Vec::new(rt.alloc());
+        for file in &self.files {
+            files.push(Found {
+                name: &file.name,
+                bytes: &file.bytes,
+            })?;
+        }
+        let mut others = Vec::new(rt.alloc());
+        for name in &self.others {
+            others.push(name.as_str())?;
+        }
+        Ok(Lent {
+            read: self,
+            files,
+            others,
+        })
     }
 
     // Whether each file still has the bytes that were read.
@@ -189,7 +227,7 @@ fn read_found(
                 say_skipped(rt, is_said, &folder.name_of(rt, &name)?, why);
             }
             read.looks.push(look_at(&file)?)?;
-            read.files.push(Found { name, bytes })?;
+            read.files.push(OneFile { name, bytes })?;
         }
         Opened::Other(other) => {
             say_skipped(rt, is_said, &folder.name_of(rt, &name)?, other.words());

@@ -1,6 +1,6 @@
 // Settles conflicts with the person at standard input. Nothing is locked while that person thinks.
 use crate::refusal::{Refusal, read_named};
-use crate::{done, write_as_it_is, write_output};
+use crate::{done, locked, write_as_it_is, write_output};
 use op_core::OpId;
 use std::io::{BufRead, BufReader, IsTerminal};
 use std::str;
@@ -132,7 +132,8 @@ fn make(
     asked: &Asked,
     text: &[u8],
 ) -> Result<Option<Turn>, Refusal> {
-    let refusal = match done(rt, project, &settling_edit(asked, text), None) {
+    let (file, bytes) = locked(rt, project)?;
+    let refusal = match done(rt, project, file, &bytes, &settling_edit(asked, text), None) {
         Ok(outcome) => {
             write_output(rt, outcome.output())?;
             return Ok(Some(Turn::Settled));

@@ -14,13 +14,21 @@ use std::io::ErrorKind;
 use usfm_cli::Fault;
 use usfm_ref::Book;
 
-// A file that was left as it is, and why it could not be replaced, where it was not changed
-// meanwhile.
+// What became of the steps: the books whose files were left as they are, and the refusal of the
+// first that was left since it could not be replaced.
 #[derive(Drop)]
-pub(crate) struct Left {
-    pub(crate) book: Book,
-    pub(crate) name: String,
-    pub(crate) failed: Option<Fault>,
+pub(crate) struct Done {
+    pub(crate) left: Vec<Book>,
+    pub(crate) failed: Option<Refusal>,
+}
+
+impl Done {
+    pub(crate) fn nothing(rt: &HostRuntime) -> Done {
+        Done {
+            left: Vec::new(rt.alloc()),
+            failed: None,
+        }
+    }
 }
 
 // What steps are done on.
@@ -34,15 +42,15 @@ pub(crate) struct Disk<'a> {
     pub(crate) read: &'a Read,
 }
 
-// Does steps, one after another, and answers the files that were left.
+// Does steps, one after another.
 pub(crate) fn do_steps(
     disk: Disk<'_>,
     project: &mut Project,
     steps: &[Step],
-) -> Result<Vec<Left>, Refusal> {
-    let mut left = Vec::new(disk.rt.alloc());
+) -> Result<Done, Refusal> {
+    let mut done = Done::nothing(disk.rt);
     if steps.is_empty() {
-        return Ok(left);
+        return Ok(done);
     }
     if steps
         .iter()
@@ -53,12 +61,12 @@ pub(crate) fn do_steps(
     }
     let own = own_folder(disk)?;
     for step in steps {
-        if let Err(refusal) = do_step(disk, &own, project, step, &mut left) {
+        if let Err(refusal) = do_step(disk, &own, project, step, &mut done) {
             take_back(disk, &own, steps);
             return Err(refusal);
         }
     }
-    Ok(left)
+    Ok(done)
 }
 
 fn do_step(
@@ -66,7 +74,7 @@ fn do_step(
     own: &Folder,
     project: &mut Project,
     step: &Step,
-    left: &mut Vec<Left>,
+    done: &mut Done,
 ) -> Result<(), Refusal> {
     let rt = disk.rt;
     match step {
@@ -85,14 +93,13 @@ fn do_step(
         Step::PutNames(bytes) => put(disk, own, NAMES, bytes),
         Step::PutNext(bytes) => put(disk, own, NEXT, bytes),
         Step::Place(placing) => {
-            let failed = match place(disk, own, placing) {
-                Ok(true) => return Ok(()),
-                Ok(false) => None,
-                Err(fault) => Some(fault),
-            };
-            let name = placing.name.clone().map_err(Fault::from)?;
-            let book = placing.book;
-            left.push(Left { book, name, failed }).map_err(Fault::from)?;
+            let placed = place(disk, own, placing);
+            if !matches!(placed, Ok(true)) {
+                done.left.push(placing.book).map_err(Fault::from)?;
+            }
+            if let (Err(fault), None) = (placed, &done.failed) {
+                done.failed = Some(disk.folder.refusal(rt, fault, &placing.name));
+            }
             Ok(())
         }
         Step::SyncFolder => Ok(disk.folder.sync()?),

@@ -4,19 +4,18 @@ use crate::files::Folder;
 use crate::project::{Project, lock_project};
 use crate::reading::{Given, NEXT, OWN, Read, read_folder, read_given};
 use crate::refusal::Refusal;
-use crate::steps::{Disk, Left, do_steps, sweep};
+use crate::steps::{Disk, Done, do_steps, sweep};
 use crate::team_box::open_box;
 use crate::write_output;
-use book_folder::{FolderFault, Place, Plan, Step, Wanted, Wishes, export_plan, make_plan};
+use book_folder::{
+    FolderFault, Line, Place, Plan, Wanted, Wishes, export_plan, lines_of, make_plan, project_after,
+};
 use std::io::Write;
 use usfm_cli::{Expected, Fault, SyncWords};
 use usfm_ref::{Book, RefFault, write_ref};
 
 // How often a folder is read anew that is changed while it is planned.
 const MOST_READINGS: usize = 3;
-
-// How many segments in conflict are named.
-const MOST_NAMED: usize = 20;
 
 // Takes in bundles and what was changed in a folder, and writes the books into the folder. The
 // project and the folder are locked until all is done.
@@ -41,13 +40,13 @@ pub(crate) fn sync(rt: &HostRuntime, words: SyncWords, explains: bool) -> Result
         is_try: words.is_try,
         explains,
     };
-    let (plan, left) = planned_and_done(what, None, &mut project)?;
+    let (plan, done) = planned_and_done(what, None, &mut project)?;
     let sent = match &shared {
         Some(shared) if !words.is_try => shared.put(rt, project_after(&plan, &before)),
         _ => Ok(()),
     };
     drop(project);
-    answer(what, &plan, &left)?;
+    answer(what, &plan, done)?;
     sent
 }
 
@@ -74,9 +73,9 @@ pub(crate) fn export_into(
         is_try: false,
         explains,
     };
-    let (plan, left) = planned_and_done(what, Some(books), &mut project)?;
+    let (plan, done) = planned_and_done(what, Some(books), &mut project)?;
     drop(project);
-    answer(what, &plan, &left)
+    answer(what, &plan, done)
 }
 
 // What is synced, or exported.
@@ -102,16 +101,16 @@ fn open_project(rt: &HostRuntime, path: &str) -> Result<(Project, Vec<u8>), Refu
     Ok((project, bytes))
 }
 
-// Plans what is to be done, and does it, unless it is only tried; answers the plan, and the files
-// that were left. Where books are exported, nothing is taken in.
+// Plans what is to be done, and does it, unless it is only tried; answers the plan, and what became
+// of its steps. Where books are exported, nothing is taken in.
 fn planned_and_done(
     what: What<'_>,
     exported: Option<&[Book]>,
     project: &mut Project,
-) -> Result<(Plan, Vec<Left>), Refusal> {
+) -> Result<(Plan, Done), Refusal> {
     let (read, plan) = planned(what, exported)?;
     if what.is_try {
-        return Ok((plan, Vec::new(what.rt.alloc())));
+        return Ok((plan, Done::nothing(what.rt)));
     }
     let disk = Disk {
         rt: what.rt,
@@ -119,18 +118,22 @@ fn planned_and_done(
         project: what.path,
         read: &read,
     };
-    let left = do_steps(disk, project, &plan.steps)?;
+    let done = do_steps(disk, project, &plan.steps)?;
     sweep(disk)?;
-    Ok((plan, left))
+    Ok((plan, done))
 }
 
 // Says what was done, and which file could not be replaced.
-fn answer(what: What<'_>, plan: &Plan, left: &[Left]) -> Result<(), Refusal> {
+fn answer(what: What<'_>, plan: &Plan, done: Done) -> Result<(), Refusal> {
+    let Done { left, failed } = done;
     for book in &plan.told.headless {
         say_headless(what.rt, *book);
     }
-    write_output(what.rt, &told(what, plan, left)?)?;
-    refuse_failed(what, left)
+    write_output(what.rt, &told(what, plan, &left)?)?;
+    match failed {
+        Some(refusal) => Err(refusal),
+        None => Ok(()),
+    }
 }
 
 // Opens the folder that a line names.
@@ -194,71 +197,42 @@ fn read_and_plan(
 }
 
 // What is to be done with what was read.
-pub(crate) fn plan_of(
+fn plan_of(
     what: What<'_>,
     read: &Read,
     exported: Option<&[Book]>,
 ) -> Result<Plan, book_folder::Refusal> {
-    let seen = read.seen(what.project, what.given);
+    let lent = read.lend(what.rt)?;
+    let seen = lent.seen(what.project, what.given);
     match exported {
         None => make_plan(what.rt.alloc(), &seen, what.wishes),
         Some(books) => export_plan(what.rt.alloc(), &seen, what.wishes, books),
     }
 }
 
-// The project's bytes after a plan.
-fn project_after<'a>(plan: &'a Plan, before: &'a [u8]) -> &'a [u8] {
-    let mut after = before;
-    for step in &plan.steps {
-        if let Step::ReplaceProject(bytes) = step {
-            after = bytes;
-        }
-    }
-    after
-}
-
-// What is answered: what the bases, the bundles and the files brought, the files that were written
-// or left, and what is in conflict.
-fn told(what: What<'_>, plan: &Plan, left: &[Left]) -> Result<Vec<u8>, Fault> {
-    let told = &plan.told;
-    let mut text = Vec::new(what.rt.alloc());
-    if told.base > 0 {
-        tell(writeln!(text, "new {} base", told.base))?;
-    }
-    tell_bundles(what, plan, &mut text)?;
-    for added in &told.files {
-        tell(writeln!(text, "added {} {}", added.count, added.book))?;
-    }
-    for step in &plan.steps {
-        if let Step::Place(placing) = step {
-            let is_left = left.iter().any(|one| one.book == placing.book);
-            let word = if is_left { "left" } else { "wrote" };
-            let path = what.folder.name_of(what.rt, &placing.name)?;
-            tell(writeln!(text, "{word} {path}"))?;
-        }
-    }
-    if !told.conflicts.is_empty() || told.awaits {
-        tell(writeln!(text, "conflicts {}", told.conflicts.len()))?;
-    }
-    for (book, key) in told.conflicts.iter().take(MOST_NAMED) {
-        let segment = write_ref(what.rt.alloc(), *book, *key)?;
-        tell(writeln!(text, "conflict {segment}"))?;
+// The lines of what was done.
+fn told(what: What<'_>, plan: &Plan, left: &[Book]) -> Result<Vec<u8>, Fault> {
+    let (alloc, given) = (what.rt.alloc(), what.given);
+    let mut text = Vec::new(alloc);
+    for line in lines_of(alloc, plan, left, given.named, given.own)? {
+        tell(match line {
+            Line::NewBase(count) => writeln!(text, "new {count} base"),
+            Line::New(count) => writeln!(text, "new {count}"),
+            Line::NewInBox(count, at) => match given.names.get(at) {
+                Some(name) => writeln!(text, "new {count} {name}"),
+                None => writeln!(text, "new {count}"),
+            },
+            Line::Added(count, book) => writeln!(text, "added {count} {book}"),
+            Line::Wrote(name) => writeln!(text, "wrote {}", what.folder.name_of(what.rt, &name)?),
+            Line::Left(name) => writeln!(text, "left {}", what.folder.name_of(what.rt, &name)?),
+            Line::Conflicts(count) => writeln!(text, "conflicts {count}"),
+            Line::Conflict(book, key) => {
+                let segment = write_ref(alloc, book, key)?;
+                writeln!(text, "conflict {segment}")
+            }
+        })?;
     }
     Ok(text)
-}
-
-// What the bundles brought; of a copy's own in a box only where it brought something.
-fn tell_bundles(what: What<'_>, plan: &Plan, text: &mut Vec<u8>) -> Result<(), Fault> {
-    for (at, count) in plan.told.bundles.iter().enumerate() {
-        if *count == 0 && what.given.own == Some(at) {
-            continue;
-        }
-        match what.given.names.get(at) {
-            Some(name) if at >= what.given.named => tell(writeln!(text, "new {count} {name}"))?,
-            _ => tell(writeln!(text, "new {count}"))?,
-        }
-    }
-    Ok(())
 }
 
 // A text that is written into memory fails for want of it alone.
@@ -272,16 +246,6 @@ fn say_headless(rt: &HostRuntime, book: Book) {
         "no file is written for {book}: the project does not have the book's head, \
         which begins with \\id"
     );
-}
-
-// The refusal of the first file that could not be replaced.
-fn refuse_failed(what: What<'_>, left: &[Left]) -> Result<(), Refusal> {
-    for one in left {
-        if let Some(fault) = one.failed {
-            return Err(what.folder.refusal(what.rt, fault, &one.name));
-        }
-    }
-    Ok(())
 }
 
 // Why a plan is refused, and what is named.

@@ -267,12 +267,3 @@ module _ (base : List Operation) (set : IsOpSet base) (book : List ℕ) where
   coming_texts file u =
       restored_texts (pieces_of (in_manner_of (export base book) file))
       (cut_texts (in_manner_of (export base book) file) (manner_text (export base book) file u))
-
--- and so is what is at a key, perhaps nothing
-pub text_at : (ps : List PieceParts) (key : KeyParts) → AreTexts ps → IsUtf8 (piece_at ps key)
-text_at [] key h = IsUtf8-nil
-text_at (p ∷ ps) key h = by (is_eq (key_cmp key p.key)) (text_at ps key h.1)
-  where
-    by : (b : Bool) → IsUtf8 (piece_own_text (piece_of ps key)) → IsUtf8 (piece_own_text (cond b (Some p) (piece_of ps key)))
-    by true rest = h.0
-    by false rest = rest

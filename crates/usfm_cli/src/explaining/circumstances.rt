@@ -1,5 +1,5 @@
 // What is known of a refusal beside its fault: which file it is of, and what that file is.
-ghost use Rattle.std.specs.Prelude.{◌≡◌, IsErr, OnOk};
+ghost use Rattle.std.specs.Prelude.{◌≡◌, OnOk, OnErr};
 ghost use Rattle.project_file.specs.Projects.{project_at};
 ghost use Rattle.usfm_cli.specs.Circumstances as told;
 
@@ -136,11 +136,14 @@ fn code_book(code: [u8; 3]) -> Option<Book>
     Book::of_code(code)
 }
 
-/// Which input a command on a project, given as the bytes of its file, was refused for. Where the
-/// project is whole, faults of bytes are of the other input.
+/// Which input a command on a project, given as the bytes of its file, was refused for: the
+/// project, where it is none or damaged. Where it is whole, faults of bytes are of the other input.
+/// So it is where there is no memory to judge the project, which takes some only where one of its
+/// operations is thinned.
 pub fn refused_input(alloc: Global, project: &[u8], fault: &Fault) -> Input
     ensures whole { OnOk (project_at project.now) (result ≡ told.input_of fault.now) }
-    ensures damaged { result ≡ Input.Project → IsErr (project_at project.now) }
+    ensures damaged { OnErr (project_at project.now)
+        (told.NamesProject project.now fault.now result) }
 {
     match judge(alloc, project) {
         Err(LoadFault::BadProject) | Err(LoadFault::Bundle(_)) => Input::Project,

@@ -1,4 +1,6 @@
 // All faults with their sentences, as the program lists them.
+ghost use Rattle.usfm_cli.specs.Listing.{AreAllFaults};
+
 use crate::explaining::explanation::general_sentences;
 use crate::fault::Fault;
 use crate::fault_lines::fault_number;
@@ -14,7 +16,8 @@ const FAULTS: usize = 37;
 /// A list of the faults in the order of their numbers: for each a line with `fault`, its number
 /// and words for its details, and its sentences in lines that begin with two spaces.
 ///
-/// Tests alone show that it has each fault.
+/// That each fault is listed, and once, is proved (`all_faults`); what the list says of it, tests
+/// show.
 ///
 /// # Errors
 /// An allocation failed.
@@ -37,7 +40,9 @@ fn any_id() -> Option<OpId> {
 }
 
 // Each fault once, in the order of their numbers. Their details are of no meaning.
-fn all_faults(id: OpId) -> [Fault; FAULTS] {
+fn all_faults(id: OpId) -> [Fault; FAULTS]
+    ensures { AreAllFaults result }
+{
     [
         Fault::Memory,
         Fault::NotText { valid: 0 },

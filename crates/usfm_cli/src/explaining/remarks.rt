@@ -1,6 +1,7 @@
 // What is said of a command that was done, where a person reads what faults mean.
-ghost use Rattle.std.specs.Prelude.{◌≡◌, [], Ok, IsTrue};
+ghost use Rattle.std.specs.Prelude.{◌≡◌, [], Ok, IsTrue, option_map};
 ghost use Rattle.sty_sheet.specs.Sheets.{sheet_of};
+ghost use Rattle.usfm_cli.specs.Remarks as said;
 ghost use Rattle.usfm_cli.specs.TextNames as names;
 
 use crate::command::Command;
@@ -38,19 +39,45 @@ fn ends_in(name: &[u8], ending: &[u8]) -> bool
 
 /// What is to be said beside the answer of a command that was done: that a segment shows nothing,
 /// where that is asked, or that a style sheet has no record.
-pub fn remark(alloc: Global, command: &Command<'_>, output: &[u8]) -> Option<&'static str> {
+pub fn remark(alloc: Global, command: &Command<'_>, output: &[u8]) -> Option<&'static str>
+    ensures { said.RemarksOn command.now output.now (option_map (λ line. line.now) result) }
+{
     match command {
-        Command::Shown(..) if output.is_empty() => Some(SHOWS_NOTHING),
+        Command::Shown(_, _) => shown_remark(output),
         Command::Check(_, sheet) | Command::Find(_, sheet, _) | Command::Words(_, sheet) => {
             sheet_remark(alloc, sheet)
         }
-        _ => None,
+        Command::Import(_)
+        | Command::ImportSince { .. }
+        | Command::Edit { .. }
+        | Command::EditOver { .. }
+        | Command::EditWith { .. }
+        | Command::Receive(_)
+        | Command::Thin
+        | Command::Send
+        | Command::Export(_)
+        | Command::Summary
+        | Command::Delta(_)
+        | Command::Report => None,
+    }
+}
+
+// That a segment shows nothing, where nothing was written of it.
+fn shown_remark(output: &[u8]) -> Option<&'static str>
+    ensures { option_map (λ line. line.now) result ≡ said.of_shown output.now }
+{
+    if output.is_empty() {
+        Some(SHOWS_NOTHING)
+    } else {
+        None
     }
 }
 
 /// What is to be said beside an answer by a style sheet: that the sheet has no record, if it has
-/// none.
-pub fn sheet_remark(alloc: Global, sheet: &[u8]) -> Option<&'static str> {
+/// none. Where there is no memory to read it, nothing is said.
+pub fn sheet_remark(alloc: Global, sheet: &[u8]) -> Option<&'static str>
+    ensures { said.SaysOfSheet sheet.now (option_map (λ line. line.now) result) }
+{
     if has_no_record(alloc, sheet) {
         Some(NO_RECORD)
     } else {

@@ -218,7 +218,8 @@ are gone on purpose, sync with --emptied.";
 pub(crate) const UNDONE: &str = "\
 In this many segments the file of a book lacks the text that came in.
 If it is an older file, or was open in an editor meanwhile, sync with --stale:
-what came in stays. If they were undone on purpose, sync with --undone.";
+what came in at the last three syncs stays. If they were undone on purpose,
+sync with --undone.";
 
 pub(crate) const UNLIKE: &str = "\
 The bundle is of another project, and puts this many segments in conflict.

@@ -51,7 +51,7 @@ A book's file is the one whose name ends in .usfm or .sfm and that begins with
 are, or CODE.usfm. First what the bundles have comes in, then what was changed
 in the files since they were written, so that what came from others stays; then
 the files get the books. Line ends may be CR LF. Links are skipped, and files
-with a second name. Takes in all, or nothing: then a second line `in FILE` on
+with hard links. Takes in all, or nothing: then a second line `in FILE` on
 standard error says where. Writes
   new N base       what FOLDER had and PROJECT lacked, if it was set back
   new N            for each BUNDLE; with --box `new N FILE`
@@ -63,11 +63,11 @@ standard error says where. Writes
 
 Save and close the files in the editor first: an open file still has the old
 text, and saving it undoes what came in. Putting back an older copy does the
-same. If FILE has older texts and none of those that came in, it is refused with
-fault 133.
+same. If FILE has older texts and none of those that came in at one of the last
+three syncs, it is refused with fault 133.
 
-DIR of --box is a folder that all of a team can reach, or a stick that goes
-around. All bundles of DIR come in, and what PROJECT has is written to
+DIR of --box is a folder that all of a team can reach, or a USB stick that is
+passed around. All bundles of DIR come in, and what PROJECT has is written to
 DIR/NAME.bundle, NAME being the copy's name. No copy writes another's bundle.
 
 Example: usfm_team sync ana.project texts --box stick
@@ -87,8 +87,10 @@ have FILE replace what the book has, `usfm_team import PROJECT FILE`, and sync.
 After fault 132 many texts, or the last ones, are gone from FILE: an editor may
 have saved only a part of it. Correct it, or add --emptied. After fault 133 FILE
 has older texts in the place of those that came in: with --stale it is taken as
-an older file, and what came in stays; with --undone it is undone. After fault
-134 the bundle is of another translation: leave it out, or add --join.
+an older file, and what came in at the last three syncs stays; with --undone it
+is undone. After fault 134 the bundle is of another translation: leave it out,
+or add --join. Each of these words is for all files and bundles of the line: add
+--try first, and see what would be done.
 
 After fault 130 in a book's FILE, that file could not be replaced, and all else
 is done: look at its rights, and sync again. After fault 60 to 70 in a file of

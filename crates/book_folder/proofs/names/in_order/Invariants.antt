@@ -1,13 +1,15 @@
-use Rattle.std.proofs.Common.{◌≡◌, ◌++◌, length, map}
+use Rattle.std.proofs.Common.{◌≡◌, ◌++◌, ℕ, List, Option, length, map, option_map}
 use Rattle.std.specs.List.{filter_map}
+use Rattle.book_folder.specs.FirstNames.{name_under}
 use Rattle.book_folder.specs.Naming as naming
+use Rattle.book_folder.specs.Wanted.{NamedParts}
 use Rattle.book_folder.proofs.names.in_order.Given as goal
 
 abbrev pub invariant-books : goal.invariant-books
 invariant-books l =
-    map naming.book_name_view l.ordered.items
-    ++ filter_map (naming.first_of (map naming.book_name_view l.names)) l.left
-    ≡ naming.in_order (map naming.book_name_view l.names)
+    let first : List ℕ → Option NamedParts = λ book. option_map (naming.named book) (name_under l.firsts book) in
+    map naming.book_name_view l.ordered.items ++ filter_map first l.left
+    ≡ filter_map first (naming.books_named (map naming.book_name_view l.names))
 
 abbrev pub decreases-books : goal.decreases-books
 decreases-books l = length l.left

@@ -1,4 +1,4 @@
-use Rattle.std.proofs.Common.{Err, ap}
+use Rattle.std.proofs.Common.{Ok, Err, sym, ap, ◌∙◌}
 use Rattle.std.proofs.lemmas.Result.{err_from_is_err_and}
 use Rattle.bundle_codec.specs.SummaryReading.{read_summary}
 use Rattle.usfm_cli.proofs.DeltasMade.{makes_delta, summary_refused, summary_wants}
@@ -25,5 +25,5 @@ returns-in_err-summary-clause-memory c =
 pub returns-clause-answer : goal.returns-clause-answer
 returns-clause-answer c = λ _.
     makes_delta c.args.project.now c.args.summary.now c.in_ok-judged.judged c.in_ok-judged.ensures.read c.in_ok-summary.summary
-    c.in_ok-project.project.items c.in_ok-output.output.items c.in_ok-summary.ensures.exact
-    (c.in_ok-project.ensures.items_if_clones_equal (λ x y e. e)) c.in_ok-judged.ensures.spelled c.in_ok-output.ensures.spelled
+    c.in_ok-output.output.items c.in_ok-summary.ensures.exact c.in_ok-judged.ensures.spelled c.in_ok-output.ensures.spelled
+    ∙ ap Ok (sym c.telling.ensures)

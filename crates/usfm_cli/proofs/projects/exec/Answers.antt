@@ -10,7 +10,6 @@ use Rattle.usfm_cli.proofs.Received.{received_is}
 use Rattle.usfm_cli.proofs.Loading.{loads_or_wants, refused_wants, refused_for}
 use Rattle.usfm_cli.proofs.Seen.{copies, refused_all, seen_wants, told_all, changed_all, told_state, changed_state}
 use Rattle.usfm_cli.proofs.projects.exec.Goals as goal
-use Rattle.usfm_cli.proofs.projects.exec.Goals.{then-only_tells+in_ok-project, else-only_tells+in_ok-project-2}
 
 pub returns-in-Receive-clause-answer : goal.returns-in-Receive-clause-answer
 returns-in-Receive-clause-answer c = λ e.
@@ -87,31 +86,27 @@ returns-in_err-output-clause-memory c =
     (refused_wants Global (is_late c.args.command.now) (outcome c.in_ok-replica.replica c.args.command.now) c.obey.new.replica
     c.in_err-output.field-0.0 c.in_err-output.ensures (cc e)))
 
+pub returns-then-only_tells-clause-answer : goal.returns-then-only_tells-clause-answer
+returns-then-only_tells-clause-answer c = λ _.
+    told_all c.args.project.now c.args.command.now c.in_ok-replica.replica c.in_ok-replica.ensures.seen c.obey.new.replica
+    c.in_ok-output.output.items c.in_ok-output.ensures (λ i. omega (arith, c.type_inv.project i))
+    (sym c.only_tells.ensures ∙ c.if-only_tells.true)
+    ∙ ap Ok (sym c.telling.ensures)
+
+pub returns-then-only_tells-clause-after : goal.returns-then-only_tells-clause-after
+returns-then-only_tells-clause-after c = λ s loads.
+    ap (λ (w : Written). project_at w.project) c.telling.ensures
+    ∙ told_state c.args.project.now c.args.command.now c.in_ok-replica.replica c.in_ok-replica.ensures.seen c.obey.new.replica
+    c.in_ok-output.output.items c.in_ok-output.ensures s (sym c.only_tells.ensures ∙ c.if-only_tells.true) loads
+
 pub returns-clause-answer : goal.returns-clause-answer
-returns-clause-answer c = λ _. elim c.if-only_tells.branch [
-  | then-only_tells+in_ok-project w ↦
-      let same : c.if-only_tells.project.items ≡ c.args.project.now = search rules in
-      told_all c.args.project.now c.args.command.now c.in_ok-replica.replica c.in_ok-replica.ensures.seen c.obey.new.replica
-      c.in_ok-output.output.items c.in_ok-output.ensures (λ i. omega (arith, c.type_inv.project i))
-      (sym c.only_tells.ensures ∙ w.if-only_tells.true)
-      ∙ (λ i. Ok (record { project = sym same i; output = c.in_ok-output.output.items }))
-  | else-only_tells+in_ok-project-2 w ↦
-      let spelled : c.if-only_tells.project.items ≡ project c.obey.new.replica = search rules in
-      changed_all c.args.project.now c.args.command.now c.in_ok-replica.replica c.in_ok-replica.ensures.seen c.obey.new.replica
-      c.in_ok-output.output.items c.in_ok-output.ensures c.if-only_tells.project.items
-      (sym c.only_tells.ensures ∙ w.if-only_tells.false) spelled
-]
+returns-clause-answer c = λ _.
+    changed_all c.args.project.now c.args.command.now c.in_ok-replica.replica c.in_ok-replica.ensures.seen c.obey.new.replica
+    c.in_ok-output.output.items c.in_ok-output.ensures c.in_ok-made.made.items
+    (sym c.only_tells.ensures ∙ c.if-only_tells.false) c.in_ok-made.ensures.spelled
 
 pub returns-clause-after : goal.returns-clause-after
-returns-clause-after c = λ s loads. elim c.if-only_tells.branch [
-  | then-only_tells+in_ok-project w ↦
-      let same : c.if-only_tells.project.items ≡ c.args.project.now = search rules in
-      ap project_at same
-      ∙ told_state c.args.project.now c.args.command.now c.in_ok-replica.replica c.in_ok-replica.ensures.seen c.obey.new.replica
-      c.in_ok-output.output.items c.in_ok-output.ensures s (sym c.only_tells.ensures ∙ w.if-only_tells.true) loads
-  | else-only_tells+in_ok-project-2 w ↦
-      let again : project_at c.if-only_tells.project.items ≡ Ok c.obey.new.replica = search rules in
-      again
-      ∙ ap Ok (changed_state c.args.project.now c.args.command.now c.in_ok-replica.replica c.in_ok-replica.ensures.seen
-      c.obey.new.replica c.in_ok-output.output.items c.in_ok-output.ensures s (sym c.only_tells.ensures ∙ w.if-only_tells.false) loads)
-]
+returns-clause-after c = λ s loads.
+    c.in_ok-made.ensures.again
+    ∙ ap Ok (changed_state c.args.project.now c.args.command.now c.in_ok-replica.replica c.in_ok-replica.ensures.seen
+    c.obey.new.replica c.in_ok-output.output.items c.in_ok-output.ensures s (sym c.only_tells.ensures ∙ c.if-only_tells.false) loads)

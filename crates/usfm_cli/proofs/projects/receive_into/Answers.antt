@@ -23,15 +23,15 @@ returns-in_err-bundle-clause-memory c =
     rw (from.1, from.2) (λ e s loads full. bundle_wants c.args.bytes.now (with_bundle s (whole_at c.args.bytes.now))
     c.in_err-bundle.field-0.0 c.in_err-bundle.ensures.exact (cc e))
 
-pub returns-in_err-project-clause-answer : goal.returns-in_err-project-clause-answer
-returns-in_err-project-clause-answer c =
-    let from = err_from_is_err_and c.from_residual-in_err-project.result c.from_residual-in_err-project.ensures.1 in
+pub returns-in_err-made-clause-answer : goal.returns-in_err-made-clause-answer
+returns-in_err-made-clause-answer c =
+    let from = err_from_is_err_and c.from_residual-in_err-made.result c.from_residual-in_err-made.ensures.1 in
     rw (from.1, from.2) (λ e. union_refused c.args.project.now c.args.bytes.now c.in_ok-given.given c.in_ok-bundle.bundle
-    c.in_ok-given.ensures.read c.in_ok-bundle.ensures.exact c.in_err-project.field-0.0 c.in_err-project.ensures.refused
+    c.in_ok-given.ensures.read c.in_ok-bundle.ensures.exact c.in_err-made.field-0.0 c.in_err-made.ensures.refused
     (λ m. e (ap Err m)))
 
-pub returns-in_err-project-clause-memory : goal.returns-in_err-project-clause-memory
-returns-in_err-project-clause-memory c = λ e s loads full.
+pub returns-in_err-made-clause-memory : goal.returns-in_err-made-clause-memory
+returns-in_err-made-clause-memory c = λ e s loads full.
     joining_wants c.args.bytes.now s c.in_ok-bundle.bundle c.in_ok-bundle.ensures.exact
 
 pub returns-in_err-output-clause-memory : goal.returns-in_err-output-clause-memory
@@ -41,11 +41,11 @@ returns-in_err-output-clause-memory c = λ e s loads full.
 pub returns-clause-answer : goal.returns-clause-answer
 returns-clause-answer c = λ _.
     makes c.args.project.now c.args.bytes.now c.in_ok-given.given c.in_ok-bundle.bundle c.in_ok-given.ensures.read
-    c.in_ok-bundle.ensures.exact c.in_ok-project.new c.in_ok-project.ensures.agrees c.in_ok-project.ensures.new
-    c.in_ok-output.output.items c.in_ok-output.ensures c.in_ok-project.project.items c.in_ok-project.ensures.spelled
+    c.in_ok-bundle.ensures.exact c.in_ok-made.new c.in_ok-made.ensures.agrees c.in_ok-made.ensures.new
+    c.in_ok-output.output.items c.in_ok-output.ensures c.in_ok-made.made.items c.in_ok-made.ensures.spelled
 
 pub returns-clause-after : goal.returns-clause-after
 returns-clause-after c = λ s loads.
     is_after c.args.project.now c.args.bytes.now c.in_ok-given.given c.in_ok-bundle.bundle c.in_ok-given.ensures.read
-    c.in_ok-bundle.ensures.exact c.in_ok-project.new c.in_ok-project.ensures.agrees c.in_ok-project.ensures.new
-    c.in_ok-output.output.items c.in_ok-output.ensures c.in_ok-project.project.items c.in_ok-project.ensures.again s loads
+    c.in_ok-bundle.ensures.exact c.in_ok-made.new c.in_ok-made.ensures.agrees c.in_ok-made.ensures.new
+    c.in_ok-output.output.items c.in_ok-output.ensures c.in_ok-made.made.items c.in_ok-made.ensures.again s loads
