@@ -11,3 +11,4 @@ mod NamesOrder
 mod NameLines
 mod Schedules
 mod Twice
+mod CutShort
