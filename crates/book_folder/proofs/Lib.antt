@@ -14,3 +14,4 @@ mod StepsLaws
 mod NameLines
 mod Schedules
 mod Twice
+mod CutShort

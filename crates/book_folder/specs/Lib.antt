@@ -21,3 +21,6 @@ pub mod Settling
 pub mod Exports
 pub mod AsWritten
 pub mod FolderLaws
+pub mod Disks
+pub mod CutShort
+pub mod ReadAgain

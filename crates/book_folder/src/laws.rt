@@ -1,7 +1,9 @@
 //! Laws of a folder's files.
+ghost use Rattle.book_folder.specs.CutShort as cut;
 ghost use Rattle.book_folder.specs.Done as done;
 ghost use Rattle.book_folder.specs.FolderLaws as folder;
 ghost use Rattle.book_folder.specs.Laws as laws;
+ghost use Rattle.book_folder.specs.ReadAgain as again;
 
 /// Line ends say nothing: two files of a book that are like each other, and were written from the
 /// same base, lead to the same project, or are refused alike.
@@ -53,4 +55,23 @@ pub fn steps_make_project()
 /// the disk.
 pub fn twice_is_once()
     ensures { folder.TwiceIsOnce }
+{}
+
+/// Cut short anywhere, by a kill or a power cut, a sync leaves it known what each file of the folder
+/// was written from: either no file is other than before, or the project has all that came in, and
+/// the bases by which it is known of each file whether it was put are there.
+pub fn cut_short_is_known()
+    ensures { cut.CutShortIsKnown }
+{}
+
+/// Cut short before it put a base, a sync is done again: the plan of what stands then is the same,
+/// but that the new files are removed that were written.
+pub fn cut_early_is_done_again()
+    ensures { cut.CutEarlyIsDoneAgain }
+{}
+
+/// Read again by the base that makes the files as they were read, nothing comes in of a file that
+/// was taken in.
+pub fn read_again_nothing_comes_in()
+    ensures { again.ReadAgainNothingComesIn }
 {}

@@ -82,7 +82,7 @@ module _ (held : List Operation) (set : IsOpSet held) (headless : List (List ℕ
   part = filter stays held
 
   -- an operation of the set is among what its segment shows where none names it
-  shows_is : (o : Operation) → get held o.id ≡ Some o → shows held o ≡ not (is_replaced held o.segment o.id)
+  pub shows_is : (o : Operation) → get held o.id ≡ Some o → shows held o ≡ not (is_replaced held o.segment o.id)
   shows_is o g = by (is_replaced held o.segment o.id) refl
     where
       by : (b : Bool) → is_replaced held o.segment o.id ≡ b → is_among (shown_ids held o.segment) o.id ≡ not b

@@ -59,37 +59,9 @@ use Rattle.book_folder.specs.declared.refusal.Refusal.{Refusal}
 use Rattle.book_folder.specs.declared.refusal.Refusal.TheVariants.{Of}
 use Rattle.book_folder.proofs.ChangeAt.{change_at_is}
 use Rattle.book_folder.proofs.LineLaws.{manner_same}
+use Rattle.book_folder.proofs.Twice.NothingTaken.{not_rebased as unchanged_not_rebased, nothing_taken as unchanged_not_taken}
 use Rattle.book_folder.proofs.Twice.OwnManner.{export_restored, own_manner}
 use Rattle.book_folder.proofs.Twice.ShownBase.{book_there, export_same, segment_there, shown_legal}
-
--- ---- counts
-
-none_counted : {X : Type 0} (p q : X → Bool) → ((x : X) → q x ≡ true → p x ≡ false) → (xs : List X) → count_by p (filter q xs) ≡ 0
-none_counted {X} p q h xs = sym (length-filter p (filter q xs)) ∙ ap length (filter_none p (filter q xs) (any_filter p q xs ∙ none xs))
-  where
-    both : (x : X) (b : Bool) → q x ≡ b → (b && p x) ≡ false
-    both x true e = h x e
-    both x false e = refl
-
-    none : (ys : List X) → list_any (λ x. q x && p x) ys ≡ false
-    none [] = refl
-    none (y ∷ ys) = λ i. both y (q y) refl i || none ys i
-
-all_counted : {X : Type 0} (p : X → Bool) → ((x : X) → p x ≡ true) → (xs : List X) → count_by p xs ≡ length xs
-all_counted {X} p h xs = sym (length-filter p xs) ∙ ap length (filter_all p xs (all xs))
-  where
-    all : (ys : List X) → list_all p ys ≡ true
-    all [] = refl
-    all (y ∷ ys) = λ i. h y i && all ys i
-
--- what came in is not less than some
-not_fewer : (n : ℕ) → (nat_le 1 n && nat_le n 0) ≡ false
-not_fewer zero = refl
-not_fewer (suc n) = and_right (nat_le 1 (suc n)) (nat_le (suc n) 0) (grind (arith, nat_tests))
-
-and_middle : (a b c : Bool) → b ≡ false → (a && b && c) ≡ false
-and_middle true b c e = ap (λ x. x && c) e
-and_middle false b c e = refl
 
 -- ---- a book that gets a file
 
@@ -209,118 +181,19 @@ module _ (s base : State) (set : IsOpSet s.held) (state : IsState base) (f : Fil
       ap (λ (ps : List PieceParts). piece_at ps key) own_pieces
       ∙ own_piece base state f.book head_in_base key
 
-  same_text : (key : KeyParts) → same_bytes (picked_at base.held f.book key) (piece_at pieces key) ≡ true
-  same_text key = ap (same_bytes (picked_at base.held f.book key)) (picks key) ∙ same_bytes-refl (picked_at base.held f.book key)
-
   -- so no key is due
   not_due : (key : KeyParts) → is_due base.held f.book pieces key ≡ false
   not_due key =
       ap (λ (ps : List PieceParts). is_due base.held f.book ps key) own_pieces
       ∙ none_due base state f.book head_in_base key
 
-  -- none has another text
-  pub none_other : stood_of s.held base.held f.book pieces ≡ []
-  none_other =
-      ap (map (stood_at f.book pieces))
-      (none_pass (has_other base.held f.book pieces) (walked_keys s.held f.book pieces) (λ key. ap not (same_text key)))
-
-  -- and nothing was changed
-  pub none_changed : file_changes s.held base.held [] f.book pieces ≡ []
-  none_changed = all (walked_keys s.held f.book pieces)
-    where
-      not_changed : (b : Bool) → b ≡ false → (c : Bool) → (b && c) ≡ false
-      not_changed true e c = absurd (false≢true (sym e))
-      not_changed false e c = refl
-
-      one : (key : KeyParts) → change_at s.held base.held [] f.book pieces key ≡ None
-      one key =
-          change_at_is s.held base.held [] f.book pieces key
-          ∙ ap (λ b. cond b (Some (since_change s.held base.held f.book pieces key)) None)
-          (not_changed (is_due base.held f.book pieces key) (not_due key) _)
-
-      all : (keys : List KeyParts) → flat_map (λ key. listed (change_at s.held base.held [] f.book pieces key)) keys ≡ []
-      all [] = refl
-      all (key ∷ keys) = λ i. listed (one key i) ++ all keys i
-
-  -- ---- nothing is asked
-
-  has_text : (key : KeyParts) → has_text_of base.held f.book pieces key ≡ true
-  has_text key =
-      ap (like (picked_at base.held f.book key)) (picks key) ∙ same_bytes-refl (plain (picked_at base.held f.book key))
-
-  -- it is not older than what came in
-  pub not_older : (own : List ℕ) (older : List Operation) → may_be_older (came_in older base.held own f.book pieces) ≡ false
-  not_older own older =
-      let keys = came_keys older base.held own f.book in
-      ap (λ n. nat_le 1 (length keys) && nat_le n 0) (all_counted (has_text_of base.held f.book pieces) has_text keys)
-      ∙ not_fewer (length keys)
-
-  none_undone : (older : List State) → undone older base.held s.name f.book pieces ≡ None
-  unfolding undone_since
-  none_undone [] = refl
-  none_undone (o ∷ older) =
-      (λ i. option_or (cond (fresh i) (Some (came_in o.held base.held s.name f.book pieces).came) None) (none_undone older i))
-    where
-      fresh : (has_book o.held f.book && may_be_older (came_in o.held base.held s.name f.book pieces)
-          && nat_le 1 (came_in o.held base.held s.name f.book pieces).undone) ≡ false
-      fresh = and_middle (has_book o.held f.book) (may_be_older (came_in o.held base.held s.name f.book pieces))
-          (nat_le 1 (came_in o.held base.held s.name f.book pieces).undone) (not_older s.name o.held)
-
-  none_emptied : emptied base.held f.book pieces ≡ None
-  none_emptied = λ i. cond (nat_le 11 (none i) || (nat_le 2 (none i) && are_last (is_gone pieces) (keys_with_text base.held f.book)))
-      (Some (none i)) None
-    where
-      none : gone_count base.held f.book pieces ≡ 0
-      none =
-          none_counted (is_gone pieces) (λ key. not (is_empty (picked_at base.held f.book key)))
-          (λ key h. ap is_empty (picks key) ∙ not-true (is_empty (picked_at base.held f.book key)) h) (keys_of base.held f.book)
-
-  none_found : (own : List ℕ) (older : List State) (at : ℕ) → oldest_of None at older base.held own f.book pieces ≡ None
-  unfolding found_with is_candidate
-  none_found own [] at = refl
-  none_found own (o ∷ older) at =
-      ap (λ (c : Option Candidate). oldest_of c (suc at) older base.held own f.book pieces)
-      (ap (λ b. cond b (Some (less_unlike None (record { at = at; unlike = unlikeness o.held f.book pieces }))) None)
-      (and_right (has_book o.held f.book) (may_be_older (came_in o.held base.held own f.book pieces)) (not_older own o.held)))
-      ∙ none_found own older (suc at)
-
   -- its base is no older one
   pub not_rebased : (older : List State) → older_of base older f ≡ None
-  not_rebased older =
-      ap (older_by base older f.book) (cond-true (is_utf8 f.bytes) (Some f.bytes) None text)
-      ∙ ap (λ b. cond b (oldest_of None 0 older base.held base.name f.book pieces) None) has
-      ∙ none_found base.name older 0
-
-  -- ---- nothing is taken in
-
-  unasked : (wishes : WishParts) → asked wishes None None ≡ None
-  unasked wishes = λ i. option_or (either wishes.undone i) (either wishes.emptied i)
-    where
-      nothing : Option FolderFault
-      nothing = None
-
-      either : (b : Bool) → cond b nothing nothing ≡ nothing
-      either true = refl
-      either false = refl
+  not_rebased older = unchanged_not_rebased s base set f has text picks not_due older
 
   pub nothing_taken : (older : List State) (wishes : WishParts) (stood : List StoodParts) → wishes.settled ≡ []
       → taken_in s base older wishes stood f ≡ Ok (record { after = s; stood = stood; count = 0 })
-  unfolding taken_in taken_changed
-  nothing_taken older wishes stood none =
-      let place = places.File f.at in
-      let by_base : List ℕ → Result Taken Refusal =
-      λ text. taken_changed s base older wishes stood f (coming_pieces base.held f.book text) in
-      ap (λ r. r >>= λ text. cond (has_book base.held f.book) (by_base text) (taken_strange s stood f))
-      (cond-true (is_utf8 f.bytes) (Ok f.bytes) (Err (Of place (faults.NotText (utf8_valid_len f.bytes)))) text)
-      ∙ ap (λ b. cond b (by_base f.bytes) (taken_strange s stood f)) has
-      ∙ (λ i. unless_asked place (asked wishes (none_undone older i) (none_emptied i))
-      (taken place (stood ++ none_other i) (edited_all s s (changes_ops s f.book (file_changes s.held base.held (none i) f.book pieces)))))
-      ∙ ap (λ a. unless_asked place a
-      (taken place (stood ++ []) (edited_all s s (changes_ops s f.book (file_changes s.held base.held [] f.book pieces))))) (unasked wishes)
-      ∙ ap (λ (cs : List ChangeParts). taken place (stood ++ []) (edited_all s s (changes_ops s f.book cs))) none_changed
-      ∙ ap (λ (n : Option ℕ). taken place (stood ++ []) (edited_all s s (edits_by NumbersUsedUp n s f.book [])))
-      (left_for_none s.held set.each)
-      ∙ ap (λ (more : List StoodParts). Ok (record { after = s; stood = more; count = 0 })) (append-nil stood)
+  nothing_taken older wishes stood none = unchanged_not_taken s base set f has text picks not_due older wishes stood none
 
 -- ---- a file as a sync leaves it
 

@@ -1,0 +1,15 @@
+pub mod Fronts
+pub mod Names
+pub mod OwnBooks
+pub mod Settles
+pub mod Puts
+pub mod StepActs
+pub mod Recovered
+pub mod Known
+pub mod CutLaws
+pub mod Again
+pub mod AsReadBase
+pub mod PicksArePieces
+pub mod RawPieces
+pub mod RestoredAgain
+pub mod ReadAgain
