@@ -6,8 +6,8 @@
 # A last text has one mark alone, of a style with as many bytes of words in OccursUnder. The two are not compared on it,
 # since the proved sheet has made a set of such words when it is read, and looks them up in next to no time.
 #
-# The plain checker walks the marks with a stack of the open nodes. The proved one walks the tree: it is done with each
-# node under the root before it reads the next, so that the memory of neither grows with the tree.
+# The plain checker walks the marks with a stack of the open nodes. So does the proved one, and then it goes over the
+# tokens: it keeps six bytes for each mark, and no tree.
 #
 # The two are run turn about, and of each the least time of a round counts. How the work grows is measured by
 # processes of one round, by their instructions where valgrind is there to count them. The exit status is 1 where the

@@ -1,11 +1,8 @@
 -- The leaves that a walk gathers are those of the reading of the tree.
 use Rattle.sty_sheet.specs.declared.kind.StyleKind.TheVariants as kinds
-use Rattle.std.proofs.Common.{◌≡◌, ℕ, zero, suc, ◌+◌, ◌-◌, ◌<◌, ◌≤◌, Bool, true, false, cond, List}
-use Rattle.std.proofs.Common.{[], ◌∷◌, ◌++◌, drop, take, length, reverse, Option, None, Some, refl}
-use Rattle.std.proofs.Common.{sym, ap, ◌∙◌, append_assoc, arith, ⊎_elim, length-drop}
-use Rattle.std.proofs.lemmas.List.{drop_at, take-append-drop, reverse-append, length-reverse}
-use Rattle.std.proofs.lemmas.List.{nil_from_length}
-use Rattle.std.proofs.str.Laws.{order}
+use Rattle.std.proofs.Common.{◌≡◌, ℕ, zero, suc, ◌+◌, ◌<◌, Bool, true, false, cond, List}
+use Rattle.std.proofs.Common.{[], ◌∷◌, ◌++◌, drop, Option, None, Some, refl}
+use Rattle.std.proofs.Common.{sym, ap, ◌∙◌, append_assoc, arith}
 use Rattle.std.specs.Borrow.{Bor}
 use Rattle.std.specs.Option.{option_map}
 use Rattle.std.specs.Prelude.{is_some, not, ◌&&◌}
@@ -146,27 +143,6 @@ leaves_after old new may_end w rest rest' is same =
     (λ i. is i ++ same i) ∙ append_assoc old (settled may_end w []) rest'
     ∙ ap (λ l. old ++ l) (sym (settled_before may_end w rest'))
 
-reverse_front : {A : Type 0} (n k : ℕ) (xs : List A) → k ≡ length xs - n → reverse (take k xs) ≡ drop n (reverse xs)
-reverse_front n k xs is = ⊎_elim below past (order n (length xs))
-  where
-    whole : reverse xs ≡ reverse (drop k xs) ++ reverse (take k xs)
-    whole = ap reverse (sym (take-append-drop k xs)) ∙ reverse-append (take k xs) (drop k xs)
-
-    back : length (reverse (drop k xs)) ≡ length xs - k
-    back = length-reverse (drop k xs) ∙ length-drop k xs
-
-    below : n < length xs → reverse (take k xs) ≡ drop n (reverse xs)
-    below lt = sym (ap (drop n) whole ∙ drop_at (reverse (drop k xs)) (reverse (take k xs)) n (omega (arith, back, is)))
-
-    past : length xs ≤ n → reverse (take k xs) ≡ drop n (reverse xs)
-    past le =
-        ap (λ j. reverse (take j xs)) (let zero_is : k ≡ 0 = omega (arith, is) in zero_is)
-        ∙ sym (nil_from_length (drop n (reverse xs)) (omega (arith, length-drop n (reverse xs), length-reverse xs)))
-
--- a list without this many from its end, from the back
-pub reverse_take : {A : Type 0} (n : ℕ) (xs : List A) → reverse (take (length xs - n) xs) ≡ drop n (reverse xs)
-reverse_take n xs = reverse_front n (length xs - n) xs refl
-
 -- ---- texts fit
 
 fit_before : (f : Forest) (later : List Event) → TextsFit f → EventsFit later → EventsFit (events_before f later)
@@ -200,21 +176,3 @@ fit_after (entries.Begin kind m style) later h = h
 fit_after (entries.Close m) later h = h
 fit_after (entries.Milestone m None close) later h = h
 fit_after (entries.Milestone m (Some t) close) later h = h.1
-
--- ---- fewer are left
-
-entry_shorter : (e : Entry) (later : List Event) → length later < length (entry_before e later)
-entry_shorter (entries.Text start t) later = omega arith
-entry_shorter (entries.Leaf m) later = omega arith
-entry_shorter (entries.Begin kind m style) later = omega arith
-entry_shorter (entries.Close m) later = omega arith
-entry_shorter (entries.Milestone m None close) later = omega arith
-entry_shorter (entries.Milestone m (Some t) close) later = omega arith
-
-ends_longer : (n : ℕ) (later : List Event) → length later ≤ length (ends_before n later)
-ends_longer zero later = omega arith
-ends_longer (suc n) later = let l = ends_longer n later in omega arith
-
--- after a step less is left to be met
-pub step_shorter : (n : ℕ) (e : Entry) (later : List Event) → length later < length (ends_before n (entry_before e later))
-step_shorter n e later = let s = entry_shorter e later in let l = ends_longer n (entry_before e later) in omega arith

@@ -1,7 +1,6 @@
 -- Which leaves of a tree are left out for depth.
-use Rattle.sty_sheet.specs.declared.kind.StyleKind.{StyleKind}
 use Rattle.sty_sheet.specs.declared.kind.StyleKind.TheVariants as kinds
-use Rattle.std.proofs.Common.{◌≡◌, ℕ, zero, suc, ◌≤◌, Bool, true, false, cond, List, [], ◌∷◌, ◌++◌, length, Option, None, Some, sym, refl, ap, ◌∙◌, subst, arith}
+use Rattle.std.proofs.Common.{◌≡◌, ℕ, zero, suc, ◌≤◌, Bool, true, false, cond, List, [], ◌∷◌, ◌++◌, length, None, Some, sym, refl, ap, ◌∙◌, subst, arith}
 use Rattle.std.specs.Prelude.{nat_lt}
 use Rattle.std.specs.Option.{is_some}
 use Rattle.std.specs.List.{All}
@@ -11,51 +10,20 @@ use Rattle.usfm_token.specs.Tokens.{MarkParts, Lexeme, mark, words, tokens_of}
 use Rattle.usfm_tree.specs.Around.{Around}
 use Rattle.usfm_tree.specs.Forest.{Forest, nothing, text, leaf}
 use Rattle.usfm_tree.specs.Reading as reading
-use Rattle.usfm_tree.specs.Reading.{Styles, Placed, placed, Role, plain, alone, spans, opens, closes, styled, marked, role, Open, ended, take_close, milestone_at, milestone_takes, take_bare, is_bare_close, Read, enter, kids, has_room, open_of, followed, spanned, opened, tree_of}
+use Rattle.usfm_tree.specs.Reading.{Styles, Placed, placed, Role, plain, alone, spans, opens, closes, role, Open, ended, take_close, milestone_at, milestone_takes, take_bare, is_bare_close, Read, enter, kids, has_room, open_of, followed, spanned, opened, tree_of}
 use Rattle.usfm_tree.specs.SheetViews.{styles_in}
+use Rattle.usfm_tree.proofs.LeavesLemmas.{role_lexeme, role_is}
 use Rattle.segment_check.specs.Spots.{Spot, spots}
 use Rattle.segment_check.specs.TreeConditions.{begins_node}
 use Rattle.segment_check.specs.Findings.{spots_of}
 use Rattle.segment_check.specs.Laws.{LeavesAreTooDeep}
 
--- the mark of a role
-abbrev mark_in : MarkParts → Role → MarkParts
-mark_in d (plain b) = d
-mark_in d (alone m) = m
-mark_in d (spans m) = m
-mark_in d (opens k c m) = m
-mark_in d (closes m) = m
-
-either_mark : (b : Bool) (d : MarkParts) (x y : Role) → mark_in d x ≡ d → mark_in d y ≡ d → mark_in d (cond b x y) ≡ d
-either_mark true d x y p q = p
-either_mark false d x y p q = q
-
-styled_mark : (m : MarkParts) (c : Option (List ℕ)) (k : Option StyleKind) → mark_in m (styled m c k) ≡ m
-styled_mark m c None = refl
-styled_mark m None (Some kinds.Character) = refl
-styled_mark m (Some n) (Some kinds.Character) = refl
-styled_mark m None (Some kinds.Milestone) = either_mark m.nested m (alone m) (spans m) refl refl
-styled_mark m (Some n) (Some kinds.Milestone) = either_mark m.nested m (alone m) (spans m) refl refl
-styled_mark m None (Some kinds.Paragraph) = either_mark m.nested m (alone m) (opens kinds.Paragraph None m) refl refl
-styled_mark m (Some n) (Some kinds.Paragraph) = either_mark m.nested m (alone m) (opens kinds.Paragraph (Some n) m) refl refl
-styled_mark m None (Some kinds.Note) = either_mark m.nested m (alone m) (opens kinds.Note None m) refl refl
-styled_mark m (Some n) (Some kinds.Note) = either_mark m.nested m (alone m) (opens kinds.Note (Some n) m) refl refl
-
-marked_mark : (m : MarkParts) (s : Option reading.Style) → mark_in m (marked m s) ≡ m
-marked_mark m None = refl
-marked_mark m (Some s) = styled_mark m s.closer s.kind
-
 module _ (styles : Styles) where
-  role_mark : (m : MarkParts) → mark_in m (role styles (mark m)) ≡ m
-  role_mark m = either_mark m.closing m (closes m) (marked m (styles m.name)) refl (marked_mark m (styles m.name))
-
   -- a token that does not begin a node has a mark that does not
-  no_node : (x : Lexeme) (r : Role) (m : MarkParts) → ((d : MarkParts) → mark_in d r ≡ m) → begins_node r ≡ false → (t : Lexeme) → t ≡ x
-      → role styles t ≡ r → ((b : List ℕ) → plain b ≡ r → ⊥) → begins_node (role styles (mark m)) ≡ false
-  no_node x r m own none (words b) e is no_words = absurd (no_words b is)
-  no_node x r m own none (mark n) e is no_words =
-      let same : m ≡ n = sym (own n) ∙ ap (mark_in n) (sym is) ∙ role_mark n in
-      ap (λ k. begins_node (role styles (mark k))) same ∙ ap begins_node is ∙ none
+  no_node : (t : Lexeme) (r : Role) (m : MarkParts) → role styles t ≡ r → role_lexeme r ≡ mark m → begins_node r ≡ false
+      → begins_node (role styles (mark m)) ≡ false
+  no_node t r m is own none =
+      ap (λ x. begins_node (role styles x)) (sym own ∙ ap role_lexeme (sym is) ∙ role_is styles t) ∙ ap begins_node is ∙ none
 
   abbrev Deep : Spot → Type 0
   Deep x = x.node ≡ None → begins_node (role styles (mark x.mark)) ≡ true → 64 ≤ length x.around
@@ -100,10 +68,10 @@ module _ (styles : Styles) where
   enter_deep go os around t l (plain b) h is same = h os around l same
   enter_deep go os around t l (alone m) h is same =
       All-cons Deep _ (spots around (go os l).0) (λ is_leaf b. absurd
-      (let no = no_node t.token (alone m) m (λ d. refl) refl t.token refl is (λ b e. cc) in cc)) (h os around l same)
+      (let no = no_node t.token (alone m) m is refl refl in cc)) (h os around l same)
   enter_deep go os around t l (closes m) h is same =
       All-cons Deep _ (spots around (go os l).0) (λ is_leaf b. absurd
-      (let no = no_node t.token (closes m) m (λ d. refl) refl t.token refl is (λ b e. cc) in cc)) (h os around l same)
+      (let no = no_node t.token (closes m) m is refl refl in cc)) (h os around l same)
   enter_deep go os around t l (spans m) h is same =
       let taken = milestone_takes l in
       let inner = record { kind = kinds.Milestone; mark = m; is_closed = is_some taken.close } ∷ around in

@@ -5,7 +5,7 @@ use Rattle.std.specs.Prelude.{filter, ◌==◌, ◌&&◌}
 use Rattle.std.specs.List.{flat_map}
 use Rattle.sty_sheet.specs.Records.{Record}
 use Rattle.usfm_ref.specs.Keys.{KeyParts, book_head}
-use Rattle.usfm_token.specs.Tokens.{MarkParts, Lexeme, mark, words, mark_bytes, slice_of, tokens_of}
+use Rattle.usfm_token.specs.Tokens.{MarkParts, Lexeme, mark, words, mark_bytes, tokens_of}
 use Rattle.usfm_token.specs.Tokens.{AreLexemes}
 use Rattle.usfm_tree.specs.Forest.{Forest}
 use Rattle.usfm_tree.specs.Reading.{tree_of}
@@ -25,14 +25,15 @@ use Rattle.segment_check.specs.Findings.{findings}
 use Rattle.segment_check.specs.Laws.{FindingsAreRead}
 use Rattle.segment_check.specs.Reading.{State, key_then, seen_first, seen_rest, unseen, held_at}
 use Rattle.segment_check.specs.Reading.{state_after, holds_in, findings_with, found_from, found_in}
-use Rattle.segment_check.specs.Reading.{start_state, seen_of}
+use Rattle.segment_check.specs.Reading.{start_state, seen_of, seen_at}
+use Rattle.segment_check.specs.Sights.{sights_of}
 use Rattle.segment_check.specs.Loops.TreeViews.{seen_in}
 use Rattle.segment_check.specs.declared.code.Code.{Code}
 use Rattle.segment_check.specs.declared.code.Code.TheVariants as code
 use Rattle.segment_check.specs.declared.finding.Finding.{Finding}
 use Rattle.segment_check.specs.declared.seen.Seen.{Seen}
-use Rattle.segment_check.proofs.Threads.{Thread, left_after, Passes, passes, text_thread}
-use Rattle.segment_check.proofs.Threads.{tree_thread}
+use Rattle.segment_check.proofs.Threads.{Thread, after_first, Passes, passes, tree_thread}
+use Rattle.segment_check.proofs.Threads.{stands_among, among_is}
 use Rattle.segment_check.proofs.Openings.{mark_key-by, Reaching, force_then, great_then}
 use Rattle.segment_check.proofs.Openings.{reaching_then, not_rising_is, overlap_is}
 use Rattle.segment_check.proofs.Pieces.{Cuts, cuts_start, cuts_later, cuts_then, key_here}
@@ -49,31 +50,31 @@ module _ (sheet : List Record) (s : List ℕ) where
   found scene = found_at sheet tree (pieces_of s) scene
 
   -- what a state knows of the marks before, and of those of the tree that are left
-  record Knows (before : List Site) (at : ℕ) (st : State) (left : List Spot) (ts : List Lexeme) : Type 0 where
+  record Knows (before : List Site) (at : ℕ) (st : State) (left : List (Option Spot)) (ts : List Lexeme) : Type 0 where
     force : chapter_in_force 0 before ≡ st.key.chapter
     great : IsGreatest st.key (keyed_after 0 [] before)
     reaching : Reaching st.key st.reach before
-    seen : st.seen ≡ map (seen_of sheet) left
-    thread : Thread at (map slice_of ts) left
-    same : (p : ℕ) (test : Spot → Bool) → at ≤ p → stands_at tree p test ≡ stands_at left p test
+    seen : st.seen ≡ map (seen_at sheet) left
+    thread : Thread at ts left
+    same : (p : ℕ) (test : Spot → Bool) → at ≤ p → stands_at tree p test ≡ stands_among left p test
     cuts : Cuts (pieces_of s) st.key at at ts
 
   -- of a text nothing is said
-  knows_text : (before : List Site) (at : ℕ) (st : State) (left : List Spot) (t : List ℕ) (ts : List Lexeme) → AreLexemes (words t ∷ ts)
-      → Knows before at st left (words t ∷ ts) → Knows before (at + length t) st left ts
+  knows_text : (before : List Site) (at : ℕ) (st : State) (left : List (Option Spot)) (t : List ℕ) (ts : List Lexeme)
+      → AreLexemes (words t ∷ ts) → Knows before at st left (words t ∷ ts) → Knows before (at + length t) st left ts
   knows_text before at st left t ts each k = record {
     force = k.force;
     great = k.great;
     reaching = k.reaching;
     seen = k.seen;
-    thread = text_thread at t (map slice_of ts) left each.0 k.thread;
+    thread = k.thread;
     same = λ p test h. k.same p test (omega arith);
     cuts =
         cuts_later (pieces_of s) st.key at (at + length t) (at + length t) ts (omega arith)
         (cuts_then (pieces_of s) st.key at (words t) ts k.cuts);
   }
 
-  module _ (before : List Site) (at : ℕ) (st : State) (left : List Spot) (m : MarkParts) (ts : List Lexeme)
+  module _ (before : List Site) (at : ℕ) (st : State) (left : List (Option Spot)) (m : MarkParts) (ts : List Lexeme)
       (each : AreLexemes (mark m ∷ ts)) (k : Knows before at st left (mark m ∷ ts)) where
     abbrev site : Site
     site = record { at = at; parts = m; after = text_after ts }
@@ -82,37 +83,37 @@ module _ (sheet : List Record) (s : List ℕ) where
     scene = record { before = before; here = site }
 
     abbrev on : State
-    on = state_after st at m (text_after ts)
+    on = state_after st m (text_after ts)
 
     some : 0 < length (mark_bytes m)
     some = first_not_empty (mark m) ts each
 
-    pass : Passes sheet at (mark_bytes m) (map slice_of ts) left
-    pass = passes sheet at (mark_bytes m) (map slice_of ts) left some k.thread
+    pass : Passes sheet at m ts left
+    pass = passes sheet at m ts left some k.thread
 
     cut_on : Cuts (pieces_of s) on.key at (at + length (mark_bytes m)) ts
     cut_on =
         let F : Option KeyParts → Type 0 = λ o. Cuts (pieces_of s) (key_then st.key o) at (at + length (mark_bytes m)) ts in
         subst F (mark_key-by st.key.chapter m (text_after ts)) (cuts_then (pieces_of s) st.key at (mark m) ts k.cuts)
 
-    knows_mark : Knows (before ++ site ∷ []) (at + length (mark_bytes m)) on (left_after at left) ts
+    knows_mark : Knows (before ++ site ∷ []) (at + length (mark_bytes m)) on (after_first left) ts
     knows_mark = record {
       force = force_then before site st.key k.force k.great;
       great = great_then before site st.key k.force k.great;
       reaching = reaching_then before site st.key k.force k.great st.reach k.reaching;
-      seen = ap (seen_rest at) k.seen ∙ pass.rest;
+      seen = ap seen_rest k.seen ∙ pass.rest;
       thread = pass.thread;
       same = λ p test h. k.same p test (omega arith) ∙ pass.later p test (let n = some in omega (arith, n));
       cuts = cuts_later (pieces_of s) on.key at (at + length (mark_bytes m)) (at + length (mark_bytes m)) ts (omega arith) cut_on;
     }
 
     -- what is reported of the mark is what its tree says there
-    seen_here : (test : Spot → Bool) (field : Seen → Bool) → ((x : Spot) → field (seen_of sheet x) ≡ test x) → field (unseen at) ≡ false
-        → field (seen_first at st.seen) ≡ stands_at tree at test
+    seen_here : (test : Spot → Bool) (field : Seen → Bool) → ((x : Spot) → field (seen_of sheet x) ≡ test x) → field unseen ≡ false
+        → field (seen_first st.seen) ≡ stands_at tree at test
     seen_here test field is none =
-        ap (λ l. field (seen_first at l)) k.seen ∙ pass.first test field is none ∙ sym (k.same at test (omega arith))
+        ap (λ l. field (seen_first l)) k.seen ∙ pass.first test field is none ∙ sym (k.same at test (omega arith))
 
-    holds_is : (c : Code) → holds_in (held_at st at m (text_after ts)) c ≡ holds_of sheet tree scene c
+    holds_is : (c : Code) → holds_in (held_at st m (text_after ts)) c ≡ holds_of sheet tree scene c
     holds_is code.UnknownMarker = seen_here (unknown_marker sheet) (λ t. t.unknown_marker) (λ x. refl) refl
     holds_is code.StrayClose = seen_here stray_close (λ t. t.stray_close) (λ x. refl) refl
     holds_is code.UnclosedChar = seen_here unclosed_char (λ t. t.unclosed_char) (λ x. refl) refl
@@ -127,23 +128,24 @@ module _ (sheet : List Record) (s : List ℕ) where
     key_is : key_at (pieces_of s) at ≡ on.key
     key_is = key_here (pieces_of s) on.key at (at + length (mark_bytes m)) ts (let n = some in omega (arith, n)) cut_on
 
-    found_here : findings_with (held_at st at m (text_after ts)) at on.key ≡ found scene
+    found_here : findings_with (held_at st m (text_after ts)) at on.key ≡ found scene
     found_here =
         λ i. map (λ c. record { code = c; start = at; key = sym key_is i })
-        (filter_same (holds_in (held_at st at m (text_after ts))) (holds_of sheet tree scene) holds_is all_codes i)
+        (filter_same (holds_in (held_at st m (text_after ts))) (holds_of sheet tree scene) holds_is all_codes i)
 
-  found_is : (before : List Site) (at : ℕ) (st : State) (left : List Spot) (ts : List Lexeme) → AreLexemes ts → Knows before at st left ts
+  found_is : (before : List Site) (at : ℕ) (st : State) (left : List (Option Spot)) (ts : List Lexeme)
+      → AreLexemes ts → Knows before at st left ts
       → found_from st at ts ≡ flat_map found (scenes_after before (sites_from at ts))
   found_is before at st left [] each k = refl
   found_is before at st left (words t ∷ ts) each k =
       found_is before (at + length t) st left ts each.2 (knows_text before at st left t ts each k)
   found_is before at st left (mark m ∷ ts) each k =
       let site : Site = record { at = at; parts = m; after = text_after ts } in
-      let on = state_after st at m (text_after ts) in
+      let on = state_after st m (text_after ts) in
       let next = at + length (mark_bytes m) in
       ap (λ l. l ++ found_from on next ts) (found_here before at st left m ts each k)
       ∙ ap (λ l. found (record { before = before; here = site }) ++ l)
-      (found_is (before ++ site ∷ []) next on (left_after at left) ts each.2 (knows_mark before at st left m ts each k))
+      (found_is (before ++ site ∷ []) next on (after_first left) ts each.2 (knows_mark before at st left m ts each k))
 
   and_true : (b : Bool) → b && true ≡ b
   and_true true = refl
@@ -153,14 +155,18 @@ module _ (sheet : List Record) (s : List ℕ) where
   and_false true = refl
   and_false false = refl
 
-  knows_start : Knows [] 0 (start_state (map (seen_of sheet) tree)) tree (tokens_of s)
+  same_start : (p : ℕ) (test : Spot → Bool) → stands_at tree p test ≡ stands_among (sights_of sheet s) p test
+  unfolding spots_of sights_of
+  same_start p test = sym (among_is [] (tree_of (styles_in sheet) s) p test)
+
+  knows_start : Knows [] 0 (start_state (map (seen_at sheet) (sights_of sheet s))) (sights_of sheet s) (tokens_of s)
   knows_start = record {
     force = refl;
     great = λ k. and_true (key_below book_head k);
     reaching = λ c v h. and_false (0 == c);
     seen = refl;
     thread = tree_thread sheet s;
-    same = λ p test h. refl;
+    same = λ p test h. same_start p test;
     cuts = cuts_start s;
   }
 
@@ -168,12 +174,12 @@ module _ (sheet : List Record) (s : List ℕ) where
 pub findings_are_read : FindingsAreRead
 unfolding found_in findings scenes_of
 findings_are_read sheet s =
-    found_is sheet s [] 0 (start_state (map (seen_of sheet) (spots_of sheet s))) (spots_of sheet s) (tokens_of s) (each-tokens_of s)
+    found_is sheet s [] 0 (start_state (map (seen_at sheet) (sights_of sheet s))) (sights_of sheet s) (tokens_of s) (each-tokens_of s)
     (knows_start sheet s)
 
--- with what is reported of the tree, a reading of the text finds its findings
+-- with what is seen of its tree, a reading of the text finds its findings
 pub tree_findings : (sheet : List Record) (s : List ℕ) (f : Forest) (seen : List Seen) (list : List Finding)
     → f ≡ tree_of (styles_in sheet) s → seen ≡ seen_in sheet [] f → list ≡ found_in seen s → list ≡ findings sheet s
-unfolding spots_of
+unfolding sights_of
 tree_findings sheet s f seen list ef et h =
     h ∙ ap (λ t. found_in t s) (et ∙ ap (seen_in sheet []) ef) ∙ findings_are_read sheet s

@@ -12,8 +12,7 @@ use Rattle.std.proofs.lemmas.Slice.Eq.{bytes_eq-Decides}
 use Rattle.std.proofs.Math.Bool.{or-false}
 use Rattle.usfm_ref.specs.Keys.{KeyParts, chapter_head, place_cmp}
 use Rattle.usfm_ref.specs.Numbers.{chapter_in, verse_in}
-use Rattle.usfm_ref.specs.declared.key.Place.{Place}
-use Rattle.usfm_ref.specs.declared.key.Place.TheVariants.{Head, Verse}
+use Rattle.usfm_ref.specs.declared.key.Place.TheVariants.{Head}
 use Rattle.usfm_ref.specs.declared.number.VerseMark.{VerseMark}
 use Rattle.usfm_token.specs.Tokens.{MarkParts}
 use Rattle.verse_cut.specs.Keys.{key_below, verse_key, mark_key}

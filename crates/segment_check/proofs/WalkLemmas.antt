@@ -44,16 +44,16 @@ first_is next ts us e = subst (IsFirst next) (sym e) (first_before next us)
 
 -- at a mark the walk finds what the reading finds there, and goes on in the state after it
 pub mark_step : (st new : State) (n n' : ℕ) (m : MarkParts) (after : List ℕ) (ts all : List Lexeme) (found more whole : List Finding)
-    → all ≡ mark m ∷ ts → after ≡ text_after ts → n + length (mark_bytes m) ≡ n' → new ≡ state_after st n m after
-    → more ≡ found ++ findings_with (held_at st n m after) n (state_after st n m after).key → found ++ found_from st n all ≡ whole
+    → all ≡ mark m ∷ ts → after ≡ text_after ts → n + length (mark_bytes m) ≡ n' → new ≡ state_after st m after
+    → more ≡ found ++ findings_with (held_at st m after) n (state_after st m after).key → found ++ found_from st n all ≡ whole
     → more ++ found_from new n' ts ≡ whole
 mark_step st new n n' m after ts all found more whole front is place state add h =
-    let on : List ℕ → List Finding = λ a. findings_with (held_at st n m a) n (state_after st n m a).key in
+    let on : List ℕ → List Finding = λ a. findings_with (held_at st m a) n (state_after st m a).key in
     ap (λ l. l ++ found_from new n' ts) add
     ∙ append_assoc found (on after) (found_from new n' ts)
     ∙ ap (λ s. found ++ (on after ++ found_from s n' ts)) state
-    ∙ ap (λ k. found ++ (on after ++ found_from (state_after st n m after) k ts)) (sym place)
-    ∙ ap (λ a. found ++ (on a ++ found_from (state_after st n m a) (n + length (mark_bytes m)) ts)) is
+    ∙ ap (λ k. found ++ (on after ++ found_from (state_after st m after) k ts)) (sym place)
+    ∙ ap (λ a. found ++ (on a ++ found_from (state_after st m a) (n + length (mark_bytes m)) ts)) is
     ∙ ap (λ l. found ++ found_from st n l) (sym front)
     ∙ h
 

@@ -7,7 +7,8 @@ use Rattle.segment_check.specs.TreeConditions.{may_begin}
 use Rattle.sty_sheet.specs.Records.{Record}
 use Rattle.segment_check.specs.Spots.{Spot}
 use Rattle.segment_check.specs.Findings.{findings, spots_of}
-use Rattle.segment_check.specs.Reading.{found_in, seen_of}
+use Rattle.segment_check.specs.Reading.{found_in, seen_at}
+use Rattle.segment_check.specs.Sights.{sights_of}
 use Rattle.segment_check.specs.declared.code.Code.{Code}
 use Rattle.segment_check.specs.declared.code.Code.TheVariants as code
 
@@ -15,7 +16,7 @@ use Rattle.segment_check.specs.declared.code.Code.TheVariants as code
 abbrev pub FindingsAreRead : Type 0
 FindingsAreRead =
     (sheet : List Record) (s : List ℕ)
-    → found_in (map (seen_of sheet) (spots_of sheet s)) s ≡ findings sheet s
+    → found_in (map (seen_at sheet) (sights_of sheet s)) s ≡ findings sheet s
 
 -- the starts of findings never fall
 abbrev pub StartsNeverFall : Type 0

@@ -1,4 +1,5 @@
 pub mod Spots
+pub mod Sights
 pub mod Scenes
 pub mod TreeConditions
 pub mod NumberConditions

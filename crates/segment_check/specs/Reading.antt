@@ -25,7 +25,6 @@ use Rattle.segment_check.specs.declared.seen.Seen.{Seen}
 -- which of the conditions of the tree hold of a mark
 abbrev pub seen_of : List Record → Spot → Seen
 seen_of sheet spot = record {
-  start = spot.start;
   unknown_marker = unknown_marker sheet spot;
   stray_close = stray_close spot;
   unclosed_char = unclosed_char spot;
@@ -33,6 +32,23 @@ seen_of sheet spot = record {
   too_deep = too_deep sheet spot;
   not_under = not_under sheet spot;
 }
+
+-- none of them holds
+abbrev pub unseen : Seen
+unseen = record {
+  unknown_marker = false;
+  stray_close = false;
+  unclosed_char = false;
+  unclosed_note = false;
+  too_deep = false;
+  not_under = false;
+}
+
+-- which of them hold of a mark of a text, if it is one of the tree's; the closing mark of a node
+-- shows none
+abbrev pub seen_at : List Record → Option Spot → Seen
+seen_at sheet None = unseen
+seen_at sheet (Some spot) = seen_of sheet spot
 
 -- the last verse of a bridge, with its letter
 abbrev pub Last : Type 0
@@ -67,28 +83,15 @@ pub record State : Type 0 where
   pub reach : Option Last
   pub seen : List Seen
 
--- of a mark that begins at a place none of these conditions holds
-abbrev pub unseen : ℕ → Seen
-unseen start = record {
-  start = start;
-  unknown_marker = false;
-  stray_close = false;
-  unclosed_char = false;
-  unclosed_note = false;
-  too_deep = false;
-  not_under = false;
-}
+-- what a tree says of the mark in front: the first that is left, and else that nothing holds
+abbrev pub seen_first : List Seen → Seen
+seen_first [] = unseen
+seen_first (t ∷ ts) = t
 
--- what the tree says of the mark that begins at a place: the first that is left, if it is of that
--- place, and else that nothing holds
-abbrev pub seen_first : ℕ → List Seen → Seen
-seen_first at [] = unseen at
-seen_first at (t ∷ ts) = if t.start == at then t else unseen at
-
--- what the tree says of the marks after the one that begins at a place
-abbrev pub seen_rest : ℕ → List Seen → List Seen
-seen_rest at [] = []
-seen_rest at (t ∷ ts) = if t.start == at then ts else t ∷ ts
+-- what it says of the marks after that
+abbrev pub seen_rest : List Seen → List Seen
+seen_rest [] = []
+seen_rest (t ∷ ts) = ts
 
 -- whether a key is above the open piece's
 abbrev pub is_above : KeyParts → Option KeyParts → Bool
@@ -107,10 +110,10 @@ reach_with reach (Some v) = further reach v.last
 
 -- which conditions hold of a mark from a state on: those that the tree says, and those of its
 -- number
-abbrev pub held_at : State → ℕ → MarkParts → List ℕ → Held
-held_at st at m after =
+abbrev pub held_at : State → MarkParts → List ℕ → Held
+held_at st m after =
     let key = key_by st.key.chapter (mark_chapter m after) (mark_verse m after) in record {
-      seen = seen_first at st.seen;
+      seen = seen_first st.seen;
       bad_number = lacks_number m after;
       bad_bridge = has_bad_bridge m after;
       not_rising = is_some key && not (is_above st.key key);
@@ -119,12 +122,12 @@ held_at st at m after =
     }
 
 -- the state after a mark
-abbrev pub state_after : State → ℕ → MarkParts → List ℕ → State
-state_after st at m after =
+abbrev pub state_after : State → MarkParts → List ℕ → State
+state_after st m after =
     let key = key_by st.key.chapter (mark_chapter m after) (mark_verse m after) in record {
       key = key_then st.key key;
       reach = if is_above st.key key then reach_with st.reach (mark_verse m after) else st.reach;
-      seen = seen_rest at st.seen;
+      seen = seen_rest st.seen;
     }
 
 -- whether the condition of a code is among those that hold of a mark
@@ -152,7 +155,7 @@ finding_if holds c start key =
 
 -- what is found at a mark from a state on
 abbrev pub found_with : State → ℕ → MarkParts → List ℕ → List Finding
-found_with st at m after = findings_with (held_at st at m after) at (state_after st at m after).key
+found_with st at m after = findings_with (held_at st m after) at (state_after st m after).key
 
 -- what is found from a state on, at tokens from a place on
 abbrev pub found_from : State → ℕ → List Lexeme → List Finding
@@ -160,7 +163,7 @@ found_from st at [] = []
 found_from st at (words t ∷ ts) = found_from st (at + length t) ts
 found_from st at (mark m ∷ ts) =
     found_with st at m (text_after ts)
-    ++ found_from (state_after st at m (text_after ts)) (at + length (mark_bytes m)) ts
+    ++ found_from (state_after st m (text_after ts)) (at + length (mark_bytes m)) ts
 
 -- the state before all marks: the open piece is that of the book head, and no bridge was read
 abbrev pub start_state : List Seen → State

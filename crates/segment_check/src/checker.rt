@@ -4,7 +4,7 @@ ghost use Rattle.sty_sheet.specs.Views.{records_of};
 
 use crate::finding::Finding;
 use crate::marks::find_marks;
-use crate::tree::tell_tree;
+use crate::sighting::see_marks;
 use std::alloc::{AllocError, Global};
 use sty_sheet::Sheet;
 
@@ -17,7 +17,7 @@ use sty_sheet::Sheet;
 pub fn check(alloc: Global, text: &str, sheet: &Sheet<'_>) -> Result<Vec<Finding>, AllocError>
     ensures { IfOk result (λ list. list.items ≡ findings (records_of sheet.now) text.now) }
 {
-    let seen = tell_tree(alloc, text, sheet)?;
+    let seen = see_marks(alloc, text, sheet)?;
     let findings = find_marks(alloc, text, seen.as_slice())?;
     Ok(findings)
 }

@@ -18,6 +18,7 @@ pub mod laws;
 mod marks;
 mod numbers;
 mod seen;
+mod sighting;
 mod tree;
 
 pub use checker::check;

@@ -40,47 +40,33 @@ struct Walk<'t> {
     seen: &'t [Seen],
 }
 
-fn unseen(start: usize) -> Seen
-    ensures { result ≡ reading.unseen start }
-{
-    Seen {
-        start,
-        unknown_marker: false,
-        stray_close: false,
-        unclosed_char: false,
-        unclosed_note: false,
-        too_deep: false,
-        not_under: false,
-    }
-}
-
 impl Walk<'_> {
     ghost use Rattle.segment_check.specs.Reading.{state_after, found_with, held_at, seen_first, seen_rest};
     ghost use Rattle.segment_check.specs.Loops.WalkViews.{state_of};
 
-    // Takes what the tree says of the mark that begins here.
-    fn take_seen(&mut self, start: usize) -> Seen
-        ensures first { result ≡ seen_first start (state_of self.old).seen }
+    // Takes what the tree says of the next mark.
+    fn take_seen(&mut self) -> Seen
+        ensures first { result ≡ seen_first (state_of self.old).seen }
         ensures rest { let st = state_of self.old in
-            state_of self.new ≡ record st { seen = seen_rest start st.seen } }
+            state_of self.new ≡ record st { seen = seen_rest st.seen } }
     {
         match self.seen {
-            [seen, rest @ ..] if seen.start == start => {
+            [] => Seen::nothing(),
+            [seen, rest @ ..] => {
                 self.seen = rest;
                 *seen
             }
-            _ => unseen(start),
         }
     }
 
     // Takes a mark, and what comes after it.
-    fn take(&mut self, start: usize, mark: Mark<'_>, after: &str) -> Held
+    fn take(&mut self, mark: Mark<'_>, after: &str) -> Held
         ensures held { let st = state_of self.old in
-            result ≡ held_at st start (mark_parts mark.entry) after.now }
+            result ≡ held_at st (mark_parts mark.entry) after.now }
         ensures state_after { let st = state_of self.old in
-            state_of self.new ≡ state_after st start (mark_parts mark.entry) after.now }
+            state_of self.new ≡ state_after st (mark_parts mark.entry) after.now }
     {
-        let seen = self.take_seen(start);
+        let seen = self.take_seen();
         let verse = mark_verse(mark, after);
         let key = key_of(self.key.chapter, mark_chapter(mark, after), verse);
         let opens = is_above(self.key, key);
@@ -110,10 +96,9 @@ impl Walk<'_> {
             let found = found_with st start (mark_parts mark.entry) after.now in
             OnOk result (findings.new.items ≡ findings.old.items ++ found) }
         ensures state_after { let st = state_of self.old in
-            OnOk result (state_of self.new
-            ≡ state_after st start (mark_parts mark.entry) after.now) }
+            OnOk result (state_of self.new ≡ state_after st (mark_parts mark.entry) after.now) }
     {
-        let held = self.take(start, mark, after);
+        let held = self.take(mark, after);
         let key = self.key;
         push_held(findings, held, start, key)
     }

@@ -1,40 +1,23 @@
-//! What a tree says of its marks.
+//! What a tree says of a mark, by what is around it.
 
-ghost use Rattle.std.specs.Prelude.{◌≡◌, false, IfOk, OnOk};
+ghost use Rattle.std.specs.Prelude.{◌≡◌, List, Bool, false, true, None, Some};
 ghost use Rattle.std.specs.List.{list_any};
 ghost use Rattle.std.specs.Option.{option_map, option_map_or};
 ghost use Rattle.segment_check.specs.TreeConditions as conditions;
 ghost use Rattle.segment_check.specs.TreeConditions.{is_among, is_restricted_kind, under_words};
-ghost use Rattle.segment_check.specs.Loops.TreeViews.{Tells, allowed_names, inside_view};
-ghost use Rattle.segment_check.specs.Loops.TreeViews.{is_misplaced};
-ghost use Rattle.segment_check.specs.Loops.TreeViews.{kind_here};
-ghost use Rattle.segment_check.specs.Loops.TreeViews.{seen_by, seen_under};
-ghost use Rattle.sty_sheet.specs.Records.{has_word};
+ghost use Rattle.segment_check.specs.Loops.TreeViews.{Surroundings, allowed_names, inside_view};
+ghost use Rattle.segment_check.specs.Loops.TreeViews.{is_misplaced, seen_by};
+ghost use Rattle.sty_sheet.specs.Records.{Record, has_word, mark_style};
 ghost use Rattle.sty_sheet.specs.Views.{record_of, records_of};
+ghost use Rattle.usfm_token.specs.Tokens.{MarkParts};
 ghost use Rattle.usfm_token.specs.View.{mark_parts};
-ghost use Rattle.usfm_tree.specs.Reading.{marked, tree_of};
-ghost use Rattle.usfm_tree.specs.SheetViews.{style_view, styles_of};
-ghost use Rattle.usfm_tree.specs.Views.{view, forest_of};
+ghost use Rattle.usfm_tree.specs.Reading.{marked};
+ghost use Rattle.usfm_tree.specs.SheetViews.{style_view};
 
 use crate::inside::{Allowed, Inside};
 use crate::seen::Seen;
-use std::alloc::{AllocError, Global};
 use sty_sheet::{Sheet, Style, StyleKind};
 use usfm_token::Mark;
-use usfm_tree::{Node, TreeReader};
-
-// What the node at a mark is, None for a leaf.
-fn kind_of(node: &Node<'_>) -> Option<StyleKind>
-    ensures { result ≡ kind_here (view node.now) }
-{
-    match node {
-        Node::Text(_) | Node::Leaf(_) => None,
-        Node::Para(_) => Some(StyleKind::Paragraph),
-        Node::Char(_) => Some(StyleKind::Character),
-        Node::Note(_) => Some(StyleKind::Note),
-        Node::Milestone(_) => Some(StyleKind::Milestone),
-    }
-}
 
 // Whether a mark, not closing, of a style, which may have none, begins a node where there is room.
 fn begins_node(mark: Mark<'_>, style: Option<&Style<'_>>) -> bool
@@ -73,14 +56,12 @@ fn any_allows(sheet: &Sheet<'_>, name: &str, allowed: Allowed<'_>) -> bool
 }
 
 // Whether OccursUnder of a mark's style has words, none of which allows a node.
-fn forbids(sheet: &Sheet<'_>, name: &str, allowed: Allowed<'_>) -> bool
+fn forbids(sheet: &Sheet<'_>, name: &str, style: &Style<'_>, allowed: Allowed<'_>) -> bool
+    requires { mark_style (records_of sheet.now) name.now ≡ Some (record_of style.now) }
     ensures { let words = under_words (records_of sheet.now) name.now in
         result ≡ conditions.forbids words (allowed_names allowed.entry) }
 {
-    match sheet.style_of(name) {
-        None => false,
-        Some(style) => style.has_under_words() && !any_allows(sheet, name, allowed),
-    }
+    style.has_under_words() && !any_allows(sheet, name, allowed)
 }
 
 fn is_restricted(kind: StyleKind) -> bool
@@ -92,89 +73,74 @@ fn is_restricted(kind: StyleKind) -> bool
 // Whether OccursUnder of a mark's style does not allow a node of the kind.
 fn is_under_another(
     sheet: &Sheet<'_>,
-    mark: Mark<'_>,
-    kind: Option<StyleKind>,
     inside: Inside<'_>,
+    kind: StyleKind,
+    name: &str,
+    style: &Style<'_>,
 ) -> bool
-    ensures { let words = under_words (records_of sheet.now) (mark_parts mark.entry).name in
-        result ≡ option_map_or (is_misplaced words (inside_view inside.entry)) kind false }
+    requires { mark_style (records_of sheet.now) name.now ≡ Some (record_of style.now) }
+    ensures { let words = under_words (records_of sheet.now) name.now in
+        result ≡ is_misplaced words (inside_view inside.entry) kind }
 {
-    let Some(kind) = kind else {
-        return false;
-    };
-    is_restricted(kind) && forbids(sheet, mark.name(), inside.allowed(kind))
+    is_restricted(kind) && forbids(sheet, name, style, inside.allowed(kind))
 }
 
-// What is reported of a mark within nodes.
-fn tell_mark(
-    sheet: &Sheet<'_>,
-    inside: Inside<'_>,
-    start: usize,
-    mark: Mark<'_>,
-    kind: Option<StyleKind>,
-    is_closed: bool,
-) -> Seen
+// What is seen of a leaf.
+pub(crate) fn leaf_seen(sheet: &Sheet<'_>, inside: Inside<'_>, mark: Mark<'_>) -> Seen
     ensures { let here = inside_view inside.entry in
-        result ≡ seen_by (records_of sheet.now) here start (mark_parts mark.entry) kind is_closed }
+        result ≡ seen_by (records_of sheet.now) here (mark_parts mark.entry) None false }
 {
     let style = sheet.style_of(mark.name());
-    let is_leaf = kind.is_none();
-    let is_open = !is_closed;
     Seen {
-        start,
         unknown_marker: !mark.closing() && style.is_none(),
-        stray_close: is_leaf && mark.closing(),
-        unclosed_char: matches!(kind, Some(StyleKind::Character)) && is_open && !inside.in_note,
-        unclosed_note: matches!(kind, Some(StyleKind::Note)) && is_open,
-        too_deep: is_leaf && !mark.closing() && begins_node(mark, style) && inside.room == 0,
-        not_under: is_under_another(sheet, mark, kind, inside),
+        stray_close: mark.closing(),
+        too_deep: !mark.closing() && begins_node(mark, style) && inside.room == 0,
+        ..Seen::nothing()
     }
 }
 
-// Adds what holds of all marks of nodes that are side by side, in order.
-fn tell_nodes<'a>(
-    seen: &mut Vec<Seen>,
+// What is seen of a mark that begins a node, which does not end with a closing mark.
+pub(crate) fn node_seen(
     sheet: &Sheet<'_>,
-    inside: Inside<'a>,
-    nodes: &[Node<'a>],
-) -> Result<(), AllocError>
+    inside: Inside<'_>,
+    kind: StyleKind,
+    mark: Mark<'_>,
+    style: &Style<'_>,
+) -> Seen
+    requires { mark_style (records_of sheet.now) (mark_parts mark).name
+        ≡ Some (record_of style.now) }
     ensures { let here = inside_view inside.entry in
-        let tells = Tells (records_of sheet.now) here (forest_of nodes.now) in
-        OnOk result (tells seen.old.items seen.new.items) }
+        result ≡ seen_by (records_of sheet.now) here (mark_parts mark.entry) (Some kind) false }
 {
-    for node in nodes {
-        let Some(mark) = node.mark() else {
-            continue;
-        };
-        let kind = kind_of(node);
-        let is_closed = node.close().is_some();
-        seen.push(tell_mark(sheet, inside, node.start(), mark, kind, is_closed))?;
-        if let Some(kind) = kind {
-            tell_nodes(seen, sheet, inside.within(kind, mark.name()), node.kids())?;
-        }
+    Seen {
+        unclosed_char: matches!(kind, StyleKind::Character) && !inside.in_note,
+        unclosed_note: matches!(kind, StyleKind::Note),
+        not_under: is_under_another(sheet, inside, kind, mark.name(), style),
+        ..Seen::nothing()
     }
-    Ok(())
 }
 
-// What the tree of a text says of its marks, in order. No more of the tree is kept than a node
-// under the root.
-pub(crate) fn tell_tree(
-    alloc: Global,
-    text: &str,
-    sheet: &Sheet<'_>,
-) -> Result<Vec<Seen>, AllocError>
-    ensures { let tree = tree_of (styles_of sheet.now) text.now in
-        let due = seen_under (records_of sheet.now) tree in
-        IfOk result (λ seen. seen.items ≡ due) }
+// What is seen of it where the node does end with a closing mark.
+pub(crate) fn closed(seen: Seen) -> Seen
+    ensures { (sheet : List Record) (here : Surroundings) (m : MarkParts) (kind : StyleKind)
+        → seen ≡ seen_by sheet here m (Some kind) false
+        → result ≡ seen_by sheet here m (Some kind) true }
 {
-    let mut seen = Vec::new(alloc);
-    let mut reader = TreeReader::new(alloc, text, sheet);
-    loop {
-        let nodes = reader.next_nodes()?;
-        if nodes.is_empty() {
-            break;
-        }
-        tell_nodes(&mut seen, sheet, Inside::root(), nodes.as_slice())?;
+    Seen {
+        unclosed_char: false,
+        unclosed_note: false,
+        ..seen
     }
-    Ok(seen)
+}
+
+// What is seen of the mark of a milestone.
+pub(crate) fn milestone_seen(sheet: &Sheet<'_>, mark: Mark<'_>) -> Seen
+    ensures { (here : Surroundings) (is_closed : Bool)
+        → let kind = Some StyleKind.Milestone in
+        result ≡ seen_by (records_of sheet.now) here (mark_parts mark.entry) kind is_closed }
+{
+    Seen {
+        unknown_marker: !mark.closing() && sheet.style_of(mark.name()).is_none(),
+        ..Seen::nothing()
+    }
 }

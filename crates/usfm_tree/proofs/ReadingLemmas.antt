@@ -1,12 +1,12 @@
 -- The recursive reading, step by step, as a stack of open nodes sees it.
 use Rattle.sty_sheet.specs.declared.kind.StyleKind.{StyleKind}
 use Rattle.sty_sheet.specs.declared.kind.StyleKind.TheVariants as kinds
-use Rattle.std.proofs.Common.{◌≡◌, ℕ, zero, suc, ◌<◌, ◌≤◌, Bool, true, false, cond, List, [], ◌∷◌, length, Option, None, Some, sym, refl, ap, ◌∙◌, arith, lt-ltb, le-ltb}
-use Rattle.std.specs.Option.{option_map}
+use Rattle.std.proofs.Common.{◌≡◌, ℕ, zero, suc, ◌-◌, ◌<◌, ◌≤◌, Bool, true, false, cond, List, [], ◌∷◌, length, Option, None, Some, sym, refl, ap, ◌∙◌, arith, lt-ltb, le-ltb}
 use Rattle.std.specs.Prelude.{nat_lt, ◌==◌, is_some}
 use Rattle.usfm_token.specs.Tokens.{MarkParts, Lexeme, mark, words, tokens_of}
 use Rattle.usfm_tree.specs.Forest.{Forest, nothing, text, leaf, node, spanning, ◌then◌}
 use Rattle.usfm_tree.specs.Loops.Stack.{Frame, opens_of, ended_node, resume, Ends, Resumes, Enters, closing_mark}
+use Rattle.usfm_tree.specs.Loops.TakenViews.{left_of}
 use Rattle.usfm_tree.specs.Reading.{Styles, Placed, Role, plain, alone, spans, opens, closes, Open, ended, role, Closed, close_by, closed_by, take_close, Taken, take_bare, milestone_at, milestone_takes, Taken_none, bare, is_bare_close, Read, followed, spanned, opened, open_of, has_room, enter, kids, kids_of_list, placed, tree_of}
 
 -- P holds of a choice where it holds of both
@@ -343,3 +343,11 @@ finish_end styles sofar new_sofar (f ∷ fs) new_fs ends =
 -- at the end, with nothing open, all was read
 pub finish_done : (styles : Styles) (sofar : Forest) → resume styles sofar [] [] ≡ sofar
 finish_done styles sofar = ap (λ r. sofar then r.0) (kids-nil styles []) ∙ then-nothing sofar
+
+-- a text's tree is what is under the root from its front on
+pub whole_left : (styles : Styles) (source : List ℕ)
+    → (kids_of_list styles [] (left_of (length source) source)).0 ≡ tree_of styles source
+unfolding tree_of
+whole_left styles source =
+    let zero_is : length source - length source ≡ 0 = omega arith in
+    ap (λ k. (kids_of_list styles [] (placed k (tokens_of source))).0) zero_is

@@ -1,6 +1,8 @@
 -- What a token does to the open nodes of a walk.
 use Rattle.sty_sheet.specs.declared.kind.StyleKind.{StyleKind}
-use Rattle.std.proofs.Common.{◌≡◌, ℕ, ◌+◌, ◌<◌, ◌≤◌, cond, List, ◌∷◌, length, Option, None, Some, refl, sym, ap, ◌∙◌, add-one, lt-ltb, le-ltb}
+use Rattle.std.proofs.Common.{◌≡◌, ℕ, zero, suc, ◌+◌, ◌-◌, ◌<◌, ◌≤◌, cond, List, ◌∷◌, ◌++◌, length, take, drop, reverse, Option, None, Some, refl, sym, ap, ◌∙◌, ⊎_elim, arith, add-one, lt-ltb, le-ltb, length-drop}
+use Rattle.std.proofs.lemmas.List.{drop_at, take-append-drop, reverse-append, length-reverse, nil_from_length}
+use Rattle.std.proofs.str.Laws.{order}
 use Rattle.std.specs.Borrow.{Bor}
 use Rattle.std.specs.Option.{option_map}
 use Rattle.std.specs.Prelude.{is_some}
@@ -10,10 +12,12 @@ use Rattle.usfm_tree.specs.Reading.{Placed, plain, alone, spans, opens, closes, 
 use Rattle.usfm_tree.specs.Reading as reading
 use Rattle.usfm_tree.specs.Loops.RoleViews.{role_view}
 use Rattle.usfm_tree.specs.Loops.Stack.{closing_mark}
-use Rattle.usfm_tree.specs.StepViews.{Unwinds, placed_text}
+use Rattle.usfm_tree.specs.StepViews.{Unwinds, placed_text, entry_before}
 use Rattle.usfm_tree.specs.Loops.TakenViews.{left_of, optional_text}
 use Rattle.sty_sheet.specs.declared.kind.StyleKind.TheVariants as kinds
 use Rattle.usfm_tree.specs.declared.role.Role.{Role}
+use Rattle.usfm_tree.specs.declared.step.Entry.{Entry}
+use Rattle.usfm_tree.specs.declared.step.Entry.TheVariants as entries
 use Rattle.usfm_tree.proofs.EventLemmas.{ends_suc, left_text, left_alone, left_stray, left_deep, left_begin, left_deep_span, left_span, left_end}
 
 -- ---- the nodes that it ends
@@ -86,3 +90,44 @@ pub placed_is : (place : ℕ) (t : Option (Bor (List ℕ)))
     → placed_text (option_map (λ n. (place, n)) t) ≡ optional_text place (option_map (λ n. n.now) t)
 placed_is place None = refl
 placed_is place (Some n) = refl
+
+-- ---- fewer are left
+
+entry_shorter : (e : Entry) (later : List Event) → length later < length (entry_before e later)
+entry_shorter (entries.Text start t) later = omega arith
+entry_shorter (entries.Leaf m) later = omega arith
+entry_shorter (entries.Begin kind m style) later = omega arith
+entry_shorter (entries.Close m) later = omega arith
+entry_shorter (entries.Milestone m None close) later = omega arith
+entry_shorter (entries.Milestone m (Some t) close) later = omega arith
+
+ends_longer : (n : ℕ) (later : List Event) → length later ≤ length (ends_before n later)
+ends_longer zero later = omega arith
+ends_longer (suc n) later = let l = ends_longer n later in omega arith
+
+-- after a step less is left to be met
+pub step_shorter : (n : ℕ) (e : Entry) (later : List Event) → length later < length (ends_before n (entry_before e later))
+step_shorter n e later = let s = entry_shorter e later in let l = ends_longer n (entry_before e later) in omega arith
+
+-- ---- a stack without the nodes that end
+
+reverse_front : {A : Type 0} (n k : ℕ) (xs : List A) → k ≡ length xs - n → reverse (take k xs) ≡ drop n (reverse xs)
+reverse_front n k xs is = ⊎_elim below past (order n (length xs))
+  where
+    whole : reverse xs ≡ reverse (drop k xs) ++ reverse (take k xs)
+    whole = ap reverse (sym (take-append-drop k xs)) ∙ reverse-append (take k xs) (drop k xs)
+
+    back : length (reverse (drop k xs)) ≡ length xs - k
+    back = length-reverse (drop k xs) ∙ length-drop k xs
+
+    below : n < length xs → reverse (take k xs) ≡ drop n (reverse xs)
+    below lt = sym (ap (drop n) whole ∙ drop_at (reverse (drop k xs)) (reverse (take k xs)) n (omega (arith, back, is)))
+
+    past : length xs ≤ n → reverse (take k xs) ≡ drop n (reverse xs)
+    past le =
+        ap (λ j. reverse (take j xs)) (let zero_is : k ≡ 0 = omega (arith, is) in zero_is)
+        ∙ sym (nil_from_length (drop n (reverse xs)) (omega (arith, length-drop n (reverse xs), length-reverse xs)))
+
+-- a list without this many from its end, from the back
+pub reverse_take : {A : Type 0} (n : ℕ) (xs : List A) → reverse (take (length xs - n) xs) ≡ drop n (reverse xs)
+reverse_take n xs = reverse_front n (length xs - n) xs refl

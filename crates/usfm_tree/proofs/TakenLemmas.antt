@@ -2,8 +2,7 @@
 use Rattle.std.proofs.Common.{◌≡◌, ℕ, ◌-◌, ◌<◌, ◌≤◌, lt-ltb, le-ltb, Bool, true, false, cond, List, [], ◌∷◌, ◌++◌, length, Option, None, Some, sym, refl, ap, ◌∙◌, arith}
 use Rattle.std.specs.Prelude.{◌&&◌, not}
 use Rattle.std.specs.Str.{bytes_eq}
-use Rattle.usfm_token.specs.Tokens.{MarkParts, Lexeme, mark, words, mark_bytes, slice_of, joined, tokens_of}
-use Rattle.usfm_token.proofs.TokenLaws.{joined-tokens_of}
+use Rattle.usfm_token.specs.Tokens.{MarkParts, Lexeme, mark, words, mark_bytes, tokens_of}
 use Rattle.usfm_tree.proofs.SpanLemmas.{bytes_text, span_front}
 use Rattle.usfm_tree.specs.Forest.{Forest, nothing, text, leaf, spanning, bytes_of, close_bytes, span_bytes, ◌then◌}
 use Rattle.usfm_tree.specs.Reading.{Placed, placed, Taken, Taken_none, take_bare, milestone_takes, bare, is_bare_close, spans}

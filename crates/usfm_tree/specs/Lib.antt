@@ -1,4 +1,3 @@
-pub mod Ahead
 pub mod Around
 pub mod Events
 pub mod Forest

@@ -4,8 +4,7 @@
 //! closing mark ends the innermost node that it closes, and a milestone takes its attributes and
 //! `\*`. Whatever text comes, it has a tree: a mark that begins no node and a closing mark that
 //! closes none are leaves. So the leaves of each tree, marks, texts and closing marks in order,
-//! join to the text. A tree is read whole, or some nodes under the root at a time, or walked over
-//! without making nodes.
+//! join to the text. A tree is read whole, or walked over without making nodes.
 //!
 //! The USFM 3.0 documentation has paragraph markers without and character and note markers with
 //! closing markers, `+` for nested ones, and milestones. What an opening or a closing mark ends
@@ -23,7 +22,6 @@ mod read;
 mod reader;
 mod role;
 mod step;
-mod stream;
 mod taken;
 mod tree;
 mod unwind;
@@ -32,7 +30,6 @@ mod walk;
 pub use leaves::Leaves;
 pub use node::{Branch, Leaf, Node, Text};
 pub use step::{Entry, Step};
-pub use stream::TreeReader;
 pub use tree::Tree;
 pub use walk::TreeWalk;
 

@@ -259,30 +259,3 @@ fn an_empty_sheet_gives_leaves(rt: HostRuntime) -> Result<(), SheetFault> {
     check_leaves(&rt, &read_tree(rt.alloc(), "")?, "", 0);
     Ok(())
 }
-
-// That the reader gives the nodes of these bytes next.
-fn check_next(
-    rt: &impl Abort,
-    reader: &mut TreeReader<'_, '_>,
-    slices: &[&str],
-) -> Result<(), AllocError> {
-    let nodes = reader.next_nodes()?;
-    assert_eq!(rt; nodes.len(), slices.len());
-    for (node, slice) in nodes.iter().zip(slices) {
-        assert_eq!(rt; node.slice(), *slice);
-    }
-    Ok(())
-}
-
-#[test]
-fn reads_some_nodes_at_a_time(rt: HostRuntime) -> Result<(), SheetFault> {
-    let sheet = Sheet::read(rt.alloc(), SHEET)?;
-    let mut reader = TreeReader::new(rt.alloc(), "a\\p b\\f c\\p \\nd d", &sheet);
-    let rows: [&[&str]; 5] = [&["a"], &["\\p b\\f c"], &["\\p \\nd d"], &[], &[]];
-    for slices in rows {
-        if check_next(&rt, &mut reader, slices).is_err() {
-            return Err(SheetFault::Memory);
-        }
-    }
-    Ok(())
-}

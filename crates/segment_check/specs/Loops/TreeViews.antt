@@ -1,32 +1,27 @@
--- What a tree says of its marks, as a walk from the root down sees it.
+-- What a tree says of its marks, by what the nodes around them decide.
 use Rattle.sty_sheet.specs.declared.kind.StyleKind.{StyleKind}
 use Rattle.sty_sheet.specs.declared.kind.StyleKind.TheVariants as kinds
-use Rattle.std.specs.Prelude.{◌≡◌, ℕ, ◌-◌, ◌==◌, Bool, true, false, not, ◌&&◌, List, [], ◌∷◌, ◌++◌}
-use Rattle.std.specs.Prelude.{length, map, codes, Option, None, Some, find, if◌then◌else◌}
+use Rattle.std.specs.Prelude.{ℕ, ◌-◌, ◌==◌, Bool, true, false, not, ◌&&◌, List, [], ◌∷◌, ◌++◌}
+use Rattle.std.specs.Prelude.{length, map, codes, Option, None, Some, find}
+use Rattle.std.specs.Prelude.{if◌then◌else◌}
 use Rattle.std.specs.Option.{is_some, option_map, option_map_or, option_to_list}
 use Rattle.std.specs.List.{list_any}
 use Rattle.sty_sheet.specs.Records.{Record, mark_style}
 use Rattle.usfm_token.specs.Tokens.{MarkParts}
 use Rattle.usfm_tree.specs.Around.{Around}
-use Rattle.usfm_tree.specs.Forest.{Forest, nothing, text, leaf, node}
+use Rattle.usfm_tree.specs.Forest.{Forest}
 use Rattle.usfm_tree.specs.Reading.{is_character_kind, is_note_kind}
-use Rattle.segment_check.specs.Spots.{spots}
+use Rattle.segment_check.specs.Sights.{sights}
 use Rattle.segment_check.specs.TreeConditions.{is_note, is_paragraph, holds_characters}
-use Rattle.segment_check.specs.TreeConditions.{unknown_marker, stray_close, unclosed_char}
-use Rattle.segment_check.specs.TreeConditions.{unclosed_note, may_begin, too_deep, under_words}
-use Rattle.segment_check.specs.TreeConditions.{forbids, is_restricted_kind, not_under}
-use Rattle.segment_check.specs.Reading.{seen_of}
+use Rattle.segment_check.specs.TreeConditions.{may_begin, under_words, forbids, is_restricted_kind}
+use Rattle.segment_check.specs.Reading.{seen_at}
 use Rattle.segment_check.specs.declared.inside.Allowed.{Allowed}
 use Rattle.segment_check.specs.declared.inside.Inside.{Inside}
 use Rattle.segment_check.specs.declared.seen.Seen.{Seen}
 
--- what holds of each mark of entries within these nodes
+-- what holds of each mark within these nodes
 abbrev pub seen_in : List Record → List Around → Forest → List Seen
-seen_in sheet around f = map (seen_of sheet) (spots around f)
-
--- what holds of each mark of a tree
-abbrev pub seen_under : List Record → Forest → List Seen
-seen_under sheet tree = seen_in sheet [] tree
+seen_in sheet around f = map (seen_at sheet) (sights around f)
 
 -- what the nodes around a place decide: whether one is a note, how many nodes more may be inside,
 -- the name of the innermost if it is a character node, and those of the nearest paragraph or note
@@ -96,9 +91,8 @@ abbrev pub is_misplaced : List (List ℕ) → Surroundings → StyleKind → Boo
 is_misplaced words i kind = is_restricted_kind kind && forbids words (allowing kind i)
 
 -- which of the conditions of the tree hold of a mark, by what the nodes around it decide
-abbrev pub seen_by : List Record → Surroundings → ℕ → MarkParts → Option StyleKind → Bool → Seen
-seen_by sheet i start m kind is_closed = record {
-  start = start;
+abbrev pub seen_by : List Record → Surroundings → MarkParts → Option StyleKind → Bool → Seen
+seen_by sheet i m kind is_closed = record {
   unknown_marker = not m.closing && not (is_some (mark_style sheet m.name));
   stray_close = not (is_some kind) && m.closing;
   unclosed_char = option_map_or is_character_kind kind false && not is_closed && not i.in_note;
@@ -106,16 +100,3 @@ seen_by sheet i start m kind is_closed = record {
   too_deep = not (is_some kind) && may_begin sheet m && (i.room == 0);
   not_under = option_map_or (is_misplaced (under_words sheet m.name) i) kind false;
 }
-
--- within nodes that decide this, what holds of the marks of entries comes after what was said
--- before
-abbrev pub Tells : List Record → Surroundings → Forest → List Seen → List Seen → Type 0
-Tells sheet i f old new =
-    (around : List Around) → i ≡ surroundings_of around → new ≡ old ++ seen_in sheet around f
-
--- what the first entry begins, if it is a node
-abbrev pub kind_here : Forest → Option StyleKind
-kind_here nothing = None
-kind_here (text s t f) = None
-kind_here (leaf s m f) = None
-kind_here (node k s b m ks c f) = Some k

@@ -16,7 +16,8 @@ use Rattle.concordance.specs.Plain.{plain_leaves}
 use Rattle.concordance.specs.Loops.LeafViews.{passages_view, mark_before, waiting_of, enclosures}
 use Rattle.concordance.specs.Loops.LeafViews.{leaves_with}
 use Rattle.concordance.proofs.Gathers.{whole, all_end, events_fit, fit_after_ends, entry_fits}
-use Rattle.concordance.proofs.Gathers.{fit_after, step_shorter}
+use Rattle.usfm_tree.proofs.StepLemmas.{step_shorter}
+use Rattle.concordance.proofs.Gathers.{fit_after}
 use Rattle.concordance.proofs.Sites.{sites_read, texts_fit}
 use Rattle.concordance.proofs.plain.plain_leaves.Goals.{In-Some}
 use Rattle.concordance.proofs.plain.plain_leaves.Goals as goal

@@ -1,6 +1,6 @@
-use Rattle.std.proofs.Common.{◌≡◌, Bool, false, ◌&&◌, ◌||◌, List, ℕ, sym, ap, ◌∙◌}
+use Rattle.std.proofs.Common.{◌&&◌, ◌||◌, sym, ap, ◌∙◌}
 use Rattle.std.specs.Prelude.{codes}
-use Rattle.std.specs.Option.{option_map, option_map_or}
+use Rattle.std.specs.Option.{option_map}
 use Rattle.sty_sheet.specs.Records.{has_word}
 use Rattle.sty_sheet.specs.Views.{records_of}
 use Rattle.segment_check.specs.TreeConditions.{under_words}

@@ -2,7 +2,8 @@ use Rattle.std.proofs.Common.{◌≡◌, ◌-◌, ◌∙◌, ◌++◌, false, No
 use Rattle.std.proofs.Common.{length, arith}
 use Rattle.concordance.specs.Loops.Gathered.{gathered}
 use Rattle.concordance.specs.Loops.LeafViews.{passages_view, mark_before, waiting_of, enclosures}
-use Rattle.concordance.proofs.Gathers.{some_end, leaves_after, reverse_take}
+use Rattle.usfm_tree.proofs.StepLemmas.{reverse_take}
+use Rattle.concordance.proofs.Gathers.{some_end, leaves_after}
 use Rattle.concordance.proofs.plain.Gathering.end.Goals as goal
 
 pub returns-in_ok-settle : goal.returns-in_ok-settle

@@ -3,7 +3,7 @@ use Rattle.usfm_tree.specs.Events.{events_of, events_left}
 use Rattle.usfm_tree.specs.Loops.ReaderViews.{opens_in}
 use Rattle.usfm_tree.specs.SheetViews.{styles_of}
 use Rattle.usfm_tree.specs.Loops.TakenViews.{left_of}
-use Rattle.usfm_tree.proofs.AheadLemmas.{whole_left}
+use Rattle.usfm_tree.proofs.ReadingLemmas.{whole_left}
 use Rattle.usfm_tree.proofs.walk.TreeWalk.new.Goals as goal
 
 pub returns-clause-events : goal.returns-clause-events
