@@ -177,15 +177,42 @@ pub(crate) fn name_of<'a>(names: &'a [Named], book: Book) -> Option<&'a str>
     None
 }
 
+// Why it is not known which file is a book's, and what is to be named.
+#[derive(Clone, Copy, Debug, Drop)]
+pub(crate) struct Unclear {
+    place: Place,
+    fault: FolderFault,
+}
+
+// A second file of a book, beside the book's other file.
+fn second_of(at: usize, other: usize) -> Unclear
+    ensures { result ≡ which.second_of at other }
+{
+    Unclear {
+        place: Place::File(at),
+        fault: FolderFault::SecondOf(other),
+    }
+}
+
+// What stands under the name of a book's file and is no longer that.
+fn changed_at(place: Place) -> Unclear
+    ensures { result ≡ which.changed_at place }
+{
+    Unclear {
+        place,
+        fault: FolderFault::FileChanged,
+    }
+}
+
 // What is refused of a folder in which it is not known which file is a book's: there are two; or
 // under the name of a book's file stands what is no longer that book's, so that its text would be
 // lost from sight and the book written anew beside it.
-fn unclear(seen: &Seen<'_>, files: &[BookFile<'_>]) -> Option<Place>
+fn unclear(seen: &Seen<'_>, files: &[BookFile<'_>]) -> Option<Unclear>
     ensures { result ≡ which.unclear (seen_view seen.now) (which.files_view files.now) }
 {
     match second_file(seen.names, files) {
-        Some(at) => Some(Place::File(at)),
-        None => lost(seen, files),
+        Some(second) => Some(second),
+        None => lost(seen, files).map(changed_at),
     }
 }
 
@@ -196,21 +223,24 @@ pub(crate) fn clear_files<'a>(alloc: Global, seen: &Seen<'a>) -> Result<Vec<Book
 {
     let files = book_files(alloc, seen)?;
     match unclear(seen, &files) {
-        Some(place) => Err(Refusal::Of(place, FolderFault::FileChanged)),
+        Some(Unclear { place, fault }) => Err(Refusal::Of(place, fault)),
         None => Ok(files),
     }
 }
 
-// The place of the first second file of a book: of the one that is not written down as the book's,
-// and of two that are not, of the later one.
-fn second_file(names: &[Named], files: &[BookFile<'_>]) -> Option<usize>
+// The first second file of a book: the one that is not written down as the book's, and of two that
+// are not, the later one.
+fn second_file(names: &[Named], files: &[BookFile<'_>]) -> Option<Unclear>
     ensures { result ≡ which.second_file (map named_view names.now) (which.files_view files.now) }
 {
     let mut left = files;
     'files: while let [file, later @ ..] = left {
         if let Some(other) = file_of(later, file.book) {
-            let is_known = is_name(name_of(names, file.book), other.name);
-            return Some(if is_known { file.at } else { other.at });
+            return Some(if is_name(name_of(names, file.book), other.name) {
+                second_of(file.at, other.at)
+            } else {
+                second_of(other.at, file.at)
+            });
         }
         left = later;
     }

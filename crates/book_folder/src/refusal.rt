@@ -47,10 +47,12 @@ pub enum FolderFault {
     /// A file is not UTF-8 after this many bytes.
     #[error("not UTF-8 after {0} bytes")]
     NotText(usize),
-    /// A file was changed since the program wrote it, is a second one of its book, or is no longer
-    /// its book's.
+    /// A file was changed since the program wrote it, or is no longer its book's.
     #[error("the file was changed since it was written")]
     FileChanged,
+    /// A file is a second one of its book, of which the file of this place is another one.
+    #[error("the folder has another file of the same book")]
+    SecondOf(usize),
     /// Of this many segments that have a text in what the file was written from, the file has none.
     #[error("{0} texts are gone from the file")]
     Emptied(usize),

@@ -84,6 +84,7 @@ no_bundle _ = say.NO_BUNDLE.now
 -- of a bundle's fault, by what the file was to be
 abbrev pub of_bytes : BundleFault → Expected → Found → List ℕ
 of_bytes _ expected.Project _ = say.DAMAGED_PROJECT.now
+of_bytes _ expected.Kept _ = say.DAMAGED_BASE.now
 of_bytes bundle.Magic _ stands = no_bundle stands
 of_bytes fault _ _ = of_bundle fault
 
@@ -142,27 +143,40 @@ unwritten _ _ = say.FILE_FAILED.now
 -- of what follows a bundle
 abbrev pub trailing : Expected → List ℕ
 trailing expected.Project = say.DAMAGED_PROJECT.now
+trailing expected.Kept = say.DAMAGED_BASE.now
 trailing _ = say.TRAILING.now
+
+-- of a word that is to be, or to hold, a book's code
+abbrev pub no_code : Expected → List ℕ
+no_code expected.NewName = say.NO_FORM.now
+no_code _ = say.NO_CODE.now
+
+-- of a file of a folder that would lose text: of a second one of a book another one
+abbrev pub changed : Expected → List ℕ
+changed expected.OneOfTwo = say.SECOND_FILE.now
+changed _ = say.FILE_CHANGED.now
 
 -- the sentences of a fault, by what its file was to be and what stands there
 abbrev pub sentences : Fault → Expected → Found → List ℕ
 sentences (Bundle fault) role stands = of_bytes fault role stands
 sentences Trailing role _ = trailing role
+sentences (Reference BadBook) role _ = no_code role
 sentences (NotText valid) role stands = of_file (NotText valid) role stands
 sentences NoId role stands = of_file NoId role stands
 sentences BadProject _ stands = no_project stands
 sentences BadSummary _ stands = no_summary stands
 sentences ReadFailed role stands = unread role stands
 sentences FileFailed role stands = unwritten role stands
+sentences FileChanged role _ = changed role
 sentences fault _ _ = general fault
 
--- of what is no book's code, by the book that is meant
-abbrev pub of_code : Option (List ℕ) → List ℕ
-of_code (Some book) = say.IN_CAPITALS.now ++ book ++ 10 ∷ []
-of_code None = say.NO_CODE.now ++ 10 ∷ []
+-- of what is no book's code, by the book that is meant, or else by what it was to be
+abbrev pub of_code : Option (List ℕ) → Expected → List ℕ
+of_code (Some book) _ = say.IN_CAPITALS.now ++ book ++ 10 ∷ []
+of_code None role = no_code role ++ 10 ∷ []
 
 -- the lines that a person reads of a fault: of a book's code in small letters the code in
 -- capitals, else the sentences
 abbrev pub explained : Fault → Circumstances → List ℕ
-explained (Reference BadBook) known = of_code known.meant
+explained (Reference BadBook) known = of_code known.meant known.expected
 explained fault known = sentences fault known.expected known.found ++ 10 ∷ []

@@ -6,7 +6,6 @@ use crate::rights::look_at;
 use crate::telling::{say, say_of};
 use crate::turns::{read_files, refusal_in};
 use book_folder::{Found, Named, Seen, Unsettled, book_begun, may_be_book, read_names};
-use bundle_codec::{BundleFault, WholeFault, decode_whole};
 use std::alloc::AllocError;
 use std::fs::Metadata;
 use usfm_cli::{Fault, NO_BOOK_FILE, TEXT_NAME, is_text_name};
@@ -25,8 +24,6 @@ pub(crate) const OLDER: [&str; 3] = ["base.1", "base.2", "base.3"];
 
 // How the name ends under which a file is written that is put in the place of another one then.
 pub(crate) const MADE_END: &str = ".made";
-
-const BUNDLE_END: &str = ".bundle";
 
 // A file of more bytes is no book's: it is not read.
 const MOST_BYTES: u64 = 16_777_216;
@@ -319,7 +316,7 @@ fn read_base(
 }
 
 // The bytes of a plain file. What else stands there is skipped, and said.
-fn read_plain(
+pub(crate) fn read_plain(
     rt: &HostRuntime,
     folder: &Folder,
     name: &str,
@@ -351,45 +348,6 @@ pub(crate) fn read_given(rt: &HostRuntime, names: Vec<String>) -> Result<Given, 
         names,
         own: None,
     })
-}
-
-// Reads the bundles of a box, in the order of their names, but for a copy's own where it is what
-// the project has. One that is none, or is cut, is skipped and said.
-pub(crate) fn read_box(
-    rt: &HostRuntime,
-    folder: &Folder,
-    own: &str,
-    bundle: &[u8],
-    given: &mut Given,
-) -> Result<(), Refusal> {
-    for name in folder.names(rt, true)? {
-        let is_hidden = name.starts_with('.') || name.contains('\n');
-        if is_hidden || !name.ends_with(BUNDLE_END) {
-            continue;
-        }
-        let Some(bytes) = read_plain(rt, folder, &name, 1, true)? else {
-            continue;
-        };
-        let is_own = name.as_str() == own;
-        if is_own && bytes.as_slice() == bundle {
-            continue;
-        }
-        let path = folder.name_of(rt, &name)?;
-        match decode_whole(rt.alloc(), &bytes).map(|_| ()) {
-            Ok(()) => {
-                if is_own {
-                    given.own = Some(given.bundles.len());
-                }
-                given.bundles.push(bytes).map_err(Fault::from)?;
-                given.names.push(path).map_err(Fault::from)?;
-            }
-            Err(WholeFault::Bundle(BundleFault::Memory)) => {
-                return Err(Refusal::from(Fault::Memory));
-            }
-            Err(_) => say_skipped(rt, true, &path, ": it is no bundle, or only a part of one"),
-        }
-    }
-    Ok(())
 }
 
 // Says that a file is skipped, and why, where it is to be said.

@@ -18,6 +18,8 @@ pub(crate) struct RefusedFile {
     // Whether the line names no other file that it could be: then it is said only with what the
     // fault means.
     pub(crate) is_alone: bool,
+    // The other one of two files that cannot stand beside each other.
+    pub(crate) beside: Option<String>,
 }
 
 impl From<Fault> for Refusal {
@@ -49,11 +51,20 @@ impl Refusal {
             name,
             expected,
             is_alone: false,
+            beside: None,
         };
         Refusal {
             fault,
             file: Some(file),
         }
+    }
+
+    // The same, with the other one of two files, if there are two.
+    pub(crate) fn beside(mut self, other: Option<String>) -> Refusal {
+        if let Some(file) = &mut self.file {
+            file.beside = other;
+        }
+        self
     }
 
     // The refusal of the one file that the line names for this.
@@ -73,6 +84,7 @@ impl Refusal {
                 name,
                 expected,
                 is_alone,
+                beside: None,
             }),
             Err(_) => None,
         };

@@ -250,28 +250,40 @@ fn say_headless(rt: &HostRuntime, book: Book) {
 
 // Why a plan is refused, and what is named.
 pub(crate) fn refusal_of(what: What<'_>, read: &Read, refusal: book_folder::Refusal) -> Refusal {
-    let place = match refusal {
-        book_folder::Refusal::Memory => None,
-        book_folder::Refusal::Of(place, _) => Some(place),
-    };
     let fault = fault_of(refusal);
-    match place {
-        None => Refusal::from(fault),
-        Some(Place::Project) => Refusal::of_project(what.rt, fault, what.path),
-        Some(place) => match name_of(what, read, place) {
-            Ok(Some(name)) => Refusal::named(fault, name, expected_at(place)),
+    match refusal {
+        book_folder::Refusal::Memory => Refusal::from(fault),
+        book_folder::Refusal::Of(Place::Project, _) => {
+            Refusal::of_project(what.rt, fault, what.path)
+        }
+        book_folder::Refusal::Of(place, why) => match name_of(what, read, place) {
+            Ok(Some(name)) => {
+                let other = other_of(what, read, why);
+                Refusal::named(fault, name, expected_of(place, why)).beside(other)
+            }
             _ => Refusal::from(fault),
         },
     }
 }
 
-// What stands at a place is to be.
-fn expected_at(place: Place) -> Expected {
-    match place {
-        Place::Project => Expected::Project,
-        Place::Base(_) | Place::Next | Place::Older(_) | Place::Bundle(_) => Expected::Bundle,
-        Place::File(_) => Expected::BookFile,
-        Place::Other(_) | Place::Form => Expected::Unknown,
+// What the thing was to be that is refused for this.
+fn expected_of(place: Place, why: FolderFault) -> Expected {
+    match (place, why) {
+        (_, FolderFault::SecondOf(_)) => Expected::OneOfTwo,
+        (Place::Project, _) => Expected::Project,
+        (Place::Base(_) | Place::Next | Place::Older(_), _) => Expected::Kept,
+        (Place::Bundle(_), _) => Expected::Bundle,
+        (Place::File(_), _) => Expected::BookFile,
+        (Place::Other(_), _) => Expected::Unknown,
+        (Place::Form, _) => Expected::NewName,
+    }
+}
+
+// The name of the book's other file, of a second one.
+fn other_of(what: What<'_>, read: &Read, why: FolderFault) -> Option<String> {
+    match why {
+        FolderFault::SecondOf(at) => name_of(what, read, Place::File(at)).unwrap_or(None),
+        _ => None,
     }
 }
 
@@ -309,7 +321,7 @@ pub(crate) fn fault_of(refusal: book_folder::Refusal) -> Fault {
         FolderFault::Bundle(fault) => Fault::from(fault),
         FolderFault::Clash(id) => Fault::Clash(id),
         FolderFault::NotText(valid) => Fault::NotText { valid },
-        FolderFault::FileChanged => Fault::FileChanged,
+        FolderFault::FileChanged | FolderFault::SecondOf(_) => Fault::FileChanged,
         FolderFault::Emptied(count) => Fault::Emptied {
             count: count as u64,
         },

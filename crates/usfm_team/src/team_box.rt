@@ -1,12 +1,18 @@
 // A folder in which the copies of a team leave their bundles.
-use crate::files::{Folder, Found, is_still, make_file, open_plain, sync_file, write_made};
-use crate::reading::{Given, read_box};
+use crate::files::{
+    Folder, Found, is_still, make_file, open_plain, remove_if_there, sync_file, write_made,
+};
+use crate::reading::{Given, read_plain};
 use crate::refusal::Refusal;
 use crate::rights::keep_rights;
 use crate::sync::open_folder;
+use crate::telling::say_of;
+use bundle_codec::{BundleFault, WholeFault, decode_whole};
 use project_file::judge;
 use std::fs;
 use usfm_cli::Fault;
+
+const BUNDLE_END: &str = ".bundle";
 
 // A box, which each copy reads, and in which it writes its own bundle.
 #[derive(Drop)]
@@ -35,6 +41,81 @@ pub(crate) fn open_box(
     Ok(TeamBox { folder, own })
 }
 
+// Reads the bundles of a box, in the order of their names, but for a copy's own where it is what
+// the project has.
+fn read_box(
+    rt: &HostRuntime,
+    folder: &Folder,
+    own: &str,
+    bundle: &[u8],
+    given: &mut Given,
+) -> Result<(), Refusal> {
+    for name in folder.names(rt, true)? {
+        let is_hidden = name.starts_with('.') || name.contains('\n');
+        if is_hidden || !name.ends_with(BUNDLE_END) {
+            continue;
+        }
+        let is_own = name.as_str() == own;
+        let Some(bytes) = read_bundle(rt, folder, &name, is_own)? else {
+            continue;
+        };
+        if !is_own || bytes.as_slice() != bundle {
+            push_bundle(rt, folder, &name, is_own, bytes, given)?;
+        }
+    }
+    Ok(())
+}
+
+// The bytes of a bundle of a box. Another copy's that cannot be read is skipped and said: it keeps
+// nobody from the others. The copy's own is to be replaced, and so is refused.
+fn read_bundle(
+    rt: &HostRuntime,
+    folder: &Folder,
+    name: &str,
+    is_own: bool,
+) -> Result<Option<Vec<u8>>, Refusal> {
+    match read_plain(rt, folder, name, 1, true) {
+        Err(refusal) if !is_own && !matches!(refusal.fault, Fault::Memory) => {
+            let path = folder.name_of(rt, name)?;
+            say_of(rt, "skipped ", &path, ": it cannot be read, or is too long");
+            Ok(None)
+        }
+        read => read,
+    }
+}
+
+// Adds a bundle of a box to those that are given. What is none, or is cut, is skipped and said.
+fn push_bundle(
+    rt: &HostRuntime,
+    folder: &Folder,
+    name: &str,
+    is_own: bool,
+    bytes: Vec<u8>,
+    given: &mut Given,
+) -> Result<(), Refusal> {
+    let path = folder.name_of(rt, name)?;
+    match decode_whole(rt.alloc(), &bytes).map(|_| ()) {
+        Ok(()) => {
+            if is_own {
+                given.own = Some(given.bundles.len());
+            }
+            given.bundles.push(bytes).map_err(Fault::from)?;
+            given.names.push(path).map_err(Fault::from)?;
+            Ok(())
+        }
+        Err(WholeFault::Bundle(BundleFault::Memory)) => Err(Refusal::from(Fault::Memory)),
+        Err(_) => {
+            say_of(
+                rt,
+                "skipped ",
+                &path,
+                ": it is no bundle, or only a part of one",
+            );
+            Ok(())
+        }
+    }
+}
+
 impl TeamBox {
     // Puts all that a project has into the box, as its copy's own bundle.
     pub(crate) fn put(&self, rt: &HostRuntime, project: &[u8]) -> Result<(), Refusal> {
@@ -52,13 +133,23 @@ impl TeamBox {
         let new = self
             .folder
             .way_to(rt, &format!(in rt.alloc(); ".{own}.new")?)?;
-        let made = make_file(rt, &new)?;
-        if let Ok(Found::Plain(old)) = open_plain(rt, &path) {
+        let put = self.put_by(rt, &new, &path, bundle);
+        if put.is_err() {
+            // What a full disk could not hold whole would keep the others from writing theirs.
+            let _ = remove_if_there(rt, &new);
+        }
+        put
+    }
+
+    // Writes a bundle under a name of its own, and gives it the other one then.
+    fn put_by(&self, rt: &HostRuntime, new: &str, path: &str, bundle: &[u8]) -> Result<(), Fault> {
+        let made = make_file(rt, new)?;
+        if let Ok(Found::Plain(old)) = open_plain(rt, path) {
             keep_rights(rt, &old, &made)?;
         }
         write_made(&made, bundle)?;
         sync_file(&made)?;
-        fs::rename(rt, new.as_str(), path.as_str()).map_err(|_| Fault::FileFailed)?;
+        fs::rename(rt, new, path).map_err(|_| Fault::FileFailed)?;
         self.folder.sync()
     }
 }

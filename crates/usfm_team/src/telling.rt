@@ -24,6 +24,9 @@ pub(crate) fn tell_refusal(rt: &HostRuntime, refusal: &Refusal, explains: bool) 
             say_of(rt, "in ", &file.name, "");
         }
         if explains {
+            if let Some(other) = &file.beside {
+                say_of(rt, "beside ", other, "");
+            }
             known.expected = file.expected;
             known.found = look(rt, &file.name);
         }

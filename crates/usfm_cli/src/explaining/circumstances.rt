@@ -21,6 +21,12 @@ pub enum Expected {
     Bundle,
     /// The file of a book.
     BookFile,
+    /// The one file of a book in a folder, which has another one of it.
+    OneOfTwo,
+    /// What the program keeps of a folder: what the files in it were written from.
+    Kept,
+    /// A name that says how the files of books are to be named.
+    NewName,
     /// A summary.
     Summary,
     /// A style sheet.

@@ -6,12 +6,13 @@ use crate::explaining::circumstances::{Circumstances, Expected, Found};
 use crate::explaining::sentences::{
     BAD_ID, BAD_KEY, BAD_NAME, BAD_OPERATION, BAD_REPLACED, BAD_SEGMENT, BAD_STYLE_TYPE, BAD_TAG,
     BAD_TEXT, BOOK_NOT_BUNDLE, BOOK_NOT_PROJECT, BUNDLE_NOT_BOOK, BUNDLE_NOT_PROJECT,
-    BUNDLE_NOT_SUMMARY, CLASH, DAMAGED_PROJECT, EMPTIED, EMPTY_MARKER, EMPTY_NEEDLE,
+    BUNDLE_NOT_SUMMARY, CLASH, DAMAGED_BASE, DAMAGED_PROJECT, EMPTIED, EMPTY_MARKER, EMPTY_NEEDLE,
     FIELD_BEFORE_MARKER, FILE_CHANGED, FILE_FAILED, IN_CAPITALS, IS_FILE, IS_FOLDER, IS_THERE,
-    MEMORY, NO_BOOK, NO_BUNDLE, NO_CODE, NO_FOLDER_THERE, NO_ID, NO_PROJECT, NO_PROJECT_THERE,
-    NO_REFERENCE, NO_SUMMARY, NOT_RISING, NOT_SHOWN, NOT_TEXT, NOTHING_THERE, NUMBERS_USED_UP,
-    PROJECT_NOT_BUNDLE, READ_FAILED, SUMMARY_NOT_BUNDLE, SUMMARY_NOT_PROJECT, TEXT_NOT_UTF8,
-    TOO_LONG, TRAILING, TRUNCATED, UNDONE, UNLIKE, UNSUPPORTED, WRITE_FAILED,
+    MEMORY, NO_BOOK, NO_BUNDLE, NO_CODE, NO_FOLDER_THERE, NO_FORM, NO_ID, NO_PROJECT,
+    NO_PROJECT_THERE, NO_REFERENCE, NO_SUMMARY, NOT_RISING, NOT_SHOWN, NOT_TEXT, NOTHING_THERE,
+    NUMBERS_USED_UP, PROJECT_NOT_BUNDLE, READ_FAILED, SECOND_FILE, SUMMARY_NOT_BUNDLE,
+    SUMMARY_NOT_PROJECT, TEXT_NOT_UTF8, TOO_LONG, TRAILING, TRUNCATED, UNDONE, UNLIKE, UNSUPPORTED,
+    WRITE_FAILED,
 };
 use crate::fault::Fault;
 use bundle_codec::BundleFault;
@@ -112,7 +113,12 @@ fn sentences(fault: &Fault, expected: Expected, found: Found) -> &'static str
         Fault::Bundle(inner) => of_bytes(inner, expected, found),
         Fault::Trailing => match expected {
             Expected::Project => DAMAGED_PROJECT,
+            Expected::Kept => DAMAGED_BASE,
             _ => TRAILING,
+        },
+        Fault::Reference(RefFault::BadBook) => match expected {
+            Expected::NewName => NO_FORM,
+            _ => NO_CODE,
         },
         Fault::NotText { valid: _ } | Fault::NoId => match expected {
             Expected::BookFile => no_book(fault, found),
@@ -125,6 +131,10 @@ fn sentences(fault: &Fault, expected: Expected, found: Found) -> &'static str
             Expected::NewProject => not_begun(found),
             _ => FILE_FAILED,
         },
+        Fault::FileChanged => match expected {
+            Expected::OneOfTwo => SECOND_FILE,
+            _ => FILE_CHANGED,
+        },
         _ => general_sentences(fault),
     }
 }
@@ -134,6 +144,7 @@ fn of_bytes(fault: &BundleFault, expected: Expected, found: Found) -> &'static s
 {
     match expected {
         Expected::Project => DAMAGED_PROJECT,
+        Expected::Kept => DAMAGED_BASE,
         _ => match fault {
             BundleFault::Magic => no_bundle(found),
             _ => of_bundle(fault),

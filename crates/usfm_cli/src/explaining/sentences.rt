@@ -14,6 +14,11 @@ pub(crate) const NO_CODE: &str = "\
 This is not a book's code, in the command or after \\id in a file.
 A code is three of A to Z and 0 to 9, such as MAT: 'MAT 1:1', or \\id MAT.";
 
+pub(crate) const NO_FORM: &str = "\
+This name does not say how the files of books are to be named.
+Give the name of one book's file, such as MRK.usfm or 42MRKana.SFM: its code,
+alone or after the two digits that Paratext has for the book, and an ending.";
+
 pub(crate) const IN_CAPITALS: &str = "\
 The code of a book is written in capitals.
 Write it so: ";
@@ -79,6 +84,11 @@ Make a bundle for its sender: usfm_team delta PROJECT SUMMARY > BUNDLE";
 pub(crate) const TRUNCATED: &str = "\
 The bundle is truncated: its end is missing.
 Have it sent again.";
+
+pub(crate) const DAMAGED_BASE: &str = "\
+What the program keeps of this folder is damaged.
+Move this file away, and sync: a file that then differs from the project's
+book is refused (131).";
 
 pub(crate) const NOT_RISING: &str = "\
 The bundle is damaged: this operation's id is not above the one before.
@@ -188,7 +198,8 @@ Check the name, and which folder you are in. `init` begins a project.";
 
 pub(crate) const NO_FOLDER_THERE: &str = "\
 There is no folder of this name.
-Check the name, or make the folder first with `mkdir`.";
+Check the name, and that a stick or server is connected; or make the folder
+with `mkdir`.";
 
 pub(crate) const TOO_LONG: &str = "\
 The file has more than 268,435,456 bytes, the most that can be read.
@@ -205,10 +216,15 @@ Go on with that project, or begin one under another name.";
 
 pub(crate) const FILE_CHANGED: &str = "\
 A file of the folder would lose text.
-After `export`, try `sync`, which takes in changes. If two files are of one
-book, move one away. If a book's file does not begin with \\id and its code,
-or is not UTF-8, correct it. Else move the file away, sync, and make its
-changes in the new file; or `import` it, to have it replace all of the book.";
+After `export`, try `sync`, which takes in changes. If a book's file does not
+begin with \\id and its code, or is not UTF-8, correct it. Else move the file
+away, sync, and make its changes in the new file; or `import` it, to have it
+replace all of the book.";
+
+pub(crate) const SECOND_FILE: &str = "\
+These two files are of one book, and a folder has one file for each book.
+Move the one that you do not work in out of the folder, and sync. If it has
+changes, make them in the other one too.";
 
 pub(crate) const EMPTIED: &str = "\
 This many texts are gone from the file of a book.
