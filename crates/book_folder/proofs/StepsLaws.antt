@@ -4,12 +4,10 @@ use Rattle.usfm_ref.specs.Books.{same_bytes}
 use Rattle.usfm_ref.proofs.Orders.{same_bytes-is}
 use Rattle.project_file.specs.Projects.{project}
 use Rattle.book_folder.specs.Bases.{other_than}
-use Rattle.book_folder.specs.Coming.{CameInParts}
 use Rattle.book_folder.specs.Done.{StepsMakeProject, project_after, replaced_by}
-use Rattle.book_folder.specs.Plans.{NewFileParts, OwnParts, PlanParts, StepParts, bytes_or, own_parts, own_puts, placed, placing, plan_of, plan_steps, recovery, step_if, told_of, with_sync}
+use Rattle.book_folder.specs.Plans.{NewFileParts, OwnParts, StepParts, bytes_or, own_parts, own_puts, placed, placing, plan_steps, recovery, step_if, told_of, with_sync}
 use Rattle.book_folder.specs.Plans.{ReplaceProject, Settle, RemoveNew, WriteNew, SyncOwn, PutBase, PutNames, PutNext, SyncFolder}
 use Rattle.book_folder.specs.Refusals.{◌>>=◌}
-use Rattle.book_folder.specs.Wanted.{SeenParts}
 use Rattle.book_folder.specs.declared.refusal.Refusal.{Refusal}
 
 -- steps after others

@@ -12,7 +12,7 @@ use Rattle.verse_cut.specs.Reading.{book_in}
 use Rattle.verse_cut.specs.declared.fault.BookFault.{BookFault}
 use Rattle.book_folder.specs.Wanted.{FoundParts, NamedParts, SeenParts}
 use Rattle.book_folder.specs.declared.files.BookFile.{BookFile}
-use Rattle.book_folder.specs.declared.files.Unclear.{Unclear}
+use Rattle.book_folder.specs.declared.files.UnclearFile.{UnclearFile}
 use Rattle.book_folder.specs.declared.refusal.FolderFault.TheVariants as faults
 use Rattle.book_folder.specs.declared.refusal.Place.{Place}
 use Rattle.book_folder.specs.declared.refusal.Place.TheVariants as places
@@ -97,19 +97,19 @@ is_name None name = false
 is_name (Some written) name = same_bytes written name
 
 -- a second file of a book, by its place, and by that of the book's other file
-abbrev pub second_of : ℕ → ℕ → Unclear
+abbrev pub second_of : ℕ → ℕ → UnclearFile
 second_of at other = record { place = places.File at; fault = faults.SecondOf other }
 
 -- of a file and a later one of its book, if there is one, that which is not written down as the
 -- book's; of two that are not, the later one
-abbrev pub second_at : List NamedParts → FileParts → Option FileParts → Option Unclear
+abbrev pub second_at : List NamedParts → FileParts → Option FileParts → Option UnclearFile
 second_at names f None = None
 second_at names f (Some other) =
     Some (if is_name (name_of names f.book) other.name
     then second_of f.at other.at else second_of other.at f.at)
 
 -- a second file of a book, if there is one
-abbrev pub second_file : List NamedParts → List FileParts → Option Unclear
+abbrev pub second_file : List NamedParts → List FileParts → Option UnclearFile
 second_file names [] = None
 second_file names (f ∷ later) =
     option_or (second_at names f (file_of later f.book)) (second_file names later)
@@ -139,17 +139,17 @@ lost seen files [] = None
 lost seen files (n ∷ later) = option_or (lost_at seen files n) (lost seen files later)
 
 -- what stands under the name of a book's file and is no longer that
-abbrev pub changed_at : Place → Unclear
+abbrev pub changed_at : Place → UnclearFile
 changed_at place = record { place = place; fault = faults.FileChanged }
 
 -- What is refused of a folder in which it is not known which file is a book's: a second file of a
 -- book; or else what stands under the name of a book's file and is no longer that.
-abbrev pub unclear : SeenParts → List FileParts → Option Unclear
+abbrev pub unclear : SeenParts → List FileParts → Option UnclearFile
 unclear seen files =
     option_or (second_file seen.names files) (option_map changed_at (lost seen files seen.names))
 
 -- the files, unless it is not known which one is a book's
-abbrev pub clear_or : Option Unclear → List FileParts → Result (List FileParts) Refusal
+abbrev pub clear_or : Option UnclearFile → List FileParts → Result (List FileParts) Refusal
 clear_or None files = Ok files
 clear_or (Some u) files = Err (Of u.place u.fault)
 

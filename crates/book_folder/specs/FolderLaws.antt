@@ -1,6 +1,6 @@
 -- Laws of a sync as a whole (this project's own rule): what a project is once all came in, and what
 -- the base that is written has.
-use Rattle.std.specs.Prelude.{◌≡◌, ◌<◌, ◌^◌, ℕ, Bool, true, false, List, [], ◌∷◌, Option, None, Some, Ok, IsTrue, length}
+use Rattle.std.specs.Prelude.{◌≡◌, ◌<◌, ◌^◌, ℕ, true, List, [], ◌∷◌, Option, None, Some, Ok, IsTrue, length}
 use Rattle.std.specs.List.{AllByRecursion, Contains}
 use Rattle.std.specs.Str.{IsUtf8, is_utf8}
 use Rattle.op_core.specs.Export.{export}

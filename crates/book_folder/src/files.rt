@@ -179,26 +179,26 @@ pub(crate) fn name_of<'a>(names: &'a [Named], book: Book) -> Option<&'a str>
 
 // Why it is not known which file is a book's, and what is to be named.
 #[derive(Clone, Copy, Debug, Drop)]
-pub(crate) struct Unclear {
+pub(crate) struct UnclearFile {
     place: Place,
     fault: FolderFault,
 }
 
 // A second file of a book, beside the book's other file.
-fn second_of(at: usize, other: usize) -> Unclear
+fn second_of(at: usize, other: usize) -> UnclearFile
     ensures { result ≡ which.second_of at other }
 {
-    Unclear {
+    UnclearFile {
         place: Place::File(at),
         fault: FolderFault::SecondOf(other),
     }
 }
 
 // What stands under the name of a book's file and is no longer that.
-fn changed_at(place: Place) -> Unclear
+fn changed_at(place: Place) -> UnclearFile
     ensures { result ≡ which.changed_at place }
 {
-    Unclear {
+    UnclearFile {
         place,
         fault: FolderFault::FileChanged,
     }
@@ -207,7 +207,7 @@ fn changed_at(place: Place) -> Unclear
 // What is refused of a folder in which it is not known which file is a book's: there are two; or
 // under the name of a book's file stands what is no longer that book's, so that its text would be
 // lost from sight and the book written anew beside it.
-fn unclear(seen: &Seen<'_>, files: &[BookFile<'_>]) -> Option<Unclear>
+fn unclear(seen: &Seen<'_>, files: &[BookFile<'_>]) -> Option<UnclearFile>
     ensures { result ≡ which.unclear (seen_view seen.now) (which.files_view files.now) }
 {
     match second_file(seen.names, files) {
@@ -223,14 +223,14 @@ pub(crate) fn clear_files<'a>(alloc: Global, seen: &Seen<'a>) -> Result<Vec<Book
 {
     let files = book_files(alloc, seen)?;
     match unclear(seen, &files) {
-        Some(Unclear { place, fault }) => Err(Refusal::Of(place, fault)),
+        Some(UnclearFile { place, fault }) => Err(Refusal::Of(place, fault)),
         None => Ok(files),
     }
 }
 
 // The first second file of a book: the one that is not written down as the book's, and of two that
 // are not, the later one.
-fn second_file(names: &[Named], files: &[BookFile<'_>]) -> Option<Unclear>
+fn second_file(names: &[Named], files: &[BookFile<'_>]) -> Option<UnclearFile>
     ensures { result ≡ which.second_file (map named_view names.now) (which.files_view files.now) }
 {
     let mut left = files;

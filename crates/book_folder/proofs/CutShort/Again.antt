@@ -1,12 +1,12 @@
 -- Cut short before it put a base, a sync is done again.
-use Rattle.std.proofs.Common.{◌≡◌, ℕ, List, [], ◌∷◌, ◌++◌, map, Option, None, Some, Result, Ok, Err, refl, sym, ap, subst, ◌∙◌, append_assoc}
+use Rattle.std.proofs.Common.{◌≡◌, ℕ, List, ◌++◌, map, Option, None, Result, Ok, Err, refl, sym, ap, subst, ◌∙◌}
 use Rattle.project_file.specs.Projects.{project}
 use Rattle.book_folder.specs.Bases.{other_than}
 use Rattle.book_folder.specs.Coming.{CameInParts, comes_in}
-use Rattle.book_folder.specs.CutShort.{CutEarlyIsDoneAgain, IsPlanAgain, with_new}
+use Rattle.book_folder.specs.CutShort.{CutEarlyIsDoneAgain, IsPlanAgain}
 use Rattle.book_folder.specs.Files.{FileParts, clear_files}
 use Rattle.book_folder.specs.Naming.{FormParts, form_of, other_names}
-use Rattle.book_folder.specs.Plans.{NewFileParts, OwnParts, PlanParts, RemoveNew, ReplaceProject, StepParts, bytes_or, new_files, new_name_of, own_parts, plan_of, plan_steps, planned, recovery, step_if, told_of}
+use Rattle.book_folder.specs.Plans.{NewFileParts, OwnParts, PlanParts, RemoveNew, ReplaceProject, StepParts, bytes_or, new_files, new_name_of, own_parts, plan_of, plan_steps, planned, step_if, told_of}
 use Rattle.book_folder.specs.Refusals.{◌>>=◌}
 use Rattle.book_folder.specs.Wanted.{SeenParts, WishParts}
 use Rattle.book_folder.specs.declared.refusal.Refusal.{Refusal}

@@ -1,7 +1,7 @@
 -- What the base shows that makes the files as they were read: what the base before it shows, where a file has what that picks; else
 -- the file's text.
-use Rattle.std.proofs.Common.{◌≡◌, ◌⊎◌, ℕ, Bool, true, false, cond, ◌&&◌, not, List, [], ◌∷◌, filter, inl, inr, Option, None, Some, option_map, is_none, refl, sym, ap, subst, ◌∙◌}
-use Rattle.std.specs.List.{AllByRecursion, find, list_any}
+use Rattle.std.proofs.Common.{◌≡◌, ◌⊎◌, ℕ, Bool, true, false, cond, ◌&&◌, not, List, [], ◌∷◌, filter, inl, inr, Option, None, Some, option_map, is_none, refl, sym, ap, ◌∙◌}
+use Rattle.std.specs.List.{AllByRecursion, find}
 use Rattle.std.proofs.lemmas.Bool.{and_from, and_parts, false≢true, false_from_ne_true, not-true}
 use Rattle.usfm_ref.specs.Books.{same_bytes}
 use Rattle.usfm_ref.specs.Keys.{same_key}
@@ -9,8 +9,8 @@ use Rattle.usfm_ref.specs.Segments.{same_segment}
 use Rattle.usfm_ref.specs.declared.segment.Segment.{Segment}
 use Rattle.usfm_ref.proofs.Orders.{same_bytes-is, same_bytes-refl, same_segment-is, same_segment-refl}
 use Rattle.op_core.specs.Ids.{Id}
-use Rattle.op_core.specs.Ops.{Operation, bare, in_segment, names, own_text}
-use Rattle.op_core.specs.Sets.{IsOpSet, clash, get, join, meet, met, rises}
+use Rattle.op_core.specs.Ops.{Operation, in_segment, names, own_text}
+use Rattle.op_core.specs.Sets.{IsOpSet, clash, get, join, met, rises}
 use Rattle.op_core.specs.Shown.{is_replaced, is_shown, last, shown, text_if_any, text_of}
 use Rattle.op_core.proofs.Sets.Agreement.{Agree}
 use Rattle.op_core.proofs.Sets.Clashes.{get_id}

@@ -5,7 +5,7 @@ use Rattle.usfm_ref.proofs.Orders.{same_bytes-is}
 use Rattle.project_file.specs.Projects.{project}
 use Rattle.book_folder.specs.Bases.{next_base, other_than}
 use Rattle.book_folder.specs.Coming.{CameInParts}
-use Rattle.book_folder.specs.CutShort.{CutShortIsKnown, IsLeft, IsPlan, PutParts, put_by, settled_of}
+use Rattle.book_folder.specs.CutShort.{CutShortIsKnown, IsLeft, IsPlan, put_by, settled_of}
 use Rattle.book_folder.specs.Disks.{Act, DiskParts, IsRead, acts_of}
 use Rattle.book_folder.specs.Plans.{NewFileParts, OwnParts, PlanParts, StepParts, base_put, bytes_or, headless, plan_steps, recovery, told_of}
 use Rattle.book_folder.specs.Refusals.{◌>>=◌}

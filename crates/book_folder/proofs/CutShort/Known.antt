@@ -1,22 +1,22 @@
 -- What a sync with new files leaves where it is cut short, after what was begun is finished.
-use Rattle.std.proofs.Common.{◌≡◌, ◌⊎◌, ℕ, Bool, true, false, cond, List, [], ◌∷◌, ◌++◌, inl, inr, map, flat_map, Contains, Option, None, Some, Result, Ok, Err, option_to_list, refl, sym, ap, subst, ◌∙◌, append_assoc}
+use Rattle.std.proofs.Common.{◌≡◌, ◌⊎◌, ℕ, Bool, true, false, cond, List, [], ◌∷◌, ◌++◌, inl, inr, map, Contains, Option, None, Some, Result, Ok, Err, option_to_list, refl, sym, ap, subst, ◌∙◌, append_assoc}
 use Rattle.std.specs.List.{AllByRecursion, IsDistinct}
 use Rattle.usfm_ref.specs.Books.{same_bytes}
 use Rattle.book_folder.specs.Begun.{is_one_of, settled}
-use Rattle.book_folder.specs.CutShort.{AllKnown, AllWait, BaseIsSettled, FilesAreKnown, IsLeft, IsPut, IsUnsettled, MakesAsRead, NextIsReady, NoneIsPut, PutParts, SomePut, BaseSettled, SomeArePut, NonePut, Waits, settled_of}
-use Rattle.book_folder.specs.Disks.{Act, DiskParts, DropNew, FolderSynced, OwnSynced, SetBase, SetNames, SetNext, SetProject, acts_of, after, and_then, bytes_at, done, settling_acts, standing, unsettled, without}
-use Rattle.book_folder.specs.Plans.{NewFileParts, OwnParts, RemoveNew, ReplaceProject, Settle, StepParts, SyncOwn, WriteNew, bytes_or, own_puts, placed, placing, plan_steps, recovery, step_if, with_sync}
+use Rattle.book_folder.specs.CutShort.{AllKnown, AllWait, FilesAreKnown, IsLeft, IsPut, MakesAsRead, NextIsReady, PutParts, SomePut, BaseSettled, SomeArePut, NonePut, Waits}
+use Rattle.book_folder.specs.Disks.{Act, DiskParts, FolderSynced, OwnSynced, SetBase, SetNames, SetNext, SetProject, acts_of, after, and_then, bytes_at, done, settling_acts, unsettled, without}
+use Rattle.book_folder.specs.Plans.{NewFileParts, OwnParts, ReplaceProject, Settle, StepParts, SyncOwn, WriteNew, own_puts, placed, placing, plan_steps, step_if, with_sync}
 use Rattle.book_folder.specs.Refusals.{◌>>=◌}
 use Rattle.book_folder.specs.Settling.{SettlingParts, base_puts, settling_steps}
 use Rattle.book_folder.specs.Settling as settling
 use Rattle.book_folder.specs.Wanted.{FoundParts}
 use Rattle.book_folder.specs.declared.refusal.Refusal.{Refusal}
-use Rattle.book_folder.proofs.CutShort.Fronts.{Certain, Fronts, Keeps, LeftIs, after_both, all_keep, fronts_append, kept_fronts, synced_fronts}
+use Rattle.book_folder.proofs.CutShort.Fronts.{Certain, Fronts, Keeps, LeftIs, after_both, all_keep, kept_fronts, synced_fronts}
 use Rattle.book_folder.proofs.CutShort.Names.{at_without, is_there}
 use Rattle.book_folder.proofs.CutShort.OwnBooks.{same_book}
 use Rattle.book_folder.proofs.CutShort.Puts.{all_wait, moves, moves_keep, put_stays, written}
 use Rattle.book_folder.proofs.CutShort.Settles.{Based, Turned, Turning, dropped, settled_fronts, settling_is, turned}
-use Rattle.book_folder.proofs.CutShort.StepActs.{base_acts, dropped_certain, moves_certain, names_acts, placed_acts, puts_acts, removal_acts, written_certain, writes_acts}
+use Rattle.book_folder.proofs.CutShort.StepActs.{base_acts, dropped_certain, moves_certain, names_acts, placed_acts, puts_acts, written_certain, writes_acts}
 use Rattle.book_folder.proofs.CutShort.Recovered.{BaseIsFirst, Goes, IsCleared, cleared_left, dropped_keep}
 use Rattle.book_folder.proofs.Schedules.Reached.{all_both}
 

@@ -1,5 +1,5 @@
 -- What stands under names: after bytes were put there, and after a name was removed.
-use Rattle.std.proofs.Common.{◌≡◌, ℕ, Bool, true, false, cond, not, ◌||◌, List, [], ◌∷◌, map, filter, find, Option, None, Some, option_map, refl, sym, ap, ◌∙◌}
+use Rattle.std.proofs.Common.{◌≡◌, ℕ, Bool, true, false, cond, not, ◌||◌, List, [], ◌∷◌, map, find, Option, None, Some, option_map, refl, sym, ap, ◌∙◌}
 use Rattle.std.proofs.lemmas.Bool.{false≢true}
 use Rattle.usfm_ref.specs.Books.{same_bytes}
 use Rattle.usfm_ref.proofs.Orders.{same_bytes-is, same_bytes-refl}

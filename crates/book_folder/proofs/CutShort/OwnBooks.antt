@@ -1,5 +1,5 @@
 -- The new files of a plan are of different books.
-use Rattle.std.proofs.Common.{◌≡◌, ◌⊎◌, ℕ, Bool, true, false, cond, ◌&&◌, List, [], ◌∷◌, ◌++◌, inl, inr, map, Option, None, Some, Result, Ok, Err, option_to_list, refl, sym, ap, subst, ◌∙◌, append-nil, append_assoc}
+use Rattle.std.proofs.Common.{◌≡◌, ◌⊎◌, ℕ, Bool, true, false, cond, List, [], ◌∷◌, ◌++◌, inl, inr, map, Option, None, Some, Result, Ok, Err, option_to_list, refl, sym, ap, subst, ◌∙◌, append-nil, append_assoc}
 use Rattle.std.specs.Cmp.{tied_itself}
 use Rattle.std.specs.List.{AllByRecursion, IsDistinct, list_all}
 use Rattle.std.specs.Ordering.{is_lt}
@@ -13,7 +13,7 @@ use Rattle.op_core.specs.Lists.{books_of}
 use Rattle.op_core.specs.Ops.{Operation}
 use Rattle.book_folder.specs.Files.{FileParts, file_of}
 use Rattle.book_folder.specs.Naming.{FormParts, new_name}
-use Rattle.book_folder.specs.Plans.{NewFileParts, file_by_text, is_like_file, is_whole, new_file, new_file_if, new_files}
+use Rattle.book_folder.specs.Plans.{NewFileParts, is_like_file, is_whole, new_file, new_file_if, new_files}
 use Rattle.book_folder.specs.Refusals.{◌>>=◌, gathered}
 use Rattle.book_folder.specs.Wanted.{SeenParts}
 use Rattle.book_folder.specs.declared.refusal.Refusal.{Refusal}

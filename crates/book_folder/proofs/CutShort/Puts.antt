@@ -1,12 +1,12 @@
 -- New files are written, and put in their places.
-use Rattle.std.proofs.Common.{◌≡◌, ◌⊎◌, ℕ, zero, suc, Bool, true, false, cond, List, [], ◌∷◌, ◌++◌, inl, inr, map, flat_map, Contains, Option, None, Some, refl, sym, ap, subst, ◌∙◌, arith}
+use Rattle.std.proofs.Common.{◌≡◌, ◌⊎◌, ℕ, zero, suc, Bool, true, false, cond, List, [], ◌∷◌, ◌++◌, inl, inr, map, Contains, Option, None, Some, refl, sym, ap, subst, ◌∙◌, arith}
 use Rattle.std.specs.List.{AllByRecursion, IsDistinct}
 use Rattle.std.proofs.lemmas.Bool.{false≢true}
 use Rattle.usfm_ref.specs.Books.{same_bytes}
 use Rattle.usfm_ref.proofs.Orders.{same_bytes-is, same_bytes-refl}
 use Rattle.replica_state.proofs.SinceLaws.{is_first, is_later, none_there}
 use Rattle.book_folder.specs.CutShort.{AllKnown, AllWait, FilesAreKnown, IsPut, PutParts, SomeArePut, Waits}
-use Rattle.book_folder.specs.Disks.{Act, DiskParts, Move, SetNew, after, bytes_at, done, moved, with_bytes, without}
+use Rattle.book_folder.specs.Disks.{Act, DiskParts, Move, SetNew, after, bytes_at, done, moved}
 use Rattle.book_folder.specs.Plans.{NewFileParts}
 use Rattle.book_folder.proofs.CutShort.Fronts.{Keeps}
 use Rattle.book_folder.proofs.CutShort.Names.{at_with, at_without}

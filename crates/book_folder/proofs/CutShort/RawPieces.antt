@@ -1,6 +1,6 @@
 -- The pieces of a text that begins with a book: each is a text that is like no empty one, and with a verse stands the head of its
 -- chapter.
-use Rattle.std.proofs.Common.{◌≡◌, ◌⊎◌, ℕ, suc, zero, ◌+◌, ◌≤◌, ◌<◌, length, Bool, true, false, cond, not, ◌&&◌, ◌||◌, List, [], ◌∷◌, ◌++◌, inl, inr, codes, Option, None, Some, Ok, arith, refl, sym, ap, subst, ◌∙◌}
+use Rattle.std.proofs.Common.{◌≡◌, ◌⊎◌, ℕ, suc, zero, ◌+◌, ◌≤◌, ◌<◌, length, Bool, true, false, cond, ◌||◌, List, [], ◌∷◌, ◌++◌, inl, inr, codes, Option, None, Some, Ok, arith, refl, sym, ap, subst, ◌∙◌}
 use Rattle.std.specs.List.{All, Contains}
 use Rattle.std.specs.Option.{is_some}
 use Rattle.std.specs.Ordering.{is_eq}
@@ -9,7 +9,7 @@ use Rattle.std.proofs.lemmas.Bool.{false≢true}
 use Rattle.std.proofs.lemmas.List.Elements.{All-cons, All-nil}
 use Rattle.std.specs.Cmp.{tied_itself}
 use Rattle.usfm_ref.specs.Keys.{KeyParts, book_head, head_of, is_head, is_verse_of, key_cmp, same_key}
-use Rattle.usfm_ref.proofs.Orders.{key_total, same_key-is}
+use Rattle.usfm_ref.proofs.Orders.{key_total}
 use Rattle.usfm_token.specs.Tokens.{BeginsMark}
 use Rattle.verse_cut.specs.Fits.{Fits, FitsBy, FitsKey, IsHeaded, byte_order_mark}
 use Rattle.verse_cut.specs.Joins.{HasHead, IsJoinOf, KeyText, pieces_from}
@@ -17,7 +17,7 @@ use Rattle.verse_cut.specs.Pieces.{PieceParts, pieces_of}
 use Rattle.verse_cut.specs.Reading.{book_in, is_empty}
 use Rattle.verse_cut.proofs.BookLaws.{books_are_joins}
 use Rattle.verse_cut.proofs.JoinLaws.{begins_mark}
-use Rattle.replica_state.specs.Imports.{has_verse, piece_at, piece_of, piece_own_text}
+use Rattle.replica_state.specs.Imports.{has_verse, piece_of, piece_own_text}
 use Rattle.replica_state.proofs.Appended.{key_is}
 use Rattle.replica_state.proofs.FilePieces.{book_is_code, book_is_headed, piece_fits}
 use Rattle.replica_state.proofs.SinceLaws.{none_there}

@@ -1,30 +1,30 @@
 -- Of a file that is read again, nothing comes in by the base that makes the files as they were read.
-use Rattle.std.proofs.Common.{◌≡◌, ◌⊎◌, ℕ, Bool, true, false, cond, not, ◌&&◌, List, [], inl, inr, map, Option, None, Some, refl, sym, ap, subst, ◌∙◌}
+use Rattle.std.proofs.Common.{◌≡◌, ℕ, Bool, true, false, cond, not, List, inl, inr, map, None, Some, refl, sym, ap, ◌∙◌}
 use Rattle.std.specs.Option.{is_some}
 use Rattle.std.proofs.lemmas.Bool.{and_parts}
 use Rattle.usfm_ref.specs.Books.{same_bytes}
 use Rattle.usfm_ref.specs.Keys.{KeyParts, book_head, same_key}
 use Rattle.usfm_ref.specs.Segments.{segment}
 use Rattle.usfm_ref.specs.declared.segment.Segment.{Segment}
-use Rattle.usfm_ref.proofs.Orders.{same_bytes-is, same_bytes-refl}
+use Rattle.usfm_ref.proofs.Orders.{same_bytes-is}
 use Rattle.verse_cut.specs.Joins.{IsJoinOf}
 use Rattle.verse_cut.specs.Pieces.{PieceParts, pieces_of}
-use Rattle.verse_cut.specs.Reading.{book_in, is_empty}
+use Rattle.verse_cut.specs.Reading.{is_empty}
 use Rattle.verse_cut.proofs.BookLaws.{books_are_joins}
 use Rattle.op_core.specs.CutsBack.{picked_at}
 use Rattle.op_core.specs.Export.{export, has_book, of_book}
 use Rattle.op_core.specs.Ops.{Operation, in_segment}
 use Rattle.op_core.specs.Sets.{clash}
-use Rattle.op_core.specs.Shown.{last, shown, text_if_any, text_of}
+use Rattle.op_core.specs.Shown.{last, text_if_any}
 use Rattle.op_core.proofs.Exports.Exported.{picked_own, text_held}
 use Rattle.op_core.proofs.FilteredLists.{any_weaker}
-use Rattle.replica_state.specs.Imports.{is_due, loses_line, piece_at, piece_of}
+use Rattle.replica_state.specs.Imports.{is_due, piece_at, piece_of}
 use Rattle.replica_state.specs.States.{State, IsState}
 use Rattle.replica_state.proofs.FilePieces.{book_is_code, book_is_headed, head_has_piece}
 use Rattle.book_folder.specs.Bases.{stood_text}
 use Rattle.book_folder.specs.Files.{FileParts}
-use Rattle.book_folder.specs.ReadAgain.{IsTaken, ReadAgainNothingComesIn, other_text, pieces_by, read_base}
-use Rattle.book_folder.specs.Restored.{coming_pieces, in_manner_of, restored_piece, restored_pieces}
+use Rattle.book_folder.specs.ReadAgain.{IsTaken, ReadAgainNothingComesIn, pieces_by, read_base}
+use Rattle.book_folder.specs.Restored.{in_manner_of, restored_piece}
 use Rattle.book_folder.specs.Taking.{StoodParts, has_other}
 use Rattle.book_folder.proofs.CutShort.AsReadBase.{shown_as_base, text_as_found}
 use Rattle.book_folder.proofs.CutShort.PicksArePieces.{Becomes}

@@ -1,8 +1,7 @@
 -- How a base is settled, broken off anywhere.
-use Rattle.std.proofs.Common.{◌≡◌, ◌⊎◌, ℕ, Bool, true, false, cond, List, [], ◌∷◌, ◌++◌, inl, inr, map, flat_map, Option, None, Some, Result, Ok, Err, refl, sym, ap, subst, ◌∙◌}
-use Rattle.std.specs.List.{AllByRecursion}
+use Rattle.std.proofs.Common.{◌≡◌, ◌⊎◌, ℕ, Bool, true, false, cond, List, [], ◌∷◌, ◌++◌, inl, inr, map, flat_map, Option, None, Some, refl, ap}
 use Rattle.usfm_ref.proofs.Orders.{same_bytes-is}
-use Rattle.book_folder.specs.Disks.{Act, DiskParts, DropNew, DropNext, OwnSynced, SetBase, after, done, settling_act, standing}
+use Rattle.book_folder.specs.Disks.{Act, DiskParts, DropNew, DropNext, OwnSynced, SetBase, after, done, settling_act}
 use Rattle.book_folder.specs.Settling.{SettlingParts, are_bytes, base_puts}
 use Rattle.book_folder.specs.Settling as settling
 use Rattle.book_folder.proofs.CutShort.Fronts.{Fronts, Keeps, LeftIs, kept_fronts, synced_fronts}

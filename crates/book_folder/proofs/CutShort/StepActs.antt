@@ -1,8 +1,8 @@
 -- What the steps of a plan do, one group after another.
-use Rattle.std.proofs.Common.{◌≡◌, ℕ, Bool, true, false, cond, List, [], ◌∷◌, ◌++◌, map, Option, None, Some, refl, sym, ap, ◌∙◌, append_assoc}
+use Rattle.std.proofs.Common.{◌≡◌, ℕ, Bool, true, false, cond, List, [], ◌∷◌, ◌++◌, map, Option, None, Some, refl, ap, ◌∙◌, append_assoc}
 use Rattle.std.specs.List.{AllByRecursion}
-use Rattle.book_folder.specs.Disks.{Act, DiskParts, DropNew, FolderSynced, Move, OwnSynced, SetBase, SetNames, SetNext, acts_of, after, done, step_acts}
-use Rattle.book_folder.specs.Plans.{NewFileParts, OwnParts, PutInPlace, RemoveNew, Settle, StepParts, SyncFolder, SyncOwn, WriteNew, own_puts, placed, placing, with_sync}
+use Rattle.book_folder.specs.Disks.{Act, DiskParts, DropNew, FolderSynced, Move, OwnSynced, SetBase, SetNames, SetNext, acts_of, after, done}
+use Rattle.book_folder.specs.Plans.{NewFileParts, RemoveNew, Settle, StepParts, SyncFolder, SyncOwn, WriteNew, own_puts, placed, placing, with_sync}
 use Rattle.book_folder.proofs.CutShort.Fronts.{Certain}
 use Rattle.book_folder.proofs.CutShort.Puts.{moves, written}
 use Rattle.book_folder.proofs.CutShort.Settles.{dropped}

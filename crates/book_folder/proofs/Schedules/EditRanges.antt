@@ -4,7 +4,6 @@ use Rattle.std.specs.List.{AllByRecursion, flat_map, list_all}
 use Rattle.std.proofs.lemmas.Bool.{and_from, and_parts, le-leb}
 use Rattle.usfm_ref.specs.Books.{is_book_code}
 use Rattle.usfm_ref.specs.Keys.{KeyParts, is_key}
-use Rattle.usfm_ref.specs.Rising.{rising}
 use Rattle.usfm_ref.specs.Segments.{segment}
 use Rattle.usfm_ref.proofs.Orders.{same_bytes-is}
 use Rattle.verse_cut.specs.Fits.{Fits}

@@ -7,8 +7,7 @@ use Rattle.std.specs.Ordering.{is_eq}
 use Rattle.std.proofs.lemmas.Bool.{and_parts, and_from, and_right, false≢true, false_from_ne_true}
 use Rattle.usfm_ref.specs.Books.{same_bytes}
 use Rattle.usfm_ref.specs.Keys.{KeyParts, key_cmp, head_of}
-use Rattle.usfm_ref.specs.Rising.{rising}
-use Rattle.usfm_ref.specs.Segments.{segment, same_segment}
+use Rattle.usfm_ref.specs.Segments.{segment}
 use Rattle.usfm_ref.specs.declared.segment.Segment.{Segment}
 use Rattle.usfm_ref.proofs.Members.{same_tested}
 use Rattle.usfm_ref.proofs.Orders.{key_exact, key_total, same_bytes-is, same_segment-is, same_segment-refl}

@@ -1,15 +1,12 @@
 -- A file as a sync leaves it: its pieces are what the base picks, so that nothing was changed in it and nothing is asked about it.
-use Rattle.std.proofs.Common.{◌≡◌, ℕ, zero, suc, Bool, true, false, cond, not, ◌&&◌, ◌||◌, nat_le, List, [], ◌∷◌, ◌++◌, map, filter, length, take, codes}
-use Rattle.std.proofs.Common.{Option, None, Some, Result, Ok, Err, refl, sym, ap, ◌∙◌, arith}
-use Rattle.std.specs.List.{count_by, flat_map, list_all, list_any}
-use Rattle.std.specs.Option.{option_or}
+use Rattle.std.proofs.Common.{◌≡◌, ℕ, Bool, true, false, not, ◌&&◌, ◌||◌, List, [], ◌∷◌, ◌++◌, length, take, codes}
+use Rattle.std.proofs.Common.{None, Result, Ok, Err, refl, sym, ap, ◌∙◌, arith}
+use Rattle.std.specs.List.{list_any}
 use Rattle.std.specs.Prelude.{if◌then◌else◌}
 use Rattle.std.specs.Str.{is_utf8}
 use Rattle.std.specs.Str.Lossy.{utf8_valid_len}
-use Rattle.std.proofs.lemmas.Bool.{and_parts, and_right, cond-true, false≢true, not-true}
-use Rattle.std.proofs.lemmas.Bool.Decides.{nat_tests}
-use Rattle.std.proofs.lemmas.List.{append-nil, take_all}
-use Rattle.std.proofs.lemmas.List.Sums.{length-filter}
+use Rattle.std.proofs.lemmas.Bool.{and_parts, and_right, false≢true}
+use Rattle.std.proofs.lemmas.List.{take_all}
 use Rattle.std.proofs.lemmas.Str.{utf8_valid_len-IsUtf8}
 use Rattle.usfm_ref.specs.Books.{same_bytes}
 use Rattle.usfm_ref.specs.Keys.{KeyParts, book_head}
@@ -23,23 +20,18 @@ use Rattle.verse_cut.specs.declared.fault.BookFault.{BookFault}
 use Rattle.verse_cut.proofs.BookLaws.{books_are_joins}
 use Rattle.op_core.specs.CutsBack.{picked_at}
 use Rattle.op_core.specs.Export.{export, has_book}
-use Rattle.op_core.specs.Lists.{books_of, keys_of}
+use Rattle.op_core.specs.Lists.{books_of}
 use Rattle.op_core.specs.Ops.{Operation, IsOperation, in_segment}
 use Rattle.op_core.specs.Sets.{IsOpSet}
 use Rattle.op_core.specs.Shown.{text_of}
 use Rattle.op_core.proofs.Exports.CutsBack.{exports_are_text, exports_cut_back}
 use Rattle.op_core.proofs.Exports.Exported.{picked_own, text_held}
-use Rattle.op_core.proofs.FilteredLists.{any_filter, filter_all, filter_none, kept_each}
+use Rattle.op_core.proofs.FilteredLists.{any_filter, kept_each}
 use Rattle.op_core.proofs.Sets.Filters.{rises-filter}
-use Rattle.replica_state.specs.Changes.{ChangeParts, changes_ops, edits_by}
-use Rattle.replica_state.specs.Imports.{is_due, piece_at, piece_own_text, walked_keys}
-use Rattle.replica_state.specs.Since.{since_change}
+use Rattle.replica_state.specs.Imports.{is_due, piece_at, piece_own_text}
 use Rattle.replica_state.specs.States.{State, IsState}
-use Rattle.replica_state.specs.Steps.{edited_all}
-use Rattle.replica_state.specs.declared.fault.EditFault.TheVariants.{NumbersUsedUp}
 use Rattle.replica_state.proofs.FilePieces.{book_is_code, book_is_headed, head_has_piece}
-use Rattle.replica_state.proofs.OwnExports.{left_for_none, none_due, none_pass, own_piece}
-use Rattle.book_folder.specs.Asks.{came_in, came_keys, emptied, gone_count, has_text_of, is_gone, keys_with_text, may_be_older, undone, undone_since, unlikeness, are_last}
+use Rattle.replica_state.proofs.OwnExports.{none_due, own_piece}
 use Rattle.book_folder.specs.Bases.{shown_in_files, shows}
 use Rattle.book_folder.specs.Begun.{is_one_of}
 use Rattle.book_folder.specs.Files.{FileParts, book_begun, book_if}
@@ -47,21 +39,14 @@ use Rattle.book_folder.specs.AsWritten.{are_alike, is_as_written}
 use Rattle.book_folder.specs.FolderLaws.{IsSyncedFile}
 use Rattle.book_folder.specs.Likes.{like, line_ends, plain}
 use Rattle.book_folder.specs.Plans.{headless, is_book, is_whole}
-use Rattle.book_folder.specs.Refusals.{◌>>=◌}
 use Rattle.book_folder.specs.Restored.{coming_pieces, restored_pieces}
-use Rattle.book_folder.specs.Stale.{Candidate, found_with, is_candidate, less_unlike, older_by, older_of, oldest_of}
-use Rattle.book_folder.specs.Taking.{StoodParts, Taken, asked, change_at, file_changes, has_other, listed, stood_at, stood_of, taken, taken_changed, taken_in, taken_strange, unless_asked}
+use Rattle.book_folder.specs.Stale.{older_of}
+use Rattle.book_folder.specs.Taking.{StoodParts, taken_in}
 use Rattle.book_folder.specs.Wanted.{WishParts}
-use Rattle.book_folder.specs.declared.refusal.FolderFault.{FolderFault}
-use Rattle.book_folder.specs.declared.refusal.FolderFault.TheVariants as faults
-use Rattle.book_folder.specs.declared.refusal.Place.TheVariants as places
-use Rattle.book_folder.specs.declared.refusal.Refusal.{Refusal}
-use Rattle.book_folder.specs.declared.refusal.Refusal.TheVariants.{Of}
-use Rattle.book_folder.proofs.ChangeAt.{change_at_is}
 use Rattle.book_folder.proofs.LineLaws.{manner_same}
 use Rattle.book_folder.proofs.Twice.NothingTaken.{not_rebased as unchanged_not_rebased, nothing_taken as unchanged_not_taken}
 use Rattle.book_folder.proofs.Twice.OwnManner.{export_restored, own_manner}
-use Rattle.book_folder.proofs.Twice.ShownBase.{book_there, export_same, segment_there, shown_legal}
+use Rattle.book_folder.proofs.Twice.ShownBase.{book_there, export_same, shown_legal}
 
 -- ---- a book that gets a file
 

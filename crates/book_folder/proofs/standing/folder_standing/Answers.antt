@@ -1,7 +1,7 @@
-use Rattle.std.proofs.Common.{◌≡◌, ℕ, zero, Ok, Err, arith, ap, sym, ◌∙◌}
+use Rattle.std.proofs.Common.{◌≡◌, ℕ, zero, Ok, arith, ap, sym, ◌∙◌}
 use Rattle.std.proofs.lemmas.Result.{err_from_is_err_and}
 use Rattle.book_folder.specs.Plans.{plan_view}
-use Rattle.book_folder.specs.Standing.{RemainingParts, remaining_view, standing_view, stands, stands_without}
+use Rattle.book_folder.specs.Standing.{RemainingParts, remaining_view, stands, stands_without}
 use Rattle.book_folder.specs.Wanted.{seen_view}
 use Rattle.book_folder.proofs.Stands.{one_less, refused_at_last, refused_in_place, stands_planned}
 use Rattle.book_folder.proofs.standing.folder_standing.Goals as goal
