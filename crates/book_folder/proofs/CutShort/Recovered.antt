@@ -171,7 +171,8 @@ module _ (before : DiskParts) (put : PutParts) (stays : List ℕ → Bool) (chan
       replaced b x k = record { files = k.files; next = k.next; base = k.base }
 
       all : (base names bytes : Option (List ℕ)) → BaseIsFirst before put.base base → (x : DiskParts)
-          → AllByRecursion (Keeps (IsAsRead before put)) (acts_of stays x (plan_steps [] (record { base = base; names = names; next = None }) bytes))
+          → AllByRecursion (Keeps (IsAsRead before put))
+          (acts_of stays x (plan_steps [] (record { base = base; names = names; next = None }) bytes))
       all None None None first x = tt
       all None None (Some p) first x = (replaced p, tt)
       all None (Some n) None first x = (named n, (sync, tt))
