@@ -2,4 +2,4 @@ pub mod Compared
 pub mod Escaped
 mod Joined
 mod Listed
-mod Walked
+mod Parted

@@ -13,9 +13,13 @@ abbrev pub last_from : (KeyParts → Bool) → Option KeyParts → List KeyParts
 last_from p last [] = last
 last_from p last (key ∷ keys) = last_from p (if p key then Some key else last) keys
 
+-- whether the book has a text at a key that is not empty
+abbrev pub is_filled : List Operation → List ℕ → KeyParts → Bool
+is_filled held book key = not (is_empty (picked_at held book key))
+
 -- whether a key is before that of the segment, and the book has a text there that is not empty
 abbrev pub is_before : List Operation → Segment → KeyParts → Bool
-is_before held g key = is_lt (key_cmp key g.key) && not (is_empty (picked_at held g.book key))
+is_before held g key = is_lt (key_cmp key g.key) && is_filled held g.book key
 
 -- the last such key of the export
 abbrev pub key_before : List Operation → Segment → Option KeyParts

@@ -2,6 +2,7 @@ pub mod Wanted
 pub mod Pending
 pub mod Before
 pub mod After
+pub mod Filled
 pub mod Entries
 pub mod Escapes
 pub mod Questions

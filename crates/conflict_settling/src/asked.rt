@@ -6,7 +6,7 @@ ghost use Rattle.conflict_settling.specs.Asked as asked;
 ghost use Rattle.conflict_settling.specs.declared.asked.SettleFault.TheVariants as settling;
 
 use crate::answer::{Answer, numbered};
-use crate::before::picked_before;
+use crate::book_texts::BookTexts;
 use crate::pending::open_conflicts;
 use crate::question::{Manner, push_before, push_choice, push_entries, push_head, push_repeated};
 use crate::sides::compare;
@@ -211,9 +211,10 @@ fn question_of(
         (map (λ op. op.now) shown.now.repeated.items) bytes.items) }
 {
     let entries = compare(alloc, &shown.distinct)?;
+    let texts = BookTexts::of(alloc, replica, book)?;
     let mut bytes = Vec::new(alloc);
     push_head(alloc, &mut bytes, book, key, left)?;
-    push_before(&mut bytes, &picked_before(replica, book, key))?;
+    push_before(&mut bytes, &texts.before(key))?;
     push_entries(
         alloc,
         &mut bytes,

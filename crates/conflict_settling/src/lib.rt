@@ -7,21 +7,21 @@
 //! what came in since is not replaced, and an id that is shown no more refuses it.
 #![tactic(auto)]
 
-mod after;
 mod answer;
 mod asked;
-mod before;
+mod book_texts;
 mod escape;
+mod filled;
 pub mod laws;
+mod near;
 mod pending;
 mod question;
 mod sides;
 mod wanted;
 
-pub use after::picked_after;
 pub use answer::{Answer, ends_text};
 pub use asked::{Asked, SettleFault, next_question};
-pub use before::picked_before;
+pub use book_texts::BookTexts;
 pub use escape::push_escaped;
 pub use pending::open_conflicts;
 pub use question::Manner;

@@ -8,12 +8,12 @@ ghost use Rattle.project_page.specs.Parts as says;
 
 use crate::parts::{BookProgress, PageConflict, PageParts};
 use conflict_report::shown_texts;
-use conflict_settling::{compare, open_conflicts, picked_after, picked_before};
+use conflict_settling::{BookTexts, compare, open_conflicts};
 use op_core::{OpSet, Picked};
 use project_status::{chapters_of, makers_of, shown_names, thinned_count, verses_written};
 use replica_state::Replica;
 use std::alloc::{AllocError, Global};
-use usfm_ref::Segment;
+use usfm_ref::{Key, Segment};
 
 /// What a page says of a replica, its texts lent from that: the numbers of its status, how far each
 /// chapter is, the conflicts of its report, and the awaited ids.
@@ -62,27 +62,48 @@ fn conflicts_of(alloc: Global, replica: &Replica) -> Result<Vec<PageConflict<'_>
         (map says.conflict_view conflicts.items)) }
 {
     let segments = open_conflicts(alloc, replica, &[], None)?;
+    match segments.first() {
+        None => Ok(Vec::new(alloc)),
+        Some(first) => {
+            let texts = BookTexts::of(alloc, replica, first.book)?;
+            conflicts_between(alloc, texts, &segments)
+        }
+    }
+}
+
+// The conflicts of some segments. Where those of a book are next to each other, its texts are
+// gathered once.
+fn conflicts_between<'a>(
+    alloc: Global,
+    mut texts: BookTexts<'a>,
+    segments: &[Segment],
+) -> Result<Vec<PageConflict<'a>>, AllocError>
+    ensures { IfOk result (λ conflicts.
+        says.AreConflictsOf texts.entry.held segments.now (map says.conflict_view conflicts.items)) }
+{
     let mut conflicts = Vec::new(alloc);
-    for segment in &segments {
-        conflicts.push(conflict_of(alloc, replica, segment)?)?;
+    for segment in segments {
+        texts.turn_to(alloc, segment.book)?;
+        conflicts.push(conflict_of(alloc, &texts, segment.key)?)?;
     }
     Ok(conflicts)
 }
 
-// The conflict of a segment.
+// The conflict of a book at a key.
 fn conflict_of<'a>(
     alloc: Global,
-    replica: &'a Replica,
-    segment: &Segment,
+    texts: &BookTexts<'a>,
+    key: Key,
 ) -> Result<PageConflict<'a>, AllocError>
     ensures { IfOk result (λ conflict.
-        says.IsConflictOf replica.now.held segment.now (says.conflict_view conflict)) }
+        says.IsConflictOf texts.now.held (segment texts.now.book key)
+        (says.conflict_view conflict)) }
 {
-    let Segment { book, key } = *segment;
+    let (replica, book) = (texts.replica(), texts.book());
     let shown = shown_texts(alloc, replica, book, key)?;
     let entries = compare(alloc, &shown.distinct)?;
-    let before = text_of(alloc, &picked_before(replica, book, key))?;
-    let after = text_of(alloc, &picked_after(replica, book, key))?;
+    let before = text_of(alloc, &texts.before(key))?;
+    let after = text_of(alloc, &texts.after(key))?;
     Ok(PageConflict {
         book,
         key,

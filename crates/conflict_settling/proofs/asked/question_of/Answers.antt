@@ -7,6 +7,7 @@ use Rattle.op_core.specs.Ops.{Operation}
 use Rattle.op_core.specs.Shown.{Pick, pick}
 use Rattle.conflict_settling.specs.Before.{text_before}
 use Rattle.conflict_settling.specs.Entries.{EntryView, AreEntriesOf, view, views}
+use Rattle.conflict_settling.specs.Filled.{HeldBook}
 use Rattle.conflict_settling.specs.Questions.{head_line, before_lines, entry_lines, repeated_line, choice_line}
 use Rattle.conflict_settling.proofs.Joined.{five}
 use Rattle.conflict_settling.proofs.asked.question_of.Goals as goal
@@ -26,7 +27,9 @@ returns c =
           (head_line g c.args.left) (before_lines (text_before held g)) (lines (pick held g) (views entries))
           (flat_map repeated_line (map (λ op. op.now) c.args.shown.now.repeated.items)) (choice_line (length (views entries)))
           c.new-bytes.ensures.items c.in_ok-push_head.ensures
-          (c.in_ok-push_before.ensures ∙ ap (λ text. c.push_head.new.bytes.items ++ before_lines text) c.picked_before.ensures)
+          (c.in_ok-push_before.ensures
+          ∙ ap (λ text. c.push_head.new.bytes.items ++ before_lines text)
+          (c.before-2.ensures ∙ ap (λ (t : HeldBook). text_before t.held (segment t.book c.args.key)) c.in_ok-texts.ensures))
           (c.in_ok-push_entries.ensures
           ∙ (λ i. c.push_before.new.bytes.items ++ lines (c.pick.ensures i) (views (c.deref-2.ensures.value i))))
           (c.in_ok-push_repeated.ensures
