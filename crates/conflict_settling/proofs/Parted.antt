@@ -6,6 +6,7 @@ use Rattle.std.specs.List.Sorted.{IsPartitionedBy, IsPartitionPoint}
 use Rattle.std.specs.Ordering.{is_lt}
 use Rattle.std.proofs.lemmas.Bool.{not-false, not-true, true≢false}
 use Rattle.std.proofs.lemmas.List.Folds.{list_all_at}
+use Rattle.std.proofs.lemmas.List.Recursion.{found_at, found_nowhere}
 use Rattle.usfm_ref.specs.Keys.{KeyParts, key_cmp}
 use Rattle.usfm_ref.specs.Rising.{rises_by}
 use Rattle.usfm_ref.specs.Segments.{segment}
@@ -14,7 +15,6 @@ use Rattle.usfm_ref.proofs.Sorted.{above_trans, is_less, parts, rises_filter}
 use Rattle.op_core.specs.Ops.{Operation}
 use Rattle.op_core.specs.Export.{exported_keys}
 use Rattle.op_core.proofs.Exports.CutsBack.{keys_rise}
-use Rattle.op_core.proofs.Walk.{find_here, find_nowhere}
 use Rattle.conflict_settling.specs.After.{text_after}
 use Rattle.conflict_settling.specs.Before.{is_filled, last_from, text_at, text_before}
 use Rattle.conflict_settling.specs.Filled.{filled_keys}
@@ -53,12 +53,14 @@ module _ (p : KeyParts → Bool) where
   -- those that fail come first, so the first that passes is at that place
   pub first_parted : (ks : List KeyParts) (n : ℕ) (k : KeyParts) → n < length ks
       → IsPartitionPoint (λ x. not (p x) ≡ true) (λ x. not (p x) ≡ false) ks n → k ≡ get_or ks n k → Some k ≡ find p ks
-  first_parted ks n k within h is = sym (find_here p ks n k within is (ap p is ∙ not-false _ (h.1 n k (omega arith) within))
-      (λ i d l. not-true _ (h.0 i d (omega arith) l)))
+  first_parted ks n k within h is = sym (found_at (find p) p Some None refl (λ _ _. refl) ks n k within
+      (λ i l. not-true _ (h.0 i k (omega arith) l)) (not-false _ (h.1 n k (omega arith) within)) ∙ ap Some (sym is))
 
   pub nothing_parted : (ks : List KeyParts) (n : ℕ) → length ks ≤ n
       → IsPartitionPoint (λ x. not (p x) ≡ true) (λ x. not (p x) ≡ false) ks n → None ≡ find p ks
-  nothing_parted ks n whole h = sym (find_nowhere p ks (λ i d l. not-true _ (h.0 i d (omega arith) (omega (arith, whole)))))
+  nothing_parted [] n whole h = refl
+  nothing_parted (k ∷ ks) n whole h = sym (found_nowhere (find p) p Some None refl (λ _ _. refl) (k ∷ ks) k
+      (λ i l. not-true _ (h.0 i k (omega arith) (omega (arith, whole)))))
 
 -- in keys that rise, those that are not after a key come first
 pub parted_after : (q : KeyParts) (ks : List KeyParts) → rises_by key_cmp (λ k. k) ks ≡ true

@@ -79,7 +79,8 @@ fn conflicts_between<'a>(
     segments: &[Segment],
 ) -> Result<Vec<PageConflict<'a>>, AllocError>
     ensures { IfOk result (λ conflicts.
-        says.AreConflictsOf texts.entry.held segments.now (map says.conflict_view conflicts.items)) }
+        says.AreConflictsOf texts.entry.held segments.now
+        (map says.conflict_view conflicts.items)) }
 {
     let mut conflicts = Vec::new(alloc);
     for segment in segments {
