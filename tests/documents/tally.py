@@ -38,7 +38,7 @@ def crates():
 
 def kept_files():
     """The files that git keeps, by their paths, without packed branches that are not merged and the program."""
-    words = ["ls-files", "-co", "-z", "--exclude-standard", "--", ":!parked", ":!release/usfm_team"]
+    words = ["ls-files", "-co", "-z", "--exclude-standard", "--", ":!release/usfm_team"]
     # The repository may be another user's than who looks at it.
     listed = subprocess.run(["git", "-c", "safe.directory=*", "-C", TOP, *words], stdout=subprocess.PIPE, check=True)
     return [path for path in map(os.fsdecode, listed.stdout.split(b"\0")) if (TOP / path).is_file()]
