@@ -59,12 +59,18 @@ impl Refusal {
         }
     }
 
-    // The same, with the other one of two files, if there are two.
-    pub(crate) fn beside(mut self, other: Option<String>) -> Refusal {
-        if let Some(file) = &mut self.file {
-            file.beside = other;
+    // The refusal of the second of two files of a book, with the other one, if its name is known.
+    pub(crate) fn of_two(fault: Fault, name: String, other: Option<String>) -> Refusal {
+        let file = RefusedFile {
+            name,
+            expected: Expected::OneOfTwo,
+            is_alone: false,
+            beside: other,
+        };
+        Refusal {
+            fault,
+            file: Some(file),
         }
-        self
     }
 
     // The refusal of the one file that the line names for this.

@@ -250,40 +250,50 @@ fn say_headless(rt: &HostRuntime, book: Book) {
 
 // Why a plan is refused, and what is named.
 pub(crate) fn refusal_of(what: What<'_>, read: &Read, refusal: book_folder::Refusal) -> Refusal {
+    let other = other_file(&refusal);
+    let place = match refusal {
+        book_folder::Refusal::Memory => None,
+        book_folder::Refusal::Of(place, _) => Some(place),
+    };
     let fault = fault_of(refusal);
-    match refusal {
-        book_folder::Refusal::Memory => Refusal::from(fault),
-        book_folder::Refusal::Of(Place::Project, _) => {
-            Refusal::of_project(what.rt, fault, what.path)
-        }
-        book_folder::Refusal::Of(place, why) => match name_of(what, read, place) {
-            Ok(Some(name)) => {
-                let other = other_of(what, read, why);
-                Refusal::named(fault, name, expected_of(place, why)).beside(other)
-            }
+    match place {
+        None => Refusal::from(fault),
+        Some(Place::Project) => Refusal::of_project(what.rt, fault, what.path),
+        Some(place) => match name_of(what, read, place) {
+            Ok(Some(name)) => match other {
+                None => Refusal::named(fault, name, expected_at(place)),
+                Some(at) => Refusal::of_two(fault, name, name_at(what, read, at)),
+            },
             _ => Refusal::from(fault),
         },
     }
 }
 
-// What the thing was to be that is refused for this.
-fn expected_of(place: Place, why: FolderFault) -> Expected {
-    match (place, why) {
-        (_, FolderFault::SecondOf(_)) => Expected::OneOfTwo,
-        (Place::Project, _) => Expected::Project,
-        (Place::Base(_) | Place::Next | Place::Older(_), _) => Expected::Kept,
-        (Place::Bundle(_), _) => Expected::Bundle,
-        (Place::File(_), _) => Expected::BookFile,
-        (Place::Other(_), _) => Expected::Unknown,
-        (Place::Form, _) => Expected::NewName,
+// What stands at a place is to be.
+fn expected_at(place: Place) -> Expected {
+    match place {
+        Place::Project => Expected::Project,
+        Place::Base(_) | Place::Next | Place::Older(_) => Expected::Kept,
+        Place::Bundle(_) => Expected::Bundle,
+        Place::File(_) => Expected::BookFile,
+        Place::Other(_) => Expected::Unknown,
+        Place::Form => Expected::NewName,
     }
 }
 
-// The name of the book's other file, of a second one.
-fn other_of(what: What<'_>, read: &Read, why: FolderFault) -> Option<String> {
-    match why {
-        FolderFault::SecondOf(at) => name_of(what, read, Place::File(at)).unwrap_or(None),
+// The place of the other one, where a second file of a book is refused.
+fn other_file(refusal: &book_folder::Refusal) -> Option<usize> {
+    match refusal {
+        book_folder::Refusal::Of(_, FolderFault::SecondOf(other)) => Some(*other),
         _ => None,
+    }
+}
+
+// The name of a file of the folder, unless memory for it is wanting.
+fn name_at(what: What<'_>, read: &Read, at: usize) -> Option<String> {
+    match name_of(what, read, Place::File(at)) {
+        Ok(name) => name,
+        Err(_) => None,
     }
 }
 
