@@ -117,6 +117,13 @@ def conflicting(count: int) -> bytes:
     return rising([operation((at, b"a"), "MAT", 1, 1, [], b"\\v 1 %d\n" % at) for at in range(1, count + 1)])
 
 
+def many_conflicts(count: int) -> bytes:
+    """This many segments of a book, each with two texts."""
+    places = [(at // 200 + 1, at % 200 + 1) for at in range(count)]
+    ids = [(number, chapter, verse) for number, (chapter, verse) in enumerate([it for it in places for _ in "ab"], 1)]
+    return rising([operation((number, b"a"), "MAT", chapter, verse, [], b"\\v %d %d\n" % (verse, number)) for number, chapter, verse in ids])
+
+
 def alike(count: int) -> list[bytes]:
     """Operations of one segment with one text, none of which names another."""
     return [operation((at, b"a"), "MAT", 1, 1, [], text_of(1)) for at in range(1, count + 1)]
@@ -282,6 +289,7 @@ FAMILIES = [
     Family("one segment with many texts: an edit over given ids", 3_000, 30_000, edited_over),
     Family("one segment with many equal texts: an import since a bundle", 10_000, 100_000, changed_alike),
     Family("one segment with many equal texts: a first sync", 10_000, 100_000, synced_alike),
+    Family("many segments of a book with two texts each: page", 1_000, 10_000, lambda n: Input(["page", PROJECT], {PROJECT: project(many_conflicts(n))})),
     Family("what is replaced arrives after what replaces it", 10_000, 100_000, arriving_late),
     Family("one segment with many texts, and as many with lower ids", 5_000, 50_000, arriving_below),
     Family("each operation names the oldest that is shown", 5_000, 50_000, replacing_oldest),
