@@ -14,4 +14,4 @@ files_left s = files_from s.at (map found_view s.left.now)
 
 -- the pieces that are not given yet
 abbrev pub pieces_left : RestoredPieces → List PieceParts
-pieces_left s = map (restored_piece s.base.now.held s.book) (pieces_view s.left.now)
+pieces_left s = map (restored_piece s.base s.book) (pieces_view s.left.now)

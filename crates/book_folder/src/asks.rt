@@ -12,7 +12,7 @@ ghost use Rattle.book_folder.specs.Asks as asks;
 ghost use Rattle.book_folder.specs.Likes.{like};
 
 use crate::likes::is_like;
-use op_core::{Picked, ReplicaName, chapter_line};
+use op_core::{Cursor, Picked, ReplicaName, chapter_line};
 use replica_state::{Replica, piece_at};
 use std::alloc::{AllocError, Global};
 use usfm_ref::{Book, Key};
@@ -47,9 +47,14 @@ pub(crate) fn emptied(
 fn keys_with_text(alloc: Global, base: &Replica, book: Book) -> Result<Vec<Key>, AllocError>
     ensures { IfOk result (λ keys. keys.items ≡ asks.keys_with_text base.now.held book) }
 {
-    base.keys(book)
-        .filter(|key| has_text(base, book, *key))
-        .collect(alloc)
+    let mut cursor = base.set().cursor();
+    let mut keys = Vec::new(alloc);
+    for key in base.keys(book) {
+        if has_text(&mut cursor, book, key) {
+            keys.push(key)?;
+        }
+    }
+    Ok(keys)
 }
 
 // For how many keys a file has no text.
@@ -92,11 +97,12 @@ fn is_gone(pieces: &[Piece<'_>], key: Key) -> bool
     piece_at(pieces, key).is_empty()
 }
 
-// Whether a replica picks a text for a key.
-fn has_text(replica: &Replica, book: Book, key: Key) -> bool
-    ensures { result ≡ not (is_empty (picked_at replica.now.held book key)) }
+// Whether a text is picked for a key.
+fn has_text(cursor: &mut Cursor<'_>, book: Book, key: Key) -> bool
+    ensures text { result ≡ not (is_empty (picked_at cursor.old book key)) }
+    ensures same { cursor.new ≡ cursor.old }
 {
-    match replica.pick(book, key) {
+    match cursor.pick(book, key) {
         Picked::Nothing => false,
         Picked::Held(op) => !op.text_or_empty().is_empty(),
         Picked::ChapterLine(_) => true,
@@ -157,9 +163,15 @@ fn came_keys(
     ensures { IfOk result (λ keys.
         keys.items ≡ asks.came_keys older.now.held base.now.held own book) }
 {
-    base.keys(book)
-        .filter(|key| is_new_of_another(older, base, own, book, *key))
-        .collect(alloc)
+    let mut older = older.set().cursor();
+    let mut newer = base.set().cursor();
+    let mut keys = Vec::new(alloc);
+    for key in base.keys(book) {
+        if is_new_of_another(&mut older, &mut newer, own, book, key) {
+            keys.push(key)?;
+        }
+    }
+    Ok(keys)
 }
 
 // For how many keys a file has the text that a replica picks.
@@ -178,19 +190,25 @@ fn has_text_of(replica: &Replica, book: Book, pieces: &[Piece<'_>], key: Key) ->
     requires rising { IsTrue (rises_by key_cmp (λ p. p.key) pieces.now) }
     ensures { result ≡ asks.has_text_of replica.now.held book (pieces_view pieces.now) key }
 {
-    is_picked(replica, book, key, piece_at(pieces, key))
+    is_picked(
+        &mut replica.set().cursor(),
+        book,
+        key,
+        piece_at(pieces, key),
+    )
 }
 
 // Whether what a base picks for a key is another replica's, and not like what an older base picks.
 fn is_new_of_another(
-    older: &Replica,
-    base: &Replica,
+    older: &mut Cursor<'_>,
+    base: &mut Cursor<'_>,
     own: ReplicaName,
     book: Book,
     key: Key,
 ) -> bool
-    ensures { let picked = pick base.now.held (segment book key) in
-        result ≡ asks.is_new_of_another older.now.held own book key picked }
+    ensures new { let picked = pick base.old (segment book key) in
+        result ≡ asks.is_new_of_another older.old own book key picked }
+    ensures same { (older.new ≡ older.old) × (base.new ≡ base.old) }
 {
     match base.pick(book, key) {
         Picked::Held(op) => {
@@ -200,11 +218,12 @@ fn is_new_of_another(
     }
 }
 
-// Whether a text is like the one that a replica picks for a key.
-fn is_picked(replica: &Replica, book: Book, key: Key, text: &str) -> bool
-    ensures { result ≡ like (picked_at replica.now.held book key) text.now }
+// Whether a text is like the one that is picked for a key.
+fn is_picked(cursor: &mut Cursor<'_>, book: Book, key: Key, text: &str) -> bool
+    ensures like { result ≡ like (picked_at cursor.old book key) text.now }
+    ensures same { cursor.new ≡ cursor.old }
 {
-    match replica.pick(book, key) {
+    match cursor.pick(book, key) {
         Picked::Nothing => is_like(b"", text.as_bytes()),
         Picked::Held(op) => is_like(op.text_or_empty().as_bytes(), text.as_bytes()),
         Picked::ChapterLine(chapter) => is_like(chapter_line(chapter).bytes(), text.as_bytes()),

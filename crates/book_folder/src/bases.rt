@@ -92,9 +92,10 @@ fn next_ops<'a>(
     ensures { IfOk result (λ ops. map (λ op. op.now) ops.items
         ≡ bases.shown_in_files headless.now replica.now.held) }
 {
+    let mut cursor = replica.set().cursor();
     let mut ops = Vec::new(alloc);
     for op in replica.set().iter() {
-        if !is_one_of(headless, op.book()) && replica.shows(op) {
+        if !is_one_of(headless, op.book()) && cursor.shows(op) {
             ops.push(op)?;
         }
     }
@@ -122,9 +123,10 @@ fn kept_ops<'a>(
         ≡ bases.kept_shown (map stood_view stood.now) base.now.held) }
 {
     let texts = stood_texts(alloc, stood)?;
+    let mut cursor = base.set().cursor();
     let mut ops = Vec::new(alloc);
     for op in base.set().iter() {
-        if base.shows(op) && stood_text(&texts, op).is_none() {
+        if cursor.shows(op) && stood_text(&texts, op).is_none() {
             ops.push(op)?;
         }
     }
@@ -141,9 +143,10 @@ fn found_ops<'a>(
         ≡ bases.found_shown (map stood_view stood.now) replica.now.held) }
 {
     let texts = stood_texts(alloc, stood)?;
+    let mut cursor = replica.set().cursor();
     let mut ops = Vec::new(alloc);
     for op in replica.set().iter() {
-        if replica.shows(op) && has_text(stood_text(&texts, op), op) {
+        if cursor.shows(op) && has_text(stood_text(&texts, op), op) {
             ops.push(op)?;
         }
     }

@@ -11,7 +11,7 @@ use crate::files::is_one_of;
 use crate::refusal::{FolderFault, Place, Refusal};
 use crate::seen::{Seen, Wishes};
 use bundle_codec::{Bundle, OpView, decode_whole, encode_ops, join_bundles};
-use op_core::{Op, OpSet, ReplicaName};
+use op_core::{Cursor, Op, OpSet, ReplicaName};
 use project_file::load;
 use replica_state::Replica;
 use std::alloc::{AllocError, Global};
@@ -331,8 +331,9 @@ fn push_conflicts(
     ensures { OnOk result (found.new.items
         ≡ found.old.items ++ begins.conflicts_in replica.now.held book) }
 {
+    let mut cursor = replica.set().cursor();
     for key in replica.keys(book) {
-        if is_in_conflict(alloc, replica, book, key)? {
+        if is_in_conflict(alloc, &mut cursor, book, key)? {
             found.push((book, key))?;
         }
     }
@@ -342,17 +343,18 @@ fn push_conflicts(
 // Whether a segment shows different texts.
 pub(crate) fn is_in_conflict(
     alloc: Global,
-    replica: &Replica,
+    cursor: &mut Cursor<'_>,
     book: Book,
     key: Key,
 ) -> Result<bool, AllocError>
-    ensures { IfOk result (λ is.
-        is ≡ begins.is_in_conflict replica.now.held (segment book key)) }
+    ensures conflict { IfOk result (λ is.
+        is ≡ begins.is_in_conflict cursor.old (segment book key)) }
+    ensures same { cursor.new ≡ cursor.old }
 {
-    if replica.set().shown_ids(book, key).len() < 2 {
+    if cursor.shown_ids(book, key).len() < 2 {
         return Ok(false);
     }
-    let shown = replica.shown(alloc, book, key)?;
+    let shown = cursor.shown(alloc, book, key)?;
     Ok(differ(&shown))
 }
 

@@ -4,19 +4,20 @@ ghost use Rattle.usfm_ref.specs.Keys.{key_cmp};
 ghost use Rattle.usfm_ref.specs.Rising.{rises_by};
 ghost use Rattle.verse_cut.specs.Views.{pieces_view};
 ghost use Rattle.replica_state.specs.Changes.{change_view, changes_view};
+ghost use Rattle.replica_state.specs.Imports.{walked_keys};
 ghost use Rattle.book_folder.specs.Taking as taking;
 ghost use Rattle.book_folder.specs.Wanted.{wanted_view};
 
 use crate::begun::is_in_conflict;
 use crate::files::is_same_book;
 use crate::seen::Wanted;
-use op_core::OpId;
+use op_core::{Cursor, OpId};
 use replica_state::{Change, Replica, piece_at};
 use std::alloc::{AllocError, Global};
 use usfm_ref::{Book, Key};
 use verse_cut::Piece;
 
-// What was changed in a file, of rising keys.
+// What was changed in a file, at the keys that it may concern, which rise.
 pub(crate) fn changes<'a>(
     alloc: Global,
     replica: &Replica,
@@ -24,17 +25,19 @@ pub(crate) fn changes<'a>(
     settled: &[Wanted],
     book: Book,
     pieces: &[Piece<'a>],
+    keys: &[Key],
 ) -> Result<Vec<Change<'a>>, AllocError>
     requires rising { IsTrue (rises_by key_cmp (λ p. p.key) pieces.now) }
+    requires walked { keys.now ≡ walked_keys replica.now.held book (pieces_view pieces.now) }
     ensures { IfOk result (λ made. changes_view made.items
         ≡ taking.file_changes replica.now.held base.now.held (map wanted_view settled.now)
         book (pieces_view pieces.now)) }
 {
-    let keys = replica.walked_keys(book, pieces)?;
+    let mut base = base.set().cursor();
     let mut changes = Vec::new(alloc);
-    let mut left = keys.as_slice();
+    let mut left = keys;
     'keys: while let [key, later @ ..] = left {
-        if let Some(change) = change_at(alloc, replica, base, settled, book, pieces, *key)? {
+        if let Some(change) = change_at(alloc, replica, &mut base, settled, book, pieces, *key)? {
             changes.push(change)?;
         }
         left = later;
@@ -48,16 +51,17 @@ pub(crate) fn changes<'a>(
 fn change_at<'a>(
     alloc: Global,
     replica: &Replica,
-    base: &Replica,
+    base: &mut Cursor<'_>,
     settled: &[Wanted],
     book: Book,
     pieces: &[Piece<'a>],
     key: Key,
 ) -> Result<Option<Change<'a>>, AllocError>
     requires rising { IsTrue (rises_by key_cmp (λ p. p.key) pieces.now) }
-    ensures { IfOk result (λ made. option_map change_view made
-        ≡ taking.change_at replica.now.held base.now.held (map wanted_view settled.now)
+    ensures change { IfOk result (λ made. option_map change_view made
+        ≡ taking.change_at replica.now.held base.old (map wanted_view settled.now)
         book (pieces_view pieces.now) key) }
+    ensures same { base.new ≡ base.old }
 {
     if let Some(ids) = settling_ids(alloc, replica, base, settled, book, key)? {
         let text = piece_at(pieces, key);
@@ -70,17 +74,18 @@ fn change_at<'a>(
 fn settling_ids(
     alloc: Global,
     replica: &Replica,
-    base: &Replica,
+    base: &mut Cursor<'_>,
     settled: &[Wanted],
     book: Book,
     key: Key,
 ) -> Result<Option<Vec<OpId>>, AllocError>
-    ensures { IfOk result (λ ids. option_map (λ i. i.items) ids ≡ taking.settling_ids
-        replica.now.held base.now.held (map wanted_view settled.now) book key) }
+    ensures ids { IfOk result (λ ids. option_map (λ i. i.items) ids ≡ taking.settling_ids
+        replica.now.held base.old (map wanted_view settled.now) book key) }
+    ensures same { base.new ≡ base.old }
 {
     if !is_wanted(settled, book, key)
         || !is_in_conflict(alloc, base, book, key)?
-        || !is_in_conflict(alloc, replica, book, key)?
+        || !is_in_conflict(alloc, &mut replica.set().cursor(), book, key)?
     {
         return Ok(None);
     }
@@ -119,15 +124,16 @@ fn is_key(wanted: Option<Key>, key: Key) -> bool
 fn still_shown(
     alloc: Global,
     replica: &Replica,
-    base: &Replica,
+    base: &mut Cursor<'_>,
     book: Book,
     key: Key,
 ) -> Result<Vec<OpId>, AllocError>
-    ensures { IfOk result (λ ids.
-        ids.items ≡ taking.still_shown replica.now.held base.now.held book key) }
+    ensures ids { IfOk result (λ ids.
+        ids.items ≡ taking.still_shown replica.now.held base.old book key) }
+    ensures same { base.new ≡ base.old }
 {
     let mut ids = Vec::new(alloc);
-    let mut left = base.set().shown_ids(book, key);
+    let mut left = base.shown_ids(book, key);
     'ids: while let [id, later @ ..] = left {
         if replica.shows_id(book, key, *id) {
             ids.push(*id)?;

@@ -215,9 +215,9 @@ fn is_unchanged(
 fn holds_all(replica: &Replica, base: &Replica, book: Book) -> bool
     ensures { result ≡ list_all (exports.is_held_of replica.now.held book) base.now.held }
 {
-    let mut finder = replica.set().finder();
+    let mut cursor = replica.set().cursor();
     for op in base.set().iter() {
-        if is_same_book(op.book(), book) && !is_held_alike(finder.find(&op.id()), op) {
+        if is_same_book(op.book(), book) && !is_held_alike(cursor.find(&op.id()), op) {
             return false;
         }
     }
@@ -286,9 +286,10 @@ fn shown_ops<'a>(
     ensures { IfOk result (λ ops. map (λ op. op.now) ops.items
         ≡ exports.shown_of books.now replica.now.held) }
 {
+    let mut cursor = replica.set().cursor();
     let mut ops = Vec::new(alloc);
     for op in replica.set().iter() {
-        if is_one_of(books, op.book()) && replica.shows(op) {
+        if is_one_of(books, op.book()) && cursor.shows(op) {
             ops.push(op)?;
         }
     }

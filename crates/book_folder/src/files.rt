@@ -1,5 +1,5 @@
 // Which files of a folder are books'.
-ghost use Rattle.std.specs.Prelude.{◌≡◌, ◌+◌, ◌<◌, ◌^◌, IfOk, length, IsUtf8, map, option_map};
+ghost use Rattle.std.specs.Prelude.{◌≡◌, ◌+◌, ◌<◌, ◌^◌, IfOk, length, map, option_map};
 ghost use Rattle.std.specs.Prelude.{take};
 ghost use Rattle.std.specs.Str.Lossy.{utf8_valid_len};
 ghost use Rattle.usfm_ref.specs.Books.{same_bytes};
@@ -38,10 +38,7 @@ fn ends_in(name: &[u8], ending: &[u8]) -> bool
 pub fn book_begun(file: &[u8]) -> Option<Book>
     ensures { result ≡ which.book_begun file.now }
 {
-    match read_text(text_front(file)) {
-        Ok(text) => book_of(text).ok(),
-        Err(_) => None,
-    }
+    book_of(text_front(file)).ok()
 }
 
 // The text that bytes are, if they are one.
@@ -55,13 +52,12 @@ pub(crate) fn text_if(bytes: &[u8]) -> Option<&str>
 }
 
 // The longest front of a file that is UTF-8.
-fn text_front(file: &[u8]) -> &[u8]
-    ensures front { result.now ≡ take (utf8_valid_len file.now) file.now }
-    ensures text { IsUtf8 result.now }
+fn text_front(file: &[u8]) -> &str
+    ensures { result.now ≡ take (utf8_valid_len file.now) file.now }
 {
     match read_text(file) {
-        Ok(_) => file,
-        Err(TokenFault::NotUtf8 { valid }) => &file[..valid],
+        Ok(text) => text,
+        Err(TokenFault::NotUtf8 { valid }) => read_text(&file[..valid]).unwrap(),
     }
 }
 

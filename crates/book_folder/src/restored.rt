@@ -10,7 +10,7 @@ ghost use Rattle.op_core.specs.Shown.{pick};
 ghost use Rattle.book_folder.specs.Restored as restored;
 
 use crate::likes::{LineEnds, is_like, push_in_line_ends};
-use op_core::Picked;
+use op_core::{Cursor, Picked};
 use replica_state::Replica;
 use std::alloc::{AllocError, Global};
 use usfm_ref::{Book, Key};
@@ -49,7 +49,7 @@ fn without_mark(text: &str) -> &str
 // like each other.
 #[derive(Drop)]
 struct RestoredPieces<'p, 'a> {
-    base: &'a Replica,
+    base: Cursor<'a>,
     book: Book,
     left: &'p [Piece<'a>],
 }
@@ -68,7 +68,7 @@ impl<'p, 'a> Iterator for RestoredPieces<'p, 'a> {
     fn next(&mut self) -> Option<Piece<'a>> {
         let Piece { key, text, start } = *self.left.first()?;
         self.left = &self.left[1..];
-        let text = restored_text(self.base, self.book, key, text);
+        let text = restored_text(&mut self.base, self.book, key, text);
         Some(Piece { key, text, start })
     }
 }
@@ -87,7 +87,7 @@ pub(crate) fn restored_pieces<'a>(
 {
     let parts = cut(alloc, text)?;
     RestoredPieces {
-        base,
+        base: base.set().cursor(),
         book,
         left: &parts,
     }
@@ -95,9 +95,10 @@ pub(crate) fn restored_pieces<'a>(
 }
 
 // The text that a base picks for a key, where a piece is like it, and else the piece.
-fn restored_text<'a>(base: &'a Replica, book: Book, key: Key, piece: &'a str) -> &'a str
-    ensures { result.now
-        ≡ restored.restored_by (pick base.now.held (segment book key)) piece.now }
+fn restored_text<'a>(base: &mut Cursor<'a>, book: Book, key: Key, piece: &'a str) -> &'a str
+    ensures restored { result.now
+        ≡ restored.restored_by (pick base.old (segment book key)) piece.now }
+    ensures same { base.new ≡ base.old }
 {
     match base.pick(book, key) {
         Picked::Held(op) if is_like(op.text_or_empty().as_bytes(), piece.as_bytes()) => {

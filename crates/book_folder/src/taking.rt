@@ -1,5 +1,6 @@
 // A folder's files, taken into a project.
-ghost use Rattle.std.specs.Prelude.{◌≡◌, ◌++◌, IfOk, IfSome, IsTrue, IsUtf8, OnOk, is_some, map};
+ghost use Rattle.std.specs.Prelude.{◌≡◌, ◌++◌, IfOk, IfSome, IsTrue, IsUtf8, OnOk, filter};
+ghost use Rattle.std.specs.Prelude.{is_some, map};
 ghost use Rattle.usfm_ref.specs.Keys.{key_cmp};
 ghost use Rattle.usfm_ref.specs.Rising.{rises_by};
 ghost use Rattle.verse_cut.specs.Views.{pieces_view};
@@ -25,7 +26,7 @@ use crate::likes::{LineEnds, is_like};
 use crate::refusal::{FolderFault, Place, Refusal};
 use crate::restored::{in_manner_of, restored_pieces};
 use crate::seen::{Wanted, Wishes};
-use op_core::{Picked, ReplicaName, chapter_line};
+use op_core::{Cursor, Picked, ReplicaName, chapter_line};
 use replica_state::{Replica, piece_at};
 use std::alloc::{AllocError, Global};
 use usfm_export::{TextFault, book_text};
@@ -173,9 +174,10 @@ fn take_changed(
     if let Some(fault) = asked(alloc, beside, replica.name(), file.book, pieces)? {
         return Err(Refusal::Of(place, fault));
     }
+    let keys = replica.walked_keys(file.book, pieces)?;
     let settled = &beside.wishes.settled;
-    let made = changes(alloc, replica, base, settled, file.book, pieces)?;
-    push_stood(alloc, replica, base, file.book, pieces, stood)?;
+    let made = changes(alloc, replica, base, settled, file.book, pieces, &keys)?;
+    push_stood_at(alloc, base, file.book, pieces, &keys, stood)?;
     match replica.change(file.book, &made) {
         Ok(count) => Ok(count),
         Err(fault) => Err(Refusal::of_edit(place, fault)),
@@ -313,10 +315,29 @@ fn push_stood(
         ≡ map taking.stood_view stood.old.items ++ more) }
 {
     let keys = replica.walked_keys(book, pieces)?;
-    let mut left = keys.as_slice();
+    push_stood_at(alloc, base, book, pieces, &keys, stood)
+}
+
+// Adds those of some keys for which a file has another text than its base picks.
+fn push_stood_at(
+    alloc: Global,
+    base: &Replica,
+    book: Book,
+    pieces: &[Piece<'_>],
+    keys: &[Key],
+    stood: &mut Vec<Stood>,
+) -> Result<(), AllocError>
+    requires rising { IsTrue (rises_by key_cmp (λ p. p.key) pieces.now) }
+    ensures { let view = pieces_view pieces.now in
+        let others = filter (taking.has_other base.now.held book view) keys.now in
+        OnOk result (map taking.stood_view stood.new.items
+        ≡ map taking.stood_view stood.old.items ++ map (taking.stood_at book view) others) }
+{
+    let mut cursor = base.set().cursor();
+    let mut left = keys;
     'keys: while let [key, later @ ..] = left {
         let piece = piece_at(pieces, *key);
-        if !picks(base, book, *key, piece) {
+        if !picks(&mut cursor, book, *key, piece) {
             stood.push(Stood {
                 book,
                 key: *key,
@@ -328,11 +349,12 @@ fn push_stood(
     Ok(())
 }
 
-// Whether a replica picks this text for a key.
-fn picks(replica: &Replica, book: Book, key: Key, text: &str) -> bool
-    ensures { result ≡ same_bytes (picked_at replica.now.held book key) text.now }
+// Whether this text is picked for a key.
+fn picks(cursor: &mut Cursor<'_>, book: Book, key: Key, text: &str) -> bool
+    ensures picked { result ≡ same_bytes (picked_at cursor.old book key) text.now }
+    ensures same { cursor.new ≡ cursor.old }
 {
-    match replica.pick(book, key) {
+    match cursor.pick(book, key) {
         Picked::Nothing => text.is_empty(),
         Picked::Held(op) => op.text_or_empty() == text,
         Picked::ChapterLine(chapter) => chapter_line(chapter).bytes() == text.as_bytes(),

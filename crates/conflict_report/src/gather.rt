@@ -8,7 +8,7 @@ ghost use Rattle.conflict_report.specs.Reports as reports;
 
 use crate::part::{Part, awaited_line, conflict_line, text_line};
 use crate::texts::shown_texts;
-use op_core::Op;
+use op_core::{Cursor, Op};
 use replica_state::Replica;
 use std::alloc::{AllocError, Global};
 use usfm_ref::{Book, Key};
@@ -48,8 +48,9 @@ fn push_book<'a>(
     ensures { OnOk result (bytes_of parts.new.items ≡ bytes_of parts.old.items
         ++ reports.conflicts_in replica.now.held book) }
 {
+    let mut cursor = replica.set().cursor();
     for key in replica.keys(book) {
-        push_segment(alloc, replica, book, key, parts)?;
+        push_segment(alloc, &mut cursor, book, key, parts)?;
     }
     Ok(())
 }
@@ -57,15 +58,16 @@ fn push_book<'a>(
 // Adds the conflict of a segment, if it shows two or more distinct texts.
 fn push_segment<'a>(
     alloc: Global,
-    replica: &'a Replica,
+    cursor: &mut Cursor<'a>,
     book: Book,
     key: Key,
     parts: &mut Vec<Part<'a>>,
 ) -> Result<(), AllocError>
-    ensures { OnOk result (bytes_of parts.new.items ≡ bytes_of parts.old.items
-        ++ reports.conflict_at replica.now.held (segment book key)) }
+    ensures conflict { OnOk result (bytes_of parts.new.items ≡ bytes_of parts.old.items
+        ++ reports.conflict_at cursor.old (segment book key)) }
+    ensures same { cursor.new ≡ cursor.old }
 {
-    let texts = shown_texts(alloc, replica, book, key)?.distinct;
+    let texts = shown_texts(alloc, cursor, book, key)?.distinct;
     let count = texts.len();
     if count < 2 {
         return Ok(());

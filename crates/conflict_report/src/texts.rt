@@ -3,13 +3,12 @@ ghost use Rattle.std.specs.Prelude.{◌≡◌, IfOk, map};
 ghost use Rattle.usfm_ref.specs.Segments.{segment};
 ghost use Rattle.conflict_report.specs.Reports as reports;
 
-use op_core::Op;
-use replica_state::Replica;
+use op_core::{Cursor, Op};
 use std::alloc::{AllocError, Global};
 use std::collections::BTreeSet;
 use usfm_ref::{Book, Key};
 
-/// The operations that a segment shows, lent from the replica, in two lists in descending order
+/// The operations that a segment shows, lent from their set, in two lists in descending order
 /// of ids.
 #[derive(Debug, Drop)]
 pub struct ShownTexts<'a> {
@@ -23,22 +22,21 @@ pub struct ShownTexts<'a> {
 ///
 /// # Errors
 /// Out of memory alone.
-pub fn shown_texts(
+pub fn shown_texts<'a>(
     alloc: Global,
-    replica: &Replica,
+    cursor: &mut Cursor<'a>,
     book: Book,
     key: Key,
-) -> Result<ShownTexts<'_>, AllocError>
+) -> Result<ShownTexts<'a>, AllocError>
     ensures distinct { IfOk result (λ texts.
         map (λ op. op.now) texts.distinct.items
-        ≡ reports.distinct_texts replica.now.held (segment book key)) }
+        ≡ reports.distinct_texts cursor.old (segment book key)) }
     ensures repeated { IfOk result (λ texts.
         map (λ op. op.now) texts.repeated.items
-        ≡ reports.repeated_texts replica.now.held (segment book key)) }
+        ≡ reports.repeated_texts cursor.old (segment book key)) }
+    ensures same { cursor.new ≡ cursor.old }
 {
-    // The name shows that the replica holds a set, whose shown ids rise.
-    let _ = replica.name();
-    let mut shown = replica.shown(alloc, book, key)?;
+    let mut shown = cursor.shown(alloc, book, key)?;
     let mut distinct = Vec::new(alloc);
     let mut repeated = Vec::new(alloc);
     let mut texts: BTreeSet<&str> = BTreeSet::new(alloc);

@@ -150,7 +150,7 @@ fn ask(
 ) -> Result<Asked, AllocError>
     ensures { IfOk result (asked.IsAskedOf replica.now.held (segment book key) left manner) }
 {
-    let shown = shown_texts(alloc, replica, book, key)?;
+    let shown = shown_texts(alloc, &mut replica.set().cursor(), book, key)?;
     let ids = ids_of(alloc, &shown)?;
     let texts = texts_of(alloc, &shown.distinct)?;
     let question = question_of(alloc, replica, book, key, left, manner, &shown)?;

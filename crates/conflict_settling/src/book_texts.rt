@@ -15,7 +15,7 @@ use std::marker::Model;
 use usfm_ref::{Book, Key};
 
 /// The texts of a book of a replica that are not empty, lent from it: what each segment of the book
-/// stands between. The book's keys are walked once, and then each text is found by halves.
+/// stands between. The book's keys are walked once, and then each text is found by binary search.
 #[derive(Debug, Drop)]
 pub struct BookTexts<'a> {
     replica: &'a Replica,
@@ -83,7 +83,7 @@ impl<'a> BookTexts<'a> {
     }
 
     /// What the book has before a segment of it: the last text there that is not empty, or the line
-    /// of a chapter. It takes no memory.
+    /// of a chapter. It does not allocate.
     pub fn before(&self, key: Key) -> Picked<'a>
         ensures { picks.picked_text (picks.picked result)
             ≡ before.text_before self.now.held (segment self.now.book key) }
@@ -92,7 +92,7 @@ impl<'a> BookTexts<'a> {
     }
 
     /// What the book has after a segment of it: the first text there that is not empty, or the line
-    /// of a chapter. It takes no memory.
+    /// of a chapter. It does not allocate.
     pub fn after(&self, key: Key) -> Picked<'a>
         ensures { picks.picked_text (picks.picked result)
             ≡ after.text_after self.now.held (segment self.now.book key) }

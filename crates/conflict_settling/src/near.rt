@@ -1,4 +1,4 @@
-// The keys next to one in a list that rises, each found by halves.
+// The keys next to one in a list that rises, each found by binary search.
 ghost use Rattle.std.specs.Prelude.{◌≡◌, None, not, IsTrue};
 ghost use Rattle.std.specs.List.{find};
 ghost use Rattle.std.specs.Ordering.{is_lt};

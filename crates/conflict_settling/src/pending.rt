@@ -7,6 +7,7 @@ ghost use Rattle.conflict_settling.specs.Pending as pending;
 
 use crate::wanted::{Wanted, is_wanted};
 use conflict_report::shown_texts;
+use op_core::Cursor;
 use replica_state::Replica;
 use std::alloc::{AllocError, Global};
 use usfm_ref::{Book, Key, Segment};
@@ -45,8 +46,9 @@ fn push_book(
     ensures { OnOk result (list.new.items ≡ list.old.items
         ++ pending.open_in replica.now.held wanted.now passed.now book) }
 {
+    let mut cursor = replica.set().cursor();
     for key in replica.keys(book) {
-        if is_open(alloc, replica, wanted, passed, book, key)? {
+        if is_open(alloc, &mut cursor, wanted, passed, book, key)? {
             list.push(Segment { book, key })?;
         }
     }
@@ -57,20 +59,21 @@ fn push_book(
 // distinct texts.
 fn is_open(
     alloc: Global,
-    replica: &Replica,
+    cursor: &mut Cursor<'_>,
     wanted: &[Wanted],
     passed: &Option<Segment>,
     book: Book,
     key: Key,
 ) -> Result<bool, AllocError>
-    ensures { IfOk result (λ is.
-        is ≡ pending.is_open replica.now.held wanted.now passed.now (segment book key)) }
+    ensures open { IfOk result (λ is.
+        is ≡ pending.is_open cursor.old wanted.now passed.now (segment book key)) }
+    ensures same { cursor.new ≡ cursor.old }
 {
     let is_next = is_after(passed, book, key);
     if !is_wanted(wanted, book, key) || !is_next {
         return Ok(false);
     }
-    Ok(shown_texts(alloc, replica, book, key)?.distinct.len() >= 2)
+    Ok(shown_texts(alloc, cursor, book, key)?.distinct.len() >= 2)
 }
 
 // Whether the segment comes after the one that was passed, if there is one.

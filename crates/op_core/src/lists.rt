@@ -1,4 +1,3 @@
 // Sets as lists, without an index: operations that rise by id, searched and merged.
-pub(crate) mod finder;
 pub(crate) mod merge;
 pub(crate) mod place;

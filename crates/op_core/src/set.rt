@@ -14,17 +14,18 @@ ghost use Rattle.op_core.specs.NextIds as next_ids;
 ghost use Rattle.std.specs.List.{AllByRecursion};
 ghost use Rattle.usfm_ref.specs.Keys.{is_verse_of};
 
+pub(crate) mod cursor;
 mod thinning;
 
+use self::cursor::{Cursor, lacks_text};
 use crate::fault::SetFault;
 use crate::ids::op_id::OpId;
 use crate::ids::search::Search;
 use crate::index::books::Books;
 use crate::index::chapter::Chapter;
 use crate::index::keys::Keys;
-use crate::index::place::{any_key_beside, shown_of};
+use crate::index::place::any_key_beside;
 use crate::index::{enroll, push_awaited};
-use crate::lists::finder::Finder;
 use crate::lists::merge::{
     clash, has_new, look_at_each, merge, place_first, remove_held, reserve_ops, tail_of,
 };
@@ -35,7 +36,7 @@ use crate::operations::picked::Picked;
 use std::alloc::{AllocError, Global};
 use std::marker::Model;
 use std::slice;
-use usfm_ref::{Book, Key, Place, Segment};
+use usfm_ref::{Book, Key, Segment};
 
 /// A set of operations, of which no two have one id. It keeps the allocator that it was made with.
 #[derive(Debug, Drop)]
@@ -113,12 +114,12 @@ impl OpSet {
         find_op(&self.ops, *id, &mut Search::default())
     }
 
-    /// What finds held operations by their ids, and fastest by ids that rise. It does not
+    /// What looks up one id or one segment after another, fastest in ascending order. It does not
     /// allocate.
-    pub fn finder(&self) -> Finder<'_>
+    pub fn cursor(&self) -> Cursor<'_>
         ensures { result ≡ self.now }
     {
-        Finder::new(&self.ops)
+        Cursor::new(self)
     }
 
     /// Adds an operation with its text, and says whether it is new. Where its id is held, what is
@@ -219,8 +220,7 @@ impl OpSet {
     pub fn shown_ids(&self, book: Book, key: Key) -> &[OpId]
         ensures { result.now ≡ lists.shown_ids self.now (segment book key) }
     {
-        let segment = Segment { book, key };
-        shown_of(self.index(), &segment, &mut Search::default())
+        self.cursor().shown_ids(book, key)
     }
 
     /// The books with an operation, in the order of books. The walk does not allocate.
@@ -270,15 +270,7 @@ impl OpSet {
             (λ v. map (λ op. op.now) v.items ≡ texts.shown self.now (segment book key)) }
         ensures none { texts.shown self.now (segment book key) ≡ [] → IsOk result }
     {
-        let segment = Segment { book, key };
-        let ids = shown_of(self.index(), &segment, &mut Search::default());
-        let mut shown = Vec::with_capacity(alloc, ids.len())?;
-        for id in ids {
-            if let Some(op) = self.get(id) {
-                shown.push(op)?;
-            }
-        }
-        Ok(shown)
+        self.cursor().shown(alloc, book, key)
     }
 
     /// What is picked for the segment's text in its book's export: the chapter's own line for a
@@ -287,18 +279,7 @@ impl OpSet {
     pub fn pick(&self, book: Book, key: Key) -> Picked<'_>
         ensures { texts.picked result ≡ texts.pick self.now (segment book key) }
     {
-        let segment = Segment { book, key };
-        if key.place == Place::Head
-            && key.chapter >= 1
-            && self.is_text_empty(&segment)
-            && self.has_verse_text(&segment)
-        {
-            return Picked::ChapterLine(key.chapter);
-        }
-        match self.greatest(&segment) {
-            None => Picked::Nothing,
-            Some(op) => Picked::Held(op),
-        }
+        self.cursor().pick(book, key)
     }
 
     // The index, chapter by chapter. What holds of it, and of the operations, is known to those who
@@ -318,21 +299,10 @@ impl OpSet {
         &self.ops
     }
 
-    // The shown operation with the greatest id.
-    fn greatest(&self, segment: &Segment) -> Option<&Op>
-        ensures { option_copied result ≡ texts.last (texts.shown self.now segment.now) }
-    {
-        let id = shown_of(self.index(), segment, &mut Search::default()).last()?;
-        self.get(id)
-    }
-
     fn is_text_empty(&self, segment: &Segment) -> bool
         ensures { result ≡ texts.is_empty (texts.text_of self.now segment.now) }
     {
-        match self.greatest(segment) {
-            None => true,
-            Some(op) => op.text_or_empty().is_empty(),
-        }
+        lacks_text(self.cursor().greatest(segment))
     }
 
     // Whether some verse of the chapter has a text that is not empty.

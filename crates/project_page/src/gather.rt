@@ -101,7 +101,7 @@ fn conflict_of<'a>(
         (says.conflict_view conflict)) }
 {
     let (replica, book) = (texts.replica(), texts.book());
-    let shown = shown_texts(alloc, replica, book, key)?;
+    let shown = shown_texts(alloc, &mut replica.set().cursor(), book, key)?;
     let entries = compare(alloc, &shown.distinct)?;
     let before = text_of(alloc, &texts.before(key))?;
     let after = text_of(alloc, &texts.after(key))?;

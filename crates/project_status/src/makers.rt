@@ -38,8 +38,9 @@ fn push_book(set: &OpSet, book: Book, names: &mut Vec<ReplicaName>) -> Result<()
     ensures { OnOk result (names.new.items
         ≡ names.old.items ++ numbers.names_in set.now book) }
 {
+    let mut cursor = set.cursor();
     for key in set.keys(book) {
-        push_names(set.shown_ids(book, key), names)?;
+        push_names(cursor.shown_ids(book, key), names)?;
     }
     Ok(())
 }

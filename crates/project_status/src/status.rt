@@ -147,7 +147,7 @@ fn push_thinned(alloc: Global, thinned: usize, text: &mut Vec<u8>) -> Result<(),
     Ok(())
 }
 
-/// How many operations are kept without their texts. It takes no memory.
+/// How many operations are kept without their texts. It does not allocate.
 pub fn thinned_count(set: &OpSet) -> usize
     ensures { result ≡ numbers.thinned_count set.now }
 {
@@ -189,8 +189,9 @@ fn push_conflicts_in(
     ensures { OnOk result (text.new.items
         ≡ text.old.items ++ lines.conflict_lines set.now book) }
 {
+    let mut cursor = set.cursor();
     for key in set.keys(book) {
-        if differ(&set.shown(alloc, book, key)?) {
+        if differ(&cursor.shown(alloc, book, key)?) {
             let reference = write_ref(alloc, book, key)?;
             let line = format!(in alloc; "conflict {reference}\n")?;
             text.extend_from_slice(line.as_bytes())?;

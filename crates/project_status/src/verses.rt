@@ -10,7 +10,7 @@ ghost use Rattle.op_core.specs.Ops.{own_text};
 ghost use Rattle.op_core.specs.Shown as shown;
 ghost use Rattle.project_status.specs.Verses as verses;
 
-use op_core::{Op, OpSet, Picked};
+use op_core::{Cursor, Op, OpSet, Picked};
 use std::alloc::{AllocError, Global};
 use usfm_ref::{Book, Key, Place, is_blank, verse_after};
 use usfm_token::{Token, TokenIter};
@@ -38,8 +38,9 @@ pub(crate) fn verses_of(alloc: Global, set: &OpSet, book: Book) -> Result<Vec<Ve
 pub(crate) fn push_verses(set: &OpSet, book: Book, found: &mut Vec<Verse>) -> Result<(), AllocError>
     ensures { OnOk result (found.new.items ≡ found.old.items ++ verses.verses_of set.now book) }
 {
+    let mut cursor = set.cursor();
     for key in set.keys(book) {
-        if let Some(verse) = verse_picked(set, book, key) {
+        if let Some(verse) = verse_picked(&mut cursor, book, key) {
             found.push(verse)?;
         }
     }
@@ -47,11 +48,12 @@ pub(crate) fn push_verses(set: &OpSet, book: Book, found: &mut Vec<Verse>) -> Re
 }
 
 // The verse that is picked at a key.
-fn verse_picked(set: &OpSet, book: Book, key: Key) -> Option<Verse>
-    ensures { option_to_list result
-        ≡ verses.verse_picked key (shown.pick set.now (segment book key)) }
+fn verse_picked(cursor: &mut Cursor<'_>, book: Book, key: Key) -> Option<Verse>
+    ensures verse { option_to_list result
+        ≡ verses.verse_picked key (shown.pick cursor.old (segment book key)) }
+    ensures same { cursor.new ≡ cursor.old }
 {
-    match set.pick(book, key) {
+    match cursor.pick(book, key) {
         Picked::Held(op) => verse_at(key, op),
         Picked::ChapterLine(_) | Picked::Nothing => None,
     }

@@ -14,7 +14,7 @@ use crate::change::Change;
 use crate::fault::ImportFault;
 use crate::pieces::{has_verse, piece_at};
 use crate::replica::Replica;
-use op_core::{Picked, chapter_line};
+use op_core::{Cursor, Picked, chapter_line};
 use std::alloc::AllocError;
 use usfm_ref::{Book, Key};
 use verse_cut::{Piece, book_of, cut};
@@ -61,11 +61,12 @@ impl Replica {
             IfOk result (λ changes. changes_view changes.items ≡ due) }
     {
         let mut changes = Vec::new(self.alloc);
+        let mut cursor = self.set.cursor();
         let keys = self.walked_keys(book, pieces)?;
         for key in &keys {
-            if self.is_due(book, pieces, *key) {
+            if is_due(&mut cursor, book, pieces, *key) {
                 let text = piece_at(pieces, *key);
-                let ids = self.shown_ids(book, *key)?;
+                let ids = cursor.shown_ids(book, *key).to_vec(self.alloc)?;
                 changes.push(Change {
                     key: *key,
                     text,
@@ -112,22 +113,23 @@ impl Replica {
     {
         self.set.keys(book).collect(self.alloc)
     }
+}
 
-    // Whether an import edits the key.
-    pub(crate) fn is_due(&self, book: Book, pieces: &[Piece<'_>], key: Key) -> bool
-        requires rising { IsTrue (rises_by key_cmp (λ p. p.key) pieces.now) }
-        ensures { result ≡ imports.is_due self.now.held book (pieces_view pieces.now) key }
-    {
-        let piece = piece_at(pieces, key);
-        match self.set.pick(book, key) {
-            Picked::Nothing => !piece.is_empty(),
-            Picked::Held(op) => op.text_or_empty() != piece,
-            Picked::ChapterLine(chapter) => {
-                if is_same(chapter_line(chapter).bytes(), piece) {
-                    return !has_verse(pieces, key);
-                }
-                true
+// Whether an import into the set of a cursor edits the key.
+pub(crate) fn is_due(cursor: &mut Cursor<'_>, book: Book, pieces: &[Piece<'_>], key: Key) -> bool
+    requires rising { IsTrue (rises_by key_cmp (λ p. p.key) pieces.now) }
+    ensures due { result ≡ imports.is_due cursor.old book (pieces_view pieces.now) key }
+    ensures same { cursor.new ≡ cursor.old }
+{
+    let piece = piece_at(pieces, key);
+    match cursor.pick(book, key) {
+        Picked::Nothing => !piece.is_empty(),
+        Picked::Held(op) => op.text_or_empty() != piece,
+        Picked::ChapterLine(chapter) => {
+            if is_same(chapter_line(chapter).bytes(), piece) {
+                return !has_verse(pieces, key);
             }
+            true
         }
     }
 }

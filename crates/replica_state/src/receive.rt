@@ -59,11 +59,11 @@ impl Replica {
         ensures clash { let before = receives.before_clash self.now.held bundle.now in
             receives.lacked self.now.held before ≡ [] → result ≢ Err ReceiveFault.Memory }
     {
-        let mut finder = self.set.finder();
+        let mut cursor = self.set.cursor();
         let mut new = Vec::new(self.alloc);
         for view in bundle.ops() {
             let id = view.id();
-            match finder.find(&id) {
+            match cursor.find(&id) {
                 None => new.push(view.to_op(self.alloc)?)?,
                 Some(op) if view.agrees_with(op) => {}
                 Some(_) => return Err(ReceiveFault::Clash(id)),

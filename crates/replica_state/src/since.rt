@@ -1,5 +1,5 @@
 // Imports of a file that was changed since a bundle.
-ghost use Rattle.std.specs.Prelude.{◌≡◌, ◌≢◌, [], None, Some, option_map, Err, IfOk, IfErr, IfSome};
+ghost use Rattle.std.specs.Prelude.{◌≡◌, ◌≢◌, ◌&&◌, [], None, Some, option_map, Err, IfOk, IfErr, IfSome};
 ghost use Rattle.std.specs.Prelude.{IsOk, IsTrue, OnErr, map, if◌then◌else◌};
 ghost use Rattle.std.specs.List.{list_any};
 ghost use Rattle.usfm_ref.specs.Books.{same_bytes};
@@ -9,6 +9,7 @@ ghost use Rattle.usfm_ref.specs.Segments.{segment};
 ghost use Rattle.verse_cut.specs.Fits.{Fits};
 ghost use Rattle.verse_cut.specs.Reading.{book_in};
 ghost use Rattle.verse_cut.specs.Views.{pieces_view};
+ghost use Rattle.op_core.specs.Ids.{is_none_left};
 ghost use Rattle.op_core.specs.Ops.{own_text};
 ghost use Rattle.op_core.specs.Shown.{last, text_if_any};
 ghost use Rattle.op_core.specs.Sets.{clash};
@@ -19,11 +20,12 @@ ghost use Rattle.replica_state.specs.Since as since;
 
 use crate::change::Change;
 use crate::fault::SinceFault;
+use crate::import::is_due;
 use crate::pieces::piece_at;
 use crate::replica::Replica;
 use bundle_codec::Bundle;
-use op_core::{Op, OpId, OpSet};
-use std::alloc::AllocError;
+use op_core::{Cursor, Op, OpId, OpSet};
+use std::alloc::{AllocError, Global};
 use std::mem;
 use usfm_ref::{Book, Key};
 use verse_cut::{Piece, book_of, cut};
@@ -156,70 +158,75 @@ impl Replica {
             IfOk result (λ changes. changes_view changes.items ≡ made) }
     {
         let mut changes = Vec::new(self.alloc);
+        let mut base = was.set.cursor();
         let keys = self.walked_keys(book, pieces)?;
         for key in &keys {
-            if let Some(change) = self.since_change(was, book, pieces, *key)? {
+            if let Some(change) = self.since_change(&mut base, book, pieces, *key)? {
                 changes.push(change)?;
             }
         }
         Ok(changes)
     }
 
-    /// The change of a key, if it was changed in a file since another replica wrote it: the file's
-    /// piece, over what the segment shows of that which stood in the file. The pieces are those of
-    /// the file, in ascending order of keys.
+    /// The change of a key, if it was changed in a file since it was written from the set of a
+    /// cursor: the file's piece, over what the segment shows of that which stood in the file. The
+    /// pieces are those of the file, in ascending order of keys.
     ///
     /// # Errors
     /// Out of memory alone.
     pub fn since_change<'a>(
         &self,
-        was: &Replica,
+        base: &mut Cursor<'_>,
         book: Book,
         pieces: &[Piece<'a>],
         key: Key,
     ) -> Result<Option<Change<'a>>, AllocError>
         requires rising { IsTrue (rises_by key_cmp (λ p. p.key) pieces.now) }
-        ensures { let base = was.now.held in
-            let view = pieces_view pieces.now in
+        ensures change { let view = pieces_view pieces.now in
             IfOk result (λ change. option_map change_view change
-            ≡ (if since.is_changed self.now.held base book view key
-            then Some (since.since_change self.now.held base book view key)
+            ≡ (if since.is_changed self.now.held base.old book view key
+            then Some (since.since_change self.now.held base.old book view key)
             else None)) }
+        ensures same { base.new ≡ base.old }
     {
-        if !was.is_due(book, pieces, key) {
+        if !is_due(base, book, pieces, key) {
             return Ok(None);
         }
         let text = piece_at(pieces, key);
-        let ids = self.seen_ids(was, book, key)?;
-        if ids.is_empty() && self.shows_text(book, key, text)? {
+        let ids = self.seen_ids(base, book, key)?;
+        if self.is_shown_already(book, key, &ids, text)? {
             return Ok(None);
         }
         Ok(Some(Change { key, text, ids }))
     }
 
-    // The ids that a segment shows, of those whose text stood in a file that another replica wrote.
-    fn seen_ids(&self, was: &Replica, book: Book, key: Key) -> Result<Vec<OpId>, AllocError>
-        ensures { IfOk result (λ ids.
-            ids.items ≡ since.seen_ids self.now.held was.now.held (segment book key)) }
+    // Whether a segment shows a text, and no ids are to be named.
+    fn is_shown_already(
+        &self,
+        book: Book,
+        key: Key,
+        ids: &[OpId],
+        text: &str,
+    ) -> Result<bool, AllocError>
+        ensures { IfOk result (λ is. is ≡ (is_none_left ids.now
+            && since.shows_text self.now.held (segment book key) text.now)) }
     {
-        let stood = was.stood_ids(book, key)?;
-        self.given_ids(book, key, &stood)
+        if ids.is_empty() {
+            self.shows_text(book, key, text)
+        } else {
+            Ok(false)
+        }
     }
 
-    // The ids that a segment shows with the text of the greatest of them.
-    fn stood_ids(&self, book: Book, key: Key) -> Result<Vec<OpId>, AllocError>
-        ensures { IfOk result
-            (λ ids. ids.items ≡ since.stood_ids self.now.held (segment book key)) }
+    // The ids that a segment shows, of those whose text stood in a file that was written from the
+    // set of a cursor.
+    fn seen_ids(&self, base: &mut Cursor<'_>, book: Book, key: Key) -> Result<Vec<OpId>, AllocError>
+        ensures ids { IfOk result (λ ids.
+            ids.items ≡ since.seen_ids self.now.held base.old (segment book key)) }
+        ensures same { base.new ≡ base.old }
     {
-        let shown = self.shown(self.alloc, book, key)?;
-        let text = greatest_text(&shown);
-        let mut ids = Vec::new(self.alloc);
-        for op in &shown {
-            if is_text(op, text) {
-                ids.push(op.id())?;
-            }
-        }
-        Ok(ids)
+        let stood = stood_ids(self.alloc, base, book, key)?;
+        self.given_ids(book, key, &stood)
     }
 
     // Whether an operation that the segment shows has the text.
@@ -230,6 +237,27 @@ impl Replica {
         let shown = self.shown(self.alloc, book, key)?;
         Ok(has_text(&shown, text))
     }
+}
+
+// The ids that a segment shows with the text of the greatest of them.
+fn stood_ids(
+    alloc: Global,
+    base: &mut Cursor<'_>,
+    book: Book,
+    key: Key,
+) -> Result<Vec<OpId>, AllocError>
+    ensures ids { IfOk result (λ ids. ids.items ≡ since.stood_ids base.old (segment book key)) }
+    ensures same { base.new ≡ base.old }
+{
+    let shown = base.shown(alloc, book, key)?;
+    let text = greatest_text(&shown);
+    let mut ids = Vec::new(alloc);
+    for op in &shown {
+        if is_text(op, text) {
+            ids.push(op.id())?;
+        }
+    }
+    Ok(ids)
 }
 
 // The text of the last of some operations, empty where there is none.

@@ -6,14 +6,14 @@ ghost use Rattle.op_core.specs.Sets.{IsOpSet};
 ghost use Rattle.op_core.specs.Shown.{picked, picked_text};
 ghost use Rattle.usfm_export.specs.Books.{IsBookOf, AnswersBook, AnswersText, sink_failures};
 ghost use Rattle.usfm_export.specs.Counts.{failures_after};
-ghost use Rattle.usfm_export.specs.Loops.Heads.{lacks_head, with_head, texts_at};
 ghost use Rattle.usfm_export.specs.Writing.{TakesAll, TakesFront};
 
+use crate::keys::exported_keys;
 use crate::{ByteSink, ExportFault, StdSink, TextFault, WriteFault, write_more};
 use op_core::{Picked, chapter_line};
 use replica_state::Replica;
 use std::alloc::Global;
-use usfm_ref::{Book, Key, Place};
+use usfm_ref::Book;
 
 /// The text of a book: the picked texts of its segments in ascending order of keys. It is UTF-8,
 /// and cuts back into them.
@@ -33,7 +33,7 @@ pub fn book_text(alloc: Global, replica: &Replica, book: Book) -> Result<Vec<u8>
 }
 
 /// Writes the text of a book to a sink: the picked texts of its segments in ascending order of
-/// keys, in one walk over its keys. It does not allocate.
+/// keys, in one walk over these. It does not allocate.
 ///
 /// # Errors
 /// - `NoBook` (82) exactly where the book has no operation. Nothing was written.
@@ -68,8 +68,7 @@ fn has_book(replica: &Replica, book: Book) -> bool
     replica.keys(book).next().is_some()
 }
 
-// Writes the picked texts of the book's segments by rising key, in one walk over its keys with an
-// operation. It does not allocate.
+// Writes the picked texts of the book's segments by rising key. It does not allocate.
 fn write_keys<W: ByteSink>(replica: &Replica, book: Book, sink: &mut W) -> Result<(), WriteFault>
     ensures all { OnOk result
         (Appends (W.taken sink.old) (W.taken sink.new) (exports.export replica.now.held book)) }
@@ -79,37 +78,11 @@ fn write_keys<W: ByteSink>(replica: &Replica, book: Book, sink: &mut W) -> Resul
     ensures failed { W.failures sink.new ≡ failures_after result (W.failures sink.old) }
 {
     let mut gone = 0;
-    let mut before = None;
-    for key in replica.keys(book) {
-        gone = write_key(replica, book, before, key, sink, gone)?;
-        before = Some(key);
+    let mut cursor = replica.set().cursor();
+    for key in exported_keys(replica, book) {
+        gone = write_picked(sink, gone, cursor.pick(book, key))?;
     }
     Ok(())
-}
-
-// Writes the picked text of a key, and before it that of its chapter's head where no key of the
-// chapter was before: a head without an operation may be picked as its chapter's line.
-fn write_key<W: ByteSink>(
-    replica: &Replica,
-    book: Book,
-    before: Option<Key>,
-    key: Key,
-    sink: &mut W,
-    gone: u64,
-) -> Result<u64, WriteFault>
-    ensures all { IfOk result (λ total.
-        TakesAll (W.taken sink.old) (W.taken sink.new)
-        (texts_at replica.now.held book (with_head before key)) gone total) }
-    ensures front { IfErr result (λ fault.
-        TakesFront (W.taken sink.old) (W.taken sink.new)
-        (texts_at replica.now.held book (with_head before key)) gone fault.gone) }
-    ensures failed { W.failures sink.new ≡ failures_after result (W.failures sink.old) }
-{
-    if !lacks_head(before, key) {
-        return write_picked(sink, gone, replica.pick(book, key));
-    }
-    let with_head = write_picked(sink, gone, replica.pick(book, key.head()))?;
-    write_picked(sink, with_head, replica.pick(book, key))
 }
 
 // Writes a picked text of a book of which `gone` bytes are written, and answers how many are then.
@@ -128,15 +101,4 @@ fn write_picked<W: ByteSink>(sink: &mut W, gone: u64, choice: Picked<'_>) -> Res
         Picked::ChapterLine(chapter) => write_more(sink, gone, chapter_line(chapter).bytes()),
         Picked::Nothing => Ok(gone),
     }
-}
-
-// Whether a key is the first of its chapter, after the key before, and is not the chapter's head.
-fn lacks_head(before: Option<Key>, key: Key) -> bool
-    ensures { result ≡ lacks_head before key }
-{
-    let first = match before {
-        None => true,
-        Some(before) => before.chapter != key.chapter,
-    };
-    first && key.place != Place::Head
 }

@@ -7,12 +7,14 @@
 
 mod export;
 mod fault;
+mod keys;
 mod sink;
 mod told;
 mod writing;
 
 pub use export::{book_text, write_book};
 pub use fault::{ExportFault, TextFault};
+pub use keys::{ExportedKeys, exported_keys};
 pub use sink::{ByteSink, StdSink};
 pub use told::within;
 pub use writing::{WriteFault, write_all, write_more};

@@ -289,7 +289,7 @@ fn other_file(refusal: &book_folder::Refusal) -> Option<usize> {
     }
 }
 
-// The name of a file of the folder, unless memory for it is wanting.
+// The name of a file of the folder, unless an allocation failed.
 fn name_at(what: What<'_>, read: &Read, at: usize) -> Option<String> {
     match name_of(what, read, Place::File(at)) {
         Ok(name) => name,

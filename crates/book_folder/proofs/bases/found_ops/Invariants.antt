@@ -5,6 +5,7 @@ use Rattle.book_folder.proofs.bases.found_ops.Given as goal
 
 abbrev pub invariant-loop-op : goal.invariant-loop-op
 invariant-loop-op l =
-    map (λ op. op.now) l.ops.items
+    (l.cursor ≡ l.replica.held)
+    × (map (λ op. op.now) l.ops.items
     ++ filter (λ o. bases.shows l.replica.held o && bases.is_text (text_under l.texts o) o) l.op-iterator
-    ≡ filter (λ o. bases.shows l.replica.held o && bases.is_text (text_under l.texts o) o) l.replica.held
+    ≡ filter (λ o. bases.shows l.replica.held o && bases.is_text (text_under l.texts o) o) l.replica.held)

@@ -5,6 +5,7 @@ use Rattle.book_folder.proofs.bases.next_ops.Given as goal
 
 abbrev pub invariant-loop-op : goal.invariant-loop-op
 invariant-loop-op l =
-    map (λ op. op.now) l.ops.items
+    (l.cursor ≡ l.replica.held)
+    × (map (λ op. op.now) l.ops.items
     ++ filter (λ o. not (begun.is_one_of l.headless o.segment.book) && bases.shows l.replica.held o) l.op-iterator
-    ≡ bases.shown_in_files l.headless l.replica.held
+    ≡ bases.shown_in_files l.headless l.replica.held)

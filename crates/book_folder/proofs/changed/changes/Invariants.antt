@@ -8,9 +8,10 @@ use Rattle.book_folder.proofs.changed.changes.Given as goal
 
 abbrev pub invariant-keys : goal.invariant-keys
 invariant-keys l =
-    changes_view l.changes.items ++ flat_map (λ key. taking.listed (taking.change_at l.replica.held l.base.held
+    (l.base ≡ l.fn.base.held)
+    × (changes_view l.changes.items ++ flat_map (λ key. taking.listed (taking.change_at l.replica.held l.fn.base.held
     (map wanted_view l.settled) l.book (pieces_view l.pieces) key)) l.left
-    ≡ taking.file_changes l.replica.held l.base.held (map wanted_view l.settled) l.book (pieces_view l.pieces)
+    ≡ taking.file_changes l.replica.held l.fn.base.held (map wanted_view l.settled) l.book (pieces_view l.pieces))
 
 abbrev pub decreases-keys : goal.decreases-keys
 decreases-keys l = length l.left

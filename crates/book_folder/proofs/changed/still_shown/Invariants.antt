@@ -8,7 +8,7 @@ use Rattle.book_folder.proofs.changed.still_shown.Given as goal
 abbrev pub invariant-ids : goal.invariant-ids
 invariant-ids l =
     l.ids.items ++ filter (is_among (shown_ids l.replica.held (segment l.fn.book l.fn.key))) l.left
-    ≡ taking.still_shown l.replica.held l.base.held l.fn.book l.fn.key
+    ≡ taking.still_shown l.replica.held l.fn.base l.fn.book l.fn.key
 
 abbrev pub decreases-ids : goal.decreases-ids
 decreases-ids l = length l.left

@@ -5,5 +5,5 @@ use Rattle.book_folder.proofs.export.holds_all.Given as goal
 
 abbrev pub invariant-loop-op : goal.invariant-loop-op
 invariant-loop-op l =
-    (l.finder ≡ l.replica.held)
+    (l.cursor ≡ l.replica.held)
     × (list_all (is_held_of l.replica.held l.book) l.op-iterator ≡ list_all (is_held_of l.replica.held l.book) l.base.held)

@@ -6,6 +6,7 @@ use Rattle.book_folder.proofs.export.shown_ops.Given as goal
 
 abbrev pub invariant-loop-op : goal.invariant-loop-op
 invariant-loop-op l =
-    map (λ op. op.now) l.ops.items
+    (l.cursor ≡ l.replica.held)
+    × (map (λ op. op.now) l.ops.items
     ++ filter (λ o. is_one_of l.books o.segment.book && shows l.replica.held o) l.op-iterator
-    ≡ shown_of l.books l.replica.held
+    ≡ shown_of l.books l.replica.held)

@@ -19,10 +19,11 @@ returns-clause-rise c =
     let base = c.args.base.now.held in
     let book = c.args.book in
     let text = c.args.text.now in
+    let cursor = c.cursor.ensures ∙ c.set.ensures in
     let value : IfOk c.collect.result (λ made. pieces_view made.items ≡ restored_pieces base book text) =
     map_from_collect _ c.collect.ensures.ran
     (YieldsList-from_first piece_view pieces_left _
-    (ap (λ (ps : List Piece). map (restored_piece base book) (pieces_view ps)) c.deref.ensures.value
+    ((λ i. map (restored_piece (cursor i) book) (pieces_view (c.deref.ensures.value i)))
     ∙ ap (map (restored_piece base book)) c.in_ok-parts.ensures.value)) in
     IfOk-weaker c.collect.result _ _
     (λ made is.

@@ -8,5 +8,6 @@ use Rattle.conflict_report.proofs.gather.push_book.Given as goal
 -- the parts so far, and what is reported of the keys that are left
 abbrev pub invariant-loop-key : goal.invariant-loop-key
 invariant-loop-key l =
-    bytes_of l.parts.items ++ flat_map (λ key. conflict_at l.replica.held (segment l.book key)) l.key-iterator
-    ≡ bytes_of l.fn.parts.items ++ conflicts_in l.replica.held l.book
+    (l.cursor ≡ l.replica.held)
+    × (bytes_of l.parts.items ++ flat_map (λ key. conflict_at l.replica.held (segment l.book key)) l.key-iterator
+    ≡ bytes_of l.fn.parts.items ++ conflicts_in l.replica.held l.book)

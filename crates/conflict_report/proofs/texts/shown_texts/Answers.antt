@@ -9,7 +9,7 @@ use Rattle.conflict_report.proofs.texts.shown_texts.Goals as goal
 
 pub falling-init : goal.falling-init
 falling-init c = record {
-  walked = walked_start (shown c.args.replica.now.held (segment c.args.book c.args.key)) (now_of c.in_ok-shown.shown.items)
+  walked = walked_start (shown c.args.cursor.now (segment c.args.book c.args.key)) (now_of c.in_ok-shown.shown.items)
       (now_of c.new-distinct.result.items) (now_of c.new-repeated.result.items) c.in_ok-shown.ensures.ops
       (ap now_of c.new-distinct.ensures.items) (ap now_of c.new-repeated.ensures.items);
   seen = none_seen c.new-texts.result c.new-distinct.result.items c.new-texts.ensures.empty c.new-distinct.ensures.items;
@@ -17,7 +17,7 @@ falling-init c = record {
 
 pub falling-preserved-in-Continue-branch-3 : goal.falling-preserved-in-Continue-branch-3
 falling-preserved-in-Continue-branch-3 c =
-    let all = shown c.args.replica.now.held (segment c.args.book c.args.key) in
+    let all = shown c.args.cursor.now (segment c.args.book c.args.key) in
     let h = c.falling.invariant in
     let new = ap not (sym c.if-branch.true) ∙ is_old c.falling.texts c.falling.distinct.items c.in-Some.op c.text_or_empty.result
     c.text_or_empty.ensures h.seen c.in_ok-insert.field-0 c.in_ok-insert.ensures.added in
@@ -33,7 +33,7 @@ falling-preserved-in-Continue-branch-3 c =
 
 pub falling-preserved : goal.falling-preserved
 falling-preserved c =
-    let all = shown c.args.replica.now.held (segment c.args.book c.args.key) in
+    let all = shown c.args.cursor.now (segment c.args.book c.args.key) in
     let h = c.falling.invariant in
     let told = ap not (sym c.if-branch.false) ∙ is_old c.falling.texts c.falling.distinct.items c.in-Some.op c.text_or_empty.result
     c.text_or_empty.ensures h.seen c.in_ok-insert.field-0 c.in_ok-insert.ensures.added in
@@ -48,12 +48,12 @@ falling-preserved c =
 
 pub returns-clause-distinct : goal.returns-clause-distinct
 returns-clause-distinct c =
-    walked_end c.args.replica.now.held (segment c.args.book c.args.key) c.falling.shown.items c.falling.distinct.items
-    c.falling.repeated.items c.name.ensures.valid.set (omega (arith, c.in_default.ensures.cases.0, c.falling.shown.ok.0))
+    walked_end c.args.cursor.now (segment c.args.book c.args.key) c.falling.shown.items c.falling.distinct.items
+    c.falling.repeated.items c.in_ok-shown.ensures.set (omega (arith, c.in_default.ensures.cases.0, c.falling.shown.ok.0))
     c.falling.invariant.walked
 
 pub returns-clause-repeated : goal.returns-clause-repeated
 returns-clause-repeated c =
-    walked_again c.args.replica.now.held (segment c.args.book c.args.key) c.falling.shown.items c.falling.distinct.items
-    c.falling.repeated.items c.name.ensures.valid.set (omega (arith, c.in_default.ensures.cases.0, c.falling.shown.ok.0))
+    walked_again c.args.cursor.now (segment c.args.book c.args.key) c.falling.shown.items c.falling.distinct.items
+    c.falling.repeated.items c.in_ok-shown.ensures.set (omega (arith, c.in_default.ensures.cases.0, c.falling.shown.ok.0))
     c.falling.invariant.walked

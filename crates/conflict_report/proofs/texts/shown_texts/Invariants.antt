@@ -8,7 +8,7 @@ use Rattle.conflict_report.proofs.texts.shown_texts.Given as goal
 -- the operations after those that are left are in the lists, and their texts are gathered
 abbrev pub invariant-falling : goal.invariant-falling
 invariant-falling l = record {
-  walked : IsWalked (shown l.replica.held (segment l.fn.book l.fn.key)) (now_of l.shown.items) (now_of l.distinct.items)
+  walked : IsWalked (shown l.fn.cursor (segment l.fn.book l.fn.key)) (now_of l.shown.items) (now_of l.distinct.items)
       (now_of l.repeated.items);
   seen : Seen l.texts l.distinct.items;
 }

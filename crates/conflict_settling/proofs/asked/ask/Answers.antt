@@ -2,7 +2,7 @@ use Rattle.std.proofs.Common.{◌++◌, Bor, List, map, ap, subst, ◌∙◌}
 use Rattle.usfm_ref.specs.Segments.{segment}
 use Rattle.op_core.specs.Ops.{Operation, own_text}
 use Rattle.op_core.specs.Lists.{ids_of}
-use Rattle.conflict_report.specs.Reports.{repeated_texts}
+use Rattle.conflict_report.specs.Reports.{distinct_texts, repeated_texts}
 use Rattle.conflict_settling.specs.Asked.{IsQuestionOf}
 use Rattle.conflict_settling.proofs.Joined.{ids_now, texts_now}
 use Rattle.conflict_settling.proofs.asked.ask.Goals as goal
@@ -10,9 +10,10 @@ use Rattle.conflict_settling.proofs.asked.ask.Goals as goal
 pub returns : goal.returns
 returns c =
     let shown = c.in_ok-shown.shown in
-    let d = c.in_ok-shown.ensures.distinct in
-    let r = c.in_ok-shown.ensures.repeated in
     let g = segment c.args.book c.args.key in
+    let held = c.cursor.ensures ∙ c.set.ensures in
+    let d = c.in_ok-shown.ensures.distinct ∙ ap (λ (ops : List Operation). distinct_texts ops g) held in
+    let r = c.in_ok-shown.ensures.repeated ∙ ap (λ (ops : List Operation). repeated_texts ops g) held in
     record {
       segment = λ i. g;
       ids = c.in_ok-ids.ensures ∙ (λ i. ids_now shown.distinct.items i ++ ids_now shown.repeated.items i)

@@ -8,5 +8,6 @@ use Rattle.project_status.proofs.verses.push_verses.Given as goal
 -- the verses so far, and those at the keys that are left
 abbrev pub invariant-loop-key : goal.invariant-loop-key
 invariant-loop-key l =
-    l.found.items ++ flat_map (λ key. verse_picked key (pick l.set (segment l.book key))) l.key-iterator
-    ≡ l.fn.found.items ++ verses_of l.set l.book
+    (l.cursor ≡ l.set)
+    × (l.found.items ++ flat_map (λ key. verse_picked key (pick l.set (segment l.book key))) l.key-iterator
+    ≡ l.fn.found.items ++ verses_of l.set l.book)

@@ -7,6 +7,7 @@ abbrev pub invariant-loop-key : goal.invariant-loop-key
 invariant-loop-key g l =
     let sink = g.W.ByteSink in
     record {
-      written : IsWritten l.replica.held l.book l.before l.key-iterator (sink.taken l.fn.sink) (sink.taken l.sink) l.gone;
+      cursor : l.cursor ≡ l.replica.held;
+      written : IsWritten l.replica.held l.book l.key-iterator (sink.taken l.fn.sink) (sink.taken l.sink) l.gone;
       failures : sink.failures l.sink ≡ sink.failures l.fn.sink;
     }

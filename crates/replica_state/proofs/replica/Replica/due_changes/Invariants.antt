@@ -6,5 +6,6 @@ use Rattle.replica_state.proofs.replica.Replica.due_changes.Given as goal
 
 abbrev pub invariant-loop-key : goal.invariant-loop-key
 invariant-loop-key l =
-    changes_view l.changes.items ≡ map (due_change l.self.held l.book (pieces_view l.pieces))
-    (filter (is_due l.self.held l.book (pieces_view l.pieces)) (take l.key-index l.key-items))
+    (l.cursor ≡ l.self.held)
+    × (changes_view l.changes.items ≡ map (due_change l.self.held l.book (pieces_view l.pieces))
+    (filter (is_due l.self.held l.book (pieces_view l.pieces)) (take l.key-index l.key-items)))

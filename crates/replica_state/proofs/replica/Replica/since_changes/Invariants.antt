@@ -6,5 +6,6 @@ use Rattle.replica_state.proofs.replica.Replica.since_changes.Given as goal
 
 abbrev pub invariant-loop-key : goal.invariant-loop-key
 invariant-loop-key l =
-    changes_view l.changes.items ≡ map (since_change l.self.held l.was.held l.book (pieces_view l.pieces))
-    (filter (is_changed l.self.held l.was.held l.book (pieces_view l.pieces)) (take l.key-index l.key-items))
+    (l.base ≡ l.was.held)
+    × (changes_view l.changes.items ≡ map (since_change l.self.held l.was.held l.book (pieces_view l.pieces))
+    (filter (is_changed l.self.held l.was.held l.book (pieces_view l.pieces)) (take l.key-index l.key-items)))

@@ -2,7 +2,7 @@ use Rattle.std.proofs.Common.{◌≡◌, take, map, filter}
 use Rattle.usfm_ref.specs.Books.{same_bytes}
 use Rattle.op_core.specs.Ops.{own_text}
 use Rattle.op_core.specs.Lists.{ids_of}
-use Rattle.replica_state.proofs.replica.Replica.stood_ids.Given as goal
+use Rattle.replica_state.proofs.since.stood_ids.Given as goal
 
 abbrev pub invariant-loop-op : goal.invariant-loop-op
 invariant-loop-op l =
