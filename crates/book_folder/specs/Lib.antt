@@ -12,6 +12,7 @@ pub mod Bases
 pub mod StoodTexts
 pub mod Coming
 pub mod Naming
+pub mod Boxes
 pub mod FirstNames
 pub mod Laws
 pub mod Plans

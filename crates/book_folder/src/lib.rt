@@ -27,6 +27,7 @@ mod stale;
 mod standing;
 mod stood_texts;
 mod taking;
+mod team_box;
 
 pub use begun::settled;
 pub use done::{Line, lines_of, project_after};
@@ -39,3 +40,4 @@ pub use refusal::{FolderFault, Place, Refusal};
 pub use seen::{Found, Named, Seen, Wanted, Wishes};
 pub use settling::{SettlingStep, Unsettled, settling_steps};
 pub use standing::{ChangedFile, LeftOut, Standing, folder_standing};
+pub use team_box::{BoxFile, box_file, may_be_bundle};

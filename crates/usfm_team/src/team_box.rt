@@ -7,12 +7,10 @@ use crate::refusal::Refusal;
 use crate::rights::keep_rights;
 use crate::sync::open_folder;
 use crate::telling::say_of;
-use bundle_codec::{BundleFault, WholeFault, decode_whole};
+use book_folder::{BoxFile, box_file, may_be_bundle};
 use project_file::judge;
 use std::fs;
 use usfm_cli::Fault;
-
-const BUNDLE_END: &str = ".bundle";
 
 // A box, which each copy reads, and in which it writes its own bundle.
 #[derive(Drop)]
@@ -22,9 +20,7 @@ pub(crate) struct TeamBox {
     own: String,
 }
 
-// Opens a box, and reads the bundles in it. What a copy left there comes in too where the project
-// has something else: a project that was set back has it again, and of two copies of one name
-// neither replaces the other's bundle unseen.
+// Opens a box, and reads the bundles in it.
 pub(crate) fn open_box(
     rt: &HostRuntime,
     name: &str,
@@ -41,8 +37,8 @@ pub(crate) fn open_box(
     Ok(TeamBox { folder, own })
 }
 
-// Reads the bundles of a box, in the order of their names, but for a copy's own where it is what
-// the project has.
+// Reads the bundles of a box that come in, in the order of their names. What is none is skipped and
+// said.
 fn read_box(
     rt: &HostRuntime,
     folder: &Folder,
@@ -51,16 +47,23 @@ fn read_box(
     given: &mut Given,
 ) -> Result<(), Refusal> {
     for name in folder.names(rt, true)? {
-        let is_hidden = name.starts_with('.') || name.contains('\n');
-        if is_hidden || !name.ends_with(BUNDLE_END) {
+        if !may_be_bundle(&name) {
             continue;
         }
         let is_own = name.as_str() == own;
         let Some(bytes) = read_bundle(rt, folder, &name, is_own)? else {
             continue;
         };
-        if !is_own || bytes.as_slice() != bundle {
-            push_bundle(rt, folder, &name, is_own, bytes, given)?;
+        let own = if is_own { Some(bundle) } else { None };
+        let file = box_file(rt.alloc(), own, &bytes).map_err(Fault::from)?;
+        match file {
+            BoxFile::Bundle => push_bundle(rt, folder, &name, is_own, bytes, given)?,
+            BoxFile::Unchanged => {}
+            BoxFile::NoBundle => {
+                let path = folder.name_of(rt, &name)?;
+                let why = ": it is no bundle, or only a part of one";
+                say_of(rt, "skipped ", &path, why);
+            }
         }
     }
     Ok(())
@@ -84,7 +87,7 @@ fn read_bundle(
     }
 }
 
-// Adds a bundle of a box to those that are given. What is none, or is cut, is skipped and said.
+// Adds a bundle of a box to those that are given.
 fn push_bundle(
     rt: &HostRuntime,
     folder: &Folder,
@@ -94,26 +97,12 @@ fn push_bundle(
     given: &mut Given,
 ) -> Result<(), Refusal> {
     let path = folder.name_of(rt, name)?;
-    match decode_whole(rt.alloc(), &bytes).map(|_| ()) {
-        Ok(()) => {
-            if is_own {
-                given.own = Some(given.bundles.len());
-            }
-            given.bundles.push(bytes).map_err(Fault::from)?;
-            given.names.push(path).map_err(Fault::from)?;
-            Ok(())
-        }
-        Err(WholeFault::Bundle(BundleFault::Memory)) => Err(Refusal::from(Fault::Memory)),
-        Err(_) => {
-            say_of(
-                rt,
-                "skipped ",
-                &path,
-                ": it is no bundle, or only a part of one",
-            );
-            Ok(())
-        }
+    if is_own {
+        given.own = Some(given.bundles.len());
     }
+    given.bundles.push(bytes).map_err(Fault::from)?;
+    given.names.push(path).map_err(Fault::from)?;
+    Ok(())
 }
 
 impl TeamBox {
