@@ -229,8 +229,8 @@ changes, make them in the other one too.";
 pub(crate) const EMPTIED: &str = "\
 This many texts are gone from the file of a book.
 An editor may have saved only a part of it: correct it, and try again. If they
-are gone on purpose, sync with --emptied. It applies to all files of the folder:
-`status` with the folder shows which ones `sync` refuses.";
+are gone on purpose, sync with --emptied. It applies to all files of the
+folder: `status` with the folder shows which ones `sync` refuses.";
 
 pub(crate) const UNDONE: &str = "\
 In this many segments the file of a book lacks the text that came in.
