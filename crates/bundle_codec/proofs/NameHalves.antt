@@ -1,4 +1,4 @@
--- Names of a summary, searched by halves.
+-- Names of a summary, found by binary search.
 use Rattle.std.proofs.Common.{◌≡◌, ℕ, zero, suc, ◌+◌, ◌<◌, ◌≤◌, Bool, true, false, not, List, [], ◌∷◌, length, get_or, Some, None, Ordering, Less, Equal, Greater, sym, ap, subst, ◌∙◌, arith, inl, inr}
 use Rattle.std.specs.List.{AllByRecursion, position_or_len}
 use Rattle.std.specs.Ordering.{is_eq, is_lt, ordering_reverse}

@@ -105,8 +105,8 @@ impl Summary {
         Ok(Summary { names })
     }
 
-    /// Whether an id's number lies in a range of its name. Names and ranges are searched by halves,
-    /// and it does not allocate.
+    /// Whether an id's number lies in a range of its name. It looks up names and ranges by binary
+    /// search, and does not allocate.
     pub fn covers(&self, id: &OpId) -> bool
         ensures { result ≡ sums.covers self.now id.now }
     {

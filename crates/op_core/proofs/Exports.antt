@@ -3,3 +3,4 @@ pub mod Exported
 pub mod ByShown
 pub mod Shows
 pub mod OneBook
+pub mod ForEdit

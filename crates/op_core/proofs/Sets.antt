@@ -14,3 +14,4 @@ pub mod Groupings
 pub mod Families
 pub mod Joinings
 pub mod Together
+pub mod Parts

@@ -1,4 +1,4 @@
-ghost use Rattle.std.specs.Prelude.{◌≡◌, ◌≢◌, ◌&&◌, ◌||◌, ◌+◌, ◌≤◌, ◌↔◌, [], ◌∷◌, length, map};
+ghost use Rattle.std.specs.Prelude.{◌≡◌, ◌≢◌, ◌&&◌, ◌+◌, ◌↔◌, [], ◌∷◌, length, map};
 ghost use Rattle.std.specs.Prelude.{not, is_none};
 ghost use Rattle.std.specs.Prelude.{None, IsTrue, IsOk, IfOk, IfErr, OnOk, OnErr};
 ghost use Rattle.std.specs.Option.{option_copied};
@@ -114,8 +114,8 @@ impl OpSet {
         find_op(&self.ops, *id, &mut Search::default())
     }
 
-    /// What looks up one id or one segment after another, fastest in ascending order. It does not
-    /// allocate.
+    /// What looks up one id or one segment after another, fastest in ascending order. Making it
+    /// does not allocate.
     pub fn cursor(&self) -> Cursor<'_>
         ensures { result ≡ self.now }
     {
@@ -156,8 +156,8 @@ impl OpSet {
     }
 
     /// Adds the operations of another set, and says how many are new. An operation that either set
-    /// has thinned is thinned in the union. Where the id of each is held already, nothing is
-    /// allocated.
+    /// has thinned is thinned in the union. Where the id of each is held already, or the set holds
+    /// nothing and takes over the other one, nothing is allocated.
     ///
     /// # Errors
     /// `Clash` with the least id under which the two sets hold operations that do not agree;
@@ -168,8 +168,12 @@ impl OpSet {
         ensures agrees { OnOk result (sets.clash self.old other ≡ None) }
         ensures refused { IfErr result (sets.IsRefusal (sets.clash self.old other)) }
         ensures held { sets.AreHeld self.old other → result ≢ Err SetFault.Memory }
+        ensures empty { self.old ≡ [] → IsOk result }
         ensures err { OnErr result (self.new ≡ self.old) }
     {
+        if self.is_empty() {
+            return Ok(self.take_over(other));
+        }
         if let Some(id) = clash(&self.ops, &other.ops, &mut self.search) {
             return Err(SetFault::Clash(id));
         }
@@ -183,6 +187,20 @@ impl OpSet {
         let count = self.join_rising(new)?;
         self.leave_texts(&thinned);
         Ok(count)
+    }
+
+    // Takes over another set, where it holds nothing, and says how many operations that has.
+    fn take_over(&mut self, other: OpSet) -> u64
+        requires { self.old ≡ [] }
+        ensures new { self.new ≡ sets.join self.old other }
+        ensures count { length self.new ≡ length self.old + result }
+        ensures agrees { sets.clash self.old other ≡ None }
+    {
+        let count = other.len();
+        let OpSet { ops, chapters, .. } = other;
+        self.ops = ops;
+        self.chapters = chapters;
+        count as u64
     }
 
     /// Adds operations that rise by id and of which none is held, and says how many they are. In

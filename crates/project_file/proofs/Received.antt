@@ -1,11 +1,14 @@
 -- The file of a replica that took a bundle in, and how many operations were new.
-use Rattle.std.proofs.Common.{◌≡◌, ◌+◌, true, List, ◌∷◌, ◌++◌, length, None, IsTrue, ap, ◌∙◌, append_assoc}
+use Rattle.std.proofs.Common.{◌≡◌, ◌+◌, true, List, ◌∷◌, ◌++◌, length, Option, None, IsTrue, sym, ap, subst, ◌∙◌, append_assoc}
 use Rattle.std.proofs.lemmas.List.{length-map}
+use Rattle.op_core.specs.Ids.{Id}
 use Rattle.op_core.specs.Ops.{Operation}
 use Rattle.op_core.specs.Sets.{IsOpSet, rises, join, clash}
 use Rattle.op_core.specs.Thinned.{is_legal, bare_where, is_thinned_in}
 use Rattle.op_core.proofs.Sets.Fresh.{fresh, fresh_rises, fresh_apart, length_join}
 use Rattle.op_core.proofs.ThinnedSets.TwoSteps.{two_steps}
+use Rattle.bundle_codec.specs.declared.fault.WholeFault.{WholeFault}
+use Rattle.bundle_codec.specs.Joining.{RefusesUnion, join_fault, out_of_memory}
 use Rattle.bundle_codec.specs.Spelling.{bundle}
 use Rattle.replica_state.specs.Receives.{lacked}
 use Rattle.replica_state.specs.States.{State, IsState}
@@ -29,3 +32,7 @@ fronted s = append_assoc magic (length s.name ∷ s.name) (bundle s.held)
 pub state_after : (s : State) (given : List Operation) → IsState s → IsOpSet (join s.held given) → IsTrue (is_legal (join s.held given))
     → IsState (with_ops s given)
 state_after s given h set legal = record { name = h.name; set = set; legal = legal }
+
+-- out of memory is a refusal of any two
+pub refuses_memory : (found : Option Id) (fault : WholeFault) → fault ≡ out_of_memory → RefusesUnion found (join_fault fault)
+refuses_memory found fault e = subst (λ (f : WholeFault). RefusesUnion found (join_fault f)) (sym e) tt

@@ -1,6 +1,6 @@
 // Project files made, loaded and saved.
 ghost use Rattle.std.specs.Prelude.{◌≡◌, ◌≢◌, ◌++◌, ◌∷◌, [], Ok, Err, length, option_map};
-ghost use Rattle.std.specs.Prelude.{IfOk, IfErr, IsTrue, MatchResult};
+ghost use Rattle.std.specs.Prelude.{IfOk, IfErr, IsOk, IsTrue, MatchResult};
 ghost use Rattle.op_core.specs.Names.{is_name};
 ghost use Rattle.op_core.specs.OneBook.{ops_of_book};
 ghost use Rattle.op_core.specs.Sets.{clash};
@@ -8,7 +8,7 @@ ghost use Rattle.op_core.specs.Thinned.{all_full};
 ghost use Rattle.bundle_codec.specs.Joining.{RefusesUnion, whole_at};
 ghost use Rattle.bundle_codec.specs.Spelling as spelled;
 ghost use Rattle.bundle_codec.specs.Summaries.{outside};
-ghost use Rattle.replica_state.specs.OneBook.{of_one_book};
+ghost use Rattle.replica_state.specs.OneBook.{for_edit, of_one_book};
 ghost use Rattle.replica_state.specs.Receives.{lacked};
 ghost use Rattle.replica_state.specs.States.{State, IsState, begun};
 ghost use Rattle.replica_state.specs.Steps.{with_ops};
@@ -172,6 +172,40 @@ impl<'a> Project<'a> {
         let front = front_for(alloc, &self.name)?;
         let (file, count) = self.bundle.join_after(bundle, front)?;
         Ok((file, count - self.bundle.len()))
+    }
+
+    /// The project file of the replica after it took in all that another replica holds, as `receive`
+    /// makes it.
+    ///
+    /// # Errors
+    /// Those of `receive`.
+    pub fn receive_all_of(&self, alloc: Global, other: &Replica) -> Result<Vec<u8>, JoinFault>
+        ensures spelled { IfOk result (λ file.
+            file.items ≡ projects.project (with_ops self.now other.now.held)) }
+        ensures again { IfOk result (λ file.
+            projects.project_at file.items ≡ Ok (with_ops self.now other.now.held)) }
+        ensures agrees { IfOk result (λ _. clash self.now.held other.now.held ≡ None) }
+        ensures refused { IfErr result (RefusesUnion (clash self.now.held other.now.held)) }
+    {
+        // The replica's name shows that what it holds is within its rules.
+        let _ = other.name();
+        let bytes = other.bundle(alloc)?;
+        let bundle = decode_whole(alloc, &bytes)?;
+        let (file, _) = self.receive(alloc, &bundle)?;
+        Ok(file)
+    }
+
+    /// A replica that holds those operations alone which an edit of one book is made from, as
+    /// `Replica::for_edit` says it, each copied out of the bytes of the file. What it makes of the
+    /// book is what the project's replica makes, and `receive_all_of` puts it into the file.
+    ///
+    /// # Errors
+    /// Out of memory alone; not of a project that holds nothing.
+    pub fn for_edit(&self, alloc: Global, book: Book) -> Result<Replica, AllocError>
+        ensures held { IfOk result (λ replica. replica ≡ for_edit self.now book) }
+        ensures none { self.now.held ≡ [] → IsOk result }
+    {
+        Replica::for_edit(alloc, self.name, &self.bundle, book)
     }
 
     /// The bundle of the operations that the replica holds and whose ids lie outside a summary, as

@@ -20,11 +20,12 @@ use Rattle.op_core.specs.Ops.{Operation, in_segment, names}
 use Rattle.op_core.specs.Sets.{IsOpSet}
 use Rattle.op_core.specs.Shown.{shown, is_replaced, is_shown, last, text_if_any, text_of}
 use Rattle.op_core.specs.NextIds.{greatest_number, next_number}
+use Rattle.op_core.proofs.Exports.Shows.{named_by_none}
 use Rattle.op_core.proofs.FilteredLists.{filter_none, none_of_less}
 use Rattle.op_core.proofs.Walk.{last_push}
 use Rattle.replica_state.specs.States.{State}
 use Rattle.replica_state.specs.Changes.{ChangeParts, edits_from}
-use Rattle.replica_state.proofs.Changes.{edit_at, held_names_none, edits_name_none}
+use Rattle.replica_state.proofs.Changes.{edit_at, edits_name_none}
 
 -- whether a key is among keys
 abbrev pub is_there : KeyParts → List KeyParts → Bool
@@ -103,7 +104,7 @@ module _ (s : State) (set : IsOpSet s.held) (book : List ℕ) (text : KeyParts �
     pub unnamed : (id : Id) → greatest_number s.held < id.number → is_replaced now g id ≡ false
     unnamed id l =
         list_any-append (λ (p : Operation). in_segment g p && names p id) s.held (edits (next_number s.held) all)
-        ∙ or_from _ _ (held_names_none g id s.held set.each l)
+        ∙ or_from _ _ (named_by_none g id s.held set.each (omega (arith, l)))
         (edits_name_none s book g id (next_number s.held) (map change_of all) set.rising l)
 
     one_edit : (n : ℕ) (keys : List KeyParts) → rises_by key_cmp (λ k. k) keys ≡ true → greatest_number s.held < n

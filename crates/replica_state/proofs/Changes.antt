@@ -13,7 +13,7 @@ use Rattle.usfm_ref.specs.Segments.{segment}
 use Rattle.usfm_ref.specs.declared.segment.Segment.{Segment}
 use Rattle.op_core.specs.Names.{name_cmp}
 use Rattle.op_core.specs.Ids.{Id, same_id, id_below, ids_rise, names_fall}
-use Rattle.op_core.specs.Ops.{Operation, IsOperation, in_segment, names}
+use Rattle.op_core.specs.Ops.{Operation, in_segment}
 use Rattle.op_core.specs.Sets.{rises, get, join, met}
 use Rattle.op_core.specs.Shown.{is_replaced}
 use Rattle.op_core.specs.Lists.{shown_ids}
@@ -22,7 +22,7 @@ use Rattle.op_core.specs.Thinned.{is_legal, all_full}
 use Rattle.op_core.proofs.Indexed.Enrolled.{more_items, apart_at}
 use Rattle.op_core.proofs.ThinnedSets.Left.{join_full_legal}
 use Rattle.op_core.proofs.IdOrders.NextIds.{beyond, shown_fall, some_fall}
-use Rattle.op_core.proofs.Exports.Shows.{not_named, names_none}
+use Rattle.op_core.proofs.Exports.Shows.{not_named}
 use Rattle.op_core.proofs.Sets.Union.{rises_parts, rises-join, get-join, same_gets}
 use Rattle.replica_state.specs.States.{State, IsState}
 use Rattle.replica_state.specs.Edits.{has_numbers, edit_with, own_id, first_number}
@@ -51,14 +51,6 @@ one_of_both (Some x) (Some y) apart = cc (apart y refl)
 pub given_fall : (held : List Operation) (g : Segment) (given : List Id) (id : Id) → rises held ≡ true → greatest_number held < id.number
     → names_fall id (given_ids held g given) ≡ true
 given_fall held g given id h l = some_fall id (is_among given) (shown_ids held g) (shown_fall held g id h l)
-
--- operations name no id beyond them
-pub held_names_none : (g : Segment) (id : Id) (ops : List Operation) → AllByRecursion IsOperation ops → greatest_number ops < id.number
-    → is_replaced ops g id ≡ false
-held_names_none g id [] all l = refl
-held_names_none g id (o ∷ ops) all l =
-    or_from _ _ (and_right (in_segment g o) (names o id) (names_none o id all.0 (omega (arith, l))))
-    (held_names_none g id ops all.1 (omega (arith, l)))
 
 module _ (s : State) (book : List ℕ) where
   -- the edit of a change, with a number

@@ -27,3 +27,4 @@ pub mod SinceBegun
 pub mod SinceTwice
 pub mod SinceImports
 pub mod SinceTexts
+pub mod ForEdit

@@ -24,6 +24,7 @@ use Rattle.op_core.specs.NextIds.{greatest_number, next_number, is_among, given_
 use Rattle.op_core.proofs.Sets.Agreement.{Agree, agree_itself}
 use Rattle.op_core.proofs.Indexed.Enrolled.{apart_at}
 use Rattle.op_core.proofs.Exports.Exported.{any-rising}
+use Rattle.op_core.proofs.Exports.Shows.{named_by_none}
 use Rattle.op_core.proofs.FilteredLists.{any_filter, any_map, filter_none}
 use Rattle.op_core.proofs.Sets.Filters.{filter_kept}
 use Rattle.op_core.proofs.Sets.Gets.{AnyHeld, any_held}
@@ -43,7 +44,7 @@ use Rattle.replica_state.specs.SinceLaws.{TwiceIsOnce}
 use Rattle.replica_state.proofs.Appended as appended
 use Rattle.replica_state.proofs.Appended.{is_there, key_is, shown_after}
 use Rattle.replica_state.proofs.ChangeRuns.{among_passing}
-use Rattle.replica_state.proofs.Changes.{edit_at, edits_after, edits_beyond, edits_rise, held_names_none, edits_name_none}
+use Rattle.replica_state.proofs.Changes.{edit_at, edits_after, edits_beyond, edits_rise, edits_name_none}
 use Rattle.replica_state.proofs.DueKeys.{due_among, walked, heads_map, there_kept}
 use Rattle.replica_state.proofs.OwnExports.{none_pass}
 use Rattle.replica_state.proofs.SinceRuns.{Accepted, accepted, any_received}
@@ -196,7 +197,7 @@ module _ (t : State) (set : IsOpSet t.held) (base : List Operation) (book : List
         unnamed : is_replaced now g edit.id ≡ false
         unnamed =
             named_in edit.id
-            ∙ or_from _ _ (held_names_none g edit.id t.held set.each l)
+            ∙ or_from _ _ (named_by_none g edit.id t.held set.each (omega (arith, l)))
             (edits_name_none t book g edit.id (next_number t.held) (map change keys) set.rising l)
 
         by : (is_there q ks ≡ true → later ≡ true) → (b : Bool) → is_eq (key_cmp q k) ≡ b → (b || is_there q ks) ≡ true

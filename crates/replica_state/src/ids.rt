@@ -1,5 +1,5 @@
-// Ids among those that a segment shows, which rise: each is looked for by halves, since there may
-// be many of them.
+// Ids among those that a segment shows, which rise: each is looked for by binary search, since
+// there may be many of them.
 ghost use Rattle.std.specs.Prelude.{◌≡◌, ◌≤◌, IfOk, IsTrue, filter, length, not};
 ghost use Rattle.std.specs.List.{find, position_or_len};
 ghost use Rattle.std.specs.Option.{option_copied};

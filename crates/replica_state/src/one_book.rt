@@ -1,6 +1,8 @@
 // Replicas of one book.
-ghost use Rattle.std.specs.Prelude.{◌≡◌, ◌++◌, ◌∷◌, [], IsOk, IfOk, OnOk, IsTrue};
-ghost use Rattle.op_core.specs.OneBook.{ops_of_book};
+ghost use Rattle.std.specs.Prelude.{◌≡◌, ◌==◌, ◌||◌, ◌++◌, ◌∷◌, [], IsOk, IfOk, OnOk, IsTrue, filter};
+ghost use Rattle.op_core.specs.Export.{of_book};
+ghost use Rattle.op_core.specs.NextIds.{greatest_number};
+ghost use Rattle.op_core.specs.OneBook.{ops_for_edit, ops_of_book};
 ghost use Rattle.op_core.specs.Sets.{IsOpSet};
 ghost use Rattle.op_core.specs.Thinned.{is_legal};
 
@@ -28,6 +30,26 @@ impl Replica {
         ensures none { ops_of_book bundle.now book ≡ [] → IsOk result }
     {
         replica_of(alloc, name, copy_of_book(alloc, bundle, book)?)
+    }
+
+    /// A replica of this name that holds those operations of a bundle which are of one book, and
+    /// those with the greatest number of all. Only these are copied. So what it makes of the book
+    /// is what a replica makes that holds all of the bundle: the ids are the same, and what they
+    /// replace.
+    ///
+    /// # Errors
+    /// Out of memory alone; not of a bundle that has no operation.
+    pub fn for_edit(
+        alloc: Global,
+        name: ReplicaName,
+        bundle: &Bundle<'_>,
+        book: Book,
+    ) -> Result<Replica, AllocError>
+        ensures held { IfOk result (λ replica.
+            replica ≡ record { name = name; held = ops_for_edit bundle.now book }) }
+        ensures none { bundle.now ≡ [] → IsOk result }
+    {
+        replica_of(alloc, name, copy_for_edit(alloc, bundle, book)?)
     }
 }
 
@@ -77,4 +99,48 @@ pub(crate) fn copy_if_of_book(
         ops.push(view.to_op(alloc)?)?;
     }
     Ok(())
+}
+
+// The operations of a bundle that an edit of a book is made from, copied out of the bundle's bytes,
+// rising.
+fn copy_for_edit(alloc: Global, bundle: &Bundle<'_>, book: Book) -> Result<Vec<Op>, AllocError>
+    ensures set { IsOpSet bundle.now }
+    ensures legal { IsTrue (is_legal bundle.now) }
+    ensures ops { IfOk result (λ ops. ops.items ≡ ops_for_edit bundle.now book) }
+    ensures none { bundle.now ≡ [] → IsOk result }
+{
+    let greatest = greatest_number(bundle);
+    let mut ops = Vec::new(alloc);
+    for view in bundle.ops() {
+        copy_if_for_edit(alloc, &mut ops, &view, book, greatest)?;
+    }
+    Ok(ops)
+}
+
+// Appends a copy of the operation if it is of the book, or has the number.
+fn copy_if_for_edit(
+    alloc: Global,
+    ops: &mut Vec<Op>,
+    view: &OpView<'_>,
+    book: Book,
+    number: u64,
+) -> Result<(), AllocError>
+    ensures { OnOk result (ops.new.items ≡ ops.old.items
+        ++ filter (λ o. of_book book o || o.id.number == number) (view.now ∷ [])) }
+{
+    if view.is_of_book(book) || view.id().number == number {
+        ops.push(view.to_op(alloc)?)?;
+    }
+    Ok(())
+}
+
+// The greatest number of an operation of the bundle, 0 where it has none.
+fn greatest_number(bundle: &Bundle<'_>) -> u64
+    ensures { result ≡ greatest_number bundle.now }
+{
+    let mut greatest = 0;
+    for view in bundle.ops() {
+        greatest = view.id().number.max(greatest);
+    }
+    greatest
 }

@@ -1,7 +1,6 @@
 ghost use Rattle.std.specs.Prelude.{◌≡◌, ◌++◌, [], map, Ok, IsOk, IfOk};
 ghost use Rattle.usfm_ref.specs.Segments.{segment};
 ghost use Rattle.op_core.specs.Lists as lists;
-ghost use Rattle.op_core.specs.NextIds.{is_among};
 ghost use Rattle.op_core.specs.Shown as texts;
 ghost use Rattle.bundle_codec.specs.Joining.{whole_at};
 ghost use Rattle.bundle_codec.specs.Spelling.{bundle};
@@ -59,14 +58,6 @@ impl Replica {
         ensures { result.now ≡ self.now.held }
     {
         &self.set
-    }
-
-    /// Whether the segment of an operation shows its id. It does not allocate.
-    pub fn shows(&self, op: &Op) -> bool
-        ensures { result
-            ≡ is_among (lists.shown_ids self.now.held op.now.segment) op.now.id }
-    {
-        self.shows_id(op.book(), op.key(), op.id())
     }
 
     /// The books with an operation, in the order of books. The walk does not allocate.

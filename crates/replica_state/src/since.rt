@@ -1,6 +1,6 @@
 // Imports of a file that was changed since a bundle.
-ghost use Rattle.std.specs.Prelude.{◌≡◌, ◌≢◌, ◌&&◌, [], None, Some, option_map, Err, IfOk, IfErr, IfSome};
-ghost use Rattle.std.specs.Prelude.{IsOk, IsTrue, OnErr, map, if◌then◌else◌};
+ghost use Rattle.std.specs.Prelude.{◌≡◌, ◌≢◌, ◌&&◌, [], None, Some, option_map, Err, IfOk, IfErr};
+ghost use Rattle.std.specs.Prelude.{IfSome, IsOk, IsTrue, OnErr, map, if◌then◌else◌};
 ghost use Rattle.std.specs.List.{list_any};
 ghost use Rattle.usfm_ref.specs.Books.{same_bytes};
 ghost use Rattle.usfm_ref.specs.Keys.{key_cmp};
@@ -168,9 +168,9 @@ impl Replica {
         Ok(changes)
     }
 
-    /// The change of a key, if it was changed in a file since it was written from the set of a
-    /// cursor: the file's piece, over what the segment shows of that which stood in the file. The
-    /// pieces are those of the file, in ascending order of keys.
+    /// The change of a key, if a file has another text there than the set of a cursor, from which
+    /// the file was written: the file's piece, over those ids that the segment shows and whose
+    /// text stood in the file. The pieces are those of the file, in ascending order of keys.
     ///
     /// # Errors
     /// Out of memory alone.

@@ -22,3 +22,4 @@ pub mod OverBooks
 pub mod OtherCopies
 pub mod Asking
 pub mod SplitReferences
+pub mod EditedBooks

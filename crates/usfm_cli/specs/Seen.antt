@@ -1,5 +1,8 @@
 -- What a command sees of a project (this project's own rule): of one book what it holds, or all.
-use Rattle.std.specs.Prelude.{◌≡◌, ℕ, Bool, true, false, List, [], Option, None, Some, Ok, IsTrue}
+use Rattle.std.specs.Prelude.{◌≡◌, ℕ, Bool, true, false, List, [], Option, None, Some, Result, Ok, Err, IsTrue, if◌then◌else◌}
+use Rattle.std.specs.Str.{is_utf8}
+use Rattle.verse_cut.specs.Reading.{book_in}
+use Rattle.verse_cut.specs.declared.fault.BookFault.{BookFault}
 use Rattle.op_core.specs.Thinned.{all_full}
 use Rattle.replica_state.specs.OneBook.{of_one_book}
 use Rattle.replica_state.specs.States.{State}
@@ -28,6 +31,34 @@ looked_at Report = None
 looked_at (Check book sheet) = Some book
 looked_at (Find book sheet needle) = Some book
 looked_at (Words book sheet) = Some book
+
+-- the book that was read, if one was
+abbrev pub book_if : Result (List ℕ) BookFault → Option (List ℕ)
+book_if (Ok book) = Some book
+book_if (Err fault) = None
+
+-- the book that a file begins with, if the file is text and begins with one
+abbrev pub book_of_file : List ℕ → Option (List ℕ)
+book_of_file file = if is_utf8 file then book_if (book_in file) else None
+
+-- the one book that a command edits, if it edits one, and that can be told
+abbrev pub edited_book : Command → Option (List ℕ)
+edited_book (Import file) = book_of_file file.now
+edited_book (ImportSince file base) = None
+edited_book (Edit book key text) = Some book
+edited_book (EditOver book key text ids) = Some book
+edited_book (EditWith book key of ids) = Some book
+edited_book (Receive bytes) = None
+edited_book Thin = None
+edited_book (Shown book key) = None
+edited_book Send = None
+edited_book (Export book) = None
+edited_book Summary = None
+edited_book (Delta summary) = None
+edited_book Report = None
+edited_book (Check book sheet) = None
+edited_book (Find book sheet needle) = None
+edited_book (Words book sheet) = None
 
 -- all of a replica, or what it holds of one book
 abbrev pub seen_of : Option (List ℕ) → State → State

@@ -1,10 +1,13 @@
 // The commands of a project.
 ghost use Rattle.std.specs.Prelude.{◌≡◌};
 ghost use Rattle.usfm_cli.specs.Commands.{only_tells};
-ghost use Rattle.usfm_cli.specs.Seen.{looked_at};
+ghost use Rattle.verse_cut.specs.Reading.{book_in};
+ghost use Rattle.usfm_cli.specs.Seen.{book_if, book_of_file, edited_book, looked_at};
 
+use crate::steps::text_in;
 use op_core::OpId;
 use usfm_ref::{Book, Key};
+use verse_cut::book_of;
 
 /// A command of a project. Files, bundles and texts are bytes as they came.
 #[derive(Clone, Copy, Debug)]
@@ -112,5 +115,49 @@ impl Command<'_> {
             | Command::Find(book, _, _)
             | Command::Words(book, _) => Some(book),
         }
+    }
+
+    // The one book that it edits, if it edits one, and that can be told.
+    pub(crate) fn edited_book(&self) -> Option<Book>
+        ensures { result ≡ edited_book self.now }
+    {
+        match *self {
+            Command::Import(file) => book_of_file(file),
+            Command::Edit { book, .. }
+            | Command::EditOver { book, .. }
+            | Command::EditWith { book, .. } => Some(book),
+            Command::ImportSince { .. }
+            | Command::Receive(_)
+            | Command::Thin
+            | Command::Shown(_, _)
+            | Command::Send
+            | Command::Export(_)
+            | Command::Summary
+            | Command::Delta(_)
+            | Command::Report
+            | Command::Check(_, _)
+            | Command::Find(_, _, _)
+            | Command::Words(_, _) => None,
+        }
+    }
+}
+
+// The book that a file begins with, if the file is text and begins with one.
+fn book_of_file(file: &[u8]) -> Option<Book>
+    ensures { result ≡ book_of_file file.now }
+{
+    match text_in(file) {
+        Ok(text) => book_of_text(text),
+        Err(_) => None,
+    }
+}
+
+// The book that a text begins with, if it begins with one.
+fn book_of_text(text: &str) -> Option<Book>
+    ensures { result ≡ book_if (book_in text.now) }
+{
+    match book_of(text) {
+        Ok(book) => Some(book),
+        Err(_) => None,
     }
 }

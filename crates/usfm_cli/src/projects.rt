@@ -1,5 +1,5 @@
 // Commands over a project's file.
-ghost use Rattle.std.specs.Prelude.{◌≡◌, ◌≢◌, [], Ok, Err, IsTrue, IfOk, IfErr};
+ghost use Rattle.std.specs.Prelude.{◌≡◌, ◌≢◌, [], Some, Ok, Err, IsTrue, IfOk, IfErr};
 ghost use Rattle.op_core.specs.Thinned.{all_full};
 ghost use Rattle.replica_state.specs.States.{State};
 ghost use Rattle.project_file.specs.Answers.{RefusesLoad};
@@ -10,7 +10,7 @@ ghost use Rattle.usfm_cli.specs.Commands.{outcome, only_tells, is_late, MayWantM
 ghost use Rattle.usfm_cli.specs.Commands.{is_late_in, no_fault, with_bundle};
 ghost use Rattle.usfm_cli.specs.Faults.{of_loading};
 ghost use Rattle.usfm_cli.specs.Projects.{RefusesFile, executed, received, delta_done, delta_made};
-ghost use Rattle.usfm_cli.specs.Seen.{looked_at, seen_of, IsSeen, ReadInPlace};
+ghost use Rattle.usfm_cli.specs.Seen.{edited_book, looked_at, seen_of, IsSeen, ReadInPlace};
 ghost use Rattle.usfm_cli.specs.Projects.{state_or};
 
 use crate::command::Command;
@@ -21,6 +21,7 @@ use project_file::{LoadFault, judge, load, load_book, save};
 use replica_state::Replica;
 use std::alloc::Global;
 use std::marker::Model;
+use usfm_ref::Book;
 
 /// What a command made: the project's file after it, which is lent from the given one where that
 /// stays, and what it writes. It also keeps the replica, if one was read, which nothing shows: a
@@ -76,8 +77,8 @@ impl<'a> Outcome<'a> {
 /// Does a command on a project, given as the bytes of its file: reads the project, does the
 /// command's step, and answers the file of the project after it and what the command writes. A
 /// command that only reports lends the project's bytes as they are. All of the file is judged; of
-/// what it holds, a command that looks at one book copies what is of that book, and a receive, a
-/// send or a delta nothing but the bytes that it writes.
+/// what it holds, a command that looks at one book or edits one copies what is of that book, and a
+/// receive, a send or a delta nothing but the bytes that it writes.
 ///
 /// # Errors
 /// First those of the project: `BadProject` (110) where the bytes do not begin as a project does,
@@ -131,6 +132,9 @@ pub fn exec<'a>(
         Command::Delta(summary) => return delta_of(alloc, project, summary),
         _ => {}
     }
+    if let Some(book) = command.edited_book() {
+        return edit_in(alloc, project, command, book);
+    }
     let mut replica = load_seen(alloc, project, command)?;
     let output = obey(alloc, &mut replica, command)?;
     if command.only_tells() {
@@ -167,6 +171,36 @@ fn receive_into<'a>(alloc: Global, project: &'a [u8], bytes: &[u8]) -> Result<Ou
         made: Some(made),
         output,
         replica: None,
+    })
+}
+
+// Does a command that edits one book on the bytes of a project's file: the file is judged, the
+// command is done by a replica that holds what the edit is made from, and what it made is put into
+// the file.
+fn edit_in<'a>(
+    alloc: Global,
+    project: &'a [u8],
+    command: &Command<'_>,
+    book: Book,
+) -> Result<Outcome<'a>, Fault>
+    requires { edited_book command.now ≡ Some book }
+    ensures answer { result ≢ Err Fault.Memory → executed project.now command.now ≡ result }
+    ensures no_project { IfErr (project_at project.now) (λ fault.
+        RefusesFile project.now (of_loading fault) result) }
+    ensures memory { result ≡ Err Fault.Memory → (s : State) → project_at project.now ≡ Ok s
+        → ReadInPlace command.now s → MayWantMemory (is_late command.now) (outcome s command.now) }
+    ensures after { IfOk result (λ made. (s : State) → project_at project.now ≡ Ok s
+        → project_at made.project ≡ Ok (state_or s (outcome s command.now))) }
+{
+    let whole = judge(alloc, project)?;
+    let mut seen = whole.for_edit(alloc, book)?;
+    let output = obey(alloc, &mut seen, command)?;
+    let made = whole.receive_all_of(alloc, &seen)?;
+    Ok(Outcome {
+        given: project,
+        made: Some(made),
+        output,
+        replica: Some(seen),
     })
 }
 

@@ -1,4 +1,4 @@
--- Rising lists with one item put in its place or taken out, and the search for that place by halves.
+-- Rising lists with one item put in its place or taken out, and the binary search for that place.
 use Rattle.std.proofs.Common.{◌≡◌, ℕ, zero, suc, ◌<◌, ◌≤◌, ◌+◌, Bool, true, false, not, cond, List, [], ◌∷◌, Option, Some, None, length, get_or, set, arith, refl, sym, ap, ◌∙◌}
 use Rattle.std.specs.declared.cmp.Ordering.{Ordering}
 use Rattle.std.specs.declared.cmp.Ordering.TheVariants.{Less, Equal, Greater}

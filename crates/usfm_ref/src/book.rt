@@ -37,7 +37,7 @@ impl Model for Book {
 }
 
 // The codes of the canon by their bytes, each with its place in the canon, so that a code is found
-// by halves.
+// by binary search.
 static BY_CODE: [([u8; 3], u8); 66] = [
     (*b"1CH", 12),
     (*b"1CO", 45),

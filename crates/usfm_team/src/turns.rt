@@ -7,16 +7,18 @@ use crate::refusal::read_named;
 use std::{io, mem};
 use usfm_cli::{Command, Expected, Fault, StdSink, TurnFault, exec_in_turn, write_more};
 
-// Takes in the files of books, or what was changed in them since a bundle.
+// Takes in the files of books, one by itself and several in turn, or what was changed in them since
+// a bundle.
 pub(crate) fn import(
     rt: &HostRuntime,
     project: &str,
     files: Vec<String>,
     since: Option<String>,
 ) -> Result<(), Refusal> {
-    match since {
-        None => import_all(rt, project, &files),
-        Some(base) => import_since(rt, project, &files, &base),
+    match (since, files.as_slice()) {
+        (Some(base), _) => import_since(rt, project, &files, &base),
+        (None, [file]) => import_one(rt, project, file),
+        (None, _) => import_all(rt, project, &files),
     }
 }
 
@@ -33,6 +35,13 @@ pub(crate) fn receive(
         Ok(()) => Ok(()),
         Err(fault) => Err(Refusal::of_turn(rt, fault, project, &bundles, Expected::Bundle)),
     }
+}
+
+fn import_one(rt: &HostRuntime, project: &str, name: &str) -> Result<(), Refusal> {
+    read_named(rt, project, Expected::Project)?;
+    let file = read_named(rt, name, Expected::BookFile)?;
+    let other = Some((name, Expected::BookFile));
+    change(rt, project, &Command::Import(&file), other)
 }
 
 fn import_all(rt: &HostRuntime, project: &str, names: &[String]) -> Result<(), Refusal> {

@@ -70,7 +70,7 @@ impl NameRanges {
 }
 
 // What is under a name, and its place, if there is one. The name at `near` is looked at first, and
-// the one after it; then they are searched by halves.
+// the one after it; then comes a binary search.
 pub(crate) fn find_name<'a>(
     names: &'a [NameRanges],
     name: &[u8],

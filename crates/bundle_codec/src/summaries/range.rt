@@ -30,7 +30,7 @@ pub(crate) fn begins_after(before: Option<u64>, first: u64) -> bool
 }
 
 // The place of the range in which the number lies, if there is one. The range at `near` is looked
-// at first, and the one after it; then they are searched by halves.
+// at first, and the one after it; then comes a binary search.
 pub(crate) fn find_range(ranges: &[NumberRange], number: u64, near: usize) -> Option<usize>
     requires each { IsTrue (list_all is_range ranges.now) }
     requires apart { IsTrue (are_apart ranges.now) }

@@ -1,13 +1,14 @@
 -- A segment with an operation shows one.
 use Rattle.std.proofs.Common.{◌≡◌, ◌≢◌, ℕ, ◌≤◌, Bool, true, false, not, cond, ◌&&◌, ◌||◌, List, [], ◌∷◌, filter, arith, refl, sym, ap, ◌∙◌, ltb}
 use Rattle.std.specs.List.{list_all, list_any, AllByRecursion}
-use Rattle.std.proofs.lemmas.Bool.{and_parts, ltb-true, false_from_ne_true, true≢false, false≢true, and_right}
+use Rattle.std.proofs.lemmas.Bool.{and_parts, ltb-true, false_from_ne_true, true≢false, false≢true, and_right, or_from}
 use Rattle.usfm_ref.specs.declared.segment.Segment.{Segment}
 use Rattle.op_core.specs.Ids.{Id, same_id, id_below, ids_rise}
 use Rattle.op_core.specs.Ops.{Operation, IsOperation, in_segment, names}
 use Rattle.op_core.specs.Sets.{rises, IsOpSet}
 use Rattle.op_core.specs.Shown.{is_replaced, is_shown, shown}
 use Rattle.op_core.specs.Equal.{id_from_same}
+use Rattle.op_core.specs.NextIds.{greatest_number}
 use Rattle.op_core.proofs.IdOrders.NextIds.{below_number}
 
 -- no id of no smaller number is named
@@ -24,6 +25,14 @@ not_named n id (r ∷ named) h l =
 pub names_none : (o : Operation) (id : Id) → IsOperation o → o.id.number ≤ id.number → names o id ≡ false
 names_none o id h l = not_named o.id.number id o.replaced
     (and_parts (ids_rise o.replaced) (list_all (λ (r : Id). ltb r.number o.id.number) o.replaced) h.falls).1 l
+
+-- so no operation names an id whose number is not smaller than that of any
+pub named_by_none : (g : Segment) (id : Id) (ops : List Operation) → AllByRecursion IsOperation ops → greatest_number ops ≤ id.number
+    → is_replaced ops g id ≡ false
+named_by_none g id [] all l = refl
+named_by_none g id (o ∷ ops) all l =
+    or_from _ _ (and_right (in_segment g o) (names o id) (names_none o id all.0 (omega (arith, l))))
+    (named_by_none g id ops all.1 (omega (arith, l)))
 
 module _ (g : Segment) where
   -- one operation before those above it hides none of them

@@ -6,7 +6,7 @@ ghost use Rattle.op_core.specs.Loops.Searches.{AnswersAs, Counted};
 use super::search::Search;
 
 /// Where a search in a rising list looks next: on from a first place by steps that grow, and by
-/// halves as soon as a step leads out of what is left.
+/// bisecting as soon as a step leads out of what is left.
 #[derive(Clone, Copy, Debug)]
 pub(crate) struct Steps {
     next: usize,
@@ -15,7 +15,7 @@ pub(crate) struct Steps {
 }
 
 impl Steps {
-    // From the middle of this many on, by halves alone.
+    // From the middle of this many on, by bisecting alone.
     pub(crate) fn halves(len: usize) -> Steps {
         Steps {
             next: len / 2,
@@ -34,7 +34,7 @@ impl Steps {
         }
     }
 
-    // At one place of this many and at the one beside it, and then by halves.
+    // At one place of this many and at the one beside it, and then by bisecting.
     pub(crate) fn beside(at: usize, len: usize) -> Steps {
         Steps {
             growth: 0,

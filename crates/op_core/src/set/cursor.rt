@@ -19,10 +19,10 @@ use std::alloc::{AllocError, Global};
 use std::marker::Model;
 use usfm_ref::{Book, Key, Place, Segment};
 
-/// Looks up operations and segments in a set, which it borrows. Made by `OpSet::cursor`; it does
-/// not allocate. It begins each search where the last one ended, so that a segment or an id that
-/// comes directly after the last one is found in a few comparisons. In any order it answers as the
-/// set does.
+/// Looks up operations and segments in a set, which it borrows. Made by `OpSet::cursor`. It begins
+/// each search where the last one ended, so that a segment or an id that comes directly after the
+/// last one is found in a few comparisons. In any order it answers as the set does. Only `shown`
+/// allocates.
 #[derive(Debug, Drop)]
 pub struct Cursor<'a> {
     set: &'a OpSet,

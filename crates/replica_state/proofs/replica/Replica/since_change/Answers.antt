@@ -3,7 +3,6 @@ use Rattle.usfm_ref.specs.Segments.{segment}
 use Rattle.verse_cut.specs.Views.{pieces_view}
 use Rattle.op_core.specs.Ids.{is_none_left}
 use Rattle.op_core.specs.Ops.{Operation}
-use Rattle.replica_state.specs.Imports.{is_due}
 use Rattle.replica_state.specs.Since.{is_changed, since_change, seen_ids, shows_text}
 use Rattle.replica_state.proofs.replica.Replica.since_change.Goals as goal
 
