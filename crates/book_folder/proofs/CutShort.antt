@@ -13,3 +13,4 @@ pub mod PicksArePieces
 pub mod RawPieces
 pub mod RestoredAgain
 pub mod ReadAgain
+pub mod Late

@@ -15,3 +15,7 @@ mod NameLines
 mod Schedules
 mod Twice
 mod CutShort
+mod OwnBookLaws
+mod SettledBooks
+mod ShownLaws
+mod BundlesAgain

@@ -56,7 +56,7 @@ module _ (s base : State) (wanted : List WantedParts) (book : List ℕ) (pieces 
   change k = change_at s.held base.held wanted book pieces k
 
   -- a change of a key is one of it, with the file's piece
-  change_is : (k : KeyParts) (c : ChangeParts) → change k ≡ Some c → (c.key ≡ k) × (c.text ≡ piece_at pieces k)
+  pub change_is : (k : KeyParts) (c : ChangeParts) → change k ≡ Some c → (c.key ≡ k) × (c.text ≡ piece_at pieces k)
   change_is k c e = by (settles s.held base.held wanted book k) (is_changed s.held base.held book pieces k)
       (sym (change_at_is s.held base.held wanted book pieces k) ∙ e)
     where
@@ -102,13 +102,15 @@ module _ (s base : State) (wanted : List WantedParts) (book : List ℕ) (pieces 
           }
 
   -- where a key is not changed and the file has another text than the base picks, the project shows that text
-  shown_already : change key ≡ None → has_other base.held book pieces key ≡ true → Has s.held
-  shown_already e other = by (settles s.held base.held wanted book key) (is_changed s.held base.held book pieces key) refl
+  pub shows_already : change key ≡ None → has_other base.held book pieces key ≡ true
+      → shows_text s.held (segment book key) (piece_at pieces key) ≡ true
+  shows_already e other = by (settles s.held base.held wanted book key) (is_changed s.held base.held book pieces key) refl
       (sym (change_at_is s.held base.held wanted book pieces key) ∙ e)
     where
       by : (t u : Bool) → is_changed s.held base.held book pieces key ≡ u
           → cond t (Some (settling_change s.held base.held book pieces key))
-          (cond u (Some (since_change s.held base.held book pieces key)) None) ≡ None → Has s.held
+          (cond u (Some (since_change s.held base.held book pieces key)) None) ≡ None
+          → shows_text s.held (segment book key) (piece_at pieces key) ≡ true
       by true u f e = cc e
       by false true f e = cc e
       by false false f e =
@@ -116,21 +118,25 @@ module _ (s base : State) (wanted : List WantedParts) (book : List ℕ) (pieces 
           let due : is_due base.held book pieces key ≡ true = or_left _ _ other in
           let both = due_false (is_due base.held book pieces key)
           (is_none_left (seen_ids s.held base.held g) && shows_text s.held g (piece_at pieces key)) due f in
-          let shows = (and_parts (is_none_left (seen_ids s.held base.held g)) (shows_text s.held g (piece_at pieces key)) both).1 in
-          let one = one_passing (λ o. same_bytes (own_text o) (piece_at pieces key)) (shown s.held g) shows in
-          let is = passed (is_shown s.held g) s.held one.0 one.1.0 in
-          record {
-            op = one.0;
-            held = is.0;
-            of = same_segment-is one.0.segment g
-                (and_parts (in_segment g one.0) (not (is_replaced s.held g one.0.id)) is.1).0;
-            is = same_bytes-is (own_text one.0) (piece_at pieces key) one.1.1;
-          }
+          (and_parts (is_none_left (seen_ids s.held base.held g)) (shows_text s.held g (piece_at pieces key)) both).1
         where
           due_false : (a b : Bool) → a ≡ true → (a && not b) ≡ false → b ≡ true
           due_false true true e f = refl
           due_false true false e f = cc f
           due_false false b e f = cc e
+
+  shown_already : change key ≡ None → has_other base.held book pieces key ≡ true → Has s.held
+  shown_already e other =
+      let g = segment book key in
+      let one = one_passing (λ o. same_bytes (own_text o) (piece_at pieces key)) (shown s.held g) (shows_already e other) in
+      let is = passed (is_shown s.held g) s.held one.0 one.1.0 in
+      record {
+        op = one.0;
+        held = is.0;
+        of = same_segment-is one.0.segment g
+            (and_parts (in_segment g one.0) (not (is_replaced s.held g one.0.id)) is.1).0;
+        is = same_bytes-is (own_text one.0) (piece_at pieces key) one.1.1;
+      }
 
   left_has : (xs ys : List Operation) → Has xs → Has (xs ++ ys)
   left_has xs ys h = record {
@@ -166,7 +172,7 @@ after_or s (Ok t) = t.after
 after_or s (Err refusal) = s
 
 -- what is taken in by edits that are made is the replica with them
-edits_are : (s : State) (book : List ℕ) (place : Place) (stood : List StoodParts) (changes : List ChangeParts) (t : Taken)
+pub edits_are : (s : State) (book : List ℕ) (place : Place) (stood : List StoodParts) (changes : List ChangeParts) (t : Taken)
     → taken place stood (edited_all s s (changes_ops s book changes)) ≡ Ok t
     → (n : ℕ) × ((n ≡ next_number s.held) × (with_ops s (edits_from n s book changes) ≡ t.after))
 edits_are s book place stood changes t e = by (first_fault s.held book changes) (first_number s.held (length changes)) refl e
@@ -179,12 +185,13 @@ edits_are s book place stood changes t e = by (first_fault s.held book changes) 
     by (Some f) first h e = cc e
 
 -- what is taken in where nothing is asked
-unasked : (place : Place) (fault : Option FolderFault) (r : Result Taken Refusal) (t : Taken) → unless_asked place fault r ≡ Ok t → r ≡ Ok t
+pub unasked : (place : Place) (fault : Option FolderFault) (r : Result Taken Refusal) (t : Taken)
+    → unless_asked place fault r ≡ Ok t → r ≡ Ok t
 unasked place None r t e = e
 unasked place (Some fault) r t e = cc e
 
 -- what is taken in of a file that was written from a base
-changed_is : (s base : State) (older : List State) (wishes : WishParts) (stood : List StoodParts) (f : FileParts)
+pub changed_is : (s base : State) (older : List State) (wishes : WishParts) (stood : List StoodParts) (f : FileParts)
     (pieces : List PieceParts)
     → taken_changed s base older wishes stood f pieces
     ≡ unless_asked (places.File f.at)

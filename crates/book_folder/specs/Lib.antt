@@ -13,6 +13,7 @@ pub mod StoodTexts
 pub mod Coming
 pub mod Naming
 pub mod Boxes
+pub mod Kept
 pub mod FirstNames
 pub mod Laws
 pub mod Plans
@@ -22,6 +23,9 @@ pub mod Settling
 pub mod Exports
 pub mod AsWritten
 pub mod FolderLaws
+pub mod OwnBooks
+pub mod CameIn
+pub mod CutLate
 pub mod Disks
 pub mod CutShort
 pub mod ReadAgain

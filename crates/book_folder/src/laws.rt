@@ -1,14 +1,29 @@
 //! Laws of a folder's files.
+ghost use Rattle.book_folder.specs.CameIn as came;
+ghost use Rattle.book_folder.specs.CutLate as late;
 ghost use Rattle.book_folder.specs.CutShort as cut;
 ghost use Rattle.book_folder.specs.Done as done;
 ghost use Rattle.book_folder.specs.FolderLaws as folder;
 ghost use Rattle.book_folder.specs.Laws as laws;
+ghost use Rattle.book_folder.specs.OwnBooks as own;
 ghost use Rattle.book_folder.specs.ReadAgain as again;
 
 /// Line ends say nothing: two files of a book that are like each other, and were written from the
 /// same base, lead to the same project, or are refused alike.
 pub fn line_ends_say_nothing()
     ensures { laws.LineEndsSayNothing }
+{}
+
+/// Other books say nothing: what comes in of a file, what is asked of it and what it is refused for
+/// hang on what the base has of its own book alone.
+pub fn other_books_say_nothing()
+    ensures { own.OtherBooksSayNothing }
+{}
+
+/// A base is settled book by book: of a book whose new file was not put in its place it has what
+/// the base had, and of each other book what the next one has.
+pub fn settled_book_by_book()
+    ensures { own.SettledBookByBook }
 {}
 
 /// Each id that an edit of a file names is one that the file's base shows with the text that the
@@ -22,6 +37,17 @@ pub fn nothing_unseen_is_replaced()
 /// of that segment with the file's text after the file was taken in.
 pub fn nothing_written_is_lost()
     ensures { laws.NothingWrittenIsLost }
+{}
+
+/// Where a file has another text in a segment than its base picks, the project shows the file's text
+/// there once the file was taken in.
+pub fn written_is_shown()
+    ensures { came.WrittenIsShown }
+{}
+
+/// Of bundles that a project has received already nothing comes in, and nothing is asked.
+pub fn bundles_bring_nothing_again()
+    ensures { came.BundlesBringNothingAgain }
 {}
 
 /// Once all came in, the project is reached from the one that was read by receivings of legal sets
@@ -68,6 +94,12 @@ pub fn cut_short_is_known()
 /// but that the new files are removed that were written.
 pub fn cut_early_is_done_again()
     ensures { cut.CutEarlyIsDoneAgain }
+{}
+
+/// Cut short once the project had all that came in, a sync has nothing more to take in: of what
+/// stands then, and of the same bundles, nothing comes in, and the project stays.
+pub fn cut_late_nothing_comes_in()
+    ensures { late.CutLateNothingComesIn }
 {}
 
 /// Read again by the base that makes the files as they were read, nothing comes in of a file that

@@ -5,7 +5,9 @@ use crate::refusal::Refusal;
 use crate::rights::look_at;
 use crate::telling::{say, say_of};
 use crate::turns::{read_files, refusal_in};
-use book_folder::{Found, Named, Seen, Unsettled, book_begun, may_be_book, read_names};
+use book_folder::{
+    Found, KeptName, Named, Seen, Unsettled, book_begun, kept_name, may_be_book, read_names,
+};
 use std::alloc::AllocError;
 use std::fs::Metadata;
 use usfm_cli::{Fault, NO_BOOK_FILE, TEXT_NAME, is_text_name};
@@ -21,9 +23,6 @@ pub(crate) const NEXT: &str = "next";
 pub(crate) const NAMES: &str = "names";
 // The bases before the base, the newest first.
 pub(crate) const OLDER: [&str; 3] = ["base.1", "base.2", "base.3"];
-
-// How the name ends under which a file is written that is put in the place of another one then.
-pub(crate) const MADE_END: &str = ".made";
 
 // A file of more bytes is no book's: it is not read.
 const MOST_BYTES: u64 = 16_777_216;
@@ -255,21 +254,11 @@ pub(crate) fn read_kept(rt: &HostRuntime, own: &Folder, is_said: bool) -> Result
     let mut kept = no_kept(rt);
     let mut old_bases = Vec::new(rt.alloc());
     for name in own.names(rt, false)? {
-        if name.ends_with(MADE_END) {
-            kept.outdated.push(name).map_err(Fault::from)?;
-            continue;
-        }
-        let Some((code, ending)) = name.split_once('.') else {
-            continue;
-        };
-        let Ok(book) = Book::read(code) else {
-            continue;
-        };
-        match ending {
-            "new" => kept.unplaced.push(book).map_err(Fault::from)?,
-            "bundle" => old_bases.push(name).map_err(Fault::from)?,
-            "bundle.new" | "usfm.new" => kept.outdated.push(name).map_err(Fault::from)?,
-            _ => {}
+        match kept_name(&name) {
+            KeptName::New(book) => kept.unplaced.push(book).map_err(Fault::from)?,
+            KeptName::OldBase => old_bases.push(name).map_err(Fault::from)?,
+            KeptName::HalfWritten => kept.outdated.push(name).map_err(Fault::from)?,
+            KeptName::Other => {}
         }
     }
     read_base(rt, own, &mut kept, is_said)?;

@@ -4,11 +4,11 @@ use crate::files::{
     write_made,
 };
 use crate::project::Project;
-use crate::reading::{BASE, Kept, MADE_END, NAMES, NEXT, OLDER, OWN, Read, read_kept};
+use crate::reading::{BASE, Kept, NAMES, NEXT, OLDER, OWN, Read, read_kept};
 use crate::refusal::Refusal;
 use crate::rights::keep_least_rights;
 use crate::sync::fault_of;
-use book_folder::{NewFile, Placing, SettlingStep, Step, settling_steps};
+use book_folder::{MADE_END, NewFile, Placing, SettlingStep, Step, settling_steps};
 use std::fs;
 use std::io::ErrorKind;
 use usfm_cli::Fault;

@@ -23,7 +23,8 @@ use Rattle.book_folder.specs.Taking.{StoodParts}
 use Rattle.book_folder.proofs.Twice.ShownBase.{shows_is}
 
 -- what has the same operations is the same
-same_somes : (a b : Option Operation) → ((o : Operation) → a ≡ Some o → b ≡ Some o) → ((o : Operation) → b ≡ Some o → a ≡ Some o) → a ≡ b
+pub same_somes : (a b : Option Operation) → ((o : Operation) → a ≡ Some o → b ≡ Some o) → ((o : Operation) → b ≡ Some o → a ≡ Some o)
+    → a ≡ b
 same_somes None None f g = refl
 same_somes None (Some y) f g = g y refl
 same_somes (Some x) b f g = sym (f x refl)

@@ -1,6 +1,6 @@
 -- The base of what is shown in the books that get a file: it is a legal part of what is held, and in these books it shows, picks
 -- and exports the same.
-use Rattle.std.proofs.Common.{◌≡◌, ℕ, Bool, true, false, cond, not, ◌&&◌, ◌||◌, List, [], ◌∷◌, filter, Option, Some, None, refl, sym, ap, subst, ◌∙◌}
+use Rattle.std.proofs.Common.{◌≡◌, ℕ, Bool, true, false, cond, not, ◌&&◌, ◌||◌, List, [], ◌∷◌, filter, Option, Some, None, refl, sym, ap, ◌∙◌}
 use Rattle.std.specs.Cmp.{both_ways}
 use Rattle.std.specs.List.{AllByRecursion, flat_map, list_any}
 use Rattle.std.specs.Ordering.{is_eq}
@@ -17,49 +17,21 @@ use Rattle.op_core.specs.Ids.{Id}
 use Rattle.op_core.specs.Lists.{shown_ids}
 use Rattle.op_core.specs.NextIds.{is_among}
 use Rattle.op_core.specs.Ops.{Operation, in_segment, is_full, names}
-use Rattle.op_core.specs.Sets.{IsOpSet, clash, get, join, met, rises}
+use Rattle.op_core.specs.Sets.{IsOpSet, get}
 use Rattle.op_core.specs.Shown.{is_replaced, is_shown, last, shown}
 use Rattle.op_core.specs.Thinned.{all_full, is_legal}
-use Rattle.op_core.proofs.Sets.Agreement.{Agree, agree_itself}
 use Rattle.op_core.proofs.Exports.ByShown.{ShowSame, picked_same}
 use Rattle.op_core.proofs.Sets.Clashes.{get_id}
 use Rattle.op_core.proofs.Exports.Exported.{any-rising, last_held}
 use Rattle.op_core.proofs.FilteredLists.{any_filter, any_flat, any_map, any_weaker}
-use Rattle.op_core.proofs.Sets.Filters.{filter_kept, filter_passes, filter_within, rises-filter}
+use Rattle.op_core.proofs.Sets.Filters.{filter_kept, filter_passes}
 use Rattle.op_core.proofs.Sets.Gets.{any_from, any_held}
 use Rattle.op_core.proofs.Sets.Legal.{full_legal, legal_at}
-use Rattle.op_core.proofs.Sets.NoClash.{no_clash}
 use Rattle.op_core.proofs.Exports.Shows.{shows_one}
-use Rattle.op_core.proofs.Sets.Union.{get-join, held_itself, join_itself, rises-join, same_gets}
+use Rattle.op_core.proofs.Sets.Union.{held_itself}
 use Rattle.replica_state.proofs.World.Held.{among_is_held, at_held, held_at}
 use Rattle.book_folder.specs.Bases.{shown_in_files, shows}
 use Rattle.book_folder.specs.Begun.{is_one_of}
-
--- ---- a part of a set
-
--- a union with a part of a set is the set
-pub join_part : (p : Operation → Bool) (xs : List Operation) → rises xs ≡ true → join xs (filter p xs) ≡ xs
-join_part p xs h =
-    let hp = rises-filter p xs h in
-    same_gets (join xs (filter p xs)) xs (rises-join xs (filter p xs) h) h
-    (λ q. get-join xs (filter p xs) q h hp ∙ by q (get (filter p xs) q) refl)
-  where
-    itself : (q : Id) → met (get xs q) (get xs q) ≡ get xs q
-    itself q = sym (get-join xs xs q h h) ∙ ap (λ (ops : List Operation). get ops q) (join_itself xs h)
-
-    none : (x : Option Operation) → met x None ≡ x
-    none None = refl
-    none (Some x) = refl
-
-    by : (q : Id) (r : Option Operation) → get (filter p xs) q ≡ r → met (get xs q) r ≡ get xs q
-    by q None e = none (get xs q)
-    by q (Some o) e = ap (met (get xs q)) (sym (filter_within p xs h q o e)) ∙ itself q
-
--- and the two do not clash
-pub no_clash_part : (p : Operation → Bool) (xs : List Operation) → rises xs ≡ true → clash xs (filter p xs) ≡ None
-no_clash_part p xs h =
-    no_clash xs (filter p xs) (rises-filter p xs h)
-    (λ q x y gx gy. let same : x ≡ y = cc (sym gx ∙ filter_within p xs h q y gy) in subst (Agree x) same (agree_itself x))
 
 -- to filter twice, where both tests pass together where a third one does
 filter_as : (p q r : Operation → Bool) (xs : List Operation) → AllByRecursion (λ x. (q x && p x) ≡ r x) xs

@@ -10,6 +10,7 @@ use Rattle.op_core.specs.Lists.{books_of}
 use Rattle.op_core.specs.Ops.{Operation}
 use Rattle.op_core.proofs.FilteredLists.{kept_each}
 use Rattle.op_core.proofs.Sets.Fronts.{join_none}
+use Rattle.op_core.proofs.Sets.Parts.{join_part, no_clash_part}
 use Rattle.op_core.proofs.Sets.SideBySide.{clash_none}
 use Rattle.bundle_codec.specs.Reading.{AreBytes}
 use Rattle.bundle_codec.specs.Spelling.{bundle}
@@ -32,7 +33,6 @@ use Rattle.book_folder.specs.Wanted.{SeenParts, WishParts}
 use Rattle.book_folder.specs.declared.refusal.Place.TheVariants as places
 use Rattle.book_folder.specs.declared.refusal.Refusal.{Refusal}
 use Rattle.book_folder.proofs.Schedules.Reached.{all_both}
-use Rattle.book_folder.proofs.Twice.ShownBase.{join_part, no_clash_part}
 use Rattle.book_folder.proofs.Twice.SyncedFile.{base_of, base_state, synced_not_rebased, synced_not_taken}
 
 module _ (s : State) (state : IsState s) where
