@@ -13,4 +13,16 @@ pub mod PicksArePieces
 pub mod RawPieces
 pub mod RestoredAgain
 pub mod ReadAgain
+pub mod HasAll
+pub mod WrittenDown
+pub mod FileEnds
+pub mod TakenFile
+pub mod TakenAll
+pub mod NewFiles
+pub mod OneBase
 pub mod Late
+pub mod Over
+pub mod BaseReceived
+pub mod Ready
+pub mod DoneAgain
+pub mod RecoveredAgain

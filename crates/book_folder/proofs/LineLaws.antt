@@ -38,7 +38,7 @@ changed_same s base older wishes stood f g pieces at book =
     λ i. taken_changed s base older wishes stood (record { at = at i; book = book i; name = f.name; bytes = f.bytes }) pieces
 
 -- what is taken in of a text of a file that was written from a base
-text_taken : (s base : State) (older : List State) (wishes : WishParts) (stood : List StoodParts) (f : FileParts)
+pub text_taken : (s base : State) (older : List State) (wishes : WishParts) (stood : List StoodParts) (f : FileParts)
     → is_utf8 f.bytes ≡ true → has_book base.held f.book ≡ true
     → taken_in s base older wishes stood f ≡ taken_changed s base older wishes stood f (coming_pieces base.held f.book f.bytes)
 unfolding taken_in

@@ -1,5 +1,5 @@
 -- A base is settled book by book.
-use Rattle.std.proofs.Common.{◌≡◌, ℕ, Bool, true, false, cond, not, List, Option, Some, None, Result, Ok, Err, refl, sym, ap, ◌∙◌}
+use Rattle.std.proofs.Common.{◌≡◌, ℕ, Bool, true, false, cond, not, List, filter, Option, Some, None, Result, Ok, Err, refl, sym, ap, ◌∙◌}
 use Rattle.std.proofs.lemmas.Bool.{false_from_ne_true, false≢true}
 use Rattle.usfm_ref.specs.Books.{same_bytes}
 use Rattle.usfm_ref.specs.declared.segment.Segment.{Segment}
@@ -26,62 +26,67 @@ use Rattle.book_folder.proofs.CutShort.AsReadBase.{same_somes}
 use Rattle.book_folder.proofs.Schedules.BasesReach.{joined_is}
 use Rattle.book_folder.proofs.Schedules.ReadSets.{IsReadable, both_set, read_again, short_set, some_set}
 
--- ---- sets that do not clash, of which one has nothing of a book
+-- ---- sets that do not clash, of which one has nothing of some segments
 
-module _ (x y : List Operation) (hx : rises x ≡ true) (hy : rises y ≡ true) (none : clash x y ≡ None) (book : List ℕ) where
+module _ (x y : List Operation) (hx : rises x ≡ true) (hy : rises y ≡ true) (none : clash x y ≡ None) (test : Segment → Bool) where
+  abbrev passes : Operation → Bool
+  passes o = test o.segment
+
   alike : AgreeAtAll x y
   alike = agree_from_no_clash x y none
 
-  -- where the second has nothing of the book, the union has of it what the first has
-  only_first : ((q : Id) (o : Operation) → get y q ≡ Some o → of_book book o ≡ false)
-      → ops_of_book (join x y) book ≡ ops_of_book x book
+  -- where the second has nothing of them, the union has of them what the first has
+  pub only_first : ((q : Id) (o : Operation) → get y q ≡ Some o → passes o ≡ false) → filter passes (join x y) ≡ filter passes x
   only_first other =
-      same_gets (ops_of_book (join x y) book) (ops_of_book x book) (rises-filter (of_book book) (join x y) (rises-join x y hx))
-      (rises-filter (of_book book) x hx) (λ q. same_somes _ _ (there q) (back q))
+      same_gets (filter passes (join x y)) (filter passes x) (rises-filter passes (join x y) (rises-join x y hx))
+      (rises-filter passes x hx) (λ q. same_somes _ _ (there q) (back q))
     where
-      not_both : (q : Id) (a b : Operation) → get x q ≡ Some a → get y q ≡ Some b → of_book book a ≡ true → ⊥
+      not_both : (q : Id) (a b : Operation) → get x q ≡ Some a → get y q ≡ Some b → passes a ≡ true → ⊥
       not_both q a b gx gy p =
           let same : a.segment ≡ b.segment = ap (λ (o : Operation). o.segment) (alike q a b gx gy).bares in
-          false≢true (sym (other q b gy) ∙ ap (λ (g : Segment). same_bytes g.book book) (sym same) ∙ p)
+          false≢true (sym (other q b gy) ∙ ap test (sym same) ∙ p)
 
-      there : (q : Id) (o : Operation) → get (ops_of_book (join x y) book) q ≡ Some o → get (ops_of_book x book) q ≡ Some o
+      there : (q : Id) (o : Operation) → get (filter passes (join x y)) q ≡ Some o → get (filter passes x) q ≡ Some o
       there q o g =
           by (get x q) refl (get y q) refl
-          (sym (get-join x y q hx hy) ∙ filter_within (of_book book) (join x y) (rises-join x y hx) q o g)
+          (sym (get-join x y q hx hy) ∙ filter_within passes (join x y) (rises-join x y hx) q o g)
         where
-          of : of_book book o ≡ true
-          of = filter_passes (of_book book) (join x y) q o g
+          of : passes o ≡ true
+          of = filter_passes passes (join x y) q o g
 
           by : (r : Option Operation) → get x q ≡ r → (t : Option Operation) → get y q ≡ t → met r t ≡ Some o
-              → get (ops_of_book x book) q ≡ Some o
+              → get (filter passes x) q ≡ Some o
           by None e None f m = cc m
-          by None e (Some b) f m = let is : b ≡ o = cc m in absurd (false≢true (sym (other q b f) ∙ ap (of_book book) is ∙ of))
-          by (Some a) e None f m = filter_kept (of_book book) x q o (e ∙ m) of
+          by None e (Some b) f m = let is : b ≡ o = cc m in absurd (false≢true (sym (other q b f) ∙ ap passes is ∙ of))
+          by (Some a) e None f m = filter_kept passes x q o (e ∙ m) of
           by (Some a) e (Some b) f m =
-              let is : meet a b ≡ o = cc m in absurd (not_both q a b e f (ap (of_book book) is ∙ of))
+              let is : meet a b ≡ o = cc m in absurd (not_both q a b e f (ap passes is ∙ of))
 
-      back : (q : Id) (o : Operation) → get (ops_of_book x book) q ≡ Some o → get (ops_of_book (join x y) book) q ≡ Some o
-      back q o g = filter_kept (of_book book) (join x y) q o (get-join x y q hx hy ∙ by (get y q) refl) of
+      back : (q : Id) (o : Operation) → get (filter passes x) q ≡ Some o → get (filter passes (join x y)) q ≡ Some o
+      back q o g = filter_kept passes (join x y) q o (get-join x y q hx hy ∙ by (get y q) refl) of
         where
-          of : of_book book o ≡ true
-          of = filter_passes (of_book book) x q o g
+          of : passes o ≡ true
+          of = filter_passes passes x q o g
 
           within : get x q ≡ Some o
-          within = filter_within (of_book book) x hx q o g
+          within = filter_within passes x hx q o g
 
           by : (t : Option Operation) → get y q ≡ t → met (get x q) (get y q) ≡ Some o
           by None f = (λ i. met (within i) (f i))
           by (Some b) f = absurd (not_both q o b within f of)
+
+abbrev of_the : List ℕ → Segment → Bool
+of_the book g = same_bytes g.book book
 
 -- where the first has nothing of the book, it has what the second has
 only_second : (x y : List Operation) → rises x ≡ true → rises y ≡ true → clash x y ≡ None → (book : List ℕ)
     → ((q : Id) (o : Operation) → get x q ≡ Some o → of_book book o ≡ false) → ops_of_book (join x y) book ≡ ops_of_book y book
 only_second x y hx hy none book other =
     ap (λ (ops : List Operation). ops_of_book ops book) (join_comm x y hx hy (agree_from_no_clash x y none))
-    ∙ only_first y x hy hx (sym (clash_comm x y hx hy) ∙ none) book other
+    ∙ only_first y x hy hx (sym (clash_comm x y hx hy) ∙ none) (of_the book) other
 
 -- bundles that are joined do not clash
-joined_apart : (place : Place) (x y : List Operation) (bytes : List ℕ) → IsReadable x → IsReadable y
+pub joined_apart : (place : Place) (x y : List Operation) (bytes : List ℕ) → IsReadable x → IsReadable y
     → joined_at place x y ≡ Ok bytes → clash x y ≡ None
 joined_apart place x y bytes h g e = by (whole_at (bundle x)) refl (whole_at (bundle y)) refl e
   where
@@ -125,7 +130,7 @@ module _ (unplaced : List (List ℕ)) (base next : List Operation) (book : List 
 
       by : (b : Bool) → is_one_of unplaced book ≡ b → ops_of_book (join x y) book ≡ cond b (ops_of_book base book) (ops_of_book next book)
       by true e =
-          only_first x y hx hy none book (λ q o g. false_from_ne_true _ (λ h.
+          only_first x y hx hy none (of_the book) (λ q o g. false_from_ne_true _ (λ h.
           false≢true (ap not (sym (left_as o h ∙ e)) ∙ filter_passes (λ o. not (is_left o)) next q o g)))
           ∙ filter_both (of_book book) is_left (of_book book) (λ o. both_second (is_left o) (of_book book o) (λ h. left_as o h ∙ e)) base
       by false e =

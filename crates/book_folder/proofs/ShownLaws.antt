@@ -77,7 +77,8 @@ module _ (s base : State) (set : IsOpSet s.held) (wanted : List WantedParts) (bo
     abbrev is_it : Operation → Bool
     is_it o = is_shown now g o && same_bytes (own_text o) text
 
-    unnamed : (id : Id) → greatest_number s.held < id.number → is_replaced now g id ≡ false
+    -- none names the id of an edit
+    pub unnamed : (id : Id) → greatest_number s.held < id.number → is_replaced now g id ≡ false
     unnamed id l =
         list_any-append (λ (p : Operation). in_segment g p && names p id) s.held new
         ∙ or_from _ _ (named_by_none g id s.held set.each (omega (arith, l)))

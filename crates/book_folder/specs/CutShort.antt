@@ -10,7 +10,7 @@ use Rattle.book_folder.specs.Coming.{CameInParts, comes_in}
 use Rattle.book_folder.specs.Disks.{Act, DiskParts, IsRead, bytes_at, cut_short, unsettled}
 use Rattle.book_folder.specs.Files.{FileParts, clear_files}
 use Rattle.book_folder.specs.Naming.{FormParts, form_of}
-use Rattle.book_folder.specs.Plans.{NewFileParts, PlanParts, RemoveNew, StepParts, headless, new_files, plan_of, planned}
+use Rattle.book_folder.specs.Plans.{NewFileParts, PlanParts, RemoveNew, StepParts, bytes_or, headless, new_files, plan_of, planned}
 use Rattle.book_folder.specs.Refusals.{◌>>=◌}
 use Rattle.book_folder.specs.Wanted.{SeenParts, WishParts}
 use Rattle.book_folder.specs.declared.refusal.Refusal.{Refusal}
@@ -73,9 +73,10 @@ abbrev pub FilesAreKnown : DiskParts → DiskParts → List NewFileParts → Typ
 FilesAreKnown before d made =
     (name : List ℕ) → (bytes_at d.files name ≡ bytes_at before.files name) ⊎ IsPut d made name
 
--- what a sync has put where it is cut short: the project's bytes, the base that it puts first, and
--- the next one
+-- what a sync has put where it is cut short: the project's bytes with what the bases brought, and
+-- with all that came in; the base that it puts first, and the next one
 pub record PutParts : Type 0 where
+  pub began : List ℕ
   pub project : List ℕ
   pub base : List ℕ
   pub next : List ℕ
@@ -97,10 +98,19 @@ pub record IsUnsettled (before d : DiskParts) : Type 0 where
 abbrev pub NextIsReady : PutParts → List NewFileParts → DiskParts → Type 0
 NextIsReady put made d = (d.next ≡ None) ⊎ (d.next ≡ Some put.next) × AllWait d made
 
--- No file is put: each is as it was before; and it is known what it was written from.
+-- The project before any file is put: nothing was done; or it has what the bases brought; or, where
+-- no book gets a new file, it has all that came in, and the first base stands alone.
+abbrev pub ProjectIsBegun : DiskParts → PutParts → DiskParts → Type 0
+ProjectIsBegun before put d =
+    (d ≡ before) ⊎ (d.project ≡ put.began)
+    ⊎ (d.project ≡ put.project) × (d.base ≡ Some put.base) × (d.next ≡ None)
+
+-- No file is put: each is as it was before; it is known what it was written from; and so is what the
+-- project has.
 pub record NoneIsPut (before : DiskParts) (put : PutParts) (made : List NewFileParts)
     (d : DiskParts) : Type 0 where
   pub files : d.files ≡ before.files
+  pub project : ProjectIsBegun before put d
   pub known : IsUnsettled before d ⊎ MakesAsRead before put d × NextIsReady put made d
 
 -- Files are put: the project has all that came in; the base that makes the files as they were read
@@ -135,9 +145,10 @@ pub data IsLeft (before : DiskParts) (put : PutParts) (made : List NewFileParts)
   SomePut : SomeArePut before put made d → IsLeft before put made d
   BaseSettled : BaseIsSettled before put made d → IsLeft before put made d
 
--- what a plan puts
-abbrev pub put_by : CameInParts → List ℕ → PutParts
-put_by c base = record {
+-- what a plan puts, where a project of these bytes was read
+abbrev pub put_by : List ℕ → CameInParts → List ℕ → PutParts
+put_by read c base = record {
+  began = bytes_or read c.recovered;
   project = project c.replica;
   base = base;
   next = next_base (headless c.replica.held) c.replica.held;
@@ -153,7 +164,7 @@ CutShortIsKnown =
     (base : List ℕ) (plan : PlanParts) (d : DiskParts) →
     IsPlan seen wishes c made base plan → IsRead seen d →
     (stays : List ℕ → Bool) (chance : Act → List Act → Bool) (n : ℕ) →
-    IsLeft d (put_by c base) made (cut_short stays chance n d plan.steps)
+    IsLeft d (put_by seen.project c base) made (cut_short stays chance n d plan.steps)
 
 -- ---- done again
 

@@ -81,6 +81,10 @@ files_from at (found ∷ later) =
 abbrev pub is_one_of : List (List ℕ) → List ℕ → Bool
 is_one_of books book = list_any (same_bytes book) books
 
+-- whether two files are of one book
+abbrev pub are_of_one_book : FileParts → FileParts → Bool
+are_of_one_book f g = same_bytes f.book g.book
+
 -- the first file of a book
 abbrev pub file_of : List FileParts → List ℕ → Option FileParts
 file_of files book = find (λ f. same_bytes f.book book) files

@@ -1,7 +1,7 @@
 -- Laws of a sync as a whole (this project's own rule): what a project is once all came in, and what
 -- the base that is written has.
-use Rattle.std.specs.Prelude.{◌≡◌, ◌<◌, ◌^◌, ℕ, true, List, [], ◌∷◌, Option, None, Some, Ok, IsTrue, length}
-use Rattle.std.specs.List.{AllByRecursion, Contains}
+use Rattle.std.specs.Prelude.{◌≡◌, ◌⊎◌, ◌<◌, ◌^◌, ℕ, ◌==◌, true, false, List, [], ◌∷◌, Option, None, Some, Ok, IsTrue, length}
+use Rattle.std.specs.List.{AllByRecursion, Contains, IsDistinct, list_any}
 use Rattle.std.specs.Str.{IsUtf8, is_utf8}
 use Rattle.op_core.specs.Export.{export}
 use Rattle.op_core.specs.Ops.{Operation, is_segment}
@@ -18,10 +18,10 @@ use Rattle.replica_state.specs.World.Schedules.{Holds}
 use Rattle.book_folder.specs.AsWritten.{are_alike}
 use Rattle.book_folder.specs.Bases.{base_as_read, next_base, shown_in_files}
 use Rattle.book_folder.specs.Coming.{CameInParts, comes_in, older_from}
-use Rattle.book_folder.specs.Files.{FileParts, clear_files, file_of}
-use Rattle.book_folder.specs.Likes.{like, line_ends}
+use Rattle.book_folder.specs.Files.{FileParts, are_of_one_book, book_begun, clear_files, file_of}
+use Rattle.book_folder.specs.Likes.{like, line_ends, plain}
 use Rattle.book_folder.specs.Naming.{FormParts, form_of, other_names}
-use Rattle.book_folder.specs.Plans.{headless, is_like_file, is_whole, planned, told_of}
+use Rattle.book_folder.specs.Plans.{NewFileParts, headless, is_like_file, is_whole, new_files, planned, told_of}
 use Rattle.book_folder.specs.Taking.{StoodParts}
 use Rattle.book_folder.specs.Wanted.{SeenParts, WishParts}
 
@@ -107,6 +107,33 @@ pub record IsSyncedFile (held : List Operation) (f : FileParts) : Type 0 where
   pub alike : like (export held f.book) f.bytes ≡ true
   pub text : is_utf8 f.bytes ≡ true
   pub ends : are_alike (line_ends (export held f.book)) ≡ true
+
+-- all lines of a text end in one manner, and it has no CR but in the ends of its lines
+pub record HasOneManner (text : List ℕ) : Type 0 where
+  pub ends : are_alike (line_ends text) ≡ true
+  pub none_else : list_any (λ b. b == 13) (plain text) ≡ false
+
+-- A new file of a plan is as a sync leaves it once it was put, under whatever name: it begins with
+-- its book and is like the book's text, where the lines of that end in one manner.
+abbrev pub NewFilesAreLeftSo : Type 0
+NewFilesAreLeftSo =
+    (seen : SeenParts) (held : List Operation) (files : List FileParts) (form : FormParts)
+    (made : List NewFileParts) (g : NewFileParts) (f : FileParts) →
+    IsOpSet held → new_files seen held files form ≡ Ok made → Contains made g →
+    HasOneManner (export held g.book) → f.bytes ≡ g.text → book_begun f.bytes ≡ Some f.book →
+    (f.book ≡ g.book) × IsSyncedFile held f
+
+-- Each other file is so: a file of a book of which the project has the head gets a new one under its
+-- name, or is as a sync leaves it, where the lines of the book's text end in one manner.
+abbrev pub OtherFilesAreLeftSo : Type 0
+OtherFilesAreLeftSo =
+    (seen : SeenParts) (held : List Operation) (files : List FileParts) (form : FormParts)
+    (made : List NewFileParts) (f : FileParts) →
+    new_files seen held files form ≡ Ok made → IsDistinct are_of_one_book files →
+    Contains files f → is_whole held f.book ≡ true → is_utf8 f.bytes ≡ true →
+    HasOneManner (export held f.book) →
+    ((g : NewFileParts) × Contains made g × (g.book ≡ f.book) × (g.name ≡ f.name))
+    ⊎ IsSyncedFile held f
 
 -- A project and its folder as a sync leaves them, with no bundle given: the one base has what the
 -- books show that get a file; nothing is left of a sync that was cut short; each book of which the

@@ -29,3 +29,4 @@ pub mod CutLate
 pub mod Disks
 pub mod CutShort
 pub mod ReadAgain
+pub mod DoneAgain

@@ -3,6 +3,7 @@ ghost use Rattle.book_folder.specs.CameIn as came;
 ghost use Rattle.book_folder.specs.CutLate as late;
 ghost use Rattle.book_folder.specs.CutShort as cut;
 ghost use Rattle.book_folder.specs.Done as done;
+ghost use Rattle.book_folder.specs.DoneAgain as done_again;
 ghost use Rattle.book_folder.specs.FolderLaws as folder;
 ghost use Rattle.book_folder.specs.Laws as laws;
 ghost use Rattle.book_folder.specs.OwnBooks as own;
@@ -77,6 +78,18 @@ pub fn steps_make_project()
     ensures { done.StepsMakeProject }
 {}
 
+/// A new file of a plan is as a sync leaves it once it was put, where the lines of its book's text
+/// end in one manner.
+pub fn new_files_are_left_so()
+    ensures { folder.NewFilesAreLeftSo }
+{}
+
+/// Each other file of a book of which the project has the head gets a new one under its name, or is
+/// as a sync leaves it, where the lines of the book's text end in one manner.
+pub fn other_files_are_left_so()
+    ensures { folder.OtherFilesAreLeftSo }
+{}
+
 /// A sync of a project and a folder as a sync left them brings nothing in, and has nothing to do on
 /// the disk.
 pub fn twice_is_once()
@@ -94,6 +107,18 @@ pub fn cut_short_is_known()
 /// but that the new files are removed that were written.
 pub fn cut_early_is_done_again()
     ensures { cut.CutEarlyIsDoneAgain }
+{}
+
+/// Cut short before it put a base of its own, once the project has what the bases brought, a sync is
+/// done again: of the same bundles and files all comes in as it did, but for what the bases brought.
+pub fn recovered_comes_in_again()
+    ensures { done_again.RecoveredComesInAgain }
+{}
+
+/// Cut short once it put a base, a sync is done again: of what stands then, and of the same bundles,
+/// the same project comes, and no edit is made again.
+pub fn cut_short_is_done_again()
+    ensures { done_again.CutShortIsDoneAgain }
 {}
 
 /// Cut short once the project had all that came in, a sync has nothing more to take in: of what

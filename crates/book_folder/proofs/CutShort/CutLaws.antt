@@ -12,9 +12,9 @@ use Rattle.book_folder.specs.Refusals.{◌>>=◌}
 use Rattle.book_folder.specs.Wanted.{SeenParts, WishParts}
 use Rattle.book_folder.specs.declared.refusal.Refusal.{Refusal}
 use Rattle.book_folder.proofs.CutShort.Fronts.{Fronts, LeftIs, front_taken}
-use Rattle.book_folder.proofs.CutShort.Known.{ProjectIsPut, some_put}
+use Rattle.book_folder.proofs.CutShort.Known.{some_put}
 use Rattle.book_folder.proofs.CutShort.OwnBooks.{own_books}
-use Rattle.book_folder.proofs.CutShort.Recovered.{BaseIsFirst, none_put, recovered_fronts}
+use Rattle.book_folder.proofs.CutShort.Recovered.{BaseIsFirst, ProjectIsPut, none_put, recovered_fronts}
 
 -- the steps of a plan, or none
 abbrev steps_of : Result PlanParts Refusal → List StepParts
@@ -60,6 +60,10 @@ module _ (seen : SeenParts) (d : DiskParts) (read : IsRead seen d) where
             sym same ∙ one_base d.base bytes (sym read.bases ∙ there.1),
       )
 
+  -- the project with what the bases brought
+  began : (recovered : Option (List ℕ)) → bytes_or d.project recovered ≡ bytes_or seen.project recovered
+  began recovered = ap (λ (p : List ℕ). bytes_or p recovered) (sym read.project)
+
   project_put : (recovered : Option (List ℕ)) (bytes : List ℕ)
       → ProjectIsPut bytes (other_than (bytes_or seen.project recovered) bytes) (bytes_or d.project recovered)
   project_put recovered bytes = by (same_bytes bytes (bytes_or seen.project recovered)) refl
@@ -77,14 +81,17 @@ module _ (seen : SeenParts) (d : DiskParts) (read : IsRead seen d) where
 -- a plan's acts, broken off anywhere, leave what is known
 fronts : (seen : SeenParts) (wishes : WishParts) (c : CameInParts) (made : List NewFileParts) (base : List ℕ) (plan : PlanParts)
     (d : DiskParts) → IsPlan seen wishes c made base plan → IsRead seen d → (stays : List ℕ → Bool) (chance : Act → List Act → Bool)
-    → Fronts (LeftIs chance (IsLeft d (put_by c base) made) d) (acts_of stays d plan.steps)
+    → Fronts (LeftIs chance (IsLeft d (put_by seen.project c base) made) d) (acts_of stays d plan.steps)
 fronts seen wishes c [] base plan d is read stays chance =
-    subst (λ (steps : List StepParts). Fronts (LeftIs chance (IsLeft d (put_by c base) []) d) (acts_of stays d steps))
+    subst (λ (steps : List StepParts). Fronts (LeftIs chance (IsLeft d (put_by seen.project c base) []) d) (acts_of stays d steps))
     (ap steps_of is.planned)
-    (recovered_fronts d (put_by c base) stays chance [] c.recovered seen.next seen.unplaced
+    (recovered_fronts d (put_by seen.project c base) stays chance [] c.recovered seen.next seen.unplaced
     (plan_steps [] (record { base = base_put seen.bases seen.next next; names = is.names; next = None }) bytes) (sym read.next)
-    (none_put d (put_by c base) stays chance [] (base_put seen.bases seen.next next) is.names bytes (bytes_or d.project c.recovered)
-    (subst (λ (b : List ℕ). BaseIsFirst d b (base_put seen.bases seen.next next)) first (base_first seen d read next))))
+    (began seen d read c.recovered)
+    (none_put d (put_by seen.project c base) stays chance [] (base_put seen.bases seen.next next) is.names bytes
+    (bytes_or d.project c.recovered)
+    (subst (λ (b : List ℕ). BaseIsFirst d b (base_put seen.bases seen.next next)) first (base_first seen d read next))
+    (began seen d read c.recovered) (project_put seen d read c.recovered (project c.replica))))
   where
     next : List ℕ
     next = next_base (headless c.replica.held) c.replica.held
@@ -95,13 +102,14 @@ fronts seen wishes c [] base plan d is read stays chance =
     first : next ≡ base
     first = let e = is.first in cc e
 fronts seen wishes c (one ∷ others) base plan d is read stays chance =
-    subst (λ (steps : List StepParts). Fronts (LeftIs chance (IsLeft d (put_by c base) (one ∷ others)) d) (acts_of stays d steps)) same
-    (recovered_fronts d (put_by c base) stays chance (one ∷ others) c.recovered seen.next seen.unplaced
-    (plan_steps (one ∷ others) own bytes) (sym read.next)
-    (some_put d (put_by c base) stays chance one others
+    subst (λ (steps : List StepParts).
+    Fronts (LeftIs chance (IsLeft d (put_by seen.project c base) (one ∷ others)) d) (acts_of stays d steps)) same
+    (recovered_fronts d (put_by seen.project c base) stays chance (one ∷ others) c.recovered seen.next seen.unplaced
+    (plan_steps (one ∷ others) own bytes) (sym read.next) (began seen d read c.recovered)
+    (some_put d (put_by seen.project c base) stays chance one others
     (own_books seen c.replica.held is.files is.form (one ∷ others) is.new)
     (base_put seen.bases seen.next base) is.names bytes (bytes_or d.project c.recovered) (base_first seen d read base)
-    (project_put seen d read c.recovered (project c.replica))))
+    (began seen d read c.recovered) (project_put seen d read c.recovered (project c.replica))))
   where
     bytes : Option (List ℕ)
     bytes = other_than (bytes_or seen.project c.recovered) (project c.replica)
@@ -127,5 +135,5 @@ fronts seen wishes c (one ∷ others) base plan d is read stays chance =
 
 pub cut_short_is_known : CutShortIsKnown
 cut_short_is_known seen wishes c made base plan d is read stays chance n =
-    front_taken (LeftIs chance (IsLeft d (put_by c base) made) d) (acts_of stays d plan.steps)
+    front_taken (LeftIs chance (IsLeft d (put_by seen.project c base) made) d) (acts_of stays d plan.steps)
     (fronts seen wishes c made base plan d is read stays chance) n

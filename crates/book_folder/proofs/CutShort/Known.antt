@@ -17,12 +17,8 @@ use Rattle.book_folder.proofs.CutShort.OwnBooks.{same_book}
 use Rattle.book_folder.proofs.CutShort.Puts.{all_wait, moves, moves_keep, put_stays, written}
 use Rattle.book_folder.proofs.CutShort.Settles.{Based, Turned, Turning, dropped, settled_fronts, settling_is, turned}
 use Rattle.book_folder.proofs.CutShort.StepActs.{base_acts, dropped_certain, moves_certain, names_acts, placed_acts, puts_acts, written_certain, writes_acts}
-use Rattle.book_folder.proofs.CutShort.Recovered.{BaseIsFirst, Goes, IsCleared, cleared_left, dropped_keep}
+use Rattle.book_folder.proofs.CutShort.Recovered.{BaseIsFirst, Goes, IsCleared, ProjectIsPut, cleared_left, dropped_keep}
 use Rattle.book_folder.proofs.Schedules.Reached.{all_both}
-
--- the project gets its bytes, or has them
-abbrev pub ProjectIsPut : List ℕ → Option (List ℕ) → List ℕ → Type 0
-ProjectIsPut put bytes project = (bytes ≡ Some put) ⊎ (bytes ≡ None) × (project ≡ put)
 
 -- while the new files that were left are removed
 record IsDone (d : DiskParts) (bytes : List ℕ) (x : DiskParts) : Type 0 where
@@ -212,14 +208,19 @@ module _ (before : DiskParts) (put : PutParts) (stays : List ℕ → Bool) (chan
   }
 
   -- the project is replaced
-  replace_all : (project : List ℕ) (bytes : Option (List ℕ)) → ProjectIsPut put.project bytes project → (d : DiskParts)
+  replace_all : (project : List ℕ) (bytes : Option (List ℕ)) → project ≡ put.began → ProjectIsPut put.project bytes project
+      → (d : DiskParts)
       → IsWritten before put made project d
       → Holds d (acts_of stays d (step_if ReplaceProject bytes ++ placed (map placing made)))
-  replace_all project None (inl e) d h = absurd (cc e)
-  replace_all project None (inr e) d h = move_all d (all_written project d h e.1)
-  replace_all project (Some bytes) (inr e) d h = absurd (let n = e.0 in cc n)
-  replace_all project (Some bytes) (inl e) d h = (
-    NonePut (record { files = h.files; known = inr (inr h.base, inr (h.next, h.waits)) }),
+  replace_all project None began (inl e) d h = absurd (cc e)
+  replace_all project None began (inr e) d h = move_all d (all_written project d h e.1)
+  replace_all project (Some bytes) began (inr e) d h = absurd (let n = e.0 in cc n)
+  replace_all project (Some bytes) began (inl e) d h = (
+    NonePut (record {
+      files = h.files;
+      project = inr (inl (h.project ∙ began));
+      known = inr (inr h.base, inr (h.next, h.waits));
+    }),
     move_all (done d (SetProject bytes))
         (all_written put.project (done d (SetProject bytes))
         (record { project = is; files = h.files; base = h.base; next = h.next; waits = h.waits }) refl),
@@ -230,18 +231,18 @@ module _ (before : DiskParts) (put : PutParts) (stays : List ℕ → Bool) (chan
 
   -- the base, the names and the next base are put
   put_beside : (project : List ℕ) (base names bytes : Option (List ℕ)) → BaseIsFirst before put.base base
-      → ProjectIsPut put.project bytes project
+      → project ≡ put.began → ProjectIsPut put.project bytes project
       → (d : DiskParts) → IsCleared before project d → AllWait d made
       → Holds d (acts_of stays d (with_sync SyncOwn (own_puts (record { base = base; names = names; next = Some put.next }))
       ++ (step_if ReplaceProject bytes ++ placed (map placing made))))
-  put_beside project base names bytes first replaced d h waits =
+  put_beside project base names bytes first began replaced d h waits =
       let k = step_if ReplaceProject bytes ++ placed (map placing made) in
       let acts = base_acts base ++ names_acts names ++ SetNext put.next ∷ [] in
       subst (Holds d) (sym (puts_acts stays base names put.next d k))
       (synced_fronts chance OwnSynced refl L (λ x. refl) acts (acts_of stays (after d acts) k) (certain base names) d
       (kept_fronts chance L (IsPutBeside before put project d.new) left acts (keep base names first) d
       (record { project = h.project; files = h.files; new = refl; base = inl h.base; next = inl h.next }))
-      (replace_all project bytes replaced (after d acts) (end base names first)))
+      (replace_all project bytes began replaced (after d acts) (end base names first)))
     where
       certain : (base names : Option (List ℕ))
           → AllByRecursion (Certain OwnSynced) (base_acts base ++ names_acts names ++ SetNext put.next ∷ [])
@@ -251,7 +252,7 @@ module _ (before : DiskParts) (put : PutParts) (stays : List ℕ → Bool) (chan
       certain (Some b) (Some n) = (refl, (refl, (refl, tt)))
 
       left : (x : DiskParts) → IsPutBeside before put project d.new x → L x
-      left x k = NonePut (record { files = k.files; known = inr (k.base, pick k.next) })
+      left x k = NonePut (record { files = k.files; project = inr (inl (k.project ∙ began)); known = inr (k.base, pick k.next) })
         where
           pick : (x.next ≡ None) ⊎ (x.next ≡ Some put.next) → NextIsReady put made x
           pick (inl none) = inl none
@@ -298,17 +299,17 @@ module _ (before : DiskParts) (put : PutParts) (stays : List ℕ → Bool) (chan
 
   -- the new files are written first
   pub some_put : (base names bytes : Option (List ℕ)) (project : List ℕ) → BaseIsFirst before put.base base
-      → ProjectIsPut put.project bytes project → Goes before put stays chance made project (plan_steps made
+      → project ≡ put.began → ProjectIsPut put.project bytes project → Goes before put stays chance made project (plan_steps made
       (record { base = base; names = names; next = Some put.next }) bytes)
-  some_put base names bytes project first replaced d h books =
+  some_put base names bytes project first began replaced d h books =
       subst (λ (steps : List StepParts). Holds d (dropped books ++ acts_of stays (after d (dropped books)) steps)) (sym steps_are)
       (subst (λ (t : List Act). Holds d (dropped books ++ t)) (sym (writes_acts stays one others (after d (dropped books)) k))
       (subst (Holds d) (append_assoc (dropped books) (map written made) (OwnSynced ∷ rest))
       (synced_fronts chance OwnSynced refl L (λ x. refl) acts rest
       (all_both (Certain OwnSynced) (dropped books) (map written made) (dropped_certain books) (written_certain made)) d
-      (kept_fronts chance L (IsCleared before project) (cleared_left before put stays chance made project) acts keep d h)
+      (kept_fronts chance L (IsCleared before project) (cleared_left before put stays chance made project began) acts keep d h)
       (subst (λ (x : DiskParts). Holds x rest) (sym both)
-      (put_beside project base names bytes first replaced now
+      (put_beside project base names bytes first began replaced now
       (subst (IsCleared before project) both (all_keep (IsCleared before project) acts keep d h))
       (all_wait made distinct (after d (dropped books))))))))
     where

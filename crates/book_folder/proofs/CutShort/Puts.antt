@@ -13,12 +13,12 @@ use Rattle.book_folder.proofs.CutShort.Names.{at_with, at_without}
 use Rattle.book_folder.proofs.CutShort.OwnBooks.{same_book}
 
 -- what a list has is its first or in the rest
-first_or_later : {X : Type 0} (y : X) (ys : List X) (x : X) → Contains (y ∷ ys) x → (y ≡ x) ⊎ Contains ys x
+pub first_or_later : {X : Type 0} (y : X) (ys : List X) (x : X) → Contains (y ∷ ys) x → (y ≡ x) ⊎ Contains ys x
 first_or_later y ys x (zero, l, e) = inl e
 first_or_later y ys x (suc k, l, e) = inr (k, omega arith, e)
 
 -- texts that differ, the other way round
-differ_back : (a b : List ℕ) → same_bytes a b ≡ false → same_bytes b a ≡ false
+pub differ_back : (a b : List ℕ) → same_bytes a b ≡ false → same_bytes b a ≡ false
 differ_back a b h = by (same_bytes b a) refl
   where
     by : (c : Bool) → same_bytes b a ≡ c → same_bytes b a ≡ false

@@ -2,16 +2,16 @@
 use Rattle.std.proofs.Common.{◌≡◌, ◌⊎◌, ℕ, Bool, List, [], ◌∷◌, ◌++◌, inl, inr, map, Option, None, Some, Result, Ok, Err, option_to_list, refl, sym, ap, subst, ◌∙◌, append_assoc}
 use Rattle.std.specs.List.{AllByRecursion}
 use Rattle.book_folder.specs.Begun.{settled}
-use Rattle.book_folder.specs.CutShort.{IsLeft, IsUnsettled, MakesAsRead, NextIsReady, PutParts, NonePut, settled_of}
+use Rattle.book_folder.specs.CutShort.{IsLeft, IsUnsettled, MakesAsRead, NextIsReady, ProjectIsBegun, PutParts, NonePut, settled_of}
 use Rattle.book_folder.specs.Disks.{Act, DiskParts, OwnSynced, SetBase, SetNames, SetProject, acts_of, after, and_then, settling_acts, unsettled}
 use Rattle.book_folder.specs.Plans.{NewFileParts, RemoveNew, Settle, StepParts, bytes_or, plan_steps, recovery}
 use Rattle.book_folder.specs.Refusals.{◌>>=◌}
 use Rattle.book_folder.specs.Settling.{SettlingParts, base_puts, settling_steps}
 use Rattle.book_folder.specs.Settling as settling
 use Rattle.book_folder.specs.declared.refusal.Refusal.{Refusal}
-use Rattle.book_folder.proofs.CutShort.Fronts.{Fronts, Keeps, LeftIs, after_both, kept_fronts}
+use Rattle.book_folder.proofs.CutShort.Fronts.{Certain, Fronts, Keeps, LeftIs, after_both, all_keep, kept_fronts, synced_fronts}
 use Rattle.book_folder.proofs.CutShort.Settles.{Based, Turned, Turning, dropped, settled_fronts, settling_is, turned}
-use Rattle.book_folder.proofs.CutShort.StepActs.{removal_acts}
+use Rattle.book_folder.proofs.CutShort.StepActs.{dropped_certain, removal_acts}
 use Rattle.book_folder.proofs.Schedules.Reached.{all_both}
 
 -- what was cut short is finished, and no next base is there
@@ -26,6 +26,10 @@ abbrev pub BaseIsFirst : DiskParts → List ℕ → Option (List ℕ) → Type 0
 BaseIsFirst before first base =
     (base ≡ Some first) ⊎ (base ≡ None) × ((d : DiskParts) → settled_of before before.next ≡ Ok d.base → d.base ≡ Some first)
 
+-- the project gets its bytes, or has them
+abbrev pub ProjectIsPut : List ℕ → Option (List ℕ) → List ℕ → Type 0
+ProjectIsPut put bytes project = (bytes ≡ Some put) ⊎ (bytes ≡ None) × (project ≡ put)
+
 pub dropped_keep : (before : DiskParts) (project : List ℕ) (books : List (List ℕ))
     → AllByRecursion (Keeps (IsCleared before project)) (dropped books)
 dropped_keep before project [] = tt
@@ -33,10 +37,18 @@ dropped_keep before project (book ∷ books) =
     (λ d h. record { project = h.project; files = h.files; next = h.next; base = h.base }, dropped_keep before project books)
 
 -- a disk on which no file is put, and none will be
-record IsAsRead (before : DiskParts) (put : PutParts) (d : DiskParts) : Type 0 where
+record IsAsRead (before : DiskParts) (put : PutParts) (bytes : List ℕ) (d : DiskParts) : Type 0 where
+  pub project : d.project ≡ bytes
   pub files : d.files ≡ before.files
   pub next : d.next ≡ None
   pub base : MakesAsRead before put d
+
+-- one on which the base is put then, and perhaps the project
+record HasBase (before : DiskParts) (put : PutParts) (bytes : List ℕ) (d : DiskParts) : Type 0 where
+  pub project : (d.project ≡ bytes) ⊎ (d.project ≡ put.project)
+  pub files : d.files ≡ before.files
+  pub next : d.next ≡ None
+  pub base : d.base ≡ Some put.base
 
 module _ (before : DiskParts) (put : PutParts) (stays : List ℕ → Bool) (chance : Act → List Act → Bool) (made : List NewFileParts) where
   abbrev pub L : DiskParts → Type 0
@@ -45,8 +57,9 @@ module _ (before : DiskParts) (put : PutParts) (stays : List ℕ → Bool) (chan
   abbrev pub Holds : DiskParts → List Act → Type 0
   Holds d acts = Fronts (LeftIs chance L d) acts
 
-  pub cleared_left : (project : List ℕ) (d : DiskParts) → IsCleared before project d → L d
-  cleared_left project d h = NonePut (record { files = h.files; known = inr (inl h.base, inl h.next) })
+  pub cleared_left : (project : List ℕ) → project ≡ put.began → (d : DiskParts) → IsCleared before project d → L d
+  cleared_left project began d h =
+      NonePut (record { files = h.files; project = inr (inl (h.project ∙ began)); known = inr (inl h.base, inl h.next) })
 
   -- ---- what a command that was cut short has begun is finished
 
@@ -57,9 +70,10 @@ module _ (before : DiskParts) (put : PutParts) (stays : List ℕ → Bool) (chan
       → Holds d (dropped books ++ acts_of stays (after d (dropped books)) k)
 
   -- the base is settled
-  settle_first : (project : List ℕ) (k : List StepParts) → Goes project k → (next : List ℕ) → before.next ≡ Some next
+  settle_first : (project : List ℕ) → project ≡ put.began → (k : List StepParts) → Goes project k → (next : List ℕ)
+      → before.next ≡ Some next
       → Holds (record before { project = project }) (acts_of stays (record before { project = project }) (Settle ∷ k))
-  settle_first project k goes next e =
+  settle_first project began k goes next e =
       subst (λ (n : Option (List ℕ)). Holds d (and_then (settling_acts (settling_steps (unsettled d) n)) on)) (sym e)
       (by (settled (option_to_list before.base) next (unsettled d).unplaced) refl)
     where
@@ -70,7 +84,11 @@ module _ (before : DiskParts) (put : PutParts) (stays : List ℕ → Bool) (chan
       on acts = acts_of stays (after d acts) k
 
       start : L d
-      start = NonePut (record { files = refl; known = inl (record { next = refl; new = refl; base = inl refl }) })
+      start = NonePut (record {
+        files = refl;
+        project = inr (inl began);
+        known = inl (record { next = refl; new = refl; base = inl refl });
+      })
 
       by : (r : Result (List ℕ) Refusal) → settled (option_to_list before.base) next (unsettled d).unplaced ≡ r
           → Holds d (and_then (settling_acts (r >>= λ bytes.
@@ -94,6 +112,7 @@ module _ (before : DiskParts) (put : PutParts) (stays : List ℕ → Bool) (chan
           based : (x : DiskParts) → Based d bytes x → L x
           based x h = NonePut (record {
             files = h.files;
+            project = inr (inl (h.project ∙ began));
             known = inl (record { next = h.next; new = h.new; base = base h.base });
           })
             where
@@ -102,7 +121,7 @@ module _ (before : DiskParts) (put : PutParts) (stays : List ℕ → Bool) (chan
               base (inr now) = inr (is ∙ ap (λ (b : Option (List ℕ)). Ok b) (sym now))
 
           turning : (x : DiskParts) → Turning d bytes x → L x
-          turning x h = NonePut (record { files = h.files; known = by_next h.next })
+          turning x h = NonePut (record { files = h.files; project = inr (inl (h.project ∙ began)); known = by_next h.next })
             where
               now : settled_of before before.next ≡ Ok x.base
               now = is ∙ ap (λ (b : Option (List ℕ)). Ok b) (sym h.base)
@@ -125,7 +144,11 @@ module _ (before : DiskParts) (put : PutParts) (stays : List ℕ → Bool) (chan
               }) books)
 
   begins : L before
-  begins = NonePut (record { files = refl; known = inl (record { next = refl; new = refl; base = inl refl }) })
+  begins = NonePut (record {
+    files = refl;
+    project = inl refl;
+    known = inl (record { next = refl; new = refl; base = inl refl });
+  })
 
   -- where no next base stands, the new files that are left are removed
   remove_first : (project : List ℕ) (k : List StepParts) → Goes project k → before.next ≡ None → (books : List (List ℕ))
@@ -136,48 +159,125 @@ module _ (before : DiskParts) (put : PutParts) (stays : List ℕ → Bool) (chan
       (goes d (record { project = refl; files = refl; next = e; base = ap (settled_of before) e }) books)
 
   pub recovered_fronts : (bytes next : Option (List ℕ)) (books : List (List ℕ)) (k : List StepParts) → before.next ≡ next
-      → Goes (bytes_or before.project bytes) k → Holds before (acts_of stays before (recovery bytes next books ++ k))
-  recovered_fronts None None books k e goes = remove_first before.project k goes e books
-  recovered_fronts None (Some next) books k e goes = settle_first before.project k goes next e
-  recovered_fronts (Some project) None books k e goes = (begins, remove_first project k goes e books)
-  recovered_fronts (Some project) (Some next) books k e goes = (begins, settle_first project k goes next e)
+      → bytes_or before.project bytes ≡ put.began → Goes (bytes_or before.project bytes) k
+      → Holds before (acts_of stays before (recovery bytes next books ++ k))
+  recovered_fronts None None books k e began goes = remove_first before.project k goes e books
+  recovered_fronts None (Some next) books k e began goes = settle_first before.project began k goes next e
+  recovered_fronts (Some project) None books k e began goes = (begins, remove_first project k goes e books)
+  recovered_fronts (Some project) (Some next) books k e began goes = (begins, settle_first project began k goes next e)
 
   -- ---- a plan without new files
 
   pub none_put : (base names bytes : Option (List ℕ)) (project : List ℕ) → BaseIsFirst before put.base base
+      → project ≡ put.began → ProjectIsPut put.project bytes project
       → Goes project (plan_steps [] (record { base = base; names = names; next = None }) bytes)
-  none_put base names bytes project first d h books =
-      kept_fronts chance L (IsAsRead before put) (λ x k. NonePut (record { files = k.files; known = inr (k.base, inl k.next) }))
-      (dropped books ++ acts_of stays (after d (dropped books)) (plan_steps [] (record { base = base; names = names; next = None }) bytes))
-      (all_both (Keeps (IsAsRead before put)) (dropped books) (acts_of stays (after d (dropped books)) _) (drops books)
-      (all base names bytes first (after d (dropped books)))) d
-      (record { files = h.files; next = h.next; base = inl h.base })
+  none_put base names bytes project first began replaced d h books = all base names bytes first replaced
     where
-      drops : (books : List (List ℕ)) → AllByRecursion (Keeps (IsAsRead before put)) (dropped books)
-      drops [] = tt
-      drops (book ∷ books) = (λ x k. record { files = k.files; next = k.next; base = k.base }, drops books)
+      Beside : DiskParts → Type 0
+      Beside = IsAsRead before put project
 
-      based : (b : List ℕ) → BaseIsFirst before put.base (Some b) → Keeps (IsAsRead before put) (SetBase b)
-      based b (inl e) x k = record { files = k.files; next = k.next; base = inr e }
-      based b (inr n) x k = absurd (let e = n.0 in cc e)
+      Put : DiskParts → Type 0
+      Put = HasBase before put project
 
-      named : (b : List ℕ) → Keeps (IsAsRead before put) (SetNames b)
-      named b x k = record { files = k.files; next = k.next; base = k.base }
+      beside_left : (x : DiskParts) → Beside x → L x
+      beside_left x k = NonePut (record { files = k.files; project = inr (inl (k.project ∙ began)); known = inr (k.base, inl k.next) })
 
-      sync : Keeps (IsAsRead before put) OwnSynced
-      sync x k = k
+      put_left : (x : DiskParts) → Put x → L x
+      put_left x k = NonePut (record { files = k.files; project = pick k.project; known = inr (inr k.base, inl k.next) })
+        where
+          pick : (x.project ≡ project) ⊎ (x.project ≡ put.project) → ProjectIsBegun before put x
+          pick (inl e) = inr (inl (e ∙ began))
+          pick (inr e) = inr (inr (e, k.base, k.next))
 
-      replaced : (b : List ℕ) → Keeps (IsAsRead before put) (SetProject b)
-      replaced b x k = record { files = k.files; next = k.next; base = k.base }
+      cleared : DiskParts
+      cleared = after d (dropped books)
 
-      all : (base names bytes : Option (List ℕ)) → BaseIsFirst before put.base base → (x : DiskParts)
-          → AllByRecursion (Keeps (IsAsRead before put))
-          (acts_of stays x (plan_steps [] (record { base = base; names = names; next = None }) bytes))
-      all None None None first x = tt
-      all None None (Some p) first x = (replaced p, tt)
-      all None (Some n) None first x = (named n, (sync, tt))
-      all None (Some n) (Some p) first x = (named n, (sync, (replaced p, tt)))
-      all (Some b) None None first x = (based b first, (sync, tt))
-      all (Some b) None (Some p) first x = (based b first, (sync, (replaced p, tt)))
-      all (Some b) (Some n) None first x = (based b first, (named n, (sync, tt)))
-      all (Some b) (Some n) (Some p) first x = (based b first, (named n, (sync, (replaced p, tt))))
+      is_cleared : IsCleared before project cleared
+      is_cleared = all_keep (IsCleared before project) (dropped books) (dropped_keep before project books) d h
+
+      drops_beside : (bs : List (List ℕ)) → AllByRecursion (Keeps Beside) (dropped bs)
+      drops_beside [] = tt
+      drops_beside (book ∷ bs) =
+          (λ x k. record { project = k.project; files = k.files; next = k.next; base = k.base }, drops_beside bs)
+
+      drops_put : (bs : List (List ℕ)) → AllByRecursion (Keeps Put) (dropped bs)
+      drops_put [] = tt
+      drops_put (book ∷ bs) = (λ x k. record { project = k.project; files = k.files; next = k.next; base = k.base }, drops_put bs)
+
+      based : (b : List ℕ) → Some b ≡ Some put.base → Keeps Beside (SetBase b)
+      based b e x k = record { project = k.project; files = k.files; next = k.next; base = inr e }
+
+      named : (n : List ℕ) → Keeps Beside (SetNames n)
+      named n x k = record { project = k.project; files = k.files; next = k.next; base = k.base }
+
+      project_acts : Option (List ℕ) → List Act
+      project_acts None = []
+      project_acts (Some p) = SetProject p ∷ []
+
+      project_keeps : (bytes : Option (List ℕ)) → ProjectIsPut put.project bytes project → AllByRecursion (Keeps Put) (project_acts bytes)
+      project_keeps None r = tt
+      project_keeps (Some p) (inl e) =
+          (λ x k. let is : p ≡ put.project = cc e in record { project = inr is; files = k.files; next = k.next; base = k.base }, tt)
+      project_keeps (Some p) (inr n) = absurd (let e = n.0 in cc e)
+
+      -- where the base and the names are there already
+      at_once : d.base ≡ Some put.base → (bytes : Option (List ℕ)) → ProjectIsPut put.project bytes project
+          → Holds d (dropped books ++ project_acts bytes)
+      at_once base bytes replaced =
+          kept_fronts chance L Put put_left (dropped books ++ project_acts bytes)
+          (all_both (Keeps Put) (dropped books) (project_acts bytes) (drops_put books) (project_keeps bytes replaced)) d
+          (record { project = inl h.project; files = h.files; next = h.next; base = base })
+
+      -- where they are put first
+      after_sync : (acts : List Act) → AllByRecursion (Certain OwnSynced) acts → AllByRecursion (Keeps Beside) acts
+          → Put (after cleared acts) → (bytes : Option (List ℕ)) → ProjectIsPut put.project bytes project
+          → Holds d (dropped books ++ (acts ++ OwnSynced ∷ project_acts bytes))
+      after_sync acts certain keeps end bytes replaced =
+          subst (Holds d) (append_assoc (dropped books) acts (OwnSynced ∷ project_acts bytes))
+          (synced_fronts chance OwnSynced refl L (λ x. refl) (dropped books ++ acts) (project_acts bytes)
+          (all_both (Certain OwnSynced) (dropped books) acts (dropped_certain books) certain) d
+          (kept_fronts chance L Beside beside_left (dropped books ++ acts)
+          (all_both (Keeps Beside) (dropped books) acts (drops_beside books) keeps) d
+          (record { project = h.project; files = h.files; next = h.next; base = inl h.base }))
+          (kept_fronts chance L Put put_left (project_acts bytes) (project_keeps bytes replaced) (after d (dropped books ++ acts))
+          (subst Put (sym (after_both d (dropped books) acts)) end)))
+
+      put_now : (b : List ℕ) → BaseIsFirst before put.base (Some b) → Some b ≡ Some put.base
+      put_now b (inl e) = e
+      put_now b (inr n) = absurd (let e = n.0 in cc e)
+
+      there : BaseIsFirst before put.base None → (x : DiskParts) → IsCleared before project x → x.base ≡ Some put.base
+      there (inl e) x k = cc e
+      there (inr n) x k = n.1 x k.base
+
+      with_base_of : (x : DiskParts) → x.project ≡ cleared.project → x.files ≡ cleared.files → x.next ≡ cleared.next
+          → x.base ≡ Some put.base → Put x
+      with_base_of x project files next base = record {
+        project = inl (project ∙ is_cleared.project);
+        files = files ∙ is_cleared.files;
+        next = next ∙ is_cleared.next;
+        base = base;
+      }
+
+      all : (base names bytes : Option (List ℕ)) → BaseIsFirst before put.base base → ProjectIsPut put.project bytes project
+          → Holds d (dropped books ++ acts_of stays cleared (plan_steps [] (record { base = base; names = names; next = None }) bytes))
+      all None None None first replaced = at_once (there first d h) None replaced
+      all None None (Some p) first replaced = at_once (there first d h) (Some p) replaced
+      all None (Some n) None first replaced =
+          after_sync (SetNames n ∷ []) (refl, tt) (named n, tt)
+          (with_base_of (after cleared (SetNames n ∷ [])) refl refl refl (there first cleared is_cleared)) None replaced
+      all None (Some n) (Some p) first replaced =
+          after_sync (SetNames n ∷ []) (refl, tt) (named n, tt)
+          (with_base_of (after cleared (SetNames n ∷ [])) refl refl refl (there first cleared is_cleared)) (Some p) replaced
+      all (Some b) None None first replaced =
+          after_sync (SetBase b ∷ []) (refl, tt) (based b (put_now b first), tt)
+          (with_base_of (after cleared (SetBase b ∷ [])) refl refl refl (put_now b first)) None replaced
+      all (Some b) None (Some p) first replaced =
+          after_sync (SetBase b ∷ []) (refl, tt) (based b (put_now b first), tt)
+          (with_base_of (after cleared (SetBase b ∷ [])) refl refl refl (put_now b first)) (Some p) replaced
+      all (Some b) (Some n) None first replaced =
+          after_sync (SetBase b ∷ SetNames n ∷ []) (refl, (refl, tt)) (based b (put_now b first), (named n, tt))
+          (with_base_of (after cleared (SetBase b ∷ SetNames n ∷ [])) refl refl refl (put_now b first)) None replaced
+      all (Some b) (Some n) (Some p) first replaced =
+          after_sync (SetBase b ∷ SetNames n ∷ []) (refl, (refl, tt)) (based b (put_now b first), (named n, tt))
+          (with_base_of (after cleared (SetBase b ∷ SetNames n ∷ [])) refl refl refl (put_now b first)) (Some p) replaced

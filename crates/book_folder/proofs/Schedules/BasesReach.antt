@@ -125,7 +125,7 @@ chosen (t ∷ older) (suc at) base known h = chosen older at base known.1 h
 
 -- ---- what a folder begins with
 
-abbrev begun_of : State → State → ℕ → BegunParts
+abbrev pub begun_of : State → State → ℕ → BegunParts
 begun_of replica base held = record { replica = replica; base = base; held = held }
 
 -- What a folder begins with so far: a project that was reached, and that has each book of the base.

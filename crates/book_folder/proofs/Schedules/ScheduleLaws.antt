@@ -19,7 +19,7 @@ use Rattle.book_folder.proofs.Schedules.FilesReach.{all_along}
 use Rattle.book_folder.proofs.Schedules.ReadSets.{IsReadable, read_set}
 
 -- bundles are received one after another
-bundles_along : (s : State) (base : List Operation) (is_asked : Bool) (at : ℕ) (r : Stepped State (List ℕ)) (bundles : List (List ℕ))
+pub bundles_along : (s : State) (base : List Operation) (is_asked : Bool) (at : ℕ) (r : Stepped State (List ℕ)) (bundles : List (List ℕ))
     (next : Stepped State (List ℕ)) → Along s base r.after → AllByRecursion AreBytes bundles
     → bundles_from is_asked at r bundles ≡ Ok next → Along s base next.after
 bundles_along s base is_asked at r [] next a fits e =

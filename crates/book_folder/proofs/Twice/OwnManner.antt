@@ -26,7 +26,8 @@ use Rattle.book_folder.specs.declared.likes.LineEnds.TheVariants.{Lf, CrLf, Mixe
 
 -- ---- a text without a CR
 
-ended : (text : List ℕ) → flat_map (λ b. cond (b == 10) (10 ∷ []) (b ∷ [])) text ≡ text
+-- with LF as its ends it is itself
+pub ended : (text : List ℕ) → flat_map (λ b. cond (b == 10) (10 ∷ []) (b ∷ [])) text ≡ text
 ended [] = refl
 ended (b ∷ text) = by (b == 10) refl ∙ ap (λ (t : List ℕ). b ∷ t) (ended text)
   where
@@ -37,7 +38,8 @@ ended (b ∷ text) = by (b == 10) refl ∙ ap (λ (t : List ℕ). b ∷ t) (ende
     by true e = ap (λ n. n ∷ more) (sym (eqb-true b 10 e))
     by false e = refl
 
-none_taken : (text : List ℕ) → list_any (λ b. b == 13) text ≡ false → without_cr text ≡ text
+-- no CR is taken from it
+pub none_taken : (text : List ℕ) → list_any (λ b. b == 13) text ≡ false → without_cr text ≡ text
 unfolding without_cr
 none_taken [] h = refl
 none_taken (b ∷ []) h = refl

@@ -72,7 +72,7 @@ module _ (held : List Operation) (set : IsOpSet held) (book : List ℕ) (whole :
   is_there = (and_parts (has_book held book) (is_book (book_begun (export held book)) book) whole).0
 
   -- its export begins with its code
-  begins : book_in (export held book) ≡ Ok book
+  pub begins : book_in (export held book) ≡ Ok book
   begins = by (book_in (export held book)) refl
       (sym (ap (λ t. is_book (book_if (book_in t)) book) whole_text)
       ∙ (and_parts (has_book held book) (is_book (book_begun (export held book)) book) whole).1)
@@ -207,7 +207,7 @@ module _ (s : State) (state : IsState s) (f : FileParts) (file : IsSyncedFile s.
   synced_not_rebased = not_rebased s (base_of s) state.set (base_state s state) f base_has file.text as_written
 
   -- and nothing is taken in
-  pub synced_not_taken : (older : List State) (wishes : WishParts) → wishes.settled ≡ []
-      → taken_in s (base_of s) older wishes [] f ≡ Ok (record { after = s; stood = []; count = 0 })
-  synced_not_taken older wishes none =
-      nothing_taken s (base_of s) state.set (base_state s state) f base_has file.text as_written older wishes [] none
+  pub synced_not_taken : (older : List State) (wishes : WishParts) (stood : List StoodParts) → wishes.settled ≡ []
+      → taken_in s (base_of s) older wishes stood f ≡ Ok (record { after = s; stood = stood; count = 0 })
+  synced_not_taken older wishes stood none =
+      nothing_taken s (base_of s) state.set (base_state s state) f base_has file.text as_written older wishes stood none

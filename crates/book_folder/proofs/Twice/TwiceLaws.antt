@@ -127,7 +127,8 @@ module _ (s : State) (state : IsState s) where
         none_come [] h = refl
         none_come (f ∷ fs) h =
             ap (λ r. r >>= λ next. taken_all (base_of s) older wishes
-            (all_taken next.after next.stood ([] ++ added_by f.book next.count)) fs) (synced_not_taken s state f h.0 older wishes unsettled)
+            (all_taken next.after next.stood ([] ++ added_by f.book next.count)) fs)
+            (synced_not_taken s state f h.0 older wishes [] unsettled)
             ∙ none_come fs h.1
 
         turns : AllByRecursion (IsSyncedFile s.held) (in_turn part files)

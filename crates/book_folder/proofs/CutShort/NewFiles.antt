@@ -1,0 +1,354 @@
+-- Each file of a folder is as a sync leaves it: a new one that was put, and one that needs none.
+use Rattle.std.proofs.Common.{◌≡◌, ◌⊎◌, ◌<◌, inl, inr, ℕ, zero, suc, ◌==◌, Bool, true, false, cond, ◌&&◌, ◌||◌, List, [], ◌∷◌, ◌++◌, codes, get_or, length, map, take}
+use Rattle.std.proofs.Common.{Contains, Option, None, Some, Result, Ok, Err, option_to_list, refl, sym, ap, subst, ◌∙◌, append-nil, arith}
+use Rattle.std.specs.Cmp.{Equal-is, tied_itself}
+use Rattle.std.specs.List.{AllByRecursion, IsDistinct, flat_map, list_any}
+use Rattle.std.specs.Ordering.{is_eq}
+use Rattle.std.specs.Str.{is_utf8}
+use Rattle.std.proofs.lemmas.Bool.{and_parts, eqb-true, false≢true, or_parts}
+use Rattle.std.proofs.lemmas.List.Elements.{Contains-append_left, Contains-push, Contains-push_cases}
+use Rattle.std.proofs.lemmas.Str.{is_utf8-from_IsUtf8}
+use Rattle.usfm_ref.specs.Books.{book_cmp, same_bytes}
+use Rattle.usfm_ref.proofs.Members.{tested_rising}
+use Rattle.usfm_ref.proofs.Orders.{book_exact, book_total, same_bytes-is, same_bytes-refl}
+use Rattle.verse_cut.specs.Fits.{IsHeaded, byte_order_mark}
+use Rattle.verse_cut.specs.Reading.{after_bom}
+use Rattle.op_core.specs.Export.{export, has_book, of_book}
+use Rattle.op_core.specs.Lists.{books_of}
+use Rattle.op_core.specs.Ops.{Operation}
+use Rattle.op_core.specs.Sets.{IsOpSet}
+use Rattle.op_core.proofs.Exports.CutsBack.{exports_are_text}
+use Rattle.op_core.proofs.FilteredLists.{any_map, any_weaker}
+use Rattle.replica_state.proofs.FilePieces.{book_is_headed}
+use Rattle.replica_state.proofs.SinceLaws.{none_there}
+use Rattle.book_folder.specs.AsWritten.{are_alike}
+use Rattle.book_folder.specs.Files.{FileParts, are_of_one_book, book_begun, file_of}
+use Rattle.book_folder.specs.FolderLaws.{HasOneManner, IsSyncedFile, NewFilesAreLeftSo, OtherFilesAreLeftSo}
+use Rattle.book_folder.specs.Likes.{in_line_ends, like, line_ends, plain, without_cr}
+use Rattle.book_folder.specs.Naming.{FormParts, new_name}
+use Rattle.book_folder.specs.Plans.{NewFileParts, by_ends, file_by_text, if_begun, is_book, is_like_file, is_whole, new_file, new_file_if, text_for}
+use Rattle.book_folder.specs.Refusals.{◌>>=◌, gathered}
+use Rattle.book_folder.specs.Restored.{coming_ends, front_of, in_manner_of}
+use Rattle.book_folder.specs.Wanted.{SeenParts}
+use Rattle.book_folder.specs.declared.likes.LineEnds.{LineEnds}
+use Rattle.book_folder.specs.declared.likes.LineEnds.TheVariants.{Lf, CrLf, Mixed}
+use Rattle.book_folder.specs.declared.refusal.Refusal.{Refusal}
+use Rattle.book_folder.proofs.CutShort.Puts.{first_or_later}
+use Rattle.book_folder.proofs.Schedules.PieceTexts.{manner_text}
+use Rattle.book_folder.proofs.Twice.OwnManner.{ended, none_taken}
+use Rattle.book_folder.proofs.Twice.SyncedFile.{begins}
+
+-- what holds of all files holds of one of them
+pub of_one : (P : FileParts → Type 0) (files : List FileParts) → AllByRecursion P files → (f : FileParts) → Contains files f → P f
+of_one P files h f c = at files h c.0 c.1 c.2
+  where
+    at : (fs : List FileParts) → AllByRecursion P fs → (k : ℕ) → k < length fs → get_or fs k f ≡ f → P f
+    at [] h k l e = absurd (omega (arith, l))
+    at (g ∷ fs) h zero l e = subst P e h.0
+    at (g ∷ fs) h (suc k) l e = at fs h.1 k (omega (arith, l)) e
+
+-- ---- a text in the manner of a file is like it
+
+-- an LF stays
+lf_stays : (text : List ℕ) → without_cr (10 ∷ text) ≡ 10 ∷ without_cr text
+unfolding without_cr
+lf_stays [] = refl
+lf_stays (b ∷ text) = refl
+
+-- and so does each byte that is no CR
+other_stays : (b : ℕ) (text : List ℕ) → (b == 13) ≡ false → without_cr (b ∷ text) ≡ b ∷ without_cr text
+unfolding without_cr
+other_stays b [] e = refl
+other_stays b (c ∷ text) e = ap (λ x. cond (x && (c == 10)) (without_cr (c ∷ text)) (b ∷ without_cr (c ∷ text))) e
+
+-- what got CR LF as its ends loses each CR again
+crlf_back : (text : List ℕ) → list_any (λ b. b == 13) text ≡ false
+    → without_cr (flat_map (λ b. cond (b == 10) (13 ∷ 10 ∷ []) (b ∷ [])) text) ≡ text
+unfolding without_cr
+crlf_back [] h = refl
+crlf_back (b ∷ text) h =
+    let p = or_parts (b == 13) (list_any (λ b. b == 13) text) h in by (b == 10) refl p.0 (crlf_back text p.1)
+  where
+    more : List ℕ
+    more = flat_map (λ b. cond (b == 10) (13 ∷ 10 ∷ []) (b ∷ [])) text
+
+    by : (c : Bool) → (b == 10) ≡ c → (b == 13) ≡ false → without_cr more ≡ text
+        → without_cr (cond c (13 ∷ 10 ∷ []) (b ∷ []) ++ more) ≡ b ∷ text
+    by true e n rest = lf_stays more ∙ (λ i. sym (eqb-true b 10 e) i ∷ rest i)
+    by false e n rest = other_stays b more n ∙ ap (λ (t : List ℕ). b ∷ t) rest
+
+-- in whatever manner its lines are the same
+same_lines : (ends : LineEnds) (text : List ℕ) → list_any (λ b. b == 13) (without_cr text) ≡ false
+    → without_cr (in_line_ends (coming_ends ends) text) ≡ without_cr text
+same_lines Lf text h = ap without_cr (ended (without_cr text)) ∙ none_taken (without_cr text) h
+same_lines CrLf text h = crlf_back (without_cr text) h
+same_lines Mixed text h = ap without_cr (ended (without_cr text)) ∙ none_taken (without_cr text) h
+
+-- a backslash at the front stays there
+record Fronted (text : List ℕ) : Type 0 where
+  pub rest : List ℕ
+  pub is : text ≡ 92 ∷ rest
+
+fronted : (ends : LineEnds) (rest : List ℕ) → Fronted (in_line_ends (coming_ends ends) (92 ∷ rest))
+fronted ends rest = by ends
+  where
+    by : (ends : LineEnds) → Fronted (in_line_ends (coming_ends ends) (92 ∷ rest))
+    by Lf = record {
+      rest = flat_map (λ b. cond (b == 10) (10 ∷ []) (b ∷ [])) (without_cr rest);
+      is = ap (flat_map (λ b. cond (b == 10) (10 ∷ []) (b ∷ []))) (other_stays 92 rest refl);
+    }
+    by CrLf = record {
+      rest = flat_map (λ b. cond (b == 10) (13 ∷ 10 ∷ []) (b ∷ [])) (without_cr rest);
+      is = ap (flat_map (λ b. cond (b == 10) (13 ∷ 10 ∷ []) (b ∷ []))) (other_stays 92 rest refl);
+    }
+    by Mixed = record {
+      rest = flat_map (λ b. cond (b == 10) (10 ∷ []) (b ∷ [])) (without_cr rest);
+      is = ap (flat_map (λ b. cond (b == 10) (10 ∷ []) (b ∷ []))) (other_stays 92 rest refl);
+    }
+
+-- after another one's front it is what follows U+FEFF
+after_front : (was text : List ℕ) → Fronted text → after_bom (front_of was ++ text) ≡ text
+after_front was text f = by (same_bytes (take 3 was) byte_order_mark)
+  where
+    by : (b : Bool) → after_bom (cond b byte_order_mark [] ++ text) ≡ text
+    by true = refl
+    by false = ap after_bom f.is ∙ sym f.is
+
+-- a text that begins with its book has a backslash there
+headed_front : (book text : List ℕ) → IsHeaded book text → Fronted (after_bom text)
+headed_front book text h = subst (λ (t : List ℕ). Fronted (after_bom t)) (sym h.begins.text_is) (by h.begins.marked)
+  where
+    by : (m : Bool) → Fronted (after_bom (cond m byte_order_mark [] ++ (codes "\\id" ++ h.begins.blank ∷ (book ++ h.rest))))
+    by true = record { rest = 105 ∷ 100 ∷ h.begins.blank ∷ (book ++ h.rest); is = refl }
+    by false = record { rest = 105 ∷ 100 ∷ h.begins.blank ∷ (book ++ h.rest); is = refl }
+
+in_manner_like : (was book text : List ℕ) → IsHeaded book text → list_any (λ b. b == 13) (plain text) ≡ false
+    → like text (in_manner_of was text) ≡ true
+in_manner_like was book text h none =
+    ap (same_bytes (plain text)) same ∙ same_bytes-refl (plain text)
+  where
+    lines : List ℕ
+    lines = in_line_ends (coming_ends (line_ends was)) (after_bom text)
+
+    begun : Fronted lines
+    begun =
+        let f = headed_front book text h in
+        subst (λ (t : List ℕ). Fronted (in_line_ends (coming_ends (line_ends was)) t)) (sym f.is) (fronted (line_ends was) f.rest)
+
+    same : plain (in_manner_of was text) ≡ plain text
+    same = ap without_cr (after_front was lines begun) ∙ same_lines (line_ends was) (after_bom text) none
+
+-- ---- what a book's file gets
+
+-- a text is like another one, is UTF-8, and begins with a book
+record IsTextOf (book was text : List ℕ) : Type 0 where
+  pub alike : like was text ≡ true
+  pub utf8 : is_utf8 text ≡ true
+  pub begun : book_begun text ≡ Some book
+
+book_is : (r : Option (List ℕ)) (book : List ℕ) → is_book r book ≡ true → r ≡ Some book
+book_is None book h = absurd (false≢true h)
+book_is (Some x) book h = ap Some (same_bytes-is x book h)
+
+module _ (held : List Operation) (set : IsOpSet held) (book : List ℕ) (whole : is_whole held book ≡ true)
+    (manner : HasOneManner (export held book)) where
+  abbrev text : List ℕ
+  text = export held book
+
+  itself : IsTextOf book text text
+  itself = record {
+    alike = same_bytes-refl (plain text);
+    utf8 = is_utf8-from_IsUtf8 text (exports_are_text held book set);
+    begun = book_is (book_begun text) book (and_parts (has_book held book) (is_book (book_begun text) book) whole).1;
+  }
+
+  as_file : (was : List ℕ) → IsTextOf book text (if_begun book text (in_manner_of was text))
+  as_file was = by (is_book (book_begun (in_manner_of was text)) book) refl
+    where
+      by : (b : Bool) → is_book (book_begun (in_manner_of was text)) book ≡ b → IsTextOf book text (cond b (in_manner_of was text) text)
+      by true e = record {
+        alike = in_manner_like was book text (book_is_headed text book (begins held set book whole)) manner.none_else;
+        utf8 = is_utf8-from_IsUtf8 (in_manner_of was text) (manner_text was text (exports_are_text held book set));
+        begun = book_is (book_begun (in_manner_of was text)) book e;
+      }
+      by false e = itself
+
+  by_file : (f : Option FileParts) → IsTextOf book text (text_for f book text)
+  by_file None = itself
+  by_file (Some f) = by (line_ends f.bytes)
+    where
+      same : (b : Bool) → IsTextOf book text (cond b text text)
+      same true = itself
+      same false = itself
+
+      by : (ends : LineEnds) → IsTextOf book text (if_begun book text (by_ends ends f.bytes text))
+      by Lf = as_file f.bytes
+      by CrLf = as_file f.bytes
+      by Mixed = same (is_book (book_begun text) book)
+
+-- ---- what is gathered
+
+module _ (give : List ℕ → Result (Option NewFileParts) Refusal) where
+  -- a book that gives a new file
+  record IsGiven (g : NewFileParts) : Type 0 where
+    pub book : List ℕ
+    pub gives : give book ≡ Ok (Some g)
+
+  given_by : (books : List (List ℕ)) (before made : List NewFileParts) → gathered give before books ≡ Ok made
+      → (g : NewFileParts) → Contains made g → Contains before g ⊎ IsGiven g
+  given_by [] before made e g there =
+      let is : before ≡ made = cc e in inl (subst (λ (xs : List NewFileParts). Contains xs g) (sym is) there)
+  given_by (book ∷ books) before made e g there = by (give book) refl e (λ more k. given_by books more made k g there)
+    where
+      by : (r : Result (Option NewFileParts) Refusal) → give book ≡ r
+          → (r >>= λ y. gathered give (before ++ option_to_list y) books) ≡ Ok made
+          → ((more : List NewFileParts) → gathered give more books ≡ Ok made → Contains more g ⊎ IsGiven g)
+          → Contains before g ⊎ IsGiven g
+      by (Err r) f e next = cc e
+      by (Ok None) f e next = elim (next (before ++ []) e) [
+        | inl k ↦ inl (subst (λ (xs : List NewFileParts). Contains xs g) (append-nil before) k)
+        | inr k ↦ inr k
+      ]
+      by (Ok (Some n)) f e next = elim (next (before ++ n ∷ []) e) [
+        | inl k ↦ elim (Contains-push_cases before n g k) [
+          | inl old ↦ inl old
+          | inr same ↦ inr (record { book = book; gives = f ∙ ap (λ (x : NewFileParts). Ok (Some x)) same })
+        ]
+        | inr k ↦ inr k
+      ]
+
+  stays_gathered : (books : List (List ℕ)) (before made : List NewFileParts) → gathered give before books ≡ Ok made
+      → (g : NewFileParts) → Contains before g → Contains made g
+  stays_gathered [] before made e g there =
+      let is : before ≡ made = cc e in subst (λ (xs : List NewFileParts). Contains xs g) is there
+  stays_gathered (book ∷ books) before made e g there = by (give book) e (λ more k. stays_gathered books more made k g)
+    where
+      by : (r : Result (Option NewFileParts) Refusal) → (r >>= λ y. gathered give (before ++ option_to_list y) books) ≡ Ok made
+          → ((more : List NewFileParts) → gathered give more books ≡ Ok made → Contains more g → Contains made g) → Contains made g
+      by (Err r) e next = cc e
+      by (Ok y) e next = next (before ++ option_to_list y) e (Contains-append_left before (option_to_list y) g there)
+
+  -- what a book gives is among them
+  all_gathered : (books : List (List ℕ)) (before made : List NewFileParts) → gathered give before books ≡ Ok made
+      → (book : List ℕ) → list_any (λ b. is_eq (book_cmp book b)) books ≡ true → (g : NewFileParts) → give book ≡ Ok (Some g)
+      → Contains made g
+  all_gathered [] before made e book among g gives = absurd (false≢true among)
+  all_gathered (b ∷ books) before made e book among g gives =
+      by (give b) refl e (is_eq (book_cmp book b)) refl among
+      (λ more k. all_gathered books more made k book) (λ more k. stays_gathered books more made k g)
+    where
+      by : (r : Result (Option NewFileParts) Refusal) → give b ≡ r
+          → (r >>= λ y. gathered give (before ++ option_to_list y) books) ≡ Ok made → (c : Bool) → is_eq (book_cmp book b) ≡ c
+          → (c || list_any (λ b. is_eq (book_cmp book b)) books) ≡ true
+          → ((more : List NewFileParts) → gathered give more books ≡ Ok made
+          → list_any (λ b. is_eq (book_cmp book b)) books ≡ true → (n : NewFileParts) → give book ≡ Ok (Some n) → Contains made n)
+          → ((more : List NewFileParts) → gathered give more books ≡ Ok made → Contains more g → Contains made g) → Contains made g
+      by (Err r) f e c k h later stays = cc e
+      by (Ok y) f e false k h later stays = later (before ++ option_to_list y) e h g gives
+      by (Ok y) f e true k h later stays =
+          let same : book ≡ b = book_exact book b ((Equal-is _).0 k) in
+          let is : y ≡ Some g = cc (sym f ∙ ap give (sym same) ∙ gives) in
+          stays (before ++ option_to_list y) e
+          (subst (λ (r : Option NewFileParts). Contains (before ++ option_to_list r) g) (sym is) (Contains-push before g))
+
+-- ---- new files
+
+module _ (seen : SeenParts) (held : List Operation) (files : List FileParts) (form : FormParts) where
+  abbrev give : List ℕ → Result (Option NewFileParts) Refusal
+  give = new_file_if seen held files form
+
+  -- what a book gives: it is whole, and its text is by its file
+  record IsNewOf (book : List ℕ) (g : NewFileParts) : Type 0 where
+    pub whole : is_whole held book ≡ true
+    pub book_is : g.book ≡ book
+    pub text : g.text ≡ text_for (file_of files book) book (export held book)
+
+  new_of : (book : List ℕ) (g : NewFileParts) → give book ≡ Ok (Some g) → IsNewOf book g
+  new_of book g e =
+      by (is_whole held book) refl (is_like_file (file_of files book) (export held book)) (new_name seen form book (file_of files book)) e
+    where
+      by : (b : Bool) → is_whole held book ≡ b → (c : Bool) (name : Result (List ℕ) Refusal)
+          → cond b (cond c (Ok None) (name >>= λ n. Ok (Some (new_file (file_of files book) book (export held book) n)))) (Ok None)
+          ≡ Ok (Some g) → IsNewOf book g
+      by false w c name e = cc e
+      by true w true name e = cc e
+      by true w false (Err r) e = cc e
+      by true w false (Ok n) e =
+          let is : new_file (file_of files book) book (export held book) n ≡ g = cc e in record {
+            whole = w;
+            book_is = sym (ap (λ (x : NewFileParts). x.book) is);
+            text = sym (ap (λ (x : NewFileParts). x.text) is);
+          }
+
+  -- the file of a book is the first of it
+  file_is : (fs : List FileParts) (f : FileParts) → IsDistinct are_of_one_book fs → Contains fs f → file_of fs f.book ≡ Some f
+  unfolding IsDistinct
+  file_is [] f h there = absurd (none_there f there)
+  file_is (g ∷ fs) f h there = by (first_or_later g fs f there) (file_is fs f h.1)
+    where
+      by : (g ≡ f) ⊎ Contains fs f → (Contains fs f → file_of fs f.book ≡ Some f)
+          → cond (same_bytes g.book f.book) (Some g) (file_of fs f.book) ≡ Some f
+      by (inl same) rest =
+          ap (λ b. cond b (Some g) (file_of fs f.book))
+          (ap (λ (x : FileParts). same_bytes x.book f.book) same ∙ same_bytes-refl f.book) ∙ ap Some same
+      by (inr later) rest =
+          ap (λ b. cond b (Some g) (file_of fs f.book)) (of_one (λ x. are_of_one_book g x ≡ false) fs h.0 f later) ∙ rest later
+
+pub new_files_are_left_so : NewFilesAreLeftSo
+new_files_are_left_so seen held files form made g f set is there manner bytes begun =
+    let give = new_file_if seen held files form in
+    let given : IsGiven give g = elim (given_by give (books_of held) [] made is g there) [
+      | inl none ↦ absurd (none_there g none)
+      | inr k ↦ k
+    ] in
+    let new = new_of seen held files form given.book g given.gives in
+    let text = by_file held set given.book new.whole (subst (λ (b : List ℕ). HasOneManner (export held b)) new.book_is manner)
+    (file_of files given.book) in
+    let own : f.bytes ≡ text_for (file_of files given.book) given.book (export held given.book) = bytes ∙ new.text in
+    let book : f.book ≡ given.book = cc (sym begun ∙ ap book_begun own ∙ text.begun) in (
+      book ∙ sym new.book_is,
+      record {
+        whole = ap (is_whole held) book ∙ new.whole;
+        alike = (λ i. like (export held (book i)) (own i)) ∙ text.alike;
+        text = ap is_utf8 own ∙ text.utf8;
+        ends = ap (λ (b : List ℕ). are_alike (line_ends (export held b))) (book ∙ sym new.book_is) ∙ manner.ends;
+      },
+    )
+
+pub other_files_are_left_so : OtherFilesAreLeftSo
+other_files_are_left_so seen held files form made f is distinct there whole utf8 manner = by (like (export held f.book) f.bytes) refl
+  where
+    New : Type 0
+    New = (g : NewFileParts) × Contains made g × (g.book ≡ f.book) × (g.name ≡ f.name)
+
+    file : file_of files f.book ≡ Some f
+    file = file_is seen held files form files f distinct there
+
+    among : list_any (λ b. is_eq (book_cmp f.book b)) (books_of held) ≡ true
+    among =
+        tested_rising book_cmp book_total book_exact f.book (map (λ (o : Operation). o.segment.book) held)
+        ∙ any_map (λ b. is_eq (book_cmp f.book b)) (λ (o : Operation). o.segment.book) held
+        ∙ any_weaker (of_book f.book) (λ (o : Operation). is_eq (book_cmp f.book o.segment.book))
+        (λ o h. ap (λ (b : List ℕ). is_eq (book_cmp f.book b)) (same_bytes-is o.segment.book f.book h)
+        ∙ ap is_eq (tied_itself book_total f.book)) held
+        (and_parts (has_book held f.book) _ whole).0
+
+    gives : (r : Option FileParts) → file_of files f.book ≡ r → new_file_if seen held files form f.book
+        ≡ cond (is_like_file r (export held f.book)) (Ok None)
+        (new_name seen form f.book r >>= λ name. Ok (Some (new_file r f.book (export held f.book) name)))
+    gives r e =
+        ap (λ b. cond b (file_by_text seen files form f.book (export held f.book)) (Ok None)) whole
+        ∙ ap (λ (r : Option FileParts). cond (is_like_file r (export held f.book)) (Ok None)
+        (new_name seen form f.book r >>= λ name. Ok (Some (new_file r f.book (export held f.book) name)))) e
+
+    by : (b : Bool) → like (export held f.book) f.bytes ≡ b → New ⊎ IsSyncedFile held f
+    by true e = inr (record { whole = whole; alike = e; text = utf8; ends = manner.ends })
+    by false e =
+        let g : NewFileParts = new_file (Some f) f.book (export held f.book) f.name in
+        inl (
+          g,
+          all_gathered (new_file_if seen held files form) (books_of held) [] made is f.book among g
+              (gives (Some f) file ∙ ap (λ b. cond b (Ok None) (Ok (Some g))) e),
+          refl,
+          refl,
+        )

@@ -1,0 +1,5 @@
+use Rattle.book_folder.proofs.CutShort.NewFiles as proved
+use Rattle.book_folder.proofs.laws.other_files_are_left_so.Goals as goal
+
+pub returns : goal.returns
+returns _ = proved.other_files_are_left_so
