@@ -26,3 +26,9 @@ pub mod BaseReceived
 pub mod Ready
 pub mod DoneAgain
 pub mod RecoveredAgain
+pub mod LeftFiles
+pub mod LeftBases
+pub mod CutRead
+pub mod LeftOnDisk
+pub mod NoneOnDisk
+pub mod OnDisk

@@ -111,7 +111,7 @@ module _ (unplaced : List (List ℕ)) (base next : List Operation) (book : List 
   left_as : (o : Operation) → of_book book o ≡ true → is_left o ≡ is_one_of unplaced book
   left_as o h = ap (is_one_of unplaced) (same_bytes-is o.segment.book book h)
 
-  by_book : rises base ≡ true → rises next ≡ true → clash (ops_of unplaced base) (ops_not_of unplaced next) ≡ None
+  pub by_book : rises base ≡ true → rises next ≡ true → clash (ops_of unplaced base) (ops_not_of unplaced next) ≡ None
       → ops_of_book (join (ops_of unplaced base) (ops_not_of unplaced next)) book
       ≡ cond (is_one_of unplaced book) (ops_of_book base book) (ops_of_book next book)
   by_book hb hn none = by (is_one_of unplaced book) refl

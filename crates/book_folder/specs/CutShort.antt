@@ -1,6 +1,6 @@
 -- Laws of a sync that is cut short (this project's own rule): by a kill between any two things that
 -- it does on the disk, or by a power cut.
-use Rattle.std.specs.Prelude.{◌≡◌, ◌⊎◌, ℕ, Bool, true, List, [], ◌∷◌, ◌++◌, map, Option, None, Some, Result, Ok}
+use Rattle.std.specs.Prelude.{◌≡◌, ◌⊎◌, ℕ, Bool, true, false, List, [], ◌∷◌, ◌++◌, map, Option, None, Some, Result, Ok}
 use Rattle.std.specs.List.{Contains}
 use Rattle.std.specs.Option.{option_to_list}
 use Rattle.project_file.specs.Projects.{project}
@@ -68,6 +68,12 @@ AllKnown d made =
     (f : NewFileParts) → Contains made f →
     Waits d f ⊎ (bytes_at d.new f.book ≡ None) × IsPut d made f.name
 
+-- a new file of a plan that was put, of a book whose new file was not left
+pub record IsPutNext (left : List (List ℕ)) (d : DiskParts) (made : List NewFileParts)
+    (name : List ℕ) : Type 0 where
+  pub put : IsPut d made name
+  pub next : is_one_of left put.file.book ≡ false
+
 -- A file of the folder is as it was before, or is a new file of the plan that was put.
 abbrev pub FilesAreKnown : DiskParts → DiskParts → List NewFileParts → Type 0
 FilesAreKnown before d made =
@@ -113,10 +119,12 @@ pub record NoneIsPut (before : DiskParts) (put : PutParts) (made : List NewFileP
   pub project : ProjectIsBegun before put d
   pub known : IsUnsettled before d ⊎ MakesAsRead before put d × NextIsReady put made d
 
--- Files are put: the project has all that came in; the base that makes the files as they were read
--- and the next one are there; and each new file waits or was put.
+-- Files are put, of which there is one: the project has all that came in; the base that makes the
+-- files as they were read and the next one are there; and each new file waits or was put.
 pub record SomeArePut (before : DiskParts) (put : PutParts) (made : List NewFileParts)
     (d : DiskParts) : Type 0 where
+  pub one : NewFileParts
+  pub among : Contains made one
   pub project : d.project ≡ put.project
   pub base : d.base ≡ Some put.base
   pub next : d.next ≡ Some put.next
@@ -128,13 +136,16 @@ pub record SomeArePut (before : DiskParts) (put : PutParts) (made : List NewFile
 -- files that were left, or it is not.
 pub record BaseIsSettled (before : DiskParts) (put : PutParts) (made : List NewFileParts)
     (d : DiskParts) : Type 0 where
+  pub one : NewFileParts
+  pub among : Contains made one
   pub project : d.project ≡ put.project
   pub left : List (List ℕ)
   pub base : List ℕ
   pub of : settled (put.base ∷ []) put.next left ≡ Ok base
   pub is : d.base ≡ Some base
   pub next : (d.next ≡ None) ⊎ (d.next ≡ Some put.next) × AllKnown d made
-  pub files : FilesAreKnown before d made
+  pub files : (name : List ℕ) →
+      (bytes_at d.files name ≡ bytes_at before.files name) ⊎ IsPutNext left d made name
   pub others : (f : NewFileParts) → Contains made f →
       (is_one_of left f.book ≡ true) ⊎ IsPut d made f.name
 

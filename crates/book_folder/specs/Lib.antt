@@ -30,3 +30,4 @@ pub mod Disks
 pub mod CutShort
 pub mod ReadAgain
 pub mod DoneAgain
+pub mod CutDisk

@@ -1,5 +1,6 @@
 //! Laws of a folder's files.
 ghost use Rattle.book_folder.specs.CameIn as came;
+ghost use Rattle.book_folder.specs.CutDisk as disk;
 ghost use Rattle.book_folder.specs.CutLate as late;
 ghost use Rattle.book_folder.specs.CutShort as cut;
 ghost use Rattle.book_folder.specs.Done as done;
@@ -119,6 +120,12 @@ pub fn recovered_comes_in_again()
 /// the same project comes, and no edit is made again.
 pub fn cut_short_is_done_again()
     ensures { done_again.CutShortIsDoneAgain }
+{}
+
+/// Wherever a sync is cut short, by a kill or a power cut, a sync of what stands on the disk then makes
+/// the same project.
+pub fn cut_short_makes_the_same()
+    ensures { disk.CutShortMakesTheSame }
 {}
 
 /// Cut short once the project had all that came in, a sync has nothing more to take in: of what

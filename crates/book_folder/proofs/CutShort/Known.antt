@@ -2,8 +2,9 @@
 use Rattle.std.proofs.Common.{◌≡◌, ◌⊎◌, ℕ, Bool, true, false, cond, List, [], ◌∷◌, ◌++◌, inl, inr, map, Contains, Option, None, Some, Result, Ok, Err, option_to_list, refl, sym, ap, subst, ◌∙◌, append_assoc}
 use Rattle.std.specs.List.{AllByRecursion, IsDistinct}
 use Rattle.usfm_ref.specs.Books.{same_bytes}
+use Rattle.replica_state.proofs.SinceLaws.{is_first}
 use Rattle.book_folder.specs.Begun.{is_one_of, settled}
-use Rattle.book_folder.specs.CutShort.{AllKnown, AllWait, FilesAreKnown, IsLeft, IsPut, MakesAsRead, NextIsReady, PutParts, SomePut, BaseSettled, SomeArePut, NonePut, Waits}
+use Rattle.book_folder.specs.CutShort.{AllKnown, AllWait, FilesAreKnown, IsLeft, IsPut, IsPutNext, MakesAsRead, NextIsReady, PutParts, SomePut, BaseSettled, SomeArePut, NonePut, Waits}
 use Rattle.book_folder.specs.Disks.{Act, DiskParts, FolderSynced, OwnSynced, SetBase, SetNames, SetNext, SetProject, acts_of, after, and_then, bytes_at, done, settling_acts, unsettled, without}
 use Rattle.book_folder.specs.Plans.{NewFileParts, OwnParts, ReplaceProject, Settle, StepParts, SyncOwn, WriteNew, own_puts, placed, placing, plan_steps, step_if, with_sync}
 use Rattle.book_folder.specs.Refusals.{◌>>=◌}
@@ -12,7 +13,7 @@ use Rattle.book_folder.specs.Settling as settling
 use Rattle.book_folder.specs.Wanted.{FoundParts}
 use Rattle.book_folder.specs.declared.refusal.Refusal.{Refusal}
 use Rattle.book_folder.proofs.CutShort.Fronts.{Certain, Fronts, Keeps, LeftIs, after_both, all_keep, kept_fronts, synced_fronts}
-use Rattle.book_folder.proofs.CutShort.Names.{at_without, is_there}
+use Rattle.book_folder.proofs.CutShort.Names.{at_without, is_not_there, is_there}
 use Rattle.book_folder.proofs.CutShort.OwnBooks.{same_book}
 use Rattle.book_folder.proofs.CutShort.Puts.{all_wait, moves, moves_keep, put_stays, written}
 use Rattle.book_folder.proofs.CutShort.Settles.{Based, Turned, Turning, dropped, settled_fronts, settling_is, turned}
@@ -94,6 +95,24 @@ module _ (before : DiskParts) (put : PutParts) (stays : List ℕ → Bool) (chan
               pick (inl same) = inl (ap (λ fs. bytes_at fs name) files ∙ same)
               pick (inr p) = inr (stays_put x files gone name p)
 
+          known_next : (x : DiskParts) → x.files ≡ d.files → ((book : List ℕ) → bytes_at d.new book ≡ None → bytes_at x.new book ≡ None)
+              → (name : List ℕ) → (bytes_at x.files name ≡ bytes_at before.files name) ⊎ IsPutNext books x made name
+          known_next x files gone name = pick (h.files name)
+            where
+              pick : (bytes_at d.files name ≡ bytes_at before.files name) ⊎ IsPut d made name
+                  → (bytes_at x.files name ≡ bytes_at before.files name) ⊎ IsPutNext books x made name
+              pick (inl same) = inl (ap (λ fs. bytes_at fs name) files ∙ same)
+              pick (inr p) = inr (record {
+                put = record {
+                  file = p.file;
+                  of = p.of;
+                  under = p.under;
+                  text = ap (λ fs. bytes_at fs name) files ∙ p.text;
+                  gone = gone p.file.book p.gone;
+                };
+                next = is_not_there d.new p.file.book p.gone;
+              })
+
           all : (x : DiskParts) → x.files ≡ d.files → x.new ≡ d.new → AllKnown x made
           all x files new f there = pick (h.all f there)
             where
@@ -118,13 +137,15 @@ module _ (before : DiskParts) (put : PutParts) (stays : List ℕ → Bool) (chan
               → ((book : List ℕ) → bytes_at d.new book ≡ None → bytes_at x.new book ≡ None) → x.base ≡ Some bytes
               → (x.next ≡ None) ⊎ (x.next ≡ Some put.next) × AllKnown x made → L x
           settled_left x project files gone base next = BaseSettled (record {
+            one = h.one;
+            among = h.among;
             project = project ∙ h.project;
             left = books;
             base = bytes;
             of = of;
             is = base;
             next = next;
-            files = known x files gone;
+            files = known_next x files gone;
             others = rest x files gone;
           })
 
@@ -136,6 +157,8 @@ module _ (before : DiskParts) (put : PutParts) (stays : List ℕ → Bool) (chan
             where
               pick : (x.base ≡ d.base) ⊎ (x.base ≡ Some bytes) → L x
               pick (inl same) = SomePut (record {
+                one = h.one;
+                among = h.among;
                 project = k.project ∙ h.project;
                 base = same ∙ h.base;
                 next = k.next ∙ h.next;
@@ -200,6 +223,8 @@ module _ (before : DiskParts) (put : PutParts) (stays : List ℕ → Bool) (chan
   all_written : (project : List ℕ) (d : DiskParts) → IsWritten before put made project d → project ≡ put.project
       → SomeArePut before put made d
   all_written project d h e = record {
+    one = one;
+    among = is_first one others one refl;
     project = h.project ∙ e;
     base = h.base;
     next = h.next;

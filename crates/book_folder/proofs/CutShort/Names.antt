@@ -88,3 +88,18 @@ is_there (f ∷ files) name bytes h = by (same_bytes f.name name) refl (same_byt
     by true e false g h rest =
         absurd (false≢true (sym g ∙ ap (λ (n : List ℕ). same_bytes name n) (same_bytes-is f.name name e) ∙ same_bytes-refl name))
     by false e false g h rest = rest h
+
+-- where nothing stands under a book's code, the book is none of them
+pub is_not_there : (files : List FoundParts) (name : List ℕ) → bytes_at files name ≡ None
+    → is_one_of (map (λ f. f.name) files) name ≡ false
+is_not_there [] name h = refl
+is_not_there (f ∷ files) name h = by (same_bytes f.name name) refl (same_bytes name f.name) refl h (λ k. is_not_there files name k)
+  where
+    by : (b : Bool) → same_bytes f.name name ≡ b → (c : Bool) → same_bytes name f.name ≡ c
+        → option_map (λ (g : FoundParts). g.bytes) (cond b (Some f) (find (λ g. same_bytes g.name name) files)) ≡ None
+        → (bytes_at files name ≡ None → is_one_of (map (λ f. f.name) files) name ≡ false)
+        → (c || is_one_of (map (λ f. f.name) files) name) ≡ false
+    by true e c g h rest = cc h
+    by false e true g h rest =
+        absurd (false≢true (sym e ∙ ap (λ (n : List ℕ). same_bytes f.name n) (same_bytes-is name f.name g) ∙ same_bytes-refl f.name))
+    by false e false g h rest = rest h

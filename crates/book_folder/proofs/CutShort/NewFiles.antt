@@ -26,7 +26,7 @@ use Rattle.book_folder.specs.Files.{FileParts, are_of_one_book, book_begun, file
 use Rattle.book_folder.specs.FolderLaws.{HasOneManner, IsSyncedFile, NewFilesAreLeftSo, OtherFilesAreLeftSo}
 use Rattle.book_folder.specs.Likes.{in_line_ends, like, line_ends, plain, without_cr}
 use Rattle.book_folder.specs.Naming.{FormParts, new_name}
-use Rattle.book_folder.specs.Plans.{NewFileParts, by_ends, file_by_text, if_begun, is_book, is_like_file, is_whole, new_file, new_file_if, text_for}
+use Rattle.book_folder.specs.Plans.{NewFileParts, by_ends, file_by_text, if_begun, is_book, is_like_file, is_whole, new_file, new_file_if, new_files, text_for}
 use Rattle.book_folder.specs.Refusals.{◌>>=◌, gathered}
 use Rattle.book_folder.specs.Restored.{coming_ends, front_of, in_manner_of}
 use Rattle.book_folder.specs.Wanted.{SeenParts}
@@ -293,6 +293,14 @@ module _ (seen : SeenParts) (held : List Operation) (files : List FileParts) (fo
           (ap (λ (x : FileParts). same_bytes x.book f.book) same ∙ same_bytes-refl f.book) ∙ ap Some same
       by (inr later) rest =
           ap (λ b. cond b (Some g) (file_of fs f.book)) (of_one (λ x. are_of_one_book g x ≡ false) fs h.0 f later) ∙ rest later
+
+-- the project has each book whole that gets a new file
+pub new_are_whole : (seen : SeenParts) (held : List Operation) (files : List FileParts) (form : FormParts) (made : List NewFileParts)
+    (g : NewFileParts) → new_files seen held files form ≡ Ok made → Contains made g → is_whole held g.book ≡ true
+new_are_whole seen held files form made g is there = elim (given_by (new_file_if seen held files form) (books_of held) [] made is g there) [
+  | inl none ↦ absurd (none_there g none)
+  | inr k ↦ let new = new_of seen held files form k.book g k.gives in ap (is_whole held) new.book_is ∙ new.whole
+]
 
 pub new_files_are_left_so : NewFilesAreLeftSo
 new_files_are_left_so seen held files form made g f set is there manner bytes begun =

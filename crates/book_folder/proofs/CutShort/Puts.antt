@@ -168,6 +168,8 @@ module _ (before : DiskParts) (put : PutParts) (made : List NewFileParts) (disti
 
     known_next : SomeArePut before put made next
     known_next = record {
+      one = h.one;
+      among = h.among;
       project = h.project;
       base = h.base;
       next = h.next;
