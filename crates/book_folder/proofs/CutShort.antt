@@ -18,6 +18,7 @@ pub mod WrittenDown
 pub mod FileEnds
 pub mod TakenFile
 pub mod TakenAll
+pub mod Gathered
 pub mod NewFiles
 pub mod OneBase
 pub mod Late
@@ -28,6 +29,7 @@ pub mod DoneAgain
 pub mod RecoveredAgain
 pub mod LeftFiles
 pub mod LeftBases
+pub mod Legible
 pub mod CutRead
 pub mod LeftOnDisk
 pub mod NoneOnDisk

@@ -6,3 +6,7 @@ pub mod NothingTaken
 pub mod SyncedFile
 pub mod Untouched
 pub mod TwiceLaws
+pub mod Emptied
+pub mod AllDone
+pub mod PlanDone
+pub mod DoneSynced

@@ -7,7 +7,7 @@ use Rattle.op_core.specs.Export.{export}
 use Rattle.bundle_codec.specs.Spelling.{bundle}
 use Rattle.project_file.specs.Projects.{project, project_at}
 use Rattle.replica_state.specs.States.{State}
-use Rattle.book_folder.specs.Begun.{BegunParts, base_of, begun_with}
+use Rattle.book_folder.specs.Begun.{BegunParts, begun_with}
 use Rattle.book_folder.specs.Coming.{CameInParts, comes_in}
 use Rattle.book_folder.specs.CutShort.{IsPlan}
 use Rattle.book_folder.specs.Disks.{Act, DiskParts, IsRead, cut_short}
@@ -56,16 +56,15 @@ pub record IsWholeSync (seen : SeenParts) (wishes : WishParts) (s : State) (b : 
 
 -- Wherever a sync is cut short, by a kill or a power cut, a sync of what stands on the disk then
 -- makes the same project: so the exports are the same, and the report is. No conflict is to be
--- settled, nothing is asked of a base that has nothing in common with the project, and the base that
--- stands then can be read.
+-- settled, and nothing is asked of a base that has nothing in common with the project.
 abbrev pub CutShortMakesTheSame : Type 0
 CutShortMakesTheSame =
-    (seen again : SeenParts) (wishes : WishParts) (s from : State) (b : BegunParts)
+    (seen again : SeenParts) (wishes : WishParts) (s : State) (b : BegunParts)
     (c : CameInParts) (now : List FileParts) (made : List NewFileParts) (base : List ℕ)
     (plan : PlanParts) (d : DiskParts) →
     wishes.settled ≡ [] → wishes.stale ≡ false → wishes.joined ≡ true →
     IsWholeSync seen wishes s b c made base plan d →
     (stays : List ℕ → Bool) (chance : Act → List Act → Bool) (n : ℕ) →
     IsReadAgain seen d again (cut_short stays chance n d plan.steps) →
-    clear_files again ≡ Ok now → base_of again ≡ Ok from →
+    clear_files again ≡ Ok now →
     (came : CameInParts) × (comes_in again wishes now ≡ Ok came) × (came.replica ≡ c.replica)

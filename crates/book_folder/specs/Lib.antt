@@ -31,3 +31,4 @@ pub mod CutShort
 pub mod ReadAgain
 pub mod DoneAgain
 pub mod CutDisk
+pub mod DoneTwice

@@ -5,6 +5,7 @@ ghost use Rattle.book_folder.specs.CutLate as late;
 ghost use Rattle.book_folder.specs.CutShort as cut;
 ghost use Rattle.book_folder.specs.Done as done;
 ghost use Rattle.book_folder.specs.DoneAgain as done_again;
+ghost use Rattle.book_folder.specs.DoneTwice as done_twice;
 ghost use Rattle.book_folder.specs.FolderLaws as folder;
 ghost use Rattle.book_folder.specs.Laws as laws;
 ghost use Rattle.book_folder.specs.OwnBooks as own;
@@ -95,6 +96,12 @@ pub fn other_files_are_left_so()
 /// the disk.
 pub fn twice_is_once()
     ensures { folder.TwiceIsOnce }
+{}
+
+/// Once each step of a sync's plan was done, and no file was left, a project and a folder are as
+/// `twice_is_once` asks them to be.
+pub fn done_is_synced()
+    ensures { done_twice.DoneIsSynced }
 {}
 
 /// Cut short anywhere, by a kill or a power cut, a sync leaves it known what each file of the folder

@@ -17,7 +17,7 @@ use Rattle.book_folder.proofs.CutShort.OwnBooks.{own_books}
 use Rattle.book_folder.proofs.CutShort.Recovered.{BaseIsFirst, ProjectIsPut, none_put, recovered_fronts}
 
 -- the steps of a plan, or none
-abbrev steps_of : Result PlanParts Refusal → List StepParts
+abbrev pub steps_of : Result PlanParts Refusal → List StepParts
 steps_of (Ok plan) = plan.steps
 steps_of (Err refusal) = []
 
@@ -45,7 +45,8 @@ one_base None bytes e = cc e
 one_base (Some there) bytes e = let is : there ≡ bytes = cc e in ap (λ (b : List ℕ). Some b) is
 
 module _ (seen : SeenParts) (d : DiskParts) (read : IsRead seen d) where
-  base_first : (bytes : List ℕ) → BaseIsFirst d bytes (base_put seen.bases seen.next bytes)
+  -- a base that is put, or is there, is the first one
+  pub base_first : (bytes : List ℕ) → BaseIsFirst d bytes (base_put seen.bases seen.next bytes)
   base_first bytes = by (put_or_there seen.bases seen.next bytes)
     where
       by : (base_put seen.bases seen.next bytes ≡ Some bytes)
@@ -61,10 +62,11 @@ module _ (seen : SeenParts) (d : DiskParts) (read : IsRead seen d) where
       )
 
   -- the project with what the bases brought
-  began : (recovered : Option (List ℕ)) → bytes_or d.project recovered ≡ bytes_or seen.project recovered
+  pub began : (recovered : Option (List ℕ)) → bytes_or d.project recovered ≡ bytes_or seen.project recovered
   began recovered = ap (λ (p : List ℕ). bytes_or p recovered) (sym read.project)
 
-  project_put : (recovered : Option (List ℕ)) (bytes : List ℕ)
+  -- the project gets all that came in, or has it
+  pub project_put : (recovered : Option (List ℕ)) (bytes : List ℕ)
       → ProjectIsPut bytes (other_than (bytes_or seen.project recovered) bytes) (bytes_or d.project recovered)
   project_put recovered bytes = by (same_bytes bytes (bytes_or seen.project recovered)) refl
     where

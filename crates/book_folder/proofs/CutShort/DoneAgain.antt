@@ -51,7 +51,7 @@ none_come_on s base older wishes (f ∷ files) stood h =
     )
 
 -- where it is known of all files what they were written from, they are taken in as they come
-turns_are : (base : List Operation) (files : List FileParts) → AllByRecursion (λ f. has_book base f.book ≡ true) files
+pub turns_are : (base : List Operation) (files : List FileParts) → AllByRecursion (λ f. has_book base f.book ≡ true) files
     → in_turn base files ≡ files
 turns_are base files h = (λ i. kept files h i ++ none files h i) ∙ append-nil files
   where
@@ -176,12 +176,14 @@ module _ (own : State) (seen again : SeenParts) (wishes : WishParts) (files now 
           (λ i. bundles_begun (y.joined i) (begins.ready.is i) (y.left.bundles i)) ∙ over.1
           ∙ (λ i. Ok (stepped (record { name = sym y.end.name i; held = begins.ready.makes i }) over.0))
 
-all_known : (was then : State) (files : List FileParts) → AllByRecursion (IsReadAlike was then) files
+-- the base has the book of each file that another one reads in the same way
+pub all_known : (was then : State) (files : List FileParts) → AllByRecursion (IsReadAlike was then) files
     → AllByRecursion (λ (f : FileParts). has_book was.held f.book ≡ true) files
 all_known was then [] h = tt
 all_known was then (f ∷ fs) h = (h.0.known, all_known was then fs h.1)
 
-none_stood : (files : List FileParts) → AllByRecursion (Unstood []) files
+-- where nothing is written down, nothing is of any file
+pub none_stood : (files : List FileParts) → AllByRecursion (Unstood []) files
 none_stood [] = tt
 none_stood (f ∷ fs) = ((λ o e. refl), none_stood fs)
 

@@ -8,7 +8,7 @@ use Rattle.book_folder.specs.CutShort.{AllKnown, AllWait, FilesAreKnown, IsLeft,
 use Rattle.book_folder.specs.Disks.{Act, DiskParts, FolderSynced, OwnSynced, SetBase, SetNames, SetNext, SetProject, acts_of, after, and_then, bytes_at, done, settling_acts, unsettled, without}
 use Rattle.book_folder.specs.Plans.{NewFileParts, OwnParts, ReplaceProject, Settle, StepParts, SyncOwn, WriteNew, own_puts, placed, placing, plan_steps, step_if, with_sync}
 use Rattle.book_folder.specs.Refusals.{◌>>=◌}
-use Rattle.book_folder.specs.Settling.{SettlingParts, base_puts, settling_steps}
+use Rattle.book_folder.specs.Settling.{base_puts, settling_steps}
 use Rattle.book_folder.specs.Settling as settling
 use Rattle.book_folder.specs.Wanted.{FoundParts}
 use Rattle.book_folder.specs.declared.refusal.Refusal.{Refusal}

@@ -10,7 +10,7 @@ use Rattle.bundle_codec.specs.Joining.{whole_at}
 use Rattle.bundle_codec.specs.Reading.{AreBytes}
 use Rattle.bundle_codec.specs.Spelling.{bundle}
 use Rattle.replica_state.specs.States.{State, begun}
-use Rattle.book_folder.specs.Begun.{BegunParts, bases_from, begun_alone, holding, is_one_of, joined_at, judged, ops_not_of, ops_of, received, replica_at, settled, settled_base, settled_if, union_of, with_base_at, with_bases, with_next}
+use Rattle.book_folder.specs.Begun.{BegunParts, bases_from, begun_alone, is_one_of, joined_at, judged, ops_not_of, ops_of, received, settled, settled_base, union_of, with_base_at, with_bases, with_next}
 use Rattle.book_folder.specs.CutShort.{settled_of}
 use Rattle.book_folder.specs.Disks.{DiskParts, IsRead, bytes_at, unsettled}
 use Rattle.book_folder.specs.DoneAgain.{IsSettledBy}
@@ -18,12 +18,13 @@ use Rattle.book_folder.specs.FolderLaws.{MayBeBytes}
 use Rattle.book_folder.specs.Refusals.{◌>>=◌}
 use Rattle.book_folder.specs.Wanted.{FoundParts, SeenParts, WishParts}
 use Rattle.book_folder.specs.declared.refusal.Place.TheVariants as places
-use Rattle.book_folder.proofs.CutShort.BaseReceived.{FromBases, base_parts, next_parts, own_settled}
+use Rattle.book_folder.proofs.CutShort.BaseReceived.{FromBases, base_parts, next_parts, own_settled, NextParts}
 use Rattle.book_folder.proofs.CutShort.Names.{is_not_there, is_there}
 use Rattle.book_folder.proofs.CutShort.OneBase.{settled_is}
-use Rattle.book_folder.proofs.Schedules.BasesReach.{joined_is, judged_is, ok_is, received_is, replica_is, then_ok}
+use Rattle.book_folder.proofs.Schedules.BasesReach.{joined_is, judged_is, ok_is, received_is, then_ok}
 use Rattle.book_folder.proofs.Schedules.ReadSets.{IsReadable, both_set, read_again, some_set}
 use Rattle.book_folder.proofs.SettledBooks.{by_book, joined_apart}
+use Rattle.book_folder.proofs.CutShort.Legible.{one_union}
 
 -- the base as it is read, where it is the one that there is
 pub union_read : (bytes : List ℕ) (u : State) → ((ops : List Operation) → whole_at bytes ≡ Ok ops → IsReadable ops)
@@ -79,22 +80,6 @@ module _ (unplaced : List (List ℕ)) (base next : List Operation) (hb : IsReada
       ap (λ (ops : List Operation). ops_of_book ops book) (settled_is unplaced base next held z.bytes hb hn z.joined z.read).0
       ∙ by_book unplaced base next book hb.set.rising hn.set.rising (joined_apart places.Next x y z.bytes hx hy z.joined)
 
-  -- as it is read
-  pub settled_read : (name : List ℕ) (from : State)
-      → settled_if unplaced (record { name = name; held = base }) (Some (bundle next)) ≡ Ok from
-      → IsSettledBy unplaced base next from.held
-  settled_read name from e =
-      let a = then_ok (judged places.Next (bundle next)) (λ ops. settled_base unplaced base ops >>= replica_at name places.Next) from e in
-      let is = (read_again next a.0 hn (judged_is places.Next (bundle next) a.0 a.1.0)).0 in
-      let c = then_ok (settled_base unplaced base a.0) (replica_at name places.Next) from a.1.1 in
-      let joined : settled_base unplaced base next ≡ Ok c.0 = ap (settled_base unplaced base) (sym is) ∙ c.1.0 in
-      let spelled = settled_bytes c.0 joined in
-      let held = replica_is name places.Next c.0 (join x y) from both spelled c.1.1 in
-      let d = then_ok (judged places.Next c.0) (holding name places.Next) from c.1.1 in
-      let whole = judged_is places.Next c.0 d.0 d.1.0 in
-      let again = (read_again (join x y) d.0 both (ap whole_at (sym spelled) ∙ whole)).0 in
-      record { bytes = c.0; joined = joined; read = whole ∙ ap (λ (ops : List Operation). Ok ops) (again ∙ sym held) }
-
   -- by the bytes of both
   pub settled_by : (bytes : List ℕ) → settled (bundle base ∷ []) (bundle next) unplaced ≡ Ok bytes
       → settled_base unplaced base next ≡ Ok bytes
@@ -109,8 +94,28 @@ module _ (unplaced : List (List ℕ)) (base next : List Operation) (hb : IsReada
 
 module _ (seen : SeenParts) (wishes : WishParts) (s : State) (b : BegunParts) (from : FromBases seen wishes s b) (d : DiskParts)
     (read : IsRead seen d) (fits : AllByRecursion AreBytes seen.bases) (next_fits : MayBeBytes seen.next) where
+  -- the base that stood there is what the folder begins with, or none did
+  pub old_base : ((bytes : List ℕ) × (seen.bases ≡ bytes ∷ []) × (whole_at bytes ≡ Ok from.based.base.held))
+      ⊎ (seen.bases ≡ []) × (from.based.base.held ≡ [])
+  old_base = by d.base read.bases
+    where
+      begins : (bases : List (List ℕ)) → seen.bases ≡ bases → with_bases wishes 0 (begun_alone s) bases ≡ Ok from.based
+      begins bases e = ap (with_bases wishes 0 (begun_alone s)) (sym e) ∙ from.bases
+
+      by : (base : Option (List ℕ)) → seen.bases ≡ option_to_list base
+          → ((bytes : List ℕ) × (seen.bases ≡ bytes ∷ []) × (whole_at bytes ≡ Ok from.based.base.held))
+          ⊎ (seen.bases ≡ []) × (from.based.base.held ≡ [])
+      by None e = inr (e, ap (λ (x : BegunParts). x.base.held) (sym (ok_is (begun_alone s) from.based (begins [] e))))
+      by (Some bytes) e =
+          let a = then_ok (with_base_at wishes (places.Base 0) (begun_alone s) bytes) (λ n. with_bases wishes 1 n []) from.based
+          (begins (bytes ∷ []) e) in
+          let h = base_parts wishes (places.Base 0) (begun_alone s) bytes a.0 (subst (AllByRecursion AreBytes) e fits).0 a.1.0 in
+          let held : h.ops ≡ from.based.base.held =
+          sym (join_none h.ops h.set.set.rising) ∙ ap (λ (x : BegunParts). x.base.held) (h.is ∙ ok_is a.0 from.based a.1.1) in
+          inl (bytes, e, judged_is (places.Base 0) bytes h.ops h.read ∙ ap (λ (ops : List Operation). Ok ops) held)
+
   -- the union of the bases is what the folder begins with
-  pub old_union : (v : State) → union_of (option_to_list d.base) ≡ Ok v → v.held ≡ from.based.base.held
+  old_union : (v : State) → union_of (option_to_list d.base) ≡ Ok v → v.held ≡ from.based.base.held
   old_union v e =
       by d.base (subst (AllByRecursion AreBytes) read.bases fits)
       (ap (with_bases wishes 0 (begun_alone s)) (sym read.bases) ∙ from.bases) e
@@ -157,6 +162,42 @@ module _ (seen : SeenParts) (wishes : WishParts) (s : State) (b : BegunParts) (f
       (filter (λ o. not (alike o.segment.book i)) (sym same i))) ∙ a.1.1 in
       settled_bytes seen.unplaced base h.ops from.first_grows.received.readable h.set bytes joined
       ∙ ap (λ (t : State). bundle t.held) own.0
+
+  -- where a next one stands, it is settled
+  pub old_settles : (n : List ℕ) → d.next ≡ Some n
+      → (bytes : List ℕ) × (settled (option_to_list d.base) n (map (λ f. f.name) d.new) ≡ Ok bytes)
+  old_settles n is = (
+    h.settled,
+    ap (λ r. r >>= λ b. judged places.Next n >>= settled_base left b.held) there.1
+        ∙ ap (λ r. r >>= settled_base left there.0.held) h.read
+        ∙ ap (λ (ops : List Operation). settled_base left ops h.ops) there.2
+        ∙ (λ i. joined_at places.Next (filter (λ o. sym (alike o.segment.book) i) base)
+        (filter (λ o. not (sym (alike o.segment.book) i)) h.ops))
+        ∙ h.joined,
+  )
+    where
+      base : List Operation
+      base = from.based.base.held
+
+      left : List (List ℕ)
+      left = map (λ (f : FoundParts). f.name) d.new
+
+      next : seen.next ≡ Some n
+      next = read.next ∙ is
+
+      h : NextParts seen.unplaced from.based n b
+      h = next_parts seen.unplaced from.based n b (subst MayBeBytes next next_fits)
+          (ap (with_next seen.unplaced from.based) (sym next) ∙ from.next)
+
+      there : (v : State) × (union_of (option_to_list d.base) ≡ Ok v) × (v.held ≡ base)
+      there = elim old_base [
+        | inl r ↦ (
+          record { name = codes "base"; held = base },
+          ap union_of (sym read.bases ∙ r.1) ∙ one_union r.0 base from.first_grows.received.base.set.rising r.2,
+          refl,
+        )
+        | inr r ↦ (begun (codes "base"), ap union_of (sym read.bases ∙ r.0), sym r.1)
+      ]
 
   -- what a settled base is: the base that stood there, where no next one did; or what the folder begins with
   pub settled_stands : (base : Option (List ℕ)) → settled_of d d.next ≡ Ok base

@@ -19,13 +19,13 @@ use Rattle.book_folder.specs.Likes.{like, line_ends}
 use Rattle.book_folder.specs.Naming.{FormParts}
 use Rattle.book_folder.specs.Plans.{NewFileParts, is_whole, new_files}
 use Rattle.book_folder.specs.Wanted.{FoundParts, SeenParts}
-use Rattle.book_folder.proofs.CutShort.NewFiles.{new_are_whole, new_files_are_left_so, of_one, other_files_are_left_so}
+use Rattle.book_folder.proofs.CutShort.NewFiles.{new_are_whole, new_files_are_left_so, of_one, other_files_are_left_so, weaker}
 use Rattle.book_folder.proofs.Schedules.Reached.{all_both}
 
 -- ---- files by their names
 
 -- where no two files have one name, each one's bytes stand under its name
-found_each : (found : List FoundParts) → IsDistinct same_name found
+pub found_each : (found : List FoundParts) → IsDistinct same_name found
     → AllByRecursion (λ (x : FoundParts). bytes_at found x.name ≡ Some x.bytes) found
 unfolding IsDistinct
 found_each [] h = tt
@@ -167,3 +167,14 @@ module _ (seen : SeenParts) (held : List Operation) (files : List FileParts) (fo
       by : NameIsKnown before now made keeps f.name → IsKeptOrSynced held files keeps f
       by (inl same) = kept (was (sym same ∙ h.0)) (keeps f.book) refl
       by (inr g) = let s = synced g.0 g.1 g.2 in inr (s.1, ap keeps s.0 ∙ g.3)
+
+  -- each file that is read again is one that was read, or as a sync leaves it
+  pub each_left : (before now : List FoundParts) (keeps : List ℕ → Bool) → IsDistinct same_name now → files_from 0 before ≡ files
+      → ((name : List ℕ) → NameIsKnown before now made keeps name)
+      → ((g : NewFileParts) → Contains made g → IsKeptOrPut now made keeps g)
+      → AllByRecursion (IsKeptOrSynced held files keeps) (files_from 0 now)
+  each_left before now keeps apart files_are known others =
+      weaker (IsFound now) (IsKeptOrSynced held files keeps)
+      (λ f h. left_file before now keeps f h (λ k. subst (λ (fs : List FileParts). WasNamed fs f) files_are (named_in 0 before f (k, h.1)))
+      (known f.name) others)
+      (files_from 0 now) (each_found 0 now apart)

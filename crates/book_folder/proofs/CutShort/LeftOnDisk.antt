@@ -1,34 +1,42 @@
 -- What is read where a sync was cut short is what the laws of a sync that is done again ask for.
-use Rattle.std.proofs.Common.{◌≡◌, ◌⊎◌, inl, inr, ℕ, Bool, true, cond, List, [], ◌∷◌, filter, Contains, None, Some, Ok, option_to_list, refl, sym, ap, subst, ◌∙◌}
+use Rattle.std.proofs.Common.{◌≡◌, ◌⊎◌, inl, inr, ℕ, Bool, true, cond, List, [], ◌∷◌, filter, Contains, None, Some, Ok, option_to_list, refl, sym, ap, subst, ◌∙◌, ◌<◌, ◌^◌, ◌&&◌, length, arith}
 use Rattle.std.specs.List.{AllByRecursion}
 use Rattle.std.specs.Str.{is_utf8}
 use Rattle.op_core.specs.OneBook.{ops_of_book}
 use Rattle.op_core.specs.Ops.{Operation, IsOperation}
-use Rattle.op_core.specs.Sets.{IsOpSet}
+use Rattle.op_core.specs.Sets.{IsOpSet, join}
 use Rattle.op_core.proofs.FilteredLists.{kept_each}
 use Rattle.op_core.proofs.Sets.Filters.{rises-filter}
 use Rattle.op_core.proofs.Sets.Union.{IsOpSet-join}
-use Rattle.bundle_codec.specs.Joining.{whole_at}
 use Rattle.bundle_codec.specs.Spelling.{bundle}
 use Rattle.project_file.specs.Projects.{project, project_at}
 use Rattle.project_file.proofs.Files.{project_again}
-use Rattle.replica_state.specs.States.{State}
-use Rattle.book_folder.specs.Bases.{base_as_read, found_shown, kept_shown}
-use Rattle.book_folder.specs.Begun.{settled_if, union_of}
+use Rattle.replica_state.specs.States.{IsState, State}
+use Rattle.book_folder.specs.Bases.{base_as_read, found_shown, is_text, kept_shown, shows, stood_text}
 use Rattle.book_folder.specs.Coming.{CameInParts, comes_in}
 use Rattle.book_folder.specs.CutShort.{PutParts, first_base, put_by}
 use Rattle.book_folder.specs.Disks.{DiskParts, bytes_at}
 use Rattle.book_folder.specs.DoneAgain.{BaseStands, BasesStand, IsLeftFile, IsReadAlike, IsSettledBy, NextIsThere, ProjectAndBase, WrittenFrom, first_of, next_of, with_nothing_new}
 use Rattle.book_folder.specs.Files.{FileParts, files_from}
-use Rattle.book_folder.specs.Plans.{NewFileParts}
+use Rattle.book_folder.specs.Plans.{headless, NewFileParts}
 use Rattle.book_folder.specs.declared.refusal.Place.TheVariants as places
 use Rattle.book_folder.proofs.CutShort.DoneAgain.{cut_short_is_done_again}
-use Rattle.book_folder.proofs.CutShort.LeftBases.{one_read, settled_read}
-use Rattle.book_folder.proofs.CutShort.LeftFiles.{IsFound, IsKeptOrPut, IsKeptOrSynced, NameIsKnown, WasNamed, each_found, left_file, named_in}
+use Rattle.book_folder.proofs.CutShort.LeftFiles.{IsKeptOrPut, IsKeptOrSynced, NameIsKnown, each_left as each_file_left}
+use Rattle.book_folder.proofs.CutShort.NewFiles.{weaker}
 use Rattle.book_folder.proofs.CutShort.RecoveredAgain.{recovered_comes_in_again}
 use Rattle.book_folder.proofs.Schedules.BasesReach.{joined_is, ok_is}
-use Rattle.book_folder.proofs.Schedules.ReadSets.{IsReadable, short_set, some_set}
-use Rattle.book_folder.proofs.CutShort.CutRead.{CutRead, clear_is, short_bundle, weaker}
+use Rattle.book_folder.proofs.Schedules.ReadSets.{short_set, some_set}
+use Rattle.book_folder.proofs.CutShort.CutRead.{CutRead, clear_is, short_bundle}
+use Rattle.std.specs.Option.{is_none}
+use Rattle.std.proofs.lemmas.Bool.{and_parts}
+use Rattle.op_core.specs.Thinned.{is_legal}
+use Rattle.op_core.proofs.Sets.Legal.{join_legal}
+use Rattle.bundle_codec.proofs.OneSpelling.{AreCounted-from_length}
+use Rattle.book_folder.specs.Begun.{is_one_of, ops_not_of, ops_of}
+use Rattle.book_folder.proofs.CutShort.HasAll.{HasAll, IsPart, all_of_both, all_of_part, all_of_some, part_agrees, some_part}
+use Rattle.book_folder.proofs.CutShort.LeftBases.{settled_books}
+use Rattle.book_folder.proofs.CutShort.Legible.{IsWithin, legible_read, no_fewer, settled_is_read, settled_within, short_legible}
+use Rattle.book_folder.proofs.Twice.ShownBase.{shown_legal, some_shown_legal}
 
 module _ (cut : CutRead) where
   abbrev files : List FileParts
@@ -53,25 +61,78 @@ module _ (cut : CutRead) where
   some : (p : Operation → Bool) (ops : List Operation) → IsOpSet ops → IsOpSet (filter p ops)
   some p ops h = record { rising = rises-filter p ops h.rising; each = kept_each IsOperation p ops h.each }
 
-  -- the bases can be counted
-  pub first_set : IsReadable first
-  first_set =
-      short_set first (IsOpSet-join (kept_shown cut.c.stood cut.b.base.held) (found_shown cut.c.stood held)
-      (some _ cut.b.base.held cut.g.grows.received.base.set) (some _ held set)) cut.y.first
+  few : length held < 2 ^ 64
+  few = (AreCounted-from_length held (short_bundle cut.c.replica cut.y.short)).count
 
-  pub next_set : IsReadable next
-  next_set = short_set next (some _ held set) cut.y.next
+  -- ---- the bases can be read, and the project has all of them
 
-  pub base_set : IsReadable cut.b.base.held
-  base_set = cut.g.grows.received.readable
+  abbrev kept : List Operation
+  kept = kept_shown cut.c.stood cut.b.base.held
+
+  abbrev found : List Operation
+  found = found_shown cut.c.stood held
+
+  base_state : IsState cut.b.base
+  base_state = cut.g.grows.received.base
+
+  pub base_within : IsWithin held cut.b.base.held
+  base_within = record {
+    legible = record {
+      set = cut.g.grows.received.readable;
+      legal = base_state.legal;
+      few = omega (arith, few, no_fewer held cut.b.base.held set.rising base_state.set.rising cut.along.has);
+    };
+    all = cut.along.has;
+  }
+
+  kept_set : IsOpSet kept
+  kept_set = some _ cut.b.base.held base_state.set
+
+  found_set : IsOpSet found
+  found_set = some _ held set
+
+  found_part : IsPart held found
+  found_part = some_part _ held set.rising
+
+  held_kept : HasAll held kept
+  held_kept = all_of_some _ held cut.b.base.held set.rising base_state.set.rising cut.along.has
+
+  kept_legal : is_legal kept ≡ true
+  kept_legal =
+      some_shown_legal cut.b.base.held (λ o. shows cut.b.base.held o && is_none (stood_text cut.c.stood o)) base_state.set base_state.legal
+      (λ o h. (and_parts (shows cut.b.base.held o) (is_none (stood_text cut.c.stood o)) h).0)
+
+  found_legal : is_legal found ≡ true
+  found_legal =
+      some_shown_legal held (λ o. shows held o && is_text (stood_text cut.c.stood o) o) set cut.along.state.legal
+      (λ o h. (and_parts (shows held o) (is_text (stood_text cut.c.stood o) o) h).0)
+
+  pub first_within : IsWithin held first
+  first_within = record {
+    legible =
+        short_legible first (short_set first (IsOpSet-join kept found kept_set found_set) cut.y.first)
+        (join_legal kept found kept_set.rising found_set.rising kept_legal found_legal
+        (part_agrees held kept found kept_set.rising held_kept found_part))
+        cut.y.first;
+    all = all_of_both held kept found set.rising kept_set.rising found_set.rising held_kept
+        (all_of_part held found set.rising found_part);
+  }
+
+  pub next_within : IsWithin held next
+  next_within = record {
+    legible =
+        short_legible next (short_set next (some _ held set) cut.y.next)
+        (shown_legal held (headless held) set cut.along.state.legal) cut.y.next;
+    all = all_of_part held next set.rising (some_part _ held set.rising);
+  }
 
   -- the base that is put first
   pub put_base : (files : List NewFileParts) → first_base cut.c files ≡ Ok cut.base
       → (files ≡ []) × (cut.base ≡ bundle next) ⊎ (cut.base ≡ bundle first)
   put_base [] h = inl (refl, sym (ok_is (bundle next) cut.base h))
   put_base (f ∷ later) h =
-      inr (joined_is places.Project (kept_shown cut.c.stood cut.b.base.held) (found_shown cut.c.stood held) cut.base
-      (some_set _ cut.b.base.held base_set)
+      inr (joined_is places.Project kept found cut.base
+      (some_set _ cut.b.base.held base_within.legible.set)
       (some_set _ held (short_set held set (short_bundle cut.c.replica cut.y.short)))
       (ap (λ (t : State). base_as_read cut.c.stood t.held held) (sym cut.along.base) ∙ h))
 
@@ -98,22 +159,18 @@ module _ (cut : CutRead) where
       → AllByRecursion (IsKeptOrSynced held files keeps) cut.now
   each_left keeps known others =
       subst (AllByRecursion (IsKeptOrSynced held files keeps)) now_is
-      (weaker (IsFound cut.again.files) (IsKeptOrSynced held files keeps)
-      (λ f h. left_file cut.seen held files cut.y.plan_is.form cut.made set cut.y.plan_is.new cut.y.distinct texts cut.y.whole
-      cut.y.manner cut.seen.files cut.again.files
-      keeps f h (λ k. subst (λ (fs : List FileParts). WasNamed fs f) files_are (named_in 0 cut.seen.files f (k, h.1))) (known f.name)
-      others)
-      (files_from 0 cut.again.files) (each_found 0 cut.again.files cut.x.distinct))
+      (each_file_left cut.seen held files cut.y.plan_is.form cut.made set cut.y.plan_is.new cut.y.distinct texts cut.y.whole
+      cut.y.manner cut.seen.files cut.again.files keeps cut.x.distinct files_are known others)
 
   -- each was written from what its book has in what is read again
-  pub left_each : (ops : List Operation) (keeps : List ℕ → Bool) → (ops ≡ first) ⊎ (ops ≡ cut.b.base.held)
-      → ((book : List ℕ) → ops_of_book cut.from.held book ≡ cond (keeps book) (ops_of_book ops book) (ops_of_book next book))
-      → AllByRecursion (IsKeptOrSynced held files keeps) cut.now → AllByRecursion (IsLeftFile cut.b cut.c files cut.from.held) cut.now
-  left_each ops keeps which of h = weaker (IsKeptOrSynced held files keeps) (IsLeftFile cut.b cut.c files cut.from.held) on cut.now h
+  pub left_each : (from ops : List Operation) (keeps : List ℕ → Bool) → (ops ≡ first) ⊎ (ops ≡ cut.b.base.held)
+      → ((book : List ℕ) → ops_of_book from book ≡ cond (keeps book) (ops_of_book ops book) (ops_of_book next book))
+      → AllByRecursion (IsKeptOrSynced held files keeps) cut.now → AllByRecursion (IsLeftFile cut.b cut.c files from) cut.now
+  left_each from ops keeps which of h = weaker (IsKeptOrSynced held files keeps) (IsLeftFile cut.b cut.c files from) on cut.now h
     where
-      on : (f : FileParts) → IsKeptOrSynced held files keeps f → IsLeftFile cut.b cut.c files cut.from.held f
+      on : (f : FileParts) → IsKeptOrSynced held files keeps f → IsLeftFile cut.b cut.c files from f
       on f (inl k) =
-          let is : ops_of_book cut.from.held f.book ≡ ops_of_book ops f.book =
+          let is : ops_of_book from f.book ≡ ops_of_book ops f.book =
           of f.book ∙ ap (λ r. cond r (ops_of_book ops f.book) (ops_of_book next f.book)) k.1 in
           inl (
             k.0,
@@ -135,28 +192,39 @@ module _ (cut : CutRead) where
   base_is bytes h = cut.x.read.bases ∙ ap option_to_list h
 
   -- a base that was put is read as it is
-  pub stands : (ops : List Operation) → IsReadable ops → cut.e.base ≡ Some (bundle ops)
-      → (whole_at (bundle ops) ≡ Ok ops) × (cut.u.held ≡ ops)
-  stands ops h is = one_read ops cut.u h (ap union_of (sym (base_is (bundle ops) is)) ∙ cut.union)
+  pub base_stands : (ops : List Operation) → IsWithin held ops → cut.e.base ≡ Some (bundle ops) → BaseStands cut.again ops
+  base_stands ops h is = inl (bundle ops, base_is (bundle ops) is, legible_read ops h.legible)
 
-  pub base_stands : (ops : List Operation) → IsReadable ops → cut.e.base ≡ Some (bundle ops) → BaseStands cut.again ops
-  base_stands ops h is = inl (bundle ops, base_is (bundle ops) is, (stands ops h is).0)
-
-  -- no next one is there
-  pub alone : cut.e.next ≡ None → (cut.again.next ≡ None) × (cut.from.held ≡ cut.u.held)
-  alone h =
-      let none : cut.again.next ≡ None = cut.x.read.next ∙ h in
-      (none, ap (λ (t : State). t.held) (sym (ok_is cut.u cut.from (ap (settled_if cut.again.unplaced cut.u) (sym none) ∙ cut.settles))))
+  -- no next one is there: the files were written from the base
+  pub alone : (ops : List Operation) → cut.e.next ≡ None → WrittenFrom cut.again cut.c ops ops
+  alone ops h = inl (cut.x.read.next ∙ h, refl)
 
   -- or the plan's is
   pub next_is : cut.e.next ≡ Some put.next → NextIsThere cut.again cut.c
   next_is h = cut.x.read.next ∙ h
 
-  pub beside : (ops : List Operation) → IsReadable ops → cut.u.held ≡ ops → cut.e.next ≡ Some put.next
-      → IsSettledBy cut.again.unplaced ops next cut.from.held
-  beside ops h same there =
-      settled_read cut.again.unplaced ops next h next_set cut.u.name cut.from
-      ((λ i. settled_if cut.again.unplaced (record { name = cut.u.name; held = sym same i }) (sym (next_is there) i)) ∙ cut.settles)
+  -- the files were written from the base, settled by it
+  abbrev pub by_next : List Operation → List Operation
+  by_next ops = join (ops_of cut.again.unplaced ops) (ops_not_of cut.again.unplaced next)
+
+  settles : (ops : List Operation) → IsWithin held ops → IsSettledBy cut.again.unplaced ops next (by_next ops)
+  settles ops h = settled_is_read held ops next set.rising few h next_within cut.again.unplaced
+
+  pub beside : (ops : List Operation) → IsWithin held ops → cut.e.next ≡ Some put.next → WrittenFrom cut.again cut.c ops (by_next ops)
+  beside ops h there = inr (next_is there, settles ops h)
+
+  -- book by book
+  pub settled_each : (ops : List Operation) → IsWithin held ops → (book : List ℕ)
+      → ops_of_book (by_next ops) book ≡ cond (is_one_of cut.again.unplaced book) (ops_of_book ops book) (ops_of_book next book)
+  settled_each ops h book =
+      settled_books cut.again.unplaced ops next h.legible.set next_within.legible.set (by_next ops) (settles ops h) book
+
+  -- what the two bases that the plan puts are settled to, but for some books
+  pub mixed_within : (left : List (List ℕ)) → IsWithin held (join (ops_of left first) (ops_not_of left next))
+  mixed_within left = settled_within held first next set.rising few first_within next_within left
+
+  pub mixed_settled : (left : List (List ℕ)) → IsSettledBy left first next (join (ops_of left first) (ops_not_of left next))
+  mixed_settled left = settled_is_read held first next set.rising few first_within next_within left
 
   -- the project has what the bases brought, or all
   pub began_is : cut.e.project ≡ put.began → project_at cut.again.project ≡ Ok cut.b.replica
@@ -168,17 +236,16 @@ module _ (cut : CutRead) where
   -- ---- done again
 
   -- of what is left once a base was put
-  pub by_left : (ops : List Operation) → BaseStands cut.again ops → ProjectAndBase cut.again cut.b cut.c files ops
-      → WrittenFrom cut.again cut.c ops cut.from.held
-      → AllByRecursion (IsLeftFile cut.b cut.c files cut.from.held) cut.now → Same
-  by_left ops bases project written each =
+  pub by_left : (ops from : List Operation) → BaseStands cut.again ops → ProjectAndBase cut.again cut.b cut.c files ops
+      → WrittenFrom cut.again cut.c ops from → AllByRecursion (IsLeftFile cut.b cut.c files from) cut.now → Same
+  by_left ops from bases project written each =
       let r = cut_short_is_done_again cut.seen cut.again cut.wishes files cut.now cut.s cut.b cut.c cut.y.bytes cut.y.is cut.y.first
       cut.y.next cut.unsettled cut.fresh cut.joined cut.y.begun came
       cut.y.distinct cut.y.each (record {
         base = ops;
         bases = bases;
         project = project;
-        from = cut.from.held;
+        from = from;
         next = written;
         each = each;
         older = cut.x.older;

@@ -1,12 +1,11 @@
 -- Each file of a folder is as a sync leaves it: a new one that was put, and one that needs none.
-use Rattle.std.proofs.Common.{◌≡◌, ◌⊎◌, ◌<◌, inl, inr, ℕ, zero, suc, ◌==◌, Bool, true, false, cond, ◌&&◌, ◌||◌, List, [], ◌∷◌, ◌++◌, codes, get_or, length, map, take}
-use Rattle.std.proofs.Common.{Contains, Option, None, Some, Result, Ok, Err, option_to_list, refl, sym, ap, subst, ◌∙◌, append-nil, arith}
-use Rattle.std.specs.Cmp.{Equal-is, tied_itself}
+use Rattle.std.proofs.Common.{◌≡◌, ◌⊎◌, ◌<◌, inl, inr, ℕ, zero, suc, ◌==◌, Bool, true, false, cond, ◌&&◌, List, [], ◌∷◌, ◌++◌, codes, get_or, length, map, take}
+use Rattle.std.proofs.Common.{Contains, Option, None, Some, Result, Ok, Err, refl, sym, ap, subst, ◌∙◌, arith}
+use Rattle.std.specs.Cmp.{tied_itself}
 use Rattle.std.specs.List.{AllByRecursion, IsDistinct, flat_map, list_any}
 use Rattle.std.specs.Ordering.{is_eq}
 use Rattle.std.specs.Str.{is_utf8}
 use Rattle.std.proofs.lemmas.Bool.{and_parts, eqb-true, false≢true, or_parts}
-use Rattle.std.proofs.lemmas.List.Elements.{Contains-append_left, Contains-push, Contains-push_cases}
 use Rattle.std.proofs.lemmas.Str.{is_utf8-from_IsUtf8}
 use Rattle.usfm_ref.specs.Books.{book_cmp, same_bytes}
 use Rattle.usfm_ref.proofs.Members.{tested_rising}
@@ -27,7 +26,7 @@ use Rattle.book_folder.specs.FolderLaws.{HasOneManner, IsSyncedFile, NewFilesAre
 use Rattle.book_folder.specs.Likes.{in_line_ends, like, line_ends, plain, without_cr}
 use Rattle.book_folder.specs.Naming.{FormParts, new_name}
 use Rattle.book_folder.specs.Plans.{NewFileParts, by_ends, file_by_text, if_begun, is_book, is_like_file, is_whole, new_file, new_file_if, new_files, text_for}
-use Rattle.book_folder.specs.Refusals.{◌>>=◌, gathered}
+use Rattle.book_folder.specs.Refusals.{◌>>=◌}
 use Rattle.book_folder.specs.Restored.{coming_ends, front_of, in_manner_of}
 use Rattle.book_folder.specs.Wanted.{SeenParts}
 use Rattle.book_folder.specs.declared.likes.LineEnds.{LineEnds}
@@ -37,6 +36,7 @@ use Rattle.book_folder.proofs.CutShort.Puts.{first_or_later}
 use Rattle.book_folder.proofs.Schedules.PieceTexts.{manner_text}
 use Rattle.book_folder.proofs.Twice.OwnManner.{ended, none_taken}
 use Rattle.book_folder.proofs.Twice.SyncedFile.{begins}
+use Rattle.book_folder.proofs.CutShort.Gathered.{all_gathered, given_by, none_refused}
 
 -- what holds of all files holds of one of them
 pub of_one : (P : FileParts → Type 0) (files : List FileParts) → AllByRecursion P files → (f : FileParts) → Contains files f → P f
@@ -46,6 +46,12 @@ of_one P files h f c = at files h c.0 c.1 c.2
     at [] h k l e = absurd (omega (arith, l))
     at (g ∷ fs) h zero l e = subst P e h.0
     at (g ∷ fs) h (suc k) l e = at fs h.1 k (omega (arith, l)) e
+
+-- what follows for each file follows for all
+pub weaker : (P Q : FileParts → Type 0) → ((f : FileParts) → P f → Q f) → (files : List FileParts) → AllByRecursion P files
+    → AllByRecursion Q files
+weaker P Q on [] h = tt
+weaker P Q on (f ∷ files) h = (on f h.0, weaker P Q on files h.1)
 
 -- ---- a text in the manner of a file is like it
 
@@ -186,71 +192,6 @@ module _ (held : List Operation) (set : IsOpSet held) (book : List ℕ) (whole :
       by CrLf = as_file f.bytes
       by Mixed = same (is_book (book_begun text) book)
 
--- ---- what is gathered
-
-module _ (give : List ℕ → Result (Option NewFileParts) Refusal) where
-  -- a book that gives a new file
-  record IsGiven (g : NewFileParts) : Type 0 where
-    pub book : List ℕ
-    pub gives : give book ≡ Ok (Some g)
-
-  given_by : (books : List (List ℕ)) (before made : List NewFileParts) → gathered give before books ≡ Ok made
-      → (g : NewFileParts) → Contains made g → Contains before g ⊎ IsGiven g
-  given_by [] before made e g there =
-      let is : before ≡ made = cc e in inl (subst (λ (xs : List NewFileParts). Contains xs g) (sym is) there)
-  given_by (book ∷ books) before made e g there = by (give book) refl e (λ more k. given_by books more made k g there)
-    where
-      by : (r : Result (Option NewFileParts) Refusal) → give book ≡ r
-          → (r >>= λ y. gathered give (before ++ option_to_list y) books) ≡ Ok made
-          → ((more : List NewFileParts) → gathered give more books ≡ Ok made → Contains more g ⊎ IsGiven g)
-          → Contains before g ⊎ IsGiven g
-      by (Err r) f e next = cc e
-      by (Ok None) f e next = elim (next (before ++ []) e) [
-        | inl k ↦ inl (subst (λ (xs : List NewFileParts). Contains xs g) (append-nil before) k)
-        | inr k ↦ inr k
-      ]
-      by (Ok (Some n)) f e next = elim (next (before ++ n ∷ []) e) [
-        | inl k ↦ elim (Contains-push_cases before n g k) [
-          | inl old ↦ inl old
-          | inr same ↦ inr (record { book = book; gives = f ∙ ap (λ (x : NewFileParts). Ok (Some x)) same })
-        ]
-        | inr k ↦ inr k
-      ]
-
-  stays_gathered : (books : List (List ℕ)) (before made : List NewFileParts) → gathered give before books ≡ Ok made
-      → (g : NewFileParts) → Contains before g → Contains made g
-  stays_gathered [] before made e g there =
-      let is : before ≡ made = cc e in subst (λ (xs : List NewFileParts). Contains xs g) is there
-  stays_gathered (book ∷ books) before made e g there = by (give book) e (λ more k. stays_gathered books more made k g)
-    where
-      by : (r : Result (Option NewFileParts) Refusal) → (r >>= λ y. gathered give (before ++ option_to_list y) books) ≡ Ok made
-          → ((more : List NewFileParts) → gathered give more books ≡ Ok made → Contains more g → Contains made g) → Contains made g
-      by (Err r) e next = cc e
-      by (Ok y) e next = next (before ++ option_to_list y) e (Contains-append_left before (option_to_list y) g there)
-
-  -- what a book gives is among them
-  all_gathered : (books : List (List ℕ)) (before made : List NewFileParts) → gathered give before books ≡ Ok made
-      → (book : List ℕ) → list_any (λ b. is_eq (book_cmp book b)) books ≡ true → (g : NewFileParts) → give book ≡ Ok (Some g)
-      → Contains made g
-  all_gathered [] before made e book among g gives = absurd (false≢true among)
-  all_gathered (b ∷ books) before made e book among g gives =
-      by (give b) refl e (is_eq (book_cmp book b)) refl among
-      (λ more k. all_gathered books more made k book) (λ more k. stays_gathered books more made k g)
-    where
-      by : (r : Result (Option NewFileParts) Refusal) → give b ≡ r
-          → (r >>= λ y. gathered give (before ++ option_to_list y) books) ≡ Ok made → (c : Bool) → is_eq (book_cmp book b) ≡ c
-          → (c || list_any (λ b. is_eq (book_cmp book b)) books) ≡ true
-          → ((more : List NewFileParts) → gathered give more books ≡ Ok made
-          → list_any (λ b. is_eq (book_cmp book b)) books ≡ true → (n : NewFileParts) → give book ≡ Ok (Some n) → Contains made n)
-          → ((more : List NewFileParts) → gathered give more books ≡ Ok made → Contains more g → Contains made g) → Contains made g
-      by (Err r) f e c k h later stays = cc e
-      by (Ok y) f e false k h later stays = later (before ++ option_to_list y) e h g gives
-      by (Ok y) f e true k h later stays =
-          let same : book ≡ b = book_exact book b ((Equal-is _).0 k) in
-          let is : y ≡ Some g = cc (sym f ∙ ap give (sym same) ∙ gives) in
-          stays (before ++ option_to_list y) e
-          (subst (λ (r : Option NewFileParts). Contains (before ++ option_to_list r) g) (sym is) (Contains-push before g))
-
 -- ---- new files
 
 module _ (seen : SeenParts) (held : List Operation) (files : List FileParts) (form : FormParts) where
@@ -258,26 +199,30 @@ module _ (seen : SeenParts) (held : List Operation) (files : List FileParts) (fo
   give = new_file_if seen held files form
 
   -- what a book gives: it is whole, and its text is by its file
-  record IsNewOf (book : List ℕ) (g : NewFileParts) : Type 0 where
+  pub record IsNewOf (book : List ℕ) (g : NewFileParts) : Type 0 where
     pub whole : is_whole held book ≡ true
     pub book_is : g.book ≡ book
     pub text : g.text ≡ text_for (file_of files book) book (export held book)
+    pub name : new_name seen form book (file_of files book) ≡ Ok g.name
 
   new_of : (book : List ℕ) (g : NewFileParts) → give book ≡ Ok (Some g) → IsNewOf book g
   new_of book g e =
-      by (is_whole held book) refl (is_like_file (file_of files book) (export held book)) (new_name seen form book (file_of files book)) e
+      by (is_whole held book) refl (is_like_file (file_of files book) (export held book)) (new_name seen form book (file_of files book))
+      refl e
     where
       by : (b : Bool) → is_whole held book ≡ b → (c : Bool) (name : Result (List ℕ) Refusal)
+          → new_name seen form book (file_of files book) ≡ name
           → cond b (cond c (Ok None) (name >>= λ n. Ok (Some (new_file (file_of files book) book (export held book) n)))) (Ok None)
           ≡ Ok (Some g) → IsNewOf book g
-      by false w c name e = cc e
-      by true w true name e = cc e
-      by true w false (Err r) e = cc e
-      by true w false (Ok n) e =
+      by false w c name f e = cc e
+      by true w true name f e = cc e
+      by true w false (Err r) f e = cc e
+      by true w false (Ok n) f e =
           let is : new_file (file_of files book) book (export held book) n ≡ g = cc e in record {
             whole = w;
             book_is = sym (ap (λ (x : NewFileParts). x.book) is);
             text = sym (ap (λ (x : NewFileParts). x.text) is);
+            name = f ∙ ap (λ (x : NewFileParts). Ok x.name) is;
           }
 
   -- the file of a book is the first of it
@@ -294,22 +239,38 @@ module _ (seen : SeenParts) (held : List Operation) (files : List FileParts) (fo
       by (inr later) rest =
           ap (λ b. cond b (Some g) (file_of fs f.book)) (of_one (λ x. are_of_one_book g x ≡ false) fs h.0 f later) ∙ rest later
 
+-- a new file is what its book gives
+pub record IsNew (seen : SeenParts) (held : List Operation) (files : List FileParts) (form : FormParts) (g : NewFileParts) : Type 0 where
+  pub book : List ℕ
+  pub of : IsNewOf seen held files form book g
+
+pub is_new : (seen : SeenParts) (held : List Operation) (files : List FileParts) (form : FormParts) (made : List NewFileParts)
+    (g : NewFileParts) → new_files seen held files form ≡ Ok made → Contains made g → IsNew seen held files form g
+is_new seen held files form made g is there = elim (given_by (new_file_if seen held files form) (books_of held) [] made is g there) [
+  | inl none ↦ absurd (none_there g none)
+  | inr k ↦ record { book = k.book; of = new_of seen held files form k.book g k.gives }
+]
+
 -- the project has each book whole that gets a new file
 pub new_are_whole : (seen : SeenParts) (held : List Operation) (files : List FileParts) (form : FormParts) (made : List NewFileParts)
     (g : NewFileParts) → new_files seen held files form ≡ Ok made → Contains made g → is_whole held g.book ≡ true
-new_are_whole seen held files form made g is there = elim (given_by (new_file_if seen held files form) (books_of held) [] made is g there) [
-  | inl none ↦ absurd (none_there g none)
-  | inr k ↦ let new = new_of seen held files form k.book g k.gives in ap (is_whole held) new.book_is ∙ new.whole
-]
+new_are_whole seen held files form made g is there =
+    let new = is_new seen held files form made g is there in ap (is_whole held) new.of.book_is ∙ new.of.whole
+
+-- a new file begins with its book, where the lines of that book's text end in one manner
+pub new_begins : (seen : SeenParts) (held : List Operation) (files : List FileParts) (form : FormParts) (made : List NewFileParts)
+    (g : NewFileParts) → IsOpSet held → new_files seen held files form ≡ Ok made → Contains made g → HasOneManner (export held g.book)
+    → book_begun g.text ≡ Some g.book
+new_begins seen held files form made g set is there manner =
+    let new = is_new seen held files form made g is there in
+    let text = by_file held set new.book new.of.whole (subst (λ (b : List ℕ). HasOneManner (export held b)) new.of.book_is manner)
+    (file_of files new.book) in
+    ap book_begun new.of.text ∙ text.begun ∙ ap (λ (b : List ℕ). Some b) (sym new.of.book_is)
 
 pub new_files_are_left_so : NewFilesAreLeftSo
 new_files_are_left_so seen held files form made g f set is there manner bytes begun =
-    let give = new_file_if seen held files form in
-    let given : IsGiven give g = elim (given_by give (books_of held) [] made is g there) [
-      | inl none ↦ absurd (none_there g none)
-      | inr k ↦ k
-    ] in
-    let new = new_of seen held files form given.book g given.gives in
+    let given = is_new seen held files form made g is there in
+    let new = given.of in
     let text = by_file held set given.book new.whole (subst (λ (b : List ℕ). HasOneManner (export held b)) new.book_is manner)
     (file_of files given.book) in
     let own : f.bytes ≡ text_for (file_of files given.book) given.book (export held given.book) = bytes ∙ new.text in
@@ -323,6 +284,54 @@ new_files_are_left_so seen held files form made g f set is there manner bytes be
       },
     )
 
+-- a book that a project has whole is one of its books
+whole_among : (held : List Operation) (book : List ℕ) → is_whole held book ≡ true
+    → list_any (λ b. is_eq (book_cmp book b)) (books_of held) ≡ true
+whole_among held book whole =
+    tested_rising book_cmp book_total book_exact book (map (λ (o : Operation). o.segment.book) held)
+    ∙ any_map (λ b. is_eq (book_cmp book b)) (λ (o : Operation). o.segment.book) held
+    ∙ any_weaker (of_book book) (λ (o : Operation). is_eq (book_cmp book o.segment.book))
+    (λ o h. ap (λ (b : List ℕ). is_eq (book_cmp book b)) (same_bytes-is o.segment.book book h)
+    ∙ ap is_eq (tied_itself book_total book)) held
+    (and_parts (has_book held book) _ whole).0
+
+-- Such a book has a file, or gets a new one.
+abbrev pub GetsFile : List FileParts → List NewFileParts → List ℕ → Type 0
+GetsFile files made book =
+    ((f : FileParts) × (file_of files book ≡ Some f))
+    ⊎ ((g : NewFileParts) × Contains made g × (g.book ≡ book))
+
+pub gets_file : (seen : SeenParts) (held : List Operation) (files : List FileParts) (form : FormParts) (made : List NewFileParts)
+    (book : List ℕ) → new_files seen held files form ≡ Ok made → is_whole held book ≡ true → GetsFile files made book
+gets_file seen held files form made book is whole = by (file_of files book) refl
+  where
+    among : list_any (λ b. is_eq (book_cmp book b)) (books_of held) ≡ true
+    among = whole_among held book whole
+
+    gives : file_of files book ≡ None → new_file_if seen held files form book
+        ≡ (new_name seen form book None >>= λ name. Ok (Some (new_file None book (export held book) name)))
+    gives e =
+        ap (λ b. cond b (file_by_text seen files form book (export held book)) (Ok None)) whole
+        ∙ ap (λ (r : Option FileParts). cond (is_like_file r (export held book)) (Ok None)
+        (new_name seen form book r >>= λ name. Ok (Some (new_file r book (export held book) name)))) e
+
+    new : file_of files book ≡ None → (r : Result (List ℕ) Refusal) → new_name seen form book None ≡ r → GetsFile files made book
+    new e (Err refusal) f =
+        absurd (none_refused (new_file_if seen held files form) (books_of held) [] made is book among refusal
+        (gives e ∙ ap (λ r. r >>= λ name. Ok (Some (new_file None book (export held book) name))) f))
+    new e (Ok name) f =
+        let g : NewFileParts = new_file None book (export held book) name in
+        inr (
+          g,
+          all_gathered (new_file_if seen held files form) (books_of held) [] made is book among g
+              (gives e ∙ ap (λ r. r >>= λ name. Ok (Some (new_file None book (export held book) name))) f),
+          refl,
+        )
+
+    by : (r : Option FileParts) → file_of files book ≡ r → GetsFile files made book
+    by None e = new e (new_name seen form book None) refl
+    by (Some f) e = inl (f, e)
+
 pub other_files_are_left_so : OtherFilesAreLeftSo
 other_files_are_left_so seen held files form made f is distinct there whole utf8 manner = by (like (export held f.book) f.bytes) refl
   where
@@ -333,13 +342,7 @@ other_files_are_left_so seen held files form made f is distinct there whole utf8
     file = file_is seen held files form files f distinct there
 
     among : list_any (λ b. is_eq (book_cmp f.book b)) (books_of held) ≡ true
-    among =
-        tested_rising book_cmp book_total book_exact f.book (map (λ (o : Operation). o.segment.book) held)
-        ∙ any_map (λ b. is_eq (book_cmp f.book b)) (λ (o : Operation). o.segment.book) held
-        ∙ any_weaker (of_book f.book) (λ (o : Operation). is_eq (book_cmp f.book o.segment.book))
-        (λ o h. ap (λ (b : List ℕ). is_eq (book_cmp f.book b)) (same_bytes-is o.segment.book f.book h)
-        ∙ ap is_eq (tied_itself book_total f.book)) held
-        (and_parts (has_book held f.book) _ whole).0
+    among = whole_among held f.book whole
 
     gives : (r : Option FileParts) → file_of files f.book ≡ r → new_file_if seen held files form f.book
         ≡ cond (is_like_file r (export held f.book)) (Ok None)

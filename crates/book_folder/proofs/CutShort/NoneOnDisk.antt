@@ -1,25 +1,22 @@
 -- Cut short before a file was put, a sync is done again.
-use Rattle.std.proofs.Common.{◌≡◌, ◌⊎◌, inl, inr, ℕ, Bool, true, false, cond, List, [], codes, Contains, Option, None, Some, Ok, option_to_list, refl, sym, ap, subst, ◌∙◌}
-use Rattle.std.specs.List.{AllByRecursion}
+use Rattle.std.proofs.Common.{◌≡◌, ◌⊎◌, inl, inr, ℕ, Bool, true, false, cond, List, [], Contains, None, Some, Ok, option_to_list, refl, sym, ap, subst, ◌∙◌}
 use Rattle.std.specs.Option.{is_some}
 use Rattle.op_core.specs.OneBook.{ops_of_book}
 use Rattle.op_core.specs.Ops.{Operation}
-use Rattle.bundle_codec.specs.Reading.{AreBytes}
 use Rattle.bundle_codec.specs.Spelling.{bundle}
 use Rattle.project_file.specs.Projects.{project, project_at}
-use Rattle.replica_state.specs.States.{State, begun}
 use Rattle.replica_state.proofs.SinceLaws.{none_there}
-use Rattle.book_folder.specs.Begun.{BegunParts, is_one_of, settled, union_of, with_next}
+use Rattle.book_folder.specs.Begun.{BegunParts, is_one_of, settled, with_next}
 use Rattle.book_folder.specs.CutShort.{AllWait, IsUnsettled, MakesAsRead, NextIsReady, NoneIsPut, settled_of}
 use Rattle.book_folder.specs.Disks.{bytes_at}
 use Rattle.book_folder.specs.DoneAgain.{BaseStands, BasesStand, NextStays, ProjectAndBase, first_of, next_of}
 use Rattle.book_folder.specs.Plans.{NewFileParts}
-use Rattle.book_folder.proofs.CutShort.LeftBases.{old_union, settled_books, settled_stands, union_read}
+use Rattle.book_folder.proofs.CutShort.LeftBases.{old_base, settled_stands}
 use Rattle.book_folder.proofs.CutShort.LeftFiles.{IsKeptOrPut, NameIsKnown}
 use Rattle.book_folder.proofs.Schedules.BasesReach.{ok_is}
-use Rattle.book_folder.proofs.Schedules.ReadSets.{read_set}
 use Rattle.book_folder.proofs.CutShort.CutRead.{CutRead}
-use Rattle.book_folder.proofs.CutShort.LeftOnDisk.{Same, put_base, each_left, left_each, base_is, stands, base_stands, alone, next_is, beside, began_is, all_is, by_left, early, nothing, first_set, next_set, base_set, put}
+use Rattle.book_folder.proofs.CutShort.LeftOnDisk.{all_is, alone, base_is, base_stands, base_within, began_is, beside, by_left, by_next, each_left, early, first_within, left_each, next_is, next_within, nothing, put, put_base, Same, settled_each}
+use Rattle.book_folder.proofs.CutShort.Legible.{legible_read}
 
 module _ (cut : CutRead) where
   abbrev first : List Operation
@@ -55,57 +52,45 @@ module _ (cut : CutRead) where
         pick : (cut.made ≡ []) × (cut.base ≡ bundle next) ⊎ (cut.base ≡ bundle first) → NextIsReady (put cut) cut.made cut.e → Same cut
         pick (inl k) (inl none) =
             let there : cut.e.base ≡ Some (bundle next) = is ∙ ap Some k.1 in
-            let a = alone cut none in
-            let held = a.1 ∙ (stands cut next (next_set cut) there).1 in
-            by_left cut next (base_stands cut next (next_set cut) there) (project next (inr refl)) (inl (a.0, held))
-            (left_each cut first (λ book. false) (inl refl) (λ book. ap (λ (ops : List Operation). ops_of_book ops book) held)
+            by_left cut next next (base_stands cut next (next_within cut) there) (project next (inr refl)) (alone cut next none)
+            (left_each cut next first (λ book. false) (inl refl) (λ book. refl)
             (each_left cut (λ book. false) (unput (λ book. false)) (none_made k.0 (λ book. false))))
         pick (inl k) (inr ready) =
             let there : cut.e.base ≡ Some (bundle next) = is ∙ ap Some k.1 in
-            let z = beside cut next (next_set cut) (stands cut next (next_set cut) there).1 ready.0 in
-            by_left cut next (base_stands cut next (next_set cut) there) (project next (inr refl)) (inr (next_is cut ready.0, z))
-            (left_each cut first (λ book. false) (inl refl)
-            (λ book. settled_books cut.again.unplaced next next (next_set cut) (next_set cut) cut.from.held z book
+            by_left cut next (by_next cut next) (base_stands cut next (next_within cut) there) (project next (inr refl))
+            (beside cut next (next_within cut) ready.0)
+            (left_each cut (by_next cut next) first (λ book. false) (inl refl)
+            (λ book. settled_each cut next (next_within cut) book
             ∙ same_cond (is_one_of cut.again.unplaced book) (ops_of_book next book))
             (each_left cut (λ book. false) (unput (λ book. false)) (none_made k.0 (λ book. false))))
         pick (inr k) (inl none) =
             let there : cut.e.base ≡ Some (bundle first) = is ∙ ap Some k in
-            let a = alone cut none in
-            let held = a.1 ∙ (stands cut first (first_set cut) there).1 in
-            by_left cut first (base_stands cut first (first_set cut) there) (project first (inl refl)) (inl (a.0, held))
-            (left_each cut first (λ book. true) (inl refl) (λ book. ap (λ (ops : List Operation). ops_of_book ops book) held)
+            by_left cut first first (base_stands cut first (first_within cut) there) (project first (inl refl)) (alone cut first none)
+            (left_each cut first first (λ book. true) (inl refl) (λ book. refl)
             (each_left cut (λ book. true) (unput (λ book. true)) (λ n there. inl refl)))
         pick (inr k) (inr ready) =
             let there : cut.e.base ≡ Some (bundle first) = is ∙ ap Some k in
-            let z = beside cut first (first_set cut) (stands cut first (first_set cut) there).1 ready.0 in
-            by_left cut first (base_stands cut first (first_set cut) there) (project first (inl refl)) (inr (next_is cut ready.0, z))
-            (left_each cut first (λ book. is_one_of cut.again.unplaced book) (inl refl)
-            (settled_books cut.again.unplaced first next (first_set cut) (next_set cut) cut.from.held z)
+            by_left cut first (by_next cut first) (base_stands cut first (first_within cut) there) (project first (inl refl))
+            (beside cut first (first_within cut) ready.0)
+            (left_each cut (by_next cut first) first (λ book. is_one_of cut.again.unplaced book) (inl refl)
+            (settled_each cut first (first_within cut))
             (each_left cut (λ book. is_one_of cut.again.unplaced book) (unput (λ book. is_one_of cut.again.unplaced book))
             (waits_kept ready.1)))
 
-    -- the base stands that stood there
-    old_stands : (there : Option (List ℕ)) → cut.again.bases ≡ option_to_list there → AllByRecursion AreBytes (option_to_list there)
-        → cut.u.held ≡ cut.b.base.held → BaseStands cut.again cut.b.base.held
-    old_stands None bases fits same =
-        inr (bases, sym same ∙ ap (λ (t : State). t.held) (sym (ok_is (begun (codes "base")) cut.u (ap union_of (sym bases) ∙ cut.union))))
-    old_stands (Some bytes) bases fits same =
-        let r = union_read bytes cut.u (λ ops k. (read_set bytes ops fits.0 k).0) (ap union_of (sym bases) ∙ cut.union) in
-        inl (bytes, bases, r.0 ∙ ap (λ (ops : List Operation). Ok ops) same)
-
-    -- the base before, or as it was settled, and what is read of it
+    -- the base before, or as it was settled
     own_stands : (cut.e.base ≡ cut.d.base) × (cut.d.next ≡ None) ⊎ (cut.e.base ≡ Some (bundle cut.b.base.held))
-        → BaseStands cut.again cut.b.base.held × (cut.u.held ≡ cut.b.base.held)
-    own_stands (inr is) = (base_stands cut cut.b.base.held (base_set cut) is, (stands cut cut.b.base.held (base_set cut) is).1)
+        → BaseStands cut.again cut.b.base.held
+    own_stands (inr is) = base_stands cut cut.b.base.held (base_within cut) is
     own_stands (inl k) =
-        let bases : cut.again.bases ≡ option_to_list cut.d.base = cut.x.read.bases ∙ ap option_to_list k.0 in
+        let bases : cut.again.bases ≡ cut.seen.bases = cut.x.read.bases ∙ ap option_to_list k.0 ∙ sym cut.y.read.bases in
         let none : cut.seen.next ≡ None = cut.y.read.next ∙ k.1 in
-        let same : cut.u.held ≡ cut.b.base.held =
-        old_union cut.seen cut.wishes cut.s cut.b cut.g cut.d cut.y.read cut.y.bytes.bases cut.y.bytes.next cut.u
-        (ap union_of (sym bases) ∙ cut.union)
-        ∙ ap (λ (t : BegunParts). t.base.held) (ok_is cut.g.based cut.b
+        let same : cut.g.based.base.held ≡ cut.b.base.held =
+        ap (λ (t : BegunParts). t.base.held) (ok_is cut.g.based cut.b
         (ap (with_next cut.seen.unplaced cut.g.based) (sym none) ∙ cut.g.next)) in
-        (old_stands cut.d.base bases (subst (AllByRecursion AreBytes) cut.y.read.bases cut.y.bytes.bases) same, same)
+        elim (old_base cut.seen cut.wishes cut.s cut.b cut.g cut.d cut.y.read cut.y.bytes.bases cut.y.bytes.next) [
+          | inl r ↦ inl (r.0, bases ∙ r.1, r.2 ∙ ap (λ (ops : List Operation). Ok ops) same)
+          | inr r ↦ inr (bases ∙ r.0, sym same ∙ r.1)
+        ]
 
     settled_is : settled_of cut.d cut.d.next ≡ Ok cut.e.base
         → (cut.e.base ≡ cut.d.base) × (cut.d.next ≡ None) ⊎ (cut.e.base ≡ Some (bundle cut.b.base.held))
@@ -116,7 +101,12 @@ module _ (cut : CutRead) where
         → (cut.again.next ≡ None) ⊎ NextStays cut.seen cut.again
         → BasesStand cut.seen cut.again cut.b
     bases_stand (inr is) there =
-        inr (bundle cut.b.base.held, base_is cut (bundle cut.b.base.held) is, (stands cut cut.b.base.held (base_set cut) is).0, there)
+        inr (
+          bundle cut.b.base.held,
+          base_is cut (bundle cut.b.base.held) is,
+          legible_read cut.b.base.held (base_within cut).legible,
+          there,
+        )
     bases_stand (inl k) (inr stays) = inl (cut.x.read.bases ∙ ap option_to_list k.0 ∙ sym cut.y.read.bases, inl stays)
     bases_stand (inl k) (inl none) =
         inl (cut.x.read.bases ∙ ap option_to_list k.0 ∙ sym cut.y.read.bases, inr (none, cut.y.read.next ∙ k.1))
@@ -125,11 +115,10 @@ module _ (cut : CutRead) where
     by_own : project_at cut.again.project ≡ Ok cut.b.replica → settled_of cut.d cut.d.next ≡ Ok cut.e.base
         → cut.e.next ≡ Some (put cut).next → AllWait cut.e cut.made → Same cut
     by_own project k there waits =
-        let r = own_stands (settled_is k) in
-        let z = beside cut cut.b.base.held (base_set cut) r.1 there in
-        by_left cut cut.b.base.held r.0 (inl (project, inr (cut.y.whole, inr (refl, next_is cut there)))) (inr (next_is cut there, z))
-        (left_each cut cut.b.base.held (λ book. is_one_of cut.again.unplaced book) (inr refl)
-        (settled_books cut.again.unplaced cut.b.base.held next (base_set cut) (next_set cut) cut.from.held z)
+        by_left cut cut.b.base.held (by_next cut cut.b.base.held) (own_stands (settled_is k))
+        (inl (project, inr (cut.y.whole, inr (refl, next_is cut there)))) (beside cut cut.b.base.held (base_within cut) there)
+        (left_each cut (by_next cut cut.b.base.held) cut.b.base.held (λ book. is_one_of cut.again.unplaced book) (inr refl)
+        (settled_each cut cut.b.base.held (base_within cut))
         (each_left cut (λ book. is_one_of cut.again.unplaced book) (unput (λ book. is_one_of cut.again.unplaced book)) (waits_kept waits)))
 
     began_again : cut.e.project ≡ (put cut).began → Same cut

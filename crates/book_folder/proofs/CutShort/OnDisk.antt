@@ -5,24 +5,22 @@ use Rattle.std.proofs.lemmas.Bool.{and_from}
 use Rattle.op_core.specs.OneBook.{ops_of_book}
 use Rattle.op_core.specs.Ops.{Operation}
 use Rattle.op_core.specs.Sets.{join}
-use Rattle.bundle_codec.specs.Joining.{whole_at}
 use Rattle.bundle_codec.specs.Spelling.{bundle}
 use Rattle.project_file.proofs.Files.{project_is}
 use Rattle.replica_state.proofs.SinceLaws.{none_there}
-use Rattle.book_folder.specs.Begun.{is_one_of, ops_not_of, ops_of, settled, settled_base, settled_if, union_of}
+use Rattle.book_folder.specs.Begun.{is_one_of, ops_not_of, ops_of, settled, settled_base}
 use Rattle.book_folder.specs.CutDisk.{CutShortMakesTheSame}
 use Rattle.book_folder.specs.CutShort.{AllKnown, BaseIsSettled, BaseSettled, IsLeft, IsPut, NonePut, SomeArePut, SomePut, Waits}
 use Rattle.book_folder.specs.Disks.{bytes_at, cut_short}
-use Rattle.book_folder.specs.DoneAgain.{IsSettledBy, ProjectAndBase, first_of, next_of}
+use Rattle.book_folder.specs.DoneAgain.{BaseStands, first_of, next_of, ProjectAndBase}
 use Rattle.book_folder.specs.Plans.{NewFileParts}
 use Rattle.book_folder.proofs.CutShort.BaseReceived.{from_bases}
 use Rattle.book_folder.proofs.CutShort.CutLaws.{cut_short_is_known}
-use Rattle.book_folder.proofs.CutShort.LeftBases.{both, settled_books, settled_by, settled_bytes}
+use Rattle.book_folder.proofs.CutShort.LeftBases.{settled_books, settled_by, settled_bytes}
 use Rattle.book_folder.proofs.CutShort.LeftFiles.{IsKeptOrPut, NameIsKnown}
-use Rattle.book_folder.proofs.Schedules.BasesReach.{then_ok}
 use Rattle.book_folder.proofs.Schedules.ReadSets.{IsReadable}
 use Rattle.book_folder.proofs.CutShort.CutRead.{CutRead, came_along}
-use Rattle.book_folder.proofs.CutShort.LeftOnDisk.{Same, put_base, each_left, left_each, at_name, stands, base_stands, alone, next_is, beside, all_is, by_left, first_set, next_set, put}
+use Rattle.book_folder.proofs.CutShort.LeftOnDisk.{all_is, alone, at_name, base_stands, beside, by_left, by_next, each_left, first_within, left_each, mixed_settled, mixed_within, next_within, put, put_base, Same, settled_each}
 use Rattle.book_folder.proofs.CutShort.NoneOnDisk.{none_again}
 
 module _ (cut : CutRead) where
@@ -42,9 +40,9 @@ module _ (cut : CutRead) where
   some_again : SomeArePut cut.d (put cut) cut.made cut.e → Same cut
   some_again h =
       let there : cut.e.base ≡ Some (bundle first) = h.base ∙ ap Some (is_first h.one h.among) in
-      let z = beside cut first (first_set cut) (stands cut first (first_set cut) there).1 h.next in
-      by_left cut first (base_stands cut first (first_set cut) there) (inr (all_is cut h.project, inl refl)) (inr (next_is cut h.next, z))
-      (left_each cut first keeps (inl refl) (settled_books cut.again.unplaced first next (first_set cut) (next_set cut) cut.from.held z)
+      by_left cut first (by_next cut first) (base_stands cut first (first_within cut) there) (inr (all_is cut h.project, inl refl))
+      (beside cut first (first_within cut) h.next)
+      (left_each cut (by_next cut first) first keeps (inl refl) (settled_each cut first (first_within cut))
       (each_left cut keeps known others))
     where
       keeps : List ℕ → Bool
@@ -69,42 +67,39 @@ module _ (cut : CutRead) where
     abbrev mixed : List Operation
     mixed = join (ops_of h.left first) (ops_not_of h.left next)
 
-    mixed_set : IsReadable mixed
-    mixed_set = both h.left first next (first_set cut) (next_set cut)
+    first_set : IsReadable first
+    first_set = (first_within cut).legible.set
+
+    next_set : IsReadable next
+    next_set = (next_within cut).legible.set
 
     made_of : settled_base h.left first next ≡ Ok h.base
     made_of =
-        settled_by h.left first next (first_set cut) (next_set cut) h.base
+        settled_by h.left first next first_set next_set h.base
         (ap (λ (bytes : List ℕ). settled (bytes ∷ []) (bundle next) h.left) (sym first_is) ∙ h.of)
 
     spelled : h.base ≡ bundle mixed
-    spelled = settled_bytes h.left first next (first_set cut) (next_set cut) h.base made_of
+    spelled = settled_bytes h.left first next first_set next_set h.base made_of
 
     there : cut.e.base ≡ Some (bundle mixed)
     there = h.is ∙ ap Some spelled
 
-    by_left_books : IsSettledBy h.left first next mixed
-    by_left_books = record { bytes = h.base; joined = made_of; read = ap whole_at spelled ∙ (stands cut mixed mixed_set there).0 }
-
     mixed_books : (book : List ℕ) → ops_of_book mixed book ≡ cond (is_one_of h.left book) (ops_of_book first book) (ops_of_book next book)
-    mixed_books = settled_books h.left first next (first_set cut) (next_set cut) mixed by_left_books
+    mixed_books = settled_books h.left first next first_set next_set mixed (mixed_settled cut h.left)
 
     all_stands : ProjectAndBase cut.again cut.b cut.c cut.y.plan_is.files mixed
-    all_stands = inr (all_is cut h.project, inr (inr (h.left, by_left_books)))
+    all_stands = inr (all_is cut h.project, inr (inr (h.left, mixed_settled cut h.left)))
+
+    stands : BaseStands cut.again mixed
+    stands = base_stands cut mixed (mixed_within cut h.left) there
 
     settled_again : Same cut
     settled_again = pick h.next
       where
-        same : cut.u.held ≡ mixed
-        same = (stands cut mixed mixed_set there).1
-
         gone : cut.e.next ≡ None → Same cut
         gone none =
-            let a = alone cut none in
-            let held = a.1 ∙ same in
-            by_left cut mixed (base_stands cut mixed mixed_set there) all_stands (inl (a.0, held))
-            (left_each cut first keeps (inl refl) (λ book. ap (λ (ops : List Operation). ops_of_book ops book) held ∙ mixed_books book)
-            (each_left cut keeps known others))
+            by_left cut mixed mixed stands all_stands (alone cut mixed none)
+            (left_each cut mixed first keeps (inl refl) mixed_books (each_left cut keeps known others))
           where
             keeps : List ℕ → Bool
             keeps book = is_one_of h.left book
@@ -123,10 +118,9 @@ module _ (cut : CutRead) where
 
         still : cut.e.next ≡ Some (put cut).next → AllKnown cut.e cut.made → Same cut
         still is all =
-            let z = beside cut mixed mixed_set same is in
-            by_left cut mixed (base_stands cut mixed mixed_set there) all_stands (inr (next_is cut is, z))
-            (left_each cut first keeps (inl refl)
-            (λ book. settled_books cut.again.unplaced mixed next mixed_set (next_set cut) cut.from.held z book
+            by_left cut mixed (by_next cut mixed) stands all_stands (beside cut mixed (mixed_within cut h.left) is)
+            (left_each cut (by_next cut mixed) first keeps (inl refl)
+            (λ book. settled_each cut mixed (mixed_within cut h.left) book
             ∙ ap (λ ops. cond (is_one_of cut.again.unplaced book) ops (ops_of_book next book)) (mixed_books book)
             ∙ twice (is_one_of cut.again.unplaced book) (is_one_of h.left book) (ops_of_book first book) (ops_of_book next book))
             (each_left cut keeps known others))
@@ -170,18 +164,15 @@ module _ (cut : CutRead) where
   by_case (BaseSettled h) = settled_again h
 
 pub cut_short_makes_the_same : CutShortMakesTheSame
-cut_short_makes_the_same seen again wishes s from b c now made base plan d unsettled fresh joined y stays chance n x clear of =
+cut_short_makes_the_same seen again wishes s b c now made base plan d unsettled fresh joined y stays chance n x clear =
     let state = (project_is seen.project s y.bytes.project y.is).valid in
     let g = from_bases seen wishes s b state y.bytes.bases y.bytes.next y.is y.begun in
-    let along = came_along seen wishes s b c y.plan_is.files state y.bytes.bases y.bytes.next y.bytes.bundles y.is fresh y.begun
-    y.plan_is.came in
-    let u = then_ok (union_of again.bases) (λ t. settled_if again.unplaced t again.next) from of in
+    let along = came_along seen wishes s b c y.plan_is.files state y.bytes y.is unsettled fresh y.begun y.plan_is.came y.distinct y.each in
     by_case (record {
       seen = seen;
       again = again;
       wishes = wishes;
       s = s;
-      from = from;
       b = b;
       c = c;
       now = now;
@@ -198,8 +189,5 @@ cut_short_makes_the_same seen again wishes s from b c now made base plan d unset
       along = along;
       x = x;
       clear = clear;
-      u = u.0;
-      union = u.1.0;
-      settles = u.1.1;
     })
     (cut_short_is_known seen wishes c made base plan d y.plan_is y.read stays chance n)

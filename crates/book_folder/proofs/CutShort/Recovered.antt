@@ -6,7 +6,7 @@ use Rattle.book_folder.specs.CutShort.{IsLeft, IsUnsettled, MakesAsRead, NextIsR
 use Rattle.book_folder.specs.Disks.{Act, DiskParts, OwnSynced, SetBase, SetNames, SetProject, acts_of, after, and_then, settling_acts, unsettled}
 use Rattle.book_folder.specs.Plans.{NewFileParts, RemoveNew, Settle, StepParts, bytes_or, plan_steps, recovery}
 use Rattle.book_folder.specs.Refusals.{◌>>=◌}
-use Rattle.book_folder.specs.Settling.{SettlingParts, base_puts, settling_steps}
+use Rattle.book_folder.specs.Settling.{base_puts, settling_steps}
 use Rattle.book_folder.specs.Settling as settling
 use Rattle.book_folder.specs.declared.refusal.Refusal.{Refusal}
 use Rattle.book_folder.proofs.CutShort.Fronts.{Certain, Fronts, Keeps, LeftIs, after_both, all_keep, kept_fronts, synced_fronts}

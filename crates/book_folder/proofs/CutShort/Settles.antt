@@ -2,7 +2,7 @@
 use Rattle.std.proofs.Common.{◌≡◌, ◌⊎◌, ℕ, Bool, true, false, cond, List, [], ◌∷◌, ◌++◌, inl, inr, map, flat_map, Option, None, Some, refl, ap}
 use Rattle.usfm_ref.proofs.Orders.{same_bytes-is}
 use Rattle.book_folder.specs.Disks.{Act, DiskParts, DropNew, DropNext, OwnSynced, SetBase, after, done, settling_act}
-use Rattle.book_folder.specs.Settling.{SettlingParts, are_bytes, base_puts}
+use Rattle.book_folder.specs.Settling.{are_bytes, base_puts}
 use Rattle.book_folder.specs.Settling as settling
 use Rattle.book_folder.proofs.CutShort.Fronts.{Fronts, Keeps, LeftIs, kept_fronts, synced_fronts}
 
@@ -94,3 +94,16 @@ module _ (chance : Act → List Act → Bool) (L : DiskParts → Type 0) (d : Di
           (record { project = refl; files = refl; new = refl; next = refl; base = inl refl }))
           (removed (done d (SetBase bytes)) refl refl refl refl refl
           (on (record { project = refl; files = refl; new = refl; next = refl; base = refl })))
+
+-- once all of it was done, the next one is gone
+pub turned_is : (d : DiskParts) (bytes : List ℕ) → Turned d bytes (after d (turned d.base bytes))
+turned_is d bytes = by (are_bytes d.base bytes) refl
+  where
+    same : (base : Option (List ℕ)) → are_bytes base bytes ≡ true → base ≡ Some bytes
+    same None e = cc e
+    same (Some there) e = ap (λ (b : List ℕ). Some b) (same_bytes-is there bytes e)
+
+    by : (b : Bool) → are_bytes d.base bytes ≡ b
+        → Turned d bytes (after d (cond b [] (SetBase bytes ∷ OwnSynced ∷ []) ++ DropNext ∷ OwnSynced ∷ []))
+    by true e = record { project = refl; files = refl; new = refl; next = refl; base = same d.base e }
+    by false e = record { project = refl; files = refl; new = refl; next = refl; base = refl }

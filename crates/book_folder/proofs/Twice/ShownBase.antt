@@ -177,29 +177,29 @@ module _ (held : List Operation) (set : IsOpSet held) (headless : List (List ℕ
     export_same =
         (λ i. flat_map (λ key. picked_same part held book show_same key i) (exported_same i))
 
--- what is shown of a legal set has its text
-pub shown_legal : (held : List Operation) (headless : List (List ℕ)) → IsOpSet held → is_legal held ≡ true
-    → is_legal (shown_in_files headless held) ≡ true
-shown_legal held headless set legal =
-    full_legal part part (all_kept held (held_itself held set.rising))
+-- what a legal set shows has its text, so that some of it is legal
+pub some_shown_legal : (held : List Operation) (q : Operation → Bool) → IsOpSet held → is_legal held ≡ true
+    → ((o : Operation) → q o ≡ true → shows held o ≡ true) → is_legal (filter q held) ≡ true
+some_shown_legal held q set legal shown =
+    full_legal (filter q held) (filter q held) (all_kept held (held_itself held set.rising))
   where
-    part : List Operation
-    part = shown_in_files headless held
-
     full_of : (o : Operation) → get held o.id ≡ Some o → shows held o ≡ true → (b : Bool) → is_full o ≡ b → is_full o ≡ true
     full_of o g s true e = e
     full_of o g s false e =
         let past : is_replaced held o.segment o.id ≡ true = legal_at held o.id o legal g e in
-        absurd (false≢true (ap not (sym past) ∙ sym (shows_is held set headless o g) ∙ s))
+        absurd (false≢true (ap not (sym past) ∙ sym (shows_is held set [] o g) ∙ s))
 
-    all_kept : (xs : List Operation) → AllByRecursion (λ o. get held o.id ≡ Some o) xs
-        → all_full (filter (λ o. not (is_one_of headless o.segment.book) && shows held o) xs) ≡ true
+    all_kept : (xs : List Operation) → AllByRecursion (λ o. get held o.id ≡ Some o) xs → all_full (filter q xs) ≡ true
     all_kept [] h = refl
-    all_kept (o ∷ xs) h = by (all_kept xs h.1) (not (is_one_of headless o.segment.book)) (shows held o) refl
+    all_kept (o ∷ xs) h = by (all_kept xs h.1) (q o) refl
       where
-        by : all_full (filter (λ x. not (is_one_of headless x.segment.book) && shows held x) xs) ≡ true → (b c : Bool) → shows held o ≡ c
-            → all_full (cond (b && c) (o ∷ filter (λ x. not (is_one_of headless x.segment.book) && shows held x) xs)
-            (filter (λ x. not (is_one_of headless x.segment.book) && shows held x) xs)) ≡ true
-        by rest true true e = and_from _ _ (full_of o h.0 e (is_full o) refl) rest
-        by rest true false e = rest
-        by rest false c e = rest
+        by : all_full (filter q xs) ≡ true → (b : Bool) → q o ≡ b → all_full (cond b (o ∷ filter q xs) (filter q xs)) ≡ true
+        by rest true e = and_from _ _ (full_of o h.0 (shown o e) (is_full o) refl) rest
+        by rest false e = rest
+
+-- so is what it shows in the books that get a file
+pub shown_legal : (held : List Operation) (headless : List (List ℕ)) → IsOpSet held → is_legal held ≡ true
+    → is_legal (shown_in_files headless held) ≡ true
+shown_legal held headless set legal =
+    some_shown_legal held (λ o. not (is_one_of headless o.segment.book) && shows held o) set legal
+    (λ o h. (and_parts (not (is_one_of headless o.segment.book)) (shows held o) h).1)
