@@ -1,6 +1,6 @@
 -- What is answered where a folder may be refused (this project's own rule): the value, or the
 -- refusal that there is; or out of memory.
-use Rattle.std.specs.Prelude.{◌≡◌, List, [], ◌∷◌, ◌++◌, Option, Result, Ok, Err}
+use Rattle.std.specs.Prelude.{◌≡◌, Bool, true, false, List, [], ◌∷◌, ◌++◌, Option, Result, Ok, Err}
 use Rattle.std.specs.Option.{option_to_list}
 use Rattle.bundle_codec.specs.declared.fault.BundleFault.TheVariants as bundle
 use Rattle.bundle_codec.specs.declared.fault.WholeFault.{WholeFault}
@@ -79,6 +79,12 @@ of_import place import.NumbersUsedUp = Of place (faults.Edit edit.NumbersUsedUp)
 abbrev pub of_loading : LoadFault → Refusal
 of_loading loading.Memory = Memory
 of_loading fault = Of places.Project (faults.Project fault)
+
+-- whether what the files were written from is refused, since it has another operation under an id
+abbrev pub is_base_clash : Refusal → Bool
+is_base_clash (Of (places.Base at) (faults.Clash id)) = true
+is_base_clash (Of places.Next (faults.Clash id)) = true
+is_base_clash refusal = false
 
 -- a replica after a step, with what is answered of it; or the refusal; or out of memory
 pub record Stepped (A : Type 0) (X : Type 0) : Type 0 where

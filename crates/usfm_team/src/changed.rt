@@ -2,9 +2,10 @@
 use crate::reading::{Read, read_folder, read_given};
 use crate::refusal::{Given, Refusal};
 use crate::sync::{What, open_folder, refusal_of, tell};
+use crate::telling::say_of;
 use book_folder::{Standing, Wishes, folder_standing};
 use std::io::Write;
-use usfm_cli::{Fault, fault_line};
+use usfm_cli::fault_line;
 
 // The lines of a folder: of each file that was changed, how many edits a sync would take in, and of
 // each that it would refuse, why. Nothing is locked, and nothing is changed.
@@ -24,12 +25,25 @@ pub(crate) fn folder_lines(
         is_try: true,
         explains: false,
     };
-    let read = read_folder(rt, &folder, false)?;
-    let lent = read.lend(rt).map_err(Fault::from)?;
-    match folder_standing(rt.alloc(), &lent.seen(what.project, what.given)) {
+    let mut read = read_folder(rt, &folder, false)?;
+    let kept = &read.kept;
+    if kept.next.is_some() || kept.before.is_some() || kept.goes_back {
+        let why = " was cut short: run it again first";
+        say_of(rt, "a `sync` of ", folder.name(), why);
+    }
+    let mut found = standing_of(what, &read);
+    if read.goes_back(rt, &found)? {
+        found = standing_of(what, &read);
+    }
+    match found {
         Ok(standing) => lines(what, &read, &standing),
         Err(refusal) => Err(refusal_of(what, &read, refusal)),
     }
+}
+
+fn standing_of(what: What<'_>, read: &Read) -> Result<Standing, book_folder::Refusal> {
+    let lent = read.lend(what.rt)?;
+    folder_standing(what.rt.alloc(), &lent.seen(what.project, what.given))
 }
 
 fn lines(what: What<'_>, read: &Read, standing: &Standing) -> Result<Vec<u8>, Refusal> {

@@ -24,6 +24,8 @@ pub(crate) struct Project {
     file: File,
     // The file's own name, where the name in the line is a link.
     place: PathBuf,
+    // Whether the last replacement gave it its bytes, even if the disk may not keep them.
+    pub(crate) is_replaced: bool,
 }
 
 // Waits for the file of a project until no other command changes it.
@@ -37,7 +39,11 @@ pub(crate) fn lock_project(rt: &HostRuntime, path: &str) -> Result<Project, Faul
         lock_file(rt, &file, path, &mut is_said)?;
         let place = real_path(rt, path)?;
         if stands_at(rt, &file, &place)? {
-            return Ok(Project { file, place });
+            return Ok(Project {
+                file,
+                place,
+                is_replaced: false,
+            });
         }
     }
     Err(Fault::FileFailed)
@@ -160,6 +166,7 @@ impl Project {
     // that cannot be, the project stays. The new file is locked before it has the name, so that the
     // project still is nobody else's.
     pub(crate) fn replace(&mut self, rt: &HostRuntime, bytes: &[u8]) -> Result<(), Fault> {
+        self.is_replaced = false;
         self.refuse_kept(rt)?;
         let place = self.place.as_str();
         let new = format!(in rt.alloc(); "{place}.new")?;
@@ -171,6 +178,7 @@ impl Project {
         lock_file(rt, &file, new.as_str(), &mut true)?;
         fs::rename(rt, new.as_str(), place).map_err(|_| Fault::FileFailed)?;
         self.file = file;
+        self.is_replaced = true;
         sync_folder(&folder)
     }
 

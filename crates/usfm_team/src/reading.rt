@@ -20,6 +20,10 @@ pub(crate) const BASE: &str = "base";
 
 pub(crate) const NEXT: &str = "next";
 
+// What stood as the base before a sync put its first one: it is there until the project has what
+// came in. It is empty where none stood.
+pub(crate) const BEFORE: &str = "before";
+
 pub(crate) const NAMES: &str = "names";
 // The bases before the base, the newest first.
 pub(crate) const OLDER: [&str; 3] = ["base.1", "base.2", "base.3"];
@@ -54,6 +58,9 @@ pub(crate) struct Kept {
     pub(crate) bases: Vec<Vec<u8>>,
     pub(crate) base_names: Vec<String>,
     pub(crate) next: Option<Vec<u8>>,
+    pub(crate) before: Option<Vec<u8>>,
+    // Whether the base is the one from before a sync that was cut short, as which nothing was done.
+    pub(crate) goes_back: bool,
     pub(crate) older: Vec<Vec<u8>>,
     pub(crate) older_names: Vec<&'static str>,
     pub(crate) unplaced: Vec<Book>,
@@ -69,6 +76,23 @@ impl Kept {
             (Some(name), Some(bytes)) if name.as_str() == BASE => Some(bytes),
             _ => None,
         }
+    }
+
+    // Goes back to what stood before a sync that was cut short, if it was before the project had
+    // what came in.
+    pub(crate) fn go_back(&mut self, rt: &HostRuntime) -> Result<bool, AllocError> {
+        let Some(before) = self.before.take() else {
+            return Ok(false);
+        };
+        self.bases.clear();
+        self.base_names.clear();
+        if !before.is_empty() {
+            self.bases.push(before)?;
+            self.base_names.push(String::from_str(rt.alloc(), BEFORE)?)?;
+        }
+        self.next = None;
+        self.goes_back = true;
+        Ok(true)
     }
 
     // What stands there when the base is to be settled.
@@ -139,6 +163,19 @@ impl Read {
         })
     }
 
+    // Goes back to what stood before a sync that was cut short, where the base is refused that it
+    // put: another command has given an id of it again.
+    pub(crate) fn goes_back<T: Drop>(
+        &mut self,
+        rt: &HostRuntime,
+        made: &Result<T, book_folder::Refusal>,
+    ) -> Result<bool, Fault> {
+        match made {
+            Err(refusal) if refusal.is_base_clash() => Ok(self.kept.go_back(rt)?),
+            _ => Ok(false),
+        }
+    }
+
     // Whether each file still has the bytes that were read.
     pub(crate) fn is_still(&self, rt: &HostRuntime, folder: &Folder) -> Result<bool, Fault> {
         for file in &self.files {
@@ -188,7 +225,7 @@ pub(crate) fn read_folder(
             }
         } else if name.contains('\n') {
             if is_said {
-                say(rt, "skipped a file whose name has more than one line");
+                say(rt, "skipped a file whose name contains a line break");
             }
         } else {
             let path = folder.name_of(rt, &name)?;
@@ -240,6 +277,8 @@ fn no_kept(rt: &HostRuntime) -> Kept {
         bases: Vec::new(rt.alloc()),
         base_names: Vec::new(rt.alloc()),
         next: None,
+        before: None,
+        goes_back: false,
         older: Vec::new(rt.alloc()),
         older_names: Vec::new(rt.alloc()),
         unplaced: Vec::new(rt.alloc()),
@@ -262,8 +301,19 @@ pub(crate) fn read_kept(rt: &HostRuntime, own: &Folder, is_said: bool) -> Result
         }
     }
     read_base(rt, own, &mut kept, is_said)?;
+    kept.next = read_plain(rt, own, NEXT, 1, is_said)?;
+    kept.before = read_plain(rt, own, BEFORE, 2, is_said)?;
+    if kept.bases.is_empty() {
+        // A sync was cut short between its two renamings.
+        kept.go_back(rt).map_err(Fault::from)?;
+    }
+    if kept.before.is_some() {
+        let name = String::from_str(rt.alloc(), BEFORE).map_err(Fault::from)?;
+        kept.outdated.push(name).map_err(Fault::from)?;
+    }
+    let is_based = !kept.bases.is_empty();
     for name in old_bases {
-        if kept.base().is_none() {
+        if !is_based {
             if let Some(bytes) = read_plain(rt, own, &name, 1, is_said)? {
                 kept.bases.push(bytes).map_err(Fault::from)?;
                 let name = name.clone().map_err(Fault::from)?;
@@ -272,7 +322,6 @@ pub(crate) fn read_kept(rt: &HostRuntime, own: &Folder, is_said: bool) -> Result
         }
         kept.outdated.push(name).map_err(Fault::from)?;
     }
-    kept.next = read_plain(rt, own, NEXT, 1, is_said)?;
     if let Some(bytes) = read_plain(rt, own, NAMES, 1, is_said)? {
         kept.names = read_names(rt.alloc(), &bytes).map_err(Fault::from)?;
     }

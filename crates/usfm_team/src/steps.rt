@@ -4,7 +4,7 @@ use crate::files::{
     write_made,
 };
 use crate::project::Project;
-use crate::reading::{BASE, Kept, NAMES, NEXT, OLDER, OWN, Read, read_kept};
+use crate::reading::{BASE, BEFORE, Kept, NAMES, NEXT, OLDER, OWN, Read, read_kept};
 use crate::refusal::Refusal;
 use crate::rights::keep_least_rights;
 use crate::sync::fault_of;
@@ -49,24 +49,37 @@ pub(crate) fn do_steps(
     steps: &[Step],
 ) -> Result<Done, Refusal> {
     let mut done = Done::nothing(disk.rt);
-    if steps.is_empty() {
+    if steps.is_empty() && !disk.read.kept.goes_back {
         return Ok(done);
     }
-    if steps
-        .iter()
-        .any(|step| matches!(step, Step::ReplaceProject(_)))
-    {
+    let mut replacements = steps.iter().filter(|step| is_replacement(step)).count();
+    if replacements > 0 {
         let kept = project.refuse_kept(disk.rt);
         kept.map_err(|fault| Refusal::of_project(disk.rt, fault, disk.project))?;
     }
     let own = own_folder(disk)?;
+    if disk.read.kept.goes_back {
+        go_back(disk, &own).map_err(|fault| own.refusal(disk.rt, fault, BEFORE))?;
+    } else if disk.read.kept.before.is_some() && !steps.first().is_some_and(is_replacement) {
+        // The project has what the base says, and only this is left of that sync.
+        forget_before(disk, &own)?;
+    }
     for step in steps {
-        if let Err(refusal) = do_step(disk, &own, project, step, &mut done) {
-            take_back(disk, &own, steps);
+        let is_before = replacements > 0;
+        if is_replacement(step) {
+            replacements = replacements.saturating_sub(1);
+        }
+        if let Err(refusal) = do_step(disk, &own, project, step, is_before, &mut done) {
+            let is_done = is_replacement(step) && project.is_replaced;
+            take_back(disk, &own, steps, is_before && !is_done);
             return Err(refusal);
         }
     }
     Ok(done)
+}
+
+fn is_replacement(step: &Step) -> bool {
+    matches!(step, Step::ReplaceProject(_))
 }
 
 fn do_step(
@@ -74,13 +87,15 @@ fn do_step(
     own: &Folder,
     project: &mut Project,
     step: &Step,
+    is_before: bool,
     done: &mut Done,
 ) -> Result<(), Refusal> {
     let rt = disk.rt;
     match step {
         Step::ReplaceProject(bytes) => {
             let replaced = project.replace(rt, bytes);
-            replaced.map_err(|fault| Refusal::of_project(rt, fault, disk.project))
+            replaced.map_err(|fault| Refusal::of_project(rt, fault, disk.project))?;
+            forget_before(disk, own)
         }
         Step::Settle => settle(disk, own),
         Step::RemoveNew(book) => remove_new(rt, own, *book),
@@ -89,6 +104,10 @@ fn do_step(
             written.map_err(|fault| disk.folder.refusal(rt, fault, &file.name))
         }
         Step::SyncOwn => Ok(own.sync()?),
+        Step::PutBase(bytes) if is_before => {
+            let put = put_first(disk, own, bytes);
+            put.map_err(|fault| own.refusal(rt, fault, BASE))
+        }
         Step::PutBase(bytes) => put(disk, own, BASE, bytes),
         Step::PutNames(bytes) => put(disk, own, NAMES, bytes),
         Step::PutNext(bytes) => put(disk, own, NEXT, bytes),
@@ -126,10 +145,13 @@ fn make_own(disk: Disk<'_>) -> Result<Folder, Fault> {
     }
 }
 
-// Takes away the new files of steps that were broken off. Where a next base stands, which tells of
-// them, they stay.
-fn take_back(disk: Disk<'_>, own: &Folder, steps: &[Step]) {
+// Takes away the new files of steps that were broken off, and the base that was put, where the
+// project was still to be replaced. Where a next base stands then, which tells of them, they stay.
+fn take_back(disk: Disk<'_>, own: &Folder, steps: &[Step], is_before: bool) {
     let rt = disk.rt;
+    if is_before {
+        let _ = go_back(disk, own);
+    }
     let is_told = own
         .way_to(rt, NEXT)
         .is_ok_and(|next| is_there(rt, &next).unwrap_or(true));
@@ -189,10 +211,69 @@ fn put(disk: Disk<'_>, own: &Folder, name: &str, bytes: &[u8]) -> Result<(), Ref
 }
 
 fn put_at(disk: Disk<'_>, own: &Folder, name: &str, bytes: &[u8]) -> Result<(), Fault> {
+    put_made(disk, own, name, bytes, false)
+}
+
+// Puts the base that makes the files as they were read, before the project has what came in. What
+// stood there keeps another name until it has; else another command that gives an id again would
+// leave a base for ever that the project cannot receive.
+fn put_first(disk: Disk<'_>, own: &Folder, bytes: &[u8]) -> Result<(), Fault> {
+    put_made(disk, own, BASE, bytes, true)
+}
+
+fn keep_before(rt: &HostRuntime, own: &Folder) -> Result<(), Fault> {
+    let before = own.way_to(rt, BEFORE)?;
+    match fs::rename(rt, own.way_to(rt, BASE)?.as_str(), before.as_str()) {
+        Ok(()) => Ok(()),
+        Err(error) if error.kind() == ErrorKind::NotFound => {
+            make_private(rt, &before)?;
+            Ok(())
+        }
+        Err(_) => Err(Fault::FileFailed),
+    }
+}
+
+// Goes back to the base that stood before a sync put its first one, if that was before the project
+// had what came in. The next base goes first, so that it never stands beside an older one.
+fn go_back(disk: Disk<'_>, own: &Folder) -> Result<(), Fault> {
+    let rt = disk.rt;
+    let (base, before) = (own.way_to(rt, BASE)?, own.way_to(rt, BEFORE)?);
+    let Ok(found) = fs::symlink_metadata(rt, before.as_str()) else {
+        return Ok(());
+    };
+    remove_if_there(rt, &own.way_to(rt, NEXT)?)?;
+    if found.len() == 0 {
+        remove_if_there(rt, &base)?;
+        remove_if_there(rt, &before)?;
+    } else {
+        rename(rt, &before, &base)?;
+    }
+    own.sync()
+}
+
+// Forgets what stood before, once the project has what the base says.
+fn forget_before(disk: Disk<'_>, own: &Folder) -> Result<(), Refusal> {
+    let removed = remove_if_there(disk.rt, &own.way_to(disk.rt, BEFORE)?);
+    removed.map_err(|fault| own.refusal(disk.rt, fault, BEFORE))
+}
+
+// Writes a file under another name, and gives it its own once what stood as the base has another
+// one, where that is to be kept.
+fn put_made(
+    disk: Disk<'_>,
+    own: &Folder,
+    name: &str,
+    bytes: &[u8],
+    is_kept: bool,
+) -> Result<(), Fault> {
     let rt = disk.rt;
     let made_name = format!(in rt.alloc(); "{name}{MADE_END}")?;
     let made = own.way_to(rt, &made_name)?;
-    let is_put = match write_own(disk, &made, bytes) {
+    let kept = match write_own(disk, &made, bytes) {
+        Ok(()) if is_kept => keep_before(rt, own),
+        written => written,
+    };
+    let is_put = match kept {
         Ok(()) => rename(rt, &made, &own.way_to(rt, name)?),
         Err(fault) => Err(fault),
     };

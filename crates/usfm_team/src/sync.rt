@@ -186,11 +186,15 @@ fn read_and_plan(
     exported: Option<&[Book]>,
     is_said: bool,
 ) -> Result<(Read, Plan), Refusal> {
-    let read = read_folder(what.rt, what.folder, is_said)?;
+    let mut read = read_folder(what.rt, what.folder, is_said)?;
     if is_said && what.explains {
         read.say_no_book(what.rt, what.folder)?;
     }
-    match plan_of(what, &read, exported) {
+    let mut made = plan_of(what, &read, exported);
+    if read.goes_back(what.rt, &made)? {
+        made = plan_of(what, &read, exported);
+    }
+    match made {
         Ok(plan) => Ok((read, plan)),
         Err(refusal) => Err(refusal_of(what, &read, refusal)),
     }
