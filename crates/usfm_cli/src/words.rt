@@ -163,19 +163,19 @@ impl Line {
 }
 
 const SEND_INTO_FILE: &str = "\
-error: a bundle is not written to a terminal: direct it into a file
+error: a bundle is not written to a terminal: redirect it to a file
 
 Example: usfm_team send ana.project > ana.bundle
 ";
 
 const SUMMARY_INTO_FILE: &str = "\
-error: a summary is not written to a terminal: direct it into a file
+error: a summary is not written to a terminal: redirect it to a file
 
 Example: usfm_team summary ben.project > ben.summary
 ";
 
 const DELTA_INTO_FILE: &str = "\
-error: a bundle is not written to a terminal: direct it into a file
+error: a bundle is not written to a terminal: redirect it to a file
 
 Example: usfm_team delta ana.project ben.summary > ana.bundle
 ";

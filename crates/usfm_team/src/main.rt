@@ -111,7 +111,7 @@ fn read_line(rt: &HostRuntime, explains: &mut bool) -> Result<Line, LineFault> {
             Err(LineFault::Refused(Fault::Memory))
         }
         Err(_) => {
-            let text = String::from_str(alloc, "error: a word of the line is not UTF-8\n")?;
+            let text = String::from_str(alloc, "error: an argument is not UTF-8\n")?;
             Err(LineFault::Usage(text))
         }
     }

@@ -6,7 +6,7 @@ use crate::reading::{Given, read_plain};
 use crate::refusal::Refusal;
 use crate::rights::keep_rights;
 use crate::sync::open_folder;
-use crate::telling::say_of;
+use crate::telling::{say, say_of};
 use book_folder::{BoxFile, box_file, may_be_bundle};
 use project_file::judge;
 use std::fs;
@@ -48,6 +48,9 @@ fn read_box(
 ) -> Result<(), Refusal> {
     for name in folder.names(rt, true)? {
         if !may_be_bundle(&name) {
+            if name.ends_with(".bundle") && name.contains('\n') {
+                say(rt, "skipped a bundle whose name contains a line break");
+            }
             continue;
         }
         let is_own = name.as_str() == own;
@@ -61,7 +64,7 @@ fn read_box(
             BoxFile::Unchanged => {}
             BoxFile::NoBundle => {
                 let path = folder.name_of(rt, &name)?;
-                let why = ": it is no bundle, or only a part of one";
+                let why = ": it is not a bundle, or only a part of one";
                 say_of(rt, "skipped ", &path, why);
             }
         }

@@ -182,7 +182,8 @@ Check its name and its permissions.";
 
 pub(crate) const IS_FOLDER: &str = "\
 This is a folder, and a file is wanted here.
-Name the file. Only `sync`, `status` and `export --into` take a folder.";
+Name the file. `sync` and `status` take the folder of the books right after the
+project, `export` takes it as --into FOLDER, and `sync` a box as --box FOLDER.";
 
 pub(crate) const IS_FILE: &str = "\
 This is not a folder.
@@ -207,8 +208,9 @@ If it is a project, see Limits in docs/DISK.md.";
 
 pub(crate) const FILE_FAILED: &str = "\
 A file could not be written, or the disk may not keep it.
-Check the folder's permissions and the free space, and look with `shown`. A
-project that nobody may write, or that has a hard link, is not changed.";
+Check that the folder is there, its permissions and the free space, and look
+with `shown`. A project that nobody may write, or that has a hard link, is not
+changed.";
 
 pub(crate) const IS_THERE: &str = "\
 Something of this name is there already.
@@ -216,10 +218,11 @@ Go on with that project, or begin one under another name.";
 
 pub(crate) const FILE_CHANGED: &str = "\
 A file of the folder would lose text.
-After `export`, try `sync`, which takes in changes. If a book's file does not
-begin with \\id and its code, or is not UTF-8, correct it. Else move the file
-away, sync, and make its changes in the new file; or `import` it, to have it
-replace all of the book.";
+If a book's file does not begin with \\id and its code, or is not UTF-8,
+correct it. If somebody else began the same book, sync once without bundles
+and --box, and then with them: both texts stay. After `export`, try `sync`,
+which takes in changes. Else move the file away, sync, and make its changes
+in the new file; or `import` it, to have it replace all of the book.";
 
 pub(crate) const SECOND_FILE: &str = "\
 These two files are of one book, and a folder has one file for each book.

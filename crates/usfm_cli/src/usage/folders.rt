@@ -97,9 +97,9 @@ is done: look at its rights, and sync again. After fault 60 to 70 in a file of
 FOLDER/.usfm_team, that file is damaged: remove it, and sync.
 
 Faults: those of `import`, `receive` and `export`, and
-  fault 132 COUNT          so many texts are gone from FILE
-  fault 133 COUNT          FILE undoes so many texts that came in
-  fault 134 COUNT          another project's bundle, and so many new conflicts";
+  fault 132 COUNT          this many texts are gone from FILE
+  fault 133 COUNT          FILE undoes this many texts that came in
+  fault 134 COUNT          another project's bundle, and this many new conflicts";
 
 pub(crate) fn sync_line(alloc: Global, given: &ArgMatches<'_>) -> Result<Line, LineFault> {
     Ok(Line::Sync(SyncWords {
