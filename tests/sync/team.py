@@ -1,6 +1,5 @@
 """A team of three for some weeks, who share a box: their editors write lines in each manner, stay open while others' work comes in,
 and are killed half way; and projects are set back to the copy of an evening before."""
-import random
 import shutil
 from pathlib import Path
 
@@ -153,4 +152,5 @@ def check_team(tally: Tally, program: Path, work: Path, seed: int, weeks: int) -
         team.end(f"team {number}")
         told = {kind: count + team.told[kind] for kind, count in told.items()}
     print("sync: a team's " + ", ".join(f"{count} {kind}" for kind, count in told.items()))
-    tally.check(all(told.values()), f"a team's weeks had {told}")
+    # In a week or two not everything happens.
+    tally.check(weeks < 4 or all(told.values()), f"a team's weeks had {told}")
