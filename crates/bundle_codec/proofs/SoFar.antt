@@ -1,5 +1,5 @@
--- The walk over a set, after some of its operations.
-use Rattle.std.proofs.Common.{◌≡◌, true, false, List, [], ◌∷◌, ◌++◌, Option, Some, None, Vec, option_map, cond, is_eq, is_lt, map, Bool, ℕ, refl, sym, ap, subst, ◌∙◌, append_assoc}
+-- The walk over the ids of a set or of a bundle, after some of them.
+use Rattle.std.proofs.Common.{◌≡◌, true, false, List, [], ◌∷◌, ◌++◌, Option, Some, None, Result, Ok, Err, IfOk, Vec, option_map, cond, is_eq, is_lt, ◌&&◌, map, Bool, ℕ, refl, sym, ap, subst, ◌∙◌, append_assoc}
 use Rattle.std.specs.List.{AllByRecursion}
 use Rattle.std.specs.List.Sorted.{IsStrictlySortedBy}
 use Rattle.std.specs.Map.{lookup, keys_of}
@@ -7,28 +7,31 @@ use Rattle.std.specs.BTreeMap.{BTreeMap, IsOrdered, is_at}
 use Rattle.std.specs.Cmp.{tied_itself}
 use Rattle.std.specs.declared.cmp.Ordering.TheVariants.{Less}
 use Rattle.std.specs.List.{list_all}
-use Rattle.std.specs.Option.{is_some}
 use Rattle.std.proofs.lemmas.Bool.{and_parts, and_from, cond-true, cond-false}
 use Rattle.usfm_ref.specs.Rising.{rises_by}
 use Rattle.usfm_ref.proofs.Sorted.{back}
 use Rattle.std.proofs.lemmas.List.{append-nil}
+use Rattle.std.proofs.lemmas.List.Folds.{list_all-map}
 use Rattle.op_core.specs.Names.{name_cmp, is_name}
-use Rattle.op_core.specs.Ids.{Id, is_number}
+use Rattle.op_core.specs.Ids.{Id, id_below, ids_rise, is_id, is_number}
+use Rattle.op_core.specs.Lists.{ids_of}
+use Rattle.op_core.specs.NextIds.{is_among}
 use Rattle.op_core.specs.Ops.{Operation, IsOperation}
-use Rattle.op_core.specs.Sets.{rises, get, IsOpSet}
+use Rattle.op_core.specs.Sets.{rises, IsOpSet}
+use Rattle.op_core.proofs.Sets.Families.{among_held}
 use Rattle.bundle_codec.specs.declared.summaries.range.NumberRange.{NumberRange}
-use Rattle.bundle_codec.specs.Summaries.{NameRanges, AreNameRanges, IsSummaryOf, covers, has_number}
+use Rattle.bundle_codec.specs.Summaries.{NameRanges, AreNameRanges, IsSummary, IsSummaryOf, covers, has_number}
 use Rattle.bundle_codec.specs.Loops.SummaryMaking.{under, HoldsRun, AreRanges, AreUnder, HoldsRanges, listed}
 use Rattle.bundle_codec.proofs.SummaryReads.{name_total}
 use Rattle.bundle_codec.proofs.Covered.{covers-found, under_name, found_has}
-use Rattle.bundle_codec.proofs.Holding.{names_run, all_push}
+use Rattle.bundle_codec.proofs.Holding.{Numbered, names_run, all_push}
 
-pub record SoFar {A : Type 0} (all rest : List Operation) (m : BTreeMap (List ℕ) (Vec NumberRange A)) : Type 0 where
-  pub done : List Operation
+pub record SoFar {A : Type 0} (all rest : List Id) (m : BTreeMap (List ℕ) (Vec NumberRange A)) : Type 0 where
+  pub done : List Id
   pub parts : done ++ rest ≡ all
   pub names : (q : List ℕ) → AreUnder done q (under m q)
 
--- parts of a list of operations
+-- parts of a list
 all_front : {X : Type 0} (P : X → Type 0) (xs ys : List X) → AllByRecursion P (xs ++ ys) → AllByRecursion P xs
 all_front P [] ys h = tt
 all_front P (x ∷ xs) ys h = (h.0, all_front P xs ys h.1)
@@ -37,29 +40,37 @@ all_after : {X : Type 0} (P : X → Type 0) (xs ys : List X) → AllByRecursion 
 all_after P [] ys h = h
 all_after P (x ∷ xs) ys h = all_after P xs ys h.1
 
-numbered : (ops : List Operation) → AllByRecursion IsOperation ops
-    → AllByRecursion (λ (o : Operation). is_number o.id.number ≡ true) ops
+numbered : (ids : List Id) → list_all is_id ids ≡ true → Numbered ids
 numbered [] h = tt
-numbered (o ∷ ops) h = ((and_parts (is_number o.id.number) (is_name o.id.name) h.0.id).0, numbered ops h.1)
+numbered (id ∷ ids) h =
+    let p = and_parts (is_id id) (list_all is_id ids) h in
+    ((and_parts (is_number id.number) (is_name id.name) p.0).0, numbered ids p.1)
 
-pub so_far_run : {A : Type 0} (all it ops rest : List Operation) (o : Operation) (id : Id) (m n : BTreeMap (List ℕ) (Vec NumberRange A))
-    → IsOpSet all → it ≡ o ∷ ops → id ≡ o.id → HoldsRun id ops rest m n → SoFar all it m → SoFar all rest n
-so_far_run all it ops rest o id m n set next same more s =
-    let whole : s.done ++ o ∷ ops ≡ all = ap (λ (w : List Operation). s.done ++ w) (sym next) ∙ s.parts in
-    let h = subst (λ (i : Id). HoldsRun i ops rest m n) same more in
-    let cut : s.done ++ ((o ∷ h.0.run) ++ rest) ≡ all = ap (λ (w : List Operation). s.done ++ o ∷ w) (sym h.0.parts) ∙ whole in
-    let valid = all_front IsOperation (o ∷ h.0.run) rest
-    (all_after IsOperation s.done ((o ∷ h.0.run) ++ rest) (subst (AllByRecursion IsOperation) (sym cut) set.each)) in
+pub so_far_none : {A : Type 0} (all it : List Id) (m : BTreeMap (List ℕ) (Vec NumberRange A)) → it ≡ all
+    → ((q : List ℕ) → under m q ≡ None) → SoFar all it m
+so_far_none all it m same none = record {
+  done = [];
+  parts = same;
+  names = λ q. subst (AreUnder [] q) (sym (none q)) (λ n. refl);
+}
+
+pub so_far_run : {A : Type 0} (all it ids rest : List Id) (id : Id) (m n : BTreeMap (List ℕ) (Vec NumberRange A))
+    → ids_rise all ≡ true → list_all is_id all ≡ true → it ≡ id ∷ ids → HoldsRun id ids rest m n → SoFar all it m → SoFar all rest n
+so_far_run all it ids rest id m n rising each next h s =
+    let whole : s.done ++ id ∷ ids ≡ all = ap (λ (w : List Id). s.done ++ w) (sym next) ∙ s.parts in
+    let cut : s.done ++ ((id ∷ h.0.run) ++ rest) ≡ all = ap (λ (w : List Id). s.done ++ id ∷ w) (sym h.0.parts) ∙ whole in
+    let valid = all_front (λ (i : Id). is_number i.number ≡ true) (id ∷ h.0.run) rest
+    (all_after (λ (i : Id). is_number i.number ≡ true) s.done ((id ∷ h.0.run) ++ rest) (subst Numbered (sym cut) (numbered all each))) in
     record {
-      done = s.done ++ o ∷ h.0.run;
-      parts = append_assoc s.done (o ∷ h.0.run) rest ∙ cut;
-      names = names_run s.done o ops rest m n h (ap rises whole ∙ set.rising) (numbered (o ∷ h.0.run) valid) s.names;
+      done = s.done ++ id ∷ h.0.run;
+      parts = append_assoc s.done (id ∷ h.0.run) rest ∙ cut;
+      names = names_run s.done id ids rest m n h (ap ids_rise whole ∙ rising) valid s.names;
     }
 
-pub so_far_all : {A : Type 0} (all it : List Operation) (m : BTreeMap (List ℕ) (Vec NumberRange A)) → it ≡ [] → SoFar all it m
+pub so_far_all : {A : Type 0} (all it : List Id) (m : BTreeMap (List ℕ) (Vec NumberRange A)) → it ≡ [] → SoFar all it m
     → (q : List ℕ) → AreUnder all q (under m q)
-so_far_all all it m end s q = subst (λ (w : List Operation). AreUnder w q (under m q))
-    (sym (append-nil s.done) ∙ ap (λ (w : List Operation). s.done ++ w) (sym end) ∙ s.parts) (s.names q)
+so_far_all all it m end s q = subst (λ (w : List Id). AreUnder w q (under m q))
+    (sym (append-nil s.done) ∙ ap (λ (w : List Id). s.done ++ w) (sym end) ∙ s.parts) (s.names q)
 
 -- ---- what the map has at its names
 
@@ -81,8 +92,8 @@ abbrev has_under : Option (List NumberRange) → ℕ → Bool
 has_under None n = false
 has_under (Some rs) n = has_number rs n
 
-has_held : (all : List Operation) (q : List ℕ) (n : ℕ) (u : Option (List NumberRange)) → AreUnder all q u
-    → has_under u n ≡ is_some (get all (record { number = n; name = q }))
+has_held : (all : List Id) (q : List ℕ) (n : ℕ) (u : Option (List NumberRange)) → AreUnder all q u
+    → has_under u n ≡ is_among all (record { number = n; name = q })
 has_held all q n None h = sym (h n)
 has_held all q n (Some rs) h = h.1 n
 
@@ -90,14 +101,14 @@ module _ {A : Type 0} where
   abbrev pub name_ranges_of : List ℕ × Vec NumberRange A → NameRanges
   name_ranges_of e = record { name = e.0; ranges = e.1.items }
 
-  ranges_at_each : (all : List Operation) (m : BTreeMap (List ℕ) (Vec NumberRange A)) (es : List (List ℕ × Vec NumberRange A))
+  ranges_at_each : (all : List Id) (m : BTreeMap (List ℕ) (Vec NumberRange A)) (es : List (List ℕ × Vec NumberRange A))
       → ((q : List ℕ) → AreUnder all q (under m q)) → AllByRecursion (λ x. lookup (is_at (name_cmp x.0)) m.entries ≡ Some x.1) es
       → AllByRecursion (λ e. AreRanges e.1.items) es
   ranges_at_each all m [] names h = tt
   ranges_at_each all m (e ∷ es) names h =
       ((subst (AreUnder all e.0) (ap (option_map (λ v. v.items)) h.0) (names e.0)).0, ranges_at_each all m es names h.1)
 
-  pub holds_ranges : (all : List Operation) (m : BTreeMap (List ℕ) (Vec NumberRange A)) → IsOrdered name_cmp m
+  pub holds_ranges : (all : List Id) (m : BTreeMap (List ℕ) (Vec NumberRange A)) → IsOrdered name_cmp m
       → ((q : List ℕ) → AreUnder all q (under m q)) → HoldsRanges all m
   holds_ranges all m ordered names =
       record { ordered = ordered; each = ranges_at_each all m m.entries names (each_at_name m.entries ordered); names = names }
@@ -121,16 +132,46 @@ module _ {A : Type 0} where
       (λ b. found_has (cond b (Some (name_ranges_of e)) (under_name q (map name_ranges_of es))) n
       ≡ has_under (option_map (λ v. v.items) (cond b (Some e.1) (lookup (is_at (name_cmp q)) es))) n) [ true ↦ refl | false ↦ rest ]
 
-  pub is_summary_of : (all : List Operation) (m : BTreeMap (List ℕ) (Vec NumberRange A)) (s : List NameRanges) → s ≡ listed m
-      → AllByRecursion AreNameRanges s → HoldsRanges all m → IsSummaryOf all s
-  is_summary_of all m s e valid h = record {
-    form = record { rising = ap (rises_by name_cmp (λ (k : NameRanges). k.name)) e ∙ rises_listed m.entries h.ordered; each = valid };
-    exactly = λ id.
+  module _ (all : List Id) (m : BTreeMap (List ℕ) (Vec NumberRange A)) (s : List NameRanges) (e : s ≡ listed m)
+      (h : HoldsRanges all m) where
+    pub summary_form : AllByRecursion AreNameRanges s → IsSummary s
+    summary_form valid = record { rising = ap (rises_by name_cmp (λ (k : NameRanges). k.name)) e ∙ rises_listed m.entries h.ordered; each = valid }
+
+    pub summary_covers : (id : Id) → covers s id ≡ is_among all id
+    summary_covers id =
         ap (λ (ks : List NameRanges). covers ks id) e
         ∙ covers-found id (listed m) (rises_listed m.entries h.ordered)
         ∙ found_listed id.name id.number m.entries
-        ∙ has_held all id.name id.number (under m id.name) (h.names id.name);
+        ∙ has_held all id.name id.number (under m id.name) (h.names id.name)
+
+-- ---- the summary of a set, whose ids were walked over
+
+-- the ids of a set rise
+pub ids_of_rise : (ops : List Operation) → ids_rise (ids_of ops) ≡ rises ops
+ids_of_rise [] = refl
+ids_of_rise (o ∷ ops) = λ i. list_all-map (id_below o.id) (λ (p : Operation). p.id) ops i && ids_of_rise ops i
+
+pub ids_of_valid : (ops : List Operation) → AllByRecursion IsOperation ops → list_all is_id (ids_of ops) ≡ true
+ids_of_valid [] h = refl
+ids_of_valid (o ∷ ops) h = and_from _ _ h.0.id (ids_of_valid ops h.1)
+
+module _ (held : List Operation) (set : IsOpSet held) (ids : List Id) (same : ids ≡ ids_of held) where
+  pub walked_rise : ids_rise ids ≡ true
+  walked_rise = ap ids_rise same ∙ ids_of_rise held ∙ set.rising
+
+  pub walked_valid : list_all is_id ids ≡ true
+  walked_valid = ap (list_all is_id) same ∙ ids_of_valid held set.each
+
+  pub is_summary_of : (s : List NameRanges) → IsSummary s → ((id : Id) → covers s id ≡ is_among ids id) → IsSummaryOf held s
+  is_summary_of s form exactly = record {
+    form = form;
+    exactly = λ id. exactly id ∙ ap (λ (w : List Id). is_among w id) same ∙ among_held held id;
   }
+
+  pub summed : {E : Type 0} (made : Result (List NameRanges) E) → IfOk made IsSummary
+      → IfOk made (λ s. (id : Id) → covers s id ≡ is_among ids id) → IfOk made (IsSummaryOf held)
+  summed (Ok s) form exactly = is_summary_of s form exactly
+  summed (Err e) form exactly = tt
 
 -- ---- the names of a map, one after another
 

@@ -1,11 +1,14 @@
 // Summaries: which ids a copy holds, as ranges of numbers under names.
 ghost use Rattle.std.specs.Prelude.{◌≡◌, ◌↔◌, [], List, Some, IsTrue, IfOk, IfErr};
-ghost use Rattle.op_core.specs.Sets.{IsOpSet};
+ghost use Rattle.std.specs.List.{list_all};
+ghost use Rattle.op_core.specs.Ids.{Id, ids_rise, is_id};
+ghost use Rattle.op_core.specs.NextIds.{is_among};
 ghost use Rattle.bundle_codec.specs.Summaries as sums;
 ghost use Rattle.bundle_codec.specs.SummaryReading.{read_summary, ReadFails};
 
 mod counting;
 mod coverage;
+mod ids;
 mod making;
 mod name_ranges;
 mod outside;
@@ -13,9 +16,11 @@ mod range;
 mod reading;
 mod writing;
 
+use crate::bundle::Bundle;
 use crate::fault::SummaryFault;
 use counting::ids_in;
 use coverage::Coverage;
+use ids::Ids;
 use making::{held_ranges, listed};
 use name_ranges::{NameRanges, find_name};
 use op_core::{OpId, OpSet};
@@ -100,7 +105,29 @@ impl Summary {
         ensures exact { IfOk result (λ s. sums.IsSummaryOf set.now s) }
         ensures value { IfOk result (λ s. s ≡ sums.summary_of set.now) }
     {
-        let held = held_ranges(alloc, set)?;
+        Summary::of_ids(alloc, Ids::of_set(set))
+    }
+
+    /// The summary of the set that a bundle spells, as `of` makes it, by one walk over the ids in
+    /// its bytes. No operation is copied.
+    ///
+    /// # Errors
+    /// Out of memory alone.
+    pub fn of_bundle(alloc: Global, bundle: &Bundle<'_>) -> Result<Summary, AllocError>
+        ensures exact { IfOk result (λ s. sums.IsSummaryOf bundle.now s) }
+        ensures value { IfOk result (λ s. s ≡ sums.summary_of bundle.now) }
+    {
+        Summary::of_ids(alloc, Ids::of_bundle(bundle))
+    }
+
+    // The summary of the ids of a walk.
+    fn of_ids(alloc: Global, ids: Ids<'_>) -> Result<Summary, AllocError>
+        requires rising { IsTrue (ids_rise ids) }
+        requires each { IsTrue (list_all is_id ids) }
+        ensures form { IfOk result sums.IsSummary }
+        ensures exactly { IfOk result (λ s. (id : Id) → sums.covers s id ≡ is_among ids.entry id) }
+    {
+        let held = held_ranges(alloc, ids)?;
         let names = listed(alloc, held)?;
         Ok(Summary { names })
     }

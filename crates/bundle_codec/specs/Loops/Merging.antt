@@ -1,12 +1,12 @@
 -- Two walks side by side, which join the operations of two bundles one at a time.
-use Rattle.std.specs.Prelude.{◌≡◌, ◌<◌, ◌+◌, ◌⊎◌, ℕ, true, List, [], ◌∷◌, length, Option, Some, None, IsTrue}
+use Rattle.std.specs.Prelude.{◌≡◌, ◌<◌, ◌+◌, ◌⊎◌, true, List, [], ◌∷◌, length, Option, Some, None, IsTrue}
 use Rattle.op_core.specs.Ops.{Operation, agree}
 use Rattle.op_core.specs.Sets.{rises, meet, join, clash}
 
--- the operations of a walk, with the next one at hand
-abbrev pub at_hand : Option Operation → List Operation → List Operation
+-- what is left of a walk, with the next item at hand
+abbrev pub at_hand : {A : Type 0} → Option A → List A → List A
 at_hand None rest = []
-at_hand (Some o) rest = o ∷ rest
+at_hand (Some x) rest = x ∷ rest
 
 -- a walk goes past its first operation, or is at its end
 abbrev pub GoesPast : List Operation → List Operation → Option Operation → Type 0

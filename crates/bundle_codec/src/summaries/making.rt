@@ -1,75 +1,72 @@
-// The summary of a set, made by one walk over its ids. A name is looked up once for each run of ids
-// that have it.
-ghost use Rattle.std.specs.Prelude.{◌≡◌, IfOk, OnOk};
-ghost use Rattle.std.specs.List.{AllByRecursion};
-ghost use Rattle.std.specs.Option.{option_copied};
+// Summaries, made by one walk over ids. A name is looked up once for each run of ids that have it.
+ghost use Rattle.std.specs.Prelude.{◌≡◌, IfOk, IsTrue, OnOk};
+ghost use Rattle.std.specs.List.{list_all, AllByRecursion};
 ghost use Rattle.usfm_ref.specs.Books.{same_bytes};
-ghost use Rattle.op_core.specs.Sets.{IsOpSet};
+ghost use Rattle.op_core.specs.Ids.{ids_rise, is_id};
 ghost use Rattle.bundle_codec.specs.Loops.Merging.{at_hand};
 ghost use Rattle.bundle_codec.specs.Summaries.{AreNameRanges};
 ghost use Rattle.bundle_codec.specs.Loops.SummaryMaking as making;
 
+use super::ids::Ids;
 use super::name_ranges::NameRanges;
 use super::range::NumberRange;
-use op_core::{Op, OpId, OpSet, Ops, ReplicaName};
+use op_core::{OpId, ReplicaName};
 use std::alloc::{AllocError, Global};
 use std::collections::BTreeMap;
 
-// The ranges of each name in a set.
+// The ranges of each name in the ids of a walk.
 pub(crate) fn held_ranges(
     alloc: Global,
-    set: &OpSet,
+    mut ids: Ids<'_>,
 ) -> Result<BTreeMap<ReplicaName, Vec<NumberRange>>, AllocError>
-    ensures ranges { IfOk result (λ held. making.HoldsRanges set.now held) }
-    ensures set { IsOpSet set.now }
+    requires rising { IsTrue (ids_rise ids) }
+    requires each { IsTrue (list_all is_id ids) }
+    ensures { IfOk result (making.HoldsRanges ids.entry) }
 {
     let mut held = BTreeMap::new(alloc);
-    let mut ops = set.iter();
-    let mut next = ops.next();
-    'runs: while let Some(op) = next {
-        next = hold_run(alloc, &mut held, op.id(), &mut ops)?;
+    let mut next = ids.next();
+    'runs: while let Some(id) = next {
+        next = hold_run(alloc, &mut held, id, &mut ids)?;
     }
     // The map's count shows that its keys rise.
     let _ = held.len();
     Ok(held)
 }
 
-// Adds the numbers of a run, which begins with an id and goes on with the operations, and answers
-// the operation after it.
-fn hold_run<'a>(
+// Adds the numbers of a run, which begins with an id and goes on with the walk, and answers the id
+// after it.
+fn hold_run(
     alloc: Global,
     held: &mut BTreeMap<ReplicaName, Vec<NumberRange>>,
     first: OpId,
-    ops: &mut Ops<'a>,
-) -> Result<Option<&'a Op>, AllocError>
+    ids: &mut Ids<'_>,
+) -> Result<Option<OpId>, AllocError>
     ensures { IfOk result (λ next.
-        making.HoldsRun first ops.old (at_hand (option_copied next) ops.new) held.old held.new) }
+        making.HoldsRun first ids.old (at_hand next ids.new) held.old held.new) }
 {
     if let Some(ranges) = held.get_mut(&first.name) {
-        return push_run(ranges, &first, ops);
+        return push_run(ranges, &first, ids);
     }
     let mut ranges = Vec::new(alloc);
-    let next = push_run(&mut ranges, &first, ops)?;
+    let next = push_run(&mut ranges, &first, ids)?;
     held.insert(first.name, ranges)?;
     Ok(next)
 }
 
 // Adds the numbers of a run to the ranges of its name.
-fn push_run<'a>(
+fn push_run(
     ranges: &mut Vec<NumberRange>,
     first: &OpId,
-    ops: &mut Ops<'a>,
-) -> Result<Option<&'a Op>, AllocError>
-    ensures { IfOk result (λ next.
-        making.AddsRun first.now ops.old (at_hand (option_copied next) ops.new)
+    ids: &mut Ids<'_>,
+) -> Result<Option<OpId>, AllocError>
+    ensures { IfOk result (λ next. making.AddsRun first.now ids.old (at_hand next ids.new)
         ranges.old.items ranges.new.items) }
 {
     let name = first.name.text().as_bytes();
     hold_number(ranges, first.number)?;
-    'run: while let Some(op) = ops.next() {
-        let id = op.id();
+    'run: while let Some(id) = ids.next() {
         if !is_of(&id, name) {
-            return Ok(Some(op));
+            return Ok(Some(id));
         }
         hold_number(ranges, id.number)?;
     }

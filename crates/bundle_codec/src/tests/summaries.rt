@@ -157,9 +157,12 @@ fn names_that_do_not_rise(rt: HostRuntime) -> Result<(), Fail> {
     Ok(())
 }
 
+// Whether this is the summary of the set, and of its bundle.
 fn has_summary(alloc: Global, set: &OpSet, wanted: &[u8]) -> Result<bool, Fail> {
-    let summary = Summary::of(alloc, set)?;
-    Ok(summary.write(alloc)?.as_slice() == wanted)
+    let of_set = Summary::of(alloc, set)?.write(alloc)?;
+    let bytes = encode(alloc, set)?;
+    let of_bundle = Summary::of_bundle(alloc, &decode_whole(alloc, &bytes)?)?.write(alloc)?;
+    Ok(of_set.as_slice() == wanted && of_bundle.as_slice() == wanted)
 }
 
 #[test]

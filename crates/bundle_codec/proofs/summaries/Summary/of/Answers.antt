@@ -1,20 +1,22 @@
-use Rattle.bundle_codec.proofs.SoFar.{is_summary_of}
+use Rattle.std.proofs.Common.{◌≡◌}
+use Rattle.bundle_codec.specs.Summaries.{IsSummaryOf, summary_of}
+use Rattle.bundle_codec.proofs.Holding.{if_ok}
+use Rattle.bundle_codec.proofs.SoFar.{walked_rise, walked_valid, summed}
 use Rattle.bundle_codec.proofs.Told.{same_as_told}
 use Rattle.bundle_codec.proofs.summaries.Summary.of.Goals as goal
 
-pub listed-requires : goal.listed-requires
-listed-requires c = c.in_ok-held.ensures.ranges.each
+pub of_ids-requires-clause-rising : goal.of_ids-requires-clause-rising
+of_ids-requires-clause-rising c = walked_rise c.args.set.now c.of_set.ensures.set c.of_set.result c.of_set.ensures.ids
 
-pub invariant_of-result : goal.invariant_of-result
-invariant_of-result c =
-    (is_summary_of c.args.set.now c.in_ok-held.held c.in_ok-names.names.items c.in_ok-names.ensures.names c.in_ok-names.ensures.valid
-    c.in_ok-held.ensures.ranges).form
+pub of_ids-requires-clause-each : goal.of_ids-requires-clause-each
+of_ids-requires-clause-each c = walked_valid c.args.set.now c.of_set.ensures.set c.of_set.result c.of_set.ensures.ids
 
 pub returns-clause-exact : goal.returns-clause-exact
-returns-clause-exact c = is_summary_of c.args.set.now c.in_ok-held.held c.in_ok-names.names.items c.in_ok-names.ensures.names
-    c.in_ok-names.ensures.valid c.in_ok-held.ensures.ranges
+returns-clause-exact c =
+    summed c.args.set.now c.of_set.ensures.set c.of_set.result c.of_set.ensures.ids c.of_ids.result
+    c.of_ids.ensures.form c.of_ids.ensures.exactly
 
 pub returns-clause-value : goal.returns-clause-value
-returns-clause-value c = same_as_told c.args.set.now c.in_ok-held.ensures.set c.in_ok-names.names.items
-    (is_summary_of c.args.set.now c.in_ok-held.held c.in_ok-names.names.items c.in_ok-names.ensures.names c.in_ok-names.ensures.valid
-    c.in_ok-held.ensures.ranges)
+returns-clause-value c =
+    if_ok c.of_ids.result (IsSummaryOf c.args.set.now) (λ s. s ≡ summary_of c.args.set.now)
+    (λ s h. same_as_told c.args.set.now c.of_set.ensures.set s h) (returns-clause-exact c)
