@@ -30,3 +30,5 @@ pub mod RisingRanges
 pub mod Told
 pub mod Unnamed
 pub mod Counted
+pub mod Named
+pub mod Thins

@@ -3,3 +3,4 @@
 pub mod Thinning
 pub mod Merging
 pub mod SummaryMaking
+pub mod Naming

@@ -7,6 +7,7 @@ mod joining;
 mod judging;
 pub mod laws;
 mod summaries;
+mod thinning;
 mod views;
 mod writing;
 

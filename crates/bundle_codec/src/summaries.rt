@@ -25,6 +25,7 @@ use making::{held_ranges, listed};
 use name_ranges::{NameRanges, find_name};
 use op_core::{OpId, OpSet};
 pub use outside::encode_outside;
+pub(crate) use outside::{push_spelled, stays_full};
 use range::find_range;
 use reading::summary_of;
 use std::alloc::{AllocError, Global};

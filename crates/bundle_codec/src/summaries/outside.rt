@@ -82,14 +82,14 @@ impl Bundle<'_> {
 }
 
 // Whether all so far have their texts, and the operation of a bundle too.
-fn stays_full(full: bool, op: &OpView<'_>) -> bool
+pub(crate) fn stays_full(full: bool, op: &OpView<'_>) -> bool
     ensures { result ≡ (full && is_full op.now) }
 {
     full && op.text().is_some()
 }
 
 // Appends the bytes that spell an operation of a bundle.
-fn push_spelled(bytes: &mut Vec<u8>, op: &OpView<'_>) -> Result<(), AllocError>
+pub(crate) fn push_spelled(bytes: &mut Vec<u8>, op: &OpView<'_>) -> Result<(), AllocError>
     ensures { IfOk result (λ _. bytes.new.items ≡ bytes.old.items ++ spelled.operation op.now) }
 {
     bytes.extend_from_slice(op.spelled())

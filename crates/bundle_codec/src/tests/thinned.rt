@@ -99,6 +99,8 @@ fn full_and_thinned_are_joined(rt: HostRuntime) -> Result<(), Fail> {
     assert!(rt; join_to(alloc, B1, V2, &both)?);
     assert!(rt; join_to(alloc, V2, V2, V2)?);
     assert!(rt; join_to(alloc, OTHER_TEXT, V2, V2)?);
+    let summary = Summary::of_bundle(alloc, &decode_whole(alloc, &both)?)?;
+    assert!(rt; summary.write(alloc)?.as_slice() == WITHOUT_3_ANA);
     Ok(())
 }
 
@@ -157,5 +159,53 @@ fn thinned_lie_outside(rt: HostRuntime) -> Result<(), Fail> {
     assert!(rt; is_outside(alloc, WITHOUT_2_ANA, &segment)?);
     assert!(rt; is_outside(alloc, S1, Y)?);
     assert!(rt; is_outside(alloc, WITHOUT_3_ANA, Z)?);
+    Ok(())
+}
+
+const NO_OPERATION: &[u8] = b"USFMSR1\n\0\0\0\0\0\0\0\0";
+
+// The project of B1, Y and Z, with all texts.
+fn with_three_texts(alloc: Global) -> Result<Vec<u8>, AllocError> {
+    let (full, last, other) = (B1.as_slice(), Z.as_slice(), Y.as_slice());
+    joined(
+        alloc,
+        &[&full[..15], &[4], &full[16..], &last[16..], &other[16..]],
+    )
+}
+
+// B1, and 3 ben on MAT 1:2, naming 2 ana.
+fn named_elsewhere(alloc: Global) -> Result<Vec<u8>, AllocError> {
+    let (full, other) = (B1.as_slice(), Y.as_slice());
+    joined(
+        alloc,
+        &[
+            &full[..15],
+            &[3],
+            &full[16..],
+            &other[16..35],
+            &[2],
+            &other[36..66],
+            b"\\v 2 At\n",
+        ],
+    )
+}
+
+// Whether the bundle is thinned to this one, after other bytes, and leaves this many texts out.
+fn thins_to(alloc: Global, bytes: &[u8], want: &[u8], count: u64) -> Result<bool, Fail> {
+    let front = b"front".to_vec(alloc)?;
+    let (made, left_out) = decode_whole(alloc, bytes)?.thin_after(alloc, front)?;
+    Ok(made.as_slice() == joined(alloc, &[b"front", want])?.as_slice() && left_out == count)
+}
+
+#[test]
+fn bundles_are_thinned(rt: HostRuntime) -> Result<(), Fail> {
+    let alloc = rt.alloc();
+    let thinned = of_three_texts(alloc)?;
+    assert!(rt; thins_to(alloc, &with_three_texts(alloc)?, &thinned, 1)?);
+    assert!(rt; thins_to(alloc, &thinned, &thinned, 0)?);
+    let elsewhere = named_elsewhere(alloc)?;
+    assert!(rt; thins_to(alloc, &elsewhere, &elsewhere, 0)?);
+    assert!(rt; thins_to(alloc, B1, B1, 0)?);
+    assert!(rt; thins_to(alloc, NO_OPERATION, NO_OPERATION, 0)?);
     Ok(())
 }

@@ -112,7 +112,7 @@ impl<'a> OpView<'a> {
     }
 
     // The bytes before its tag, which spell all of it but its text.
-    fn head(&self) -> &'a [u8]
+    pub(crate) fn head(&self) -> &'a [u8]
         ensures bytes { result.now ≡ head self.now }
         ensures valid { IsOperation self.now }
         ensures short { length (operation self.now) < 2 ^ 64 }
