@@ -7,11 +7,11 @@ ghost use Rattle.op_core.specs.Sets.{clash};
 ghost use Rattle.op_core.specs.Thinned.{all_full};
 ghost use Rattle.bundle_codec.specs.Joining.{RefusesUnion, whole_at};
 ghost use Rattle.bundle_codec.specs.Spelling as spelled;
-ghost use Rattle.bundle_codec.specs.Summaries.{outside};
+ghost use Rattle.bundle_codec.specs.Summaries.{IsSummaryOf, outside, summary_of};
 ghost use Rattle.replica_state.specs.OneBook.{for_edit, of_one_book};
 ghost use Rattle.replica_state.specs.Receives.{lacked};
 ghost use Rattle.replica_state.specs.States.{State, IsState, begun};
-ghost use Rattle.replica_state.specs.Steps.{with_ops};
+ghost use Rattle.replica_state.specs.Steps.{Thin, Thinned, step, with_ops};
 ghost use Rattle.project_file.specs.Answers as answers;
 ghost use Rattle.project_file.specs.Projects as projects;
 
@@ -220,6 +220,34 @@ impl<'a> Project<'a> {
             whole_at bytes.items ≡ Ok (outside summary.now self.now.held)) }
     {
         self.bundle.outside(alloc, summary)
+    }
+
+    /// The summary of the ids that the replica holds, as `Replica::summary` says it, by one walk over
+    /// the bytes of the file. No replica is made.
+    ///
+    /// # Errors
+    /// Out of memory alone.
+    pub fn summary(&self, alloc: Global) -> Result<Summary, AllocError>
+        ensures exact { IfOk result (λ s. IsSummaryOf self.now.held s) }
+        ensures value { IfOk result (λ s. s ≡ summary_of self.now.held) }
+    {
+        Summary::of_bundle(alloc, &self.bundle)
+    }
+
+    /// The project file of the replica after it thinned, and how many texts it left out, as
+    /// `Replica::thin` says it. Each operation is copied with the bytes that spell it, or without
+    /// those of its text; no replica is made.
+    ///
+    /// # Errors
+    /// Out of memory alone.
+    pub fn thin(&self, alloc: Global) -> Result<(Vec<u8>, u64), AllocError>
+        ensures spelled { IfOk result (λ made.
+            made.0.items ≡ projects.project (step self.now Thin).after) }
+        ensures again { IfOk result (λ made.
+            projects.project_at made.0.items ≡ Ok (step self.now Thin).after) }
+        ensures count { IfOk result (λ made. (step self.now Thin).reply ≡ Thinned made.1) }
+    {
+        self.bundle.thin_after(alloc, front_for(alloc, &self.name)?)
     }
 }
 

@@ -26,6 +26,8 @@ const RUTH: [u8; 46] =
 const FIRST: [u8; 44] =
     *b"USFMSS1\n\0\0\0\0\0\0\0\x01\x03ana\0\0\0\0\0\0\0\x01\0\0\0\0\0\0\0\x01\0\0\0\0\0\0\0\x01";
 
+const NO_NAMES: &[u8] = b"USFMSS1\n\0\0\0\0\0\0\0\0";
+
 const CUT: LoadFault = LoadFault::Bundle(WholeFault::Bundle(BundleFault::Truncated));
 
 const TRAILING: LoadFault = LoadFault::Bundle(WholeFault::Trailing);
@@ -154,6 +156,39 @@ fn delta_on_the_bytes(rt: HostRuntime) -> Result<(), Fail> {
         let made = judge(alloc, &file)?.delta(alloc, &summary)?;
         assert_eq!(rt; made.as_slice(), wanted);
     }
+    Ok(())
+}
+
+#[test]
+fn summary_of_the_bytes(rt: HostRuntime) -> Result<(), Fail> {
+    let alloc = rt.alloc();
+    let first = joined(alloc, b"USFMSR1\n\0\0\0\0\0\0\0\x01", &B1[16..62])?;
+    for (held, wanted) in [(&first[..], &FIRST[..]), (&ANA[12..], NO_NAMES)] {
+        let file = joined(alloc, &ANA[..12], held)?;
+        let summary = judge(alloc, &file)?.summary(alloc)?;
+        assert_eq!(rt; summary.write(alloc)?.as_slice(), wanted);
+    }
+    Ok(())
+}
+
+// Whether a project thins to this file, and leaves this many texts out.
+fn thins_to(alloc: Global, file: &[u8], wanted: &[u8], left_out: u64) -> Result<bool, Fail> {
+    let made = judge(alloc, file)?.thin(alloc)?;
+    Ok(made.0.as_slice() == wanted && made.1 == left_out)
+}
+
+#[test]
+fn thinned_on_the_bytes(rt: HostRuntime) -> Result<(), Fail> {
+    let alloc = rt.alloc();
+    let full = joined(alloc, &ANA[..12], b"USFMSR1\n\0\0\0\0\0\0\0\x03")?;
+    let full = joined(alloc, &joined(alloc, &full, &B1[16..])?, &V2[46..])?;
+    let thinned = joined(alloc, &ANA[..12], b"USFMSR2\n\0\0\0\0\0\0\0\x03")?;
+    let thinned = joined(alloc, &joined(alloc, &thinned, &B1[16..62])?, &V2[16..])?;
+    assert!(rt; thins_to(alloc, &full, &thinned, 1)?);
+    assert!(rt; thins_to(alloc, &thinned, &thinned, 0)?);
+    let of_two = joined(alloc, &ANA[..12], &B1)?;
+    assert!(rt; thins_to(alloc, &of_two, &of_two, 0)?);
+    assert!(rt; thins_to(alloc, &ANA, &ANA, 0)?);
     Ok(())
 }
 
