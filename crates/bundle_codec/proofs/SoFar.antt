@@ -135,7 +135,10 @@ module _ {A : Type 0} where
   module _ (all : List Id) (m : BTreeMap (List ℕ) (Vec NumberRange A)) (s : List NameRanges) (e : s ≡ listed m)
       (h : HoldsRanges all m) where
     pub summary_form : AllByRecursion AreNameRanges s → IsSummary s
-    summary_form valid = record { rising = ap (rises_by name_cmp (λ (k : NameRanges). k.name)) e ∙ rises_listed m.entries h.ordered; each = valid }
+    summary_form valid = record {
+      rising = ap (rises_by name_cmp (λ (k : NameRanges). k.name)) e ∙ rises_listed m.entries h.ordered;
+      each = valid;
+    }
 
     pub summary_covers : (id : Id) → covers s id ≡ is_among all id
     summary_covers id =

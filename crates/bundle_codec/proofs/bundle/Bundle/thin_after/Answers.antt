@@ -1,9 +1,10 @@
 use Rattle.std.proofs.Common.{◌≡◌, List, ℕ, ◌++◌, length, sym, subst, ◌∙◌, arith}
 use Rattle.std.specs.List.{flat_map}
+use Rattle.std.proofs.lemmas.List.{length-map}
 use Rattle.op_core.specs.Ops.{Operation}
-use Rattle.op_core.specs.Thinned.{thin}
+use Rattle.op_core.specs.Thinned.{thin, thinned_in}
 use Rattle.op_core.proofs.Sets.Legal.{thin_legal}
-use Rattle.op_core.proofs.ThinnedSets.Left.{IsOpSet-thin, length_thin}
+use Rattle.op_core.proofs.ThinnedSets.Left.{IsOpSet-thin}
 use Rattle.bundle_codec.specs.Spelling.{operation}
 use Rattle.bundle_codec.specs.Loops.Naming.{HoldsNamed}
 use Rattle.bundle_codec.proofs.Refronted.{begun, has_front_at, refronted_at}
@@ -33,7 +34,7 @@ returns-clause-thin c =
     let here : c.len-at.result ≡ length c.args.bytes.items = omega (arith, c.len-at.ensures, c.args.bytes.ok.0) in
     refronted_at c.args.bytes.items c.len-at.result here (thin c.args.self.now) c.push_thinned.new.bytes.items all
     c.in_ok-full.full c.len.result c.set_front_at.new.bytes.items c.in_ok-full.ensures.full
-    (c.len.ensures ∙ sym (length_thin c.args.self.now)) c.set_front_at.ensures
+    (c.len.ensures ∙ sym (length-map c.args.self.now (thinned_in c.args.self.now))) c.set_front_at.ensures
 
 pub returns-clause-set : goal.returns-clause-set
 returns-clause-set c = IsOpSet-thin c.args.self.now c.ops.ensures.set
