@@ -20,7 +20,9 @@ enum Call {
     ReadSummary,
     WriteSummary,
     SummaryOf,
+    SummaryOfBundle,
     EncodeOutside,
+    ThinAfter,
 }
 
 /// A call, the bundles of its set and the bytes of its summary, and what it gives.
@@ -87,6 +89,16 @@ fn on_set(name: &str) -> Option<Row> {
             [THREE_THINNED, b"", b"", b""],
         ),
         "summary of" => (Call::SummaryOf, [B1, Y, Z], [ALL_THREE, b"", b"", b""]),
+        "summary of bundle" => (
+            Call::SummaryOfBundle,
+            [B1, Y, Z],
+            [ALL_THREE, b"", b"", b""],
+        ),
+        "thin_after" => (
+            Call::ThinAfter,
+            [B1, Y, Z],
+            [THREE_THINNED, b"1 ", b"", b""],
+        ),
         "encode_outside" => (
             Call::EncodeOutside,
             [B1, Z, FOURTH],
@@ -117,12 +129,13 @@ impl Row {
     }
 }
 
-// A call with the set and the summary that it is for.
+// A call with the set, the bundle of it and the summary that it is for.
 #[derive(Drop)]
 struct OnBytes {
     alloc: Global,
     row: Row,
     set: OpSet,
+    bundle: Vec<u8>,
     summary: Option<Summary>,
 }
 
@@ -136,6 +149,10 @@ impl OnBytes {
             let (bundle, _) = decode(alloc, bytes)?;
             set.join(bundle.to_set(alloc)?).map_err(fault_of)?;
         }
+        let bundle = match row.call {
+            Call::SummaryOfBundle | Call::ThinAfter => encode(alloc, &set)?,
+            _ => Vec::new(alloc),
+        };
         let summary = match row.call {
             Call::WriteSummary | Call::EncodeOutside => Some(Summary::read(alloc, row.summary)?),
             _ => None,
@@ -144,8 +161,22 @@ impl OnBytes {
             alloc,
             row,
             set,
+            bundle,
             summary,
         })
+    }
+
+    fn summary_of_bundle(&self) -> Result<Vec<u8>, Fault> {
+        let bundle = decode_whole(self.alloc, &self.bundle)?;
+        Ok(Summary::of_bundle(self.alloc, &bundle)?.write(self.alloc)?)
+    }
+
+    fn thin_after(&self, told: &mut Told) -> Result<(), Fault> {
+        let bundle = decode_whole(self.alloc, &self.bundle)?;
+        let (bytes, left_out) = bundle.thin_after(self.alloc, Vec::new(self.alloc))?;
+        told.push(&bytes);
+        told.push_number(left_out);
+        Ok(())
     }
 }
 
@@ -170,6 +201,8 @@ impl Play for OnBytes {
             (Call::Encode, _) => told.push(&encode(alloc, &self.set)?),
             (Call::ReadSummary, _) => push_covered(told, &Summary::read(alloc, self.row.summary)?),
             (Call::SummaryOf, _) => told.push(&Summary::of(alloc, &self.set)?.write(alloc)?),
+            (Call::SummaryOfBundle, _) => told.push(&self.summary_of_bundle()?),
+            (Call::ThinAfter, _) => self.thin_after(told)?,
             (Call::WriteSummary, Some(summary)) => told.push(&summary.write(alloc)?),
             (Call::EncodeOutside, Some(summary)) => {
                 told.push(&encode_outside(alloc, &self.set, summary)?);
