@@ -1,18 +1,21 @@
--- Writing a delta, or all operations, out of the bytes of a project's file.
-use Rattle.std.proofs.Common.{Bor, ◌≡◌, ◌≢◌, ℕ, List, Option, Some, None, Result, Ok, Err, IfOk, refl, sym, ap, ◌∙◌}
+-- Writing a delta, a summary, all operations or the thinned file out of the bytes of a project's file.
+use Rattle.std.proofs.Common.{Bor, ◌≡◌, ◌≢◌, ℕ, List, Option, Some, None, Result, Ok, Err, IfOk, codes, refl, sym, ap, ◌∙◌}
+use Rattle.std.specs.Fmt.{decimal}
 use Rattle.bundle_codec.specs.declared.fault.SummaryFault.{SummaryFault}
 use Rattle.bundle_codec.specs.declared.fault.SummaryFault.TheVariants as summing
 use Rattle.bundle_codec.specs.Spelling.{bundle}
-use Rattle.bundle_codec.specs.Summaries.{NameRanges, outside}
+use Rattle.bundle_codec.specs.Summaries.{NameRanges, outside, summary, summary_of}
 use Rattle.bundle_codec.specs.SummaryReading.{read_summary, ReadFails}
 use Rattle.replica_state.specs.States.{State}
+use Rattle.replica_state.specs.Steps as steps
 use Rattle.project_file.specs.declared.fault.LoadFault.{LoadFault}
 use Rattle.project_file.specs.Projects.{project, project_at}
-use Rattle.usfm_cli.specs.Commands.{done_if, outcome, no_fault, MayWantMemory}
+use Rattle.project_file.proofs.Files.{read_once}
+use Rattle.usfm_cli.specs.Commands.{line_of, reply_line, done_if, outcome, no_fault, MayWantMemory}
 use Rattle.usfm_cli.specs.Faults.{of_summary}
-use Rattle.usfm_cli.specs.Projects.{Written, of_loaded, executed, delta_done, delta_made, state_or}
+use Rattle.usfm_cli.specs.Projects.{Written, written, of_loaded, executed, delta_done, delta_made, state_or}
 use Rattle.usfm_cli.specs.declared.command.Command.{Command}
-use Rattle.usfm_cli.specs.declared.command.Command.TheVariants.{Send, Delta}
+use Rattle.usfm_cli.specs.declared.command.Command.TheVariants.{Thin, Send, Summary, Delta}
 use Rattle.usfm_cli.specs.declared.fault.Fault.{Fault}
 use Rattle.usfm_cli.specs.declared.fault.Fault.TheVariants.{Memory}
 
@@ -44,6 +47,32 @@ pub makes_bundle : (file : List ℕ) (s : State) (output : List ℕ) → project
 makes_bundle file s output loads spelled e =
     ap (λ (read : Result State LoadFault). of_loaded read Send) loads
     ∙ (λ i. Ok (record { project = sym spelled i; output = sym e i }))
+
+pub makes_summary : (file : List ℕ) (s : State) (output : List ℕ) (names : List NameRanges) → project_at file ≡ Ok s → file ≡ project s
+    → names ≡ summary_of s.held → output ≡ summary names → executed file Summary ≡ Ok (record { project = file; output = output })
+makes_summary file s output names loads spelled is e =
+    ap (λ (read : Result State LoadFault). of_loaded read Summary) loads
+    ∙ (λ i. Ok (record { project = sym spelled i; output = sym (e ∙ ap summary is) i }))
+
+module _ (file : List ℕ) (s : State) (loads : project_at file ≡ Ok s) (count : ℕ)
+    (counted : (steps.step s steps.Thin).reply ≡ steps.Thinned count) (line : List ℕ)
+    (told : line ≡ line_of (codes "thinned") (decimal count)) where
+  is_thinned : outcome s Thin ≡ Ok (record { after = (steps.step s steps.Thin).after; output = line })
+  is_thinned =
+      ap (λ reply. done_if (steps.step s steps.Thin).after (reply_line reply)) counted
+      ∙ (λ i. Ok (record { after = (steps.step s steps.Thin).after; output = sym told i }))
+
+  pub makes_thinned : (made : List ℕ) → made ≡ project (steps.step s steps.Thin).after
+      → executed file Thin ≡ Ok (record { project = made; output = line })
+  makes_thinned made spelled =
+      ap (λ (read : Result State LoadFault). of_loaded read Thin) loads ∙ ap written is_thinned
+      ∙ (λ i. Ok (record { project = sym spelled i; output = line }))
+
+  pub thinned_after : (made : List ℕ) → project_at made ≡ Ok (steps.step s steps.Thin).after → (t : State) → project_at file ≡ Ok t
+      → project_at made ≡ Ok (state_or t (outcome t Thin))
+  thinned_after made again t e =
+      again ∙ ap (λ d. Ok (state_or s d)) (sym is_thinned)
+      ∙ ap (λ (u : State). Ok (state_or u (outcome u Thin))) (read_once file s t loads e)
 
 module _ (file bytes : List ℕ) (s : State) (loads : project_at file ≡ Ok s) where
   pub makes_delta : (known : List NameRanges) (output : List ℕ) → read_summary bytes ≡ Some known → file ≡ project s

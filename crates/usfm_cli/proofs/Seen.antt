@@ -112,25 +112,26 @@ sees_all (Check book sheet) s e = cc e
 sees_all (Find book sheet needle) s e = cc e
 sees_all (Words book sheet) s e = cc e
 
--- a command that is no receive, no send and no delta does not go by the bytes
+-- a command that is no receive, no thinning, no send, no summary and no delta does not go by the bytes
 pub copies : (command : Command) → ((bytes : Bor (List ℕ)) → command ≢ Receive bytes)
-    → command ≢ Send → ((summary : Bor (List ℕ)) → command ≢ Delta summary) → goes_by_bytes command ≡ false
-copies (Import file) r s d = refl
-copies (ImportSince file base) r s d = refl
-copies (Edit book key text) r s d = refl
-copies (EditOver book key text ids) r s d = refl
-copies (EditWith book key of ids) r s d = refl
-copies (Receive bytes) r s d = absurd (r bytes refl)
-copies Thin r s d = refl
-copies (Shown book key) r s d = refl
-copies Send r s d = absurd (s refl)
-copies (Export book) r s d = refl
-copies Summary r s d = refl
-copies (Delta summary) r s d = absurd (d summary refl)
-copies Report r s d = refl
-copies (Check book sheet) r s d = refl
-copies (Find book sheet needle) r s d = refl
-copies (Words book sheet) r s d = refl
+    → command ≢ Thin → command ≢ Send → command ≢ Summary → ((summary : Bor (List ℕ)) → command ≢ Delta summary)
+    → goes_by_bytes command ≡ false
+copies (Import file) r t s u d = refl
+copies (ImportSince file base) r t s u d = refl
+copies (Edit book key text) r t s u d = refl
+copies (EditOver book key text ids) r t s u d = refl
+copies (EditWith book key of ids) r t s u d = refl
+copies (Receive bytes) r t s u d = absurd (r bytes refl)
+copies Thin r t s u d = absurd (t refl)
+copies (Shown book key) r t s u d = refl
+copies Send r t s u d = absurd (s refl)
+copies (Export book) r t s u d = refl
+copies Summary r t s u d = absurd (u refl)
+copies (Delta summary) r t s u d = absurd (d summary refl)
+copies Report r t s u d = refl
+copies (Check book sheet) r t s u d = refl
+copies (Find book sheet needle) r t s u d = refl
+copies (Words book sheet) r t s u d = refl
 
 refused_if : (r : Result Done Fault) (fault : Fault) → told_of r ≡ Err fault → r ≡ Err fault
 refused_if (Ok d) fault e = cc e

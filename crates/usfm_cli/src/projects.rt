@@ -78,7 +78,7 @@ impl<'a> Outcome<'a> {
 /// command's step, and answers the file of the project after it and what the command writes. A
 /// command that only reports lends the project's bytes as they are. All of the file is judged; of
 /// what it holds, a command that looks at one book or edits one copies what is of that book, and a
-/// receive, a send or a delta nothing but the bytes that it writes.
+/// receive, a thinning, a send, a summary or a delta nothing but the bytes that it writes.
 ///
 /// # Errors
 /// First those of the project: `BadProject` (110) where the bytes do not begin as a project does,
@@ -128,7 +128,9 @@ pub fn exec<'a>(
 {
     match *command {
         Command::Receive(bytes) => return receive_into(alloc, project, bytes),
+        Command::Thin => return thin_in(alloc, project),
         Command::Send => return send_of(alloc, project),
+        Command::Summary => return summary_of(alloc, project),
         Command::Delta(summary) => return delta_of(alloc, project, summary),
         _ => {}
     }
@@ -204,6 +206,25 @@ fn edit_in<'a>(
     })
 }
 
+// Leaves texts out on the bytes of a project's file, which is judged: the file of the thinned set
+// is written out of them.
+fn thin_in(alloc: Global, project: &[u8]) -> Result<Outcome<'_>, Fault>
+    ensures answer { result ≢ Err Fault.Memory → executed project.now Command.Thin ≡ result }
+    ensures no_project { IfErr (project_at project.now) (λ fault.
+        RefusesFile project.now (of_loading fault) result) }
+    ensures after { IfOk result (λ made. (s : State) → project_at project.now ≡ Ok s
+        → project_at made.project ≡ Ok (state_or s (outcome s Command.Thin))) }
+{
+    let (made, left_out) = judge(alloc, project)?.thin(alloc)?;
+    let output = count_line(alloc, "thinned", left_out)?;
+    Ok(Outcome {
+        given: project,
+        made: Some(made),
+        output,
+        replica: None,
+    })
+}
+
 // Copies the bundle of all operations out of the bytes of a project's file, which is judged. The
 // file stays as it is.
 fn send_of(alloc: Global, project: &[u8]) -> Result<Outcome<'_>, Fault>
@@ -213,6 +234,17 @@ fn send_of(alloc: Global, project: &[u8]) -> Result<Outcome<'_>, Fault>
     ensures unchanged { IfOk result (λ made. made.project ≡ project.now) }
 {
     let output = judge(alloc, project)?.bundle().to_vec(alloc)?;
+    Ok(Outcome::telling(project, output, None))
+}
+
+// Sums up the ids in the bytes of a project's file, which is judged. The file stays as it is.
+fn summary_of(alloc: Global, project: &[u8]) -> Result<Outcome<'_>, Fault>
+    ensures answer { result ≢ Err Fault.Memory → executed project.now Command.Summary ≡ result }
+    ensures no_project { IfErr (project_at project.now) (λ fault.
+        RefusesFile project.now (of_loading fault) result) }
+    ensures unchanged { IfOk result (λ made. made.project ≡ project.now) }
+{
+    let output = judge(alloc, project)?.summary(alloc)?.write(alloc)?;
     Ok(Outcome::telling(project, output, None))
 }
 

@@ -26,6 +26,18 @@ returns-in-Receive-clause-after c =
     subst (λ (k : Command). IfOk c.receive_into.result (λ made. (s : State) → project_at c.args.project.now ≡ Ok s
     → project_at made.project ≡ Ok (state_or s (outcome s k)))) (sym c.in-Receive.is) c.receive_into.ensures.after
 
+pub returns-in-Thin-clause-answer : goal.returns-in-Thin-clause-answer
+returns-in-Thin-clause-answer c = λ e. ap (executed c.args.project.now) c.in-Thin.is ∙ c.thin_in.ensures.answer e
+
+pub returns-in-Thin-clause-memory : goal.returns-in-Thin-clause-memory
+returns-in-Thin-clause-memory c = λ e s loads place.
+    subst (λ (k : Command). MayWantMemory (is_late k) (outcome s k)) (sym c.in-Thin.is) tt
+
+pub returns-in-Thin-clause-after : goal.returns-in-Thin-clause-after
+returns-in-Thin-clause-after c =
+    subst (λ (k : Command). IfOk c.thin_in.result (λ made. (s : State) → project_at c.args.project.now ≡ Ok s
+    → project_at made.project ≡ Ok (state_or s (outcome s k)))) (sym c.in-Thin.is) c.thin_in.ensures.after
+
 pub returns-in-Send-clause-answer : goal.returns-in-Send-clause-answer
 returns-in-Send-clause-answer c = λ e. ap (executed c.args.project.now) c.in-Send.is ∙ c.send_of.ensures.answer e
 
@@ -42,6 +54,23 @@ pub returns-in-Send-clause-after : goal.returns-in-Send-clause-after
 returns-in-Send-clause-after c =
     file_stays c.args.project.now c.args.command.now (λ s. ap (λ (k : Command). state_or s (outcome s k)) c.in-Send.is)
     c.send_of.result c.send_of.ensures.unchanged
+
+pub returns-in-Summary-clause-answer : goal.returns-in-Summary-clause-answer
+returns-in-Summary-clause-answer c = λ e. ap (executed c.args.project.now) c.in-Summary.is ∙ c.summary_of.ensures.answer e
+
+pub returns-in-Summary-clause-memory : goal.returns-in-Summary-clause-memory
+returns-in-Summary-clause-memory c = λ e s loads place.
+    subst (λ (k : Command). MayWantMemory (is_late k) (outcome s k)) (sym c.in-Summary.is) tt
+
+pub returns-in-Summary-clause-unchanged : goal.returns-in-Summary-clause-unchanged
+returns-in-Summary-clause-unchanged c =
+    if_so (IsTrue (only_tells c.args.command.now)) (λ (made : Written). made.project ≡ c.args.project.now) c.summary_of.result
+    c.summary_of.ensures.unchanged
+
+pub returns-in-Summary-clause-after : goal.returns-in-Summary-clause-after
+returns-in-Summary-clause-after c =
+    file_stays c.args.project.now c.args.command.now (λ s. ap (λ (k : Command). state_or s (outcome s k)) c.in-Summary.is)
+    c.summary_of.result c.summary_of.ensures.unchanged
 
 pub returns-in-Delta-clause-answer : goal.returns-in-Delta-clause-answer
 returns-in-Delta-clause-answer c = λ e.
@@ -65,7 +94,8 @@ returns-in-Delta-clause-after c =
 pub returns-in_err-replica-clause-memory : goal.returns-in_err-replica-clause-memory
 returns-in_err-replica-clause-memory c = λ e s loads place.
     let none = place.nothing_copied
-    (copies c.args.command.now c.in_default.not-Receive c.in_default.not-Send c.in_default.not-Delta) in
+    (copies c.args.command.now c.in_default.not-Receive c.in_default.not-Thin c.in_default.not-Send c.in_default.not-Summary
+    c.in_default.not-Delta) in
     absurd (loads_or_wants c.args.project.now s c.in_err-replica.field-0.0 loads c.in_err-replica.ensures.refused
     (λ m. c.in_err-replica.ensures.nothing_seen s loads place.full none (ap Err m)))
 
