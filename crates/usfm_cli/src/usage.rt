@@ -186,11 +186,11 @@ fn import<'a>(alloc: Global) -> Result<Command<'a>, AllocError> {
     );
     let since = Arg::new(alloc, "BUNDLE")
         .long("since")
-        .help("The bundle of the time when FILE was exported");
+        .help("The bundle that was sent when FILE was exported");
     command(
         alloc,
         "import",
-        "Takes in the files of books; what differs is edited",
+        "Takes in the files of books; each difference becomes an edit",
         IMPORT,
         &[PROJECT],
     )?
@@ -275,7 +275,7 @@ fn edit_over<'a>(alloc: Global) -> Result<Command<'a>, AllocError> {
     let text_of = Arg::new(alloc, "TEXT")
         .long("text-of")
         .value_name("ID")
-        .help("The operation whose text to take, not standard input");
+        .help("Take this operation's text, and not standard input's");
     command(
         alloc,
         "edit-over",

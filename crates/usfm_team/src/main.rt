@@ -49,7 +49,7 @@ const TYPE_A_TEXT: &str =
     "usfm_team: type the segment's text with its mark, and end it with control-D on a new line\n";
 
 const GIVE_BUNDLES: &str =
-    "usfm_team: waiting for bundles on standard input, which control-D on a new line ends\n";
+    "usfm_team: waiting for bundles on standard input: control-D on a new line ends it\n";
 
 fn main(rt: HostRuntime) -> ExitCode {
     let mut explains = rt.stderr().is_terminal();

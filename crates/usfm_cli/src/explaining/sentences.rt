@@ -4,7 +4,8 @@
 
 pub(crate) const MEMORY: &str = "\
 There was not enough memory.
-Close other programs, and try again. Only `sync` may have changed the project.";
+Close other programs, and try again. The project is unchanged, unless the
+command was `sync`.";
 
 pub(crate) const NOT_TEXT: &str = "\
 The text is not UTF-8 after this many bytes.
@@ -24,7 +25,7 @@ The code of a book is written in capitals.
 Write it so: ";
 
 pub(crate) const NO_REFERENCE: &str = "\
-This is not a verse, nor the head of a chapter or of a book.
+This is not a reference to a verse, or to the head of a chapter or of a book.
 Write 'MAT 1:1' for a verse, 'MAT 1' for the head of a chapter, and 'MAT 0'
 for that of the book.";
 
@@ -145,7 +146,8 @@ begin new copies: see docs/WALKTHROUGH.md.";
 
 pub(crate) const NO_BOOK: &str = "\
 The project has nothing of this book.
-Import its file. A file with only the line \\id MAT begins Matthew.";
+Check the code: `progress` lists the books that have verses. To begin a book,
+import its file; a file with only the line \\id MAT begins Matthew.";
 
 pub(crate) const NOT_SHOWN: &str = "\
 This edit is not, or no longer, among the texts of the segment.
@@ -181,7 +183,7 @@ A file or a folder could not be read.
 Check its name and its permissions.";
 
 pub(crate) const IS_FOLDER: &str = "\
-This is a folder, and a file is wanted here.
+This is a folder, but a file is wanted here.
 Name the file. `sync` and `status` take the folder of the books right after the
 project, `export` takes it as --into FOLDER, and `sync` a box as --box FOLDER.";
 
@@ -236,7 +238,7 @@ are gone on purpose, sync with --emptied. It applies to all files of the
 folder: `status` with the folder shows which ones `sync` refuses.";
 
 pub(crate) const UNDONE: &str = "\
-In this many segments the file of a book lacks the text that came in.
+In this many segments a book's file has an older text than the one received.
 If it is an older file, or was open in an editor meanwhile, sync with --stale:
 what came in at the last three syncs stays. If they were undone on purpose,
 sync with --undone. Both apply to all files of the folder: `status` with the

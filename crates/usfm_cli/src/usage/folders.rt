@@ -15,7 +15,7 @@ pub(crate) fn sync<'a>(alloc: Global) -> Result<Command<'a>, AllocError> {
     let box_folder = value(alloc, "DIR", "box").help("A folder where all leave their bundles");
     let settled = value(alloc, "CODE", "settle")
         .action(ArgAction::Append)
-        .help("A book or a REF whose conflicts its file settles");
+        .help("Let the file settle the conflicts of this segment or book");
     let form = value(alloc, "NAME", "names").help("Name new files like this one, as 41MATana.SFM");
     let made = command(
         alloc,

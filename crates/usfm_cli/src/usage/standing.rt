@@ -21,7 +21,7 @@ pub(crate) fn status<'a>(alloc: Global) -> Result<Command<'a>, AllocError> {
 }
 
 const STATUS: &str = "\
-Writes these lines, but none that has nothing to say:
+Writes these lines, leaving out those with nothing to say:
   copy NAME                the name of this copy
   books N, verses N        the books, and the verses in them that have a text
                            besides marks; a bridge is one
@@ -30,7 +30,7 @@ Writes these lines, but none that has nothing to say:
                            the operations that others replace, and how many of
                            them `thin` left without a text
   conflict REF             a segment that shows different texts: see `report`
-  awaited NUMBER NAME      an operation that another one replaces and that did
+  awaited NUMBER NAME      an operation that another one replaces and that has
                            not come yet: ask NAME for a bundle
   changed FILE N           a file of the folder: `sync` takes in N edits of it
   unread FILE fault ..     a file of the folder that `sync` refuses, and why
