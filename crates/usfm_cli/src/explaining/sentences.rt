@@ -220,11 +220,13 @@ Go on with that project, or begin one under another name.";
 
 pub(crate) const FILE_CHANGED: &str = "\
 A file of the folder would lose text.
-If a book's file does not begin with \\id and its code, or is not UTF-8,
-correct it. If somebody else began the same book, sync once without bundles
-and --box, and then with them: both texts stay. After `export`, try `sync`,
-which takes in changes. Else move the file away, sync, and make its changes
-in the new file; or `import` it, to have it replace all of the book.";
+If it begins with another book's \\id now, it was renamed: give it its old name
+back. If its first line, with \\id and the code, was lost or changed, or if it
+is not UTF-8, correct it. If somebody else began the same book, sync once
+without bundles and --box, and then with them: both texts stay. After
+`export`, try `sync`, which takes in changes. Else move the file away, sync,
+and make its changes in the new file; or `import` it, to have it replace all
+of the book.";
 
 pub(crate) const SECOND_FILE: &str = "\
 These two files are of one book, and a folder has one file for each book.

@@ -78,11 +78,13 @@ with `usfm_team settle` and sync; or give the file the right text, or leave it,
 and have it replace them all:
   usfm_team sync ana.project texts --settle 'MAT 5:3'
 
-After fault 131 look at FILE. It may have lost its first line, with \\id and the
-code, or be saved in an encoding other than UTF-8: correct it. Two files may be
-of one book: move one away. Or it is not known what FILE was written from. Then
-move it away and sync, and make its changes in the file that is written; or, to
-have FILE replace what the book has, `usfm_team import PROJECT FILE`, and sync.
+After fault 131 look at FILE. If it begins with another book's \\id now, it was
+renamed: give it its old name back. It may have lost its first line, with \\id
+and the code, or be saved in an encoding other than UTF-8: correct it. Two files
+may be of one book: move one away. Or it is not known what FILE was written
+from. Then move it away and sync, and make its changes in the file that is
+written; or, to have FILE replace what the book has,
+`usfm_team import PROJECT FILE`, and sync.
 
 After fault 132 many texts, or the last ones, are gone from FILE: an editor may
 have saved only a part of it. Correct it, or add --emptied. After fault 133 FILE
