@@ -105,22 +105,25 @@ abbrev pub no_summary : Found → List ℕ
 no_summary found.Bundle = say.BUNDLE_NOT_SUMMARY.now
 no_summary _ = say.NO_SUMMARY.now
 
--- of a folder that was not read, by what stands there
-abbrev pub unread_folder : Found → List ℕ
-unread_folder found.Unseen = say.READ_FAILED.now
-unread_folder found.Folder = say.READ_FAILED.now
-unread_folder found.Nothing = say.NO_FOLDER_THERE.now
-unread_folder _ = say.IS_FILE.now
+-- of a folder that was not read, with what is said where something else stands there
+abbrev pub unread_folder : Found → List ℕ → List ℕ
+unread_folder found.Unseen _ = say.READ_FAILED.now
+unread_folder found.Folder _ = say.READ_FAILED.now
+unread_folder found.Nothing _ = say.NO_FOLDER_THERE.now
+unread_folder found.NoFolder _ = say.NO_FOLDER_THERE.now
+unread_folder _ other = other
 
 -- of a file that was not read, with what is said where nothing stands there
 abbrev pub unread_file : Found → List ℕ → List ℕ
 unread_file found.Nothing missing = missing
+unread_file found.NoFolder missing = missing
 unread_file found.Folder _ = say.IS_FOLDER.now
 unread_file _ _ = say.READ_FAILED.now
 
 -- of what was not read, by what it was to be
 abbrev pub unread : Expected → Found → List ℕ
-unread expected.Folder stands = unread_folder stands
+unread expected.Folder stands = unread_folder stands say.IS_FILE.now
+unread expected.Box stands = unread_folder stands say.BOX_IS_FILE.now
 unread expected.Project stands = unread_file stands say.NO_PROJECT_THERE.now
 unread _ stands = unread_file stands say.NOTHING_THERE.now
 
@@ -128,6 +131,7 @@ unread _ stands = unread_file stands say.NOTHING_THERE.now
 abbrev pub not_begun : Found → List ℕ
 not_begun found.Unseen = say.FILE_FAILED.now
 not_begun found.Nothing = say.FILE_FAILED.now
+not_begun found.NoFolder = say.NO_FOLDER_FOR_IT.now
 not_begun _ = say.IS_THERE.now
 
 -- of a text that is refused: by what it is where it is to be a book's file
@@ -135,10 +139,17 @@ abbrev pub of_file : Fault → Expected → Found → List ℕ
 of_file fault expected.BookFile stands = no_book fault stands
 of_file fault _ _ = general fault
 
--- of a file that was not written: by what stands there where it is to be a project
+-- of a file that was not written: by what stands there where it is to be a project, and of the
+-- copy's own bundle in a box that all else is done
 abbrev pub unwritten : Expected → Found → List ℕ
 unwritten expected.NewProject stands = not_begun stands
+unwritten expected.OwnBundle _ = say.BUNDLE_NOT_LEFT.now
 unwritten _ _ = say.FILE_FAILED.now
+
+-- of two edits that have one id: a bundle may be damaged
+abbrev pub clashing : Expected → List ℕ
+clashing expected.Bundle = say.CLASH_IN_BUNDLE.now
+clashing _ = say.CLASH.now
 
 -- of what follows a bundle
 abbrev pub trailing : Expected → List ℕ
@@ -159,6 +170,7 @@ changed _ = say.FILE_CHANGED.now
 -- the sentences of a fault, by what its file was to be and what stands there
 abbrev pub sentences : Fault → Expected → Found → List ℕ
 sentences (Bundle fault) role stands = of_bytes fault role stands
+sentences (Clash id) role _ = clashing role
 sentences Trailing role _ = trailing role
 sentences (Reference BadBook) role _ = no_code role
 sentences (NotText valid) role stands = of_file (NotText valid) role stands

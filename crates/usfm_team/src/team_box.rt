@@ -5,12 +5,11 @@ use crate::files::{
 use crate::reading::{Given, read_plain};
 use crate::refusal::Refusal;
 use crate::rights::keep_rights;
-use crate::sync::open_folder;
 use crate::telling::{say, say_of};
 use book_folder::{BoxFile, box_file, may_be_bundle};
 use project_file::judge;
 use std::fs;
-use usfm_cli::Fault;
+use usfm_cli::{Expected, Fault};
 
 // A box, which each copy reads, and in which it writes its own bundle.
 #[derive(Drop)]
@@ -32,7 +31,8 @@ pub(crate) fn open_box(
     let judged = judged.map_err(|fault| Refusal::of_project(rt, Fault::from(fault), path))?;
     let copy = judged.name();
     let own = format!(in rt.alloc(); "{}.bundle", copy.text()).map_err(Fault::from)?;
-    let folder = open_folder(rt, name)?;
+    let folder = Folder::open(rt, name);
+    let folder = folder.map_err(|fault| Refusal::expecting(rt, fault, name, Expected::Box))?;
     read_box(rt, &folder, &own, judged.bundle(), given)?;
     Ok(TeamBox { folder, own })
 }
@@ -112,7 +112,15 @@ impl TeamBox {
     // Puts all that a project has into the box, as its copy's own bundle.
     pub(crate) fn put(&self, rt: &HostRuntime, project: &[u8]) -> Result<(), Refusal> {
         let put = self.put_bundle(rt, project);
-        put.map_err(|fault| self.folder.refusal(rt, fault, &self.own))
+        put.map_err(|fault| self.unwritten(rt, fault))
+    }
+
+    // The refusal of the copy's own bundle, which is put when all else is done.
+    fn unwritten(&self, rt: &HostRuntime, fault: Fault) -> Refusal {
+        match self.folder.name_of(rt, &self.own) {
+            Ok(name) => Refusal::named(fault, name, Expected::OwnBundle),
+            Err(_) => Refusal::from(fault),
+        }
     }
 
     fn put_bundle(&self, rt: &HostRuntime, project: &[u8]) -> Result<(), Fault> {

@@ -33,6 +33,10 @@ pub enum Expected {
     Sheet,
     /// A folder of books' files.
     Folder,
+    /// A folder in which the copies of a team leave their bundles.
+    Box,
+    /// The bundle that a copy leaves in such a folder, when all else is done.
+    OwnBundle,
 }
 
 /// What stands under the name of a file.
@@ -42,6 +46,8 @@ pub enum Found {
     Unseen,
     /// Nothing.
     Nothing,
+    /// Nothing, and the folder that it would be in is not there.
+    NoFolder,
     /// A folder.
     Folder,
     /// A file that begins as a project does.

@@ -5,14 +5,14 @@ ghost use Rattle.usfm_cli.specs.Explaining as told;
 use crate::explaining::circumstances::{Circumstances, Expected, Found};
 use crate::explaining::sentences::{
     BAD_ID, BAD_KEY, BAD_NAME, BAD_OPERATION, BAD_REPLACED, BAD_SEGMENT, BAD_STYLE_TYPE, BAD_TAG,
-    BAD_TEXT, BOOK_NOT_BUNDLE, BOOK_NOT_PROJECT, BUNDLE_NOT_BOOK, BUNDLE_NOT_PROJECT,
-    BUNDLE_NOT_SUMMARY, CLASH, DAMAGED_BASE, DAMAGED_PROJECT, EMPTIED, EMPTY_MARKER, EMPTY_NEEDLE,
-    FIELD_BEFORE_MARKER, FILE_CHANGED, FILE_FAILED, IN_CAPITALS, IS_FILE, IS_FOLDER, IS_THERE,
-    MEMORY, NO_BOOK, NO_BUNDLE, NO_CODE, NO_FOLDER_THERE, NO_FORM, NO_ID, NO_PROJECT,
-    NO_PROJECT_THERE, NO_REFERENCE, NO_SUMMARY, NOT_RISING, NOT_SHOWN, NOT_TEXT, NOTHING_THERE,
-    NUMBERS_USED_UP, PROJECT_NOT_BUNDLE, READ_FAILED, SECOND_FILE, SUMMARY_NOT_BUNDLE,
-    SUMMARY_NOT_PROJECT, TEXT_NOT_UTF8, TOO_LONG, TRAILING, TRUNCATED, UNDONE, UNLIKE, UNSUPPORTED,
-    WRITE_FAILED,
+    BAD_TEXT, BOOK_NOT_BUNDLE, BOOK_NOT_PROJECT, BOX_IS_FILE, BUNDLE_NOT_BOOK, BUNDLE_NOT_LEFT,
+    BUNDLE_NOT_PROJECT, BUNDLE_NOT_SUMMARY, CLASH, CLASH_IN_BUNDLE, DAMAGED_BASE, DAMAGED_PROJECT,
+    EMPTIED, EMPTY_MARKER, EMPTY_NEEDLE, FIELD_BEFORE_MARKER, FILE_CHANGED, FILE_FAILED,
+    IN_CAPITALS, IS_FILE, IS_FOLDER, IS_THERE, MEMORY, NO_BOOK, NO_BUNDLE, NO_CODE,
+    NO_FOLDER_FOR_IT, NO_FOLDER_THERE, NO_FORM, NO_ID, NO_PROJECT, NO_PROJECT_THERE, NO_REFERENCE,
+    NO_SUMMARY, NOT_RISING, NOT_SHOWN, NOT_TEXT, NOTHING_THERE, NUMBERS_USED_UP,
+    PROJECT_NOT_BUNDLE, READ_FAILED, SECOND_FILE, SUMMARY_NOT_BUNDLE, SUMMARY_NOT_PROJECT,
+    TEXT_NOT_UTF8, TOO_LONG, TRAILING, TRUNCATED, UNDONE, UNLIKE, UNSUPPORTED, WRITE_FAILED,
 };
 use crate::fault::Fault;
 use bundle_codec::BundleFault;
@@ -111,6 +111,10 @@ fn sentences(fault: &Fault, expected: Expected, found: Found) -> &'static str
 {
     match fault {
         Fault::Bundle(inner) => of_bytes(inner, expected, found),
+        Fault::Clash(_) => match expected {
+            Expected::Bundle => CLASH_IN_BUNDLE,
+            _ => CLASH,
+        },
         Fault::Trailing => match expected {
             Expected::Project => DAMAGED_PROJECT,
             Expected::Kept => DAMAGED_BASE,
@@ -129,6 +133,7 @@ fn sentences(fault: &Fault, expected: Expected, found: Found) -> &'static str
         Fault::ReadFailed => unread(expected, found),
         Fault::FileFailed => match expected {
             Expected::NewProject => not_begun(found),
+            Expected::OwnBundle => BUNDLE_NOT_LEFT,
             _ => FILE_FAILED,
         },
         Fault::FileChanged => match expected {
@@ -196,19 +201,20 @@ fn unread(expected: Expected, found: Found) -> &'static str
     ensures { result.now ≡ told.unread expected found }
 {
     match expected {
-        Expected::Folder => unread_folder(found),
+        Expected::Folder => unread_folder(found, IS_FILE),
+        Expected::Box => unread_folder(found, BOX_IS_FILE),
         Expected::Project => unread_file(found, NO_PROJECT_THERE),
         _ => unread_file(found, NOTHING_THERE),
     }
 }
 
-fn unread_folder(found: Found) -> &'static str
-    ensures { result.now ≡ told.unread_folder found }
+fn unread_folder(found: Found, other: &'static str) -> &'static str
+    ensures { result.now ≡ told.unread_folder found other.now }
 {
     match found {
         Found::Unseen | Found::Folder => READ_FAILED,
-        Found::Nothing => NO_FOLDER_THERE,
-        _ => IS_FILE,
+        Found::Nothing | Found::NoFolder => NO_FOLDER_THERE,
+        _ => other,
     }
 }
 
@@ -216,7 +222,7 @@ fn unread_file(found: Found, missing: &'static str) -> &'static str
     ensures { result.now ≡ told.unread_file found missing.now }
 {
     match found {
-        Found::Nothing => missing,
+        Found::Nothing | Found::NoFolder => missing,
         Found::Folder => IS_FOLDER,
         _ => READ_FAILED,
     }
@@ -227,6 +233,7 @@ fn not_begun(found: Found) -> &'static str
 {
     match found {
         Found::Unseen | Found::Nothing => FILE_FAILED,
+        Found::NoFolder => NO_FOLDER_FOR_IT,
         _ => IS_THERE,
     }
 }

@@ -58,13 +58,22 @@ Two different edits have this id.
 Two copies use one name, or one was set back to an old file, or a file was
 changed by hand. Let one go on under another name: see docs/WALKTHROUGH.md.";
 
+pub(crate) const CLASH_IN_BUNDLE: &str = "\
+Two different edits have this id.
+This bundle was damaged on its way, or two copies use one name, or one was set
+back to an old file. Move the bundle away, and have it sent again: in a box
+its owner's next sync writes it anew. If the fault comes back, or the bundle
+has your own copy's name, let one copy go on under another name: see
+docs/WALKTHROUGH.md.";
+
 pub(crate) const BAD_ID: &str = "\
 This is not the id of an edit.
 Write its number, a colon and the name of its copy: 3:ana for `op 3 ana`.";
 
 pub(crate) const DAMAGED_PROJECT: &str = "\
 The project's file is damaged.
-Go on from its last good copy: see docs/WALKTHROUGH.md.";
+Begin a new one with `init`, under a name that no copy has had, and take in
+what the last good copy and the others have: see docs/WALKTHROUGH.md.";
 
 pub(crate) const NO_BUNDLE: &str = "\
 This is not a bundle.
@@ -164,7 +173,9 @@ Give `find` a text.";
 
 pub(crate) const NO_PROJECT: &str = "\
 This is not a project's file.
-Check its name. If it was a project, go on from its last good copy.";
+Check its name. If it was a project, it is damaged: begin a new one with
+`init`, under a name that no copy has had, and take in what the last good copy
+and the others have: see docs/WALKTHROUGH.md.";
 
 pub(crate) const BUNDLE_NOT_PROJECT: &str = "\
 This is a bundle, and not a project.
@@ -190,6 +201,10 @@ project, `export` takes it as --into FOLDER, and `sync` a box as --box FOLDER.";
 pub(crate) const IS_FILE: &str = "\
 This is not a folder.
 Name the folder that the books' files are in.";
+
+pub(crate) const BOX_IS_FILE: &str = "\
+This is not a folder.
+A box is wanted here: name the folder where all leave their bundles.";
 
 pub(crate) const NOTHING_THERE: &str = "\
 There is no file of this name.
@@ -217,6 +232,16 @@ changed.";
 pub(crate) const IS_THERE: &str = "\
 Something of this name is there already.
 Go on with that project, or begin one under another name.";
+
+pub(crate) const NO_FOLDER_FOR_IT: &str = "\
+The folder for this project is not there.
+Check the name, and that a stick or server is connected; or make the folder
+with `mkdir`.";
+
+pub(crate) const BUNDLE_NOT_LEFT: &str = "\
+This bundle could not be written, or the disk may not keep it.
+All else that `sync` does is done. Check the permissions of the folder and the
+free space, and sync again: until then the others do not get your work there.";
 
 pub(crate) const FILE_CHANGED: &str = "\
 A file of the folder would lose text.

@@ -94,9 +94,13 @@ is undone. After fault 134 the bundle is of another translation: leave it out,
 or add --join. Each of these words is for all files and bundles of the line: add
 --try first, and see what would be done.
 
-After fault 130 in a book's FILE, that file could not be replaced, and all else
-is done: look at its rights, and sync again. After fault 60 to 70 in a file of
-FOLDER/.usfm_team, that file is damaged: remove it, and sync.
+After fault 130 in a book's FILE, or in DIR/NAME.bundle, that file alone could
+not be written, and all else is done: look at its rights and the free space, and
+sync again. After fault 60 to 70 in a file of FOLDER/.usfm_team, that file is
+damaged: remove it, and sync. After fault 51 in a bundle of DIR, it was damaged
+on its way, or two copies use one name: move it away, and its owner's next sync
+writes it again. If the fault comes back, or it has your own copy's name, let
+one of the two copies go on under another name.
 
 Faults: those of `import`, `receive` and `export`, and
   fault 132 COUNT          this many texts are gone from FILE
