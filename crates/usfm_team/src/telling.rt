@@ -3,16 +3,21 @@
 use crate::turns::Refusal;
 use plain_line::{is_plain, push_line, push_lines};
 use std::alloc::AllocError;
-use std::fs;
 use std::fs::File;
 use std::io::{ErrorKind, IsTerminal, Read, Write};
+use std::path::Path;
+use std::{fs, str};
 use usfm_cli::{
-    Circumstances, FRONT_BYTES, Fault, Found, book_meant, explained, fault_line, found_file,
-    has_split_reference,
+    Circumstances, Expected, FRONT_BYTES, Fault, Found, book_meant, explained, fault_line,
+    found_file, has_split_reference,
 };
+use usfm_ref::{Book, Key};
 
 const ONE_WORD: &str =
     "\n  tip: a reference is one word, so put it between quotes, as in 'MAT 1:1'\n";
+
+const IN_QUOTES: &str =
+    "If this belongs to a reference, put the whole reference in quotes: 'MAT 1:1'.";
 
 // Says why a command was refused: the line of the fault, the file that it is of, and in words
 // what that means. Where it cannot be written, the exit status alone shows it.
@@ -29,10 +34,20 @@ pub(crate) fn tell_refusal(rt: &HostRuntime, refusal: &Refusal, explains: bool) 
             }
             known.expected = file.expected;
             known.found = look(rt, &file.name);
+            if matches!(file.expected, Expected::BookFile) {
+                known.meant = code_meant(rt, &file.name);
+            }
         }
     }
     if explains {
         let _ = write!(rt.stderr(), "{}", explained(&refusal.fault, &known));
+        if let (Fault::ReadFailed, Found::Nothing, Some(file)) = (
+            &refusal.fault,
+            known.found,
+            &refusal.file,
+        ) {
+            say_of_reference(rt, &file.name);
+        }
     }
 }
 
@@ -43,6 +58,14 @@ pub(crate) fn tell_refused_word(rt: &HostRuntime, fault: &Fault, word: &str, exp
         let mut known = Circumstances::UNKNOWN;
         known.meant = book_meant(word);
         let _ = write!(rt.stderr(), "{}", explained(fault, &known));
+        say_of_reference(rt, word);
+    }
+}
+
+// Says of a word that could be the end of a reference how that is written.
+fn say_of_reference(rt: &HostRuntime, word: &str) {
+    if word.parse::<Key>().is_ok() {
+        say(rt, IN_QUOTES);
     }
 }
 
@@ -52,19 +75,66 @@ fn look(rt: &HostRuntime, name: &str) -> Found {
         Ok(found) if found.is_dir() => Found::Folder,
         Ok(found) if found.is_file() => look_at_front(rt, name),
         Ok(_) => Found::Other,
-        Err(error) if error.kind() == ErrorKind::NotFound => Found::Nothing,
+        Err(error) if error.kind() == ErrorKind::NotFound => look_above(rt, name),
         Err(_) => Found::Unseen,
+    }
+}
+
+// Where nothing stands under a name: whether the folder is there that it would be in.
+fn look_above(rt: &HostRuntime, name: &str) -> Found {
+    match Path::new(name).parent() {
+        Some(folder) if !folder.as_str().is_empty() => match fs::metadata(rt, folder.as_str()) {
+            Err(error) if error.kind() == ErrorKind::NotFound => Found::NoFolder,
+            _ => Found::Nothing,
+        },
+        _ => Found::Nothing,
     }
 }
 
 fn look_at_front(rt: &HostRuntime, name: &str) -> Found {
     let mut front = [0; FRONT_BYTES];
+    match read_front(rt, name, &mut front) {
+        Some(len) => found_file(front.get(..len).unwrap_or(&[])),
+        None => Found::Other,
+    }
+}
+
+// Reads the front of a file, and answers its length.
+fn read_front(rt: &HostRuntime, name: &str, front: &mut [u8]) -> Option<usize> {
     match File::open(rt, name) {
-        Ok(mut file) => match file.read(&mut front) {
-            Ok(len) => found_file(front.get(..len).unwrap_or(&[])),
-            Err(_) => Found::Other,
+        Ok(mut file) => match file.read(front) {
+            Ok(len) => Some(len),
+            Err(_) => None,
         },
-        Err(_) => Found::Other,
+        Err(_) => None,
+    }
+}
+
+// The book whose code a plain file has in small letters after `\id` and a space.
+fn code_meant(rt: &HostRuntime, name: &str) -> Option<Book> {
+    if !fs::metadata(rt, name).is_ok_and(|found| found.is_file()) {
+        return None;
+    }
+    let mut front = [0; FRONT_BYTES];
+    match read_front(rt, name, &mut front) {
+        Some(len) => code_in(front.get(..len).unwrap_or(&[])),
+        None => None,
+    }
+}
+
+fn code_in(front: &[u8]) -> Option<Book> {
+    let line = match front {
+        [0xef, 0xbb, 0xbf, rest @ ..] => rest,
+        _ => front,
+    };
+    let code = match line {
+        [b'\\', b'i', b'd', b' ', a, b, c] => [*a, *b, *c],
+        [b'\\', b'i', b'd', b' ', a, b, c, b' ' | b'\r' | b'\n', ..] => [*a, *b, *c],
+        _ => return None,
+    };
+    match str::from_utf8(&code) {
+        Ok(word) => book_meant(word),
+        Err(_) => None,
     }
 }
 

@@ -69,7 +69,8 @@ pub struct Circumstances {
     pub expected: Expected,
     /// What stands there.
     pub found: Found,
-    /// The book that a word of the command line means by its code in small letters.
+    /// The book whose code a word of the command line, or the first line of a file, has in small
+    /// letters.
     pub meant: Option<Book>,
 }
 
@@ -93,8 +94,8 @@ pub enum Input {
     Neither,
 }
 
-/// How many bytes of a file's front `found_file` reads.
-pub const FRONT_BYTES: usize = 8;
+/// How many bytes of a file's front show what it is, and the code that a book's file has.
+pub const FRONT_BYTES: usize = 16;
 
 /// What a file is, by its first bytes: a project, a bundle or a summary by the first seven of its
 /// magic, and a book's file by `\id` after at most one U+FEFF.

@@ -13,7 +13,7 @@ Save it as UTF-8 in your editor, and try again.";
 
 pub(crate) const NO_CODE: &str = "\
 This is not a book's code, in the command or after \\id in a file.
-A code is three of A to Z and 0 to 9, such as MAT: 'MAT 1:1', or \\id MAT.";
+A code is three capital letters or digits, such as MAT: 'MAT 1:1', or \\id MAT.";
 
 pub(crate) const NO_FORM: &str = "\
 This name does not say how the files of books are to be named.
