@@ -8,8 +8,7 @@ use Rattle.usfm_token.specs.View.{lexeme}
 use Rattle.usfm_token.specs.declared.token.Token.{Token}
 use Rattle.usfm_token.proofs.Walk.{token_front}
 use Rattle.verse_cut.specs.Keys.{text_after}
-use Rattle.verse_cut.specs.Loops.Walks.{IsFirst}
-use Rattle.segment_check.specs.Loops.WalkViews.{before}
+use Rattle.segment_check.specs.Loops.WalkViews.{before, IsFirst}
 use Rattle.segment_check.specs.Reading.{State, state_after, held_at, findings_with, found_from, found_in}
 use Rattle.segment_check.specs.Reading.{start_state}
 use Rattle.segment_check.specs.declared.finding.Finding.{Finding}

@@ -3,12 +3,12 @@
 ghost use Rattle.std.specs.Prelude.{◌≡◌, ◌++◌, List, IfOk, OnOk, false};
 ghost use Rattle.std.specs.Option.{option_map_or};
 ghost use Rattle.segment_check.specs.NumberConditions.{fails_bridge};
+ghost use Rattle.segment_check.specs.Loops.WalkViews.{IsFirst};
 ghost use Rattle.segment_check.specs.Reading as reading;
 ghost use Rattle.segment_check.specs.Reading.{finding_if, findings_with, found_in};
 ghost use Rattle.usfm_token.specs.Tokens.{Lexeme};
 ghost use Rattle.usfm_token.specs.View.{mark_parts};
 ghost use Rattle.verse_cut.specs.Keys.{text_after};
-ghost use Rattle.verse_cut.specs.Loops.Walks.{IsFirst};
 
 use crate::code::Code;
 use crate::finding::Finding;

@@ -9,3 +9,4 @@ pub mod Runs
 pub mod Readings
 pub mod Spellings
 pub mod Ranges
+pub mod Fronts

@@ -10,3 +10,4 @@ pub mod CutLaws
 pub mod ChapterLines
 pub mod Steps
 pub mod Skips
+pub mod Fronts

@@ -1,11 +1,11 @@
 //! A walk over the marks of a text, with their keys.
 
-ghost use Rattle.std.specs.Prelude.{◌≡◌, ◌<◌, ◌≤◌, ◌&&◌, List, [], length, drop, MatchOption};
-ghost use Rattle.usfm_token.specs.Tokens.{Lexeme, tokens_of};
+ghost use Rattle.std.specs.Prelude.{◌≡◌, ◌<◌, ◌≤◌, ◌&&◌, [], length, drop, MatchOption};
+ghost use Rattle.usfm_token.specs.Tokens.{tokens_of};
 ghost use Rattle.usfm_token.specs.View.{lexeme};
-ghost use Rattle.verse_cut.specs.Keys.{key_below, text_after};
+ghost use Rattle.verse_cut.specs.Keys.{key_below};
 ghost use Rattle.verse_cut.specs.Reading.{key_of};
-ghost use Rattle.verse_cut.specs.Loops.Walks.{IsFirst, from_mark, may_have_key};
+ghost use Rattle.verse_cut.specs.Loops.Walks.{from_mark, may_have_key};
 
 use usfm_ref::{Key, Place, chapter_after, verse_after};
 use usfm_token::{Token, TokenIter};
@@ -45,7 +45,7 @@ impl<'a> Walk<'a> {
         let mut tokens = TokenIter::new(self.here);
         let token = tokens.next()?;
         self.here = tokens.rest();
-        Some(key_of(chapter, token, tokens.next()))
+        Some(key_of(chapter, token, self.here))
     }
 
     // Whether the mark at the front has the key. The walk comes after it.
@@ -108,11 +108,12 @@ fn is_below(key: Key, other: Key) -> bool
     key < other
 }
 
-// The key of a token before the next one, where a verse is in the chapter.
-fn key_of(chapter: u16, token: Token<'_>, next: Option<Token<'_>>) -> Option<Key>
+// The key of a token, by what comes after it, where a verse is in the chapter. A number is read no
+// further than the next mark.
+#[tactic(auto, using(crate::proofs::Fronts::chapter_after_mark, crate::proofs::Fronts::verse_after_mark))]
+fn key_of(chapter: u16, token: Token<'_>, after: &str) -> Option<Key>
     requires { chapter ≤ 999 }
-    ensures { (ts : List Lexeme) → IsFirst next.entry ts
-        → result ≡ key_of chapter (lexeme token.entry) ts }
+    ensures { result ≡ key_of chapter (lexeme token.entry) (tokens_of after.now) }
 {
     let Token::Mark(mark) = token else {
         return None;
@@ -120,10 +121,6 @@ fn key_of(chapter: u16, token: Token<'_>, next: Option<Token<'_>>) -> Option<Key
     if mark.nested() || mark.closing() {
         return None;
     }
-    let after = match next {
-        Some(Token::Text(text)) => text,
-        Some(Token::Mark(_)) | None => "",
-    };
     match mark.name() {
         "c" => chapter_after(after).map(Key::chapter_head),
         "v" => {

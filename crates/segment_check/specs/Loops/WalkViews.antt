@@ -1,5 +1,5 @@
 -- What a contract sees of a walk over marks.
-use Rattle.std.specs.Prelude.{List, [], ◌∷◌, Option, None, Some}
+use Rattle.std.specs.Prelude.{◌≡◌, List, [], ◌∷◌, Option, None, Some}
 use Rattle.usfm_token.specs.Tokens.{Lexeme}
 use Rattle.usfm_token.specs.View.{lexeme}
 use Rattle.usfm_token.specs.declared.token.Token.{Token}
@@ -14,3 +14,9 @@ state_of w = record { key = w.key; reach = w.reach; seen = w.seen.now }
 abbrev pub before : Option Token → List Lexeme → List Lexeme
 before None ts = []
 before (Some t) ts = lexeme t ∷ ts
+
+-- the token is the first
+abbrev pub IsFirst : Option Token → List Lexeme → Type 0
+IsFirst None ts = ts ≡ []
+IsFirst (Some t) [] = ⊥
+IsFirst (Some t) (x ∷ ts) = lexeme t ≡ x

@@ -3,16 +3,8 @@ use Rattle.std.specs.Prelude.{◌≡◌, ℕ, ◌+◌, ◌-◌, Bool, true, fals
 use Rattle.std.specs.List.{position_or_len}
 use Rattle.usfm_ref.specs.Keys.{KeyParts}
 use Rattle.usfm_token.specs.Tokens.{Lexeme, is_backslash, tokens_of}
-use Rattle.usfm_token.specs.View.{lexeme}
-use Rattle.usfm_token.specs.declared.token.Token.{Token}
 use Rattle.verse_cut.specs.Pieces.{PieceParts}
 use Rattle.verse_cut.specs.Reading.{key_of, cut_from, pieces_with, is_quiet}
-
--- the token is the first
-abbrev pub IsFirst : Option Token → List Lexeme → Type 0
-IsFirst None ts = ts ≡ []
-IsFirst (Some t) [] = ⊥
-IsFirst (Some t) (x ∷ ts) = lexeme t ≡ x
 
 -- a backslash (92) is at the front, before a `c` (99) or a `v` (118), with which the names of the
 -- marks that have a key begin
