@@ -1,5 +1,6 @@
-ghost use Rattle.std.specs.Prelude.{◌≡◌};
+ghost use Rattle.std.specs.Prelude.{◌≡◌, ℕ, List, false};
 ghost use Rattle.std.specs.Bool.{Decides};
+ghost use Rattle.usfm_ref.specs.Keys.{book_head, same_key};
 ghost use Rattle.usfm_token.specs.Tokens.{tokens_of};
 ghost use Rattle.verse_cut.specs.Fits.{Fits};
 ghost use Rattle.verse_cut.specs.Reading.{is_quiet, leads, text_fits};
@@ -21,8 +22,18 @@ pub fn fits(book: Book, key: Key, text: &str) -> bool
     if key.is_book_head() {
         is_headed(book, text) && is_quiet(key, text)
     } else {
-        text.is_empty() || leads(key, text)
+        fits_below_head(key, text)
     }
+}
+
+/// Whether a text fits a key other than the head of the book, of which book does not matter. It
+/// does not allocate.
+pub fn fits_below_head(key: Key, text: &str) -> bool
+    requires below { same_key key book_head ≡ false }
+    ensures fits { (book : List ℕ) → Decides result (Fits book key text.now) }
+    ensures value { (book : List ℕ) → result ≡ text_fits book key text.now }
+{
+    text.is_empty() || leads(key, text)
 }
 
 // Whether a mark with the key stands at the front, and no later one has a greater key.

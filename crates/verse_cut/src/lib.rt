@@ -19,7 +19,7 @@ mod walk;
 
 pub use cutter::{Piece, cut};
 pub use fault::BookFault;
-pub use fitting::fits;
+pub use fitting::{fits, fits_below_head};
 pub use heading::book_of;
 
 #[cfg(test)]

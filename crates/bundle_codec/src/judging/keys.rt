@@ -9,7 +9,7 @@ ghost use Rattle.bundle_codec.specs.Views.{key_view};
 use super::fields::{u8_at, u8_in, u16_at, u16_in};
 use crate::fault::BundleFault;
 use usfm_ref::{Book, Key, Place};
-use verse_cut::fits;
+use verse_cut::{fits, fits_below_head};
 
 // A chapter and a place in it, which make a key.
 #[derive(Clone, Copy, Debug)]
@@ -118,5 +118,10 @@ pub(crate) fn fits_segment(code: &[u8], key: KeyView, text: &str) -> bool
         chapter: key.chapter,
         place: key.place,
     };
-    fits(book_in(code), key, text)
+    if key.is_book_head() {
+        fits(book_in(code), key, text)
+    } else {
+        // Most are verses, and their book need not be looked up.
+        fits_below_head(key, text)
+    }
 }

@@ -1,7 +1,7 @@
-use Rattle.std.proofs.Common.{◌≡◌, ◌∙◌, ◌||◌, ◌&&◌, sym, ap}
+use Rattle.std.proofs.Common.{◌≡◌, ◌∙◌, ◌&&◌, sym, ap}
 use Rattle.usfm_token.specs.Tokens.{tokens_of}
-use Rattle.verse_cut.specs.Reading.{is_quiet, leads, text_fits}
-use Rattle.verse_cut.proofs.FitLaws.{fits_by, fits_head, fits_other, empty_is}
+use Rattle.verse_cut.specs.Reading.{is_quiet, text_fits}
+use Rattle.verse_cut.proofs.FitLaws.{fits_by, fits_head}
 use Rattle.verse_cut.proofs.fitting.fits.Goals as goal
 
 quiet : (c : goal.After-is_quiet) → c.is_quiet.result ≡ text_fits c.args.book c.args.key c.args.text.now
@@ -16,12 +16,6 @@ unheaded c =
     ∙ ap (λ h. h && is_quiet c.args.key (tokens_of c.args.text.now)) (sym c.if-is_headed.false ∙ c.is_headed.ensures)
     ∙ fits_head c.args.book c.args.key c.args.text.now (sym c.is_book_head.ensures ∙ c.if-is_book_head.true)
 
-leading : (c : goal.After-leads) → c.leads.result ≡ text_fits c.args.book c.args.key c.args.text.now
-leading c =
-    c.leads.ensures
-    ∙ ap (λ e. e || leads c.args.key (tokens_of c.args.text.now)) (sym c.if-is_empty.false ∙ c.is_empty.ensures ∙ empty_is c.args.text.now)
-    ∙ fits_other c.args.book c.args.key c.args.text.now (sym c.is_book_head.ensures ∙ c.if-is_book_head.false)
-
 pub returns-then-is_headed-clause-fits : goal.returns-then-is_headed-clause-fits
 returns-then-is_headed-clause-fits c = fits_by c.args.book c.args.key c.args.text.now c.is_quiet.result (quiet c)
 
@@ -34,14 +28,6 @@ returns-else-is_headed-clause-fits c = fits_by c.args.book c.args.key c.args.tex
 pub returns-else-is_headed-clause-value : goal.returns-else-is_headed-clause-value
 returns-else-is_headed-clause-value c = unheaded c
 
-pub returns-then-is_empty-clause-value : goal.returns-then-is_empty-clause-value
-returns-then-is_empty-clause-value c =
-    c.if-is_empty.true
-    ∙ ap (λ e. e || leads c.args.key (tokens_of c.args.text.now)) (sym c.if-is_empty.true ∙ c.is_empty.ensures ∙ empty_is c.args.text.now)
-    ∙ fits_other c.args.book c.args.key c.args.text.now (sym c.is_book_head.ensures ∙ c.if-is_book_head.false)
-
-pub returns-else-is_empty-clause-fits : goal.returns-else-is_empty-clause-fits
-returns-else-is_empty-clause-fits c = fits_by c.args.book c.args.key c.args.text.now c.leads.result (leading c)
-
-pub returns-else-is_empty-clause-value : goal.returns-else-is_empty-clause-value
-returns-else-is_empty-clause-value c = leading c
+pub returns-else-is_book_head-clause-fits : goal.returns-else-is_book_head-clause-fits
+returns-else-is_book_head-clause-fits c =
+    fits_by c.args.book c.args.key c.args.text.now c.fits_below_head.result (c.fits_below_head.ensures.value c.args.book)
