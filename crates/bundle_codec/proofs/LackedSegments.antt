@@ -90,11 +90,10 @@ all_gathered knows all it segments end so_far g =
     ∙ ap (λ (ops : List Operation). has_segment segments g || lacks_thinned ops knows g) (sym end)
     ∙ so_far g
 
--- whether an operation of this id and segment is sent, as it is tested
-pub asked : (all : List Operation) (summary coverage : List NameRanges) (whole : Segments) (o : Operation) (sent : Bool) (id : Id)
-    {book : List ℕ} {key : KeyParts} → id ≡ o.id → book ≡ o.segment.book → key ≡ o.segment.key → coverage ≡ summary
-    → ((g : Segment) → has_segment whole g ≡ lacks_thinned all (covers summary) g)
-    → sent ≡ (not (covers coverage id) || has_segment whole (segment book key)) → is_sent all (covers summary) o ≡ sent
-asked all summary coverage whole o sent id of_id of_book of_key same lacks e =
-    sym (e ∙ (λ i. not (covers (same i) (of_id i)) || has_segment whole (segment (of_book i) (of_key i)))
+-- whether an operation is sent, as it is tested
+pub asked : (all : List Operation) (summary coverage : List NameRanges) (whole : Segments) (o : Operation) (sent : Bool)
+    → coverage ≡ summary → ((g : Segment) → has_segment whole g ≡ lacks_thinned all (covers summary) g)
+    → sent ≡ (not (covers coverage o.id) || has_segment whole o.segment) → is_sent all (covers summary) o ≡ sent
+asked all summary coverage whole o sent same lacks e =
+    sym (e ∙ ap (λ (s : List NameRanges). not (covers s o.id) || has_segment whole o.segment) same
     ∙ ap (λ b. not (covers summary o.id) || b) (lacks o.segment))

@@ -4,3 +4,4 @@ pub mod Thinning
 pub mod Merging
 pub mod SummaryMaking
 pub mod Naming
+pub mod Lending

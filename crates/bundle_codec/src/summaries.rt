@@ -9,6 +9,7 @@ ghost use Rattle.bundle_codec.specs.SummaryReading.{read_summary, ReadFails};
 mod counting;
 mod coverage;
 mod ids;
+mod lent;
 mod making;
 mod name_ranges;
 mod outside;
@@ -21,11 +22,11 @@ use crate::fault::SummaryFault;
 use counting::ids_in;
 use coverage::Coverage;
 use ids::Ids;
+use lent::LentOps;
 use making::{held_ranges, listed};
 use name_ranges::{NameRanges, find_name};
 use op_core::{OpId, OpSet};
 pub use outside::encode_outside;
-pub(crate) use outside::{push_spelled, stays_full};
 use range::find_range;
 use reading::summary_of;
 use std::alloc::{AllocError, Global};
@@ -106,7 +107,7 @@ impl Summary {
         ensures exact { IfOk result (λ s. sums.IsSummaryOf set.now s) }
         ensures value { IfOk result (λ s. s ≡ sums.summary_of set.now) }
     {
-        Summary::of_ids(alloc, Ids::of_set(set))
+        Summary::of_ids(alloc, Ids::of(LentOps::of_set(set)))
     }
 
     /// The summary of the set that a bundle spells, as `of` makes it, by one walk over the ids in
@@ -118,7 +119,7 @@ impl Summary {
         ensures exact { IfOk result (λ s. sums.IsSummaryOf bundle.now s) }
         ensures value { IfOk result (λ s. s ≡ sums.summary_of bundle.now) }
     {
-        Summary::of_ids(alloc, Ids::of_bundle(bundle))
+        Summary::of_ids(alloc, Ids::of(LentOps::of_bundle(bundle)))
     }
 
     // The summary of the ids of a walk.

@@ -10,7 +10,6 @@ ghost use Rattle.bundle_codec.specs.Spelling as spelled;
 ghost use Rattle.bundle_codec.specs.Loops.Naming as naming;
 
 use crate::bundle::Bundle;
-use crate::summaries::{push_spelled, stays_full};
 use crate::views::view::OpView;
 use crate::views::walk::BundleOps;
 use crate::writing::{push_front, set_front_at};
@@ -124,4 +123,18 @@ fn push_bare(bytes: &mut Vec<u8>, op: &OpView<'_>) -> Result<(), AllocError>
 {
     bytes.extend_from_slice(op.head())?;
     bytes.extend_from_slice(&[0])
+}
+
+// Appends the bytes that spell an operation.
+fn push_spelled(bytes: &mut Vec<u8>, op: &OpView<'_>) -> Result<(), AllocError>
+    ensures { IfOk result (λ _. bytes.new.items ≡ bytes.old.items ++ spelled.operation op.now) }
+{
+    bytes.extend_from_slice(op.spelled())
+}
+
+// Whether all so far have their texts, and the operation too.
+fn stays_full(full: bool, op: &OpView<'_>) -> bool
+    ensures { result ≡ (full && is_full op.now) }
+{
+    full && op.text().is_some()
 }

@@ -8,15 +8,8 @@ use Rattle.op_core.specs.Names.{name_cmp}
 use Rattle.op_core.specs.Ids.{Id}
 use Rattle.op_core.specs.Lists.{ids_of}
 use Rattle.op_core.specs.NextIds.{is_among}
-use Rattle.bundle_codec.specs.declared.summaries.ids.Left.{Left}
-use Rattle.bundle_codec.specs.declared.summaries.ids.Left.TheVariants.{OfSet, OfBundle}
 use Rattle.bundle_codec.specs.declared.summaries.range.NumberRange.{NumberRange}
 use Rattle.bundle_codec.specs.Summaries.{NameRanges, is_range, are_apart, has_number}
-
--- the ids of the operations that are left of a walk
-abbrev pub ids_left : Left → List Id
-ids_left (OfSet ops) = ids_of ops
-ids_left (OfBundle ops) = ids_of ops
 
 -- the ranges with one number more, which is greater than theirs
 abbrev pub with_last : List NumberRange → ℕ → List NumberRange

@@ -1,4 +1,5 @@
-use Rattle.std.proofs.Common.{◌≡◌}
+use Rattle.std.proofs.Common.{◌≡◌, ◌∙◌, ap}
+use Rattle.op_core.specs.Lists.{ids_of}
 use Rattle.bundle_codec.specs.Summaries.{IsSummaryOf, summary_of}
 use Rattle.bundle_codec.proofs.Holding.{if_ok}
 use Rattle.bundle_codec.proofs.SoFar.{walked_rise, walked_valid, summed}
@@ -6,14 +7,16 @@ use Rattle.bundle_codec.proofs.Told.{same_as_told}
 use Rattle.bundle_codec.proofs.summaries.Summary.of.Goals as goal
 
 pub of_ids-requires-clause-rising : goal.of_ids-requires-clause-rising
-of_ids-requires-clause-rising c = walked_rise c.args.set.now c.of_set.ensures.set c.of_set.result c.of_set.ensures.ids
+of_ids-requires-clause-rising c =
+    walked_rise c.args.set.now c.of_set.ensures.set c.of.result (c.of.ensures ∙ ap ids_of c.of_set.ensures.ops)
 
 pub of_ids-requires-clause-each : goal.of_ids-requires-clause-each
-of_ids-requires-clause-each c = walked_valid c.args.set.now c.of_set.ensures.set c.of_set.result c.of_set.ensures.ids
+of_ids-requires-clause-each c =
+    walked_valid c.args.set.now c.of_set.ensures.set c.of.result (c.of.ensures ∙ ap ids_of c.of_set.ensures.ops)
 
 pub returns-clause-exact : goal.returns-clause-exact
 returns-clause-exact c =
-    summed c.args.set.now c.of_set.ensures.set c.of_set.result c.of_set.ensures.ids c.of_ids.result
+    summed c.args.set.now c.of_set.ensures.set c.of.result (c.of.ensures ∙ ap ids_of c.of_set.ensures.ops) c.of_ids.result
     c.of_ids.ensures.form c.of_ids.ensures.exactly
 
 pub returns-clause-value : goal.returns-clause-value
