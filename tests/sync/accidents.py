@@ -104,7 +104,7 @@ def check_no_longer_a_book(tally: Tally, between: Between, home: Path) -> None:
         before = place.all()
         for words in (["sync", "p", "texts", "bundle"], ["export", "p", "--into", "texts"]):
             answer = place.run(*words)
-            passed = b"" if how == "another book" else b"skipped texts/41MAT.SFM: it does not begin with \\id and a book's code\n"
+            passed = b"" if how == "another book" else b"skipped texts/41MAT.SFM: it does not begin with \\id and a book's code in capitals\n"
             is_refused = answer == Answer(1, b"", passed + b"fault 131\nin texts/41MAT.SFM\n")
             tally.check(is_refused and place.all() == before, f"{how}: {answer}")
         place.write(MATTHEW, text)

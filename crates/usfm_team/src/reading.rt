@@ -190,7 +190,7 @@ impl Read {
     // the wrong ending.
     pub(crate) fn say_no_book(&self, rt: &HostRuntime, folder: &Folder) -> Result<(), Fault> {
         if self.book_looks.is_empty() {
-            say_of(rt, "no file of ", folder.name(), NO_BOOK_FILE);
+            say_of(rt, "", folder.name(), NO_BOOK_FILE);
             for name in &self.texts {
                 say_of(rt, "skipped ", &folder.name_of(rt, name)?, TEXT_NAME);
             }
@@ -256,7 +256,7 @@ fn read_found(
             if book_begun(&bytes).is_some() {
                 read.book_looks.push(look_at(&file)?)?;
             } else {
-                let why = ": it does not begin with \\id and a book's code";
+                let why = ": it does not begin with \\id and a book's code in capitals";
                 say_skipped(rt, is_said, &folder.name_of(rt, &name)?, why);
             }
             read.looks.push(look_at(&file)?)?;

@@ -27,7 +27,13 @@ pub(crate) fn sync(rt: &HostRuntime, words: SyncWords, explains: bool) -> Result
     folder.lock(rt);
     let mut given = read_given(rt, words.bundles)?;
     let shared = match &words.box_folder {
-        Some(name) => Some(open_box(rt, name, &path, &before, &mut given)?),
+        Some(name) => {
+            let shared = open_box(rt, name, &path, &before, &mut given)?;
+            if explains {
+                shared.say_alone(rt);
+            }
+            Some(shared)
+        }
         None => None,
     };
     let what = What {

@@ -17,6 +17,8 @@ pub(crate) struct TeamBox {
     folder: Folder,
     // The name of the copy's own bundle in it.
     own: String,
+    // Whether it has another copy's bundle.
+    has_others: bool,
 }
 
 // Opens a box, and reads the bundles in it.
@@ -33,19 +35,24 @@ pub(crate) fn open_box(
     let own = format!(in rt.alloc(); "{}.bundle", copy.text()).map_err(Fault::from)?;
     let folder = Folder::open(rt, name);
     let folder = folder.map_err(|fault| Refusal::expecting(rt, fault, name, Expected::Box))?;
-    read_box(rt, &folder, &own, judged.bundle(), given)?;
-    Ok(TeamBox { folder, own })
+    let has_others = read_box(rt, &folder, &own, judged.bundle(), given)?;
+    Ok(TeamBox {
+        folder,
+        own,
+        has_others,
+    })
 }
 
-// Reads the bundles of a box that come in, in the order of their names. What is none is skipped and
-// said.
+// Reads the bundles of a box that come in, in the order of their names, and answers whether one is
+// another copy's. What is none is skipped and said.
 fn read_box(
     rt: &HostRuntime,
     folder: &Folder,
     own: &str,
     bundle: &[u8],
     given: &mut Given,
-) -> Result<(), Refusal> {
+) -> Result<bool, Refusal> {
+    let mut has_others = false;
     for name in folder.names(rt, true)? {
         if !may_be_bundle(&name) {
             if name.ends_with(".bundle") && name.contains('\n') {
@@ -60,7 +67,10 @@ fn read_box(
         let own = if is_own { Some(bundle) } else { None };
         let file = box_file(rt.alloc(), own, &bytes).map_err(Fault::from)?;
         match file {
-            BoxFile::Bundle => push_bundle(rt, folder, &name, is_own, bytes, given)?,
+            BoxFile::Bundle => {
+                has_others |= !is_own;
+                push_bundle(rt, folder, &name, is_own, bytes, given)?;
+            }
             BoxFile::Unchanged => {}
             BoxFile::NoBundle => {
                 let path = folder.name_of(rt, &name)?;
@@ -69,7 +79,7 @@ fn read_box(
             }
         }
     }
-    Ok(())
+    Ok(has_others)
 }
 
 // The bytes of a bundle of a box. Another copy's that cannot be read is skipped and said: it keeps
@@ -109,6 +119,13 @@ fn push_bundle(
 }
 
 impl TeamBox {
+    // Says of a box without another copy's bundle that it has none.
+    pub(crate) fn say_alone(&self, rt: &HostRuntime) {
+        if !self.has_others {
+            say_of(rt, "", self.folder.name(), " has no other copy's bundle");
+        }
+    }
+
     // Puts all that a project has into the box, as its copy's own bundle.
     pub(crate) fn put(&self, rt: &HostRuntime, project: &[u8]) -> Result<(), Refusal> {
         let put = self.put_bundle(rt, project);

@@ -146,7 +146,7 @@ def read_files(folder: dict, place: str, read: Callable[[dict, str], bytes], not
         data = within(path, read, folder, path)
         book = book_begun(data)
         if book is None:
-            notes.append(b"skipped %s: it does not begin with \\id and a book's code\n" % path.encode())
+            notes.append(b"skipped %s: it does not begin with \\id and a book's code in capitals\n" % path.encode())
         else:
             files.append(BookFile(path, book, data))
     return files

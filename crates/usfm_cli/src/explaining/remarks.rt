@@ -15,7 +15,7 @@ const NO_RECORD: &str = "the style sheet has no \\Marker, so it knows no mark: i
 
 /// What follows the name of a folder in which there is no file of a book.
 pub const NO_BOOK_FILE: &str =
-    " is a book's yet: such a file ends in .usfm or .sfm, and begins with \\id and a code";
+    " has no book's file yet: its name ends in .usfm or .sfm, and it begins with \\id and a code";
 
 /// What is said of a file whose name ends in `.txt`, in a folder of books' files.
 pub const TEXT_NAME: &str = ": the name of a book's file ends in .usfm or .sfm";
