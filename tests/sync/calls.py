@@ -1,5 +1,5 @@
 """Commands on a folder that are killed at a system call, or of which a system call or an allocation fails: when repeated, such a
-command makes what an undisturbed one makes; and it loses nothing where another command changes the project before it is repeated."""
+command makes what an undisturbed one makes."""
 import concurrent.futures
 import errno
 import os
@@ -29,7 +29,6 @@ EXPORT = ["export", "p", "--into", "texts"]
 def check_calls(tally: Tally, between: Between, work: Path) -> None:
     scene = begun(between.program, work / "synced")
     check_command(tally, between, work, SYNC, scene)
-    check_edited_meanwhile(tally, between, work, scene)
     check_command(tally, between, work, EXPORT, ahead(between.program, work / "exported"))
 
 
@@ -58,37 +57,6 @@ def check_command(tally: Tally, between: Between, work: Path, words: list[str], 
             tally.check(is_right(way, first.answer, whole.answer), what)
             tally.check(again.status == 0 and left == end, f"{what}, then {again}, and {sorted(left)}")
     tally.check(len(ways) > 200, f"{words[0]}: {len(ways)} ways were tried")
-
-
-def check_edited_meanwhile(tally: Tally, between: Between, work: Path, scene: Path) -> None:
-    """Disturbs a sync, edits the project, which gives an id that the sync may have given, and syncs again."""
-    words = SYNC[:-1]
-    given = work / "nothing too"
-    given.write_bytes(b"")
-    whole = between.run(shutil.copytree(scene, work / "undisturbed"), words, given, "")
-    ways = [way for way in refusals(whole) if not way.startswith(("memory", "read", "look"))]
-    texts = {"MAT 1:1": b"\\v 1 ana\n", "MAT 1:2": b"\\v 2 meanwhile\n", "LUK 1:1": b"\\v 1 ana too\n"}
-
-    def tried(way: str) -> tuple[bool, Answer, Answer, list[str], list[str]]:
-        with tempfile.TemporaryDirectory(dir=work) as place:
-            folder = Path(place) / "tried"
-            shutil.copytree(scene, folder, symlinks=True)
-            between.run(folder, words, given, way)
-            is_cut = any((folder / "texts/.usfm_team" / it).exists() for it in ("before", "next"))
-            told = run(between.program, folder, ["status", "p", "texts"])
-            is_told = told.status == 0 and told.error == (b"a `sync` of texts was cut short: run it again first\n" if is_cut else b"")
-            edited = run(between.program, folder, ["edit", "p", "MAT 1:2"], texts["MAT 1:2"])
-            again = run(between.program, folder, words)
-            lost = [where for where, text in texts.items() if text not in run(between.program, folder, ["shown", "p", where]).output]
-            left = [it.name for it in (folder / "texts/.usfm_team").iterdir() if not re.fullmatch(r"base(\.\d)?|names", it.name)]
-            return is_told, edited, again, lost, left
-
-    with concurrent.futures.ThreadPoolExecutor(os.cpu_count()) as lanes:
-        for way, (is_told, edited, again, lost, left) in zip(ways, lanes.map(tried, ways)):
-            what = f"sync, {way}, an edit: {edited}, and a sync: {again}"
-            tally.check(edited.status == 0 and again.status == 0 and not lost and not left, f"{what}, lost {lost}, left {left}")
-            tally.check(is_told, f"{way}: `status` does not say whether the sync was cut short")
-    tally.check(len(ways) > 50, f"sync and an edit: {len(ways)} ways were tried")
 
 
 def refusals(whole: Run) -> Iterator[str]:

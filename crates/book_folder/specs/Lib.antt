@@ -3,6 +3,7 @@ pub mod Refusals
 pub mod Wanted
 pub mod Files
 pub mod Begun
+pub mod BegunAnew
 pub mod Restored
 pub mod Loops
 pub mod Asks

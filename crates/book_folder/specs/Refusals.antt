@@ -80,12 +80,6 @@ abbrev pub of_loading : LoadFault → Refusal
 of_loading loading.Memory = Memory
 of_loading fault = Of places.Project (faults.Project fault)
 
--- whether what the files were written from is refused, since it has another operation under an id
-abbrev pub is_base_clash : Refusal → Bool
-is_base_clash (Of (places.Base at) (faults.Clash id)) = true
-is_base_clash (Of places.Next (faults.Clash id)) = true
-is_base_clash refusal = false
-
 -- a replica after a step, with what is answered of it; or the refusal; or out of memory
 pub record Stepped (A : Type 0) (X : Type 0) : Type 0 where
   pub after : A

@@ -6,6 +6,7 @@
 mod asks;
 mod bases;
 mod begun;
+mod begun_anew;
 mod books;
 mod changed;
 mod coming;
@@ -31,6 +32,7 @@ mod taking;
 mod team_box;
 
 pub use begun::settled;
+pub use begun_anew::lacks_base;
 pub use done::{Line, lines_of, project_after};
 pub use export::export_plan;
 pub use files::{book_begun, may_be_book};

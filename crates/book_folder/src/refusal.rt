@@ -102,18 +102,6 @@ impl<T: Drop> From<AllocFailed<T>> for Refusal {
 }
 
 impl Refusal {
-    /// Whether a base is refused, or the one that was being written, since it has another operation
-    /// under an id than the project. If a sync was cut short once it put that base, before the
-    /// project had what it says, then the id was given again.
-    pub fn is_base_clash(&self) -> bool
-        ensures { result ≡ refusals.is_base_clash self.now }
-    {
-        matches!(
-            self,
-            Refusal::Of(Place::Base(_) | Place::Next, FolderFault::Clash(_))
-        )
-    }
-
     pub(crate) fn of_bundle(place: Place, fault: WholeFault) -> Refusal
         ensures { result ≡ refusals.of_bundle place fault }
     {

@@ -31,11 +31,8 @@ pub(crate) fn folder_lines(
         let why = " was cut short: run it again first";
         say_of(rt, "a `sync` of ", folder.name(), why);
     }
-    let mut found = standing_of(what, &read);
-    if read.goes_back(rt, &found)? {
-        found = standing_of(what, &read);
-    }
-    match found {
+    read.look_back(rt, what.project, what.given)?;
+    match standing_of(what, &read) {
         Ok(standing) => lines(what, &read, &standing),
         Err(refusal) => Err(refusal_of(what, &read, refusal)),
     }

@@ -3,6 +3,7 @@
 
 mod changed;
 mod files;
+mod kept;
 mod looks;
 mod project;
 mod reading;

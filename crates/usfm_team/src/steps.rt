@@ -3,8 +3,9 @@ use crate::files::{
     Folder, are_one, is_still, is_there, make_file, make_private, remove_if_there, sync_file,
     write_made,
 };
+use crate::kept::{BASE, BEFORE, Kept, NAMES, NEXT, OLDER, OWN, read_kept};
 use crate::project::Project;
-use crate::reading::{BASE, BEFORE, Kept, NAMES, NEXT, OLDER, OWN, Read, read_kept};
+use crate::reading::Read;
 use crate::refusal::Refusal;
 use crate::rights::keep_least_rights;
 use crate::sync::fault_of;
@@ -60,8 +61,8 @@ pub(crate) fn do_steps(
     let own = own_folder(disk)?;
     if disk.read.kept.goes_back {
         go_back(disk, &own).map_err(|fault| own.refusal(disk.rt, fault, BEFORE))?;
-    } else if disk.read.kept.before.is_some() && !steps.first().is_some_and(is_replacement) {
-        // The project has what the base says, and only this is left of that sync.
+    } else if disk.read.kept.before.is_some() {
+        // The project has what the bases say, and only this is left of that sync.
         forget_before(disk, &own)?;
     }
     for step in steps {

@@ -1,8 +1,9 @@
 // A folder of books' files: what was changed in it comes into the project, and the project's books
 // go into it. What is to be done is a plan, which is made of all that was read.
 use crate::files::Folder;
+use crate::kept::{NEXT, OWN};
 use crate::project::{Project, lock_project};
-use crate::reading::{Given, NEXT, OWN, Read, read_folder, read_given};
+use crate::reading::{Given, Read, read_folder, read_given};
 use crate::refusal::Refusal;
 use crate::steps::{Disk, Done, do_steps, sweep};
 use crate::team_box::open_box;
@@ -196,11 +197,8 @@ fn read_and_plan(
     if is_said && what.explains {
         read.say_no_book(what.rt, what.folder)?;
     }
-    let mut made = plan_of(what, &read, exported);
-    if read.goes_back(what.rt, &made)? {
-        made = plan_of(what, &read, exported);
-    }
-    match made {
+    read.look_back(what.rt, what.project, what.given)?;
+    match plan_of(what, &read, exported) {
         Ok(plan) => Ok((read, plan)),
         Err(refusal) => Err(refusal_of(what, &read, refusal)),
     }
