@@ -1,6 +1,6 @@
 -- What is answered where a folder may be refused (this project's own rule): the value, or the
 -- refusal that there is; or out of memory.
-use Rattle.std.specs.Prelude.{◌≡◌, Bool, true, false, List, [], ◌∷◌, ◌++◌, Option, Result, Ok, Err}
+use Rattle.std.specs.Prelude.{◌≡◌, List, [], ◌∷◌, ◌++◌, Option, Result, Ok, Err}
 use Rattle.std.specs.Option.{option_to_list}
 use Rattle.bundle_codec.specs.declared.fault.BundleFault.TheVariants as bundle
 use Rattle.bundle_codec.specs.declared.fault.WholeFault.{WholeFault}

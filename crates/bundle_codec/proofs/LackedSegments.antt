@@ -8,7 +8,6 @@ use Rattle.std.specs.BTreeSet.{BTreeSet, contains}
 use Rattle.std.specs.BTreeMap.{is_at}
 use Rattle.usfm_ref.specs.Books.{book_cmp}
 use Rattle.usfm_ref.specs.Keys.{KeyParts, key_cmp}
-use Rattle.usfm_ref.specs.Segments.{segment}
 use Rattle.usfm_ref.specs.declared.segment.Segment.{Segment}
 use Rattle.usfm_ref.specs.contracts.book.BookOrd.TheImpl as books
 use Rattle.usfm_ref.specs.contracts.key.KeyOrd.TheImpl as keys

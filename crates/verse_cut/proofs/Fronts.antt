@@ -1,9 +1,8 @@
 -- The text directly after a mark: a number that is read there is read alike where more follows the next mark.
-use Rattle.std.proofs.Common.{◌≡◌, ℕ, Bool, true, false, not, ◌==◌, List, [], ◌∷◌, ◌++◌, length, take, drop, Option, refl, sym, ap, ◌∙◌, eqb-true, take-append-drop}
+use Rattle.std.proofs.Common.{◌≡◌, ℕ, Bool, true, false, not, ◌==◌, List, [], ◌∷◌, ◌++◌, length, drop, refl, sym, ap, ◌∙◌, eqb-true, take-append-drop}
 use Rattle.std.proofs.lemmas.List.{append-nil}
 use Rattle.std.specs.List.{before_first, prefix_len}
 use Rattle.usfm_ref.specs.Numbers.{chapter_in, verse_in}
-use Rattle.usfm_ref.specs.declared.number.VerseMark.{VerseMark}
 use Rattle.usfm_ref.proofs.Runs.{stops, stops-run}
 use Rattle.usfm_ref.proofs.Fronts.{chapter_in-before, verse_in-before}
 use Rattle.usfm_token.specs.Tokens.{Lexeme, is_backslash, first_lexeme, slice_of, tokens_of}

@@ -6,7 +6,6 @@ use Rattle.std.specs.BTreeMap.{BTreeMap, get as value_at, IsOrdered}
 use Rattle.usfm_ref.specs.Books.{same_bytes}
 use Rattle.op_core.specs.Names.{name_cmp}
 use Rattle.op_core.specs.Ids.{Id}
-use Rattle.op_core.specs.Lists.{ids_of}
 use Rattle.op_core.specs.NextIds.{is_among}
 use Rattle.bundle_codec.specs.declared.summaries.range.NumberRange.{NumberRange}
 use Rattle.bundle_codec.specs.Summaries.{NameRanges, is_range, are_apart, has_number}

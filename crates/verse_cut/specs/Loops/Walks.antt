@@ -1,5 +1,5 @@
 -- What a walk over the tokens of a text takes, and what it leaves of a cut.
-use Rattle.std.specs.Prelude.{◌≡◌, ℕ, ◌+◌, ◌-◌, Bool, true, false, ◌||◌, ◌&&◌, ◌==◌, List, [], ◌∷◌, ◌++◌, length, take, drop, Option, None, Some}
+use Rattle.std.specs.Prelude.{◌≡◌, ℕ, ◌+◌, ◌-◌, Bool, true, false, ◌||◌, ◌&&◌, ◌==◌, List, [], ◌∷◌, ◌++◌, length, take, drop, Option}
 use Rattle.std.specs.List.{position_or_len}
 use Rattle.usfm_ref.specs.Keys.{KeyParts}
 use Rattle.usfm_token.specs.Tokens.{Lexeme, is_backslash, tokens_of}
