@@ -105,9 +105,13 @@ impl Read {
                 let lent = self.lend(rt)?;
                 lacks_base(rt.alloc(), &lent.seen(project, given))
             };
-            // A project or a base that cannot be read is refused by the plan.
-            if matches!(lacks, Ok(true)) {
-                self.kept.go_back(rt)?;
+            match lacks {
+                Ok(true) => {
+                    self.kept.go_back(rt)?;
+                }
+                Err(book_folder::Refusal::Memory) => return Err(Fault::Memory),
+                // A project or a base that cannot be read is refused by the plan.
+                Ok(false) | Err(_) => {}
             }
         }
         Ok(self.kept.put_base_before_next(rt)?)
