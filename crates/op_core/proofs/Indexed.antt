@@ -15,4 +15,5 @@ pub mod Settled
 pub mod Changed
 pub mod IndexSegments
 pub mod KeyWalks
+pub mod BookChapters
 pub mod BookWalks

@@ -1,11 +1,17 @@
-ghost use Rattle.std.specs.Prelude.{◌≡◌, ◌∷◌, [], MatchOption};
+ghost use Rattle.std.specs.Prelude.{◌≡◌, ◌≤◌, ◌∷◌, [], MatchOption, IsTrue, length};
 ghost use Rattle.std.specs.Iterator.{YieldsFirst, item_count};
-ghost use Rattle.op_core.specs.Loops.Index.{chapter_keys, kept_keys, keys_left};
+ghost use Rattle.std.specs.List.{prefix_len};
+ghost use Rattle.usfm_ref.specs.Books.{same_bytes};
+ghost use Rattle.usfm_ref.specs.Rising.{rises_by};
+ghost use Rattle.usfm_ref.specs.Segments.{segment_cmp};
+ghost use Rattle.op_core.specs.Loops.Index.{home_of, chapter_keys, kept_keys, keys_left};
 
 use super::chapter::Chapter;
+use super::place::place_chapter;
 use super::register::Register;
+use crate::ids::search::Search;
 use std::marker::Model;
-use usfm_ref::{Book, Key};
+use usfm_ref::{Book, Key, Segment};
 
 /// The keys of a book with an operation, in ascending order, each once. Made by `OpSet::keys`; it
 /// does not allocate.
@@ -28,15 +34,42 @@ impl<'a> Model for Keys<'a> {
 
 impl<'a> Keys<'a> {
     pub(crate) fn new(book: Book, chapters: &'a [Chapter]) -> Keys<'a>
+        requires { IsTrue (rises_by segment_cmp home_of chapters.now) }
         ensures { result ≡ chapter_keys book chapters.now }
     {
         let registers: &[Register] = &[];
         Keys {
             book,
             registers,
-            chapters,
+            chapters: chapters_in(book, chapters),
         }
     }
+}
+
+// The chapters of a book, which stand side by side: a walk over them need not look at the others.
+fn chapters_in(book: Book, chapters: &[Chapter]) -> &[Chapter]
+    requires { IsTrue (rises_by segment_cmp home_of chapters.now) }
+    ensures { chapter_keys book result.now ≡ chapter_keys book chapters.now }
+{
+    let head = Segment {
+        book,
+        key: Key::chapter_head(0),
+    };
+    let from = place_chapter(chapters, &head, &mut Search::default());
+    let (_, later) = chapters.split_at(from);
+    let (own, _) = later.split_at(count_in(book, later));
+    own
+}
+
+// How many chapters at the front are of a book.
+fn count_in(book: Book, chapters: &[Chapter]) -> usize
+    ensures count { result ≡ prefix_len (λ c. same_bytes c.book book) chapters.now }
+    ensures within { result ≤ length chapters.now }
+{
+    chapters
+        .iter()
+        .take_while(|chapter| chapter.book == book)
+        .count()
 }
 
 impl<'a> Iterator for Keys<'a> {
