@@ -277,6 +277,16 @@ def many_verses(count: int) -> Input:
     return imported(HEAD + b"".join(chapters))
 
 
+def many_books(command: str) -> Callable[[int], Input]:
+    """A project with the head of each of so many books, and what is asked of it."""
+
+    def made(count: int) -> Input:
+        heads = (operation((at, b"a"), book_code(count - at), 0, None, [], b"\\id %s\n" % book_code(count - at).encode()) for at in range(1, count + 1))
+        return Input([command, PROJECT], {PROJECT: project(rising(list(heads)))})
+
+    return made
+
+
 FAMILIES = [
     Family("one bundle, its chapters fall while its ids rise", 8_000, 80_000, falling_chapters),
     Family("one bundle, its verses fall while its ids rise", 2_600, 26_000, falling_verses),
@@ -315,6 +325,10 @@ FAMILIES = [
     Family("a sheet of many milestones, looked up by what closes them", 10_000, 100_000, lambda n: asked("check", b"\\e5 a" * n, sheet=records(n, b"Milestone"))),
     Family("one line of a sheet that is very long", 100_000, 1_000_000, lambda n: asked("check", b"a", sheet=SHEET + b"\\Name " + b"# a" * n)),
     Family("marks with many words in OccursUnder", 1_000, 10_000, words_under),
+    Family("many books: report", 4_000, 40_000, many_books("report")),
+    Family("many books: status", 4_000, 40_000, many_books("status")),
+    Family("many books: page", 4_000, 40_000, many_books("page")),
+    Family("many books: check", 4_000, 40_000, many_books("check")),
     Family("a book whose chapters and verses fall: import", 10_000, 100_000, falling_book),
     Family("a book of many verses: import", 10_000, 100_000, many_verses),
 ]

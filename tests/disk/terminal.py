@@ -34,6 +34,11 @@ def check_terminal(tally: Tally, program: Path, work: Path) -> None:
         tally.check(run(program, folder, words, typed) == wanted, f"{words[0]} of a pipe says nothing more")
         project.write_bytes(HELD)
         tally.check(of_file(program, folder, words, typed) == wanted, f"{words[0]} of a file says nothing more")
+    for words in (["edit", "p", "MAT 1:1"], ["edit-over", "p", "MAT 1:1", "2:ana"]):
+        project.write_bytes(HELD)
+        answer = at_terminal(program, folder, [*words, "--explain"], b"\\v 1 " + b"word " * 1000 + b"\n")
+        is_refused = (answer.status, answer.output) == (1, b"") and b"no more than 4,095 bytes of a line" in answer.error
+        tally.check(is_refused and project.read_bytes() == HELD, f"{words[0]} of a line that the terminal cuts: {answer}")
     for words in (["export", "p", "MAT"], ["send", "p"]):
         project.write_bytes(HELD)
         tally.check(at_terminal(program, folder, words, b"").error == b"", f"{words[0]} at a terminal says nothing")

@@ -111,7 +111,7 @@ def rows_of(status: list[list[str]]) -> list[tuple[str, str]]:
     numbers = said.get("books", "0").split(", verses ")
     replaced = said.get("replaced", "0").removesuffix(" without their texts").split(", of these ")
     rows = [("Copy", said["copy"]), ("Books", numbers[0]), ("Verses with a text", (numbers + ["0"])[1])]
-    rows += [(f"Texts shown by {it.split()[0]}", it.split()[1]) for it in said.get("shown", "").split(", ") if it]
+    rows += [(f"Texts by {it.split()[0]}", it.split()[1]) for it in said.get("shown", "").split(", ") if it]
     rows += [("Texts replaced", replaced[0]), ("Of these without their texts", (replaced + ["0"])[1])]
     for word, name in (("conflict", "Conflicts"), ("awaited", "Awaited")):
         rows.append((name, str(sum(it[0] == word for it in status))))

@@ -13,7 +13,7 @@ SECOND = (
     b"\nMAT 1:2, 1 left\n\nbefore it:\n\\v 1 To the beginning\n\n1: 7 ben, in the book\n\\v 2 So it [is]\n\\p\n\n"
     b"2: 7 ana\n\\v 2 So it [was once]\n\\p\n\n" + CHOICE
 )
-TYPE_A_TEXT = b"Type the text with its mark, and after it a line with only a full stop.\n"
+TYPE_A_TEXT = b"Type the text with its mark, and with what follows it above, as \\p; after it a\nline with only a full stop.\n"
 UNCLEAR = b"Type one of the numbers, e, s or q.\n"
 
 

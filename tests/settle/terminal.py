@@ -181,6 +181,7 @@ def check_end(tally: Tally, team: Team) -> None:
         person.type(typed + END)
         rest = person.read(b"conflicts 2\r\n")
         tally.check(b"settled 0\r\nconflicts 2\r\n" in rest and person.end() == 0, f"control-D after {typed}: {rest}")
+        tally.check((b"Nothing was changed" in rest) == (typed != b""), f"a text that is not taken is said: {rest}")
     tally.check((team.folder / "ana").read_bytes() == before, "nothing was made")
 
 

@@ -81,7 +81,7 @@ pub(crate) const BOOKS: &str = "<dt>Books</dt><dd>";
 
 pub(crate) const VERSES: &str = "<dt>Verses with a text</dt><dd>";
 
-pub(crate) const MAKER: &str = "<dt>Texts shown by ";
+pub(crate) const MAKER: &str = "<dt>Texts by ";
 
 pub(crate) const MAKER_COUNT: &str = "</dt><dd>";
 

@@ -60,7 +60,7 @@ fn a_conflict_side_by_side(rt: HostRuntime) -> Result<(), Fail> {
 </html>
 "#;
     assert!(rt; page.ends_with(wanted.as_bytes()));
-    assert!(rt; has(&page, "<dt>Texts shown by ana</dt><dd>6</dd>\n"));
+    assert!(rt; has(&page, "<dt>Texts by ana</dt><dd>6</dd>\n"));
     assert!(rt; has(&page, "<dt>Texts replaced</dt><dd>1</dd>\n"));
     assert!(rt;
         has(

@@ -91,6 +91,8 @@ of_bytes fault _ _ = of_bundle fault
 -- of a file that is to be a book's, by what it is
 abbrev pub no_book : Fault → Found → List ℕ
 no_book _ found.Bundle = say.BUNDLE_NOT_BOOK.now
+no_book _ found.Project = say.PROJECT_NOT_BOOK.now
+no_book _ found.Summary = say.SUMMARY_NOT_BOOK.now
 no_book fault _ = general fault
 
 -- of a file that is to be a project's, by what it is
@@ -125,6 +127,7 @@ abbrev pub unread : Expected → Found → List ℕ
 unread expected.Folder stands = unread_folder stands say.IS_FILE.now
 unread expected.Box stands = unread_folder stands say.BOX_IS_FILE.now
 unread expected.Project stands = unread_file stands say.NO_PROJECT_THERE.now
+unread expected.Typed _ = say.CUT_LINE.now
 unread _ stands = unread_file stands say.NOTHING_THERE.now
 
 -- of a project that was not begun, by what stands there

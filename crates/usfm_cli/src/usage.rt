@@ -21,7 +21,7 @@ use op_core::ReplicaName;
 use std::alloc::{AllocError, Global};
 
 /// The version of this workspace, which `usfm_team --version` prints. It is here alone.
-pub const VERSION: &str = "1.0.6";
+pub const VERSION: &str = "1.0.7";
 
 // What an argument is called, and what is to be given for it.
 type Words<'a> = &'a [(&'static str, &'static str)];
@@ -201,6 +201,7 @@ fn import<'a>(alloc: Global) -> Result<Command<'a>, AllocError> {
 const IMPORT: &str = "\
 Writes `added N` for each FILE, N the number of edits. Takes in all, or none: if
 it refuses one of several, a second line `in FILE` on standard error names it.
+One file has one book: what follows a second \\id stays in the first book.
 
 If FILE differs from the book, it replaces all that is shown there, also what
 came from others. If it was exported from PROJECT and others' work was received
@@ -244,8 +245,9 @@ fn edit<'a>(alloc: Global) -> Result<Command<'a>, AllocError> {
 
 const EDIT: &str = "\
 The text is the whole segment, with its mark: `\\v 1 In the beginning` for
-verse 1. An empty text removes the segment from its book. Writes
-`made NUMBER NAME`, the edit's id.
+verse 1, and with the end of its last line. Verses that stand together, as in
+`\\v 3-4`, are one segment, that of the first one. An empty text removes the
+segment from its book. Writes `made NUMBER NAME`, the edit's id.
 
 Example: printf '\\\\v 1 At\\n' | usfm_team edit ana.project 'MAT 1:1'
 

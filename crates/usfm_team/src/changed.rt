@@ -8,11 +8,13 @@ use std::io::Write;
 use usfm_cli::fault_line;
 
 // The lines of a folder: of each file that was changed, how many edits a sync would take in, and of
-// each that it would refuse, why. Nothing is locked, and nothing is changed.
+// each that it would refuse, why. Nothing is locked, and nothing is changed. What is skipped is said
+// where a person reads what faults mean.
 pub(crate) fn folder_lines(
     rt: &HostRuntime,
     project: Given<'_>,
     folder: &str,
+    explains: bool,
 ) -> Result<Vec<u8>, Refusal> {
     let folder = open_folder(rt, folder)?;
     let what = What {
@@ -23,9 +25,12 @@ pub(crate) fn folder_lines(
         given: &read_given(rt, Vec::new(rt.alloc()))?,
         wishes: &Wishes::none(rt.alloc()),
         is_try: true,
-        explains: false,
+        explains,
     };
-    let mut read = read_folder(rt, &folder, false)?;
+    let mut read = read_folder(rt, &folder, explains)?;
+    if explains {
+        read.say_slips(rt, &folder)?;
+    }
     let kept = &read.kept;
     if kept.next.is_some() || kept.before.is_some() || kept.goes_back {
         let why = " was cut short: run it again first";

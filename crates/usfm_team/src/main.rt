@@ -45,6 +45,9 @@ const USAGE: u8 = 2;
 // How many standard streams there are: input, output and error, of the numbers 0 to 2.
 const STREAMS: i32 = 3;
 
+// So many bytes of a line a terminal passes on at most, without its line feed.
+pub(crate) const MOST_TYPED: usize = 4095;
+
 // What a person at a terminal reads who is to type a text, or to give bundles.
 const TYPE_A_TEXT: &str =
     "usfm_team: type the segment's text with its mark, and end it with control-D on a new line\n";
@@ -128,7 +131,7 @@ fn run(rt: &HostRuntime, line: Line, explains: bool) -> Result<(), Refusal> {
             project,
             files,
             since,
-        } => import(rt, &project, files, since),
+        } => import(rt, &project, files, since, explains),
         Line::Edit { project, book, key } => edit(rt, &project, book, key),
         Line::EditOver {
             project,
@@ -156,7 +159,7 @@ fn run(rt: &HostRuntime, line: Line, explains: bool) -> Result<(), Refusal> {
         Line::Summary { project } => ask(rt, &project, &Command::Summary, explains),
         Line::Delta { project, summary } => delta(rt, &project, &summary),
         Line::Thin { project } => change(rt, &project, &Command::Thin, None),
-        Line::Status { project, files } => status(rt, &project, &files),
+        Line::Status { project, files } => status(rt, &project, &files, explains),
         Line::Progress { project, book } => progress(rt, &project, book),
         Line::Page { project } => page(rt, &project),
         Line::Report { project } => ask(rt, &project, &Command::Report, explains),
@@ -344,11 +347,19 @@ fn faults(rt: &HostRuntime) -> Result<(), Refusal> {
     Ok(write_output(rt, list.as_bytes())?)
 }
 
-// The text that standard input has.
-fn read_text(rt: &HostRuntime) -> Result<Vec<u8>, Fault> {
+// The text that standard input has. A terminal leaves out what is too long for a line of it, and
+// the rest would be taken for the whole.
+fn read_text(rt: &HostRuntime) -> Result<Vec<u8>, Refusal> {
     say_at_terminal(rt, TYPE_A_TEXT);
     let mut source = StdSource::new(rt.reader());
-    Ok(read_to_end(rt.alloc(), &mut source)?)
+    let text = read_to_end(rt.alloc(), &mut source).map_err(Fault::from)?;
+    let is_cut = text
+        .split(|byte| *byte == b'\n')
+        .any(|line| line.len() >= MOST_TYPED);
+    if is_cut && rt.stdin().is_terminal() {
+        return Err(Refusal::alone(rt, Fault::ReadFailed, "standard input", Expected::Typed));
+    }
+    Ok(text)
 }
 
 // Says at a terminal what a command waits for. Where that cannot be written, it waits all the same.

@@ -4,7 +4,7 @@ use crate::files::{Folder, Found as Opened, is_still, open_named, open_plain, re
 use crate::kept::{Kept, OWN, no_kept, read_kept};
 use crate::refusal::Refusal;
 use crate::rights::look_at;
-use crate::telling::{say, say_of};
+use crate::telling::{begins_as_book, has_second_book, say, say_of, say_second_book};
 use crate::turns::{read_files, refusal_in};
 use book_folder::{Found, Seen, book_begun, lacks_base, may_be_book};
 use std::alloc::AllocError;
@@ -127,13 +127,21 @@ impl Read {
         Ok(true)
     }
 
-    // Says of a folder in which no file is a book's that there is none, and which names may have
-    // the wrong ending.
-    pub(crate) fn say_no_book(&self, rt: &HostRuntime, folder: &Folder) -> Result<(), Fault> {
-        if self.book_looks.is_empty() {
+    // Says what looks like a slip: that no file of a folder is a book's, that a book's file has the
+    // wrong ending, and that a file has two books.
+    pub(crate) fn say_slips(&self, rt: &HostRuntime, folder: &Folder) -> Result<(), Fault> {
+        let is_bare = self.book_looks.is_empty();
+        if is_bare {
             say_of(rt, "", folder.name(), NO_BOOK_FILE);
-            for name in &self.texts {
+        }
+        for name in &self.texts {
+            if is_bare || begins_as_book(rt, &folder.way_to(rt, name)?) {
                 say_of(rt, "skipped ", &folder.name_of(rt, name)?, TEXT_NAME);
+            }
+        }
+        for file in &self.files {
+            if book_begun(&file.bytes).is_some() && has_second_book(&file.bytes) {
+                say_second_book(rt, &folder.name_of(rt, &file.name)?);
             }
         }
         Ok(())
@@ -197,8 +205,8 @@ fn read_found(
             if book_begun(&bytes).is_some() {
                 read.book_looks.push(look_at(&file)?)?;
             } else {
-                let why = ": it does not begin with \\id and a book's code in capitals";
-                say_skipped(rt, is_said, &folder.name_of(rt, &name)?, why);
+                let path = folder.name_of(rt, &name)?;
+                say_skipped(rt, is_said, &path, no_book_begun(&bytes));
             }
             read.looks.push(look_at(&file)?)?;
             read.files.push(OneFile { name, bytes })?;
@@ -211,6 +219,15 @@ fn read_found(
         Opened::Nothing => {}
     }
     Ok(())
+}
+
+// Why a file is no book's.
+fn no_book_begun(bytes: &[u8]) -> &'static str {
+    match bytes {
+        [] => ": it is empty",
+        [0xff, 0xfe, ..] | [0xfe, 0xff, ..] => ": it is UTF-16: save it as UTF-8",
+        _ => ": it does not begin with \\id, one blank and a book's code in capitals",
+    }
 }
 
 // The bytes of a plain file. What else stands there is skipped, and said.

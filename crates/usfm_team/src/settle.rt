@@ -1,6 +1,6 @@
 // Settles conflicts with the person at standard input. Nothing is locked while that person thinks.
 use crate::refusal::{Refusal, read_named};
-use crate::{done, locked, write_as_it_is, write_output};
+use crate::{MOST_TYPED, done, locked, write_as_it_is, write_output};
 use op_core::OpId;
 use std::io::{BufRead, BufReader, IsTerminal};
 use std::str;
@@ -26,11 +26,13 @@ Nothing was changed: a terminal passes on no more than 4,095 bytes of a line.
 Type the text in several lines.
 ";
 
-// So many bytes has a line of which a terminal may have passed on only a part, with its line feed.
-const MOST_TYPED: usize = 4096;
+const NOT_ENDED: &str = "\
+Nothing was changed: a line with only a full stop ends a text.
+";
 
 const TYPE_A_TEXT: &str = "\
-Type the text with its mark, and after it a line with only a full stop.
+Type the text with its mark, and with what follows it above, as \\p; after it a
+line with only a full stop.
 ";
 
 // What became of a question.
@@ -111,7 +113,10 @@ fn ask<R: BufRead>(
             Answer::Own => match read_text(rt, input)? {
                 Typed::Text(text) => make(rt, project, asked, &text)?,
                 Typed::Refused(why) => ask_again(rt, why)?,
-                Typed::Ended => Some(Turn::Stopped),
+                Typed::Ended => {
+                    say(rt, NOT_ENDED)?;
+                    Some(Turn::Stopped)
+                }
             },
             Answer::Skip => Some(Turn::Passed(asked.segment())),
             Answer::Stop => Some(Turn::Stopped),
@@ -183,7 +188,7 @@ fn read_text<R: BufRead>(rt: &HostRuntime, input: &mut R) -> Result<Typed, Refus
         if ends_text(&line) {
             return Ok(judge_typed(text, is_cut));
         }
-        is_cut = is_cut || is_terminal && line.len() >= MOST_TYPED;
+        is_cut = is_cut || is_terminal && line.len() > MOST_TYPED;
         if line.len() > MOST_BYTES - text.len().min(MOST_BYTES) {
             return Err(Refusal::from(Fault::TooLong));
         }

@@ -9,11 +9,19 @@ use usfm_ref::Book;
 
 // Says how a project stands, what was changed in its folder, where the first file is one, and what
 // the copies that files are of have and lack.
-pub(crate) fn status(rt: &HostRuntime, path: &str, names: &[String]) -> Result<(), Refusal> {
+pub(crate) fn status(
+    rt: &HostRuntime,
+    path: &str,
+    names: &[String],
+    explains: bool,
+) -> Result<(), Refusal> {
     let bytes = read_named(rt, path, Expected::Project)?;
     let (folder, names) = match names {
         [first, others @ ..] if is_folder(rt, first) => {
-            (folder_lines(rt, Given::of(path, &bytes), first)?, others)
+            (
+                folder_lines(rt, Given::of(path, &bytes), first, explains)?,
+                others,
+            )
         }
         _ => (Vec::new(rt.alloc()), names),
     };

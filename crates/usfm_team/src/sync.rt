@@ -195,7 +195,7 @@ fn read_and_plan(
 ) -> Result<(Read, Plan), Refusal> {
     let mut read = read_folder(what.rt, what.folder, is_said)?;
     if is_said && what.explains {
-        read.say_no_book(what.rt, what.folder)?;
+        read.say_slips(what.rt, what.folder)?;
     }
     read.look_back(what.rt, what.project, what.given)?;
     match plan_of(what, &read, exported) {

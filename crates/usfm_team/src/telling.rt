@@ -11,13 +11,20 @@ use usfm_cli::{
     Circumstances, Expected, FRONT_BYTES, Fault, Found, book_meant, explained, fault_line,
     found_file, has_split_reference,
 };
-use usfm_ref::{Book, Key};
+use usfm_ref::{Book, Key, read_ref};
 
 const ONE_WORD: &str =
     "\n  tip: a reference is one word, so put it between quotes, as in 'MAT 1:1'\n";
 
 const IN_QUOTES: &str =
     "If this belongs to a reference, put the whole reference in quotes: 'MAT 1:1'.";
+
+const WHOLE_BOOK: &str = "A command that takes a BOOK takes all of it: write its code alone.";
+
+const SECOND_BOOK: &str =
+    ": it has a second \\id, and all of it is the first book: make a file of each book";
+
+const ONE_BOOK: &str = "\n  tip: this command takes a whole book, so write its code alone\n";
 
 // Says why a command was refused: the line of the fault, the file that it is of, and in words
 // what that means. Where it cannot be written, the exit status alone shows it.
@@ -62,11 +69,29 @@ pub(crate) fn tell_refused_word(rt: &HostRuntime, fault: &Fault, word: &str, exp
     }
 }
 
-// Says of a word that could be the end of a reference how that is written.
+// Says of a word that could be a reference, or its end, how that is written.
 fn say_of_reference(rt: &HostRuntime, word: &str) {
     if word.parse::<Key>().is_ok() {
         say(rt, IN_QUOTES);
+    } else if read_ref(word).is_ok() {
+        say(rt, WHOLE_BOOK);
     }
+}
+
+// Whether a file has the front of a book's. Nothing is waited for.
+pub(crate) fn begins_as_book(rt: &HostRuntime, name: &str) -> bool {
+    matches!(look(rt, name), Found::BookFile)
+}
+
+// Whether a line after the first one begins with `\id` and a blank.
+pub(crate) fn has_second_book(bytes: &[u8]) -> bool {
+    let mut lines = bytes.split(|byte| *byte == b'\n').skip(1);
+    lines.any(|line| line.starts_with(b"\\id "))
+}
+
+// Says of a book's file that it has a second book.
+pub(crate) fn say_second_book(rt: &HostRuntime, name: &str) {
+    say_of(rt, "", name, SECOND_BOOK);
 }
 
 // What stands under a name. Nothing is waited for: of what is no plain file nothing is read.
@@ -163,9 +188,24 @@ pub(crate) fn with_tip(
     explains: bool,
 ) -> Result<String, AllocError> {
     if explains && has_split_reference(words) {
-        text.push_str(ONE_WORD)?;
+        text.push_str(if takes_book(words) {
+            ONE_BOOK
+        } else {
+            ONE_WORD
+        })?;
     }
     Ok(text)
+}
+
+// Whether the subcommand takes books, and no reference.
+fn takes_book(words: &[String]) -> bool {
+    match words.first() {
+        Some(name) => matches!(
+            name.as_str(),
+            "export" | "progress" | "check" | "words" | "fold"
+        ),
+        None => false,
+    }
 }
 
 // Writes a message of several lines, which may have words of the command line; at a terminal

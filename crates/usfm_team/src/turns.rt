@@ -4,6 +4,7 @@ use crate::files::read_file;
 use crate::project::lock_project;
 pub(crate) use crate::refusal::Refusal;
 use crate::refusal::read_named;
+use crate::telling::{has_second_book, say_second_book};
 use std::{io, mem};
 use usfm_cli::{Command, Expected, Fault, StdSink, TurnFault, exec_in_turn, write_more};
 
@@ -14,10 +15,11 @@ pub(crate) fn import(
     project: &str,
     files: Vec<String>,
     since: Option<String>,
+    explains: bool,
 ) -> Result<(), Refusal> {
     match (since, files.as_slice()) {
         (Some(base), _) => import_since(rt, project, &files, &base),
-        (None, [file]) => import_one(rt, project, file),
+        (None, [file]) => import_one(rt, project, file, explains),
         (None, _) => import_all(rt, project, &files),
     }
 }
@@ -37,11 +39,15 @@ pub(crate) fn receive(
     }
 }
 
-fn import_one(rt: &HostRuntime, project: &str, name: &str) -> Result<(), Refusal> {
+fn import_one(rt: &HostRuntime, project: &str, name: &str, explains: bool) -> Result<(), Refusal> {
     read_named(rt, project, Expected::Project)?;
     let file = read_named(rt, name, Expected::BookFile)?;
     let other = Some((name, Expected::BookFile));
-    change(rt, project, &Command::Import(&file), other)
+    change(rt, project, &Command::Import(&file), other)?;
+    if explains && has_second_book(&file) {
+        say_second_book(rt, name);
+    }
+    Ok(())
 }
 
 fn import_all(rt: &HostRuntime, project: &str, names: &[String]) -> Result<(), Refusal> {

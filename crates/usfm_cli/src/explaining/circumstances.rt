@@ -37,6 +37,8 @@ pub enum Expected {
     Box,
     /// The bundle that a copy leaves in such a folder, when all else is done.
     OwnBundle,
+    /// A text that somebody types at a terminal.
+    Typed,
 }
 
 /// What stands under the name of a file.

@@ -27,7 +27,8 @@ Write it so: ";
 pub(crate) const NO_REFERENCE: &str = "\
 This is not a reference to a verse, or to the head of a chapter or of a book.
 Write 'MAT 1:1' for a verse, 'MAT 1' for the head of a chapter, and 'MAT 0'
-for that of the book.";
+for that of the book: one blank, a colon, no zeros in front. Verses that stand
+together, as in \\v 3-4, have the reference of the first one: 'MAT 1:3'.";
 
 pub(crate) const NO_ID: &str = "\
 The file does not begin with \\id and a blank.
@@ -36,6 +37,14 @@ Give it a first line with the code of its book, such as \\id MAT.";
 pub(crate) const BUNDLE_NOT_BOOK: &str = "\
 This is a bundle, and not the file of a book.
 Take it in with `receive`.";
+
+pub(crate) const PROJECT_NOT_BOOK: &str = "\
+This is a project, and not the file of a book.
+Make a bundle of it, and take that in: usfm_team send PROJECT > BUNDLE";
+
+pub(crate) const SUMMARY_NOT_BOOK: &str = "\
+This is a summary, and not the file of a book.
+Make a bundle for its sender: usfm_team delta PROJECT SUMMARY > BUNDLE";
 
 pub(crate) const FIELD_BEFORE_MARKER: &str = "\
 This line of the style sheet has a field, and no \\Marker comes before it.
@@ -129,7 +138,7 @@ The bundle is damaged: the text of this operation does not fit its segment.
 Have it sent again.";
 
 pub(crate) const UNSUPPORTED: &str = "\
-The bundle is damaged: it leaves out this operation's text, or, at 0, none.
+The bundle is damaged: what it says of the texts that it leaves out is wrong.
 Have it sent again.";
 
 pub(crate) const TRAILING: &str = "\
@@ -206,6 +215,11 @@ pub(crate) const BOX_IS_FILE: &str = "\
 This is not a folder.
 A box is wanted here: name the folder where all leave their bundles.";
 
+pub(crate) const CUT_LINE: &str = "\
+A terminal passes on no more than 4,095 bytes of a line, and one has more.
+Nothing was changed. Type the text in several lines, or write it into a file,
+and end the command with < and the name of that file.";
+
 pub(crate) const NOTHING_THERE: &str = "\
 There is no file of this name.
 Check the name, and which folder you are in.";
@@ -273,4 +287,6 @@ folder shows which ones `sync` refuses.";
 
 pub(crate) const UNLIKE: &str = "\
 The bundle is of another project, and puts this many segments in conflict.
-Leave it out, unless the two are to be one: then sync with --join.";
+Leave it out, unless the two are to be one: then sync with --join. If two
+copies began with the same files, one of them begins anew: `init` under a new
+name, one sync of an empty folder with this bundle, and its changes there.";

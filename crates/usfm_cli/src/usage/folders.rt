@@ -51,8 +51,9 @@ A book's file is the one whose name ends in .usfm or .sfm and that begins with
 are, or CODE.usfm. First what the bundles have comes in, then what was changed
 in the files since they were written, so that what came from others stays; then
 the files get the books. Line ends may be CR LF. Links are skipped, and files
-with hard links. Takes in all, or nothing: then a second line `in FILE` on
-standard error says where. Writes
+with hard links. One file has one book: what follows a second \\id stays in the
+first book. If anything is refused, nothing is taken in, and a second line
+`in FILE` on standard error says where. Writes
   new N base       what FOLDER had and PROJECT lacked, if it was set back
   new N            for each BUNDLE; with --box `new N FILE`
   added N CODE     for each file in which something was changed
@@ -66,8 +67,8 @@ text, and saving it undoes what came in. Putting back an older copy does the
 same. If FILE has older texts and none of those that came in at one of the last
 three syncs, it is refused with fault 133.
 
-DIR of --box is a folder that all of a team can reach, or a USB stick that is
-passed around. All bundles of DIR come in, and what PROJECT has is written to
+DIR of --box is a folder that everyone on the team can reach, or a USB stick
+that is passed around. All bundles of DIR come in, and what PROJECT has goes to
 DIR/NAME.bundle, NAME being the copy's name. No copy writes another's bundle.
 
 Example: usfm_team sync ana.project texts --box stick

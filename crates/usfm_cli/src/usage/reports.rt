@@ -20,6 +20,7 @@ const SHOWN: &str = "\
 For each operation a line `op NUMBER NAME LENGTH`, the text of LENGTH bytes,
 and a line feed. The last one is the text that the book has, but for a chapter's
 head: if the last one is empty and a verse has a text, the book has `\\c N`.
+Verses that stand together, as in `\\v 3-4`, have the REF of the first one.
 
 Example: usfm_team shown ana.project 'MAT 1:1'
 

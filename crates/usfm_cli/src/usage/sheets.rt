@@ -114,13 +114,15 @@ pub(crate) fn find<'a>(alloc: Global) -> Result<Command<'a>, AllocError> {
 const FIND_USAGE: &str = "usfm_team find [OPTIONS] <PROJECT> [BOOK] [SHEET] <NEEDLE>";
 
 const FIND: &str = "\
-The last word is the NEEDLE. Looks in one BOOK, or in all, in paragraphs whose
+The last word is the NEEDLE: put several words in quotes. A text that a mark, a
+note or the end of a line interrupts is not found, nor one in another of
+Unicode's forms. Looks in one BOOK, or in all, in paragraphs whose
 style in SHEET has `\\TextType VerseText`, outside notes, milestones, attributes
 and verse numbers; without SHEET by the program's own. Writes a line `REF START`
 for each hit: its segment, and how many bytes of the export come before it; with
 --text also the line of the text, with the hit in brackets. No line: no hit.
 
-Example: usfm_team find ana.project beginning --text
+Example: usfm_team find ana.project 'the beginning' --text
 Example: usfm_team find ana.project MAT samples/small.sty beginning
 
 Faults: those of `check`, and
@@ -171,7 +173,8 @@ pub(crate) fn words<'a>(alloc: Global) -> Result<Command<'a>, AllocError> {
 
 const WORDS: &str = "\
 Of one BOOK it writes a line for each word: the word in Unicode's Normalization
-Form C, and after it the places where it occurs, each after a space. Of all
+Form C, and after it the places where it occurs, each after a space. Where the
+text has another form, `find` finds the word only as it stands there. Of all
 books it writes such a line for each word of each book, with the book's code
 between the two; the lines of one word are together, in the order of the books.
 Without SHEET it goes by the program's own.
