@@ -2,10 +2,11 @@
 use Rattle.std.proofs.Common.{◌≡◌, ℕ, suc, ◌-◌, Bool, true, false, cond, ◌||◌, List, [], ◌∷◌, ◌++◌, map, length, Ok, sym, ap, ◌∙◌, append-nil, append_assoc, arith}
 use Rattle.std.specs.List.{AllByRecursion}
 use Rattle.std.proofs.lemmas.Bool.{cond-true, le-leb}
+use Rattle.op_core.specs.Lists.{books_of}
 use Rattle.project_file.proofs.Received.{union_length}
 use Rattle.replica_state.specs.Receives.{lacked}
 use Rattle.replica_state.specs.States.{State, IsState}
-use Rattle.book_folder.specs.Begun.{conflicts, is_none_held, received, received_if_alike, received_or, set_or, shares_an_id, unless_unlike}
+use Rattle.book_folder.specs.Begun.{conflicts, is_none_held, received, received_if_alike, received_or, set_or, shares_an_id, unless_more, unless_unlike}
 use Rattle.book_folder.specs.CameIn.{BundlesBringNothingAgain, IsReceived}
 use Rattle.book_folder.specs.Coming.{bundles_from}
 use Rattle.book_folder.specs.Refusals.{◌>>=◌, stepped}
@@ -26,7 +27,10 @@ module _ (s : State) (state : IsState s) (asked : Bool) where
           ∙ (λ i. Ok (stepped (record { name = s.name; held = h.held i }) (none_new i)))
 
       few : unless_unlike place s (stepped s 0) ≡ Ok (stepped s 0)
-      few = cond-true _ _ _ (le-leb (length (conflicts s.held) - length (conflicts s.held)) 10 (omega arith))
+      few =
+          ap (λ r. r >>= unless_more 200 (length (books_of s.held) - length (books_of s.held)) place)
+          (cond-true _ _ _ (le-leb (length (conflicts s.held) - length (conflicts s.held)) 10 (omega arith)))
+          ∙ cond-true _ _ _ (le-leb (length (books_of s.held) - length (books_of s.held)) 200 (omega arith))
 
       by : (b : Bool) → cond b (received place s h.ops) (received place s h.ops >>= unless_unlike place s) ≡ Ok (stepped s 0)
       by true = got

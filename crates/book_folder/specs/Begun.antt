@@ -108,14 +108,24 @@ is_none_held (o ∷ rest) = false
 abbrev pub more_conflicts : State → Received → ℕ
 more_conflicts s r = length (conflicts r.after.held) - length (conflicts s.held)
 
--- a bundle that puts more than ten segments in conflict is refused
+-- how many books more there are after a bundle was received
+abbrev pub more_books : State → Received → ℕ
+more_books s r = length (books_of r.after.held) - length (books_of s.held)
+
+-- a number of conflicts, or of books, for which a bundle is refused, or nothing is
+abbrev pub unless_more : ℕ → ℕ → Place → Received → Result Received Refusal
+unless_more most count place r =
+    if nat_le count most then Ok r else Err (Of place (faults.Unlike count))
+
+-- a bundle that puts more than ten segments in conflict is refused, and then one that brings more
+-- than 200 books: no Bible has so many
 abbrev pub unless_unlike : Place → State → Received → Result Received Refusal
 unless_unlike place s r =
-    if nat_le (more_conflicts s r) 10 then Ok r
-    else Err (Of place (faults.Unlike (more_conflicts s r)))
+    unless_more 10 (more_conflicts s r) place r >>= unless_more 200 (more_books s r) place
 
 -- A replica takes in a set; but one that has nothing in common with a replica that has some
--- operations, and puts more than ten segments in conflict, only where that is asked for.
+-- operations, and puts more than ten segments in conflict or brings more than 200 books, only where
+-- that is asked for.
 abbrev pub received_if_alike : Bool → Place → State → List Operation → Result Received Refusal
 received_if_alike asked place s ops =
     if asked || is_none_held s.held || shares_an_id s.held ops then received place s ops

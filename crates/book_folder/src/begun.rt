@@ -21,6 +21,9 @@ use usfm_ref::{Book, Key};
 // a question.
 const MOST_UNASKED: usize = 10;
 
+// So many books more may a bundle of another project bring: no Bible has so many.
+const MOST_BOOKS: usize = 200;
+
 // The project with the base in it, what the files were written from, and how many operations the
 // project held without it.
 #[derive(Debug, Drop)]
@@ -128,7 +131,8 @@ pub(crate) fn receive(
 }
 
 // Receives a bundle; but not one that has no operation in common with a project that has some, and
-// puts more than a few segments in conflict: it may be another translation's.
+// puts more than a few segments in conflict, or brings more books than a Bible has: it may be
+// another translation's, or forged.
 pub(crate) fn receive_if_alike(
     alloc: Global,
     replica: &mut Replica,
@@ -144,9 +148,14 @@ pub(crate) fn receive_if_alike(
         return receive(replica, place, bundle);
     }
     let before = conflicts(alloc, replica)?.len();
+    let books = replica.books().count();
     let new = receive(replica, place, bundle)?;
     let more = conflicts(alloc, replica)?.len().saturating_sub(before);
     if more > MOST_UNASKED {
+        return Err(Refusal::Of(place, FolderFault::Unlike(more)));
+    }
+    let more = replica.books().count().saturating_sub(books);
+    if more > MOST_BOOKS {
         return Err(Refusal::Of(place, FolderFault::Unlike(more)));
     }
     Ok(new)

@@ -59,8 +59,9 @@ pub enum FolderFault {
     /// Of this many segments the file has a text that another one has replaced since.
     #[error("the file undoes {0} texts that came in")]
     Undone(usize),
-    /// A bundle of another project would put this many segments in conflict.
-    #[error("the bundle has nothing in common with the project, and puts {0} segments in conflict")]
+    /// A bundle of another project would put this many segments in conflict, or bring this many
+    /// books.
+    #[error("the bundle shares nothing with the project, and brings {0} conflicts, or books")]
     Unlike(usize),
     /// A change may not be made.
     #[error("{0}")]

@@ -101,8 +101,8 @@ pub enum Fault {
     #[error("the file undoes {count} texts that came in")]
     Undone { count: u64 },
     /// 134: a bundle that has nothing in common with the project would put this many segments in
-    /// conflict.
-    #[error("the bundle is of another project, and puts {count} segments in conflict")]
+    /// conflict, or bring this many books.
+    #[error("the bundle is of another project, and brings {count} conflicts, or books")]
     Unlike { count: u64 },
 }
 

@@ -7,6 +7,7 @@ use crate::reading::{Given, Read, read_folder, read_given};
 use crate::refusal::Refusal;
 use crate::steps::{Disk, Done, do_steps, sweep};
 use crate::team_box::open_box;
+use crate::telling::say;
 use crate::write_output;
 use book_folder::{
     FolderFault, Line, Place, Plan, Wanted, Wishes, export_plan, lines_of, make_plan, project_after,
@@ -14,6 +15,10 @@ use book_folder::{
 use std::io::Write;
 use usfm_cli::{Expected, Fault, SyncWords};
 use usfm_ref::{Book, RefFault, write_ref};
+
+// What is said where operations are awaited that others replace.
+const AWAITS: &str =
+    "some edits have not come yet that others replace: `report` says whom to ask for a bundle";
 
 // How often a folder is read anew that is changed while it is planned.
 const MOST_READINGS: usize = 3;
@@ -137,6 +142,9 @@ fn answer(what: What<'_>, plan: &Plan, done: Done) -> Result<(), Refusal> {
         say_headless(what.rt, *book);
     }
     write_output(what.rt, &told(what, plan, &left)?)?;
+    if what.explains && plan.told.awaits {
+        say(what.rt, AWAITS);
+    }
     match failed {
         Some(refusal) => Err(refusal),
         None => Ok(()),

@@ -17,7 +17,7 @@ use Rattle.project_file.specs.declared.fault.LoadFault.{LoadFault}
 use Rattle.project_file.specs.Projects.{project_at}
 use Rattle.replica_state.specs.States.{State, IsState, begun}
 use Rattle.replica_state.specs.Steps.{with_ops}
-use Rattle.book_folder.specs.Begun.{BegunParts, Received, set_or, judged, received_or, received, received_if_alike, unless_unlike, more_conflicts, is_none_held, shares_an_id, with_base, with_base_at, with_bases, is_one_of, joined_or, joined_at, settled_base, holding, replica_at, with_next, project_or, begun_alone, begun_with}
+use Rattle.book_folder.specs.Begun.{BegunParts, Received, set_or, judged, received_or, received, received_if_alike, unless_more, unless_unlike, more_books, more_conflicts, is_none_held, shares_an_id, with_base, with_base_at, with_bases, is_one_of, joined_or, joined_at, settled_base, holding, replica_at, with_next, project_or, begun_alone, begun_with}
 use Rattle.book_folder.specs.Coming.{older_from}
 use Rattle.book_folder.specs.Files.{FileParts}
 use Rattle.book_folder.specs.FolderLaws.{MayBeBytes}
@@ -73,9 +73,12 @@ pub alike_is : (asked : Bool) (place : Place) (s : State) (ops : List Operation)
     → (clash s.held ops ≡ None) × (with_ops s ops ≡ r.after)
 alike_is asked place s ops r e = by (asked || is_none_held s.held || shares_an_id s.held ops) e
   where
-    few : (x : Received) (b : Bool) → cond b (Ok x) (Err (Of place (faults.Unlike (more_conflicts s x)))) ≡ Ok r → x ≡ r
-    few x true e = ok_is x r e
-    few x false e = cc e
+    few : (x y : Received) (most count : ℕ) → unless_more most count place x ≡ Ok y → x ≡ y
+    few x y most count e = by (nat_le count most) e
+      where
+        by : (b : Bool) → cond b (Ok x) (Err (Of place (faults.Unlike count))) ≡ Ok y → x ≡ y
+        by true e = ok_is x y e
+        by false e = cc e
 
     by : (b : Bool) → cond b (received place s ops) (received place s ops >>= unless_unlike place s) ≡ Ok r
         → (clash s.held ops ≡ None) × (with_ops s ops ≡ r.after)
@@ -83,7 +86,8 @@ alike_is asked place s ops r e = by (asked || is_none_held s.held || shares_an_i
     by false e =
         let x = then_ok (received place s ops) (unless_unlike place s) r e in
         let is = received_is place s ops x.0 x.1.0 in
-        (is.0, is.1 ∙ ap (λ (y : Received). y.after) (few x.0 (nat_le (more_conflicts s x.0) 10) x.1.1))
+        let y = then_ok (unless_more 10 (more_conflicts s x.0) place x.0) (unless_more 200 (more_books s x.0) place) r x.1.1 in
+        (is.0, is.1 ∙ ap (λ (z : Received). z.after) (few x.0 y.0 10 (more_conflicts s x.0) y.1.0 ∙ few y.0 r 200 (more_books s x.0) y.1.1))
 
 -- joined bundles of two sets are the bundle of their union
 pub joined_is : (place : Place) (x y : List Operation) (bytes : List ℕ) → IsReadable x → IsReadable y → joined_at place x y ≡ Ok bytes

@@ -21,7 +21,7 @@ use Rattle.replica_state.specs.Receives.{lacked}
 use Rattle.replica_state.specs.States.{State, IsState, begun}
 use Rattle.replica_state.specs.Steps.{with_ops}
 use Rattle.book_folder.specs.Bases.{next_base, other_than, shown_in_files, shows}
-use Rattle.book_folder.specs.Begun.{BegunParts, begun_alone, begun_with, conflicts, is_none_held, is_one_of, judged, received, received_if_alike, received_or, project_or, set_or, shares_an_id, unless_unlike, with_base, with_bases, with_next}
+use Rattle.book_folder.specs.Begun.{BegunParts, begun_alone, begun_with, conflicts, is_none_held, is_one_of, judged, received, received_if_alike, received_or, project_or, set_or, shares_an_id, unless_more, unless_unlike, with_base, with_bases, with_next}
 use Rattle.book_folder.specs.Coming.{CameInParts, AllTaken, all_came, all_taken, bundles_begun, bundles_come_in, comes_in, files_by, in_turn, none_taken, older_from, rebased_if_stale, taken_all, added_by}
 use Rattle.book_folder.specs.Files.{FileParts}
 use Rattle.book_folder.specs.FolderLaws.{IsSynced, IsSyncedFile, NothingIsDone, TwiceIsOnce, nothing_came}
@@ -68,7 +68,10 @@ module _ (s : State) (state : IsState s) where
   got_alike wishes = by (wishes.joined || is_none_held s.held || shares_an_id s.held part)
     where
       few : unless_unlike (places.Base 0) s (stepped s count) ≡ Ok (stepped s count)
-      few = cond-true _ _ _ (le-leb (length (conflicts s.held) - length (conflicts s.held)) 10 (omega arith))
+      few =
+          ap (λ r. r >>= unless_more 200 (length (books_of s.held) - length (books_of s.held)) (places.Base 0))
+          (cond-true _ _ _ (le-leb (length (conflicts s.held) - length (conflicts s.held)) 10 (omega arith)))
+          ∙ cond-true _ _ _ (le-leb (length (books_of s.held) - length (books_of s.held)) 200 (omega arith))
 
       by : (b : Bool) → cond b (received (places.Base 0) s part)
           (received (places.Base 0) s part >>= unless_unlike (places.Base 0) s) ≡ Ok (stepped s count)

@@ -286,7 +286,7 @@ sync with --undone. Both apply to all files of the folder: `status` with the
 folder shows which ones `sync` refuses.";
 
 pub(crate) const UNLIKE: &str = "\
-The bundle is of another project, and puts this many segments in conflict.
+The bundle is of another project, and brings this many conflicts, or books.
 Leave it out, unless the two are to be one: then sync with --join. If two
 copies began with the same files, one of them begins anew: `init` under a new
 name, one sync of an empty folder with this bundle, and its changes there.";

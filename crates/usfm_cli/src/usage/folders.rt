@@ -106,7 +106,7 @@ one of the two copies go on under another name.
 Faults: those of `import`, `receive` and `export`, and
   fault 132 COUNT          this many texts are gone from FILE
   fault 133 COUNT          FILE undoes this many texts that came in
-  fault 134 COUNT          another project's bundle, and this many new conflicts";
+  fault 134 COUNT          another project's bundle: so many conflicts, or books";
 
 pub(crate) fn sync_line(alloc: Global, given: &ArgMatches<'_>) -> Result<Line, LineFault> {
     Ok(Line::Sync(SyncWords {
