@@ -16,6 +16,7 @@ mod sync;
 mod team_box;
 mod telling;
 mod turns;
+mod typed;
 
 use crate::looks::{check, find, words};
 use crate::project::{Project, begin_project, lock_project};
@@ -23,8 +24,11 @@ use crate::refusal::{Given, Refusal, read_named};
 use crate::settle::settle;
 use crate::standing::{page, progress, status};
 use crate::sync::{export_into, sync};
-use crate::telling::{say, say_lines, tell_refusal, tell_refused_word, with_tip};
+use crate::telling::{
+    SEVERAL_WORDS, are_find, say, say_lines, tell_refusal, tell_refused_word, with_tip,
+};
 use crate::turns::{import, receive};
+use crate::typed::{GIVE_BUNDLES, read_text, say_at_terminal};
 use op_core::{OpId, ReplicaName};
 use plain_line::push_lines;
 use std::fs::File;
@@ -34,7 +38,7 @@ use std::process::ExitCode;
 use std::{io, mem, str};
 use usfm_cli::{
     Command, Expected, Fault, Line, LineFault, Outcome, StdSink, StdSource, asks_for_words, create,
-    exec, fold_stream, list_faults, read_to_end, read_words, remark, write_all,
+    exec, fold_stream, list_faults, read_words, remark, write_all,
 };
 use usfm_ref::{Book, Key};
 
@@ -45,22 +49,13 @@ const USAGE: u8 = 2;
 // How many standard streams there are: input, output and error, of the numbers 0 to 2.
 const STREAMS: i32 = 3;
 
-// So many bytes of a line a terminal passes on at most, without its line feed.
-pub(crate) const MOST_TYPED: usize = 4095;
-
-// What a person at a terminal reads who is to type a text, or to give bundles.
-const TYPE_A_TEXT: &str =
-    "usfm_team: type the segment's text with its mark, and end it with control-D on a new line\n";
-
-const GIVE_BUNDLES: &str =
-    "usfm_team: waiting for bundles on standard input: control-D on a new line ends it\n";
-
 fn main(rt: HostRuntime) -> ExitCode {
     let mut explains = rt.stderr().is_terminal();
+    let mut finds = false;
     if hold_streams(&rt).is_err() {
         return refuse(&rt, &Refusal::from(Fault::ReadFailed), explains);
     }
-    match read_line(&rt, &mut explains) {
+    match read_line(&rt, &mut explains, &mut finds) {
         Ok(line) => match line.only_into_file() {
             Some(message) if rt.stdout().is_terminal() => tell_usage(&rt, message),
             _ => match run(&rt, line, explains) {
@@ -76,6 +71,9 @@ fn main(rt: HostRuntime) -> ExitCode {
         Err(LineFault::Refused(fault)) => refuse(&rt, &Refusal::from(fault), explains),
         Err(LineFault::RefusedWord(fault, word)) => {
             tell_refused_word(&rt, &fault, &word, explains);
+            if explains && finds {
+                say(&rt, SEVERAL_WORDS);
+            }
             ExitCode::from(REFUSED)
         }
     }
@@ -95,9 +93,9 @@ fn hold_streams(rt: &HostRuntime) -> io::Result<()> {
     Ok(())
 }
 
-// What the words of the command line ask for, and whether they ask for what a fault means. The
-// first is the program's own name.
-fn read_line(rt: &HostRuntime, explains: &mut bool) -> Result<Line, LineFault> {
+// What the words of the command line ask for, whether they ask for what a fault means, and whether
+// they look for a text. The first is the program's own name.
+fn read_line(rt: &HostRuntime, explains: &mut bool, finds: &mut bool) -> Result<Line, LineFault> {
     let alloc = rt.alloc();
     match std::env::args(rt) {
         Ok(args) => {
@@ -105,6 +103,7 @@ fn read_line(rt: &HostRuntime, explains: &mut bool) -> Result<Line, LineFault> {
             if asks_for_words(&words) {
                 *explains = true;
             }
+            *finds = are_find(&words);
             let line = read_words(alloc, &words);
             if let Err(LineFault::Usage(text)) = line {
                 return Err(LineFault::Usage(with_tip(text, &words, *explains)?));
@@ -345,28 +344,6 @@ fn fold(rt: &HostRuntime, book: Book) -> Result<(), Refusal> {
 fn faults(rt: &HostRuntime) -> Result<(), Refusal> {
     let list = list_faults(rt.alloc()).map_err(Fault::from)?;
     Ok(write_output(rt, list.as_bytes())?)
-}
-
-// The text that standard input has. A terminal leaves out what is too long for a line of it, and
-// the rest would be taken for the whole.
-fn read_text(rt: &HostRuntime) -> Result<Vec<u8>, Refusal> {
-    say_at_terminal(rt, TYPE_A_TEXT);
-    let mut source = StdSource::new(rt.reader());
-    let text = read_to_end(rt.alloc(), &mut source).map_err(Fault::from)?;
-    let is_cut = text
-        .split(|byte| *byte == b'\n')
-        .any(|line| line.len() >= MOST_TYPED);
-    if is_cut && rt.stdin().is_terminal() {
-        return Err(Refusal::alone(rt, Fault::ReadFailed, "standard input", Expected::Typed));
-    }
-    Ok(text)
-}
-
-// Says at a terminal what a command waits for. Where that cannot be written, it waits all the same.
-fn say_at_terminal(rt: &HostRuntime, line: &str) {
-    if rt.stdin().is_terminal() {
-        let _ = rt.stderr().write_all(line.as_bytes());
-    }
 }
 
 // Writes to standard output; to a terminal without the control characters of others' texts. It has

@@ -1,6 +1,7 @@
 // Settles conflicts with the person at standard input. Nothing is locked while that person thinks.
 use crate::refusal::{Refusal, read_named};
-use crate::{MOST_TYPED, done, locked, write_as_it_is, write_output};
+use crate::typed::MOST_TYPED;
+use crate::{done, locked, write_as_it_is, write_output};
 use op_core::OpId;
 use std::io::{BufRead, BufReader, IsTerminal};
 use std::str;

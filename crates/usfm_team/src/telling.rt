@@ -24,6 +24,16 @@ const WHOLE_BOOK: &str = "A command that takes a BOOK takes all of it: write its
 const SECOND_BOOK: &str =
     ": it has a second \\id, and all of it is the first book: make a file of each book";
 
+// What is said where the words of a text to find may have been taken for others.
+pub(crate) const SEVERAL_WORDS: &str =
+    "A text to find that has several words goes in quotes: 'the beginning'.";
+
+const IN_ONE_WORD: &str = "\n  tip: a text to find that has several words goes in quotes\n";
+
+// So many words has a line that looks for a text in one book by a style sheet. Where there are more,
+// the text has several.
+const MOST_TO_FIND: usize = 5;
+
 const ONE_BOOK: &str = "\n  tip: this command takes a whole book, so write its code alone\n";
 
 // Says why a command was refused: the line of the fault, the file that it is of, and in words
@@ -187,14 +197,27 @@ pub(crate) fn with_tip(
     words: &[String],
     explains: bool,
 ) -> Result<String, AllocError> {
-    if explains && has_split_reference(words) {
+    if !explains {
+        return Ok(text);
+    }
+    if has_split_reference(words) {
         text.push_str(if takes_book(words) {
             ONE_BOOK
         } else {
             ONE_WORD
         })?;
+    } else if are_find(words) && words.len() > MOST_TO_FIND {
+        text.push_str(IN_ONE_WORD)?;
     }
     Ok(text)
+}
+
+// Whether the words are those of `find`.
+pub(crate) fn are_find(words: &[String]) -> bool {
+    match words.first() {
+        Some(name) => name.as_str() == "find",
+        None => false,
+    }
 }
 
 // Whether the subcommand takes books, and no reference.
