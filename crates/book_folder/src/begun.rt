@@ -1,7 +1,8 @@
 // What a folder begins with: the project with what its files were written from.
-ghost use Rattle.std.specs.Prelude.{◌≡◌, ◌++◌, IfOk, OnOk, codes, map};
+ghost use Rattle.std.specs.Prelude.{◌≡◌, ◌++◌, IfOk, OnOk, codes, length, map};
 ghost use Rattle.std.specs.List.{list_any};
 ghost use Rattle.usfm_ref.specs.Segments.{segment};
+ghost use Rattle.op_core.specs.Lists.{books_of};
 ghost use Rattle.project_file.specs.Projects.{project_at};
 ghost use Rattle.book_folder.specs.Begun as begins;
 ghost use Rattle.book_folder.specs.Refusals.{Answers, AnswersAfter, AnswersBy, AnswersStep};
@@ -148,17 +149,25 @@ pub(crate) fn receive_if_alike(
         return receive(replica, place, bundle);
     }
     let before = conflicts(alloc, replica)?.len();
-    let books = replica.books().count();
+    let books = count_books(alloc, replica)?;
     let new = receive(replica, place, bundle)?;
     let more = conflicts(alloc, replica)?.len().saturating_sub(before);
     if more > MOST_UNASKED {
         return Err(Refusal::Of(place, FolderFault::Unlike(more)));
     }
-    let more = replica.books().count().saturating_sub(books);
+    let more = count_books(alloc, replica)?.saturating_sub(books);
     if more > MOST_BOOKS {
         return Err(Refusal::Of(place, FolderFault::Unlike(more)));
     }
     Ok(new)
+}
+
+// How many books a replica has something of.
+fn count_books(alloc: Global, replica: &Replica) -> Result<usize, AllocError>
+    ensures { IfOk result (λ count. count ≡ length (books_of replica.now.held)) }
+{
+    let books: Vec<Book> = replica.books().collect(alloc)?;
+    Ok(books.len())
 }
 
 // Whether a replica holds an operation of a bundle, or one that an operation of the bundle
