@@ -22,7 +22,7 @@ const IN_QUOTES: &str =
 const WHOLE_BOOK: &str = "A command that takes a BOOK takes all of it: write its code alone.";
 
 const SECOND_BOOK: &str =
-    ": it has a second \\id, and all of it is the first book: make a file of each book";
+    ": it has a second \\id, and all of it counts as the first book: make a file of each";
 
 // What is said where the words of a text to find may have been taken for others.
 pub(crate) const SEVERAL_WORDS: &str =
