@@ -89,6 +89,15 @@ def refused(file: str, fault: int = 131, said: str = "") -> Answer:
     return Answer(1, b"", f"{said}fault {fault}\nin {file}\n".encode())
 
 
+# What is said of a file that was spoilt so.
+SKIPPED = {
+    "a blank line before": b"skipped texts/41MAT.SFM: it does not begin with \\id, one blank and a book's code in capitals\n",
+    "UTF-16": b"skipped texts/41MAT.SFM: it is UTF-16: save it as UTF-8\n",
+    "empty": b"skipped texts/41MAT.SFM: it is empty\n",
+    "another book": b"",
+}
+
+
 def check_no_longer_a_book(tally: Tally, between: Between, home: Path) -> None:
     """A file that is no longer its book is not written anew beside it; when it is the book again, what came in is in it."""
     text = TEXTS[MATTHEW]
@@ -104,8 +113,7 @@ def check_no_longer_a_book(tally: Tally, between: Between, home: Path) -> None:
         before = place.all()
         for words in (["sync", "p", "texts", "bundle"], ["export", "p", "--into", "texts"]):
             answer = place.run(*words)
-            passed = b"" if how == "another book" else b"skipped texts/41MAT.SFM: it does not begin with \\id and a book's code in capitals\n"
-            is_refused = answer == Answer(1, b"", passed + b"fault 131\nin texts/41MAT.SFM\n")
+            is_refused = answer == Answer(1, b"", SKIPPED[how] + b"fault 131\nin texts/41MAT.SFM\n")
             tally.check(is_refused and place.all() == before, f"{how}: {answer}")
         place.write(MATTHEW, text)
         answer = place.sync("bundle")

@@ -131,6 +131,15 @@ def book_begun(data: bytes) -> Optional[str]:
         return None
 
 
+def why_no_book(data: bytes) -> bytes:
+    """What is said of a file that begins with no book."""
+    if not data:
+        return b"it is empty"
+    if data[:2] in (b"\xff\xfe", b"\xfe\xff"):
+        return b"it is UTF-16: save it as UTF-8"
+    return b"it does not begin with \\id, one blank and a book's code in capitals"
+
+
 def front(data: bytes) -> bytes:
     """The longest front that is UTF-8."""
     try:
@@ -146,7 +155,7 @@ def read_files(folder: dict, place: str, read: Callable[[dict, str], bytes], not
         data = within(path, read, folder, path)
         book = book_begun(data)
         if book is None:
-            notes.append(b"skipped %s: it does not begin with \\id and a book's code in capitals\n" % path.encode())
+            notes.append(b"skipped %s: %s\n" % (path.encode(), why_no_book(data)))
         else:
             files.append(BookFile(path, book, data))
     return files
