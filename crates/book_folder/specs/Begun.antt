@@ -112,7 +112,7 @@ more_conflicts s r = length (conflicts r.after.held) - length (conflicts s.held)
 abbrev pub more_books : State → Received → ℕ
 more_books s r = length (books_of r.after.held) - length (books_of s.held)
 
--- a number of conflicts, or of books, for which a bundle is refused, or nothing is
+-- what was received, unless the bundle brings more than the most of something: conflicts, or books
 abbrev pub unless_more : ℕ → ℕ → Place → Received → Result Received Refusal
 unless_more most count place r =
     if nat_le count most then Ok r else Err (Of place (faults.Unlike count))

@@ -131,9 +131,8 @@ pub(crate) fn receive(
     }
 }
 
-// Receives a bundle; but not one that has no operation in common with a project that has some, and
-// puts more than a few segments in conflict, or brings more books than a Bible has: it may be
-// another translation's, or forged.
+// Receives a bundle; but one that shares no operation with a project that has some, and brings many
+// conflicts, or more books than a Bible has, only where that is wished: it may be forged.
 pub(crate) fn receive_if_alike(
     alloc: Global,
     replica: &mut Replica,
