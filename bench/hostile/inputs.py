@@ -277,14 +277,30 @@ def many_verses(count: int) -> Input:
     return imported(HEAD + b"".join(chapters))
 
 
+def head_of(book: str) -> bytes:
+    return b"\\id %s\n" % book.encode()
+
+
+def heads(books: list[str]) -> bytes:
+    """A project with the head of each of these books."""
+    return project(rising([operation((at, b"a"), book, 0, None, [], head_of(book)) for at, book in enumerate(books, 1)]))
+
+
+def codes(count: int) -> list[str]:
+    """So many books, rising."""
+    return [book_code(count - at) for at in range(1, count + 1)]
+
+
 def many_books(command: str) -> Callable[[int], Input]:
     """A project with the head of each of so many books, and what is asked of it."""
+    return lambda count: Input([command, PROJECT], {PROJECT: heads(codes(count))})
 
-    def made(count: int) -> Input:
-        heads = (operation((at, b"a"), book_code(count - at), 0, None, [], b"\\id %s\n" % book_code(count - at).encode()) for at in range(1, count + 1))
-        return Input([command, PROJECT], {PROJECT: project(rising(list(heads)))})
 
-    return made
+def many_files(count: int) -> Input:
+    """A sync of so many books, each second of which has a file that is like it."""
+    books = codes(count)
+    files = {book + ".usfm": head_of(book) for book in books[::2]}
+    return Input(["sync", PROJECT, "."], {PROJECT: heads(books), **files})
 
 
 FAMILIES = [
@@ -329,6 +345,7 @@ FAMILIES = [
     Family("many books: status", 4_000, 40_000, many_books("status")),
     Family("many books: page", 4_000, 40_000, many_books("page")),
     Family("many books: check", 4_000, 40_000, many_books("check")),
+    Family("many books, half of them with a file: sync", 2_000, 20_000, many_files),
     Family("a book whose chapters and verses fall: import", 10_000, 100_000, falling_book),
     Family("a book of many verses: import", 10_000, 100_000, many_verses),
 ]

@@ -8,7 +8,7 @@ mod ChangeAt
 mod TextsUnder
 mod Fronts
 mod NamesOrder
-mod NamesUnder
+mod FirstsLaws
 mod Stands
 mod StepsLaws
 mod NameLines

@@ -1,24 +1,21 @@
 -- A box, in which each copy of a team leaves its bundle (this project's own rule): which of its
 -- files come in.
 use Rattle.std.specs.Prelude.{ℕ, Bool, false, not, ◌&&◌, List, Option, None, Some, Result, Ok, Err, if◌then◌else◌}
-use Rattle.std.specs.Prelude.{◌-◌, length, drop, codes}
+use Rattle.std.specs.Prelude.{codes}
 use Rattle.usfm_ref.specs.Books.{same_bytes}
 use Rattle.bundle_codec.specs.Joining.{whole_at}
 use Rattle.bundle_codec.specs.declared.fault.WholeFault.{WholeFault}
 use Rattle.op_core.specs.Ops.{Operation}
-use Rattle.book_folder.specs.Files.{is_hidden}
+use Rattle.book_folder.specs.Files.{ends_in, is_hidden}
 use Rattle.book_folder.specs.Naming.{has_byte}
 use Rattle.book_folder.specs.declared.team_box.BoxFile.{BoxFile}
 use Rattle.book_folder.specs.declared.team_box.BoxFile.TheVariants.{Bundle, Unchanged, NoBundle}
 
--- whether a name ends in `.bundle`
-abbrev pub ends_in_bundle : List ℕ → Bool
-ends_in_bundle name = same_bytes (drop (length name - 7) name) (codes ".bundle")
-
--- a file may be a copy's bundle that is not hidden and whose name ends in `.bundle`, without a line
--- feed
+-- a file may be a copy's bundle that is not hidden and whose name ends in `.bundle`, in any case of
+-- the letters, without a line feed
 abbrev pub may_be_bundle : List ℕ → Bool
-may_be_bundle name = not (is_hidden name) && not (has_byte 10 name) && ends_in_bundle name
+may_be_bundle name =
+    not (is_hidden name) && not (has_byte 10 name) && ends_in name (codes ".bundle")
 
 -- a bundle comes in, and nothing else does
 abbrev pub file_by_set : Result (List Operation) WholeFault → BoxFile

@@ -128,6 +128,16 @@ books_exported seen held base files form books =
     Ok (export_of seen (unfiled held books) made
     (own_of seen base made next (other_names seen files (map new_name_of made))))
 
+-- the plan of an export of the books that are named, all where none is, where it is known which
+-- file is which book's; or the first refusal
+abbrev pub exported_with : SeenParts → WishParts → List (List ℕ) → List Operation
+    → List FileParts → Result PlanParts Refusal
+exported_with seen wishes named held files =
+    base_of seen >>= λ base.
+    chosen held named >>= λ books.
+    form_of seen files wishes >>= λ form.
+    books_exported seen held base.held files form books
+
 -- The plan of an export of the books that are named, all where none is; or the first refusal: of
 -- the project; of a folder in which it is not known which file is a book's; of the base; of a book
 -- that is named; of the name that is to say how new files are named; of a file that was changed, or
@@ -135,8 +145,4 @@ books_exported seen held base files form books =
 abbrev pub exported : SeenParts → WishParts → List (List ℕ) → Result PlanParts Refusal
 exported seen wishes named =
     project_or (project_at seen.project) >>= λ s.
-    clear_files seen >>= λ files.
-    base_of seen >>= λ base.
-    chosen s.held named >>= λ books.
-    form_of seen files wishes >>= λ form.
-    books_exported seen s.held base.held files form books
+    clear_files seen >>= exported_with seen wishes named s.held

@@ -12,7 +12,7 @@ use Rattle.verse_cut.specs.Reading.{book_in}
 use Rattle.verse_cut.specs.declared.fault.BookFault.{BookFault}
 use Rattle.book_folder.specs.Wanted.{FoundParts, NamedParts, SeenParts}
 use Rattle.book_folder.specs.declared.files.BookFile.{BookFile}
-use Rattle.book_folder.specs.declared.files.UnclearFile.{UnclearFile}
+use Rattle.book_folder.specs.declared.folder.UnclearFile.{UnclearFile}
 use Rattle.book_folder.specs.declared.refusal.FolderFault.TheVariants as faults
 use Rattle.book_folder.specs.declared.refusal.Place.{Place}
 use Rattle.book_folder.specs.declared.refusal.Place.TheVariants as places
@@ -104,19 +104,18 @@ is_name (Some written) name = same_bytes written name
 abbrev pub second_of : ℕ → ℕ → UnclearFile
 second_of at other = record { place = places.File at; fault = faults.SecondOf other }
 
--- of a file and a later one of its book, if there is one, that which is not written down as the
--- book's; of two that are not, the later one
-abbrev pub second_at : List NamedParts → FileParts → Option FileParts → Option UnclearFile
-second_at names f None = None
-second_at names f (Some other) =
-    Some (if is_name (name_of names f.book) other.name
-    then second_of f.at other.at else second_of other.at f.at)
+-- of two files of a book, that which is not written down as the book's; of two that are not, the
+-- later one
+abbrev pub second_of_two : List NamedParts → FileParts → FileParts → UnclearFile
+second_of_two names f later =
+    if is_name (name_of names f.book) later.name
+    then second_of f.at later.at else second_of later.at f.at
 
 -- a second file of a book, if there is one
 abbrev pub second_file : List NamedParts → List FileParts → Option UnclearFile
 second_file names [] = None
 second_file names (f ∷ later) =
-    option_or (second_at names f (file_of later f.book)) (second_file names later)
+    option_or (option_map (second_of_two names f) (file_of later f.book)) (second_file names later)
 
 -- the place of the first that has a name, of which the first has this place
 abbrev pub found_at : ℕ → List (List ℕ) → List ℕ → Option ℕ

@@ -5,6 +5,8 @@ pub mod Files
 pub mod Begun
 pub mod BegunAnew
 pub mod Restored
+pub mod ByBook
+pub mod Folder
 pub mod Loops
 pub mod Asks
 pub mod Taking
@@ -15,7 +17,6 @@ pub mod Coming
 pub mod Naming
 pub mod Boxes
 pub mod Kept
-pub mod FirstNames
 pub mod Laws
 pub mod Plans
 pub mod Standing

@@ -284,13 +284,16 @@ plan_of seen c made names =
       told = told_of c;
     })
 
--- The plan of what was read, or the first refusal: of a folder in which it is not known which file
--- is a book's; of what comes in; of the name that is to say how new files are named; of what stands
--- where a new file is to be put; of a base that cannot be made.
-abbrev pub planned : SeenParts → WishParts → Result PlanParts Refusal
-planned seen wishes =
-    clear_files seen >>= λ files.
+-- the plan where it is known which file is which book's, or the first refusal
+abbrev pub planned_with : SeenParts → WishParts → List FileParts → Result PlanParts Refusal
+planned_with seen wishes files =
     comes_in seen wishes files >>= λ c.
     form_of seen files wishes >>= λ form.
     new_files seen c.replica.held files form >>= λ made.
     plan_of seen c made (other_names seen files (map new_name_of made))
+
+-- The plan of what was read, or the first refusal: of a folder in which it is not known which file
+-- is a book's; of what comes in; of the name that is to say how new files are named; of what stands
+-- where a new file is to be put; of a base that cannot be made.
+abbrev pub planned : SeenParts → WishParts → Result PlanParts Refusal
+planned seen wishes = clear_files seen >>= planned_with seen wishes

@@ -9,8 +9,8 @@ ghost use Rattle.book_folder.specs.Taking.{stood_view};
 ghost use Rattle.book_folder.specs.Wanted.{seen_view};
 
 use crate::begun::join;
+use crate::by_book::SomeBooks;
 use crate::coming::CameIn;
-use crate::files::is_one_of;
 use crate::plan::NewFile;
 use crate::refusal::{Place, Refusal};
 use crate::seen::Seen;
@@ -92,10 +92,11 @@ fn next_ops<'a>(
     ensures { IfOk result (λ ops. map (λ op. op.now) ops.items
         ≡ bases.shown_in_files headless.now replica.now.held) }
 {
+    let without_file = SomeBooks::new(alloc, headless)?;
     let mut cursor = replica.set().cursor();
     let mut ops = Vec::new(alloc);
     for op in replica.set().iter() {
-        if !is_one_of(headless, op.book()) && cursor.shows(op) {
+        if !without_file.has(op.book()) && cursor.shows(op) {
             ops.push(op)?;
         }
     }

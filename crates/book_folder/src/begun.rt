@@ -1,22 +1,21 @@
 // What a folder begins with: the project with what its files were written from.
 ghost use Rattle.std.specs.Prelude.{◌≡◌, ◌++◌, IfOk, OnOk, codes, length, map};
-ghost use Rattle.std.specs.List.{list_any};
-ghost use Rattle.usfm_ref.specs.Segments.{segment};
 ghost use Rattle.op_core.specs.Lists.{books_of};
 ghost use Rattle.project_file.specs.Projects.{project_at};
 ghost use Rattle.book_folder.specs.Begun as begins;
 ghost use Rattle.book_folder.specs.Refusals.{Answers, AnswersAfter, AnswersBy, AnswersStep};
 ghost use Rattle.book_folder.specs.Wanted.{seen_view, wishes_view};
 
-use crate::files::is_one_of;
+use crate::by_book::SomeBooks;
+use crate::conflicts::conflicts;
 use crate::refusal::{FolderFault, Place, Refusal};
 use crate::seen::{Seen, Wishes};
 use bundle_codec::{Bundle, OpView, decode_whole, encode_ops, join_bundles};
-use op_core::{Cursor, Op, OpSet, ReplicaName};
+use op_core::{Op, OpSet, ReplicaName};
 use project_file::load;
 use replica_state::Replica;
 use std::alloc::{AllocError, Global};
-use usfm_ref::{Book, Key};
+use usfm_ref::Book;
 
 // How many segments a bundle that has nothing in common with a project may put in conflict without
 // a question.
@@ -318,83 +317,12 @@ pub(crate) fn ops_of<'a>(
     ensures { IfOk result (λ ops. map (λ op. op.now) ops.items
         ≡ begins.ops_by is_among books.now set.now) }
 {
+    let among = SomeBooks::new(alloc, books)?;
     let mut ops = Vec::new(alloc);
     for op in set.iter() {
-        if is_one_of(books, op.book()) == is_among {
+        if among.has(op.book()) == is_among {
             ops.push(op)?;
         }
     }
     Ok(ops)
-}
-
-// The segments that show different texts, in the order of books and keys.
-pub(crate) fn conflicts(alloc: Global, replica: &Replica) -> Result<Vec<(Book, Key)>, AllocError>
-    ensures { IfOk result (λ found. found.items ≡ begins.conflicts replica.now.held) }
-{
-    let mut found = Vec::new(alloc);
-    for book in replica.books() {
-        push_conflicts(alloc, replica, book, &mut found)?;
-    }
-    Ok(found)
-}
-
-// Adds the segments of a book that show different texts, by rising keys.
-fn push_conflicts(
-    alloc: Global,
-    replica: &Replica,
-    book: Book,
-    found: &mut Vec<(Book, Key)>,
-) -> Result<(), AllocError>
-    ensures { OnOk result (found.new.items
-        ≡ found.old.items ++ begins.conflicts_in replica.now.held book) }
-{
-    let mut cursor = replica.set().cursor();
-    for key in replica.keys(book) {
-        if is_in_conflict(alloc, &mut cursor, book, key)? {
-            found.push((book, key))?;
-        }
-    }
-    Ok(())
-}
-
-// Whether a segment shows different texts.
-pub(crate) fn is_in_conflict(
-    alloc: Global,
-    cursor: &mut Cursor<'_>,
-    book: Book,
-    key: Key,
-) -> Result<bool, AllocError>
-    ensures conflict { IfOk result (λ is.
-        is ≡ begins.is_in_conflict cursor.old (segment book key)) }
-    ensures same { cursor.new ≡ cursor.old }
-{
-    if cursor.shown_ids(book, key).len() < 2 {
-        return Ok(false);
-    }
-    let shown = cursor.shown(alloc, book, key)?;
-    Ok(differ(&shown))
-}
-
-// Whether operations have different texts.
-fn differ(ops: &[&Op]) -> bool
-    ensures { result ≡ begins.differ (map (λ op. op.now) ops.now) }
-{
-    match ops {
-        [] => false,
-        [first, later @ ..] => has_other(later, first.text_or_empty()),
-    }
-}
-
-// Whether one of some operations has another text.
-fn has_other(ops: &[&Op], text: &str) -> bool
-    ensures { result ≡ list_any (begins.has_other_text text.now) (map (λ op. op.now) ops.now) }
-{
-    let mut left = ops;
-    'ops: while let [op, later @ ..] = left {
-        if op.text_or_empty() != text {
-            return true;
-        }
-        left = later;
-    }
-    false
 }

@@ -9,13 +9,13 @@ ghost use Rattle.book_folder.specs.Plans as plans;
 ghost use Rattle.book_folder.specs.Refusals.{AnswersBy};
 ghost use Rattle.book_folder.specs.Wanted.{seen_view};
 
-use crate::files::{BookFile, book_begun, file_of, is_same_book};
+use crate::files::{BookFile, book_begun, is_same_book};
+use crate::folder::FolderIndex;
 use crate::likes::{LineEnds, is_like};
 use crate::naming::{Form, free_name};
 use crate::plan::NewFile;
 use crate::refusal::Refusal;
 use crate::restored::in_manner_of;
-use crate::seen::Seen;
 use crate::taking::export_of;
 use replica_state::Replica;
 use std::alloc::{AllocError, Global};
@@ -35,13 +35,13 @@ pub(crate) struct FiledBooks {
 // are there; and the books that get none. Each book's text is made once.
 pub(crate) fn file_books(
     alloc: Global,
-    seen: &Seen<'_>,
+    folder: &FolderIndex<'_, '_>,
     replica: &Replica,
-    files: &[BookFile<'_>],
     form: &Form<'_>,
 ) -> Result<FiledBooks, Refusal>
-    ensures made { AnswersBy (λ filed. map plans.new_file_view filed.made.items) (plans.new_files
-        (seen_view seen.now) replica.now.held (files_view files.now) (form_view form.now)) result }
+    ensures made { let files = files_view folder.now.files.now in
+        AnswersBy (λ filed. map plans.new_file_view filed.made.items) (plans.new_files
+        (seen_view folder.now.seen) replica.now.held files (form_view form.now)) result }
     ensures headless { IfOk result (λ filed.
         filed.headless.items ≡ plans.headless replica.now.held) }
 {
@@ -50,7 +50,7 @@ pub(crate) fn file_books(
     for book in replica.books() {
         match whole_text(alloc, replica, book)? {
             Some(text) => {
-                if let Some(file) = file_by_text(alloc, seen, files, form, book, text)? {
+                if let Some(file) = file_by_text(alloc, folder, form, book, text)? {
                     made.push(file)?;
                 }
             }
@@ -63,17 +63,17 @@ pub(crate) fn file_books(
 // The new file of a book, if it is to get one.
 pub(crate) fn new_file(
     alloc: Global,
-    seen: &Seen<'_>,
+    folder: &FolderIndex<'_, '_>,
     replica: &Replica,
-    files: &[BookFile<'_>],
     form: &Form<'_>,
     book: Book,
 ) -> Result<Option<NewFile>, Refusal>
-    ensures { AnswersBy (option_map plans.new_file_view) (plans.new_file_if (seen_view seen.now)
-        replica.now.held (files_view files.now) (form_view form.now) book) result }
+    ensures { let files = files_view folder.now.files.now in
+        AnswersBy (option_map plans.new_file_view) (plans.new_file_if (seen_view folder.now.seen)
+        replica.now.held files (form_view form.now) book) result }
 {
     match whole_text(alloc, replica, book)? {
-        Some(text) => file_by_text(alloc, seen, files, form, book, text),
+        Some(text) => file_by_text(alloc, folder, form, book, text),
         None => Ok(None),
     }
 }
@@ -81,18 +81,18 @@ pub(crate) fn new_file(
 // The new file of a book by its text, unless the file that it has is like that.
 fn file_by_text(
     alloc: Global,
-    seen: &Seen<'_>,
-    files: &[BookFile<'_>],
+    folder: &FolderIndex<'_, '_>,
     form: &Form<'_>,
     book: Book,
     text: Vec<u8>,
 ) -> Result<Option<NewFile>, Refusal>
     requires text { IsUtf8 text.items }
-    ensures { AnswersBy (option_map plans.new_file_view) (plans.file_by_text (seen_view seen.now)
-        (files_view files.now) (form_view form.now) book text.items) result }
+    ensures { let files = files_view folder.now.files.now in
+        AnswersBy (option_map plans.new_file_view) (plans.file_by_text (seen_view folder.now.seen)
+        files (form_view form.now) book text.items) result }
 {
-    let Some(file) = file_of(files, book) else {
-        let name = free_name(alloc, seen, form, book)?;
+    let Some(file) = folder.file_of(book) else {
+        let name = free_name(alloc, folder, form, book)?;
         return Ok(Some(NewFile {
             book,
             name,

@@ -8,7 +8,7 @@ ghost use Rattle.replica_state.specs.Imports.{walked_keys};
 ghost use Rattle.book_folder.specs.Taking as taking;
 ghost use Rattle.book_folder.specs.Wanted.{wanted_view};
 
-use crate::begun::is_in_conflict;
+use crate::conflicts::is_in_conflict;
 use crate::files::is_same_book;
 use crate::seen::Wanted;
 use op_core::{Cursor, OpId};

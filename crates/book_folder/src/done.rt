@@ -5,7 +5,7 @@ ghost use Rattle.book_folder.specs.Coming.{added_view};
 ghost use Rattle.book_folder.specs.Done as done;
 ghost use Rattle.book_folder.specs.Plans.{plan_view, step_view, told_view};
 
-use crate::files::is_one_of;
+use crate::by_book::SomeBooks;
 use crate::plan::{Added, Plan, Step, Told};
 use std::alloc::{AllocError, Global};
 use usfm_ref::{Book, Key};
@@ -55,7 +55,7 @@ pub fn lines_of(
     push_base(&mut lines, told.base)?;
     push_bundles(&mut lines, &told.bundles, named, own)?;
     push_added(&mut lines, &told.files)?;
-    push_placed(&mut lines, &plan.steps, left)?;
+    push_placed(&mut lines, &plan.steps, &SomeBooks::new(alloc, left)?)?;
     push_count(&mut lines, told)?;
     push_conflicts(&mut lines, first_named(&told.conflicts))?;
     Ok(lines)
@@ -122,9 +122,13 @@ fn push_added(lines: &mut Vec<Line>, files: &[Added]) -> Result<(), AllocError>
 }
 
 // Adds the lines of the files that were put in their places, or were left.
-fn push_placed(lines: &mut Vec<Line>, steps: &[Step], books: &[Book]) -> Result<(), AllocError>
+fn push_placed(
+    lines: &mut Vec<Line>,
+    steps: &[Step],
+    books: &SomeBooks<'_>,
+) -> Result<(), AllocError>
     ensures { OnOk result (map done.line_view lines.new.items ≡ map done.line_view lines.old.items
-        ++ filter_map (done.step_line books.now) (map step_view steps.now)) }
+        ++ filter_map (done.step_line books.now.books.now) (map step_view steps.now)) }
 {
     let mut left = steps;
     'steps: while let [step, later @ ..] = left {
@@ -137,15 +141,15 @@ fn push_placed(lines: &mut Vec<Line>, steps: &[Step], books: &[Book]) -> Result<
 }
 
 // The line of a step, if it puts a book's new file in its place.
-fn step_line(step: &Step, left: &[Book]) -> Result<Option<Line>, AllocError>
+fn step_line(step: &Step, left: &SomeBooks<'_>) -> Result<Option<Line>, AllocError>
     ensures { IfOk result (λ line. option_map done.line_view line
-        ≡ done.step_line left.now (step_view step.now)) }
+        ≡ done.step_line left.now.books.now (step_view step.now)) }
 {
     let Step::Place(placing) = step else {
         return Ok(None);
     };
     let name = placing.name.clone()?;
-    if is_one_of(left, placing.book) {
+    if left.has(placing.book) {
         Ok(Some(Line::Left(name)))
     } else {
         Ok(Some(Line::Wrote(name)))

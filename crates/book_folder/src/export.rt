@@ -15,7 +15,9 @@ ghost use Rattle.book_folder.specs.Wanted.{seen_view, wishes_view};
 use crate::bases::{OwnFiles, other_base};
 use crate::begun::{base_of, join, ops_of, project_of};
 use crate::books::{is_whole, new_file};
-use crate::files::{BookFile, clear_files, file_of, is_one_of, is_same_book};
+use crate::by_book::SomeBooks;
+use crate::files::{BookFile, book_files, is_same_book};
+use crate::folder::{FolderIndex, clear_folder};
 use crate::likes::is_like;
 use crate::names::other_names;
 use crate::naming::{Form, form_of};
@@ -28,15 +30,14 @@ use replica_state::Replica;
 use std::alloc::{AllocError, Global};
 use usfm_ref::Book;
 
-// What an export goes by: the project, what the files were written from, the files, and how new
+// What an export goes by: the folder, the project, what the files were written from, and how new
 // ones are named.
-#[derive(Clone, Copy, Debug)]
-struct Sources<'a> {
-    seen: &'a Seen<'a>,
-    replica: &'a Replica,
-    base: &'a Replica,
-    files: &'a [BookFile<'a>],
-    form: &'a Form<'a>,
+#[derive(Clone, Copy)]
+struct Sources<'s, 'f, 'a> {
+    folder: &'s FolderIndex<'f, 'a>,
+    replica: &'s Replica,
+    base: &'s Replica,
+    form: &'s Form<'a>,
 }
 
 // Books, parted into those that get a file and those that do not.
@@ -62,43 +63,58 @@ struct Parted {
 ///   project does not have.
 /// - `Bundle` and `Clash`, of the project, where no base can be made of what it shows.
 /// - `Memory` where an allocation failed.
-pub fn export_plan(
+pub fn export_plan<'a>(
     alloc: Global,
-    seen: &Seen<'_>,
-    wishes: &Wishes,
+    seen: &Seen<'a>,
+    wishes: &'a Wishes,
     named: &[Book],
 ) -> Result<Plan, Refusal>
     ensures { AnswersBy plans.plan_view
         (exports.exported (seen_view seen.now) (wishes_view wishes.now) named.now) result }
 {
     let replica = project_of(alloc, seen.project)?;
-    let files = clear_files(alloc, seen)?;
-    let base = base_of(alloc, seen)?;
-    let books = chosen_books(alloc, &replica, named)?;
-    let form = form_of(alloc, seen, &files, wishes)?;
+    let files = book_files(alloc, seen)?;
+    let folder = clear_folder(alloc, seen, &files)?;
+    export_folder(alloc, &replica, &folder, wishes, named)
+}
+
+// The plan of an export into a folder in which it is known which file is which book's.
+fn export_folder<'a>(
+    alloc: Global,
+    replica: &Replica,
+    folder: &FolderIndex<'_, 'a>,
+    wishes: &'a Wishes,
+    named: &[Book],
+) -> Result<Plan, Refusal>
+    ensures { let files = files_view folder.now.files.now in
+        AnswersBy plans.plan_view (exports.exported_with (seen_view folder.now.seen)
+        (wishes_view wishes.now) named.now replica.now.held files) result }
+{
+    let base = base_of(alloc, &folder.seen)?;
+    let books = chosen_books(alloc, replica, named)?;
+    let form = form_of(alloc, folder, wishes)?;
     let sources = Sources {
-        seen,
-        replica: &replica,
+        folder,
+        replica,
         base: &base,
-        files: &files,
         form: &form,
     };
     export_books(alloc, &sources, &books)
 }
 
 // The plan of an export of some books.
-fn export_books(alloc: Global, by: &Sources<'_>, books: &[Book]) -> Result<Plan, Refusal>
-    ensures { let files = files_view by.now.files.now in
+fn export_books(alloc: Global, by: &Sources<'_, '_, '_>, books: &[Book]) -> Result<Plan, Refusal>
+    ensures { let files = files_view by.now.folder.now.files.now in
         let form = form_view by.now.form.now in
-        AnswersBy plans.plan_view (exports.books_exported (seen_view by.now.seen.now)
+        AnswersBy plans.plan_view (exports.books_exported (seen_view by.now.folder.now.seen)
         by.now.replica.now.held by.now.base.now.held files form books.now) result }
 {
     let Parted { filed, headless } = part_by_head(alloc, by.replica, books)?;
     let made = exported_files(alloc, by, &filed)?;
     let next = exported_base(alloc, by.replica, by.base, &filed)?;
-    let names = other_names(alloc, by.seen, by.files, &made)?;
+    let names = other_names(alloc, &by.folder.seen, by.folder.files, &made)?;
     let own = own_files(alloc, by, next, names, &made)?;
-    Ok(export_steps(alloc, by.seen, made, own, headless)?)
+    Ok(export_steps(alloc, &by.folder.seen, made, own, headless)?)
 }
 
 // The books that are named, in the order of books, all where none is named; one of which the
@@ -109,9 +125,10 @@ fn chosen_books(alloc: Global, replica: &Replica, named: &[Book]) -> Result<Vec<
     if !has_books(replica, named) {
         return Err(Refusal::Of(Place::Project, FolderFault::NoBook));
     }
+    let among = SomeBooks::new(alloc, named)?;
     let mut books = Vec::new(alloc);
     for book in replica.books() {
-        if named.is_empty() || is_one_of(named, book) {
+        if named.is_empty() || among.has(book) {
             books.push(book)?;
         }
     }
@@ -154,12 +171,16 @@ fn part_by_head(alloc: Global, replica: &Replica, books: &[Book]) -> Result<Part
 }
 
 // The new files of some books.
-fn exported_files(alloc: Global, by: &Sources<'_>, books: &[Book]) -> Result<Vec<NewFile>, Refusal>
-    ensures { let files = files_view by.now.files.now in
+fn exported_files(
+    alloc: Global,
+    by: &Sources<'_, '_, '_>,
+    books: &[Book],
+) -> Result<Vec<NewFile>, Refusal>
+    ensures { let files = files_view by.now.folder.now.files.now in
+        let seen = seen_view by.now.folder.now.seen in
         let form = form_view by.now.form.now in
         AnswersBy (λ made. map plans.new_file_view made.items) (gathered (exports.exported_file
-        (seen_view by.now.seen.now) by.now.replica.now.held by.now.base.now.held files form) []
-        books.now) result }
+        seen by.now.replica.now.held by.now.base.now.held files form) [] books.now) result }
 {
     let mut made = Vec::new(alloc);
     let mut left = books;
@@ -175,17 +196,21 @@ fn exported_files(alloc: Global, by: &Sources<'_>, books: &[Book]) -> Result<Vec
 // The new file of a book, if it gets one. The file that it replaces has to be as it was written,
 // from what the project has.
 #[tactic(auto, unfolding(crate::specs::Exports::exported_file))]
-fn exported_file(alloc: Global, by: &Sources<'_>, book: Book) -> Result<Option<NewFile>, Refusal>
-    ensures { let files = files_view by.now.files.now in
+fn exported_file(
+    alloc: Global,
+    by: &Sources<'_, '_, '_>,
+    book: Book,
+) -> Result<Option<NewFile>, Refusal>
+    ensures { let files = files_view by.now.folder.now.files.now in
+        let seen = seen_view by.now.folder.now.seen in
         let form = form_view by.now.form.now in
         AnswersBy (option_map plans.new_file_view) (exports.exported_file
-        (seen_view by.now.seen.now) by.now.replica.now.held by.now.base.now.held files form book)
-        result }
+        seen by.now.replica.now.held by.now.base.now.held files form book) result }
 {
-    let Some(made) = new_file(alloc, by.seen, by.replica, by.files, by.form, book)? else {
+    let Some(made) = new_file(alloc, by.folder, by.replica, by.form, book)? else {
         return Ok(None);
     };
-    let Some(file) = file_of(by.files, book) else {
+    let Some(file) = by.folder.file_of(book) else {
         return Ok(Some(made));
     };
     if !is_unchanged(alloc, by.replica, by.base, file, book)? {
@@ -286,10 +311,11 @@ fn shown_ops<'a>(
     ensures { IfOk result (λ ops. map (λ op. op.now) ops.items
         ≡ exports.shown_of books.now replica.now.held) }
 {
+    let among = SomeBooks::new(alloc, books)?;
     let mut cursor = replica.set().cursor();
     let mut ops = Vec::new(alloc);
     for op in replica.set().iter() {
-        if is_one_of(books, op.book()) && cursor.shows(op) {
+        if among.has(op.book()) && cursor.shows(op) {
             ops.push(op)?;
         }
     }
@@ -299,24 +325,25 @@ fn shown_ops<'a>(
 // Where there are new files, the base as it is, and the next one; else the next one as the base.
 fn own_files(
     alloc: Global,
-    by: &Sources<'_>,
+    by: &Sources<'_, '_, '_>,
     next: Vec<u8>,
     names: Option<Vec<u8>>,
     made: &[NewFile],
 ) -> Result<OwnFiles, AllocError>
-    ensures { IfOk result (λ own. plans.own_view own ≡ exports.own_of (seen_view by.now.seen.now)
+    ensures { let seen = seen_view by.now.folder.now.seen in
+        IfOk result (λ own. plans.own_view own ≡ exports.own_of seen
         by.now.base.now.held (map plans.new_file_view made.now) next.items
         (option_map (λ b. b.items) names)) }
 {
     if made.is_empty() {
         return Ok(OwnFiles {
-            base: other_base(by.seen, next),
+            base: other_base(&by.folder.seen, next),
             names,
             next: None,
         });
     }
     Ok(OwnFiles {
-        base: other_base(by.seen, by.base.bundle(alloc)?),
+        base: other_base(&by.folder.seen, by.base.bundle(alloc)?),
         names,
         next: Some(next),
     })

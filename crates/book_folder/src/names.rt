@@ -1,5 +1,6 @@
 // Which file is which book's, as it is written down.
 ghost use Rattle.std.specs.Prelude.{◌≡◌, ◌++◌, [], ◌∷◌, IfOk, OnOk, map, option_map};
+ghost use Rattle.book_folder.specs.ByBook.{HasFirsts};
 ghost use Rattle.book_folder.specs.Files.{files_view};
 ghost use Rattle.book_folder.specs.Naming as naming;
 ghost use Rattle.book_folder.specs.Plans as plans;
@@ -7,12 +8,14 @@ ghost use Rattle.book_folder.specs.Taking.{listed};
 ghost use Rattle.book_folder.specs.Wanted.{named_view, seen_view};
 
 use crate::bases::other_than;
-use crate::files::{BookFile, file_of, may_be_book, text_if};
-use crate::first_names::{first_name, first_names};
+use crate::by_book::{put, under};
+use crate::files::{BookFile, may_be_book, text_if};
+use crate::folder::FolderIndex;
 use crate::naming::has_byte;
 use crate::plan::NewFile;
 use crate::seen::{Named, Seen};
 use std::alloc::{AllocError, Global};
+use std::collections::BTreeMap;
 use usfm_ref::Book;
 
 // A book with the name of its file.
@@ -26,15 +29,14 @@ pub(crate) struct BookName<'a> {
 // books without a file.
 pub(crate) fn names_had<'a>(
     alloc: Global,
-    seen: &Seen<'a>,
-    files: &[BookFile<'a>],
+    folder: &FolderIndex<'_, 'a>,
 ) -> Result<Vec<BookName<'a>>, AllocError>
     ensures { IfOk result (λ names. map naming.book_name_view names.items
-        ≡ naming.names_had (seen_view seen.now) (files_view files.now)) }
+        ≡ naming.names_had (seen_view folder.now.seen) (files_view folder.now.files.now)) }
 {
     let mut names = Vec::new(alloc);
-    push_files(&mut names, files)?;
-    push_without_file(&mut names, seen.names, files)?;
+    push_files(&mut names, folder.files)?;
+    push_without_file(&mut names, folder)?;
     Ok(names)
 }
 
@@ -114,16 +116,16 @@ fn push_named<'a>(names: &mut Vec<BookName<'a>>, named: &'a [Named]) -> Result<(
 // Adds the names that were written down of books without a file.
 fn push_without_file<'a>(
     names: &mut Vec<BookName<'a>>,
-    named: &'a [Named],
-    files: &[BookFile<'_>],
+    folder: &FolderIndex<'_, 'a>,
 ) -> Result<(), AllocError>
-    ensures { OnOk result (map naming.book_name_view names.new.items
+    ensures { let files = files_view folder.now.files.now in
+        OnOk result (map naming.book_name_view names.new.items
         ≡ map naming.book_name_view names.old.items
-        ++ naming.without_file (files_view files.now) (map named_view named.now)) }
+        ++ naming.without_file files (map named_view folder.now.seen.names.now)) }
 {
-    let mut left = named;
+    let mut left = folder.seen.names;
     'names: while let [one, later @ ..] = left {
-        if file_of(files, one.book).is_none() {
+        if folder.file_of(one.book).is_none() {
             push_name(names, one.book, &one.name)?;
         }
         left = later;
@@ -167,12 +169,31 @@ fn in_order<'a>(alloc: Global, names: &[BookName<'a>]) -> Result<Vec<BookName<'a
     let mut ordered = Vec::new(alloc);
     let mut left = books.as_slice();
     'books: while let [book, later @ ..] = left {
-        if let Some(name) = first_name(&firsts, *book) {
-            push_name(&mut ordered, *book, name)?;
+        if let Some(named) = under(&firsts, *book) {
+            push_name(&mut ordered, *book, named.name)?;
         }
         left = later;
     }
     Ok(ordered)
+}
+
+// The first of some names of each book, found under the book.
+fn first_names<'n, 'a>(
+    alloc: Global,
+    names: &'n [BookName<'a>],
+) -> Result<BTreeMap<Book, &'n BookName<'a>>, AllocError>
+    ensures { let view = map naming.book_name_view names.now in
+        IfOk result (λ firsts.
+        HasFirsts (λ n. naming.book_name_view n.now) (λ n. n.book) view firsts) }
+{
+    let mut firsts = BTreeMap::new(alloc);
+    let mut left = names;
+    'names: while let [earlier @ .., named] = left {
+        // Of several of one book, the first one is put last, and stays.
+        put(&mut firsts, named.book, named)?;
+        left = earlier;
+    }
+    Ok(firsts)
 }
 
 // The books of names, in their order, each once.

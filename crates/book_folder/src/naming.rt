@@ -6,11 +6,12 @@ ghost use Rattle.book_folder.specs.Naming as naming;
 ghost use Rattle.book_folder.specs.Refusals.{AnswersBy};
 ghost use Rattle.book_folder.specs.Wanted.{named_view, seen_view, wishes_view};
 
-use crate::files::{BookFile, may_be_book, name_of, place_of, text_if};
+use crate::files::{may_be_book, text_if};
+use crate::folder::FolderIndex;
 use crate::names::{BookName, names_had};
 use crate::numbers::{NUMBERS, Numbered, number_of};
 use crate::refusal::{FolderFault, Place, Refusal};
-use crate::seen::{Named, Seen, Wishes};
+use crate::seen::Wishes;
 use std::alloc::{AllocError, Global};
 use usfm_ref::Book;
 
@@ -37,15 +38,14 @@ impl Form<'_> {
 // is asked for; else `CODE.usfm`.
 pub(crate) fn form_of<'a>(
     alloc: Global,
-    seen: &Seen<'a>,
-    files: &[BookFile<'a>],
+    folder: &FolderIndex<'_, 'a>,
     wishes: &'a Wishes,
 ) -> Result<Form<'a>, Refusal>
-    ensures { AnswersBy naming.form_view (naming.form_of (seen_view seen.now)
-        (files_view files.now) (wishes_view wishes.now)) result }
+    ensures { AnswersBy naming.form_view (naming.form_of (seen_view folder.now.seen)
+        (files_view folder.now.files.now) (wishes_view wishes.now)) result }
 {
     let asked = asked(wishes)?;
-    let names = names_had(alloc, seen, files)?;
+    let names = names_had(alloc, folder)?;
     let default = Form {
         has_number: false,
         end: DEFAULT_END,
@@ -243,15 +243,15 @@ fn after_front<'a>(front: &str, name: &'a str) -> Option<&'a str>
 // refused.
 pub(crate) fn free_name(
     alloc: Global,
-    seen: &Seen<'_>,
+    folder: &FolderIndex<'_, '_>,
     form: &Form<'_>,
     book: Book,
 ) -> Result<String, Refusal>
-    ensures { AnswersBy string_bytes (naming.free_name (seen_view seen.now)
+    ensures { AnswersBy string_bytes (naming.free_name (seen_view folder.now.seen)
         (naming.form_view form.now) book) result }
 {
-    let name = name_for(alloc, seen.names, form, book)?;
-    match place_of(seen, &name) {
+    let name = name_for(alloc, folder, form, book)?;
+    match folder.place_of(&name) {
         Some(place) => Err(Refusal::Of(place, FolderFault::FileChanged)),
         None => Ok(name),
     }
@@ -261,14 +261,15 @@ pub(crate) fn free_name(
 // form has it.
 fn name_for(
     alloc: Global,
-    names: &[Named],
+    folder: &FolderIndex<'_, '_>,
     form: &Form<'_>,
     book: Book,
 ) -> Result<String, AllocError>
-    ensures { IfOk result (λ name. string_bytes name
-        ≡ naming.name_for (map named_view names.now) (naming.form_view form.now) book) }
+    ensures { let names = map named_view folder.now.seen.names.now in
+        IfOk result (λ name.
+        string_bytes name ≡ naming.name_for names (naming.form_view form.now) book) }
 {
-    match name_of(names, book) {
+    match folder.name_of(book) {
         Some(name) => String::from_str(alloc, name),
         None => name_by(alloc, form, book),
     }

@@ -1,16 +1,18 @@
 // What is done with a project and a folder, as a plan of what was read.
 ghost use Rattle.std.specs.Prelude.{◌≡◌, ◌++◌, IfOk, OnOk, map, option_map};
 ghost use Rattle.book_folder.specs.Coming.{came_view};
+ghost use Rattle.book_folder.specs.Files.{files_view};
 ghost use Rattle.book_folder.specs.Plans.{RemoveNew, SyncOwn, WriteNew, with_sync};
 ghost use Rattle.book_folder.specs.Plans as plans;
 ghost use Rattle.book_folder.specs.Refusals.{AnswersBy};
 ghost use Rattle.book_folder.specs.Wanted.{seen_view, wishes_view};
 
 use crate::bases::{OwnFiles, other_than, own_files};
-use crate::begun::conflicts;
 use crate::books::{FiledBooks, file_books};
 use crate::coming::{CameIn, come_in};
-use crate::files::clear_files;
+use crate::conflicts::conflicts;
+use crate::files::book_files;
+use crate::folder::{FolderIndex, clear_folder};
 use crate::names::other_names;
 use crate::naming::form_of;
 use crate::refusal::Refusal;
@@ -128,15 +130,30 @@ pub struct Told {
 /// - `FileChanged` of what stands where a new file is to be put.
 /// - `Bundle` and `Clash`, of the project, where no base can be made of what the files have.
 /// - `Memory` where an allocation failed.
-pub fn make_plan(alloc: Global, seen: &Seen<'_>, wishes: &Wishes) -> Result<Plan, Refusal>
+pub fn make_plan<'a>(alloc: Global, seen: &Seen<'a>, wishes: &'a Wishes) -> Result<Plan, Refusal>
     ensures { AnswersBy plans.plan_view (plans.planned (seen_view seen.now)
         (wishes_view wishes.now)) result }
 {
-    let files = clear_files(alloc, seen)?;
-    let came = come_in(alloc, seen, wishes, &files)?;
-    let form = form_of(alloc, seen, &files, wishes)?;
-    let filed = file_books(alloc, seen, &came.replica, &files, &form)?;
-    let names = other_names(alloc, seen, &files, &filed.made)?;
+    let files = book_files(alloc, seen)?;
+    let folder = clear_folder(alloc, seen, &files)?;
+    plan_folder(alloc, &folder, wishes)
+}
+
+// The plan of a folder in which it is known which file is which book's.
+fn plan_folder<'a>(
+    alloc: Global,
+    folder: &FolderIndex<'_, 'a>,
+    wishes: &'a Wishes,
+) -> Result<Plan, Refusal>
+    ensures { let files = files_view folder.now.files.now in
+        AnswersBy plans.plan_view (plans.planned_with (seen_view folder.now.seen)
+        (wishes_view wishes.now) files) result }
+{
+    let seen = &folder.seen;
+    let came = come_in(alloc, seen, wishes, folder.files)?;
+    let form = form_of(alloc, folder, wishes)?;
+    let filed = file_books(alloc, folder, &came.replica, &form)?;
+    let names = other_names(alloc, seen, folder.files, &filed.made)?;
     plan_of(alloc, seen, came, filed, names)
 }
 

@@ -8,7 +8,8 @@ ghost use Rattle.book_folder.specs.Refusals.{AnswersAfter, AnswersBy};
 ghost use Rattle.book_folder.specs.Standing as stand;
 ghost use Rattle.book_folder.specs.Wanted.{found_view, no_wishes, seen_view};
 
-use crate::files::{BookFile, book_files, file_of};
+use crate::files::book_files;
+use crate::folder::FolderIndex;
 use crate::plan::{Added, Plan, make_plan};
 use crate::refusal::{FolderFault, Place, Refusal};
 use crate::seen::{Found, Seen, Wishes};
@@ -139,10 +140,11 @@ fn changed_files(
         ≡ stand.changed_files (seen_view seen.now) (plan_view plan.now)) }
 {
     let files = book_files(alloc, seen)?;
+    let folder = FolderIndex::new(alloc, seen, &files)?;
     let mut changed = Vec::new(alloc);
     let mut left = plan.told.files.as_slice();
     'files: while let [added, later @ ..] = left {
-        if let Some(file) = changed_file(&files, added) {
+        if let Some(file) = changed_file(&folder, added) {
             changed.push(file)?;
         }
         left = later;
@@ -151,11 +153,11 @@ fn changed_files(
 }
 
 // The file of a book that makes edits, with their number.
-fn changed_file(files: &[BookFile<'_>], added: &Added) -> Option<ChangedFile>
+fn changed_file(folder: &FolderIndex<'_, '_>, added: &Added) -> Option<ChangedFile>
     ensures { option_map stand.changed_view result
-        ≡ stand.changed_file (files_view files.now) (added_view added.now) }
+        ≡ stand.changed_file (files_view folder.now.files.now) (added_view added.now) }
 {
-    let file = file_of(files, added.book)?;
+    let file = folder.file_of(added.book)?;
     Some(ChangedFile {
         at: file.at,
         count: added.count,

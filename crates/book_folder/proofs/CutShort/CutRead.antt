@@ -14,7 +14,7 @@ use Rattle.book_folder.specs.Plans.{NewFileParts, PlanParts}
 use Rattle.book_folder.specs.Refusals.{◌>>=◌, Stepped, stepped}
 use Rattle.book_folder.specs.Stale.{rebased}
 use Rattle.book_folder.specs.Wanted.{SeenParts, WishParts}
-use Rattle.book_folder.specs.declared.files.UnclearFile.{UnclearFile}
+use Rattle.book_folder.specs.declared.folder.UnclearFile.{UnclearFile}
 use Rattle.book_folder.proofs.CutShort.BaseReceived.{base_received, FromBases, IsReceived}
 use Rattle.book_folder.proofs.Schedules.BasesReach.{begins_along, ok_is, then_ok}
 use Rattle.book_folder.specs.DoneAgain.{IsReadAlike, first_of}

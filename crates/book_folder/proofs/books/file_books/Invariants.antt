@@ -8,8 +8,8 @@ use Rattle.book_folder.proofs.books.file_books.Given as goal
 
 abbrev pub invariant-loop-book : goal.invariant-loop-book
 invariant-loop-book l =
-    (gathered (plans.new_file_if (seen_view l.seen) l.replica.held (files_view l.files) (form_view l.form))
+    (gathered (plans.new_file_if (seen_view l.folder.seen) l.replica.held (files_view l.folder.files.now) (form_view l.form))
     (map plans.new_file_view l.made.items) l.book-iterator
-    ≡ plans.new_files (seen_view l.seen) l.replica.held (files_view l.files) (form_view l.form))
+    ≡ plans.new_files (seen_view l.folder.seen) l.replica.held (files_view l.folder.files.now) (form_view l.form))
     × (l.headless.items ++ filter (λ book. not (plans.is_whole l.replica.held book)) l.book-iterator
     ≡ plans.headless l.replica.held)

@@ -9,8 +9,8 @@ use Rattle.book_folder.proofs.export.exported_files.Given as goal
 
 abbrev pub invariant-books : goal.invariant-books
 invariant-books l =
-    let give = exported_file (seen_view l.by.seen.now) l.by.replica.now.held l.by.base.now.held
-    (files_view l.by.files.now) (form_view l.by.form.now) in
+    let give = exported_file (seen_view l.by.folder.now.seen) l.by.replica.now.held l.by.base.now.held
+    (files_view l.by.folder.now.files.now) (form_view l.by.form.now) in
     gathered give (map new_file_view l.made.items) l.left ≡ gathered give [] l.books
 
 abbrev pub decreases-books : goal.decreases-books

@@ -7,9 +7,9 @@ use Rattle.book_folder.proofs.names.push_without_file.Given as goal
 abbrev pub invariant-names : goal.invariant-names
 invariant-names l =
     map naming.book_name_view l.names.items
-    ++ naming.without_file (files_view l.files) (map named_view l.left)
+    ++ naming.without_file (files_view l.folder.files.now) (map named_view l.left)
     ≡ map naming.book_name_view l.fn.names.items
-    ++ naming.without_file (files_view l.files) (map named_view l.named)
+    ++ naming.without_file (files_view l.folder.files.now) (map named_view l.folder.seen.names.now)
 
 abbrev pub decreases-names : goal.decreases-names
 decreases-names l = length l.left

@@ -7,7 +7,7 @@ use Rattle.book_folder.proofs.standing.changed_files.Given as goal
 
 abbrev pub invariant-files : goal.invariant-files
 invariant-files l =
-    let file = stand.changed_file (files_view l.files.items) in
+    let file = stand.changed_file (files_view l.folder.files.now) in
     map stand.changed_view l.changed.items ++ filter_map file (map added_view l.left)
     ≡ filter_map file (map added_view l.plan.told.files.items)
 
