@@ -2,7 +2,7 @@
 use Rattle.std.proofs.Common.{◌≡◌, ℕ, ◌<◌, ◌==◌, ◌/◌, ◌%◌, nat_le, Bool, true, false, cond, ◌&&◌, ◌||◌, List, [], ◌∷◌, ◌++◌, refl, ap, ◌∙◌, arith}
 use Rattle.std.proofs.lemmas.Bool.{cond-false}
 use Rattle.std.proofs.lemmas.Bool.Decides.{nat_tests}
-use Rattle.conflict_settling.specs.Escapes.{is_control_byte, is_control_pair, has_control, hex_digit, spelled, escaped_byte, escaped}
+use Rattle.conflict_settling.specs.Escapes.{is_control_byte, is_control_pair, is_line_end, has_control, hex_digit, spelled, escaped_byte, escaped}
 use Rattle.conflict_settling.specs.Laws.{EscapedHasNoControl, PlainStays}
 
 -- whether a byte and the front of what follows it are a control character
@@ -70,6 +70,14 @@ byte_fine b rest apart fit = by (is_control_byte b) refl
     by true e = spelled_fine b rest (control_small b e) fit
     by false e = fine b rest e apart fit
 
+-- a byte makes no pair with a line feed
+ended : (b c d : ℕ) → is_line_end c d ≡ true → is_control_pair b d ≡ false
+ended b c d e = grind (arith, nat_tests)
+
+-- a plain byte is no carriage return
+no_return : (b c : ℕ) → is_control_byte b ≡ false → is_line_end b c ≡ false
+no_return b c e = grind (arith, nat_tests)
+
 -- a byte makes no pair with an escaped text, if it makes none with the text
 still_apart : (b c : ℕ) (rest : List ℕ) → is_control_pair b c ≡ false → pairs b (escaped (c ∷ rest)) ≡ false
 still_apart b c [] h = one (is_control_byte c)
@@ -77,12 +85,16 @@ still_apart b c [] h = one (is_control_byte c)
     one : (x : Bool) → pairs b (cond x (spelled c) (c ∷ [])) ≡ false
     one true = no_pair_92 b
     one false = h
-still_apart b c (d ∷ rest) h = two (is_control_pair c d) (is_control_byte c)
+still_apart b c (d ∷ rest) h =
+    two (is_control_pair c d) (is_line_end c d) (is_control_byte c) (λ e. still_apart b d rest (ended b c d e))
   where
-    two : (x y : Bool) → pairs b (cond x (spelled d ++ escaped rest) (cond y (spelled c) (c ∷ []) ++ escaped (d ∷ rest))) ≡ false
-    two true y = no_pair_92 b
-    two false true = no_pair_92 b
-    two false false = h
+    two : (x z y : Bool) → (z ≡ true → pairs b (escaped (d ∷ rest)) ≡ false)
+        → pairs b (cond x (spelled d ++ escaped rest)
+        (cond z (escaped (d ∷ rest)) (cond y (spelled c) (c ∷ []) ++ escaped (d ∷ rest)))) ≡ false
+    two true z y later = no_pair_92 b
+    two false true y later = later refl
+    two false false true later = no_pair_92 b
+    two false false false later = h
 
 -- what is escaped has no control character but line feeds
 pub escaped_has_no_control : EscapedHasNoControl
@@ -92,12 +104,14 @@ escaped_has_no_control (b ∷ []) = one (is_control_byte b) refl
     one : (x : Bool) → is_control_byte b ≡ x → has_control (cond x (spelled b) (b ∷ [])) ≡ false
     one true e = spelled_fine b [] (control_small b e) refl
     one false e = e
-escaped_has_no_control (b ∷ c ∷ rest) = by (escaped_has_no_control rest) (escaped_has_no_control (c ∷ rest)) (is_control_pair b c) refl
+escaped_has_no_control (b ∷ c ∷ rest) =
+    by (escaped_has_no_control rest) (escaped_has_no_control (c ∷ rest)) (is_control_pair b c) (is_line_end b c) refl
   where
-    by : has_control (escaped rest) ≡ false → has_control (escaped (c ∷ rest)) ≡ false → (x : Bool) → is_control_pair b c ≡ x
-        → has_control (cond x (spelled c ++ escaped rest) (escaped_byte b ++ escaped (c ∷ rest))) ≡ false
-    by g h true e = spelled_fine c (escaped rest) (pair_small b c e) g
-    by g h false e = byte_fine b (escaped (c ∷ rest)) (still_apart b c rest e) h
+    by : has_control (escaped rest) ≡ false → has_control (escaped (c ∷ rest)) ≡ false → (x z : Bool) → is_control_pair b c ≡ x
+        → has_control (cond x (spelled c ++ escaped rest) (cond z (escaped (c ∷ rest)) (escaped_byte b ++ escaped (c ∷ rest)))) ≡ false
+    by g h true z e = spelled_fine c (escaped rest) (pair_small b c e) g
+    by g h false true e = h
+    by g h false false e = byte_fine b (escaped (c ∷ rest)) (still_apart b c rest e) h
 
 pub plain_stays : PlainStays
 plain_stays [] h = refl
@@ -107,4 +121,5 @@ plain_stays (b ∷ c ∷ rest) h =
     let later = right_false (is_control_byte b) _ h in
     let apart = left_false (is_control_pair b c) (has_control (c ∷ rest)) later in
     let fit = right_false (is_control_pair b c) (has_control (c ∷ rest)) later in
-    cond-false _ _ _ apart ∙ (λ i. cond-false (is_control_byte b) (spelled b) (b ∷ []) plain i ++ plain_stays (c ∷ rest) fit i)
+    cond-false _ _ _ apart ∙ cond-false _ _ _ (no_return b c plain)
+    ∙ (λ i. cond-false (is_control_byte b) (spelled b) (b ∷ []) plain i ++ plain_stays (c ∷ rest) fit i)

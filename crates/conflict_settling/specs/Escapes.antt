@@ -4,7 +4,7 @@
 use Rattle.std.specs.Prelude.{ℕ, ◌+◌, ◌==◌, nat_le, nat_lt, Bool, false, not, ◌&&◌, ◌||◌, List, [], ◌∷◌, ◌++◌, codes, if◌then◌else◌}
 use Rattle.std.specs.Prelude.{◌/◌, ◌%◌}
 use Rattle.conflict_settling.specs.declared.escape.Glyph.{Glyph}
-use Rattle.conflict_settling.specs.declared.escape.Glyph.TheVariants.{Plain, Control}
+use Rattle.conflict_settling.specs.declared.escape.Glyph.TheVariants.{Nothing, Plain, Control}
 
 -- whether a byte is a control character by itself, and no line feed (10)
 abbrev pub is_control_byte : ℕ → Bool
@@ -13,6 +13,10 @@ is_control_byte b = not (b == 10) && (nat_lt b 32 || (b == 127))
 -- whether two bytes are a control character from U+0080 on
 abbrev pub is_control_pair : ℕ → ℕ → Bool
 is_control_pair b c = (b == 194) && (nat_le 128 c && nat_le c 159)
+
+-- whether two bytes are a carriage return (13) and a line feed, which end a line
+abbrev pub is_line_end : ℕ → ℕ → Bool
+is_line_end b c = (b == 13) && (c == 10)
 
 -- whether a text has a control character that is no line feed
 abbrev pub has_control : List ℕ → Bool
@@ -28,8 +32,9 @@ hex_digit n = if nat_lt n 10 then 48 + n else 87 + n
 abbrev pub spelled : ℕ → List ℕ
 spelled n = codes "\\x" ++ (hex_digit (n / 16) ∷ hex_digit (n % 16) ∷ [])
 
--- what is shown: a byte, or a control character spelled out
+-- what is shown: nothing, a byte, or a control character spelled out
 abbrev pub glyph_bytes : Glyph → List ℕ
+glyph_bytes Nothing = []
 glyph_bytes (Plain b) = b ∷ []
 glyph_bytes (Control n) = spelled n
 
@@ -37,9 +42,12 @@ glyph_bytes (Control n) = spelled n
 abbrev pub escaped_byte : ℕ → List ℕ
 escaped_byte b = if is_control_byte b then spelled b else b ∷ []
 
--- a text with each control character but line feeds spelled out
+-- a text with each control character but line feeds spelled out; of a carriage return and a line
+-- feed only the line feed stands
 abbrev pub escaped : List ℕ → List ℕ
 escaped [] = []
 escaped (b ∷ []) = escaped_byte b
 escaped (b ∷ c ∷ rest) =
-    if is_control_pair b c then spelled c ++ escaped rest else escaped_byte b ++ escaped (c ∷ rest)
+    if is_control_pair b c then spelled c ++ escaped rest
+    else if is_line_end b c then escaped (c ∷ rest)
+    else escaped_byte b ++ escaped (c ∷ rest)

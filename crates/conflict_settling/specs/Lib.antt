@@ -6,6 +6,7 @@ pub mod Filled
 pub mod Entries
 pub mod Escapes
 pub mod Questions
+pub mod Numbers
 pub mod Answers
 pub mod Asked
 pub mod Laws

@@ -1,7 +1,9 @@
 -- What a person reads of a conflict (this project's own rule).
-use Rattle.std.specs.Prelude.{ℕ, ◌==◌, Bool, List, [], ◌∷◌, ◌++◌, codes, if◌then◌else◌}
+use Rattle.std.specs.Prelude.{ℕ, suc, ◌==◌, Bool, List, [], ◌∷◌, ◌++◌, codes, if◌then◌else◌}
+use Rattle.std.specs.Prelude.{Option, None, Some, unwrap_or}
 use Rattle.std.specs.List.{flat_map}
 use Rattle.std.specs.Fmt.{decimal}
+use Rattle.usfm_ref.specs.Books.{same_bytes}
 use Rattle.usfm_ref.specs.References.{ref_text}
 use Rattle.usfm_ref.specs.declared.segment.Segment.{Segment}
 use Rattle.word_diff.specs.Kinds.{is_kept, is_new, is_old}
@@ -44,9 +46,21 @@ entry_head picked e =
     ++ ((if e.number == 1 then pick_mark picked else [])
     ++ ((if is_empty (own_text e.op) then codes ", no text" else []) ++ 10 ∷ []))))
 
--- an operation that has one of the texts too
-abbrev pub repeated_line : Operation → List ℕ
-repeated_line o = id_words o.id ++ codes " has one of these texts too\n"
+-- the number of the first of some operations that has a text, where the first has this number
+abbrev pub number_from : ℕ → List Operation → List ℕ → Option ℕ
+number_from n [] text = None
+number_from n (o ∷ later) text =
+    if same_bytes (own_text o) text then Some n else number_from (suc n) later text
+
+-- the number of the first of some operations that has a text; 0 where none has it
+abbrev pub number_in : List Operation → List ℕ → ℕ
+number_in ops text = unwrap_or (number_from 1 ops text) 0
+
+-- an operation that has one of these texts too, and the number of that
+abbrev pub repeated_line : List Operation → Operation → List ℕ
+repeated_line texts o =
+    id_words o.id ++ (codes " has text "
+    ++ (decimal (number_in texts (own_text o)) ++ codes " too\n"))
 
 -- what may be answered
 abbrev pub choice_line : ℕ → List ℕ

@@ -7,6 +7,7 @@ ghost use Rattle.conflict_settling.specs.declared.asked.SettleFault.TheVariants 
 
 use crate::answer::{Answer, numbered};
 use crate::book_texts::BookTexts;
+use crate::numbers::TextNumbers;
 use crate::pending::open_conflicts;
 use crate::question::{Manner, push_before, push_choice, push_entries, push_head, push_repeated};
 use crate::sides::compare;
@@ -222,7 +223,8 @@ fn question_of(
         &replica.pick(book, key),
         manner,
     )?;
-    push_repeated(alloc, &mut bytes, &shown.repeated)?;
+    let numbers = TextNumbers::new(alloc, &shown.distinct)?;
+    push_repeated(alloc, &mut bytes, &numbers, &shown.repeated)?;
     push_choice(alloc, &mut bytes, entries.len())?;
     Ok(bytes)
 }

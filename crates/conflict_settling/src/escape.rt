@@ -7,6 +7,8 @@ use std::alloc::AllocError;
 // What is shown for the front of a text.
 #[derive(Clone, Copy, Debug, PartialEq, Eq)]
 enum Glyph {
+    // Nothing: the carriage return before a line feed, as some editors end each line.
+    Nothing,
     // The byte itself.
     Plain(u8),
     // The number of a control character, in hexadecimal.
@@ -15,7 +17,8 @@ enum Glyph {
 
 /// Adds a text in which each control character but the line feed stands as `\x` and its number in
 /// two hexadecimal digits: U+0000 to U+001F, and U+007F to U+009F, which a terminal may take for
-/// commands. All else stays. What it adds has no control character but line feeds.
+/// commands. A carriage return before a line feed is left out. All else stays. What it adds has no
+/// control character but line feeds.
 ///
 /// # Errors
 /// Out of memory alone.
@@ -42,6 +45,9 @@ fn split_glyph(text: &[u8]) -> (Glyph, &[u8])
     if text.len() >= 2 && is_control_pair(byte, text[1]) {
         return (Glyph::Control(text[1]), &text[2..]);
     }
+    if text.len() >= 2 && is_line_end(byte, text[1]) {
+        return (Glyph::Nothing, &text[1..]);
+    }
     if is_control_byte(byte) {
         (Glyph::Control(byte), &text[1..])
     } else {
@@ -63,10 +69,18 @@ fn is_control_pair(byte: u8, next: u8) -> bool
     byte == 0xc2 && 0x80 <= next && next <= 0x9f
 }
 
+// Whether two bytes are a carriage return and a line feed.
+fn is_line_end(byte: u8, next: u8) -> bool
+    ensures { result ≡ escapes.is_line_end byte next }
+{
+    byte == b'\r' && next == b'\n'
+}
+
 fn push_glyph(bytes: &mut Vec<u8>, glyph: Glyph) -> Result<(), AllocError>
     ensures { OnOk result (bytes.new.items ≡ bytes.old.items ++ escapes.glyph_bytes glyph) }
 {
     match glyph {
+        Glyph::Nothing => {}
         Glyph::Plain(byte) => bytes.push(byte)?,
         Glyph::Control(number) => {
             bytes.extend_from_slice(b"\\x")?;

@@ -14,6 +14,7 @@ mod escape;
 mod filled;
 pub mod laws;
 mod near;
+mod numbers;
 mod pending;
 mod question;
 mod sides;

@@ -10,6 +10,7 @@ ghost use Rattle.conflict_settling.specs.Questions as questions;
 ghost use Rattle.word_diff.specs.Parts.{spans};
 
 use crate::escape::push_escaped;
+use crate::numbers::TextNumbers;
 use crate::sides::Entry;
 use op_core::{Op, Picked, chapter_line};
 use std::alloc::{AllocError, Global};
@@ -230,27 +231,31 @@ fn push_byte(bytes: &mut Vec<u8>, byte: u8, manner: Manner) -> Result<(), AllocE
     bytes.extend_from_slice(manner.opening().as_bytes())
 }
 
-// Adds a line for each operation that has one of the texts too.
+// Adds a line for each operation that has one of these texts too.
 pub(crate) fn push_repeated(
     alloc: Global,
     bytes: &mut Vec<u8>,
+    texts: &TextNumbers<'_, '_>,
     ops: &[&Op],
 ) -> Result<(), AllocError>
-    ensures { OnOk result (bytes.new.items ≡ bytes.old.items
-        ++ flat_map (λ op. questions.repeated_line op.now) ops.now) }
+    ensures { let texts = map (λ op. op.now) texts.now.ops.now in
+        OnOk result (bytes.new.items ≡ bytes.old.items
+        ++ flat_map (λ op. questions.repeated_line texts op.now) ops.now) }
 {
     for op in ops {
-        let line = repeated_line(alloc, op)?;
+        let line = repeated_line(alloc, texts, op)?;
         bytes.extend_from_slice(line.as_bytes())?;
     }
     Ok(())
 }
 
-fn repeated_line(alloc: Global, op: &Op) -> Result<String, AllocError>
-    ensures { IfOk result (λ line. string_bytes line ≡ questions.repeated_line op.now) }
+fn repeated_line(alloc: Global, texts: &TextNumbers<'_, '_>, op: &Op) -> Result<String, AllocError>
+    ensures { let texts = map (λ op. op.now) texts.now.ops.now in
+        IfOk result (λ line. string_bytes line ≡ questions.repeated_line texts op.now) }
 {
     let id = id_words(alloc, op)?;
-    format!(in alloc; "{id} has one of these texts too\n")
+    let number = texts.number_of(op.text_or_empty());
+    format!(in alloc; "{id} has text {number} too\n")
 }
 
 // Adds the last line: what may be answered.

@@ -28,7 +28,7 @@ fn a_conflict_is_asked(rt: HostRuntime) -> Result<(), Fail> {
     let ana = in_conflict(alloc)?;
     let one = asked(alloc, &ana, Manner::Brackets)?;
     let wanted =
-        b"\nMAT 1:1, 1 left\n\nbefore it:\n\\c 1\n\\p\n\n1: 6 ana, in the book\n\\v 1 [In] it\n\n2: 5 ana\n\\v 1 [At] it\n\n3 ana has one of these texts too\nType 1 to 2 for that text, e for one of your own, s to skip, q to stop.\n";
+        b"\nMAT 1:1, 1 left\n\nbefore it:\n\\c 1\n\\p\n\n1: 6 ana, in the book\n\\v 1 [In] it\n\n2: 5 ana\n\\v 1 [At] it\n\n3 ana has text 1 too\nType 1 to 2 for that text, e for one of your own, s to skip, q to stop.\n";
     assert_eq!(rt; one.question(), wanted.as_slice());
     assert_eq!(rt; one.ids().len(), 3);
     assert!(rt; one.answer("2\n") == Answer::Take("\\v 1 At it\n"));

@@ -18,6 +18,8 @@ returns c =
     let held = c.args.replica.now.held in
     let entries = c.in_ok-entries.entries.items in
     let lines = λ (p : Pick) (es : List EntryView). flat_map (entry_lines c.args.manner p) es in
+    let distinct = map (λ op. op.now) c.args.shown.now.distinct.items in
+    let numbered = c.in_ok-numbers.ensures ∙ c.deref-3.ensures.value in
     record {
       entries = views entries;
       are = subst (λ (ops : List (Bor Operation)). AreEntriesOf (map (λ op. op.now) ops) (views entries)) c.deref.ensures.value
@@ -25,7 +27,7 @@ returns c =
       bytes_are = five c.new-bytes.result.items c.push_head.new.bytes.items c.push_before.new.bytes.items
           c.push_entries.new.bytes.items c.push_repeated.new.bytes.items c.push_choice.new.bytes.items
           (head_line g c.args.left) (before_lines (text_before held g)) (lines (pick held g) (views entries))
-          (flat_map repeated_line (map (λ op. op.now) c.args.shown.now.repeated.items)) (choice_line (length (views entries)))
+          (flat_map (repeated_line distinct) (map (λ op. op.now) c.args.shown.now.repeated.items)) (choice_line (length (views entries)))
           c.new-bytes.ensures.items c.in_ok-push_head.ensures
           (c.in_ok-push_before.ensures
           ∙ ap (λ text. c.push_head.new.bytes.items ++ before_lines text)
@@ -33,10 +35,10 @@ returns c =
           (c.in_ok-push_entries.ensures
           ∙ (λ i. c.push_before.new.bytes.items ++ lines (c.pick.ensures i) (views (c.deref-2.ensures.value i))))
           (c.in_ok-push_repeated.ensures
-          ∙ ap (λ (ops : List (Bor Operation)). c.push_entries.new.bytes.items ++ flat_map (λ op. repeated_line op.now) ops)
-          c.deref-3.ensures.value
+          ∙ (λ i. c.push_entries.new.bytes.items
+          ++ flat_map (λ op. repeated_line (map (λ op. op.now) (numbered i)) op.now) (c.deref-4.ensures.value i))
           ∙ ap (λ bytes. c.push_entries.new.bytes.items ++ bytes)
-          (sym (flat_map-map repeated_line (λ op. op.now) c.args.shown.now.repeated.items)))
+          (sym (flat_map-map (repeated_line distinct) (λ op. op.now) c.args.shown.now.repeated.items)))
           (c.in_ok-push_choice.ensures
           ∙ ap (λ count. c.push_repeated.new.bytes.items ++ choice_line count)
           (omega (arith, c.len.ensures, c.in_ok-entries.entries.ok.0, length-map entries view)));
