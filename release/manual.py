@@ -81,6 +81,9 @@ def block(lines: list[str]) -> list[str]:
         elif line.startswith("Example: "):
             made += ["Example:", ".RS 4\n.EX", at_line(plain(line.removeprefix("Example: "))), ".EE\n.RE"]
         else:
+            # What follows a list is a paragraph of its own, and not the end of its last item.
+            made += [".PD", ".PP"] * is_table
+            is_table = False
             made.append(at_line(sentence(line)))
     return made + [".EE\n.RE"] * literal + [".PD"] * is_table
 

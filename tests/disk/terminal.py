@@ -11,11 +11,12 @@ from stage import SECONDS, Answer, Tally, run
 
 END = b"\x04"
 TEXT = b"\\v 1 As\n"
-# The commands that read standard input, what is typed, and what they answer.
+SHOWN = b"usfm_team: the segment shows\nop 2 ana 8\n\\v 1 In\n\n"
+# The commands that read standard input, what is typed, what is said before that of the segment, and what they answer.
 TYPED = [
-    (["edit", "p", "MAT 1:1"], TEXT, Answer(0, b"made 3 ana\n", b"")),
-    (["edit-over", "p", "MAT 1:1", "2:ana"], TEXT, Answer(0, b"made 3 ana\n", b"")),
-    (["fold", "MAT"], b"", Answer(1, b"", b"fault 82\n")),
+    (["edit", "p", "MAT 1:1"], TEXT, SHOWN, Answer(0, b"made 3 ana\n", b"")),
+    (["edit-over", "p", "MAT 1:1", "2:ana"], TEXT, SHOWN, Answer(0, b"made 3 ana\n", b"")),
+    (["fold", "MAT"], b"", b"", Answer(1, b"", b"fault 82\n")),
 ]
 
 
@@ -23,12 +24,12 @@ def check_terminal(tally: Tally, program: Path, work: Path) -> None:
     folder = work / "terminal"
     folder.mkdir()
     project = folder / "p"
-    for words, typed, wanted in TYPED:
+    for words, typed, shown, wanted in TYPED:
         project.write_bytes(HELD)
         answer = at_terminal(program, folder, words, typed)
-        line, end, rest = answer.error.partition(b"\n")
-        is_told = b"control-D" in line and end == b"\n"
-        is_right = Answer(answer.status, answer.output, rest) == wanted
+        asked, end, rest = answer.error.removeprefix(shown).partition(b"ontrol-D on a new line ends it")
+        is_told = answer.error.startswith(shown) and asked.startswith(b"usfm_team: ") and end != b""
+        is_right = Answer(answer.status, answer.output, rest.partition(b"\n")[2]) == wanted
         tally.check(is_told and is_right, f"{words[0]} at a terminal: {answer}")
         project.write_bytes(HELD)
         tally.check(run(program, folder, words, typed) == wanted, f"{words[0]} of a pipe says nothing more")
@@ -42,6 +43,13 @@ def check_terminal(tally: Tally, program: Path, work: Path) -> None:
     for words in (["export", "p", "MAT"], ["send", "p"]):
         project.write_bytes(HELD)
         tally.check(at_terminal(program, folder, words, b"").error == b"", f"{words[0]} at a terminal says nothing")
+    for words in (["edit", "p", "MAT 1:1"], ["edit-over", "p", "MAT 1:1", "2:ana"]):
+        project.write_bytes(HELD)
+        answer = at_terminal(program, folder, words, b"")
+        is_told = (answer.status, answer.output) == (0, b"") and b"Nothing was changed: no text was typed." in answer.error
+        tally.check(is_told and project.read_bytes() == HELD, f"{words[0]} where nothing is typed: {answer}")
+    absent = at_terminal(program, folder, ["edit", "p", "MRK 1:1"], b"")
+    tally.check(absent == Answer(1, b"", b"fault 82\n"), f"a book that is not there is said before a text is asked for: {absent}")
     missing = at_terminal(program, folder, ["edit", "missing", "MAT 1:1"], b"")
     tally.check(missing == Answer(1, b"", b"fault 120\n"), f"a project that is missing is said before a text is asked for: {missing}")
     tally.check(wanted_book(run(program, folder, ["fold", "MAT"], FIRST)), "fold of a bundle")

@@ -132,7 +132,7 @@ def check_equal(tally: Tally, team: Team) -> None:
     team.differ("MAT 1:1", b"\\v 1 To the beginning\n", b"\\v 1 At the beginning\n", "ana", "ben")
     team.tell("cy", "ana")
     answer = team.answer("settle", "ana", typed=b"2\n")
-    listed = b"1: 6 cy, in the book\n\\v 1 [To] the beginning\n\n2: 6 ben\n\\v 1 [At] the beginning\n\n6 ana has one of these texts too\n"
+    listed = b"1: 6 cy, in the book\n\\v 1 [To] the beginning\n\n2: 6 ben\n\\v 1 [At] the beginning\n\n6 ana has text 1 too\n"
     tally.check(listed in answer.output, f"an operation with an equal text is listed: {answer}")
     tally.check(team.shown("ana", "MAT 1:1") == [b"op 7 ana 22"], "all that were listed are replaced")
 

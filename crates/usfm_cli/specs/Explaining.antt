@@ -142,11 +142,12 @@ abbrev pub of_file : Fault → Expected → Found → List ℕ
 of_file fault expected.BookFile stands = no_book fault stands
 of_file fault _ _ = general fault
 
--- of a file that was not written: by what stands there where it is to be a project, and of the
--- copy's own bundle in a box that all else is done
+-- of a file that was not written: by what stands there where it is to be a project; and of a book's
+-- file, and of the copy's own bundle in a box, that all else is done
 abbrev pub unwritten : Expected → Found → List ℕ
 unwritten expected.NewProject stands = not_begun stands
 unwritten expected.OwnBundle _ = say.BUNDLE_NOT_LEFT.now
+unwritten expected.BookFile _ = say.FILE_NOT_WRITTEN.now
 unwritten _ _ = say.FILE_FAILED.now
 
 -- of two edits that have one id: a bundle may be damaged
@@ -165,10 +166,12 @@ abbrev pub no_code : Expected → List ℕ
 no_code expected.NewName = say.NO_FORM.now
 no_code _ = say.NO_CODE.now
 
--- of a file of a folder that would lose text: of a second one of a book another one
-abbrev pub changed : Expected → List ℕ
-changed expected.OneOfTwo = say.SECOND_FILE.now
-changed _ = say.FILE_CHANGED.now
+-- of a file of a folder that would lose text, by what it is: of a second one of a book another one
+abbrev pub changed : Expected → Found → List ℕ
+changed expected.OneOfTwo _ = say.SECOND_FILE.now
+changed _ found.Unseen = say.FILE_CHANGED.now
+changed _ found.BookFile = say.FILE_CHANGED.now
+changed _ _ = say.FILE_NO_BOOK.now
 
 -- the sentences of a fault, by what its file was to be and what stands there
 abbrev pub sentences : Fault → Expected → Found → List ℕ
@@ -182,7 +185,7 @@ sentences BadProject _ stands = no_project stands
 sentences BadSummary _ stands = no_summary stands
 sentences ReadFailed role stands = unread role stands
 sentences FileFailed role stands = unwritten role stands
-sentences FileChanged role _ = changed role
+sentences FileChanged role stands = changed role stands
 sentences fault _ _ = general fault
 
 -- of what is no book's code, by the book that is meant, or else by what it was to be

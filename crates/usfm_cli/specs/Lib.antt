@@ -7,6 +7,7 @@ pub mod Commands
 pub mod Seen
 pub mod EveryBook
 pub mod OverBooks
+pub mod Overtaken
 pub mod Projects
 pub mod Turns
 pub mod Copies

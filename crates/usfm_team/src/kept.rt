@@ -50,6 +50,16 @@ impl Kept {
         }
     }
 
+    // What stands as the base, or does once one went back.
+    pub(crate) fn stood(&self) -> Option<&[u8]> {
+        match (self.base_names.first(), self.bases.first()) {
+            (Some(name), Some(bytes)) if name.as_str() == BASE || name.as_str() == BEFORE => {
+                Some(bytes)
+            }
+            _ => None,
+        }
+    }
+
     // Goes back to what stood before a sync that was cut short, if it was before the project had
     // what came in.
     pub(crate) fn go_back(&mut self, rt: &HostRuntime) -> Result<bool, AllocError> {

@@ -1,7 +1,9 @@
 //! `usfm_team`: keeps the Scripture project of a team that works offline.
 #![tactic(auto)]
 
+mod before;
 mod changed;
+mod edits;
 mod files;
 mod kept;
 mod looks;
@@ -18,6 +20,7 @@ mod telling;
 mod turns;
 mod typed;
 
+use crate::edits::{edit, edit_over, edit_with};
 use crate::looks::{check, find, words};
 use crate::project::{Project, begin_project, lock_project};
 use crate::refusal::{Given, Refusal, read_named};
@@ -28,8 +31,8 @@ use crate::telling::{
     SEVERAL_WORDS, are_find, say, say_lines, tell_refusal, tell_refused_word, with_tip,
 };
 use crate::turns::{import, receive};
-use crate::typed::{GIVE_BUNDLES, read_text, say_at_terminal};
-use op_core::{OpId, ReplicaName};
+use crate::typed::{GIVE_BUNDLES, say_at_terminal};
+use op_core::ReplicaName;
 use plain_line::push_lines;
 use std::fs::File;
 use std::io::{ErrorKind, IsTerminal, Write};
@@ -40,7 +43,7 @@ use usfm_cli::{
     Command, Expected, Fault, Line, LineFault, Outcome, StdSink, StdSource, asks_for_words, create,
     exec, fold_stream, list_faults, read_words, remark, write_all,
 };
-use usfm_ref::{Book, Key};
+use usfm_ref::Book;
 
 const REFUSED: u8 = 1;
 
@@ -131,7 +134,7 @@ fn run(rt: &HostRuntime, line: Line, explains: bool) -> Result<(), Refusal> {
             files,
             since,
         } => import(rt, &project, files, since, explains),
-        Line::Edit { project, book, key } => edit(rt, &project, book, key),
+        Line::Edit { project, book, key } => edit(rt, &project, book, key, explains),
         Line::EditOver {
             project,
             book,
@@ -139,7 +142,7 @@ fn run(rt: &HostRuntime, line: Line, explains: bool) -> Result<(), Refusal> {
             ids,
             text_of,
         } => match text_of {
-            None => edit_over(rt, &project, book, key, &ids),
+            None => edit_over(rt, &project, book, key, &ids, explains),
             Some(of) => edit_with(rt, &project, book, key, of, &ids),
         },
         Line::Settle { project, wanted } => settle(rt, &project, &wanted),
@@ -196,45 +199,6 @@ fn init(rt: &HostRuntime, project: &str, name: &ReplicaName) -> Result<(), Refus
     ))
 }
 
-// Gives a segment the text of standard input.
-fn edit(rt: &HostRuntime, project: &str, book: Book, key: Key) -> Result<(), Refusal> {
-    read_named(rt, project, Expected::Project)?;
-    let text = &read_text(rt)?;
-    change(rt, project, &Command::Edit { book, key, text }, None)
-}
-
-// Gives a segment the text of standard input, in the place of some operations.
-fn edit_over(
-    rt: &HostRuntime,
-    project: &str,
-    book: Book,
-    key: Key,
-    ids: &[OpId],
-) -> Result<(), Refusal> {
-    read_named(rt, project, Expected::Project)?;
-    let text = &read_text(rt)?;
-    let command = Command::EditOver {
-        book,
-        key,
-        text,
-        ids,
-    };
-    change(rt, project, &command, None)
-}
-
-// Gives a segment the text of one of its operations, in the place of some.
-fn edit_with(
-    rt: &HostRuntime,
-    project: &str,
-    book: Book,
-    key: Key,
-    of: OpId,
-    ids: &[OpId],
-) -> Result<(), Refusal> {
-    let command = Command::EditWith { book, key, of, ids };
-    change(rt, project, &command, None)
-}
-
 // Writes what another project lacks by its summary.
 fn delta(rt: &HostRuntime, project: &str, summary: &str) -> Result<(), Refusal> {
     let bytes = read_named(rt, project, Expected::Project)?;
@@ -281,21 +245,33 @@ pub(crate) fn answer(
 
 // Does a command on a project's file while no other command changes it. Only then, when others may
 // go on, the output is written.
-fn change(
+pub(crate) fn change(
     rt: &HostRuntime,
     path: &str,
     command: &Command<'_>,
     other: Option<(&str, Expected)>,
 ) -> Result<(), Refusal> {
     let (project, bytes) = locked(rt, path)?;
-    let outcome = done(rt, path, project, &bytes, command, other)?;
+    change_locked(rt, path, project, &bytes, command, other)
+}
+
+// The same on a project that is locked already.
+pub(crate) fn change_locked(
+    rt: &HostRuntime,
+    path: &str,
+    project: Project,
+    bytes: &[u8],
+    command: &Command<'_>,
+    other: Option<(&str, Expected)>,
+) -> Result<(), Refusal> {
+    let outcome = done(rt, path, project, bytes, command, other)?;
     let written = write_output(rt, outcome.output());
     mem::forget(outcome);
     Ok(written?)
 }
 
 // A project's file, which no other command changes from now on, and its bytes.
-fn locked(rt: &HostRuntime, path: &str) -> Result<(Project, Vec<u8>), Refusal> {
+pub(crate) fn locked(rt: &HostRuntime, path: &str) -> Result<(Project, Vec<u8>), Refusal> {
     let of_project = |fault| Refusal::of_project(rt, fault, path);
     let mut project = lock_project(rt, path).map_err(of_project)?;
     let bytes = project.read(rt).map_err(of_project)?;

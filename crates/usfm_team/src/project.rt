@@ -18,6 +18,9 @@ const MAY_WRITE: u32 = 0o222;
 // How the name ends under which a project is made that is begun.
 const BEGUN_END: &str = ".begun";
 
+// A project that holds nothing has no more bytes than its magic, a name and an empty bundle.
+const MOST_BEGUN: u64 = 280;
+
 // A project's file that no other command changes until this value is dropped.
 #[derive(Drop)]
 pub(crate) struct Project {
@@ -108,10 +111,14 @@ fn make_begun(rt: &HostRuntime, begun: &str) -> Result<File, Fault> {
     Err(Fault::FileFailed)
 }
 
-// Removes a file that a command has left which was killed. It stays locked until its name is gone:
-// else who has just made it would have it for its own then, and lose the name.
+// Removes a file that a command has left which was killed; one that holds more than a project that
+// was begun is somebody's. It stays locked until its name is gone: else who has just made it would
+// have it for its own then, and lose the name.
 fn remove_left(rt: &HostRuntime, old: &File, begun: &str) -> Result<(), Fault> {
     lock_file(rt, old, begun, &mut true)?;
+    if look_at(old)?.len() > MOST_BEGUN {
+        return Err(Fault::FileFailed);
+    }
     if is_at(rt, old, begun)? {
         remove_if_there(rt, begun)?;
     }

@@ -97,6 +97,18 @@ impl Refusal {
         Refusal { fault, file }
     }
 
+    // The refusal of a file that could not be written, by its name, if that is known.
+    pub(crate) fn unwritten<E: Drop>(
+        fault: Fault,
+        name: Result<String, E>,
+        expected: Expected,
+    ) -> Refusal {
+        match name {
+            Ok(name) => Refusal::named(fault, name, expected),
+            Err(_) => Refusal::from(fault),
+        }
+    }
+
     // What a project's file was refused for. Other faults are of no file.
     pub(crate) fn of_project(rt: &HostRuntime, fault: Fault, path: &str) -> Refusal {
         match fault {

@@ -1,4 +1,5 @@
 // The steps of a plan, done on the disk.
+use crate::before::{forget_before, go_back, keep_base, keep_before};
 use crate::files::{
     Folder, are_one, is_still, is_there, make_file, make_private, remove_if_there, sync_file,
     write_made,
@@ -12,7 +13,7 @@ use crate::sync::fault_of;
 use book_folder::{MADE_END, NewFile, Placing, SettlingStep, Step, settling_steps};
 use std::fs;
 use std::io::ErrorKind;
-use usfm_cli::Fault;
+use usfm_cli::{Expected, Fault};
 use usfm_ref::Book;
 
 // What became of the steps: the books whose files were left as they are, and the refusal of the
@@ -111,14 +112,20 @@ fn do_step(
         }
         Step::PutBase(bytes) => put(disk, own, BASE, bytes),
         Step::PutNames(bytes) => put(disk, own, NAMES, bytes),
-        Step::PutNext(bytes) => put(disk, own, NEXT, bytes),
+        Step::PutNext(bytes) => {
+            if is_before {
+                keep_base(disk, own).map_err(|fault| own.refusal(rt, fault, BEFORE))?;
+            }
+            put(disk, own, NEXT, bytes)
+        }
         Step::Place(placing) => {
             let placed = place(disk, own, placing);
             if !matches!(placed, Ok(true)) {
                 done.left.push(placing.book).map_err(Fault::from)?;
             }
             if let (Err(fault), None) = (placed, &done.failed) {
-                done.failed = Some(disk.folder.refusal(rt, fault, &placing.name));
+                let name = disk.folder.name_of(rt, &placing.name);
+                done.failed = Some(Refusal::unwritten(fault, name, Expected::BookFile));
             }
             Ok(())
         }
@@ -222,45 +229,9 @@ fn put_first(disk: Disk<'_>, own: &Folder, bytes: &[u8]) -> Result<(), Fault> {
     put_made(disk, own, BASE, bytes, true)
 }
 
-fn keep_before(rt: &HostRuntime, own: &Folder) -> Result<(), Fault> {
-    let before = own.way_to(rt, BEFORE)?;
-    match fs::rename(rt, own.way_to(rt, BASE)?.as_str(), before.as_str()) {
-        Ok(()) => Ok(()),
-        Err(error) if error.kind() == ErrorKind::NotFound => {
-            make_private(rt, &before)?;
-            Ok(())
-        }
-        Err(_) => Err(Fault::FileFailed),
-    }
-}
-
-// Goes back to the base that stood before a sync put its first one, if that was before the project
-// had what came in. The next base goes first, so that it never stands beside an older one.
-fn go_back(disk: Disk<'_>, own: &Folder) -> Result<(), Fault> {
-    let rt = disk.rt;
-    let (base, before) = (own.way_to(rt, BASE)?, own.way_to(rt, BEFORE)?);
-    let Ok(found) = fs::symlink_metadata(rt, before.as_str()) else {
-        return Ok(());
-    };
-    remove_if_there(rt, &own.way_to(rt, NEXT)?)?;
-    if found.len() == 0 {
-        remove_if_there(rt, &base)?;
-        remove_if_there(rt, &before)?;
-    } else {
-        rename(rt, &before, &base)?;
-    }
-    own.sync()
-}
-
-// Forgets what stood before, once the project has what the base says.
-fn forget_before(disk: Disk<'_>, own: &Folder) -> Result<(), Refusal> {
-    let removed = remove_if_there(disk.rt, &own.way_to(disk.rt, BEFORE)?);
-    removed.map_err(|fault| own.refusal(disk.rt, fault, BEFORE))
-}
-
 // Writes a file under another name, and gives it its own once what stood as the base has another
 // one, where that is to be kept.
-fn put_made(
+pub(crate) fn put_made(
     disk: Disk<'_>,
     own: &Folder,
     name: &str,
@@ -391,6 +362,6 @@ fn rename_if_there(rt: &HostRuntime, from: &str, to: &str) -> Result<(), Fault> 
     }
 }
 
-fn rename(rt: &HostRuntime, from: &str, to: &str) -> Result<(), Fault> {
+pub(crate) fn rename(rt: &HostRuntime, from: &str, to: &str) -> Result<(), Fault> {
     fs::rename(rt, from, to).map_err(|_| Fault::FileFailed)
 }

@@ -20,6 +20,9 @@ use usfm_ref::{Book, RefFault, write_ref};
 const AWAITS: &str =
     "some edits have not come yet that others replace: `report` says whom to ask for a bundle";
 
+// What is said where segments are in conflict.
+const SETTLE: &str = "`settle` asks of each conflict which text is to stay";
+
 // How often a folder is read anew that is changed while it is planned.
 const MOST_READINGS: usize = 3;
 
@@ -142,6 +145,9 @@ fn answer(what: What<'_>, plan: &Plan, done: Done) -> Result<(), Refusal> {
         say_headless(what.rt, *book);
     }
     write_output(what.rt, &told(what, plan, &left)?)?;
+    if what.explains && !plan.told.conflicts.is_empty() {
+        say(what.rt, SETTLE);
+    }
     if what.explains && plan.told.awaits {
         say(what.rt, AWAITS);
     }

@@ -72,6 +72,10 @@ fn read_box(
                 push_bundle(rt, folder, &name, is_own, bytes, given)?;
             }
             BoxFile::Unchanged => {}
+            BoxFile::NoBundle if is_own && judge(rt.alloc(), &bytes).is_ok() => {
+                // The copy's bundle would take the place of a project.
+                return Err(folder.refusal(rt, Fault::FileFailed, &name));
+            }
             BoxFile::NoBundle => {
                 let path = folder.name_of(rt, &name)?;
                 let why = ": it is not a bundle, or only a part of one";
@@ -129,15 +133,13 @@ impl TeamBox {
     // Puts all that a project has into the box, as its copy's own bundle.
     pub(crate) fn put(&self, rt: &HostRuntime, project: &[u8]) -> Result<(), Refusal> {
         let put = self.put_bundle(rt, project);
-        put.map_err(|fault| self.unwritten(rt, fault))
-    }
-
-    // The refusal of the copy's own bundle, which is put when all else is done.
-    fn unwritten(&self, rt: &HostRuntime, fault: Fault) -> Refusal {
-        match self.folder.name_of(rt, &self.own) {
-            Ok(name) => Refusal::named(fault, name, Expected::OwnBundle),
-            Err(_) => Refusal::from(fault),
-        }
+        put.map_err(|fault| {
+            Refusal::unwritten(
+                fault,
+                self.folder.name_of(rt, &self.own),
+                Expected::OwnBundle,
+            )
+        })
     }
 
     fn put_bundle(&self, rt: &HostRuntime, project: &[u8]) -> Result<(), Fault> {

@@ -19,6 +19,8 @@ const ONE_WORD: &str =
 const IN_QUOTES: &str =
     "If this belongs to a reference, put the whole reference in quotes: 'MAT 1:1'.";
 
+const SHEET: &str = "A style sheet is named so: --sheet FILE.";
+
 const WHOLE_BOOK: &str = "A command that takes a BOOK takes all of it: write its code alone.";
 
 const SECOND_BOOK: &str =
@@ -85,6 +87,8 @@ fn say_of_reference(rt: &HostRuntime, word: &str) {
         say(rt, IN_QUOTES);
     } else if read_ref(word).is_ok() {
         say(rt, WHOLE_BOOK);
+    } else if word.ends_with(".sty") {
+        say(rt, SHEET);
     }
 }
 

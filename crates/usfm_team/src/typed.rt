@@ -1,21 +1,74 @@
 // What a person types at a terminal.
-use crate::refusal::Refusal;
+use crate::refusal::{Given, Refusal};
+use crate::telling::{say, say_lines};
 use std::io::{IsTerminal, Write};
-use usfm_cli::{Expected, Fault, StdSource, read_to_end};
+use std::str;
+use usfm_cli::{Command, Expected, Fault, StdSource, exec, read_to_end};
+use usfm_ref::{Book, Key};
 
 // So many bytes of a line a terminal passes on at most, without its line feed.
 pub(crate) const MOST_TYPED: usize = 4095;
 
 // What a person at a terminal reads who is to type a text, or to give bundles.
-const TYPE_A_TEXT: &str =
-    "usfm_team: type the segment's text with its mark, and end it with control-D on a new line\n";
+const SHOWS: &str = "usfm_team: the segment shows";
+
+const TYPE_A_TEXT: &str = "\
+usfm_team: type the segment's text with its mark, and with what follows it, as \\p; what you leave out
+is gone from the book. Control-D on a new line ends it.
+";
+
+const NOTHING_TYPED: &str = "\
+Nothing was changed: no text was typed. An empty file or pipe removes the segment from its book.";
+
+// What a person reads whose text is empty.
+const NO_TEXT: &str = "the text that came is empty, which removes the segment from its book";
 
 pub(crate) const GIVE_BUNDLES: &str =
     "usfm_team: waiting for bundles on standard input: control-D on a new line ends it\n";
 
+// The text that standard input has for a segment. At a terminal it is said before what the segment
+// shows, and who types nothing there changes nothing.
+pub(crate) fn text_for(
+    rt: &HostRuntime,
+    project: &Given<'_>,
+    book: Book,
+    key: Key,
+    explains: bool,
+) -> Result<Option<Vec<u8>>, Refusal> {
+    let is_typed = rt.stdin().is_terminal();
+    if is_typed {
+        show(rt, project, book, key)?;
+    }
+    let text = read_text(rt)?;
+    if text.is_empty() && is_typed {
+        say(rt, NOTHING_TYPED);
+        return Ok(None);
+    }
+    if text.is_empty() && explains {
+        say(rt, NO_TEXT);
+    }
+    Ok(Some(text))
+}
+
+// Says what a segment shows. Where its book is not there, no text would be taken but the book's head,
+// so that none is typed in vain.
+fn show(rt: &HostRuntime, project: &Given<'_>, book: Book, key: Key) -> Result<(), Refusal> {
+    if key.chapter > 0 {
+        let export = exec(rt.alloc(), project.bytes, &Command::Export(book));
+        export.map_err(|fault| Refusal::of_inputs(rt, fault, project, None))?;
+    }
+    let shown = exec(rt.alloc(), project.bytes, &Command::Shown(book, key));
+    let shown = shown.map_err(|fault| Refusal::of_inputs(rt, fault, project, None))?;
+    if let (Ok(text), false) = (str::from_utf8(shown.output()), shown.output().is_empty()) {
+        say(rt, SHOWS);
+        say_lines(rt, text);
+    }
+    Ok(())
+}
+
 // The text that standard input has. A terminal leaves out what is too long for a line of it, and
 // the rest would be taken for the whole.
-pub(crate) fn read_text(rt: &HostRuntime) -> Result<Vec<u8>, Refusal> {
+fn read_text(rt: &HostRuntime) -> Result<Vec<u8>, Refusal> {
     say_at_terminal(rt, TYPE_A_TEXT);
     let mut source = StdSource::new(rt.reader());
     let text = read_to_end(rt.alloc(), &mut source).map_err(Fault::from)?;

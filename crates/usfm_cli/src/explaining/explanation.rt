@@ -8,12 +8,12 @@ use crate::explaining::sentences::{
     BAD_TEXT, BOOK_NOT_BUNDLE, BOOK_NOT_PROJECT, BOX_IS_FILE, BUNDLE_NOT_BOOK, BUNDLE_NOT_LEFT,
     BUNDLE_NOT_PROJECT, BUNDLE_NOT_SUMMARY, CLASH, CLASH_IN_BUNDLE, CUT_LINE, DAMAGED_BASE,
     DAMAGED_PROJECT, EMPTIED, EMPTY_MARKER, EMPTY_NEEDLE, FIELD_BEFORE_MARKER, FILE_CHANGED,
-    FILE_FAILED, IN_CAPITALS, IS_FILE, IS_FOLDER, IS_THERE, MEMORY, NO_BOOK, NO_BUNDLE, NO_CODE,
-    NO_FOLDER_FOR_IT, NO_FOLDER_THERE, NO_FORM, NO_ID, NO_PROJECT, NO_PROJECT_THERE, NO_REFERENCE,
-    NO_SUMMARY, NOT_RISING, NOT_SHOWN, NOT_TEXT, NOTHING_THERE, NUMBERS_USED_UP, PROJECT_NOT_BOOK,
-    PROJECT_NOT_BUNDLE, READ_FAILED, SECOND_FILE, SUMMARY_NOT_BOOK, SUMMARY_NOT_BUNDLE,
-    SUMMARY_NOT_PROJECT, TEXT_NOT_UTF8, TOO_LONG, TRAILING, TRUNCATED, UNDONE, UNLIKE, UNSUPPORTED,
-    WRITE_FAILED,
+    FILE_FAILED, FILE_NO_BOOK, FILE_NOT_WRITTEN, IN_CAPITALS, IS_FILE, IS_FOLDER, IS_THERE, MEMORY,
+    NO_BOOK, NO_BUNDLE, NO_CODE, NO_FOLDER_FOR_IT, NO_FOLDER_THERE, NO_FORM, NO_ID, NO_PROJECT,
+    NO_PROJECT_THERE, NO_REFERENCE, NO_SUMMARY, NOT_RISING, NOT_SHOWN, NOT_TEXT, NOTHING_THERE,
+    NUMBERS_USED_UP, PROJECT_NOT_BOOK, PROJECT_NOT_BUNDLE, READ_FAILED, SECOND_FILE,
+    SUMMARY_NOT_BOOK, SUMMARY_NOT_BUNDLE, SUMMARY_NOT_PROJECT, TEXT_NOT_UTF8, TOO_LONG, TRAILING,
+    TRUNCATED, UNDONE, UNLIKE, UNSUPPORTED, WRITE_FAILED,
 };
 use crate::fault::Fault;
 use bundle_codec::BundleFault;
@@ -135,13 +135,21 @@ fn sentences(fault: &Fault, expected: Expected, found: Found) -> &'static str
         Fault::FileFailed => match expected {
             Expected::NewProject => not_begun(found),
             Expected::OwnBundle => BUNDLE_NOT_LEFT,
+            Expected::BookFile => FILE_NOT_WRITTEN,
             _ => FILE_FAILED,
         },
-        Fault::FileChanged => match expected {
-            Expected::OneOfTwo => SECOND_FILE,
-            _ => FILE_CHANGED,
-        },
+        Fault::FileChanged => changed(expected, found),
         _ => general_sentences(fault),
+    }
+}
+
+fn changed(expected: Expected, found: Found) -> &'static str
+    ensures { result.now ≡ told.changed expected found }
+{
+    match (expected, found) {
+        (Expected::OneOfTwo, _) => SECOND_FILE,
+        (_, Found::Unseen | Found::BookFile) => FILE_CHANGED,
+        _ => FILE_NO_BOOK,
     }
 }
 

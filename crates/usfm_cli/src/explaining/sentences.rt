@@ -257,15 +257,25 @@ This bundle could not be written, or the disk may not keep it.
 All else that `sync` does is done. Check the permissions of the folder and the
 free space, and sync again: until then the others do not get your work there.";
 
+pub(crate) const FILE_NOT_WRITTEN: &str = "\
+This book's file could not be written, or the disk may not keep it.
+All else that `sync` does is done. Check the permissions of the folder and the
+free space, and sync again.";
+
 pub(crate) const FILE_CHANGED: &str = "\
 A file of the folder would lose text.
 If it begins with another book's \\id now, it was renamed: give it its old name
-back. If its first line, with \\id and the code, was lost or changed, or if it
-is not UTF-8, correct it. If somebody else began the same book, sync once
-without bundles and --box, and then with them: both texts stay. After
-`export`, try `sync`, which takes in changes. Else move the file away, sync,
-and make its changes in the new file; or `import` it, to have it replace all
-of the book.";
+back. If the project has the book from elsewhere, as by `import`, and the file
+is the newer one, `import` it, to have it replace all of the book. If somebody
+else began the same book, sync once without bundles and --box, and then with
+them: both texts stay. After `export`, try `sync`, which takes in changes.
+Else move the file away, sync, and make its changes in the new file.";
+
+pub(crate) const FILE_NO_BOOK: &str = "\
+This stands under the name of a book's file, and does not begin as one.
+If it is the book's file, correct its first line, with \\id and the code, save
+it as UTF-8, and sync again. Else move it away: `sync` writes the book's file
+anew.";
 
 pub(crate) const SECOND_FILE: &str = "\
 These two files are of one book, and a folder has one file for each book.

@@ -1,0 +1,81 @@
+// Edits of a segment: by the text of standard input, or by one of its operations.
+use crate::refusal::{Given, Refusal, read_named};
+use crate::telling::say;
+use crate::typed::text_for;
+use crate::{change, change_locked, locked};
+use op_core::OpId;
+use usfm_cli::{Command, Expected, still_shown};
+use usfm_ref::{Book, Key};
+
+// What is said where a segment got another text while one was typed for it.
+const CAME_IN: &str =
+    "another text came in meanwhile, and stays beside yours: `settle` asks which is to stay";
+
+// Gives a segment the text of standard input.
+pub(crate) fn edit(
+    rt: &HostRuntime,
+    project: &str,
+    book: Book,
+    key: Key,
+    explains: bool,
+) -> Result<(), Refusal> {
+    let before = read_named(rt, project, Expected::Project)?;
+    let Some(text) = &text_for(rt, &Given::of(project, &before), book, key, explains)? else {
+        return Ok(());
+    };
+    let (file, bytes) = locked(rt, project)?;
+    if bytes == before {
+        let command = Command::Edit { book, key, text };
+        return change_locked(rt, project, file, &bytes, &command, None);
+    }
+    // What came in while the text was typed has been seen by nobody, and stays beside it.
+    let still = still_shown(rt.alloc(), &before, &bytes, book, key).map_err(
+        |fault| Refusal::of_project(rt, fault, project),
+    )?;
+    let command = Command::EditOver {
+        book,
+        key,
+        text,
+        ids: &still.ids,
+    };
+    change_locked(rt, project, file, &bytes, &command, None)?;
+    if explains && !still.is_all {
+        say(rt, CAME_IN);
+    }
+    Ok(())
+}
+
+// Gives a segment the text of standard input, in the place of some operations.
+pub(crate) fn edit_over(
+    rt: &HostRuntime,
+    project: &str,
+    book: Book,
+    key: Key,
+    ids: &[OpId],
+    explains: bool,
+) -> Result<(), Refusal> {
+    let bytes = read_named(rt, project, Expected::Project)?;
+    let Some(text) = &text_for(rt, &Given::of(project, &bytes), book, key, explains)? else {
+        return Ok(());
+    };
+    let command = Command::EditOver {
+        book,
+        key,
+        text,
+        ids,
+    };
+    change(rt, project, &command, None)
+}
+
+// Gives a segment the text of one of its operations, in the place of some.
+pub(crate) fn edit_with(
+    rt: &HostRuntime,
+    project: &str,
+    book: Book,
+    key: Key,
+    of: OpId,
+    ids: &[OpId],
+) -> Result<(), Refusal> {
+    let command = Command::EditWith { book, key, of, ids };
+    change(rt, project, &command, None)
+}
