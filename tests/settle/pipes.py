@@ -4,7 +4,7 @@ from pathlib import Path
 from reporting import Tally
 from team import MATTHEW, Answer, Team, teams
 
-CHOICE = b"Type 1 to 2 for that text, e for one of your own, s to skip, q to stop.\n"
+CHOICE = b"Type the number of the text to keep, e to type your own, s to skip, q to stop.\n"
 ASKED = (
     b"\nMAT 1:1, 2 left\n\nbefore it:\n\\c 1\n\\p\n\n1: 6 ben, in the book\n\\v 1 [At] the beginning\n\n"
     b"2: 6 ana\n\\v 1 [To] the beginning\n\n" + CHOICE
@@ -13,7 +13,7 @@ SECOND = (
     b"\nMAT 1:2, 1 left\n\nbefore it:\n\\v 1 To the beginning\n\n1: 7 ben, in the book\n\\v 2 So it [is]\n\\p\n\n"
     b"2: 7 ana\n\\v 2 So it [was once]\n\\p\n\n" + CHOICE
 )
-TYPE_A_TEXT = b"Type the text with its mark, and with what follows it above, as \\p; after it a\nline with only a full stop.\n"
+TYPE_A_TEXT = b"Type the text with its mark, and whatever follows it above, such as \\p; after it\na line with only a full stop.\n"
 UNCLEAR = b"Type one of the numbers, e, s or q.\n"
 
 
@@ -120,6 +120,7 @@ def check_texts(tally: Tally, team: Team) -> None:
     tally.check(b"a\\x1b[2J\\x07b\\x9b31mc\\x7f" in shown, f"control characters are spelled out: {shown[:600]}")
     tally.check(not any(byte < 32 and byte != 10 for byte in shown) and b"\xc2\x9b" not in shown, "none is left")
     tally.check(b"\\v 1 [" + hebrew[5:-1] + b"]\n[]\n" in shown, f"right-to-left text: {shown[:600]}")
+    tally.check(b"\\x7f\\x09d\\x0d]\n[]\n" in shown, f"a line end that differs is spelled out: {shown[:600]}")
     tally.check(b"word199 [another] word201" in shown and b"word199 [word200] word201" in shown, "one word of 430 differs")
     book = team.do("export", "ana", "MAT")
     tally.check(wild in book and long in book, "the texts are taken byte for byte")

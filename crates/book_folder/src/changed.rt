@@ -89,7 +89,7 @@ fn settling_ids(
     {
         return Ok(None);
     }
-    let ids = still_shown(alloc, replica, base, book, key)?;
+    let ids = replica.shown_of(book, key, base.shown_ids(book, key))?;
     if ids.is_empty() {
         return Ok(None);
     }
@@ -118,27 +118,4 @@ fn is_key(wanted: Option<Key>, key: Key) -> bool
         Some(wanted) => wanted == key,
         None => true,
     }
-}
-
-// The ids that a base shows in a segment, and the project still does.
-fn still_shown(
-    alloc: Global,
-    replica: &Replica,
-    base: &mut Cursor<'_>,
-    book: Book,
-    key: Key,
-) -> Result<Vec<OpId>, AllocError>
-    ensures ids { IfOk result (λ ids.
-        ids.items ≡ taking.still_shown replica.now.held base.old book key) }
-    ensures same { base.new ≡ base.old }
-{
-    let mut ids = Vec::new(alloc);
-    let mut left = base.shown_ids(book, key);
-    'ids: while let [id, later @ ..] = left {
-        if replica.shows_id(book, key, *id) {
-            ids.push(*id)?;
-        }
-        left = later;
-    }
-    Ok(ids)
 }

@@ -2,7 +2,9 @@
 use Rattle.std.proofs.Common.{◌≡◌, ℕ, ◌<◌, ◌==◌, ◌/◌, ◌%◌, nat_le, Bool, true, false, cond, ◌&&◌, ◌||◌, List, [], ◌∷◌, ◌++◌, refl, ap, ◌∙◌, arith}
 use Rattle.std.proofs.lemmas.Bool.{cond-false}
 use Rattle.std.proofs.lemmas.Bool.Decides.{nat_tests}
-use Rattle.conflict_settling.specs.Escapes.{is_control_byte, is_control_pair, is_line_end, has_control, hex_digit, spelled, escaped_byte, escaped}
+use Rattle.conflict_settling.specs.Escapes.{is_control_byte, is_control_pair, leaves_out, has_control, hex_digit, spelled, escaped_byte, escaped}
+use Rattle.conflict_settling.specs.declared.escape.CarriageReturn.TheVariants as cr
+use Rattle.conflict_settling.specs.declared.escape.CarriageReturn.{CarriageReturn}
 use Rattle.conflict_settling.specs.Laws.{EscapedHasNoControl, PlainStays}
 
 -- whether a byte and the front of what follows it are a control character
@@ -71,26 +73,29 @@ byte_fine b rest apart fit = by (is_control_byte b) refl
     by false e = fine b rest e apart fit
 
 -- a byte makes no pair with a line feed
-ended : (b c d : ℕ) → is_line_end c d ≡ true → is_control_pair b d ≡ false
-ended b c d e = grind (arith, nat_tests)
+ended : (returns : CarriageReturn) (b c d : ℕ) → leaves_out returns c d ≡ true → is_control_pair b d ≡ false
+ended cr.LeftOut b c d e = grind (arith, nat_tests)
+ended cr.Spelled b c d e = cc e
 
 -- a plain byte is no carriage return
-no_return : (b c : ℕ) → is_control_byte b ≡ false → is_line_end b c ≡ false
-no_return b c e = grind (arith, nat_tests)
+no_return : (returns : CarriageReturn) (b c : ℕ) → is_control_byte b ≡ false → leaves_out returns b c ≡ false
+no_return cr.LeftOut b c e = grind (arith, nat_tests)
+no_return cr.Spelled b c e = refl
 
 -- a byte makes no pair with an escaped text, if it makes none with the text
-still_apart : (b c : ℕ) (rest : List ℕ) → is_control_pair b c ≡ false → pairs b (escaped (c ∷ rest)) ≡ false
-still_apart b c [] h = one (is_control_byte c)
+still_apart : (returns : CarriageReturn) (b c : ℕ) (rest : List ℕ) → is_control_pair b c ≡ false
+    → pairs b (escaped returns (c ∷ rest)) ≡ false
+still_apart returns b c [] h = one (is_control_byte c)
   where
     one : (x : Bool) → pairs b (cond x (spelled c) (c ∷ [])) ≡ false
     one true = no_pair_92 b
     one false = h
-still_apart b c (d ∷ rest) h =
-    two (is_control_pair c d) (is_line_end c d) (is_control_byte c) (λ e. still_apart b d rest (ended b c d e))
+still_apart returns b c (d ∷ rest) h =
+    two (is_control_pair c d) (leaves_out returns c d) (is_control_byte c) (λ e. still_apart returns b d rest (ended returns b c d e))
   where
-    two : (x z y : Bool) → (z ≡ true → pairs b (escaped (d ∷ rest)) ≡ false)
-        → pairs b (cond x (spelled d ++ escaped rest)
-        (cond z (escaped (d ∷ rest)) (cond y (spelled c) (c ∷ []) ++ escaped (d ∷ rest)))) ≡ false
+    two : (x z y : Bool) → (z ≡ true → pairs b (escaped returns (d ∷ rest)) ≡ false)
+        → pairs b (cond x (spelled d ++ escaped returns rest)
+        (cond z (escaped returns (d ∷ rest)) (cond y (spelled c) (c ∷ []) ++ escaped returns (d ∷ rest)))) ≡ false
     two true z y later = no_pair_92 b
     two false true y later = later refl
     two false false true later = no_pair_92 b
@@ -98,28 +103,30 @@ still_apart b c (d ∷ rest) h =
 
 -- what is escaped has no control character but line feeds
 pub escaped_has_no_control : EscapedHasNoControl
-escaped_has_no_control [] = refl
-escaped_has_no_control (b ∷ []) = one (is_control_byte b) refl
+escaped_has_no_control returns [] = refl
+escaped_has_no_control returns (b ∷ []) = one (is_control_byte b) refl
   where
     one : (x : Bool) → is_control_byte b ≡ x → has_control (cond x (spelled b) (b ∷ [])) ≡ false
     one true e = spelled_fine b [] (control_small b e) refl
     one false e = e
-escaped_has_no_control (b ∷ c ∷ rest) =
-    by (escaped_has_no_control rest) (escaped_has_no_control (c ∷ rest)) (is_control_pair b c) (is_line_end b c) refl
+escaped_has_no_control returns (b ∷ c ∷ rest) =
+    by (escaped_has_no_control returns rest) (escaped_has_no_control returns (c ∷ rest)) (is_control_pair b c) (leaves_out returns b c) refl
   where
-    by : has_control (escaped rest) ≡ false → has_control (escaped (c ∷ rest)) ≡ false → (x z : Bool) → is_control_pair b c ≡ x
-        → has_control (cond x (spelled c ++ escaped rest) (cond z (escaped (c ∷ rest)) (escaped_byte b ++ escaped (c ∷ rest)))) ≡ false
-    by g h true z e = spelled_fine c (escaped rest) (pair_small b c e) g
+    by : has_control (escaped returns rest) ≡ false → has_control (escaped returns (c ∷ rest)) ≡ false → (x z : Bool)
+        → is_control_pair b c ≡ x
+        → has_control (cond x (spelled c ++ escaped returns rest)
+        (cond z (escaped returns (c ∷ rest)) (escaped_byte b ++ escaped returns (c ∷ rest)))) ≡ false
+    by g h true z e = spelled_fine c (escaped returns rest) (pair_small b c e) g
     by g h false true e = h
-    by g h false false e = byte_fine b (escaped (c ∷ rest)) (still_apart b c rest e) h
+    by g h false false e = byte_fine b (escaped returns (c ∷ rest)) (still_apart returns b c rest e) h
 
 pub plain_stays : PlainStays
-plain_stays [] h = refl
-plain_stays (b ∷ []) h = cond-false _ _ _ h
-plain_stays (b ∷ c ∷ rest) h =
+plain_stays returns [] h = refl
+plain_stays returns (b ∷ []) h = cond-false _ _ _ h
+plain_stays returns (b ∷ c ∷ rest) h =
     let plain = left_false (is_control_byte b) _ h in
     let later = right_false (is_control_byte b) _ h in
     let apart = left_false (is_control_pair b c) (has_control (c ∷ rest)) later in
     let fit = right_false (is_control_pair b c) (has_control (c ∷ rest)) later in
-    cond-false _ _ _ apart ∙ cond-false _ _ _ (no_return b c plain)
-    ∙ (λ i. cond-false (is_control_byte b) (spelled b) (b ∷ []) plain i ++ plain_stays (c ∷ rest) fit i)
+    cond-false _ _ _ apart ∙ cond-false _ _ _ (no_return returns b c plain)
+    ∙ (λ i. cond-false (is_control_byte b) (spelled b) (b ∷ []) plain i ++ plain_stays returns (c ∷ rest) fit i)

@@ -40,7 +40,7 @@ pub record IsQuestionOf (held : List Operation) (g : Segment) (left : ℕ) (mann
   pub bytes_are : bytes ≡ head_line g left
       ++ (before_lines (text_before held g)
       ++ (flat_map (entry_lines manner (pick held g)) entries
-      ++ (flat_map (repeated_line distinct) repeated ++ choice_line (length entries))))
+      ++ (flat_map (repeated_line distinct) repeated ++ choice_line)))
 
 -- a segment of a set, asked where this many conflicts are left
 pub record IsAskedOf (held : List Operation) (g : Segment) (left : ℕ) (manner : Manner)

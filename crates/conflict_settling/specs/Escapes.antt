@@ -5,6 +5,8 @@ use Rattle.std.specs.Prelude.{ℕ, ◌+◌, ◌==◌, nat_le, nat_lt, Bool, fals
 use Rattle.std.specs.Prelude.{◌/◌, ◌%◌}
 use Rattle.conflict_settling.specs.declared.escape.Glyph.{Glyph}
 use Rattle.conflict_settling.specs.declared.escape.Glyph.TheVariants.{Nothing, Plain, Control}
+use Rattle.conflict_settling.specs.declared.escape.CarriageReturn.TheVariants as cr
+use Rattle.conflict_settling.specs.declared.escape.CarriageReturn.{CarriageReturn}
 
 -- whether a byte is a control character by itself, and no line feed (10)
 abbrev pub is_control_byte : ℕ → Bool
@@ -14,9 +16,11 @@ is_control_byte b = not (b == 10) && (nat_lt b 32 || (b == 127))
 abbrev pub is_control_pair : ℕ → ℕ → Bool
 is_control_pair b c = (b == 194) && (nat_le 128 c && nat_le c 159)
 
--- whether two bytes are a carriage return (13) and a line feed, which end a line
-abbrev pub is_line_end : ℕ → ℕ → Bool
-is_line_end b c = (b == 13) && (c == 10)
+-- whether a byte before another one is left out: the carriage return (13) before a line feed, where
+-- that is to be
+abbrev pub leaves_out : CarriageReturn → ℕ → ℕ → Bool
+leaves_out cr.LeftOut b c = (b == 13) && (c == 10)
+leaves_out cr.Spelled b c = false
 
 -- whether a text has a control character that is no line feed
 abbrev pub has_control : List ℕ → Bool
@@ -42,12 +46,11 @@ glyph_bytes (Control n) = spelled n
 abbrev pub escaped_byte : ℕ → List ℕ
 escaped_byte b = if is_control_byte b then spelled b else b ∷ []
 
--- a text with each control character but line feeds spelled out; of a carriage return and a line
--- feed only the line feed stands
-abbrev pub escaped : List ℕ → List ℕ
-escaped [] = []
-escaped (b ∷ []) = escaped_byte b
-escaped (b ∷ c ∷ rest) =
-    if is_control_pair b c then spelled c ++ escaped rest
-    else if is_line_end b c then escaped (c ∷ rest)
-    else escaped_byte b ++ escaped (c ∷ rest)
+-- a text with each control character but line feeds spelled out, and without what is left out
+abbrev pub escaped : CarriageReturn → List ℕ → List ℕ
+escaped returns [] = []
+escaped returns (b ∷ []) = escaped_byte b
+escaped returns (b ∷ c ∷ rest) =
+    if is_control_pair b c then spelled c ++ escaped returns rest
+    else if leaves_out returns b c then escaped returns (c ∷ rest)
+    else escaped_byte b ++ escaped returns (c ∷ rest)

@@ -13,6 +13,7 @@ use Rattle.op_core.specs.Ops.{Operation, own_text}
 use Rattle.op_core.specs.Shown.{Pick, Line, Greatest, Empty, is_empty}
 use Rattle.conflict_settling.specs.Entries.{EntryView}
 use Rattle.conflict_settling.specs.Escapes.{escaped}
+use Rattle.conflict_settling.specs.declared.escape.CarriageReturn.TheVariants.{LeftOut, Spelled}
 use Rattle.conflict_settling.specs.declared.question.Manner.{Manner}
 use Rattle.conflict_settling.specs.declared.question.Manner.TheVariants.{Brackets, Reverse}
 
@@ -25,7 +26,8 @@ head_line g left =
 
 -- a text that stands before the segment, and a line feed; nothing where it is empty
 abbrev pub before_lines : List ℕ → List ℕ
-before_lines text = if is_empty text then [] else codes "before it:\n" ++ (escaped text ++ 10 ∷ [])
+before_lines text =
+    if is_empty text then [] else codes "before it:\n" ++ (escaped LeftOut text ++ 10 ∷ [])
 
 -- an id: its number, a space and its name
 abbrev pub id_words : Id → List ℕ
@@ -63,9 +65,9 @@ repeated_line texts o =
     ++ (decimal (number_in texts (own_text o)) ++ codes " too\n"))
 
 -- what may be answered
-abbrev pub choice_line : ℕ → List ℕ
-choice_line count = codes "Type 1 to " ++ (decimal count
-    ++ codes " for that text, e for one of your own, s to skip, q to stop.\n")
+abbrev pub choice_line : List ℕ
+choice_line = codes
+    "Type the number of the text to keep, e to type your own, s to skip, q to stop.\n"
 
 -- ---- what differs
 
@@ -84,15 +86,15 @@ closing Reverse = 27 ∷ codes "[27m"
 abbrev pub set_off_byte : Manner → ℕ → List ℕ
 set_off_byte manner b = if b == 10 then closing manner ++ 10 ∷ opening manner else b ∷ []
 
--- what differs, each line of it set off by itself
+-- what differs, each line of it set off by itself, in which also line ends are spelled out
 abbrev pub set_off : Manner → List ℕ → List ℕ
 set_off manner text =
-    opening manner ++ (flat_map (set_off_byte manner) (escaped text) ++ closing manner)
+    opening manner ++ (flat_map (set_off_byte manner) (escaped Spelled text) ++ closing manner)
 
 -- a part of two texts that is in the first or in the other one: what is not in both is set off
 abbrev pub part_bytes : Manner → Part → List ℕ
 part_bytes manner part =
-    if is_kept part.kind then escaped part.text.now else set_off manner part.text.now
+    if is_kept part.kind then escaped LeftOut part.text.now else set_off manner part.text.now
 
 -- the part, if it is on this side: that of the first text, or else the other
 abbrev pub part_on : Manner → Bool → Part → List ℕ

@@ -225,6 +225,6 @@ fn question_of(
     )?;
     let numbers = TextNumbers::new(alloc, &shown.distinct)?;
     push_repeated(alloc, &mut bytes, &numbers, &shown.repeated)?;
-    push_choice(alloc, &mut bytes, entries.len())?;
+    push_choice(&mut bytes)?;
     Ok(bytes)
 }

@@ -7,7 +7,7 @@ use std::alloc::AllocError;
 // What is shown for the front of a text.
 #[derive(Clone, Copy, Debug, PartialEq, Eq)]
 enum Glyph {
-    // Nothing: the carriage return before a line feed, as some editors end each line.
+    // Nothing: the carriage return before a line feed.
     Nothing,
     // The byte itself.
     Plain(u8),
@@ -15,19 +15,32 @@ enum Glyph {
     Control(u8),
 }
 
+/// How the carriage return before a line feed is shown, with which some editors end each line.
+#[derive(Clone, Copy, Debug, PartialEq, Eq)]
+pub enum CarriageReturn {
+    /// Not at all.
+    LeftOut,
+    /// As `\x0d`.
+    Spelled,
+}
+
 /// Adds a text in which each control character but the line feed stands as `\x` and its number in
 /// two hexadecimal digits: U+0000 to U+001F, and U+007F to U+009F, which a terminal may take for
-/// commands. A carriage return before a line feed is left out. All else stays. What it adds has no
-/// control character but line feeds.
+/// commands. The carriage return before a line feed may be left out. All else stays. What is added
+/// has no control character but line feeds.
 ///
 /// # Errors
 /// Out of memory alone.
-pub fn push_escaped(bytes: &mut Vec<u8>, text: &[u8]) -> Result<(), AllocError>
-    ensures { OnOk result (bytes.new.items ≡ bytes.old.items ++ escapes.escaped text.now) }
+pub fn push_escaped(
+    bytes: &mut Vec<u8>,
+    text: &[u8],
+    returns: CarriageReturn,
+) -> Result<(), AllocError>
+    ensures { OnOk result (bytes.new.items ≡ bytes.old.items ++ escapes.escaped returns text.now) }
 {
     let mut rest = text;
     while !rest.is_empty() {
-        let (glyph, after) = split_glyph(rest);
+        let (glyph, after) = split_glyph(rest, returns);
         push_glyph(bytes, glyph)?;
         rest = after;
     }
@@ -35,17 +48,17 @@ pub fn push_escaped(bytes: &mut Vec<u8>, text: &[u8]) -> Result<(), AllocError>
 }
 
 // What is shown for the front of a text, and what follows that.
-fn split_glyph(text: &[u8]) -> (Glyph, &[u8])
+fn split_glyph(text: &[u8], returns: CarriageReturn) -> (Glyph, &[u8])
     requires { 0 < length text.now }
-    ensures shown { escapes.escaped text.now
-        ≡ escapes.glyph_bytes result.0 ++ escapes.escaped result.1.now }
+    ensures shown { escapes.escaped returns text.now
+        ≡ escapes.glyph_bytes result.0 ++ escapes.escaped returns result.1.now }
     ensures shorter { length result.1.now < length text.now }
 {
     let byte = text[0];
     if text.len() >= 2 && is_control_pair(byte, text[1]) {
         return (Glyph::Control(text[1]), &text[2..]);
     }
-    if text.len() >= 2 && is_line_end(byte, text[1]) {
+    if text.len() >= 2 && leaves_out(returns, byte, text[1]) {
         return (Glyph::Nothing, &text[1..]);
     }
     if is_control_byte(byte) {
@@ -69,11 +82,14 @@ fn is_control_pair(byte: u8, next: u8) -> bool
     byte == 0xc2 && 0x80 <= next && next <= 0x9f
 }
 
-// Whether two bytes are a carriage return and a line feed.
-fn is_line_end(byte: u8, next: u8) -> bool
-    ensures { result ≡ escapes.is_line_end byte next }
+// Whether a byte before another one is left out.
+fn leaves_out(returns: CarriageReturn, byte: u8, next: u8) -> bool
+    ensures { result ≡ escapes.leaves_out returns byte next }
 {
-    byte == b'\r' && next == b'\n'
+    match returns {
+        CarriageReturn::LeftOut => byte == b'\r' && next == b'\n',
+        CarriageReturn::Spelled => false,
+    }
 }
 
 fn push_glyph(bytes: &mut Vec<u8>, glyph: Glyph) -> Result<(), AllocError>

@@ -23,7 +23,7 @@ mod wanted;
 pub use answer::{Answer, ends_text};
 pub use asked::{Asked, SettleFault, next_question};
 pub use book_texts::BookTexts;
-pub use escape::push_escaped;
+pub use escape::{CarriageReturn, push_escaped};
 pub use pending::open_conflicts;
 pub use question::Manner;
 pub use sides::{Entry, compare};

@@ -9,13 +9,16 @@ ghost use Rattle.conflict_settling.specs.Entries.{view, views};
 ghost use Rattle.conflict_settling.specs.Questions as questions;
 ghost use Rattle.word_diff.specs.Parts.{spans};
 
-use crate::escape::push_escaped;
+use crate::escape::{CarriageReturn, push_escaped};
 use crate::numbers::TextNumbers;
 use crate::sides::Entry;
 use op_core::{Op, Picked, chapter_line};
 use std::alloc::{AllocError, Global};
 use usfm_ref::{Book, Key, write_ref};
 use word_diff::{Kind, Part};
+
+const CHOICE: &str =
+    "Type the number of the text to keep, e to type your own, s to skip, q to stop.\n";
 
 /// How what differs is set off.
 #[derive(Clone, Copy, Debug, PartialEq, Eq)]
@@ -83,7 +86,7 @@ fn push_context(bytes: &mut Vec<u8>, text: &[u8]) -> Result<(), AllocError>
         return Ok(());
     }
     bytes.extend_from_slice(b"before it:\n")?;
-    push_escaped(bytes, text)?;
+    push_escaped(bytes, text, CarriageReturn::LeftOut)?;
     bytes.push(b'\n')?;
     Ok(())
 }
@@ -193,13 +196,13 @@ fn push_part(
         return Ok(());
     }
     if part.kind == Kind::Kept {
-        push_escaped(bytes, part.text.as_bytes())
+        push_escaped(bytes, part.text.as_bytes(), CarriageReturn::LeftOut)
     } else {
         push_set_off(alloc, bytes, part.text.as_bytes(), manner)
     }
 }
 
-// Adds what differs, each line of it set off by itself.
+// Adds what differs, each line of it set off by itself. Two texts may differ in line ends alone.
 fn push_set_off(
     alloc: Global,
     bytes: &mut Vec<u8>,
@@ -209,7 +212,7 @@ fn push_set_off(
     ensures { OnOk result (bytes.new.items ≡ bytes.old.items ++ questions.set_off manner text.now) }
 {
     let mut escaped = Vec::new(alloc);
-    push_escaped(&mut escaped, text)?;
+    push_escaped(&mut escaped, text, CarriageReturn::Spelled)?;
     bytes.extend_from_slice(manner.opening().as_bytes())?;
     for byte in &escaped {
         push_byte(bytes, *byte, manner)?;
@@ -259,15 +262,8 @@ fn repeated_line(alloc: Global, texts: &TextNumbers<'_, '_>, op: &Op) -> Result<
 }
 
 // Adds the last line: what may be answered.
-pub(crate) fn push_choice(
-    alloc: Global,
-    bytes: &mut Vec<u8>,
-    count: usize,
-) -> Result<(), AllocError>
-    ensures { OnOk result (bytes.new.items ≡ bytes.old.items ++ questions.choice_line count) }
+pub(crate) fn push_choice(bytes: &mut Vec<u8>) -> Result<(), AllocError>
+    ensures { OnOk result (bytes.new.items ≡ bytes.old.items ++ questions.choice_line) }
 {
-    let line = format!(in alloc;
-        "Type 1 to {count} for that text, e for one of your own, s to skip, q to stop.\n"
-    )?;
-    bytes.extend_from_slice(line.as_bytes())
+    bytes.extend_from_slice(CHOICE.as_bytes())
 }

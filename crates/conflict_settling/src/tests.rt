@@ -1,5 +1,8 @@
 // A conflict of two texts, asked and answered.
-use crate::{Answer, Asked, Manner, SettleFault, Wanted, ends_text, next_question, push_escaped};
+use crate::{
+    Answer, Asked, CarriageReturn, Manner, SettleFault, Wanted, ends_text, next_question,
+    push_escaped,
+};
 use op_core::ReplicaName;
 use replica_state::Replica;
 use std::alloc::Global;
@@ -28,7 +31,7 @@ fn a_conflict_is_asked(rt: HostRuntime) -> Result<(), Fail> {
     let ana = in_conflict(alloc)?;
     let one = asked(alloc, &ana, Manner::Brackets)?;
     let wanted =
-        b"\nMAT 1:1, 1 left\n\nbefore it:\n\\c 1\n\\p\n\n1: 6 ana, in the book\n\\v 1 [In] it\n\n2: 5 ana\n\\v 1 [At] it\n\n3 ana has text 1 too\nType 1 to 2 for that text, e for one of your own, s to skip, q to stop.\n";
+        b"\nMAT 1:1, 1 left\n\nbefore it:\n\\c 1\n\\p\n\n1: 6 ana, in the book\n\\v 1 [In] it\n\n2: 5 ana\n\\v 1 [At] it\n\n3 ana has text 1 too\nType the number of the text to keep, e to type your own, s to skip, q to stop.\n";
     assert_eq!(rt; one.question(), wanted.as_slice());
     assert_eq!(rt; one.ids().len(), 3);
     assert!(rt; one.answer("2\n") == Answer::Take("\\v 1 At it\n"));
@@ -58,11 +61,18 @@ fn what_is_wanted(rt: HostRuntime) -> Result<(), Fail> {
 
 #[test]
 fn control_characters_are_spelled(rt: HostRuntime) -> Result<(), Fail> {
+    let text = "a\x1b[7m\u{9b}1\u{7f}\r\n\u{a0}é\t".as_bytes();
     let mut bytes = Vec::new(rt.alloc());
-    push_escaped(&mut bytes, "a\x1b[7m\u{9b}1\u{7f}\n\u{a0}é\t".as_bytes())?;
+    push_escaped(&mut bytes, text, CarriageReturn::LeftOut)?;
     assert_eq!(rt;
         bytes.as_slice(),
         "a\\x1b[7m\\x9b1\\x7f\n\u{a0}é\\x09".as_bytes()
+    );
+    bytes.clear();
+    push_escaped(&mut bytes, text, CarriageReturn::Spelled)?;
+    assert_eq!(rt;
+        bytes.as_slice(),
+        "a\\x1b[7m\\x9b1\\x7f\\x0d\n\u{a0}é\\x09".as_bytes()
     );
     assert!(rt; ends_text(b".\n"));
     assert!(rt; !ends_text(b". \n"));

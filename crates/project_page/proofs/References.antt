@@ -3,6 +3,7 @@ use Rattle.std.proofs.Common.{◌≡◌, ℕ, ◌==◌, Bool, true, false, not, 
 use Rattle.std.specs.List.{flat_map, list_any}
 use Rattle.std.proofs.lemmas.List.Folds.{list_any-append}
 use Rattle.conflict_settling.specs.Escapes.{is_control_byte, is_control_pair, has_control, escaped}
+use Rattle.conflict_settling.specs.declared.escape.CarriageReturn.TheVariants.{LeftOut}
 use Rattle.conflict_settling.proofs.Escaped.{escaped_has_no_control}
 use Rattle.project_page.specs.Said.{reference}
 use Rattle.project_page.specs.Laws.{is_markup, begins_reference, refers, SaidHasNoControl, SaidHasNoMarkup, SaidRefers}
@@ -38,7 +39,7 @@ no_markup (b ∷ text) =
     (λ e m. or_none (is_markup b) m) i || no_markup text i)
 
 pub said_has_no_markup : SaidHasNoMarkup
-said_has_no_markup text = no_markup (escaped text)
+said_has_no_markup text = no_markup (escaped LeftOut text)
 
 -- ---- references
 
@@ -51,7 +52,7 @@ all_refer (b ∷ text) =
     (λ e m. (λ i. (not (e i) || begins_reference (b ∷ later)) && refers later) ∙ h)
 
 pub said_refers : SaidRefers
-said_refers text = all_refer (escaped text)
+said_refers text = all_refer (escaped LeftOut text)
 
 -- ---- control characters
 
@@ -116,4 +117,4 @@ no_control (b ∷ text) h =
     later_plain b (c ∷ text) h = right_false (is_control_pair b c) _ (right_false (is_control_byte b) _ h)
 
 pub said_has_no_control : SaidHasNoControl
-said_has_no_control text = no_control (escaped text) (escaped_has_no_control text)
+said_has_no_control text = no_control (escaped LeftOut text) (escaped_has_no_control LeftOut text)

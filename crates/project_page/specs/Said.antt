@@ -3,6 +3,7 @@
 use Rattle.std.specs.Prelude.{ℕ, ◌==◌, List, [], ◌∷◌, codes, if◌then◌else◌}
 use Rattle.std.specs.List.{flat_map}
 use Rattle.conflict_settling.specs.Escapes.{escaped}
+use Rattle.conflict_settling.specs.declared.escape.CarriageReturn.TheVariants.{LeftOut}
 
 -- what stands for a byte: a reference for `&` (38), `<` (60), `>` (62), `"` (34) and `'` (39), and
 -- each other byte for itself
@@ -17,4 +18,4 @@ reference b =
 
 -- a text or a name as it stands in a page
 abbrev pub said : List ℕ → List ℕ
-said text = flat_map reference (escaped text)
+said text = flat_map reference (escaped LeftOut text)

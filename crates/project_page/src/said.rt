@@ -5,7 +5,7 @@ ghost use Rattle.project_page.specs.Pages as pages;
 ghost use Rattle.project_page.specs.Said.{reference, said};
 
 use crate::markup::{LINE_END, MARK, MARK_END, OPERATION};
-use conflict_settling::push_escaped;
+use conflict_settling::{CarriageReturn, push_escaped};
 use op_core::OpId;
 use std::alloc::{AllocError, Global};
 use usfm_token::{Token, TokenIter};
@@ -36,7 +36,7 @@ pub(crate) fn push_said(alloc: Global, page: &mut Vec<u8>, text: &[u8]) -> Resul
     ensures { OnOk result (page.new.items ≡ page.old.items ++ said text.now) }
 {
     let mut plain = Vec::new(alloc);
-    push_escaped(&mut plain, text)?;
+    push_escaped(&mut plain, text, CarriageReturn::LeftOut)?;
     for byte in &plain {
         push_byte(page, *byte)?;
     }

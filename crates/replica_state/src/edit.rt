@@ -1,6 +1,6 @@
 // Edits of a replica.
 ghost use Rattle.std.specs.Prelude.{◌≡◌, ◌≢◌, [], None, Err, IfOk, IfErr, IsOk, IsTrue, OnOk};
-ghost use Rattle.std.specs.Prelude.{OnErr, length};
+ghost use Rattle.std.specs.Prelude.{OnErr, filter, length};
 ghost use Rattle.std.specs.List.{AllByRecursion};
 ghost use Rattle.std.specs.Option.{option_copied};
 ghost use Rattle.usfm_ref.specs.Segments.{segment};
@@ -138,6 +138,23 @@ impl Replica {
         ensures { result ≡ is_among (shown_ids self.now.held (segment book key)) id }
     {
         is_among(self.set.shown_ids(book, key), id)
+    }
+
+    /// Those of some ids that the segment shows, in the same order.
+    ///
+    /// # Errors
+    /// Out of memory alone.
+    pub fn shown_of(&self, book: Book, key: Key, ids: &[OpId]) -> Result<Vec<OpId>, AllocError>
+        ensures { IfOk result (λ shown. shown.items
+            ≡ filter (is_among (shown_ids self.now.held (segment book key))) ids.now) }
+    {
+        let mut shown = Vec::new(self.alloc);
+        for id in ids {
+            if self.shows_id(book, key, *id) {
+                shown.push(*id)?;
+            }
+        }
+        Ok(shown)
     }
 
     // The first of some ids that the segment does not show.

@@ -1,16 +1,19 @@
 // What an edit may replace whose text is typed while the project changes.
-ghost use Rattle.std.specs.Prelude.{◌≡◌, ◌++◌, Ok, IfErr, IfOk, OnOk};
+ghost use Rattle.std.specs.Prelude.{◌≡◌, ◌≢◌, Err, IfErr};
+ghost use Rattle.std.specs.List.{list_all};
 ghost use Rattle.op_core.specs.Lists.{shown_ids};
+ghost use Rattle.op_core.specs.NextIds.{is_among};
 ghost use Rattle.project_file.specs.Projects.{project_at};
-ghost use Rattle.replica_state.specs.States.{State};
+ghost use Rattle.usfm_cli.specs.Faults.{of_loading};
 ghost use Rattle.usfm_cli.specs.Overtaken as overtaken;
+ghost use Rattle.usfm_cli.specs.Projects.{RefusesFile};
 ghost use Rattle.usfm_ref.specs.Segments.{segment};
 
 use crate::fault::Fault;
 use op_core::OpId;
 use project_file::load;
 use replica_state::Replica;
-use std::alloc::{AllocError, Global};
+use std::alloc::Global;
 use usfm_ref::{Book, Key};
 
 /// What a segment showed in a project and still shows in what the project is now.
@@ -35,34 +38,24 @@ pub fn still_shown(
     book: Book,
     key: Key,
 ) -> Result<StillShown, Fault>
-    ensures shown { (s t : State) → project_at before.now ≡ Ok s → project_at now.now ≡ Ok t
-        → IfOk result (overtaken.IsStillShown s t (segment book key)) }
-    ensures loads { (s t : State) → project_at before.now ≡ Ok s → project_at now.now ≡ Ok t
-        → IfErr result (λ fault. fault ≡ Fault.Memory) }
+    ensures answer { result ≢ Err Fault.Memory
+        → overtaken.still_shown (project_at before.now) (project_at now.now) (segment book key)
+        ≡ overtaken.as_still result }
+    // A file that was no project is refused for that, whatever memory there is; but for its bundle,
+    // where an operation of it is thinned.
+    ensures no_project { IfErr (project_at before.now) (λ fault.
+        RefusesFile before.now (of_loading fault) result) }
 {
     let before = load(alloc, before)?;
     let now = load(alloc, now)?;
-    Ok(still_in(alloc, &before, &now, book, key)?)
+    let ids = now.shown_of(book, key, before.set().shown_ids(book, key))?;
+    let is_all = shows_all(&before, now.set().shown_ids(book, key), book, key);
+    Ok(StillShown { ids, is_all })
 }
 
-// What a segment showed in a replica and still shows in another one.
-fn still_in(
-    alloc: Global,
-    before: &Replica,
-    now: &Replica,
-    book: Book,
-    key: Key,
-) -> Result<StillShown, AllocError>
-    ensures { IfOk result (overtaken.IsStillShown before.now now.now (segment book key)) }
+// Whether a segment of a replica shows all of these ids.
+fn shows_all(replica: &Replica, ids: &[OpId], book: Book, key: Key) -> bool
+    ensures { result ≡ list_all (is_among (shown_ids replica.now.held (segment book key))) ids.now }
 {
-    let mut ids = Vec::new(alloc);
-    let mut left = before.set().shown_ids(book, key);
-    'ids: while let [id, later @ ..] = left {
-        if now.shows_id(book, key, *id) {
-            ids.push(*id)?;
-        }
-        left = later;
-    }
-    let is_all = ids.len() == now.set().shown_ids(book, key).len();
-    Ok(StillShown { ids, is_all })
+    ids.iter().all(|id| replica.shows_id(book, key, *id))
 }

@@ -1,12 +1,11 @@
-use Rattle.std.proofs.Common.{◌++◌, Bor, List, length, map, sym, ap, subst, ◌∙◌, arith}
+use Rattle.std.proofs.Common.{◌++◌, Bor, List, map, sym, ap, subst, ◌∙◌}
 use Rattle.std.specs.List.{flat_map}
-use Rattle.std.proofs.lemmas.List.{length-map}
 use Rattle.std.proofs.lemmas.List.Folds.{flat_map-map}
 use Rattle.usfm_ref.specs.Segments.{segment}
 use Rattle.op_core.specs.Ops.{Operation}
 use Rattle.op_core.specs.Shown.{Pick, pick}
 use Rattle.conflict_settling.specs.Before.{text_before}
-use Rattle.conflict_settling.specs.Entries.{EntryView, AreEntriesOf, view, views}
+use Rattle.conflict_settling.specs.Entries.{EntryView, AreEntriesOf, views}
 use Rattle.conflict_settling.specs.Filled.{HeldBook}
 use Rattle.conflict_settling.specs.Questions.{head_line, before_lines, entry_lines, repeated_line, choice_line}
 use Rattle.conflict_settling.proofs.Joined.{five}
@@ -27,7 +26,7 @@ returns c =
       bytes_are = five c.new-bytes.result.items c.push_head.new.bytes.items c.push_before.new.bytes.items
           c.push_entries.new.bytes.items c.push_repeated.new.bytes.items c.push_choice.new.bytes.items
           (head_line g c.args.left) (before_lines (text_before held g)) (lines (pick held g) (views entries))
-          (flat_map (repeated_line distinct) (map (λ op. op.now) c.args.shown.now.repeated.items)) (choice_line (length (views entries)))
+          (flat_map (repeated_line distinct) (map (λ op. op.now) c.args.shown.now.repeated.items)) choice_line
           c.new-bytes.ensures.items c.in_ok-push_head.ensures
           (c.in_ok-push_before.ensures
           ∙ ap (λ text. c.push_head.new.bytes.items ++ before_lines text)
@@ -39,7 +38,5 @@ returns c =
           ++ flat_map (λ op. repeated_line (map (λ op. op.now) (numbered i)) op.now) (c.deref-4.ensures.value i))
           ∙ ap (λ bytes. c.push_entries.new.bytes.items ++ bytes)
           (sym (flat_map-map (repeated_line distinct) (λ op. op.now) c.args.shown.now.repeated.items)))
-          (c.in_ok-push_choice.ensures
-          ∙ ap (λ count. c.push_repeated.new.bytes.items ++ choice_line count)
-          (omega (arith, c.len.ensures, c.in_ok-entries.entries.ok.0, length-map entries view)));
+          c.in_ok-push_choice.ensures;
     }
