@@ -26,6 +26,7 @@ pub mod Over
 pub mod BaseReceived
 pub mod Ready
 pub mod DoneAgain
+pub mod Earlier
 pub mod RecoveredAgain
 pub mod LeftFiles
 pub mod LeftBases

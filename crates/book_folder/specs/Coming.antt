@@ -1,6 +1,6 @@
 -- What comes into a project from a folder (this project's own rule): what its files were written
 -- from, the bundles that are given, and what was changed in the files, in this order.
-use Rattle.std.specs.Prelude.{◌≡◌, Vec, ℕ, suc, ◌-◌, nat_eq, Bool, true, false, not, List, [], ◌∷◌, ◌++◌, length, map, filter, Option, None, option_map, Result, Ok, Err, if◌then◌else◌}
+use Rattle.std.specs.Prelude.{◌≡◌, Vec, ℕ, suc, ◌-◌, nat_eq, Bool, true, false, not, List, [], ◌∷◌, ◌++◌, length, map, filter, Option, None, is_some, option_map, Result, Ok, Err, if◌then◌else◌}
 use Rattle.op_core.specs.Ops.{Operation}
 use Rattle.op_core.specs.Export.{has_book}
 use Rattle.project_file.specs.Projects.{project}
@@ -41,6 +41,12 @@ older_from name at before [] = Ok before
 older_from name at before (bytes ∷ later) =
     replica_at name (places.Older at) bytes >>= λ s.
     older_from name (suc at) (before ++ s ∷ []) later
+
+-- The bases from which files may have been written before the base: the older ones. Where a next base
+-- stands, a sync was cut short that had perhaps put files which were written from that one, so that
+-- the base is one of those before it.
+abbrev pub earlier_bases : SeenParts → List (List ℕ)
+earlier_bases seen = if is_some seen.next then seen.bases ++ seen.older else seen.older
 
 -- ---- files that are taken in
 
@@ -165,6 +171,6 @@ bundles_come_in seen wishes older turns b =
 abbrev pub comes_in : SeenParts → WishParts → List FileParts → Result CameInParts Refusal
 comes_in seen wishes files =
     begun_with seen wishes >>= λ begun.
-    older_from begun.base.name 0 [] seen.older >>= λ older.
+    older_from begun.base.name 0 [] (earlier_bases seen) >>= λ older.
     rebased_if_stale wishes begun older files >>= λ b.
     bundles_come_in seen wishes older (in_turn b.base.held files) b

@@ -12,7 +12,7 @@ use Rattle.replica_state.specs.States.{State}
 use Rattle.book_folder.specs.Bases.{next_base, shown_in_files}
 use Rattle.book_folder.specs.Begun.{settled_base}
 use Rattle.book_folder.specs.CameIn.{IsReceived}
-use Rattle.book_folder.specs.Coming.{CameInParts, comes_in, older_from}
+use Rattle.book_folder.specs.Coming.{CameInParts, comes_in, earlier_bases, older_from}
 use Rattle.book_folder.specs.Files.{FileParts, is_one_of}
 use Rattle.book_folder.specs.FolderLaws.{IsSyncedFile}
 use Rattle.book_folder.specs.Plans.{headless}
@@ -46,7 +46,7 @@ pub record IsCutLate (seen : SeenParts) (wishes : WishParts) (files : List FileP
       settled_base seen.unplaced first (shown_in_files (headless s.held) s.held) ≡ Ok bytes
   pub again : whole_at bytes ≡ Ok mixed
   pub bundles : AllByRecursion (IsReceived s) seen.bundles
-  pub old : older_from s.name 0 [] seen.older ≡ Ok older
+  pub old : older_from s.name 0 [] (earlier_bases seen) ≡ Ok older
   pub each : AllByRecursion (IsPutOrWaits seen.unplaced s older wishes first) files
 
 -- what comes in then: nothing

@@ -97,13 +97,13 @@ pub record WasRead (files : List FileParts) (f : FileParts) : Type 0 where
   pub bytes : file.bytes ≡ f.bytes
 
 -- A file that stands there: one that the sync read, which was written from what the first base has
--- of its book, or the base before; or one as a sync leaves it, which was written from what the next
--- one has.
-abbrev pub IsLeftFile : BegunParts → CameInParts → List FileParts → List Operation → FileParts
-    → Type 0
-IsLeftFile b c files from f =
+-- of its book, or, where the base before stands, from that; or one as a sync leaves it, which was
+-- written from what the next one has.
+abbrev pub IsLeftFile : BegunParts → CameInParts → List FileParts → List Operation
+    → List Operation → FileParts → Type 0
+IsLeftFile b c files base from f =
     WasRead files f × ((ops_of_book from f.book ≡ ops_of_book (first_of b c).held f.book)
-    ⊎ (ops_of_book from f.book ≡ ops_of_book b.base.held f.book))
+    ⊎ (base ≡ b.base.held) × (ops_of_book from f.book ≡ ops_of_book b.base.held f.book))
     ⊎ IsSyncedFile c.replica.held f × (ops_of_book from f.book ≡ ops_of_book (next_of c) f.book)
 
 -- What is read after a sync was cut short once it put a base: the project, the base and
@@ -116,7 +116,7 @@ pub record IsLeftOf (seen again : SeenParts) (b : BegunParts) (c : CameInParts)
   pub project : ProjectAndBase again b c files base
   pub from : List Operation
   pub next : WrittenFrom again c base from
-  pub each : AllByRecursion (IsLeftFile b c files from) now
+  pub each : AllByRecursion (IsLeftFile b c files base from) now
   pub older : again.older ≡ seen.older
   pub bundles : again.bundles ≡ seen.bundles
 

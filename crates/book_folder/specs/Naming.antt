@@ -1,6 +1,6 @@
 -- How the files of books are named, and which file is which book's as it is written down (this
 -- project's own rule; the numbers are USFM 3.0's and Paratext's).
-use Rattle.std.specs.Prelude.{ℕ, ◌==◌, Bool, true, false, not, ◌&&◌, List, [], ◌∷◌, ◌++◌, take, drop, map, filter, codes}
+use Rattle.std.specs.Prelude.{ℕ, ◌==◌, Bool, true, false, not, ◌&&◌, ◌||◌, List, [], ◌∷◌, ◌++◌, take, drop, map, filter, codes}
 use Rattle.std.specs.Prelude.{Option, None, Some, option_map, unwrap_or, Result, Ok, Err, if◌then◌else◌}
 use Rattle.std.specs.Bool.{beq}
 use Rattle.std.specs.Borrow.{Bor}
@@ -209,15 +209,41 @@ form_of seen files wishes =
 
 -- ---- the names of new files
 
--- the name of a file for a book that has none: the one that was written down, or else as a form
--- makes it
+-- the book whose code a text begins with
+abbrev pub book_at : List ℕ → Option (List ℕ)
+book_at (a ∷ b ∷ c ∷ rest) = if is_book_code (a ∷ b ∷ c ∷ []) then Some (a ∷ b ∷ c ∷ []) else None
+book_at text = None
+
+-- the book whose code a text has after two bytes, as after a number
+abbrev pub book_after_two : List ℕ → Option (List ℕ)
+book_after_two (a ∷ b ∷ rest) = book_at rest
+book_after_two text = None
+
+-- whether a name is the one that a form makes of another book than this one
+abbrev pub is_made_of : FormParts → List ℕ → List ℕ → Option (List ℕ) → Bool
+is_made_of f book name None = false
+is_made_of f book name (Some other) =
+    not (same_bytes other book) && same_bytes (name_by f other) name
+
+-- whether a name is the one that a form makes of some other book
+abbrev pub is_of_another : FormParts → List ℕ → List ℕ → Bool
+is_of_another f book name =
+    is_made_of f book name (book_at name) || is_made_of f book name (book_after_two name)
+
+-- the name that was written down of a book, but not one that a form makes of another book
+abbrev pub own_name : FormParts → List ℕ → Option (List ℕ) → Option (List ℕ)
+own_name f book None = None
+own_name f book (Some name) = if is_of_another f book name then None else Some name
+
+-- the name of a file for a book that has none: the one that was written down of it alone, or else as
+-- a form makes it
 abbrev pub name_for : List NamedParts → FormParts → List ℕ → List ℕ
-name_for names f book = unwrap_or (name_of names book) (name_by f book)
+name_for names f book = unwrap_or (own_name f book (name_of names book)) (name_by f book)
 
 -- a name, unless something stands under it
 abbrev pub free_or : Option Place → List ℕ → Result (List ℕ) Refusal
 free_or None name = Ok name
-free_or (Some place) name = Err (Of place faults.FileChanged)
+free_or (Some place) name = Err (Of place faults.NameTaken)
 
 -- the name of a file for a book that has none, or the refusal of what stands under it
 abbrev pub free_name : SeenParts → FormParts → List ℕ → Result (List ℕ) Refusal

@@ -1,7 +1,7 @@
 -- What was read of a project and a folder, and what a person asks for.
 use Rattle.std.specs.Prelude.{ℕ, Bool, false, List, [], Option, None, map, option_map, string_bytes}
 use Rattle.usfm_ref.specs.Keys.{KeyParts}
-use Rattle.book_folder.specs.declared.seen.Found.{Found}
+use Rattle.book_folder.specs.declared.seen.FoundFile.{FoundFile}
 use Rattle.book_folder.specs.declared.seen.Named.{Named}
 use Rattle.book_folder.specs.declared.seen.Seen.{Seen}
 use Rattle.book_folder.specs.declared.seen.Wanted.{Wanted}
@@ -13,7 +13,7 @@ pub record FoundParts : Type 0 where
   pub bytes : List ℕ
 
 -- a plain file, as a contract sees it
-abbrev pub found_view : Found → FoundParts
+abbrev pub found_view : FoundFile → FoundParts
 found_view f = record { name = f.name.now; bytes = f.bytes.now }
 
 -- a book with the name of its file

@@ -48,7 +48,7 @@ pub(crate) fn come_in(
         (wishes_view wishes.now) (files_view files.now)) result }
 {
     let begun = begin(alloc, seen, wishes)?;
-    let older = older_bases(alloc, begun.base.name(), seen.older)?;
+    let older = older_bases(alloc, begun.base.name(), &earlier_bases(alloc, seen)?)?;
     let begun = rebase_if_stale(alloc, wishes, begun, &older, files)?;
     bundles_come_in(alloc, seen, wishes, &older, files, begun)
 }
@@ -92,10 +92,35 @@ fn bundles_come_in(
     })
 }
 
+// The bases from which files may have been written before the base.
+fn earlier_bases<'a>(alloc: Global, seen: &Seen<'a>) -> Result<Vec<&'a [u8]>, AllocError>
+    ensures { IfOk result (λ made.
+        map (λ b. b.now) made.items ≡ comes.earlier_bases (seen_view seen.now)) }
+{
+    let mut made = Vec::new(alloc);
+    if seen.next.is_some() {
+        push_bases(&mut made, seen.bases)?;
+    }
+    push_bases(&mut made, seen.older)?;
+    Ok(made)
+}
+
+fn push_bases<'a>(made: &mut Vec<&'a [u8]>, bases: &'a [Vec<u8>]) -> Result<(), AllocError>
+    ensures { OnOk result (map (λ b. b.now) made.new.items
+        ≡ map (λ b. b.now) made.old.items ++ map (λ b. b.items) bases.now) }
+{
+    let mut left = bases;
+    'bases: while let [bytes, later @ ..] = left {
+        made.push(bytes.as_slice())?;
+        left = later;
+    }
+    Ok(())
+}
+
 // The older bases, as replicas of a name.
-fn older_bases(alloc: Global, name: ReplicaName, older: &[Vec<u8>]) -> Result<Vec<Replica>, Refusal>
+fn older_bases(alloc: Global, name: ReplicaName, older: &[&[u8]]) -> Result<Vec<Replica>, Refusal>
     ensures { AnswersBy (λ made. made.items)
-        (comes.older_from name 0 [] (map (λ b. b.items) older.now)) result }
+        (comes.older_from name 0 [] (map (λ b. b.now) older.now)) result }
 {
     let mut made = Vec::new(alloc);
     let mut at = 0;

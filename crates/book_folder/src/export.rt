@@ -58,9 +58,9 @@ struct Parted {
 /// - `Bundle` and `Clash` of what the files were written from.
 /// - `NoBook` where the project has no operation of a book that is named.
 /// - `BadForm` where the name that is to say how files are named does not.
-/// - `FileChanged` of what stands where a new file is to be put; and of a file that is not like its
-///   book's text and was changed since it was written, or was written from an operation that the
-///   project does not have.
+/// - `NameTaken` of what stands where a new file is to be put; and `FileChanged` of a file that is
+///   not like its book's text and was changed since it was written, or was written from an operation
+///   that the project does not have.
 /// - `Bundle` and `Clash`, of the project, where no base can be made of what it shows.
 /// - `Memory` where an allocation failed.
 pub fn export_plan<'a>(

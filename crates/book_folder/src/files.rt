@@ -5,7 +5,7 @@ ghost use Rattle.usfm_ref.specs.Books.{same_bytes};
 ghost use Rattle.book_folder.specs.Files as which;
 ghost use Rattle.book_folder.specs.Wanted.{found_view};
 
-use crate::seen::{Found, Seen};
+use crate::seen::{FoundFile, Seen};
 use std::alloc::{AllocError, Global};
 use usfm_ref::Book;
 use usfm_token::{TokenFault, read_text};
@@ -71,7 +71,7 @@ pub(crate) struct BookFile<'a> {
 #[derive(Drop)]
 struct BookFiles<'a> {
     at: usize,
-    left: &'a [Found<'a>],
+    left: &'a [FoundFile<'a>],
     ghost within: { at + length left.now < 2 ^ 64 },
 }
 

@@ -10,7 +10,7 @@ ghost use Rattle.book_folder.specs.Wanted.{found_view, named_view, seen_view};
 use crate::by_book::{put, under};
 use crate::files::BookFile;
 use crate::refusal::{FolderFault, Place, Refusal};
-use crate::seen::{Found, Named, Seen};
+use crate::seen::{FoundFile, Named, Seen};
 use std::alloc::{AllocError, Global};
 use std::collections::BTreeMap;
 use usfm_ref::Book;
@@ -172,7 +172,7 @@ fn put_others<'a>(
 // Puts files over it.
 fn put_files<'a>(
     places: &mut BTreeMap<&'a str, Place>,
-    files: &[Found<'a>],
+    files: &[FoundFile<'a>],
 ) -> Result<(), AllocError>
     ensures { OnOk result (folders.HasFilesOver places.old (map found_view files.now) places.new) }
 {

@@ -43,7 +43,7 @@ pub use likes::{LineEnds, is_like, push_in_line_ends};
 pub use names::read_names;
 pub use plan::{Added, NewFile, Placing, Plan, Step, Told, make_plan};
 pub use refusal::{FolderFault, Place, Refusal};
-pub use seen::{Found, Named, Seen, Wanted, Wishes};
+pub use seen::{FoundFile, Named, Seen, Wanted, Wishes};
 pub use settling::{SettlingStep, Unsettled, settling_steps};
 pub use standing::{ChangedFile, LeftOut, Standing, folder_standing};
 pub use team_box::{BoxFile, box_file, may_be_bundle};

@@ -252,13 +252,13 @@ pub(crate) fn free_name(
 {
     let name = name_for(alloc, folder, form, book)?;
     match folder.place_of(&name) {
-        Some(place) => Err(Refusal::Of(place, FolderFault::FileChanged)),
+        Some(place) => Err(Refusal::Of(place, FolderFault::NameTaken)),
         None => Ok(name),
     }
 }
 
-// The name of the file of a book that has none: the one that was written down; else a new one, as a
-// form has it.
+// The name of the file of a book that has none: the one that was written down of it alone; else a
+// new one, as a form has it. So no two new files get one name.
 fn name_for(
     alloc: Global,
     folder: &FolderIndex<'_, '_>,
@@ -269,9 +269,58 @@ fn name_for(
         IfOk result (λ name.
         string_bytes name ≡ naming.name_for names (naming.form_view form.now) book) }
 {
-    match folder.name_of(book) {
-        Some(name) => String::from_str(alloc, name),
-        None => name_by(alloc, form, book),
+    if let Some(name) = folder.name_of(book) {
+        if !is_of_another(alloc, form, book, name)? {
+            return String::from_str(alloc, name);
+        }
+    }
+    name_by(alloc, form, book)
+}
+
+// Whether a name is the one that a form makes of another book.
+fn is_of_another(alloc: Global, form: &Form<'_>, book: Book, name: &str) -> Result<bool, AllocError>
+    ensures { IfOk result (λ is. is
+        ≡ naming.is_of_another (naming.form_view form.now) book name.now) }
+{
+    let bytes = name.as_bytes();
+    let is_first = is_made_of(alloc, form, book, name, book_at(bytes))?;
+    Ok(is_first || is_made_of(alloc, form, book, name, book_after_two(bytes))?)
+}
+
+// Whether a name is the one that a form makes of another book than this one.
+fn is_made_of(
+    alloc: Global,
+    form: &Form<'_>,
+    book: Book,
+    name: &str,
+    other: Option<Book>,
+) -> Result<bool, AllocError>
+    ensures { IfOk result (λ is. is
+        ≡ naming.is_made_of (naming.form_view form.now) book name.now other) }
+{
+    match other {
+        Some(other) if other != book => Ok(name_by(alloc, form, other)?.as_str() == name),
+        _ => Ok(false),
+    }
+}
+
+// The book whose code a text begins with.
+fn book_at(text: &[u8]) -> Option<Book>
+    ensures { result ≡ naming.book_at text.now }
+{
+    match text {
+        [a, b, c, ..] => Book::of_code([*a, *b, *c]),
+        _ => None,
+    }
+}
+
+// The book whose code a text has after two bytes, as after a number.
+fn book_after_two(text: &[u8]) -> Option<Book>
+    ensures { result ≡ naming.book_after_two text.now }
+{
+    match text {
+        [_, _, rest @ ..] => book_at(rest),
+        _ => None,
     }
 }
 

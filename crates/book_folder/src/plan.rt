@@ -127,7 +127,7 @@ pub struct Told {
 ///   not known to be written from the base, of a book that the project has, where it is not like
 ///   the book's text.
 /// - `BadForm` where the name that is to say how files are named does not.
-/// - `FileChanged` of what stands where a new file is to be put.
+/// - `NameTaken` of what stands where a new file is to be put.
 /// - `Bundle` and `Clash`, of the project, where no base can be made of what the files have.
 /// - `Memory` where an allocation failed.
 pub fn make_plan<'a>(alloc: Global, seen: &Seen<'a>, wishes: &'a Wishes) -> Result<Plan, Refusal>

@@ -20,7 +20,7 @@ pub enum Place {
     Base(usize),
     /// The base that was being written.
     Next,
-    /// A base before the base.
+    /// A base before the base: where a next one stands, the bases come first.
     Older(usize),
     /// A bundle that is given.
     Bundle(usize),
@@ -50,6 +50,9 @@ pub enum FolderFault {
     /// A file was changed since the program wrote it, or is no longer its book's.
     #[error("the file was changed since it was written")]
     FileChanged,
+    /// Something stands under the name that a book's new file is to get.
+    #[error("something stands under the name of a new file")]
+    NameTaken,
     /// A file is a second one of its book, of which the file of this place is another one.
     #[error("the folder has another file of the same book")]
     SecondOf(usize),

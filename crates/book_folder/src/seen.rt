@@ -7,7 +7,7 @@ use usfm_ref::{Book, Key};
 
 /// A plain file of a folder whose name may be that of a book's file.
 #[derive(Clone, Copy, Debug)]
-pub struct Found<'a> {
+pub struct FoundFile<'a> {
     /// Its name in the folder.
     pub name: &'a str,
     /// Its bytes.
@@ -32,7 +32,7 @@ pub struct Seen<'a> {
     pub bases: &'a [Vec<u8>],
     /// The base that was being written when a command was cut short.
     pub next: Option<&'a [u8]>,
-    /// The bases before the base, the newest first.
+    /// The older bases before the base, the newest first.
     pub older: &'a [Vec<u8>],
     /// The books of which a new file stands in the program's folder, as a command that was cut
     /// short left it.
@@ -40,7 +40,7 @@ pub struct Seen<'a> {
     /// The names of the books' files as they were written down, in the order of books.
     pub names: &'a [Named],
     /// The plain files whose names may be those of books' files, in the order of their names.
-    pub files: &'a [Found<'a>],
+    pub files: &'a [FoundFile<'a>],
     /// The names of what else stands under such names.
     pub others: &'a [&'a str],
     /// The bundles that are given.

@@ -12,7 +12,7 @@ use crate::files::book_files;
 use crate::folder::FolderIndex;
 use crate::plan::{Added, Plan, make_plan};
 use crate::refusal::{FolderFault, Place, Refusal};
-use crate::seen::{Found, Seen, Wishes};
+use crate::seen::{FoundFile, Seen, Wishes};
 use std::alloc::{AllocError, Global};
 
 // How many things are left out at most that a sync would refuse.
@@ -49,7 +49,7 @@ pub struct Standing {
 #[derive(Debug, Drop)]
 struct Remaining<'a> {
     seen: Seen<'a>,
-    files: Vec<Found<'a>>,
+    files: Vec<FoundFile<'a>>,
     others: Vec<&'a str>,
     left_out: Vec<LeftOut>,
 }
@@ -183,12 +183,12 @@ fn leave_out(remaining: &mut Remaining<'_>, refusal: Refusal) -> Result<(), Refu
 }
 
 // Has no file stand in a place.
-fn clear_file(files: &mut Vec<Found<'_>>, at: usize)
+fn clear_file(files: &mut Vec<FoundFile<'_>>, at: usize)
     ensures { map found_view files.new.items
         ≡ slice_set (map found_view files.old.items) at stand.no_file }
 {
     if at < files.len() {
-        files[at] = Found {
+        files[at] = FoundFile {
             name: "",
             bytes: b"",
         };

@@ -6,7 +6,7 @@ use Rattle.bundle_codec.specs.Spelling.{bundle}
 use Rattle.project_file.specs.Projects.{magic, project, project_at}
 use Rattle.replica_state.specs.States.{State, IsState}
 use Rattle.book_folder.specs.Begun.{BegunParts, begun_with}
-use Rattle.book_folder.specs.Coming.{CameInParts, all_came, bundles_begun, bundles_come_in, comes_in, in_turn, none_taken, older_from, rebased_if_stale, taken_all, AllTaken}
+use Rattle.book_folder.specs.Coming.{AllTaken, CameInParts, all_came, bundles_begun, bundles_come_in, comes_in, earlier_bases, in_turn, none_taken, older_from, rebased_if_stale, taken_all}
 use Rattle.book_folder.specs.CutDisk.{IsReadAgain, IsWholeSync}
 use Rattle.book_folder.specs.Disks.{DiskParts}
 use Rattle.book_folder.specs.Files.{are_of_one_book, clear_files, clear_or, FileParts, files_from, unclear}
@@ -66,9 +66,9 @@ pub came_by : (seen : SeenParts) (wishes : WishParts) (s : State) (b : BegunPart
     → comes_in seen wishes files ≡ Ok c → CameBy seen wishes s b c files
 came_by seen wishes s b c files state bytes is fresh begins came =
     let g = begins_along s seen wishes b state bytes.bases bytes.next is begins in
-    let o = then_ok (older_from b.base.name 0 [] seen.older)
+    let o = then_ok (older_from b.base.name 0 [] (earlier_bases seen))
     (λ older. rebased_if_stale wishes b older files >>= λ b. bundles_come_in seen wishes older (in_turn b.base.held files) b) c
-    (sym (ap (λ r. r >>= λ b. older_from b.base.name 0 [] seen.older >>= λ older. rebased_if_stale wishes b older files >>= λ b.
+    (sym (ap (λ r. r >>= λ b. older_from b.base.name 0 [] (earlier_bases seen) >>= λ older. rebased_if_stale wishes b older files >>= λ b.
     bundles_come_in seen wishes older (in_turn b.base.held files) b) begins) ∙ came) in
     let come : bundles_come_in seen wishes o.0 (in_turn b.base.held files) b ≡ Ok c =
     sym (ap (λ w. cond w (rebased b o.0 files) (Ok b) >>= λ b. bundles_come_in seen wishes o.0 (in_turn b.base.held files) b) fresh)

@@ -1,6 +1,7 @@
 -- Cut short once it put a base, a sync is done again.
-use Rattle.std.proofs.Common.{◌≡◌, ◌<◌, ◌^◌, inl, inr, ℕ, true, false, cond, not, List, [], ◌∷◌, ◌++◌, filter, length, Ok, refl, sym, ap, subst, ◌∙◌, append-nil}
+use Rattle.std.proofs.Common.{◌≡◌, ◌<◌, ◌^◌, inl, inr, ℕ, true, false, cond, not, List, [], ◌∷◌, ◌++◌, filter, length, None, Option, Some, Ok, refl, sym, ap, subst, ◌∙◌, append-nil}
 use Rattle.std.specs.List.{AllByRecursion, IsDistinct}
+use Rattle.std.specs.Option.{is_some}
 use Rattle.op_core.specs.Export.{has_book}
 use Rattle.op_core.specs.OneBook.{ops_of_book}
 use Rattle.op_core.specs.Ops.{Operation}
@@ -8,17 +9,24 @@ use Rattle.op_core.proofs.Sets.NoClash.{no_clash}
 use Rattle.bundle_codec.specs.Reading.{AreBytes}
 use Rattle.bundle_codec.specs.Spelling.{bundle}
 use Rattle.project_file.proofs.Files.{project_is}
-use Rattle.replica_state.specs.States.{State, IsState}
+use Rattle.verse_cut.specs.Pieces.{PieceParts}
+use Rattle.replica_state.specs.States.{State, IsState, begun}
+use Rattle.replica_state.specs.Steps.{with_ops}
+use Rattle.book_folder.specs.Asks.{emptied, undone}
+use Rattle.book_folder.specs.Bases.{next_base}
 use Rattle.book_folder.specs.Begun.{BegunParts}
-use Rattle.book_folder.specs.Coming.{AllTaken, CameInParts, added_by, all_came, all_taken, bundles_begun, bundles_come_in, in_turn, none_taken, older_from, rebased_if_stale, taken_all}
-use Rattle.book_folder.specs.DoneAgain.{CutShortIsDoneAgain, IsDoneAgain, IsLeftFile, IsLeftOf, IsReadAlike, WasRead, first_of, next_of}
+use Rattle.book_folder.specs.Coming.{AllTaken, CameInParts, added_by, all_came, all_taken, bundles_begun, bundles_come_in, earlier_bases, in_turn, none_taken, older_from, rebased_if_stale, taken_all}
+use Rattle.book_folder.specs.DoneAgain.{BaseStands, CutShortIsDoneAgain, IsDoneAgain, IsLeftFile, IsLeftOf, IsReadAlike, WasRead, WrittenFrom, first_of, next_of}
 use Rattle.book_folder.specs.Files.{FileParts, are_of_one_book}
+use Rattle.book_folder.specs.Plans.{headless}
 use Rattle.book_folder.specs.ReadAgain.{pieces_by}
 use Rattle.book_folder.specs.Refusals.{◌>>=◌, Stepped, stepped}
 use Rattle.book_folder.specs.Stale.{rebased}
 use Rattle.book_folder.specs.Taking.{StoodParts, stood_of, taken_in}
 use Rattle.book_folder.specs.Wanted.{SeenParts, WishParts}
+use Rattle.book_folder.specs.declared.refusal.Place.TheVariants as places
 use Rattle.book_folder.proofs.CutShort.BaseReceived.{IsReceived, base_received}
+use Rattle.book_folder.proofs.CutShort.Earlier.{AreBehind, AskNoMore, fewer, older_are_last, one_more, unasked_by, with_place}
 use Rattle.book_folder.proofs.CutShort.NewFiles.{of_one}
 use Rattle.book_folder.proofs.CutShort.OneBase.{all_in_turn}
 use Rattle.book_folder.proofs.CutShort.Over.{beside, come_over}
@@ -65,7 +73,7 @@ turns_are base files h = (λ i. kept files h i ++ none files h i) ∙ append-nil
 
 module _ (own : State) (seen again : SeenParts) (wishes : WishParts) (files now : List FileParts) (older : List State) (b : BegunParts)
     (r : Stepped State (List ℕ)) (all : AllTaken)
-    (y : CutSync own seen again wishes files now older b r all) where
+    (y : CutSync own seen again wishes files now older b r all) (old : older_from b.base.name 0 [] (earlier_bases seen) ≡ Ok older) where
   abbrev s : State
   s = all.after
 
@@ -81,8 +89,62 @@ module _ (own : State) (seen again : SeenParts) (wishes : WishParts) (files now 
   abbrev base_now : State
   base_now = record { name = begins.name; held = y.left.from }
 
+  -- ---- the bases before the base
+
+  -- what is read of them then; where the base before stands, that asks nothing more
+  earlier : (others : List State) × (older_from b.base.name 0 [] (earlier_bases again) ≡ Ok others)
+      × (y.left.base ≡ b.base.held → (book : List ℕ) → AskNoMore b.base.held older others book)
+  earlier = by y.left.next
+    where
+      name : List ℕ
+      name = b.base.name
+
+      front : List State
+      front = (older_are_last name seen older old).0
+
+      last : AreBehind name front seen.older older
+      last = (older_are_last name seen older old).1
+
+      asked_before : (own book : List ℕ) (pieces : List PieceParts) → undone older b.base.held own book pieces ≡ None
+          → undone (front ++ last.behind) b.base.held own book pieces ≡ None
+      asked_before own book pieces e =
+          subst (λ (states : List State). undone states b.base.held own book pieces ≡ None) last.are e
+
+      Earlier : Type 0
+      Earlier = (others : List State) × (older_from name 0 [] (earlier_bases again) ≡ Ok others)
+          × (y.left.base ≡ b.base.held → (book : List ℕ) → AskNoMore b.base.held older others book)
+
+      -- the older ones alone
+      alone : earlier_bases again ≡ again.older → Earlier
+      alone is = (
+        last.behind,
+        ap (older_from name 0 []) (is ∙ y.left.older) ∙ last.again 0 [],
+        λ same book own pieces e. fewer b.base.held front last.behind book own pieces (asked_before own book pieces e),
+      )
+
+      -- the base beside the next one
+      beside_next : (next : List ℕ) → again.next ≡ Some next → BaseStands again y.left.base → Earlier
+      beside_next next there (inl one) = (
+        with_ops (begun name) y.left.base ∷ last.behind,
+        (λ i. older_from name 0 [] (cond (is_some (there i)) (one.1 i ++ y.left.older i) (y.left.older i)))
+            ∙ ap (λ r. r >>= λ t. older_from name 1 (t ∷ []) seen.older) (with_place name (places.Older 0) one.0 y.left.base one.2)
+            ∙ last.again 1 (with_ops (begun name) y.left.base ∷ []),
+        λ same book own pieces e.
+            ap (λ (ops : List Operation). undone (with_ops (begun name) ops ∷ last.behind) b.base.held own book pieces) same
+            ∙ one_more name b.base.held front last.behind book y.begun.base.set.rising own pieces (asked_before own book pieces e),
+      )
+      beside_next next there (inr none) =
+          alone (λ i. cond (is_some (there i)) (none.0 i ++ again.older) again.older)
+
+      by : WrittenFrom again c y.left.base y.left.from → Earlier
+      by (inl one) = alone (ap (λ n. cond (is_some n) (again.bases ++ again.older) again.older) one.0)
+      by (inr both) = beside_next (next_base (headless s.held) s.held) both.0 y.left.bases
+
+  abbrev others : List State
+  others = earlier.0
+
   abbrev On : FileParts → Type 0
-  On f = StaysOn s base_now older wishes f
+  On f = StaysOn s base_now others wishes f
 
   -- a file that was read, under whatever name
   module _ (f : FileParts) (was : WasRead files f) where
@@ -102,53 +164,61 @@ module _ (own : State) (seen again : SeenParts) (wishes : WishParts) (files now 
     by_first : ops_of_book y.left.from f.book ≡ ops_of_book (first_of b c).held f.book → On f
     by_first of stood = (
       stood,
-      other_books_say_nothing s base_now (first_of b c) older wishes stood f of
-          ∙ subst (λ (g : FileParts). taken_in s (first_of b c) older wishes stood g
+      other_books_say_nothing s base_now (first_of b c) others wishes stood f of
+          ∙ subst (λ (g : FileParts). taken_in s (first_of b c) others wishes stood g
           ≡ Ok (record { after = s; stood = stood; count = 0 })) same
-          (read_again_nothing_comes_in s b.base older wishes all.stood stood here state y.begun.base
+          (read_again_nothing_comes_in s b.base others wishes all.stood stood here state y.begun.base
           (no_clash s.held b.base.held y.begun.base.set.rising (has_base own seen again wishes files now older b r all y).agrees) known.text
           (record { begun = known.begun; shown = taken.shown; written = taken.written; lines = known.lines }) known.manner y.unsettled),
     )
 
     -- by the base before
-    by_own : ops_of_book y.left.from f.book ≡ ops_of_book b.base.held f.book → On f
-    by_own of stood =
+    by_own : y.left.base ≡ b.base.held → ops_of_book y.left.from f.book ≡ ops_of_book b.base.held f.book → On f
+    by_own stands of stood =
         let more = stood ++ stood_of s.held b.base.held here.book (pieces_by b.base here) in (
           more,
-          other_books_say_nothing s base_now b.base older wishes stood f of
-              ∙ subst (λ (g : FileParts). taken_in s b.base older wishes stood g
+          other_books_say_nothing s base_now b.base others wishes stood f of
+              ∙ subst (λ (g : FileParts). taken_in s b.base others wishes stood g
               ≡ Ok (record { after = s; stood = more; count = 0 })) same
-              (own_stays s b.base older wishes here all state refl y.unsettled known.known known.text
-              (record { shown = taken.shown; written = taken.written; unchanged = taken.unchanged; unasked = taken.unasked }) stood),
+              (own_stays s b.base others wishes here all state refl y.unsettled known.known known.text (record {
+                shown = taken.shown;
+                written = taken.written;
+                unchanged = taken.unchanged;
+                unasked =
+                    unasked_by wishes (undone older b.base.held s.name here.book (pieces_by b.base here))
+                    (undone others b.base.held s.name here.book (pieces_by b.base here))
+                    (emptied b.base.held here.book (pieces_by b.base here))
+                    (earlier.2 stands here.book s.name (pieces_by b.base here)) taken.unasked;
+              }) stood),
         )
 
-  file_stays : (f : FileParts) → IsLeftFile b c files y.left.from f → On f
+  file_stays : (f : FileParts) → IsLeftFile b c files y.left.base y.left.from f → On f
   file_stays f (inl (was, inl of)) = by_first f was of
-  file_stays f (inl (was, inr of)) = by_own f was of
+  file_stays f (inl (was, inr of)) = by_own f was of.0 of.1
   file_stays f (inr h) = λ stood. (
     stood,
-    other_books_say_nothing s base_now (base_of s) older wishes stood f h.1
-        ∙ synced_not_taken s state f h.0 older wishes stood y.unsettled,
+    other_books_say_nothing s base_now (base_of s) others wishes stood f h.1
+        ∙ synced_not_taken s state f h.0 others wishes stood y.unsettled,
   )
 
-  files_stay : (fs : List FileParts) → AllByRecursion (IsLeftFile b c files y.left.from) fs → AllByRecursion On fs
+  files_stay : (fs : List FileParts) → AllByRecursion (IsLeftFile b c files y.left.base y.left.from) fs → AllByRecursion On fs
   files_stay [] h = tt
   files_stay (f ∷ fs) h = (file_stays f h.0, files_stay fs h.1)
 
   -- ---- all of it
 
-  done : older_from b.base.name 0 [] seen.older ≡ Ok older → wishes.stale ≡ false → IsDoneAgain again wishes now c
-  done old fresh = record {
+  done : wishes.stale ≡ false → IsDoneAgain again wishes now c
+  done fresh = record {
     came = all_came again next over.0 (none_taken s come.0);
     comes =
-        ap (λ r. r >>= λ c. older_from c.base.name 0 [] again.older >>= λ old. rebased_if_stale wishes c old now >>= λ c.
+        ap (λ r. r >>= λ c. older_from c.base.name 0 [] (earlier_bases again) >>= λ old. rebased_if_stale wishes c old now >>= λ c.
         bundles_come_in again wishes old (in_turn c.base.held now) c) begins.begins
         ∙ ap (λ r. r >>= λ old. rebased_if_stale wishes next old now >>= λ c.
         bundles_come_in again wishes old (in_turn c.base.held now) c)
-        ((λ i. older_from (begins.named i) 0 [] (y.left.older i)) ∙ old)
-        ∙ ap (λ w. cond w (rebased next older now) (Ok next) >>= λ c.
-        bundles_come_in again wishes older (in_turn c.base.held now) c) fresh
-        ∙ ap (λ r. r >>= λ r. taken_all base_now older wishes (none_taken r.after []) (in_turn y.left.from now) >>= λ all.
+        (ap (λ (name : List ℕ). older_from name 0 [] (earlier_bases again)) begins.named ∙ earlier.1)
+        ∙ ap (λ w. cond w (rebased next others now) (Ok next) >>= λ c.
+        bundles_come_in again wishes others (in_turn c.base.held now) c) fresh
+        ∙ ap (λ r. r >>= λ r. taken_all base_now others wishes (none_taken r.after []) (in_turn y.left.from now) >>= λ all.
         Ok (all_came again next r.made all)) bundles
         ∙ ap (λ r. r >>= λ all. Ok (all_came again next over.0 all))
         come.1;
@@ -159,9 +229,11 @@ module _ (own : State) (seen again : SeenParts) (wishes : WishParts) (files now 
       next : BegunParts
       next = record { replica = begins.project; base = base_now; held = begins.held }
 
-      come : (more : List StoodParts) × (taken_all base_now older wishes (none_taken s []) (in_turn y.left.from now)
+      come : (more : List StoodParts) × (taken_all base_now others wishes (none_taken s []) (in_turn y.left.from now)
           ≡ Ok (none_taken s more))
-      come = none_come_on s base_now older wishes (in_turn y.left.from now) [] (all_in_turn On y.left.from now (files_stay now y.left.each))
+      come =
+          none_come_on s base_now others wishes (in_turn y.left.from now) []
+          (all_in_turn On y.left.from now (files_stay now y.left.each))
 
       x : List Operation
       x = begins.ready.beyond
@@ -194,7 +266,7 @@ module _ (own : State) (seen again : SeenParts) (wishes : WishParts) (files now 
   -- by the parts of the whole sync
   by_parts : (older : List State) (r : Stepped State (List ℕ)) (all : AllTaken) (c : CameInParts) → all_came seen b r.made all ≡ c
       → length (bundle (first_of b c).held) < 2 ^ 64 → length (bundle (next_of c)) < 2 ^ 64
-      → older_from b.base.name 0 [] seen.older ≡ Ok older → bundles_begun wishes.joined b.replica seen.bundles ≡ Ok r
+      → older_from b.base.name 0 [] (earlier_bases seen) ≡ Ok older → bundles_begun wishes.joined b.replica seen.bundles ≡ Ok r
       → taken_all b.base older wishes (none_taken r.after []) (in_turn b.base.held files) ≡ Ok all
       → AllByRecursion (IsReadAlike b.base (first_of b c)) files → IsLeftOf seen again b c files now → IsDoneAgain again wishes now c
   by_parts older r all c same short small old got taken each left =
@@ -230,9 +302,9 @@ cut_short_is_done_again seen again wishes files now own b c bytes is short small
     let state = (project_is seen.project own bytes.project is).valid in
     let start = (begins_along own seen wishes b state bytes.bases bytes.next is begins).along in
     let begun = base_received seen wishes own b state bytes.bases bytes.next is begins in
-    let o = then_ok (older_from b.base.name 0 [] seen.older)
+    let o = then_ok (older_from b.base.name 0 [] (earlier_bases seen))
     (λ older. rebased_if_stale wishes b older files >>= λ b. bundles_come_in seen wishes older (in_turn b.base.held files) b) c
-    (sym (ap (λ r. r >>= λ b. older_from b.base.name 0 [] seen.older >>= λ older. rebased_if_stale wishes b older files >>= λ b.
+    (sym (ap (λ r. r >>= λ b. older_from b.base.name 0 [] (earlier_bases seen) >>= λ older. rebased_if_stale wishes b older files >>= λ b.
     bundles_come_in seen wishes older (in_turn b.base.held files) b) begins) ∙ came) in
     let older : List State = o.0 in
     let come : bundles_come_in seen wishes older (in_turn b.base.held files) b ≡ Ok c =

@@ -15,7 +15,7 @@ use Rattle.replica_state.specs.States.{State, IsState}
 use Rattle.book_folder.specs.Bases.{next_base, other_than, shown_in_files, shows}
 use Rattle.book_folder.specs.Begun.{BegunParts, begun_alone, begun_with, is_one_of, project_or, with_bases, with_next}
 use Rattle.book_folder.specs.CutLate.{CutLateNothingComesIn, IsCutLate, IsPutOrWaits, nothing_more}
-use Rattle.book_folder.specs.Coming.{all_came, bundles_come_in, comes_in, in_turn, none_taken, older_from, rebased_if_stale, taken_all}
+use Rattle.book_folder.specs.Coming.{all_came, bundles_come_in, comes_in, earlier_bases, in_turn, none_taken, older_from, rebased_if_stale, taken_all}
 use Rattle.book_folder.specs.Files.{FileParts}
 use Rattle.book_folder.specs.Plans.{headless}
 use Rattle.book_folder.specs.Refusals.{◌>>=◌}
@@ -118,7 +118,7 @@ module _ (seen : SeenParts) (wishes : WishParts) (files : List FileParts) (older
 
   late : comes_in seen wishes files ≡ Ok (nothing_more seen s mixed)
   late =
-      ap (λ r. r >>= λ b. older_from b.base.name 0 [] seen.older >>= λ old. rebased_if_stale wishes b old files >>= λ c.
+      ap (λ r. r >>= λ b. older_from b.base.name 0 [] (earlier_bases seen) >>= λ old. rebased_if_stale wishes b old files >>= λ c.
       bundles_come_in seen wishes old (in_turn c.base.held files) c) begins
       ∙ ap (λ r. r >>= λ old. rebased_if_stale wishes (next_of mixed) old files >>= λ c.
       bundles_come_in seen wishes old (in_turn c.base.held files) c) cut.old

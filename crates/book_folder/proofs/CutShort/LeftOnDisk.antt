@@ -163,12 +163,14 @@ module _ (cut : CutRead) where
       cut.y.manner cut.seen.files cut.again.files keeps cut.x.distinct files_are known others)
 
   -- each was written from what its book has in what is read again
-  pub left_each : (from ops : List Operation) (keeps : List ℕ → Bool) → (ops ≡ first) ⊎ (ops ≡ cut.b.base.held)
+  pub left_each : (base from ops : List Operation) (keeps : List ℕ → Bool)
+      → (ops ≡ first) ⊎ (base ≡ cut.b.base.held) × (ops ≡ cut.b.base.held)
       → ((book : List ℕ) → ops_of_book from book ≡ cond (keeps book) (ops_of_book ops book) (ops_of_book next book))
-      → AllByRecursion (IsKeptOrSynced held files keeps) cut.now → AllByRecursion (IsLeftFile cut.b cut.c files from) cut.now
-  left_each from ops keeps which of h = weaker (IsKeptOrSynced held files keeps) (IsLeftFile cut.b cut.c files from) on cut.now h
+      → AllByRecursion (IsKeptOrSynced held files keeps) cut.now → AllByRecursion (IsLeftFile cut.b cut.c files base from) cut.now
+  left_each base from ops keeps which of h =
+      weaker (IsKeptOrSynced held files keeps) (IsLeftFile cut.b cut.c files base from) on cut.now h
     where
-      on : (f : FileParts) → IsKeptOrSynced held files keeps f → IsLeftFile cut.b cut.c files from f
+      on : (f : FileParts) → IsKeptOrSynced held files keeps f → IsLeftFile cut.b cut.c files base from f
       on f (inl k) =
           let is : ops_of_book from f.book ≡ ops_of_book ops f.book =
           of f.book ∙ ap (λ r. cond r (ops_of_book ops f.book) (ops_of_book next f.book)) k.1 in
@@ -176,7 +178,7 @@ module _ (cut : CutRead) where
             k.0,
             elim which [
               | inl same ↦ inl (is ∙ ap (λ (xs : List Operation). ops_of_book xs f.book) same)
-              | inr same ↦ inr (is ∙ ap (λ (xs : List Operation). ops_of_book xs f.book) same)
+              | inr same ↦ inr (same.0, is ∙ ap (λ (xs : List Operation). ops_of_book xs f.book) same.1)
             ],
           )
       on f (inr k) = inr (k.0, of f.book ∙ ap (λ r. cond r (ops_of_book ops f.book) (ops_of_book next f.book)) k.1)
@@ -237,7 +239,7 @@ module _ (cut : CutRead) where
 
   -- of what is left once a base was put
   pub by_left : (ops from : List Operation) → BaseStands cut.again ops → ProjectAndBase cut.again cut.b cut.c files ops
-      → WrittenFrom cut.again cut.c ops from → AllByRecursion (IsLeftFile cut.b cut.c files from) cut.now → Same
+      → WrittenFrom cut.again cut.c ops from → AllByRecursion (IsLeftFile cut.b cut.c files ops from) cut.now → Same
   by_left ops from bases project written each =
       let r = cut_short_is_done_again cut.seen cut.again cut.wishes files cut.now cut.s cut.b cut.c cut.y.bytes cut.y.is cut.y.first
       cut.y.next cut.unsettled cut.fresh cut.joined cut.y.begun came

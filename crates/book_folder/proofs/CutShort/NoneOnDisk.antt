@@ -53,26 +53,26 @@ module _ (cut : CutRead) where
         pick (inl k) (inl none) =
             let there : cut.e.base ≡ Some (bundle next) = is ∙ ap Some k.1 in
             by_left cut next next (base_stands cut next (next_within cut) there) (project next (inr refl)) (alone cut next none)
-            (left_each cut next first (λ book. false) (inl refl) (λ book. refl)
+            (left_each cut next next first (λ book. false) (inl refl) (λ book. refl)
             (each_left cut (λ book. false) (unput (λ book. false)) (none_made k.0 (λ book. false))))
         pick (inl k) (inr ready) =
             let there : cut.e.base ≡ Some (bundle next) = is ∙ ap Some k.1 in
             by_left cut next (by_next cut next) (base_stands cut next (next_within cut) there) (project next (inr refl))
             (beside cut next (next_within cut) ready.0)
-            (left_each cut (by_next cut next) first (λ book. false) (inl refl)
+            (left_each cut next (by_next cut next) first (λ book. false) (inl refl)
             (λ book. settled_each cut next (next_within cut) book
             ∙ same_cond (is_one_of cut.again.unplaced book) (ops_of_book next book))
             (each_left cut (λ book. false) (unput (λ book. false)) (none_made k.0 (λ book. false))))
         pick (inr k) (inl none) =
             let there : cut.e.base ≡ Some (bundle first) = is ∙ ap Some k in
             by_left cut first first (base_stands cut first (first_within cut) there) (project first (inl refl)) (alone cut first none)
-            (left_each cut first first (λ book. true) (inl refl) (λ book. refl)
+            (left_each cut first first first (λ book. true) (inl refl) (λ book. refl)
             (each_left cut (λ book. true) (unput (λ book. true)) (λ n there. inl refl)))
         pick (inr k) (inr ready) =
             let there : cut.e.base ≡ Some (bundle first) = is ∙ ap Some k in
             by_left cut first (by_next cut first) (base_stands cut first (first_within cut) there) (project first (inl refl))
             (beside cut first (first_within cut) ready.0)
-            (left_each cut (by_next cut first) first (λ book. is_one_of cut.again.unplaced book) (inl refl)
+            (left_each cut first (by_next cut first) first (λ book. is_one_of cut.again.unplaced book) (inl refl)
             (settled_each cut first (first_within cut))
             (each_left cut (λ book. is_one_of cut.again.unplaced book) (unput (λ book. is_one_of cut.again.unplaced book))
             (waits_kept ready.1)))
@@ -117,7 +117,8 @@ module _ (cut : CutRead) where
     by_own project k there waits =
         by_left cut cut.b.base.held (by_next cut cut.b.base.held) (own_stands (settled_is k))
         (inl (project, inr (cut.y.whole, inr (refl, next_is cut there)))) (beside cut cut.b.base.held (base_within cut) there)
-        (left_each cut (by_next cut cut.b.base.held) cut.b.base.held (λ book. is_one_of cut.again.unplaced book) (inr refl)
+        (left_each cut cut.b.base.held (by_next cut cut.b.base.held) cut.b.base.held (λ book. is_one_of cut.again.unplaced book)
+        (inr (refl, refl))
         (settled_each cut cut.b.base.held (base_within cut))
         (each_left cut (λ book. is_one_of cut.again.unplaced book) (unput (λ book. is_one_of cut.again.unplaced book)) (waits_kept waits)))
 

@@ -42,7 +42,7 @@ module _ (cut : CutRead) where
       let there : cut.e.base ≡ Some (bundle first) = h.base ∙ ap Some (is_first h.one h.among) in
       by_left cut first (by_next cut first) (base_stands cut first (first_within cut) there) (inr (all_is cut h.project, inl refl))
       (beside cut first (first_within cut) h.next)
-      (left_each cut (by_next cut first) first keeps (inl refl) (settled_each cut first (first_within cut))
+      (left_each cut first (by_next cut first) first keeps (inl refl) (settled_each cut first (first_within cut))
       (each_left cut keeps known others))
     where
       keeps : List ℕ → Bool
@@ -99,7 +99,7 @@ module _ (cut : CutRead) where
         gone : cut.e.next ≡ None → Same cut
         gone none =
             by_left cut mixed mixed stands all_stands (alone cut mixed none)
-            (left_each cut mixed first keeps (inl refl) mixed_books (each_left cut keeps known others))
+            (left_each cut mixed mixed first keeps (inl refl) mixed_books (each_left cut keeps known others))
           where
             keeps : List ℕ → Bool
             keeps book = is_one_of h.left book
@@ -119,7 +119,7 @@ module _ (cut : CutRead) where
         still : cut.e.next ≡ Some (put cut).next → AllKnown cut.e cut.made → Same cut
         still is all =
             by_left cut mixed (by_next cut mixed) stands all_stands (beside cut mixed (mixed_within cut h.left) is)
-            (left_each cut (by_next cut mixed) first keeps (inl refl)
+            (left_each cut mixed (by_next cut mixed) first keeps (inl refl)
             (λ book. settled_each cut mixed (mixed_within cut h.left) book
             ∙ ap (λ ops. cond (is_one_of cut.again.unplaced book) ops (ops_of_book next book)) (mixed_books book)
             ∙ twice (is_one_of cut.again.unplaced book) (is_one_of h.left book) (ops_of_book first book) (ops_of_book next book))

@@ -1,6 +1,7 @@
 -- Cut short before it put a base of its own, once the project has what the bases brought, a sync is done again.
-use Rattle.std.proofs.Common.{◌≡◌, inl, inr, ℕ, suc, ◌-◌, nat_eq, Bool, true, false, cond, ◌&&◌, not, List, [], ◌∷◌, length, Option, Some, None, Ok, refl, sym, ap, subst, ◌∙◌, arith}
+use Rattle.std.proofs.Common.{◌≡◌, inl, inr, ℕ, suc, ◌-◌, nat_eq, Bool, true, false, cond, ◌&&◌, not, List, [], ◌∷◌, ◌++◌, length, Option, Some, None, Ok, refl, sym, ap, subst, ◌∙◌, arith}
 use Rattle.std.specs.List.{AllByRecursion}
+use Rattle.std.specs.Option.{is_some}
 use Rattle.std.proofs.lemmas.Bool.{cond-true, eq-eqb, false_from_ne_true, false≢true}
 use Rattle.op_core.specs.Ops.{Operation}
 use Rattle.op_core.specs.Sets.{join}
@@ -12,10 +13,12 @@ use Rattle.bundle_codec.specs.Joining.{whole_at}
 use Rattle.bundle_codec.specs.Reading.{AreBytes}
 use Rattle.project_file.specs.Projects.{project}
 use Rattle.project_file.proofs.Files.{project_is}
-use Rattle.replica_state.specs.States.{State, IsState}
+use Rattle.replica_state.specs.States.{State, IsState, begun}
+use Rattle.replica_state.specs.Steps.{with_ops}
+use Rattle.book_folder.specs.Asks.{undone}
 use Rattle.book_folder.specs.Bases.{other_than}
 use Rattle.book_folder.specs.Begun.{BegunParts, begun_alone, begun_with, is_one_of, joined_at, ops_not_of, ops_of, project_or, received, received_if_alike, received_or, replica_at, settled_base, with_base, with_base_at, with_bases, with_next}
-use Rattle.book_folder.specs.Coming.{AllTaken, CameInParts, all_came, bundles_begun, bundles_come_in, comes_in, in_turn, none_taken, older_from, rebased_if_stale, taken_all}
+use Rattle.book_folder.specs.Coming.{AllTaken, CameInParts, all_came, bundles_begun, bundles_come_in, comes_in, earlier_bases, in_turn, none_taken, older_from, rebased_if_stale, taken_all}
 use Rattle.book_folder.specs.DoneAgain.{BasesStand, IsLeftEarly, RecoveredComesInAgain, with_nothing_new}
 use Rattle.book_folder.specs.Files.{FileParts}
 use Rattle.book_folder.specs.FolderLaws.{MayBeBytes}
@@ -26,6 +29,7 @@ use Rattle.book_folder.specs.declared.refusal.Place.{Place}
 use Rattle.book_folder.specs.declared.refusal.Place.TheVariants as places
 use Rattle.book_folder.proofs.BundlesAgain.{stays}
 use Rattle.book_folder.proofs.CutShort.BaseReceived.{FromBases, IsReceived, NextParts, base_parts, from_bases, next_parts, own_settled, with_all, with_one}
+use Rattle.book_folder.proofs.CutShort.Earlier.{AreBehind, AskNoMore, all_by_others, fewer, older_are_last, one_more, with_place}
 use Rattle.book_folder.proofs.CutShort.HasAll.{HasAll, all_of_right, all_through}
 use Rattle.book_folder.proofs.CutShort.OneBase.{one_base}
 use Rattle.book_folder.proofs.Schedules.BasesReach.{begun_of, judged_is, ok_is, then_ok}
@@ -207,13 +211,71 @@ module _ (seen again : SeenParts) (wishes : WishParts) (s : State) (b : BegunPar
             ∙ by_next own (from.grows.name ∙ sym from.first_grows.received.name) settles_own (λ e. own_is) seen.next next_bytes from.next)
       ]
 
+  -- ---- the bases before the base
+
+  -- what is read of them then, which asks nothing more
+  abbrev EarlierAgain : List State → Type 0
+  EarlierAgain older =
+      (others : List State) × (older_from b.base.name 0 [] (earlier_bases again) ≡ Ok others)
+      × ((book : List ℕ) → AskNoMore b.base.held older others book)
+
+  earlier_again : (older : List State) → older_from b.base.name 0 [] (earlier_bases seen) ≡ Ok older → EarlierAgain older
+  earlier_again older old = by left.bases
+    where
+      name : List ℕ
+      name = b.base.name
+
+      front : List State
+      front = (older_are_last name seen older old).0
+
+      last : AreBehind name front seen.older older
+      last = (older_are_last name seen older old).1
+
+      -- they are the same
+      all_same : earlier_bases again ≡ earlier_bases seen → EarlierAgain older
+      all_same same = (older, ap (older_from name 0 []) same ∙ old, λ book own pieces e. e)
+
+      -- no next one stands there: the older ones alone
+      alone : again.next ≡ None → EarlierAgain older
+      alone none = (
+        last.behind,
+        ap (λ n. older_from name 0 [] (cond (is_some n) (again.bases ++ again.older) again.older)) none
+            ∙ ap (older_from name 0 []) left.older ∙ last.again 0 [],
+        λ book own pieces e. fewer b.base.held front last.behind book own pieces
+            (subst (λ (states : List State). undone states b.base.held own book pieces ≡ None) last.are e),
+      )
+
+      -- the settled base stands beside the next one
+      beside_next : (bytes : List ℕ) → again.bases ≡ bytes ∷ [] → whole_at bytes ≡ Ok b.base.held → again.next ≡ seen.next
+          → EarlierAgain older
+      beside_next bytes is read there = by seen.next there
+        where
+          by : (n : Option (List ℕ)) → again.next ≡ n → EarlierAgain older
+          by None none = alone none
+          by (Some next) e = (
+            with_ops (begun name) b.base.held ∷ last.behind,
+            (λ i. older_from name 0 [] (cond (is_some (e i)) (is i ++ left.older i) (left.older i)))
+                ∙ ap (λ r. r >>= λ t. older_from name 1 (t ∷ []) seen.older)
+                (with_place name (places.Older 0) bytes b.base.held read)
+                ∙ last.again 1 (with_ops (begun name) b.base.held ∷ []),
+            λ book own pieces e. one_more name b.base.held front last.behind book received_base.base.set.rising own pieces
+                (subst (λ (states : List State). undone states b.base.held own book pieces ≡ None) last.are e),
+          )
+
+      by : BasesStand seen again b → EarlierAgain older
+      by (inl h) = elim h.1 [
+        | inl stays ↦ all_same (λ i. cond (is_some (stays.0 i)) (h.0 i ++ left.older i) (left.older i))
+        | inr none ↦ all_same (λ i. cond (is_some ((none.0 ∙ sym none.1) i)) (h.0 i ++ left.older i) (left.older i))
+      ]
+      by (inr h) = elim h.3 [ inl none ↦ alone none | inr beside ↦ beside_next h.0 h.1 h.2 beside.0 ]
+
 pub recovered_comes_in_again : RecoveredComesInAgain
 recovered_comes_in_again seen again wishes files s b c bytes is fresh begins came left =
     let state = (project_is seen.project s bytes.project is).valid in
     let from = from_bases seen wishes s b state bytes.bases bytes.next is begins in
-    let o = then_ok (older_from b.base.name 0 [] seen.older)
+    let o = then_ok (older_from b.base.name 0 [] (earlier_bases seen))
     (λ older. rebased_if_stale wishes b older files >>= λ b. bundles_come_in seen wishes older (in_turn b.base.held files) b) c
-    (sym (ap (λ r. r >>= λ b. older_from b.base.name 0 [] seen.older >>= λ older. rebased_if_stale wishes b older files >>= λ b.
+    (sym (ap (λ r. r >>= λ b. older_from b.base.name 0 [] (earlier_bases seen) >>= λ older. rebased_if_stale wishes b older files >>= λ b.
     bundles_come_in seen wishes older (in_turn b.base.held files) b) begins) ∙ came) in
     let come : bundles_come_in seen wishes o.0 (in_turn b.base.held files) b ≡ Ok c =
     sym (ap (λ w. cond w (rebased b o.0 files) (Ok b) >>= λ b. bundles_come_in seen wishes o.0 (in_turn b.base.held files) b) fresh)
@@ -223,22 +285,24 @@ recovered_comes_in_again seen again wishes files s b c bytes is fresh begins cam
     come in
     let t = then_ok (taken_all b.base o.0 wishes (none_taken d.0.after []) (in_turn b.base.held files))
     (λ all. Ok (all_came seen b d.0.made all)) c d.1.1 in
-    by_parts seen again wishes files b o.0 d.0 t.0 fresh left
-    (begins_again seen again wishes s b from bytes.bases bytes.next left) o.1.0 d.1.0 t.1.0
+    let others = earlier_again seen again wishes s b from bytes.bases bytes.next left o.0 o.1.0 in
+    by_parts seen again wishes files b others.0 d.0 t.0 fresh left
+    (begins_again seen again wishes s b from bytes.bases bytes.next left) others.1 d.1.0
+    (all_by_others b.base o.0 others.0 wishes (in_turn b.base.held files) (none_taken d.0.after []) t.0 others.2 t.1.0)
     ∙ ap (λ (x : CameInParts). Ok (with_nothing_new x)) (ok_is (all_came seen b d.0.made t.0) c t.1.1)
   where
     by_parts : (seen again : SeenParts) (wishes : WishParts) (files : List FileParts) (b : BegunParts) (older : List State)
         (r : Stepped State (List ℕ)) (all : AllTaken) → wishes.stale ≡ false → IsLeftEarly seen again b
         → begun_with again wishes ≡ Ok (begun_of b.replica b.base (length b.replica.held))
-        → older_from b.base.name 0 [] seen.older ≡ Ok older → bundles_begun wishes.joined b.replica seen.bundles ≡ Ok r
+        → older_from b.base.name 0 [] (earlier_bases again) ≡ Ok older → bundles_begun wishes.joined b.replica seen.bundles ≡ Ok r
         → taken_all b.base older wishes (none_taken r.after []) (in_turn b.base.held files) ≡ Ok all
         → comes_in again wishes files ≡ Ok (with_nothing_new (all_came seen b r.made all))
     by_parts seen again wishes files b older r all fresh left begins old got taken =
-        ap (λ r. r >>= λ c. older_from c.base.name 0 [] again.older >>= λ old. rebased_if_stale wishes c old files >>= λ c.
+        ap (λ r. r >>= λ c. older_from c.base.name 0 [] (earlier_bases again) >>= λ old. rebased_if_stale wishes c old files >>= λ c.
         bundles_come_in again wishes old (in_turn c.base.held files) c) begins
         ∙ ap (λ r. r >>= λ old. rebased_if_stale wishes next old files >>= λ c.
         bundles_come_in again wishes old (in_turn c.base.held files) c)
-        (ap (older_from b.base.name 0 []) left.older ∙ old)
+        old
         ∙ ap (λ w. cond w (rebased next older files) (Ok next) >>= λ c.
         bundles_come_in again wishes older (in_turn c.base.held files) c) fresh
         ∙ ap (λ r. r >>= λ r. taken_all b.base older wishes (none_taken r.after []) (in_turn b.base.held files) >>= λ all.

@@ -67,7 +67,7 @@ not_fewer : (n : ℕ) → (nat_le 1 n && nat_le n 0) ≡ false
 not_fewer zero = refl
 not_fewer (suc n) = and_right (nat_le 1 (suc n)) (nat_le (suc n) 0) (grind (arith, nat_tests))
 
-and_middle : (a b c : Bool) → b ≡ false → (a && b && c) ≡ false
+pub and_middle : (a b c : Bool) → b ≡ false → (a && b && c) ≡ false
 and_middle true b c e = ap (λ x. x && c) e
 and_middle false b c e = refl
 

@@ -2,7 +2,7 @@
 use Rattle.std.proofs.Common.{◌≡◌, ◌<◌, ◌-◌, ◌^◌, ℕ, Bool, true, false, cond, not, ◌&&◌, ◌||◌, nat_eq, List, [], ◌∷◌, ◌++◌, length, map, Option, None, Result, Ok}
 use Rattle.std.proofs.Common.{refl, ap, ◌∙◌, arith}
 use Rattle.std.specs.List.{AllByRecursion}
-use Rattle.std.specs.Option.{option_to_list}
+use Rattle.std.specs.Option.{is_some, option_to_list}
 use Rattle.std.proofs.lemmas.Bool.{cond-true, eq-eqb, le-leb}
 use Rattle.usfm_ref.proofs.Orders.{same_bytes-refl}
 use Rattle.op_core.specs.Export.{export, has_book}
@@ -22,7 +22,7 @@ use Rattle.replica_state.specs.States.{State, IsState, begun}
 use Rattle.replica_state.specs.Steps.{with_ops}
 use Rattle.book_folder.specs.Bases.{next_base, other_than, shown_in_files, shows}
 use Rattle.book_folder.specs.Begun.{BegunParts, begun_alone, begun_with, conflicts, is_none_held, is_one_of, judged, received, received_if_alike, received_or, project_or, set_or, shares_an_id, unless_more, unless_unlike, with_base, with_bases, with_next}
-use Rattle.book_folder.specs.Coming.{CameInParts, AllTaken, all_came, all_taken, bundles_begun, bundles_come_in, comes_in, files_by, in_turn, none_taken, older_from, rebased_if_stale, taken_all, added_by}
+use Rattle.book_folder.specs.Coming.{AllTaken, CameInParts, added_by, all_came, all_taken, bundles_begun, bundles_come_in, comes_in, earlier_bases, files_by, in_turn, none_taken, older_from, rebased_if_stale, taken_all}
 use Rattle.book_folder.specs.Files.{FileParts}
 use Rattle.book_folder.specs.FolderLaws.{IsSynced, IsSyncedFile, NothingIsDone, TwiceIsOnce, nothing_came}
 use Rattle.book_folder.specs.Naming.{FormParts, form_of, other_names}
@@ -169,10 +169,11 @@ module _ (s : State) (state : IsState s) where
 
         comes : older_from s.name 0 [] seen.older ≡ Ok older → comes_in seen wishes files ≡ Ok (nothing_came s)
         comes read_older =
-            ap (λ r. r >>= λ b. older_from b.base.name 0 [] seen.older >>= λ old. rebased_if_stale wishes b old files >>= λ c.
+            ap (λ r. r >>= λ b. older_from b.base.name 0 [] (earlier_bases seen) >>= λ old. rebased_if_stale wishes b old files >>= λ c.
             bundles_come_in seen wishes old (in_turn c.base.held files) c) begins
             ∙ ap (λ r. r >>= λ old. rebased_if_stale wishes settled old files >>= λ c.
-            bundles_come_in seen wishes old (in_turn c.base.held files) c) read_older
+            bundles_come_in seen wishes old (in_turn c.base.held files) c)
+            (ap (λ n. older_from s.name 0 [] (cond (is_some n) (seen.bases ++ seen.older) seen.older)) synced.next ∙ read_older)
             ∙ ap (λ r. r >>= λ c. bundles_come_in seen wishes older (in_turn c.base.held files) c) stays_settled
             ∙ bundles_none ∙ ap (λ (c : CameInParts). Ok c) is_nothing
 

@@ -4,8 +4,8 @@ use Rattle.book_folder.proofs.coming.older_bases.Given as goal
 
 abbrev pub invariant-older : goal.invariant-older
 invariant-older l =
-    (comes.older_from l.name l.at l.made.items (map (λ b. b.items) l.left)
-    ≡ comes.older_from l.name 0 [] (map (λ b. b.items) l.older))
+    (comes.older_from l.name l.at l.made.items (map (λ b. b.now) l.left)
+    ≡ comes.older_from l.name 0 [] (map (λ b. b.now) l.older))
     × (l.at + length l.left ≡ length l.older)
 
 abbrev pub decreases-older : goal.decreases-older
