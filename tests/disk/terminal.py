@@ -48,8 +48,11 @@ def check_terminal(tally: Tally, program: Path, work: Path) -> None:
         answer = at_terminal(program, folder, words, b"")
         is_told = (answer.status, answer.output) == (0, b"") and b"Nothing was changed: no text was typed." in answer.error
         tally.check(is_told and project.read_bytes() == HELD, f"{words[0]} where nothing is typed: {answer}")
-    absent = at_terminal(program, folder, ["edit", "p", "MRK 1:1"], b"")
-    tally.check(absent == Answer(1, b"", b"fault 82\n"), f"a book that is not there is said before a text is asked for: {absent}")
+    for segment in ("MRK 1:1", "MRK 0:1"):
+        absent = at_terminal(program, folder, ["edit", "p", segment], b"")
+        tally.check(absent == Answer(1, b"", b"fault 82\n"), f"a book that is not there is said before a text is asked for: {absent}")
+    beside = at_terminal(program, folder, ["edit-over", "p", "MAT 1:1"], b"")
+    tally.check(b"it replaces nothing" in beside.error, f"where no id is named: {beside}")
     missing = at_terminal(program, folder, ["edit", "missing", "MAT 1:1"], b"")
     tally.check(missing == Answer(1, b"", b"fault 120\n"), f"a project that is missing is said before a text is asked for: {missing}")
     tally.check(wanted_book(run(program, folder, ["fold", "MAT"], FIRST)), "fold of a bundle")

@@ -25,8 +25,8 @@ TOLD = [
 BYTES = [["send", "p"], ["summary", "p"], ["delta", "p", "s"]]
 TEXTS = [["shown", "p", "MAT 1:1"], ["export", "p", "MAT"], ["report", "p"]]
 # A text that would clear the screen, ring, and write over its line, and what is shown of it.
-ODD = b"\\v 1 a\x1b[2J\x07\xc2\x9b31m\tb\r\n"
-SHOWN = b"\\v 1 a\\x1b[2J\\x07\\x9b31m\tb\\x0d\n"
+ODD = b"\\v 1 a\x1b[2J\x07\xc2\x9b31m\tb\rc\r\n"
+SHOWN = b"\\v 1 a\\x1b[2J\\x07\\x9b31m\tb\\x0dc\n"
 
 
 def check_words(tally: Tally, program: Path, work: Path) -> None:

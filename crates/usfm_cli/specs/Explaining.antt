@@ -135,18 +135,27 @@ abbrev pub not_begun : Found → List ℕ
 not_begun found.Unseen = say.FILE_FAILED.now
 not_begun found.Nothing = say.FILE_FAILED.now
 not_begun found.NoFolder = say.NO_FOLDER_FOR_IT.now
+not_begun found.Folder = say.FOLDER_IS_THERE.now
 not_begun _ = say.IS_THERE.now
+
+-- of a copy's own bundle in a box that was not left there: by what stands there
+abbrev pub not_left : Found → List ℕ
+not_left found.Project = say.NOT_OWN_BUNDLE.now
+not_left found.Summary = say.NOT_OWN_BUNDLE.now
+not_left found.BookFile = say.NOT_OWN_BUNDLE.now
+not_left _ = say.BUNDLE_NOT_LEFT.now
 
 -- of a text that is refused: by what it is where it is to be a book's file
 abbrev pub of_file : Fault → Expected → Found → List ℕ
 of_file fault expected.BookFile stands = no_book fault stands
 of_file fault _ _ = general fault
 
--- of a file that was not written: by what stands there where it is to be a project; and of a book's
--- file, and of the copy's own bundle in a box, that all else is done
+-- of a file that was not written: by what stands there where it is to be a project, or the copy's
+-- own bundle in a box; of a book's file that all else is done
 abbrev pub unwritten : Expected → Found → List ℕ
 unwritten expected.NewProject stands = not_begun stands
-unwritten expected.OwnBundle _ = say.BUNDLE_NOT_LEFT.now
+unwritten expected.HalfProject _ = say.HALF_IS_THERE.now
+unwritten expected.OwnBundle stands = not_left stands
 unwritten expected.BookFile _ = say.FILE_NOT_WRITTEN.now
 unwritten _ _ = say.FILE_FAILED.now
 
@@ -166,12 +175,22 @@ abbrev pub no_code : Expected → List ℕ
 no_code expected.NewName = say.NO_FORM.now
 no_code _ = say.NO_CODE.now
 
--- of a file of a folder that would lose text, by what it is: of a second one of a book another one
-abbrev pub changed : Expected → Found → List ℕ
-changed expected.OneOfTwo _ = say.SECOND_FILE.now
-changed _ found.Unseen = say.FILE_CHANGED.now
-changed _ found.BookFile = say.FILE_CHANGED.now
-changed _ _ = say.FILE_NO_BOOK.now
+-- of a file of a folder that would lose text, by what is known of it: that the book has another one,
+-- that it was another book's, that nothing says what it was written from, that another book is to
+-- get its name, or that it is not as a book's file is
+abbrev pub changed : Expected → List ℕ
+changed expected.OneOfTwo = say.SECOND_FILE.now
+changed expected.Renamed = say.FILE_RENAMED.now
+changed expected.Unbased = say.FILE_UNBASED.now
+changed expected.NewFile = say.NAME_TAKEN.now
+changed expected.NoBook = say.FILE_NO_BOOK.now
+changed expected.NotRead = say.FILE_NOT_READ.now
+changed _ = say.FILE_CHANGED.now
+
+-- of what has nothing in common with a project: a bundle, or what a folder's files were written from
+abbrev pub unlike : Expected → List ℕ
+unlike expected.Kept = say.UNLIKE_FOLDER.now
+unlike _ = say.UNLIKE.now
 
 -- the sentences of a fault, by what its file was to be and what stands there
 abbrev pub sentences : Fault → Expected → Found → List ℕ
@@ -185,7 +204,8 @@ sentences BadProject _ stands = no_project stands
 sentences BadSummary _ stands = no_summary stands
 sentences ReadFailed role stands = unread role stands
 sentences FileFailed role stands = unwritten role stands
-sentences FileChanged role stands = changed role stands
+sentences FileChanged role _ = changed role
+sentences (Unlike count) role _ = unlike role
 sentences fault _ _ = general fault
 
 -- of what is no book's code, by the book that is meant, or else by what it was to be

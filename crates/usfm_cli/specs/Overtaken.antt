@@ -31,10 +31,11 @@ still_shown (Ok before) (Ok now) g = Ok (still_in before now g)
 still_shown (Ok before) (Err fault) g = Err (of_loading fault)
 still_shown (Err fault) now g = Err (of_loading fault)
 
--- what is answered so
+-- what is answered, by its parts
 abbrev pub still : StillShown → Still
 still answer = record { ids = answer.ids.items; is_all = answer.is_all }
 
+-- what is answered so, or the refusal
 abbrev pub as_still : Result StillShown Fault → Result Still Fault
 as_still (Ok answer) = Ok (still answer)
 as_still (Err fault) = Err fault

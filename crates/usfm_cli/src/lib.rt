@@ -38,7 +38,10 @@ pub use explaining::circumstances::{
 };
 pub use explaining::explanation::{Explanation, explained};
 pub use explaining::listing::list_faults;
-pub use explaining::remarks::{NO_BOOK_FILE, TEXT_NAME, is_text_name, remark, sheet_remark};
+pub use explaining::remarks::{
+    FILES_GONE, NO_BOOK_FILE, NO_WORD, NOTHING_FOUND, NOTHING_WRONG, TEXT_BUNDLE, TEXT_NAME,
+    is_text_bundle, is_text_name, look_remark, remark,
+};
 pub use fault::Fault;
 pub use fault_lines::fault_line;
 pub use fold::{fold_bundles, fold_stream};

@@ -3,9 +3,12 @@ use crate::reading::{Read, read_folder, read_given};
 use crate::refusal::{Given, Refusal};
 use crate::sync::{What, open_folder, refusal_of, tell};
 use crate::telling::say_of;
-use book_folder::{Standing, Wishes, folder_standing};
+use book_folder::{Standing, Wishes, folder_standing, lacks_base};
 use std::io::Write;
-use usfm_cli::fault_line;
+use usfm_cli::{Fault, fault_line};
+
+// What follows the name of a folder whose files were written from more than the project has.
+const BEHIND: &str = " has: sync before you edit anything";
 
 // The lines of a folder: of each file that was changed, how many edits a sync would take in, and of
 // each that it would refuse, why. Nothing is locked, and nothing is changed. What is skipped is said
@@ -37,9 +40,22 @@ pub(crate) fn folder_lines(
         say_of(rt, "a `sync` of ", folder.name(), why);
     }
     read.look_back(rt, what.project, what.given)?;
+    if explains && is_behind(what, &read)? {
+        say_of(rt, "the project lacks edits that ", folder.name(), BEHIND);
+    }
     match standing_of(what, &read) {
         Ok(standing) => lines(what, &read, &standing),
         Err(refusal) => Err(refusal_of(what, &read, refusal)),
+    }
+}
+
+// Whether the project lacks what its files were written from. What cannot be read is refused where
+// it is planned.
+fn is_behind(what: What<'_>, read: &Read) -> Result<bool, Fault> {
+    let lent = read.lend(what.rt)?;
+    match lacks_base(what.rt.alloc(), &lent.seen(what.project, what.given)) {
+        Err(book_folder::Refusal::Memory) => Err(Fault::Memory),
+        lacks => Ok(lacks.unwrap_or(false)),
     }
 }
 

@@ -1,7 +1,7 @@
 // Edits of a segment: by the text of standard input, or by one of its operations.
 use crate::refusal::{Given, Refusal, read_named};
 use crate::telling::say;
-use crate::typed::text_for;
+use crate::typed::{TYPE_A_TEXT, TYPE_BESIDE, say_removed, text_for};
 use crate::{change, change_locked, locked};
 use op_core::OpId;
 use usfm_cli::{Command, Expected, still_shown};
@@ -9,7 +9,7 @@ use usfm_ref::{Book, Key};
 
 // What is said where a segment got another text while one was typed for it.
 const CAME_IN: &str =
-    "another text came in meanwhile, and stays beside yours: `settle` asks which is to stay";
+    "another text came in meanwhile, and stays beside yours: `settle` asks which to keep";
 
 // Gives a segment the text of standard input.
 pub(crate) fn edit(
@@ -20,13 +20,17 @@ pub(crate) fn edit(
     explains: bool,
 ) -> Result<(), Refusal> {
     let before = read_named(rt, project, Expected::Project)?;
-    let Some(text) = &text_for(rt, &Given::of(project, &before), book, key, explains)? else {
+    let Some(text) = &text_for(rt, &Given::of(project, &before), book, key, TYPE_A_TEXT)? else {
         return Ok(());
     };
     let (file, bytes) = locked(rt, project)?;
     if bytes == before {
         let command = Command::Edit { book, key, text };
-        return change_locked(rt, project, file, &bytes, &command, None);
+        change_locked(rt, project, file, &bytes, &command, None)?;
+        if explains {
+            say_removed(rt, text);
+        }
+        return Ok(());
     }
     // What came in while the text was typed has been seen by nobody, and stays beside it.
     let still = still_shown(rt.alloc(), &before, &bytes, book, key).map_err(
@@ -39,8 +43,11 @@ pub(crate) fn edit(
         ids: &still.ids,
     };
     change_locked(rt, project, file, &bytes, &command, None)?;
-    if explains && !still.is_all {
-        say(rt, CAME_IN);
+    if explains {
+        say_removed(rt, text);
+        if !still.is_all {
+            say(rt, CAME_IN);
+        }
     }
     Ok(())
 }
@@ -52,10 +59,15 @@ pub(crate) fn edit_over(
     book: Book,
     key: Key,
     ids: &[OpId],
-    explains: bool,
 ) -> Result<(), Refusal> {
     let bytes = read_named(rt, project, Expected::Project)?;
-    let Some(text) = &text_for(rt, &Given::of(project, &bytes), book, key, explains)? else {
+    let given = Given::of(project, &bytes);
+    let asks = if ids.is_empty() {
+        TYPE_BESIDE
+    } else {
+        TYPE_A_TEXT
+    };
+    let Some(text) = &text_for(rt, &given, book, key, asks)? else {
         return Ok(());
     };
     let command = Command::EditOver {

@@ -17,7 +17,7 @@ const MOST_TRIES: usize = 8;
 
 // What stands under a name where a plain file may stand: one that has no other name.
 #[derive(Drop)]
-pub(crate) enum Found {
+pub(crate) enum Opened {
     Nothing,
     Plain(File),
     Folder,
@@ -49,7 +49,7 @@ impl Other {
 
 // Opens the plain file of this name, and no other: what a link leads to is not opened, and a pipe
 // is not waited for.
-pub(crate) fn open_plain(rt: &HostRuntime, path: &str) -> Result<Found, Fault> {
+pub(crate) fn open_plain(rt: &HostRuntime, path: &str) -> Result<Opened, Fault> {
     open_named(rt, path, 1)
 }
 
@@ -57,21 +57,21 @@ pub(crate) fn open_plain(rt: &HostRuntime, path: &str) -> Result<Found, Fault> {
 //
 // The file that was opened is the one that was looked at before; where another one took its place,
 // it is looked at anew.
-pub(crate) fn open_named(rt: &HostRuntime, path: &str, most_names: u64) -> Result<Found, Fault> {
+pub(crate) fn open_named(rt: &HostRuntime, path: &str, most_names: u64) -> Result<Opened, Fault> {
     for _ in 0..MOST_TRIES {
         let seen = match fs::symlink_metadata(rt, path) {
             Ok(seen) => seen,
-            Err(error) if error.kind() == ErrorKind::NotFound => return Ok(Found::Nothing),
+            Err(error) if error.kind() == ErrorKind::NotFound => return Ok(Opened::Nothing),
             Err(_) => return Err(Fault::ReadFailed),
         };
         if seen.is_dir() {
-            return Ok(Found::Folder);
+            return Ok(Opened::Folder);
         }
         if let Some(other) = not_plain(&seen, most_names) {
-            return Ok(Found::Other(other));
+            return Ok(Opened::Other(other));
         }
         if let Some(file) = open_same(rt, path, &seen)? {
-            return Ok(Found::Plain(file));
+            return Ok(Opened::Plain(file));
         }
     }
     Err(Fault::ReadFailed)
@@ -109,7 +109,7 @@ pub(crate) fn are_one(rt: &HostRuntime, one: &str, other: &str) -> bool {
 // Whether a file still has these bytes. One that cannot be read any more was changed.
 pub(crate) fn is_still(rt: &HostRuntime, path: &str, bytes: &[u8]) -> Result<bool, Fault> {
     let read = match open_plain(rt, path) {
-        Ok(Found::Plain(file)) => read_open(rt, &file),
+        Ok(Opened::Plain(file)) => read_open(rt, &file),
         _ => return Ok(false),
     };
     match read {

@@ -3,9 +3,9 @@
 use crate::files::{Folder, are_one};
 use crate::reading::read_plain;
 use crate::refusal::Refusal;
-use book_folder::{KeptName, Named, Unsettled, kept_name, read_names};
+use book_folder::{KeptName, Named, Unsettled, book_begun, kept_name, read_names};
 use std::alloc::AllocError;
-use usfm_cli::Fault;
+use usfm_cli::{Expected, Fault};
 use usfm_ref::Book;
 
 // The folder in a folder of books that belongs to the program, and what is in it.
@@ -77,18 +77,35 @@ impl Kept {
         Ok(true)
     }
 
-    // Where a next base stands, the files that were put were written from that one: the base is one
-    // of those before it.
-    pub(crate) fn put_base_before_next(&mut self, rt: &HostRuntime) -> Result<(), AllocError> {
-        let base = match self.base() {
-            Some(base) if self.next.is_some() => Some(base.to_vec(rt.alloc())?),
-            _ => None,
+    // The name of one of the bases before the base: where a next one stands, the base comes first.
+    pub(crate) fn earlier_name(&self, at: usize) -> Option<&str> {
+        let before = if self.next.is_some() {
+            self.base_names.len()
+        } else {
+            0
         };
-        if let Some(base) = base {
-            self.older.insert(0, base)?;
-            self.older_names.insert(0, BASE)?;
+        match at.checked_sub(before) {
+            None => self.base_names.get(at).map(|name| name.as_str()),
+            Some(at) => self.older_names.get(at).copied(),
         }
-        Ok(())
+    }
+
+    // What a file of the folder was to be, of which a text is not to be lost.
+    pub(crate) fn expected(&self, name: &str, bytes: &[u8]) -> Expected {
+        let Some(book) = book_begun(bytes) else {
+            return Expected::NoBook;
+        };
+        let is_renamed = self
+            .names
+            .iter()
+            .any(|named| named.name.as_str() == name && named.book != book);
+        if is_renamed {
+            Expected::Renamed
+        } else if self.bases.is_empty() {
+            Expected::Unbased
+        } else {
+            Expected::BookFile
+        }
     }
 
     // What stands there when the base is to be settled.

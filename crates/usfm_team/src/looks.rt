@@ -6,7 +6,8 @@ use crate::{answer, write_as_it_is, write_output};
 use carried_sheet::carried_sheet;
 use std::io::IsTerminal;
 use usfm_cli::{
-    Command, Expected, Fault, SetOff, check_project, find_project, sheet_remark, word_project,
+    Command, Expected, Fault, NO_WORD, NOTHING_FOUND, NOTHING_WRONG, SetOff, check_project,
+    find_project, look_remark, word_project,
 };
 use usfm_ref::Book;
 
@@ -30,7 +31,8 @@ pub(crate) fn check(
         }
         (book, set_off) => {
             let lines = check_project(rt.alloc(), &bytes, book, given, set_off);
-            write_lines(rt, &project, &sheet, lines, set_off, explains)
+            let nothing = if explains { Some(NOTHING_WRONG) } else { None };
+            write_lines(rt, &project, &sheet, lines, set_off, nothing)
         }
     }
 }
@@ -56,7 +58,8 @@ pub(crate) fn find(
         }
         (book, set_off) => {
             let lines = find_project(rt.alloc(), &bytes, book, given, needle, set_off);
-            write_lines(rt, &project, &sheet, lines, set_off, explains)
+            let nothing = if explains { Some(NOTHING_FOUND) } else { None };
+            write_lines(rt, &project, &sheet, lines, set_off, nothing)
         }
     }
 }
@@ -80,7 +83,8 @@ pub(crate) fn words(
         }
         None => {
             let lines = word_project(rt.alloc(), &bytes, given);
-            write_lines(rt, &project, &sheet, lines, None, explains)
+            let nothing = if explains { Some(NO_WORD) } else { None };
+            write_lines(rt, &project, &sheet, lines, None, nothing)
         }
     }
 }
@@ -114,15 +118,15 @@ fn read_sheet(rt: &HostRuntime, path: Option<String>) -> Result<GivenSheet, Refu
     Ok(GivenSheet { path, bytes })
 }
 
-// Writes what was found. At a terminal the lines with the text have no control character but those
-// that set something off.
+// Writes what was found, and says where a person reads it that this is nothing. At a terminal the
+// lines with the text have no control character but those that set something off.
 fn write_lines(
     rt: &HostRuntime,
     project: &Given<'_>,
     sheet: &GivenSheet,
     lines: Result<Vec<u8>, Fault>,
     set_off: Option<SetOff>,
-    explains: bool,
+    nothing: Option<&'static str>,
 ) -> Result<(), Refusal> {
     let lines = match lines {
         Ok(lines) => lines,
@@ -132,8 +136,8 @@ fn write_lines(
         Some(_) => write_as_it_is(rt, &lines)?,
         None => write_output(rt, &lines)?,
     }
-    if explains {
-        if let Some(line) = sheet_remark(rt.alloc(), &sheet.bytes) {
+    if let Some(nothing) = nothing {
+        if let Some(line) = look_remark(rt.alloc(), &sheet.bytes, &lines, nothing) {
             say(rt, line);
         }
     }

@@ -21,19 +21,20 @@ mod turns;
 mod typed;
 
 use crate::edits::{edit, edit_over, edit_with};
+use crate::files::is_there;
 use crate::looks::{check, find, words};
-use crate::project::{Project, begin_project, lock_project};
+use crate::project::{Project, begin_project, begun_path, lock_project};
 use crate::refusal::{Given, Refusal, read_named};
 use crate::settle::settle;
 use crate::standing::{page, progress, status};
 use crate::sync::{export_into, sync};
 use crate::telling::{
-    SEVERAL_WORDS, are_find, say, say_lines, tell_refusal, tell_refused_word, with_tip,
+    SEVERAL_WORDS, are_find, plain_lines, say, say_lines, say_of, tell_refusal, tell_refused_word,
+    with_tip,
 };
 use crate::turns::{import, receive};
 use crate::typed::{GIVE_BUNDLES, say_at_terminal};
 use op_core::ReplicaName;
-use plain_line::push_lines;
 use std::fs::File;
 use std::io::{ErrorKind, IsTerminal, Write};
 use std::os::fd::AsRawFd;
@@ -44,6 +45,10 @@ use usfm_cli::{
     exec, fold_stream, list_faults, read_words, remark, write_all,
 };
 use usfm_ref::Book;
+
+// What stands before the name of a project that was begun.
+const BEGUN: &str =
+    "the project is begun. Put the books' files into a folder, and then: usfm_team sync ";
 
 const REFUSED: u8 = 1;
 
@@ -128,7 +133,7 @@ fn read_line(rt: &HostRuntime, explains: &mut bool, finds: &mut bool) -> Result<
 // types a text holds up nobody.
 fn run(rt: &HostRuntime, line: Line, explains: bool) -> Result<(), Refusal> {
     match line {
-        Line::Init { project, name } => init(rt, &project, &name),
+        Line::Init { project, name } => init(rt, &project, &name, explains),
         Line::Import {
             project,
             files,
@@ -142,11 +147,11 @@ fn run(rt: &HostRuntime, line: Line, explains: bool) -> Result<(), Refusal> {
             ids,
             text_of,
         } => match text_of {
-            None => edit_over(rt, &project, book, key, &ids, explains),
+            None => edit_over(rt, &project, book, key, &ids),
             Some(of) => edit_with(rt, &project, book, key, of, &ids),
         },
-        Line::Settle { project, wanted } => settle(rt, &project, &wanted),
-        Line::Receive { project, bundles } => receive(rt, &project, bundles),
+        Line::Settle { project, wanted } => settle(rt, &project, &wanted, explains),
+        Line::Receive { project, bundles } => receive(rt, &project, bundles, explains),
         Line::Shown { project, book, key } => {
             ask(rt, &project, &Command::Shown(book, key), explains)
         }
@@ -189,14 +194,34 @@ fn run(rt: &HostRuntime, line: Line, explains: bool) -> Result<(), Refusal> {
 }
 
 // Begins a project.
-fn init(rt: &HostRuntime, project: &str, name: &ReplicaName) -> Result<(), Refusal> {
+fn init(
+    rt: &HostRuntime,
+    project: &str,
+    name: &ReplicaName,
+    explains: bool,
+) -> Result<(), Refusal> {
     let bytes = create(rt.alloc(), name.text()).map_err(Fault::from)?;
-    begin_project(rt, project, &bytes).map_err(|fault| Refusal::alone(
-        rt,
-        fault,
-        project,
-        Expected::NewProject,
-    ))
+    begin_project(rt, project, &bytes).map_err(|fault| not_begun(rt, fault, project))?;
+    if explains {
+        say_of(rt, BEGUN, project, " FOLDER");
+    }
+    Ok(())
+}
+
+// Why a project was not begun: something stands under its name, or under the one that it has until
+// it is whole.
+fn not_begun(rt: &HostRuntime, fault: Fault, project: &str) -> Refusal {
+    match begun_path(rt, project) {
+        Ok(half) if !stands(rt, project) && stands(rt, &half) => {
+            Refusal::alone(rt, fault, &half, Expected::HalfProject)
+        }
+        _ => Refusal::alone(rt, fault, project, Expected::NewProject),
+    }
+}
+
+// Whether something stands under a name.
+fn stands(rt: &HostRuntime, path: &str) -> bool {
+    is_there(rt, path).unwrap_or(false)
 }
 
 // Writes what another project lacks by its summary.
@@ -327,9 +352,7 @@ fn faults(rt: &HostRuntime) -> Result<(), Refusal> {
 pub(crate) fn write_output(rt: &HostRuntime, bytes: &[u8]) -> Result<(), Fault> {
     if rt.stdout().is_terminal() {
         if let Ok(text) = str::from_utf8(bytes) {
-            let mut plain = String::new(rt.alloc());
-            push_lines(&mut plain, text)?;
-            return write_as_it_is(rt, plain.as_bytes());
+            return write_as_it_is(rt, plain_lines(rt, text)?.as_bytes());
         }
     }
     write_as_it_is(rt, bytes)

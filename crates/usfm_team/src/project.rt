@@ -1,7 +1,7 @@
 // A project's file. One command at a time changes it, and what a command changed is on the disk
 // before it answers.
 use crate::files::{
-    Found, is_same_file, is_there, link_fault, lock_file, make_private, open_at_once, open_folder,
+    Opened, is_same_file, is_there, link_fault, lock_file, make_private, open_at_once, open_folder,
     open_named, read_open, remove_if_there, sync_file, sync_folder, write_made,
 };
 use crate::rights::{keep_rights, look_at};
@@ -81,7 +81,7 @@ fn keep_begun(rt: &HostRuntime, begun: &str, folder: &File) -> Result<(), Fault>
 }
 
 // Where a project is made that is begun.
-fn begun_path(rt: &HostRuntime, path: &str) -> Result<String, Fault> {
+pub(crate) fn begun_path(rt: &HostRuntime, path: &str) -> Result<String, Fault> {
     Ok(format!(in rt.alloc(); "{path}{BEGUN_END}")?)
 }
 
@@ -100,9 +100,9 @@ fn make_begun(rt: &HostRuntime, begun: &str) -> Result<File, Fault> {
             }
             Err(error) if error.kind() == ErrorKind::AlreadyExists => {
                 match open_named(rt, begun, 2)? {
-                    Found::Plain(old) => remove_left(rt, &old, begun)?,
-                    Found::Nothing => {}
-                    Found::Folder | Found::Other(_) => remove_if_there(rt, begun)?,
+                    Opened::Plain(old) => remove_left(rt, &old, begun)?,
+                    Opened::Nothing => {}
+                    Opened::Folder | Opened::Other(_) => return Err(Fault::FileFailed),
                 }
             }
             Err(_) => return Err(Fault::FileFailed),

@@ -1,15 +1,15 @@
 // What is read before it is planned what a folder and a project become: the books' files, what the
 // program keeps beside them, and bundles.
-use crate::files::{Folder, Found as Opened, is_still, open_named, open_plain, read_open};
+use crate::files::{Folder, Opened, is_still, open_named, open_plain, read_open};
 use crate::kept::{Kept, OWN, no_kept, read_kept};
 use crate::refusal::Refusal;
 use crate::rights::look_at;
 use crate::telling::{begins_as_book, has_second_book, say, say_of, say_second_book};
 use crate::turns::{read_files, refusal_in};
-use book_folder::{Found, Seen, book_begun, lacks_base, may_be_book};
+use book_folder::{FoundFile, Seen, book_begun, lacks_base, may_be_book};
 use std::alloc::AllocError;
 use std::fs::Metadata;
-use usfm_cli::{Fault, NO_BOOK_FILE, TEXT_NAME, is_text_name};
+use usfm_cli::{FILES_GONE, Fault, NO_BOOK_FILE, TEXT_NAME, is_text_name};
 
 // A file of more bytes is no book's: it is not read.
 const MOST_BYTES: u64 = 16_777_216;
@@ -50,7 +50,7 @@ pub(crate) struct Given {
 #[derive(Drop)]
 pub(crate) struct Lent<'a> {
     read: &'a Read,
-    files: Vec<Found<'a>>,
+    files: Vec<FoundFile<'a>>,
     others: Vec<&'a str>,
 }
 
@@ -76,7 +76,7 @@ impl Read {
     pub(crate) fn lend(&self, rt: &HostRuntime) -> Result<Lent<'_>, AllocError> {
         let mut files = Vec::new(rt.alloc());
         for file in &self.files {
-            files.push(Found {
+            files.push(FoundFile {
                 name: &file.name,
                 bytes: &file.bytes,
             })?;
@@ -114,7 +114,7 @@ impl Read {
                 Ok(false) | Err(_) => {}
             }
         }
-        Ok(self.kept.put_base_before_next(rt)?)
+        Ok(())
     }
 
     // Whether each file still has the bytes that were read.
@@ -131,8 +131,10 @@ impl Read {
     // wrong ending, and that a file has two books.
     pub(crate) fn say_slips(&self, rt: &HostRuntime, folder: &Folder) -> Result<(), Fault> {
         let is_bare = self.book_looks.is_empty();
-        if is_bare {
+        if is_bare && self.kept.names.is_empty() {
             say_of(rt, "", folder.name(), NO_BOOK_FILE);
+        } else if self.files.is_empty() && self.others.is_empty() {
+            say_of(rt, "", folder.name(), FILES_GONE);
         }
         for name in &self.texts {
             if is_bare || begins_as_book(rt, &folder.way_to(rt, name)?) {
@@ -226,7 +228,7 @@ fn no_book_begun(bytes: &[u8]) -> &'static str {
     match bytes {
         [] => ": it is empty",
         [0xff, 0xfe, ..] | [0xfe, 0xff, ..] => ": it is UTF-16: save it as UTF-8",
-        _ => ": it does not begin with \\id, one blank and a book's code in capitals",
+        _ => ": it does not begin with \\id, one space and a book's code in capitals",
     }
 }
 

@@ -1,5 +1,6 @@
 // Settles conflicts with the person at standard input. Nothing is locked while that person thinks.
 use crate::refusal::{Refusal, read_named};
+use crate::telling::say_heads;
 use crate::typed::MOST_TYPED;
 use crate::{done, locked, write_as_it_is, write_output};
 use op_core::OpId;
@@ -32,8 +33,8 @@ Nothing was changed: a line with only a full stop ends a text.
 ";
 
 const TYPE_A_TEXT: &str = "\
-Type the text with its mark, and with what follows it above, as \\p; after it a
-line with only a full stop.
+Type the text with its mark, and whatever follows it above, such as \\p; after it
+a line with only a full stop.
 ";
 
 // What became of a question.
@@ -59,7 +60,15 @@ enum Typed {
 
 // Asks one conflict after another, and makes the edits that are answered. What an edit leaves in
 // conflict is asked again.
-pub(crate) fn settle(rt: &HostRuntime, project: &str, wanted: &[Wanted]) -> Result<(), Refusal> {
+pub(crate) fn settle(
+    rt: &HostRuntime,
+    project: &str,
+    wanted: &[Wanted],
+    explains: bool,
+) -> Result<(), Refusal> {
+    if explains {
+        say_heads(rt, wanted);
+    }
     let of_project = |fault| Refusal::of_project(rt, fault, project);
     let manner = manner(rt);
     let mut input = BufReader::new(rt.alloc(), rt.reader()).map_err(|_| Fault::Memory)?;

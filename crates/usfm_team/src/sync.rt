@@ -7,7 +7,7 @@ use crate::reading::{Given, Read, read_folder, read_given};
 use crate::refusal::Refusal;
 use crate::steps::{Disk, Done, do_steps, sweep};
 use crate::team_box::open_box;
-use crate::telling::say;
+use crate::telling::{SETTLE, say, say_heads};
 use crate::write_output;
 use book_folder::{
     FolderFault, Line, Place, Plan, Wanted, Wishes, export_plan, lines_of, make_plan, project_after,
@@ -20,9 +20,6 @@ use usfm_ref::{Book, RefFault, write_ref};
 const AWAITS: &str =
     "some edits have not come yet that others replace: `report` says whom to ask for a bundle";
 
-// What is said where segments are in conflict.
-const SETTLE: &str = "`settle` asks of each conflict which text is to stay";
-
 // How often a folder is read anew that is changed while it is planned.
 const MOST_READINGS: usize = 3;
 
@@ -30,6 +27,9 @@ const MOST_READINGS: usize = 3;
 // project and the folder are locked until all is done.
 pub(crate) fn sync(rt: &HostRuntime, words: SyncWords, explains: bool) -> Result<(), Refusal> {
     let wishes = wishes_of(rt, &words)?;
+    if explains {
+        say_heads(rt, &words.settled);
+    }
     let path = words.project;
     let (mut project, before) = open_project(rt, &path)?;
     let folder = open_folder(rt, &words.folder)?;
@@ -273,9 +273,11 @@ fn say_headless(rt: &HostRuntime, book: Book) {
 // Why a plan is refused, and what is named.
 pub(crate) fn refusal_of(what: What<'_>, read: &Read, refusal: book_folder::Refusal) -> Refusal {
     let other = other_file(&refusal);
-    let place = match refusal {
-        book_folder::Refusal::Memory => None,
-        book_folder::Refusal::Of(place, _) => Some(place),
+    let (place, is_taken) = match &refusal {
+        book_folder::Refusal::Memory => (None, false),
+        book_folder::Refusal::Of(place, fault) => {
+            (Some(*place), matches!(fault, FolderFault::NameTaken))
+        }
     };
     let fault = fault_of(refusal);
     match place {
@@ -283,7 +285,8 @@ pub(crate) fn refusal_of(what: What<'_>, read: &Read, refusal: book_folder::Refu
         Some(Place::Project) => Refusal::of_project(what.rt, fault, what.path),
         Some(place) => match name_of(what, read, place) {
             Ok(Some(name)) => match other {
-                None => Refusal::named(fault, name, expected_at(place)),
+                None if is_taken => Refusal::named(fault, name, Expected::NewFile),
+                None => Refusal::named(fault, name, expected_at(read, place)),
                 Some(at) => Refusal::of_two(fault, name, name_at(what, read, at)),
             },
             _ => Refusal::from(fault),
@@ -292,13 +295,16 @@ pub(crate) fn refusal_of(what: What<'_>, read: &Read, refusal: book_folder::Refu
 }
 
 // What stands at a place is to be.
-fn expected_at(place: Place) -> Expected {
+fn expected_at(read: &Read, place: Place) -> Expected {
     match place {
         Place::Project => Expected::Project,
         Place::Base(_) | Place::Next | Place::Older(_) => Expected::Kept,
         Place::Bundle(_) => Expected::Bundle,
-        Place::File(_) => Expected::BookFile,
-        Place::Other(_) => Expected::Unknown,
+        Place::File(at) => match read.files.get(at) {
+            Some(file) => read.kept.expected(&file.name, &file.bytes),
+            None => Expected::BookFile,
+        },
+        Place::Other(_) => Expected::NotRead,
         Place::Form => Expected::NewName,
     }
 }
@@ -329,7 +335,7 @@ fn name_of(what: What<'_>, read: &Read, place: Place) -> Result<Option<String>, 
         Place::Project => return Ok(None),
         Place::Base(at) => read.kept.base_names.get(at).map(|name| own(name)),
         Place::Next => Some(own(NEXT)),
-        Place::Older(at) => read.kept.older_names.get(at).map(|name| own(name)),
+        Place::Older(at) => read.kept.earlier_name(at).map(|name| own(name)),
         Place::Bundle(at) => what.given.names.get(at).map(|name| Ok(name.clone()?)),
         Place::File(at) => {
             let file = read.files.get(at);
@@ -353,7 +359,9 @@ pub(crate) fn fault_of(refusal: book_folder::Refusal) -> Fault {
         FolderFault::Bundle(fault) => Fault::from(fault),
         FolderFault::Clash(id) => Fault::Clash(id),
         FolderFault::NotText(valid) => Fault::NotText { valid },
-        FolderFault::FileChanged | FolderFault::SecondOf(_) => Fault::FileChanged,
+        FolderFault::FileChanged | FolderFault::NameTaken | FolderFault::SecondOf(_) => {
+            Fault::FileChanged
+        }
         FolderFault::Emptied(count) => Fault::Emptied {
             count: count as u64,
         },

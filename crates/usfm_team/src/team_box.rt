@@ -1,6 +1,6 @@
 // A folder in which the copies of a team leave their bundles.
 use crate::files::{
-    Folder, Found, is_still, make_file, open_plain, remove_if_there, sync_file, write_made,
+    Folder, Opened, is_still, make_file, open_plain, remove_if_there, sync_file, write_made,
 };
 use crate::reading::{Given, read_plain};
 use crate::refusal::Refusal;
@@ -9,7 +9,7 @@ use crate::telling::{say, say_of};
 use book_folder::{BoxFile, box_file, may_be_bundle};
 use project_file::judge;
 use std::fs;
-use usfm_cli::{Expected, Fault};
+use usfm_cli::{Expected, Fault, Found, TEXT_BUNDLE, found_file, is_text_bundle};
 
 // A box, which each copy reads, and in which it writes its own bundle.
 #[derive(Drop)]
@@ -57,10 +57,13 @@ fn read_box(
         if !may_be_bundle(&name) {
             if name.ends_with(".bundle") && name.contains('\n') {
                 say(rt, "skipped a bundle whose name contains a line break");
+            } else if is_text_bundle(&name) {
+                say_of(rt, "skipped ", &folder.name_of(rt, &name)?, TEXT_BUNDLE);
             }
             continue;
         }
-        let is_own = name.as_str() == own;
+        // Some file systems find a file under its name in any case.
+        let is_own = name.eq_ignore_ascii_case(own);
         let Some(bytes) = read_bundle(rt, folder, &name, is_own)? else {
             continue;
         };
@@ -72,9 +75,9 @@ fn read_box(
                 push_bundle(rt, folder, &name, is_own, bytes, given)?;
             }
             BoxFile::Unchanged => {}
-            BoxFile::NoBundle if is_own && judge(rt.alloc(), &bytes).is_ok() => {
-                // The copy's bundle would take the place of a project.
-                return Err(folder.refusal(rt, Fault::FileFailed, &name));
+            BoxFile::NoBundle if is_own && is_kept(&bytes) => {
+                let path = folder.name_of(rt, &name)?;
+                return Err(Refusal::named(Fault::FileFailed, path, Expected::OwnBundle));
             }
             BoxFile::NoBundle => {
                 let path = folder.name_of(rt, &name)?;
@@ -84,6 +87,14 @@ fn read_box(
         }
     }
     Ok(has_others)
+}
+
+// Whether bytes are those of another file, whose place the copy's bundle does not take.
+fn is_kept(bytes: &[u8]) -> bool {
+    matches!(
+        found_file(bytes),
+        Found::Project | Found::Summary | Found::BookFile
+    )
 }
 
 // The bytes of a bundle of a box. Another copy's that cannot be read is skipped and said: it keeps
@@ -163,7 +174,7 @@ impl TeamBox {
     // Writes a bundle under a name of its own, and gives it the other one then.
     fn put_by(&self, rt: &HostRuntime, new: &str, path: &str, bundle: &[u8]) -> Result<(), Fault> {
         let made = make_file(rt, new)?;
-        if let Ok(Found::Plain(old)) = open_plain(rt, path) {
+        if let Ok(Opened::Plain(old)) = open_plain(rt, path) {
             keep_rights(rt, &old, &made)?;
         }
         write_made(&made, bundle)?;

@@ -8,10 +8,10 @@ use std::io::{ErrorKind, IsTerminal, Read, Write};
 use std::path::Path;
 use std::{fs, str};
 use usfm_cli::{
-    Circumstances, Expected, FRONT_BYTES, Fault, Found, book_meant, explained, fault_line,
+    Circumstances, Expected, FRONT_BYTES, Fault, Found, Wanted, book_meant, explained, fault_line,
     found_file, has_split_reference,
 };
-use usfm_ref::{Book, Key, read_ref};
+use usfm_ref::{Book, Key, read_ref, write_ref};
 
 const ONE_WORD: &str =
     "\n  tip: a reference is one word, so put it between quotes, as in 'MAT 1:1'\n";
@@ -29,6 +29,12 @@ const SECOND_BOOK: &str =
 // What is said where the words of a text to find may have been taken for others.
 pub(crate) const SEVERAL_WORDS: &str =
     "A text to find that has several words goes in quotes: 'the beginning'.";
+
+// What is said where segments are in conflict.
+pub(crate) const SETTLE: &str = "`settle` goes through the conflicts and asks which text to keep";
+
+// What follows the reference of a chapter's head, where a person may have meant the chapter.
+const HEAD_ALONE: &str = " is the head of the chapter alone: name a verse, or the book";
 
 const IN_ONE_WORD: &str = "\n  tip: a text to find that has several words goes in quotes\n";
 
@@ -190,6 +196,19 @@ pub(crate) fn say_of(rt: &HostRuntime, before: &str, name: &str, after: &str) {
     }
 }
 
+// Says of the heads of chapters that they are no chapters, where conflicts are named to be settled.
+pub(crate) fn say_heads(rt: &HostRuntime, wanted: &[Wanted]) {
+    for one in wanted {
+        if let Wanted::One(book, key) = *one {
+            if key == key.head() && !key.is_book_head() {
+                if let Ok(head) = write_ref(rt.alloc(), book, key) {
+                    say_of(rt, "", &head, HEAD_ALONE);
+                }
+            }
+        }
+    }
+}
+
 // Writes a line.
 pub(crate) fn say(rt: &HostRuntime, line: &str) {
     let _ = writeln!(rt.stderr(), "{line}");
@@ -242,8 +261,15 @@ pub(crate) fn say_lines(rt: &HostRuntime, text: &str) {
         let _ = rt.stderr().write_all(text.as_bytes());
         return;
     }
-    let mut plain = String::new(rt.alloc());
-    if push_lines(&mut plain, text).is_ok() {
+    if let Ok(plain) = plain_lines(rt, text) {
         let _ = rt.stderr().write_all(plain.as_bytes());
     }
+}
+
+// A text of several lines as a terminal gets it: without its control characters. Lines that end in
+// CR LF, as many editors end them, look like others.
+pub(crate) fn plain_lines(rt: &HostRuntime, text: &str) -> Result<String, AllocError> {
+    let mut plain = String::new(rt.alloc());
+    push_lines(&mut plain, &text.replace(rt.alloc(), "\r\n", "\n")?)?;
+    Ok(plain)
 }

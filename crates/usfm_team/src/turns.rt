@@ -4,9 +4,11 @@ use crate::files::read_file;
 use crate::project::lock_project;
 pub(crate) use crate::refusal::Refusal;
 use crate::refusal::read_named;
-use crate::telling::{has_second_book, say_second_book};
+use crate::telling::{SETTLE, has_second_book, say, say_second_book};
 use std::{io, mem};
-use usfm_cli::{Command, Expected, Fault, StdSink, TurnFault, exec_in_turn, write_more};
+use usfm_cli::{
+    Command, Expected, Fault, StdSink, TurnFault, conflict_count, exec_in_turn, write_more,
+};
 
 // Takes in the files of books, one by itself and several in turn, or what was changed in them since
 // a bundle.
@@ -29,13 +31,27 @@ pub(crate) fn receive(
     rt: &HostRuntime,
     project: &str,
     bundles: Vec<String>,
+    explains: bool,
 ) -> Result<(), Refusal> {
-    if let [bundle] = bundles.as_slice() {
-        return receive_one(rt, project, bundle);
+    match bundles.as_slice() {
+        [bundle] => receive_one(rt, project, bundle)?,
+        _ => {
+            if let Err(fault) = receive_all(rt, project, &bundles) {
+                return Err(Refusal::of_turn(rt, fault, project, &bundles, Expected::Bundle));
+            }
+        }
     }
-    match receive_all(rt, project, &bundles) {
-        Ok(()) => Ok(()),
-        Err(fault) => Err(Refusal::of_turn(rt, fault, project, &bundles, Expected::Bundle)),
+    if explains && has_conflicts(rt, project) {
+        say(rt, SETTLE);
+    }
+    Ok(())
+}
+
+// Whether segments of a project are in conflict, if it can be read.
+fn has_conflicts(rt: &HostRuntime, project: &str) -> bool {
+    match read_file(rt, project) {
+        Ok(bytes) => conflict_count(rt.alloc(), &bytes, &[]).is_ok_and(|count| count > 0),
+        Err(_) => false,
     }
 }
 

@@ -12,16 +12,22 @@ pub(crate) const MOST_TYPED: usize = 4095;
 // What a person at a terminal reads who is to type a text, or to give bundles.
 const SHOWS: &str = "usfm_team: the segment shows";
 
-const TYPE_A_TEXT: &str = "\
-usfm_team: type the segment's text with its mark, and with what follows it, as \\p; what you leave out
-is gone from the book. Control-D on a new line ends it.
+pub(crate) const TYPE_A_TEXT: &str = "\
+usfm_team: type the segment's text with its mark, and whatever follows it, such as \\p; what you leave
+out is gone from the book. Control-D on a new line ends it.
+";
+
+// The same where no text is named that it replaces.
+pub(crate) const TYPE_BESIDE: &str = "\
+usfm_team: type a text of the segment with its mark. No id is named, so it replaces nothing, and is
+shown beside the texts that are there. Control-D on a new line ends it.
 ";
 
 const NOTHING_TYPED: &str = "\
 Nothing was changed: no text was typed. An empty file or pipe removes the segment from its book.";
 
-// What a person reads whose text is empty.
-const NO_TEXT: &str = "the text that came is empty, which removes the segment from its book";
+// What a person reads whose text was empty.
+const REMOVED: &str = "the text was empty, so the segment was removed from its book";
 
 pub(crate) const GIVE_BUNDLES: &str =
     "usfm_team: waiting for bundles on standard input: control-D on a new line ends it\n";
@@ -33,27 +39,31 @@ pub(crate) fn text_for(
     project: &Given<'_>,
     book: Book,
     key: Key,
-    explains: bool,
+    asks: &str,
 ) -> Result<Option<Vec<u8>>, Refusal> {
     let is_typed = rt.stdin().is_terminal();
     if is_typed {
         show(rt, project, book, key)?;
     }
-    let text = read_text(rt)?;
+    let text = read_text(rt, asks)?;
     if text.is_empty() && is_typed {
         say(rt, NOTHING_TYPED);
         return Ok(None);
     }
-    if text.is_empty() && explains {
-        say(rt, NO_TEXT);
-    }
     Ok(Some(text))
+}
+
+// Says of an edit that was made what an empty text does.
+pub(crate) fn say_removed(rt: &HostRuntime, text: &[u8]) {
+    if text.is_empty() {
+        say(rt, REMOVED);
+    }
 }
 
 // Says what a segment shows. Where its book is not there, no text would be taken but the book's head,
 // so that none is typed in vain.
 fn show(rt: &HostRuntime, project: &Given<'_>, book: Book, key: Key) -> Result<(), Refusal> {
-    if key.chapter > 0 {
+    if !key.is_book_head() {
         let export = exec(rt.alloc(), project.bytes, &Command::Export(book));
         export.map_err(|fault| Refusal::of_inputs(rt, fault, project, None))?;
     }
@@ -68,8 +78,8 @@ fn show(rt: &HostRuntime, project: &Given<'_>, book: Book, key: Key) -> Result<(
 
 // The text that standard input has. A terminal leaves out what is too long for a line of it, and
 // the rest would be taken for the whole.
-fn read_text(rt: &HostRuntime) -> Result<Vec<u8>, Refusal> {
-    say_at_terminal(rt, TYPE_A_TEXT);
+fn read_text(rt: &HostRuntime, asks: &str) -> Result<Vec<u8>, Refusal> {
+    say_at_terminal(rt, asks);
     let mut source = StdSource::new(rt.reader());
     let text = read_to_end(rt.alloc(), &mut source).map_err(Fault::from)?;
     let is_cut = text

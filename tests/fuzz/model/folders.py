@@ -137,7 +137,7 @@ def why_no_book(data: bytes) -> bytes:
         return b"it is empty"
     if data[:2] in (b"\xff\xfe", b"\xfe\xff"):
         return b"it is UTF-16: save it as UTF-8"
-    return b"it does not begin with \\id, one blank and a book's code in capitals"
+    return b"it does not begin with \\id, one space and a book's code in capitals"
 
 
 def front(data: bytes) -> bytes:

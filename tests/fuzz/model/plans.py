@@ -4,7 +4,7 @@ from typing import Callable, Optional, Sequence
 
 from .bundles import write_bundle
 from .faults import Fault
-from .folders import BookFile, Kept, Wishes, book_begun, books_of, come_in, conflicts, is_there, of_path, written_from
+from .folders import BookFile, Kept, Wishes, book_begun, books_of, come_in, conflicts, is_code, is_there, of_path, written_from
 from .likes import in_manner_of, is_like, is_mixed
 from .operations import Operation, Set, awaited, export, join, keys_of, set_of, shown
 from .references import book_rank
@@ -69,13 +69,19 @@ def new_files(folder: dict, place: str, kept: Kept, files: Sequence[BookFile], h
         text = export(held, book)
         file = by_book.get(book)
         if file is None:
-            path = f"{place}/{kept.names.get(book, common(book))}"
+            known = kept.names.get(book)
+            path = f"{place}/{common(book) if known is None or is_of_another(common, book, known) else known}"
             if is_there(folder, path):
                 raise of_path(path, 131)
             made[path] = (book, text)
         elif not is_like(text, file.data):
             made[file.path] = (book, text if is_mixed(file.data) else in_manner_of(file.data, text))
     return made
+
+
+def is_of_another(common: Callable[[str], str], book: str, name: str) -> bool:
+    """Whether a name is the one that the file of another book gets."""
+    return any(is_code(it) and it != book and common(it) == name for it in (name[:3], name[2:5]))
 
 
 # The numbers that stand before the codes of some books in the names of Paratext's files.

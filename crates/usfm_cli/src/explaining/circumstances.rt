@@ -17,12 +17,25 @@ pub enum Expected {
     Project,
     /// A project that is to be begun: nothing may stand under its name.
     NewProject,
+    /// Such a project, under the name that it has until it is whole.
+    HalfProject,
     /// A bundle.
     Bundle,
     /// The file of a book.
     BookFile,
     /// The one file of a book in a folder, which has another one of it.
     OneOfTwo,
+    /// The file of another book in a folder than the one whose it was.
+    Renamed,
+    /// The file of a book in a folder of which nothing says what its files were written from.
+    Unbased,
+    /// Nothing: under this name another book gets its file.
+    NewFile,
+    /// The file of a book in a folder, of which it has the name, but not the front.
+    NoBook,
+    /// The file of a book in a folder, of which it has the name, but which is not read: it is no
+    /// plain file, or too long.
+    NotRead,
     /// What the program keeps of a folder: what the files in it were written from.
     Kept,
     /// A name that says how the files of books are to be named.

@@ -8,12 +8,13 @@ use crate::explaining::sentences::{
     BAD_TEXT, BOOK_NOT_BUNDLE, BOOK_NOT_PROJECT, BOX_IS_FILE, BUNDLE_NOT_BOOK, BUNDLE_NOT_LEFT,
     BUNDLE_NOT_PROJECT, BUNDLE_NOT_SUMMARY, CLASH, CLASH_IN_BUNDLE, CUT_LINE, DAMAGED_BASE,
     DAMAGED_PROJECT, EMPTIED, EMPTY_MARKER, EMPTY_NEEDLE, FIELD_BEFORE_MARKER, FILE_CHANGED,
-    FILE_FAILED, FILE_NO_BOOK, FILE_NOT_WRITTEN, IN_CAPITALS, IS_FILE, IS_FOLDER, IS_THERE, MEMORY,
+    FILE_FAILED, FILE_NO_BOOK, FILE_NOT_READ, FILE_NOT_WRITTEN, FILE_RENAMED, FILE_UNBASED,
+    FOLDER_IS_THERE, HALF_IS_THERE, IN_CAPITALS, IS_FILE, IS_FOLDER, IS_THERE, MEMORY, NAME_TAKEN,
     NO_BOOK, NO_BUNDLE, NO_CODE, NO_FOLDER_FOR_IT, NO_FOLDER_THERE, NO_FORM, NO_ID, NO_PROJECT,
-    NO_PROJECT_THERE, NO_REFERENCE, NO_SUMMARY, NOT_RISING, NOT_SHOWN, NOT_TEXT, NOTHING_THERE,
-    NUMBERS_USED_UP, PROJECT_NOT_BOOK, PROJECT_NOT_BUNDLE, READ_FAILED, SECOND_FILE,
+    NO_PROJECT_THERE, NO_REFERENCE, NO_SUMMARY, NOT_OWN_BUNDLE, NOT_RISING, NOT_SHOWN, NOT_TEXT,
+    NOTHING_THERE, NUMBERS_USED_UP, PROJECT_NOT_BOOK, PROJECT_NOT_BUNDLE, READ_FAILED, SECOND_FILE,
     SUMMARY_NOT_BOOK, SUMMARY_NOT_BUNDLE, SUMMARY_NOT_PROJECT, TEXT_NOT_UTF8, TOO_LONG, TRAILING,
-    TRUNCATED, UNDONE, UNLIKE, UNSUPPORTED, WRITE_FAILED,
+    TRUNCATED, UNDONE, UNLIKE, UNLIKE_FOLDER, UNSUPPORTED, WRITE_FAILED,
 };
 use crate::fault::Fault;
 use bundle_codec::BundleFault;
@@ -134,22 +135,31 @@ fn sentences(fault: &Fault, expected: Expected, found: Found) -> &'static str
         Fault::ReadFailed => unread(expected, found),
         Fault::FileFailed => match expected {
             Expected::NewProject => not_begun(found),
-            Expected::OwnBundle => BUNDLE_NOT_LEFT,
+            Expected::HalfProject => HALF_IS_THERE,
+            Expected::OwnBundle => not_left(found),
             Expected::BookFile => FILE_NOT_WRITTEN,
             _ => FILE_FAILED,
         },
-        Fault::FileChanged => changed(expected, found),
+        Fault::FileChanged => changed(expected),
+        Fault::Unlike { count: _ } => match expected {
+            Expected::Kept => UNLIKE_FOLDER,
+            _ => UNLIKE,
+        },
         _ => general_sentences(fault),
     }
 }
 
-fn changed(expected: Expected, found: Found) -> &'static str
-    ensures { result.now ≡ told.changed expected found }
+fn changed(expected: Expected) -> &'static str
+    ensures { result.now ≡ told.changed expected }
 {
-    match (expected, found) {
-        (Expected::OneOfTwo, _) => SECOND_FILE,
-        (_, Found::Unseen | Found::BookFile) => FILE_CHANGED,
-        _ => FILE_NO_BOOK,
+    match expected {
+        Expected::OneOfTwo => SECOND_FILE,
+        Expected::Renamed => FILE_RENAMED,
+        Expected::Unbased => FILE_UNBASED,
+        Expected::NewFile => NAME_TAKEN,
+        Expected::NoBook => FILE_NO_BOOK,
+        Expected::NotRead => FILE_NOT_READ,
+        _ => FILE_CHANGED,
     }
 }
 
@@ -240,12 +250,22 @@ fn unread_file(found: Found, missing: &'static str) -> &'static str
     }
 }
 
+fn not_left(found: Found) -> &'static str
+    ensures { result.now ≡ told.not_left found }
+{
+    match found {
+        Found::Project | Found::Summary | Found::BookFile => NOT_OWN_BUNDLE,
+        _ => BUNDLE_NOT_LEFT,
+    }
+}
+
 fn not_begun(found: Found) -> &'static str
     ensures { result.now ≡ told.not_begun found }
 {
     match found {
         Found::Unseen | Found::Nothing => FILE_FAILED,
         Found::NoFolder => NO_FOLDER_FOR_IT,
+        Found::Folder => FOLDER_IS_THERE,
         _ => IS_THERE,
     }
 }

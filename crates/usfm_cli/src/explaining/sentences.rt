@@ -22,16 +22,16 @@ alone or after the two digits that Paratext has for the book, and an ending.";
 
 pub(crate) const IN_CAPITALS: &str = "\
 The code of a book is written in capitals.
-Write it so: ";
+Write it like this: ";
 
 pub(crate) const NO_REFERENCE: &str = "\
 This is not a reference to a verse, or to the head of a chapter or of a book.
 Write 'MAT 1:1' for a verse, 'MAT 1' for the head of a chapter, and 'MAT 0'
-for that of the book: one blank, a colon, no zeros in front. Verses that stand
+for that of the book: one space, a colon, no zeros in front. Verses that stand
 together, as in \\v 3-4, have the reference of the first one: 'MAT 1:3'.";
 
 pub(crate) const NO_ID: &str = "\
-The file does not begin with \\id and a blank.
+The file does not begin with \\id and a space.
 Give it a first line with the code of its book, such as \\id MAT.";
 
 pub(crate) const BUNDLE_NOT_BOOK: &str = "\
@@ -247,6 +247,16 @@ pub(crate) const IS_THERE: &str = "\
 Something of this name is there already.
 Go on with that project, or begin one under another name.";
 
+pub(crate) const FOLDER_IS_THERE: &str = "\
+A folder of this name is there already.
+Name a file that is not there yet, such as ana.project: the project is one
+file, and its books' files are in a folder beside it.";
+
+pub(crate) const HALF_IS_THERE: &str = "\
+Something stands under the name that a project has until it is whole.
+`init` did not leave it there. Move it away, or begin the project under another
+name.";
+
 pub(crate) const NO_FOLDER_FOR_IT: &str = "\
 The folder for this project is not there.
 Check the name, and that a stick or server is connected; or make the folder
@@ -257,6 +267,10 @@ This bundle could not be written, or the disk may not keep it.
 All else that `sync` does is done. Check the permissions of the folder and the
 free space, and sync again: until then the others do not get your work there.";
 
+pub(crate) const NOT_OWN_BUNDLE: &str = "\
+This stands in the place of your copy's bundle, and is none.
+Move it out of the box, and sync again. Nothing was done.";
+
 pub(crate) const FILE_NOT_WRITTEN: &str = "\
 This book's file could not be written, or the disk may not keep it.
 All else that `sync` does is done. Check the permissions of the folder and the
@@ -264,18 +278,42 @@ free space, and sync again.";
 
 pub(crate) const FILE_CHANGED: &str = "\
 A file of the folder would lose text.
-If it begins with another book's \\id now, it was renamed: give it its old name
-back. If the project has the book from elsewhere, as by `import`, and the file
-is the newer one, `import` it, to have it replace all of the book. If somebody
-else began the same book, sync once without bundles and --box, and then with
-them: both texts stay. After `export`, try `sync`, which takes in changes.
+After `export`, try `sync`, which takes in changes. If you and somebody else
+began the same book, sync once without bundles and --box, and then with them:
+both texts stay. If the project has the book from elsewhere, as by `import`,
+and the file is the newer one, `import` it, to have it replace all of it.
 Else move the file away, sync, and make its changes in the new file.";
+
+pub(crate) const FILE_UNBASED: &str = "\
+Nothing says what this file was written from, and it differs from the book.
+If the folder was copied or moved, its hidden folder .usfm_team was left
+behind: copy that, too. If you and somebody else began the same book, sync
+once without bundles and --box, and then with them: both texts stay. If the
+file is the newer one, `import` it, to have it replace all of the book. Else
+move it away, sync, and make its changes in the new file.";
+
+pub(crate) const FILE_RENAMED: &str = "\
+This was the file of another book, and does not have the \\id of that now.
+If the code after \\id was changed by mistake, put the old one back. If the
+file was renamed, give it its old name back. If it is to be this book's from
+now on, give it a new name: `sync` writes the other book's file anew.";
+
+pub(crate) const NAME_TAKEN: &str = "\
+This stands under the name that the new file of a book is to get.
+If it is the file of another book, give it a name of its own: `sync` knows it
+by its \\id. Else move it away. Then sync again.";
 
 pub(crate) const FILE_NO_BOOK: &str = "\
 This stands under the name of a book's file, and does not begin as one.
 If it is the book's file, correct its first line, with \\id and the code, save
 it as UTF-8, and sync again. Else move it away: `sync` writes the book's file
 anew.";
+
+pub(crate) const FILE_NOT_READ: &str = "\
+This stands under the name of a book's file, and `sync` does not read it.
+It is a link, a file with a second name or of more than 16,777,216 bytes, or no
+file at all. Put a plain file in its place, or move it away: `sync` writes the
+book's file anew.";
 
 pub(crate) const SECOND_FILE: &str = "\
 These two files are of one book, and a folder has one file for each book.
@@ -297,6 +335,12 @@ folder shows which ones `sync` refuses.";
 
 pub(crate) const UNLIKE: &str = "\
 The bundle is of another project, and brings this many conflicts, or books.
-Leave it out, unless the two are to be one: then sync with --join. If two
-copies began with the same files, one of them begins anew: `init` under a new
-name, one sync of an empty folder with this bundle, and its changes there.";
+Leave it out, unless the two are to be one: then sync with --join; no command
+takes them apart again. If two copies began with the same files, one of them
+begins anew: `init` under a new name, one sync of an empty folder with this
+bundle, and its changes there.";
+
+pub(crate) const UNLIKE_FOLDER: &str = "\
+The folder is another project's, and brings this many conflicts, or books.
+Name the folder of this project's books. Only if the two projects are to be one
+from now on, sync with --join: no command takes them apart again.";

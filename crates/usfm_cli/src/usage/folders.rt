@@ -186,7 +186,7 @@ pub(crate) fn export_line(alloc: Global, given: &ArgMatches<'_>) -> Result<Line,
 }
 
 const ONE_BOOK: &str = "\
-error: without --into FOLDER one BOOK is exported
+error: name one BOOK; for several, add --into FOLDER
 
 Usage: usfm_team export <PROJECT> <BOOK>
 
