@@ -1,0 +1,4 @@
+pub mod Loops
+pub mod Numbers
+pub mod Lines
+pub mod Laws

@@ -1,0 +1,9 @@
+pub mod Gathers
+pub mod Replacing
+pub mod Keeping
+pub mod Listing
+pub mod HistoryLaws
+pub mod ShownLists
+pub mod Changing
+pub mod Appending
+pub mod Restoring

@@ -1,0 +1,9 @@
+pub mod Histories
+pub mod Entries
+pub mod Lines
+pub mod Changes
+pub mod ChangeLines
+pub mod ChangeLaws
+pub mod Restores
+pub mod Laws
+pub mod Loops

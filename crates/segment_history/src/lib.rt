@@ -1,0 +1,31 @@
+//! What a project holds of its segments, operation by operation: the history of a segment, what
+//! changed since some ids were known, and the edits that have a text back.
+#![tactic(auto)]
+
+mod awaited;
+mod change_lines;
+mod changed;
+mod entry;
+mod fault;
+mod gathered;
+mod history;
+mod ids;
+pub mod laws;
+mod lines;
+mod replacers;
+mod restore;
+mod showing;
+mod since;
+mod texts;
+
+pub use change_lines::changes_text;
+pub use changed::{ChangedSegment, ShownText};
+pub use entry::{Entry, Kept, SegmentHistory};
+pub use fault::RestoreFault;
+pub use history::histories;
+pub use lines::history_text;
+pub use restore::{RestoredText, restored_since};
+pub use since::changes;
+
+#[cfg(test)]
+mod tests;

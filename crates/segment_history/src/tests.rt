@@ -1,0 +1,141 @@
+// The worked rows of histories.
+use crate::{RestoreFault, RestoredText, changes, changes_text, history_text, restored_since};
+use bundle_codec::{Summary, decode, join_bundles};
+use std::alloc::Global;
+use std::process::Abort;
+use std::test::Fail;
+use usfm_ref::{Segment, read_ref};
+
+// 1 ana on MAT 0, and 2 ana on MAT 1:1; neither names anything.
+const B1: [u8; 108] =
+    *b"USFMSR1\n\0\0\0\0\0\0\0\x02\0\0\0\0\0\0\0\x01\x03anaMAT\0\0\0\0\0\0\0\0\0\0\0\0\0\0\x01\0\0\0\0\0\0\0\x08\\id MAT\n\0\0\0\0\0\0\0\x02\x03anaMAT\0\x01\x01\0\x01\0\0\0\0\0\0\0\0\0\x01\0\0\0\0\0\0\0\x08\\v 1 In\n";
+
+// 3 ben on MAT 1:1, naming 2 ana.
+const Y: [u8; 74] =
+    *b"USFMSR1\n\0\0\0\0\0\0\0\x01\0\0\0\0\0\0\0\x03\x03benMAT\0\x01\x01\0\x01\0\0\0\0\0\0\0\0\x01\0\0\0\0\0\0\0\x02\x03ana\x01\0\0\0\0\0\0\0\x08\\v 1 At\n";
+
+// 3 ana on MAT 1:1, naming 2 ana.
+const Z: [u8; 74] =
+    *b"USFMSR1\n\0\0\0\0\0\0\0\x01\0\0\0\0\0\0\0\x03\x03anaMAT\0\x01\x01\0\x01\0\0\0\0\0\0\0\0\x01\0\0\0\0\0\0\0\x02\x03ana\x01\0\0\0\0\0\0\0\x08\\v 1 To\n";
+
+// 2 ana on MAT 1:1, thinned, and 3 ben on it as in Y.
+const V2: [u8; 104] =
+    *b"USFMSR2\n\0\0\0\0\0\0\0\x02\0\0\0\0\0\0\0\x02\x03anaMAT\0\x01\x01\0\x01\0\0\0\0\0\0\0\0\0\0\0\0\0\0\0\0\0\x03\x03benMAT\0\x01\x01\0\x01\0\0\0\0\0\0\0\0\x01\0\0\0\0\0\0\0\x02\x03ana\x01\0\0\0\0\0\0\0\x08\\v 1 At\n";
+
+// No operation.
+const NONE: &[u8] = b"USFMSR1\n\0\0\0\0\0\0\0\0";
+
+fn assert_history(rt: &impl Abort, alloc: Global, bundle: &[u8], text: &[u8]) -> Result<(), Fail> {
+    let (bundle, _) = decode(alloc, bundle)?;
+    let (book, key) = read_ref("MAT 1:1")?;
+    let told = history_text(alloc, &bundle, &[Segment { book, key }])?;
+    assert_eq!(rt; told.as_slice(), text);
+    Ok(())
+}
+
+#[test]
+fn two_replace_one(rt: HostRuntime) -> Result<(), Fail> {
+    let alloc = rt.alloc();
+    let both = join_bundles(alloc, &Y, &Z)?;
+    let all = join_bundles(alloc, &B1, &both)?;
+    assert_history(
+        &rt,
+        alloc,
+        &all,
+        b"history MAT 1:1 3\nop 3 ben 8 shown\n\\v 1 At\n\nop 3 ana 8 shown\n\\v 1 To\n\nop 2 ana 8 replaced 3:ana 3:ben\n\\v 1 In\n\n",
+    )
+}
+
+#[test]
+fn awaited_and_thinned(rt: HostRuntime) -> Result<(), Fail> {
+    let alloc = rt.alloc();
+    assert_history(
+        &rt,
+        alloc,
+        &Y,
+        b"history MAT 1:1 2\nop 3 ben 8 shown\n\\v 1 At\n\nawaited 2 ana replaced 3:ben\n",
+    )?;
+    assert_history(
+        &rt,
+        alloc,
+        &V2,
+        b"history MAT 1:1 2\nop 3 ben 8 shown\n\\v 1 At\n\nop 2 ana thinned 3:ben\n",
+    )
+}
+
+#[test]
+fn nothing_is_held(rt: HostRuntime) -> Result<(), Fail> {
+    let alloc = rt.alloc();
+    assert_history(&rt, alloc, NONE, b"history MAT 1:1 0\n")
+}
+
+fn assert_changes(
+    rt: &impl Abort,
+    alloc: Global,
+    bundle: &[u8],
+    before: &[u8],
+    text: &[u8],
+) -> Result<(), Fail> {
+    let (before, _) = decode(alloc, before)?;
+    let known = Summary::of_bundle(alloc, &before)?;
+    let (bundle, _) = decode(alloc, bundle)?;
+    let told = changes_text(alloc, &changes(alloc, &bundle, &known)?, true)?;
+    assert_eq!(rt; told.as_slice(), text);
+    Ok(())
+}
+
+#[test]
+fn two_came(rt: HostRuntime) -> Result<(), Fail> {
+    let alloc = rt.alloc();
+    let both = join_bundles(alloc, &Y, &Z)?;
+    let all = join_bundles(alloc, &B1, &both)?;
+    assert_changes(
+        &rt,
+        alloc,
+        &all,
+        &B1,
+        b"changed MAT 1:1 ana ben\nwas 2 ana 8\n\\v 1 In\n\nis 3 ben 8\n\\v 1 At\n\nis 3 ana 8\n\\v 1 To\n\n",
+    )?;
+    assert_changes(&rt, alloc, &all, &all, b"")?;
+    assert_changes(
+        &rt,
+        alloc,
+        &B1,
+        NONE,
+        b"changed MAT 0 ana\nis 1 ana 8\n\\id MAT\n\nchanged MAT 1:1 ana\nis 2 ana 8\n\\v 1 In\n\n",
+    )?;
+    assert_changes(
+        &rt,
+        alloc,
+        &V2,
+        &B1,
+        b"changed MAT 1:1 ben\nwas 2 ana thinned\nis 3 ben 8\n\\v 1 At\n\n",
+    )
+}
+
+// Whether these are edits that give a text in the place of one operation.
+fn gives(edits: &[RestoredText<'_>], text: &str) -> bool {
+    match edits {
+        [edit] => edit.text.as_bytes() == text.as_bytes() && edit.ids.len() == 1,
+        _ => false,
+    }
+}
+
+#[test]
+fn a_text_is_had_back(rt: HostRuntime) -> Result<(), Fail> {
+    let alloc = rt.alloc();
+    let all = join_bundles(alloc, &B1, &Y)?;
+    let (before, _) = decode(alloc, &B1)?;
+    let known = Summary::of_bundle(alloc, &before)?;
+    let (bundle, _) = decode(alloc, &all)?;
+    let (book, key) = read_ref("MAT 1:1")?;
+    let segments = [Segment { book, key }];
+    let edits = restored_since(alloc, &bundle, &known, &segments)?;
+    assert!(rt; gives(&edits, "\\v 1 In\n"));
+    let own = Summary::of_bundle(alloc, &bundle)?;
+    assert_eq!(rt; restored_since(alloc, &bundle, &own, &segments)?.len(), 0);
+    let (thinned, _) = decode(alloc, &V2)?;
+    let refused = restored_since(alloc, &thinned, &known, &segments);
+    assert!(rt; matches!(refused, Err(RestoreFault::LeftOut(_))));
+    Ok(())
+}

@@ -1,0 +1,4 @@
+pub mod Splits
+pub mod Orders
+pub mod Words
+pub mod Kept
