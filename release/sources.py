@@ -12,6 +12,8 @@ RELEASE = Path(__file__).resolve().parent
 TOP = RELEASE.parent
 # The program as the gate and ./build leave it.
 BUILT = TOP / "crates/usfm_team/out/usfm_team"
+# What links the program for Windows of the object that the toolchain leaves beside that.
+LINK, LINKER = TOP / "windows/link", "x86_64-w64-mingw32-gcc"
 TESTS = re.compile(r"^#\[cfg\(test\)\]\nmod (\w+);$", re.M)
 
 
@@ -57,10 +59,29 @@ def digest() -> str:
 
 
 def toolchain() -> str | None:
-    """The line of `rt version`, or nothing where there is no toolchain."""
+    """The line of `rt version`, or nothing where there is no toolchain that answers."""
     if shutil.which("rt") is None:
         return None
-    return subprocess.check_output(["rt", "version"], text=True).strip()
+    ran = subprocess.run(["rt", "version"], stdout=subprocess.PIPE, stderr=subprocess.DEVNULL, stdin=subprocess.DEVNULL, text=True)
+    return ran.stdout.strip() if ran.returncode == 0 else None
+
+
+def is_built() -> bool:
+    """Whether a program was built here, and no source was changed after it."""
+    return BUILT.is_file() and all((TOP / path).stat().st_mtime <= BUILT.stat().st_mtime for path in files())
+
+
+def linker() -> str | None:
+    """What links programs for Windows calls itself, or nothing where it is not installed."""
+    if shutil.which(LINKER) is None:
+        return None
+    return subprocess.check_output([LINKER, "--version"], text=True).splitlines()[0]
+
+
+def linked(program: Path, work: Path) -> bytes:
+    """The program for Windows of the object that stands beside a program, linked in a folder for work."""
+    subprocess.run([LINK, program.with_name("usfm_team.o"), work / "usfm_team.exe"], check=True)
+    return (work / "usfm_team.exe").read_bytes()
 
 
 def stated() -> dict[str, str]:

@@ -18,10 +18,10 @@
 #include <stdlib.h>
 #include <string.h>
 
-enum kind { OPEN, READ, WRITE, SYNC, CLOSE, LOOK, FOLLOW, REMOVE, RENAME, LOCK, MODE, GROUP, MEMORY, KINDS };
+enum kind { OPEN, READ, WRITE, SYNC, CLOSE, LOOK, FOLLOW, REMOVE, RENAME, LOCK, MODE, GROUP, LINK, MEMORY, KINDS };
 
 static const char *const names[KINDS] = {"open",   "read",   "write", "sync", "close", "look",  "follow",
-                                         "remove", "rename", "lock",  "mode", "group", "memory"};
+                                         "remove", "rename", "lock",  "mode", "group", "link",   "memory"};
 
 enum { REFUSED_NOTHING = -1, REFUSED_SHORT = -2, REFUSED_KILL = -3 };
 
@@ -128,6 +128,16 @@ int fchmod(int handle, unsigned mode) {
 int fchown(int handle, unsigned owner, unsigned group) {
     int (*real)(int, unsigned, unsigned) = next("fchown");
     ANSWER(GROUP, NULL, handle, group, real(handle, owner, group));
+}
+
+/* It is counted and not written down: what links has other ways to go on, which its own tests try. */
+int link(const char *from, const char *to) {
+    int (*real)(const char *, const char *) = next("link");
+    if (is_refused(LINK)) {
+        errno = refused.how;
+        return -1;
+    }
+    return real(from, to);
 }
 
 char *realpath(const char *path, char *found) {

@@ -38,6 +38,13 @@ class Run:
     most_held: int
 
 
+@dataclass(frozen=True)
+class Alone:
+    """A program with no library between, for what makes no call fail."""
+
+    program: Path
+
+
 class Between:
     """A copy of the program and the library, in a folder for what they write."""
 

@@ -20,8 +20,8 @@ INSIDE = {
 DETAILS = {"": [], "(OpId)": ["number", "name"], "(u64)": ["place"], "valid": ["length"], "line": ["line"], "gone": ["bytes"], "count": ["count"]}
 # The commands of the program whose names are not those of the code's, or their first words.
 COMMANDS = {"EditWith": "edit-over"}
-# The words that README, for readers who write no code, has for some of them.
-README_DETAILS = {"length": "bytes"}
+# The words that the program, for readers who write no code, has for some of them.
+SAID_DETAILS = {"length": "bytes"}
 VARIANT = re.compile(r"((?:^    ///.*\n)+)    #\[error\(\"((?:[^\"\\]|\\.)+)\".*\)\]\n    (\w+)(.*),$", re.M)
 
 
@@ -80,22 +80,6 @@ def check_formats(code):
         check(details == ", ".join(wanted), f"FORMATS.md: the details of {number} are {wanted}")
 
 
-def check_readme(code):
-    rows = text_of("README.md").split("| Fault | What it means |\n")[1].split("\n\n")[0].splitlines()[1:]
-    named = set()
-    for row in rows:
-        cell, *said = [it.strip() for it in row.strip("|").split(" | ")]
-        numbers = numbers_in(cell)
-        named |= numbers
-        check(len(said) == 1 and all(said), f"README.md: {cell} says not what it means")
-        if len(numbers & set(code)) == 1:
-            wanted = [README_DETAILS.get(it, it) for it in code[min(numbers)][2]]
-            check(re.findall(r"\*(\w+)\*", cell) == wanted, f"README.md: the details of {cell} are {wanted}")
-    # README has the faults of a bundle in one row, some of whose numbers nothing has.
-    check(named - set(range(60, 71)) == set(code) - set(range(60, 71)), f"README.md and the code differ in the faults {sorted(named ^ set(code))}")
-    check(set(code) <= named, f"README.md lacks the faults {sorted(set(code) - named)}")
-
-
 def check_width(command, page):
     wide = [line for line in page.splitlines() if len(line) > 80]
     check(not wide, f"the help of {command} is wider than a terminal of 80 columns: {wide[:1]}")
@@ -116,7 +100,7 @@ def check_help(code, pages):
             named |= numbers
             written = re.findall(r"\b[A-Z]+\b", line)
             for number in numbers & set(code):
-                wanted = [README_DETAILS.get(it, it).upper() for it in code[number][2]]
+                wanted = [SAID_DETAILS.get(it, it).upper() for it in code[number][2]]
                 shared = len(numbers) > 1 and not written
                 check(written == wanted or shared, f"the help of {command}: the details of {number} are {wanted}")
     check(set(code) <= named, f"no page of help has the faults {sorted(set(code) - named)}")
@@ -174,11 +158,11 @@ def pages_of_help():
 
 
 def check_sentences(code):
-    """The program lists each fault with its details and its sentences, and the pages have their first sentences from there."""
+    """The program lists each fault with its details and its sentences, and FORMATS has their first sentences from there."""
     listed = re.findall(r"^fault (\d+)((?: [A-Z]+)*)\n((?:  .+\n)+)", program("faults"), re.M)
     check([int(it[0]) for it in listed] == sorted(code), f"the program lists the faults {[it[0] for it in listed]}")
     for number, details, sentences in listed:
-        wanted = [README_DETAILS.get(it, it).upper() for it in code.get(int(number), ("", "", []))[2]]
+        wanted = [SAID_DETAILS.get(it, it).upper() for it in code.get(int(number), ("", "", []))[2]]
         check(details.split() == wanted, f"usfm_team faults: the details of {number} are {wanted}")
         check(len(sentences.splitlines()) > 1, f"usfm_team faults: {number} says what to do")
         check(all(len(it) <= 80 for it in sentences.splitlines()), f"usfm_team faults: {number} is wider than 80 columns")
@@ -190,6 +174,5 @@ def check_faults():
     code, pages = table(), pages_of_help()
     check_sentences(code)
     check_formats(code)
-    check_readme(code)
     check_help(code, pages)
     check_commands(code, pages)

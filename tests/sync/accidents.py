@@ -60,8 +60,11 @@ class Place:
         return wanted(self.run("export", "p", code))
 
 
-def check_accidents(tally: Tally, between: Between, work: Path) -> None:
-    plays: list[Callable[[Tally, Between, Path], None]] = [
+Accident = Callable[[Tally, Between, Path], None]
+
+
+def check_accidents(tally: Tally, between: Between, work: Path, only: Optional[list[Accident]] = None) -> None:
+    plays: list[Accident] = only or [
         check_no_longer_a_book,
         check_copies,
         check_removed,
@@ -79,6 +82,8 @@ def check_accidents(tally: Tally, between: Between, work: Path) -> None:
     ]
     for play in plays:
         play(tally, between, work / play.__name__)
+    if only:
+        return
     if os.geteuid() == 0:
         check_owners(tally, between, work / "owners")
     else:
@@ -379,3 +384,16 @@ def check_owners(tally: Tally, between: Between, home: Path) -> None:
         found = path.stat()
         is_right = (found.st_uid, found.st_gid, found.st_mode & 0o7777) == (NOBODY, SOMEBODY, 0o640)
         tally.check(is_right, f"{path.name} by root: {found.st_uid} {found.st_gid} {found.st_mode:o}")
+
+
+# Those that ask for nothing of Linux's own.
+PORTABLE_ACCIDENTS: list[Accident] = [
+    check_no_longer_a_book,
+    check_copies,
+    check_removed,
+    check_headless,
+    check_set_back,
+    check_left_over,
+    check_second_name,
+    check_kept,
+]
