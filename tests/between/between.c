@@ -5,6 +5,7 @@
  *                              follows the number; HOW is an error's number, `none` for a write that takes nothing,
  *                              `short` for a read or a write of several bytes that moves one, `kill` to end the
  *                              program instead of the call
+ *     CLOSED_RENAMES=1         a disk that renames no file that is open, and none over one that is, as some network drives
  *     TOLD=FILE                where the calls are recorded, a line each: kind, handle or path, bytes requested or
  *                              how a file is opened, answer; the last line is `memory`, the number of allocations, and
  *                              the most bytes that were held at one time
@@ -17,6 +18,7 @@
 #include <stdio.h>
 #include <stdlib.h>
 #include <string.h>
+#include <sys/stat.h>
 
 enum kind { OPEN, READ, WRITE, SYNC, CLOSE, LOOK, FOLLOW, REMOVE, RENAME, LOCK, MODE, GROUP, LINK, MEMORY, KINDS };
 
@@ -100,7 +102,7 @@ int open(const char *path, int flags, unsigned mode) {
     ANSWER(OPEN, path, 0, flags, real(path, flags, mode));
 }
 
-int statx(int folder, const char *path, int flags, unsigned mask, void *found) {
+int statx(int folder, const char *restrict path, int flags, unsigned mask, struct statx *restrict found) {
     int (*real)(int, const char *, int, unsigned, void *) = next("statx");
     ANSWER(LOOK, path, 0, 0, real(folder, path, flags, mask, found));
 }
@@ -110,9 +112,26 @@ int unlink(const char *path) {
     ANSWER(REMOVE, path, 0, 0, real(path));
 }
 
-int rename(const char *from, const char *to) {
+/* Whether one of the files that this process has open is the one of a path. */
+static int is_open(const char *path) {
+    struct stat named, opened;
+    if (lstat(path, &named) != 0) return 0;
+    for (int handle = 0; handle < 256; handle++)
+        if (fstat(handle, &opened) == 0 && opened.st_dev == named.st_dev && opened.st_ino == named.st_ino) return 1;
+    return 0;
+}
+
+static int renamed(const char *from, const char *to) {
     int (*real)(const char *, const char *) = next("rename");
-    ANSWER(RENAME, from, 0, 0, real(from, to));
+    if (getenv("CLOSED_RENAMES") && (is_open(from) || is_open(to))) {
+        errno = EBUSY;
+        return -1;
+    }
+    return real(from, to);
+}
+
+int rename(const char *from, const char *to) {
+    ANSWER(RENAME, from, 0, 0, renamed(from, to));
 }
 
 int flock(int handle, int how) {

@@ -1,7 +1,10 @@
 """The program with a library between it and the C library, which makes calls fail and records which ones were made."""
 import os
+import pty
 import shutil
 import subprocess
+import threading
+import tty
 from dataclasses import dataclass
 from pathlib import Path
 
@@ -55,27 +58,56 @@ class Between:
         source = Path(__file__).resolve().parent / "between.c"
         subprocess.run([compiler, "-O2", "-shared", "-fPIC", "-o", self.library, source, "-ldl"], check=True)
 
-    def run(self, folder: Path, words: list[str], given: Path, refused: str = "") -> Run:
-        """What comes of the words in a folder, with a file as standard input, while a call is refused."""
+    def run(self, folder: Path, words: list[str], given: Path, refused: str = "", at_terminal: bool = False, **wishes: str) -> Run:
+        """What comes of the words in a folder, with a file as standard input, while a call is refused.
+
+        Standard output is a pipe, or a terminal. Further wishes go to the library as they are."""
         told = folder.parent / f"{folder.name}.told"
         told.unlink(missing_ok=True)
-        environment = {"LD_PRELOAD": str(self.library), "TOLD": str(told)}
+        environment = {"LD_PRELOAD": str(self.library), "TOLD": str(told), **wishes}
         if refused:
             environment["REFUSE"] = refused
+        screen = Screen() if at_terminal else None
         with open(given, "rb") as stream:
             try:
                 ran = subprocess.run(
                     [self.program, *words],
                     cwd=folder,
                     stdin=stream,
-                    capture_output=True,
+                    stdout=screen.terminal if screen else subprocess.PIPE,
+                    stderr=subprocess.PIPE,
                     timeout=SECONDS,
                     env=environment,
                 )
             except subprocess.TimeoutExpired:
                 return Run(Answer(-1, b"", b"it does not end"), [], 0, 0)
-        answer = Answer(ran.returncode, ran.stdout, ran.stderr)
+        answer = Answer(ran.returncode, screen.shown() if screen else ran.stdout, ran.stderr)
         return Run(answer, *read_told(told)) if told.exists() else Run(answer, [], 0, 0)
+
+
+class Screen:
+    """A terminal, and what is written to it, byte for byte."""
+
+    def __init__(self) -> None:
+        self.person, self.terminal = pty.openpty()
+        tty.setraw(self.terminal)
+        self.pieces: list[bytes] = []
+        self.reader = threading.Thread(target=self.read)
+        self.reader.start()
+
+    def read(self) -> None:
+        try:
+            while piece := os.read(self.person, 65536):
+                self.pieces.append(piece)
+        except OSError:
+            # Nobody has the terminal open any more.
+            pass
+
+    def shown(self) -> bytes:
+        os.close(self.terminal)
+        self.reader.join()
+        os.close(self.person)
+        return b"".join(self.pieces)
 
 
 def read_told(path: Path) -> tuple[list[Call], int, int]:

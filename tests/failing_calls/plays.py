@@ -12,12 +12,14 @@ PROJECT = "p"
 
 @dataclass(frozen=True)
 class Play:
-    """Words, the files of the folder before, standard input, and whether the project is a link to far/p."""
+    """Words, the files of the folder before, standard input, whether the project is a link to far/p, and whether standard output is
+    a terminal."""
 
     words: list[str]
     files: dict[str, bytes] = field(default_factory=dict)
     given: bytes = b""
     is_linked: bool = False
+    at_terminal: bool = False
 
 
 def project(bundle: bytes) -> bytes:
@@ -64,6 +66,12 @@ def conflicting() -> bytes:
 
 
 CONFLICTING = conflicting()
+# A folder in which the verse of HELD has another text.
+FOLDER = {"texts/MAT.usfm": b"\\id MAT\n\\c 1\n\\v 1 In the\n"}
+# The text of a verse has a control character.
+ESCAPES = book(HEAD_OF_BOOK, (Key(1, HEAD), b"\\c 1\n"), (verse(1), b"\\v 1 In \x1b[2J\n"))
+# The plays whose answers the second implementation does not have: the other tests say which are right.
+AS_WRITTEN = ("page", "settle", "faults")
 
 PLAYS = [
     Play(["init", PROJECT, "ana"]),
@@ -103,6 +111,21 @@ PLAYS = [
     Play(["progress", PROJECT], {PROJECT: FALLING}),
     Play(["page", PROJECT], {PROJECT: CONFLICTING}),
     Play(["progress", PROJECT, "LUK"], {PROJECT: HELD}),
+    Play(["status", PROJECT, "texts"], {PROJECT: HELD, **FOLDER}),
+    Play(["settle", PROJECT], {PROJECT: CONFLICTING}, b"1\n"),
+    Play(["settle", PROJECT], {PROJECT: CONFLICTING}, b"e\n\\v 1 As\n.\n"),
+    Play(["settle", PROJECT, "MAT"], {PROJECT: CONFLICTING}, b"s\n"),
+    Play(["settle", PROJECT], {PROJECT: HELD}),
+    Play(["faults"]),
+    Play(["edit", PROJECT, "MAT 1:1"], {PROJECT: CONFLICTING}, b"\\v 1 As\n", at_terminal=True),
+    Play(["receive", PROJECT, "bundle"], {PROJECT: HELD, "bundle": BENS}, at_terminal=True),
+    Play(["receive", PROJECT, "bundle", "other"], {PROJECT: HELD, "bundle": BENS, "other": ANAS}, at_terminal=True),
+    Play(["import", PROJECT, "book"], {PROJECT: HELD, "book": CHANGED}, at_terminal=True),
+    Play(["thin", PROJECT], {PROJECT: CONFLICTING}, at_terminal=True),
+    Play(["settle", PROJECT], {PROJECT: CONFLICTING}, b"2\n", at_terminal=True),
+    Play(["shown", PROJECT, "MAT 1:1"], {PROJECT: ESCAPES}, at_terminal=True),
+    Play(["export", PROJECT, "MAT"], {PROJECT: ESCAPES}, at_terminal=True),
+    Play(["status", PROJECT, "bundle"], {PROJECT: HELD, "bundle": FIRST}, at_terminal=True),
     Play(["check", PROJECT, "MAT", "sheet"], {PROJECT: FALLING, "sheet": SHEET}),
     Play(["find", PROJECT, "MAT", "sheet", "gnat"], {PROJECT: GNATS, "sheet": SHEET}),
     Play(["words", PROJECT, "MAT", "sheet"], {PROJECT: GNATS, "sheet": SHEET}),

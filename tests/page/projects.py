@@ -6,7 +6,8 @@ from reporting import Tally
 from team import Team, teams
 
 HEBREW = "\u05d1\u05bc\u05b0\u05e8\u05b5\u05d0\u05e9\u05c1\u05b4\u05d9\u05ea"
-# Texts that differ, each pair for one conflict: HTML, right-to-left text, control characters, marks, and long words.
+# Texts that differ, each pair for one conflict: HTML, right-to-left text, control characters, marks, long words,
+# characters that HTML does not permit, and line ends.
 PAIRS = [
     (
         "\\v 1 <script>alert(1)</script> <b onclick='x()'>b</b> &amp; &#60; &lt;i&gt; \"q\"\n",
@@ -16,6 +17,8 @@ PAIRS = [
     ("\\v 1 a\x1b[7mb\x7f\x85c\td\x0be\n", "\\v 1 a\x1b[0mb\n"),
     ("\\v 1 \\nd LORD\\nd* said\\f + \\ft note\\f* so\n", "\\v 1 \\nd God\\nd* said so\n"),
     ("\\v 1 " + "w" * 3000 + "\n", "\\v 1 " + "\u05d0" * 3000 + " \U0001f54a\n"),
+    ("\\v 1 a\u2066b\u2069 \ufdd0\ufdef\n", "\\v 1 \ufffe\uffff \U0001fffe\U0010ffff\n"),
+    ("\\v 1 At it\r\n", "\\v 1 At it\n"),
     ("\\v 1 In it\n", "\n"),
 ]
 

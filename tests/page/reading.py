@@ -12,14 +12,18 @@ ELEMENTS = {
     "div": {"class"}, "p": {"class", "dir", "lang"}, "label": set(), "input": {"type"}, "bdi": set(), "mark": set(),
 }
 VOID = ("meta", "input")
-# What stands in the place of a control character but a line feed.
+# A control character but a line feed, a bidirectional control, and a noncharacter.
 CONTROL = re.compile(r"[\x00-\x09\x0b-\x1f\x7f-\x9f]")
+DIRECTION = re.compile("[\u202a-\u202e\u2066-\u2069]")
+NONCHARACTER = re.compile("[\ufdd0-\ufdef" + "".join(chr(it << 16 | 0xFFFE) + chr(it << 16 | 0xFFFF) for it in range(17)) + "]")
 REFERENCE = re.compile(r"&(?:amp|lt|gt|quot|#39);")
 
 
 def shown(text: str) -> str:
-    """A text with its control characters but line feeds spelled out."""
-    return CONTROL.sub(lambda it: f"\\x{ord(it[0]):02x}", text)
+    """A text as a page has it: control characters but line feeds spelled out, and U+FFFD for each noncharacter."""
+    text = CONTROL.sub(lambda it: f"\\x{ord(it[0]):02x}", text)
+    text = DIRECTION.sub(lambda it: f"\\u{ord(it[0]):04x}", text)
+    return NONCHARACTER.sub("\ufffd", text)
 
 
 @dataclass
@@ -146,5 +150,7 @@ def read_page(data: bytes) -> Page:
         page.faults.append("no doctype")
     page.faults += [f"{it} stands there" for it in ("://", "url(", "@import", "javascript:", "<script") if it in text]
     page.faults += [f"the control character {ord(it)}" for it in CONTROL.findall(text)]
+    page.faults += [f"the bidirectional control {ord(it)}" for it in DIRECTION.findall(text)]
+    page.faults += [f"the noncharacter {ord(it)}" for it in NONCHARACTER.findall(text)]
     page.faults += [f"a lone & at {it.start()}" for it in re.finditer("&", text) if not REFERENCE.match(text, it.start())]
     return page

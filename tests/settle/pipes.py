@@ -21,7 +21,7 @@ def check_pipes(tally: Tally, program: Path, work: Path) -> None:
     each = teams(program, work, "pipes")
     for check in (
         check_two, check_own, check_ends, check_skipped, check_named, check_refused, check_texts, check_equal,
-        check_head, check_many, check_text_of,
+        check_head, check_many, check_text_of, check_full,
     ):
         check(tally, next(each))
 
@@ -109,7 +109,7 @@ def check_texts(tally: Tally, team: Team) -> None:
     """Control characters are spelled out, and all texts stay as they are."""
     team.begin("ana", "ben")
     hebrew = "\\v 1 בְּרֵאשִׁית בָּרָא אֱלֹהִים\n".encode()
-    wild = b"\\v 1 a\x1b[2J\x07b\xc2\x9b31mc\x7f\td\r\n"
+    wild = b"\\v 1 a\x1b[2J\x07b\xc2\x9b31m\xe2\x80\xaec\x7f\td\r\n"
     team.differ("MAT 1:1", hebrew, wild, "ana", "ben")
     long = b"\\v 2 " + b" ".join(b"word%d" % it for it in range(430)) + b"\n"
     longer = long.replace(b"word200", b"another")
@@ -117,8 +117,9 @@ def check_texts(tally: Tally, team: Team) -> None:
     tally.check(len(long) > 3000, "a text of 3,000 characters")
     answer = team.answer("settle", "ana", typed=b"1\n2\n")
     shown = answer.output
-    tally.check(b"a\\x1b[2J\\x07b\\x9b31mc\\x7f" in shown, f"control characters are spelled out: {shown[:600]}")
+    tally.check(b"a\\x1b[2J\\x07b\\x9b31m\\u202ec\\x7f" in shown, f"control characters are spelled out: {shown[:600]}")
     tally.check(not any(byte < 32 and byte != 10 for byte in shown) and b"\xc2\x9b" not in shown, "none is left")
+    tally.check(b"\xe2\x80\xae" not in shown, "no bidirectional control is left")
     tally.check(b"\\v 1 [" + hebrew[5:-1] + b"]\n[]\n" in shown, f"right-to-left text: {shown[:600]}")
     tally.check(b"\\x7f\\x09d\\x0d]\n[]\n" in shown, f"a line end that differs is spelled out: {shown[:600]}")
     tally.check(b"word199 [another] word201" in shown and b"word199 [word200] word201" in shown, "one word of 430 differs")
@@ -178,3 +179,13 @@ def check_text_of(tally: Tally, team: Team) -> None:
     answer = team.answer("edit-over", "ana", "MAT 1:1", "6:ana", "8:ana", "--text-of", "8:ana", typed=b"\\v 1 Typed\n")
     tally.check(answer == Answer(0, b"made 9 ana\n"), f"over all: {answer}")
     tally.check(team.do("shown", "ana", "MAT 1:1") == b"op 9 ana 22\n\\v 1 To the beginning\n\n", "standard input is not read")
+
+
+def check_full(tally: Tally, team: Team) -> None:
+    """Where the output is full, the fault counts all that was written, and what was answered by then is done."""
+    begin(team)
+    answer, output = team.answer_on_full_disk("settle", "ana", typed=b"x\n" * 20 + b"2\n1\n")
+    tally.check(answer == Answer(1, b"", b"fault 90 1024\n"), f"an output that is full after 1,024 bytes: {answer}")
+    whole = ASKED + UNCLEAR * 20 + b"made 8 ana\n" + SECOND
+    tally.check(output == whole[:1024], f"what was written by then: {output!r}")
+    tally.check(b"To the beginning" in team.do("export", "ana", "MAT"), "and the answer before it is done")

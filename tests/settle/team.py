@@ -31,6 +31,12 @@ class Team:
         )
         return Answer(ran.returncode, ran.stdout, ran.stderr)
 
+    def answer_on_full_disk(self, *words: str, typed: bytes) -> tuple[Answer, bytes]:
+        """What a command answers whose output is a file on a disk that takes 1,024 bytes of a file, and what is in the file."""
+        line = ["bash", "-c", 'trap "" XFSZ; ulimit -f 1; exec "$@" > output', "bash", self.program, *words]
+        ran = subprocess.run(line, cwd=self.folder, input=typed, capture_output=True, timeout=SECONDS)
+        return Answer(ran.returncode, ran.stdout, ran.stderr), (self.folder / "output").read_bytes()
+
     def do(self, *words: str, typed: bytes = b"") -> bytes:
         """What a command writes, which may not be refused."""
         answer = self.answer(*words, typed=typed)

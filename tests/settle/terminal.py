@@ -149,7 +149,7 @@ def check_typed(tally: Tally, team: Team) -> None:
     person.read(ASKS)
     person.type(b"e\r")
     person.read(b"full stop.\r\n")
-    person.type(b"As it began\r.\r")
+    person.type(b"As it began\r . \r")
     again = person.read(b"s or q.\r\n")
     tally.check(b"that is no text of this segment" in again, f"a text without its mark: {again}")
     person.type(b"e\r")

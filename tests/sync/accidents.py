@@ -96,7 +96,7 @@ def refused(file: str, fault: int = 131, said: str = "") -> Answer:
 
 # What is said of a file that was spoilt so.
 SKIPPED = {
-    "a blank line before": b"skipped texts/41MAT.SFM: it does not begin with \\id, one space and a book's code in capitals\n",
+    "a blank line before": b"skipped texts/41MAT.SFM: \\id stands in line 2: take out what is before it\n",
     "UTF-16": b"skipped texts/41MAT.SFM: it is UTF-16: save it as UTF-8\n",
     "empty": b"skipped texts/41MAT.SFM: it is empty\n",
     "another book": b"",

@@ -1,5 +1,4 @@
 pub mod Compared
-pub mod Escaped
-mod Joined
+pub mod Joined
 mod Listed
 mod Parted

@@ -1,5 +1,5 @@
 -- What a line answers (this project's own rule).
-use Rattle.std.specs.Prelude.{◌≡◌, ◌≢◌, ℕ, ◌+◌, ◌<◌, ◌≤◌, Bool, ◌||◌, List, [], ◌∷◌, length, codes, slice_get, Option, None, Some}
+use Rattle.std.specs.Prelude.{◌≡◌, ◌≢◌, ℕ, ◌+◌, ◌<◌, ◌≤◌, Bool, List, [], ◌∷◌, length, codes, slice_get, Option, None, Some}
 use Rattle.std.specs.Fmt.{decimal}
 use Rattle.std.specs.Str.{IsTrimAscii}
 use Rattle.usfm_ref.specs.Books.{same_bytes}
@@ -42,7 +42,8 @@ pub record Answers (texts : List (List ℕ)) (line : List ℕ) (answer : Answer)
   pub trimmed : IsTrimAscii line word
   pub is : IsAnswer texts word answer
 
--- whether a line ends a typed text: a full stop (46) alone, or before LF or CR, LF
-abbrev pub ends_text : List ℕ → Bool
-ends_text line = same_bytes line (46 ∷ []) || same_bytes line (46 ∷ 10 ∷ [])
-    || same_bytes line (46 ∷ 13 ∷ 10 ∷ [])
+-- a line ends a typed text if it is a full stop (46), without the blanks around it
+pub record EndsText (line : List ℕ) (ends : Bool) : Type 0 where
+  pub word : List ℕ
+  pub trimmed : IsTrimAscii line word
+  pub is : ends ≡ same_bytes word (46 ∷ [])

@@ -10,8 +10,6 @@ use Rattle.op_core.specs.NextIds.{is_among}
 use Rattle.replica_state.specs.States.{State, IsState}
 use Rattle.replica_state.specs.Steps.{Edit, EditOver, step}
 use Rattle.conflict_settling.specs.Asked.{listed_ids}
-use Rattle.conflict_settling.specs.Escapes.{escaped, has_control}
-use Rattle.conflict_settling.specs.declared.escape.CarriageReturn.{CarriageReturn}
 
 -- What is listed of a segment is what it shows.
 abbrev pub ListsWhatIsShown : Type 0
@@ -34,14 +32,3 @@ abbrev pub SettlesAll : Type 0
 SettlesAll =
     (s : State) (g : Segment) (text : List ℕ) →
     step s (EditOver g text (listed_ids s.held g)) ≡ step s (Edit g text)
-
--- No control character but line feeds is left in a text that was escaped.
-abbrev pub EscapedHasNoControl : Type 0
-EscapedHasNoControl =
-    (returns : CarriageReturn) (text : List ℕ) → has_control (escaped returns text) ≡ false
-
--- A text without such a character is escaped to itself.
-abbrev pub PlainStays : Type 0
-PlainStays =
-    (returns : CarriageReturn) (text : List ℕ) → has_control text ≡ false →
-    escaped returns text ≡ text

@@ -4,7 +4,6 @@ pub mod Before
 pub mod After
 pub mod Filled
 pub mod Entries
-pub mod Escapes
 pub mod Questions
 pub mod Numbers
 pub mod Answers

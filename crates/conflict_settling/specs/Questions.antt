@@ -12,8 +12,8 @@ use Rattle.op_core.specs.Ids.{Id}
 use Rattle.op_core.specs.Ops.{Operation, own_text}
 use Rattle.op_core.specs.Shown.{Pick, Line, Greatest, Empty, is_empty}
 use Rattle.conflict_settling.specs.Entries.{EntryView}
-use Rattle.conflict_settling.specs.Escapes.{escaped}
-use Rattle.conflict_settling.specs.declared.escape.CarriageReturn.TheVariants.{LeftOut, Spelled}
+use Rattle.plain_line.specs.Plain as plain
+use Rattle.plain_line.specs.declared.text.CarriageReturn.TheVariants.{LeftOut, Spelled}
 use Rattle.conflict_settling.specs.declared.question.Manner.{Manner}
 use Rattle.conflict_settling.specs.declared.question.Manner.TheVariants.{Brackets, Reverse}
 
@@ -27,7 +27,7 @@ head_line g left =
 -- a text that stands before the segment, and a line feed; nothing where it is empty
 abbrev pub before_lines : List ℕ → List ℕ
 before_lines text =
-    if is_empty text then [] else codes "before it:\n" ++ (escaped LeftOut text ++ 10 ∷ [])
+    if is_empty text then [] else codes "before it:\n" ++ (plain.text LeftOut text ++ 10 ∷ [])
 
 -- an id: its number, a space and its name
 abbrev pub id_words : Id → List ℕ
@@ -89,12 +89,12 @@ set_off_byte manner b = if b == 10 then closing manner ++ 10 ∷ opening manner 
 -- what differs, each line of it set off by itself, in which also line ends are spelled out
 abbrev pub set_off : Manner → List ℕ → List ℕ
 set_off manner text =
-    opening manner ++ (flat_map (set_off_byte manner) (escaped Spelled text) ++ closing manner)
+    opening manner ++ (flat_map (set_off_byte manner) (plain.text Spelled text) ++ closing manner)
 
 -- a part of two texts that is in the first or in the other one: what is not in both is set off
 abbrev pub part_bytes : Manner → Part → List ℕ
 part_bytes manner part =
-    if is_kept part.kind then escaped LeftOut part.text.now else set_off manner part.text.now
+    if is_kept part.kind then plain.text LeftOut part.text.now else set_off manner part.text.now
 
 -- the part, if it is on this side: that of the first text, or else the other
 abbrev pub part_on : Manner → Bool → Part → List ℕ

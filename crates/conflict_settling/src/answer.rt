@@ -19,11 +19,11 @@ pub enum Answer<'a> {
     Unclear,
 }
 
-/// Whether a line ends a text of one's own: a full stop alone, before the end of the line.
+/// Whether a line ends a text of one's own: a full stop alone, without the blanks around it.
 pub fn ends_text(line: &[u8]) -> bool
-    ensures { result ≡ answers.ends_text line.now }
+    ensures { answers.EndsText line.now result }
 {
-    matches!(line, b"." | b".\n" | b".\r\n")
+    matches!(line.trim_ascii(), b".")
 }
 
 // The text whose number from 1 on the word is, in decimal.

@@ -215,7 +215,7 @@ fn question_of(
     let texts = BookTexts::of(alloc, replica, book)?;
     let mut bytes = Vec::new(alloc);
     push_head(alloc, &mut bytes, book, key, left)?;
-    push_before(&mut bytes, &texts.before(key))?;
+    push_before(alloc, &mut bytes, &texts.before(key))?;
     push_entries(
         alloc,
         &mut bytes,

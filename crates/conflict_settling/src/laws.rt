@@ -17,13 +17,3 @@ pub fn unlisted_stays()
 pub fn settles_all()
     ensures { laws.SettlesAll }
 {}
-
-/// A text that was escaped has no control character but line feeds.
-pub fn escaped_has_no_control()
-    ensures { laws.EscapedHasNoControl }
-{}
-
-/// A text that has none is escaped to itself.
-pub fn plain_stays()
-    ensures { laws.PlainStays }
-{}

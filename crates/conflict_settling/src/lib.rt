@@ -10,7 +10,6 @@
 mod answer;
 mod asked;
 mod book_texts;
-mod escape;
 mod filled;
 pub mod laws;
 mod near;
@@ -23,7 +22,6 @@ mod wanted;
 pub use answer::{Answer, ends_text};
 pub use asked::{Asked, SettleFault, next_question};
 pub use book_texts::BookTexts;
-pub use escape::{CarriageReturn, push_escaped};
 pub use pending::open_conflicts;
 pub use question::Manner;
 pub use sides::{Entry, compare};

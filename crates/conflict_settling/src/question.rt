@@ -7,12 +7,13 @@ ghost use Rattle.usfm_ref.specs.Segments.{segment};
 ghost use Rattle.op_core.specs.Shown as picks;
 ghost use Rattle.conflict_settling.specs.Entries.{view, views};
 ghost use Rattle.conflict_settling.specs.Questions as questions;
+ghost use Rattle.plain_line.specs.Plain as plain;
 ghost use Rattle.word_diff.specs.Parts.{spans};
 
-use crate::escape::{CarriageReturn, push_escaped};
 use crate::numbers::TextNumbers;
 use crate::sides::Entry;
-use op_core::{Op, Picked, chapter_line};
+use op_core::{Op, Picked};
+use plain_line::{CarriageReturn, push_text};
 use std::alloc::{AllocError, Global};
 use usfm_ref::{Book, Key, write_ref};
 use word_diff::{Kind, Part};
@@ -68,27 +69,48 @@ pub(crate) fn push_head(
 }
 
 // Adds the text before the segment, if the book has one there.
-pub(crate) fn push_before(bytes: &mut Vec<u8>, before: &Picked<'_>) -> Result<(), AllocError>
+pub(crate) fn push_before(
+    alloc: Global,
+    bytes: &mut Vec<u8>,
+    before: &Picked<'_>,
+) -> Result<(), AllocError>
     ensures { OnOk result (bytes.new.items ≡ bytes.old.items
         ++ questions.before_lines (picks.picked_text (picks.picked before.now))) }
 {
     match before {
         Picked::Nothing => Ok(()),
-        Picked::Held(op) => push_context(bytes, op.text_or_empty().as_bytes()),
-        Picked::ChapterLine(chapter) => push_context(bytes, chapter_line(*chapter).bytes()),
+        Picked::Held(op) => push_context(alloc, bytes, op.text_or_empty()),
+        Picked::ChapterLine(chapter) => {
+            let line = format!(in alloc; "\\c {chapter}\n")?;
+            push_context(alloc, bytes, &line)
+        }
     }
 }
 
-fn push_context(bytes: &mut Vec<u8>, text: &[u8]) -> Result<(), AllocError>
+fn push_context(alloc: Global, bytes: &mut Vec<u8>, text: &str) -> Result<(), AllocError>
     ensures { OnOk result (bytes.new.items ≡ bytes.old.items ++ questions.before_lines text.now) }
 {
     if text.is_empty() {
         return Ok(());
     }
     bytes.extend_from_slice(b"before it:\n")?;
-    push_escaped(bytes, text, CarriageReturn::LeftOut)?;
+    push_plain(alloc, bytes, text, CarriageReturn::LeftOut)?;
     bytes.push(b'\n')?;
     Ok(())
+}
+
+// Adds a text in which each control character but the line feed is spelled out.
+fn push_plain(
+    alloc: Global,
+    bytes: &mut Vec<u8>,
+    text: &str,
+    returns: CarriageReturn,
+) -> Result<(), AllocError>
+    ensures { OnOk result (bytes.new.items ≡ bytes.old.items ++ plain.text returns text.now) }
+{
+    let mut plain = String::new(alloc);
+    push_text(&mut plain, text, returns)?;
+    bytes.extend_from_slice(plain.as_bytes())
 }
 
 // Adds the texts, each with its number and who made it.
@@ -196,9 +218,9 @@ fn push_part(
         return Ok(());
     }
     if part.kind == Kind::Kept {
-        push_escaped(bytes, part.text.as_bytes(), CarriageReturn::LeftOut)
+        push_plain(alloc, bytes, part.text, CarriageReturn::LeftOut)
     } else {
-        push_set_off(alloc, bytes, part.text.as_bytes(), manner)
+        push_set_off(alloc, bytes, part.text, manner)
     }
 }
 
@@ -206,15 +228,15 @@ fn push_part(
 fn push_set_off(
     alloc: Global,
     bytes: &mut Vec<u8>,
-    text: &[u8],
+    text: &str,
     manner: Manner,
 ) -> Result<(), AllocError>
     ensures { OnOk result (bytes.new.items ≡ bytes.old.items ++ questions.set_off manner text.now) }
 {
-    let mut escaped = Vec::new(alloc);
-    push_escaped(&mut escaped, text, CarriageReturn::Spelled)?;
+    let mut plain = String::new(alloc);
+    push_text(&mut plain, text, CarriageReturn::Spelled)?;
     bytes.extend_from_slice(manner.opening().as_bytes())?;
-    for byte in &escaped {
+    for byte in plain.as_bytes() {
         push_byte(bytes, *byte, manner)?;
     }
     bytes.extend_from_slice(manner.closing().as_bytes())

@@ -1,8 +1,5 @@
 // A conflict of two texts, asked and answered.
-use crate::{
-    Answer, Asked, CarriageReturn, Manner, SettleFault, Wanted, ends_text, next_question,
-    push_escaped,
-};
+use crate::{Answer, Asked, Manner, SettleFault, Wanted, ends_text, next_question};
 use op_core::ReplicaName;
 use replica_state::Replica;
 use std::alloc::Global;
@@ -61,20 +58,27 @@ fn what_is_wanted(rt: HostRuntime) -> Result<(), Fail> {
 
 #[test]
 fn control_characters_are_spelled(rt: HostRuntime) -> Result<(), Fail> {
-    let text = "a\x1b[7m\u{9b}1\u{7f}\r\n\u{a0}é\t".as_bytes();
-    let mut bytes = Vec::new(rt.alloc());
-    push_escaped(&mut bytes, text, CarriageReturn::LeftOut)?;
-    assert_eq!(rt;
-        bytes.as_slice(),
-        "a\\x1b[7m\\x9b1\\x7f\n\u{a0}é\\x09".as_bytes()
-    );
-    bytes.clear();
-    push_escaped(&mut bytes, text, CarriageReturn::Spelled)?;
-    assert_eq!(rt;
-        bytes.as_slice(),
-        "a\\x1b[7m\\x9b1\\x7f\\x0d\n\u{a0}é\\x09".as_bytes()
-    );
-    assert!(rt; ends_text(b".\n"));
-    assert!(rt; !ends_text(b". \n"));
+    let alloc = rt.alloc();
+    let mut ana = in_conflict(alloc)?;
+    let (book, key) = read_ref("MAT 1:2")?;
+    ana.edit_over(book, key, "\\v 2 \x1b[7m\u{9b}\t\r\n", &[])?;
+    ana.edit_over(book, key, "\\v 2 \x1b[7m\u{9b}\t\n", &[])?;
+    let wanted = [Wanted::read("MAT 1:2")?];
+    let asked = next_question(alloc, &ana, &wanted, None, Manner::Brackets)?;
+    let asked = asked.ok_or(SettleFault::NoBook)?;
+    let question = str::from_utf8(asked.question())?;
+    assert!(rt; question.contains("\\x1b[7m\\x9b[\\x09\\x0d]\n"));
+    assert!(rt; question.contains("\\x1b[7m\\x9b[\\x09]\n"));
     Ok(())
+}
+
+#[test]
+fn what_ends_a_text(rt: HostRuntime) {
+    assert!(rt; ends_text(b"."));
+    assert!(rt; ends_text(b".\r\n"));
+    assert!(rt; ends_text(b" \t. \n"));
+    assert!(rt; !ends_text(b"..\n"));
+    assert!(rt; !ends_text(b". .\n"));
+    assert!(rt; !ends_text(b"a.\n"));
+    assert!(rt; !ends_text(b"\n"));
 }

@@ -1,7 +1,8 @@
 -- A place in a text, shown by its line (this project's own rule).
-use Rattle.std.specs.Prelude.{ℕ, ◌+◌, ◌-◌, Bool, not, ◌&&◌, ◌||◌, ◌==◌, nat_le, nat_lt, List, [], ◌∷◌, ◌++◌, length, take, drop, take_while, slice_range, codes}
+use Rattle.std.specs.Prelude.{ℕ, ◌+◌, ◌-◌, Bool, not, ◌&&◌, ◌||◌, ◌==◌, nat_le, nat_lt, List, ◌∷◌, ◌++◌, take, drop, take_while, slice_range, codes}
 use Rattle.std.specs.List.{prefix_len, after_last}
-use Rattle.line_excerpt.specs.Escapes.{escaped}
+use Rattle.std.specs.Str.Lossy.{utf8_lossy}
+use Rattle.plain_line.specs.Plain.{line}
 use Rattle.line_excerpt.specs.declared.excerpt.SetOff.{SetOff}
 use Rattle.line_excerpt.specs.declared.excerpt.SetOff.TheVariants.{Brackets, Reverse}
 
@@ -43,7 +44,7 @@ from_place text start len =
 -- a part of the text: as it is between brackets, and at a terminal without control characters
 abbrev pub shown : SetOff → List ℕ → List ℕ
 shown Brackets part = part
-shown Reverse part = escaped 0 part
+shown Reverse part = line (utf8_lossy part)
 
 -- what comes before what is set off
 abbrev pub opening : SetOff → List ℕ

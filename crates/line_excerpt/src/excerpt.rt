@@ -3,7 +3,7 @@ ghost use Rattle.std.specs.Prelude.{◌≡◌, ◌+◌, ◌≤◌, ◌++◌, len
 ghost use Rattle.std.specs.List.{prefix_len, suffix_len, after_last};
 ghost use Rattle.line_excerpt.specs.Excerpts as spec;
 
-use crate::escape::push_escaped;
+use plain_line::push_bytes;
 use std::alloc::AllocError;
 
 /// How many bytes of a line are shown at most on either side of a place, but for the rest of a
@@ -72,7 +72,7 @@ fn push_shown(bytes: &mut Vec<u8>, set_off: SetOff, part: &[u8]) -> Result<(), A
 {
     match set_off {
         SetOff::Brackets => bytes.extend_from_slice(part),
-        SetOff::Reverse => push_escaped(bytes, part),
+        SetOff::Reverse => push_bytes(bytes, part),
     }
 }
 

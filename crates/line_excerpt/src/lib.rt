@@ -5,8 +5,6 @@
 //! terminal, no control character of the text reaches that.
 #![tactic(auto)]
 
-mod escape;
 mod excerpt;
 
-pub use escape::push_escaped;
 pub use excerpt::{REACH, SetOff, push_excerpt};

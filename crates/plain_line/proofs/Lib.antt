@@ -1,2 +1,4 @@
 pub mod ControlLemmas
+pub mod LineLemmas
+pub mod LossyLemmas
 pub mod SignLemmas

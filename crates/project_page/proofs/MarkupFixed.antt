@@ -11,6 +11,8 @@ use Rattle.op_core.specs.Ops.{Operation, own_text}
 use Rattle.op_core.specs.Shown.{Pick, is_empty}
 use Rattle.project_status.specs.declared.makers.Maker.{Maker}
 use Rattle.conflict_settling.specs.Entries.{EntryView}
+use Rattle.plain_line.specs.declared.text.CarriageReturn.{CarriageReturn}
+use Rattle.plain_line.specs.declared.text.CarriageReturn.TheVariants.{LeftOut, Spelled}
 use Rattle.project_page.specs.Pages as pages
 use Rattle.project_page.specs.Pages.{Saying}
 use Rattle.project_page.specs.Parts.{BookView, ConflictView, PageView}
@@ -52,29 +54,30 @@ either true a b c d f g = f
 either false a b c d f g = g
 
 -- a name or a text is left out
-spoken : (t : List ℕ) → Alike (said t) (left_out t)
-spoken t = none_kept (said t) (said_has_no_markup t)
+spoken : (r : CarriageReturn) (t : List ℕ) → Alike (said r t) (left_out r t)
+spoken r t = none_kept (said r t) (said_has_no_markup r t)
 
 -- and what comes after it
-spoken_then : (t b d : List ℕ) → Alike b d → Alike (said t ++ b) (left_out t ++ d)
-spoken_then t b d g = both (said t) b (left_out t) d (spoken t) g
+spoken_then : (r : CarriageReturn) (t b d : List ℕ) → Alike b d → Alike (said r t ++ b) (left_out r t ++ d)
+spoken_then r t b d g = both (said r t) b (left_out r t) d (spoken r t) g
 
 -- a name or a text between two pieces
-wrapped : (a t b : List ℕ) → Alike (a ++ (said t ++ b)) (a ++ b)
-wrapped a t b = then a (said t ++ b) b (spoken_then t b b refl)
+wrapped : (r : CarriageReturn) (a t b : List ℕ) → Alike (a ++ (said r t ++ b)) (a ++ b)
+wrapped r a t b = then a (said r t ++ b) b (spoken_then r t b b refl)
 
 -- ---- the parts of a page, in the order of their definitions
 
 maker_row : (m : Maker) → Alike (pages.maker_row said m) (pages.maker_row left_out m)
 unfolding pages.maker_row
-maker_row m = wrapped html.MAKER.now m.name (pages.row html.MAKER_COUNT.now m.count)
+maker_row m = wrapped LeftOut html.MAKER.now m.name (pages.row html.MAKER_COUNT.now m.count)
 
 front : (name : List ℕ) → Alike (pages.front said name) (pages.front left_out name)
 unfolding pages.front
 front name =
-    let b = html.BODY.now ++ (said name ++ html.ROW_END.now) in
+    let b = html.BODY.now ++ (said LeftOut name ++ html.ROW_END.now) in
     let d = html.BODY.now ++ html.ROW_END.now in
-    then html.HEAD.now (said name ++ b) d (spoken_then name b d (wrapped html.BODY.now name html.ROW_END.now))
+    then html.HEAD.now (said LeftOut name ++ b) d
+    (spoken_then LeftOut name b d (wrapped LeftOut html.BODY.now name html.ROW_END.now))
 
 standing : (p : PageView) → Alike (pages.standing said p) (pages.standing left_out p)
 unfolding pages.standing
@@ -92,7 +95,7 @@ standing p =
 book_row : (b : BookView) → Alike (pages.book_row said b) (pages.book_row left_out b)
 unfolding pages.book_row
 book_row b =
-    wrapped html.BOOK.now b.book (html.CHAPTERS.now ++ (flat_map pages.chapter_cell b.chapters ++ html.BOOK_END.now))
+    wrapped LeftOut html.BOOK.now b.book (html.CHAPTERS.now ++ (flat_map pages.chapter_cell b.chapters ++ html.BOOK_END.now))
 
 progress : (bs : List BookView) → Alike (pages.progress said bs) (pages.progress left_out bs)
 unfolding pages.progress
@@ -100,35 +103,37 @@ progress bs =
     then html.PROGRESS.now (flat_map (pages.book_row said) bs) (flat_map (pages.book_row left_out) bs)
     (each (pages.book_row said) (pages.book_row left_out) book_row bs)
 
-token : (t : Lexeme) → Alike (pages.token_said said t) (pages.token_said left_out t)
-token (mark m) = wrapped html.MARK.now (mark_bytes m) html.MARK_END.now
-token (words t) = spoken t
+module _ (r : CarriageReturn) where
+  token : (t : Lexeme) → Alike (pages.token_said (said r) t) (pages.token_said (left_out r) t)
+  token (mark m) = wrapped r html.MARK.now (mark_bytes m) html.MARK_END.now
+  token (words t) = spoken r t
 
-text : (t : List ℕ) → Alike (pages.text_said said t) (pages.text_said left_out t)
-text t = each (pages.token_said said) (pages.token_said left_out) token (tokens_of t)
+  text : (t : List ℕ) → Alike (pages.text_said (said r) t) (pages.text_said (left_out r) t)
+  text t = each (pages.token_said (said r)) (pages.token_said (left_out r)) token (tokens_of t)
 
-text_then : (a t b : List ℕ) → Alike (a ++ (pages.text_said said t ++ b)) (a ++ (pages.text_said left_out t ++ b))
-text_then a t b =
-    then a (pages.text_said said t ++ b) (pages.text_said left_out t ++ b)
-    (both (pages.text_said said t) b (pages.text_said left_out t) b (text t) refl)
+  text_then : (a t b : List ℕ) → Alike (a ++ (pages.text_said (said r) t ++ b)) (a ++ (pages.text_said (left_out r) t ++ b))
+  text_then a t b =
+      then a (pages.text_said (said r) t ++ b) (pages.text_said (left_out r) t ++ b)
+      (both (pages.text_said (said r) t) b (pages.text_said (left_out r) t) b (text t) refl)
 
 near : (w t : List ℕ) → Alike (pages.near said w t) (pages.near left_out w t)
 unfolding pages.near
 near w t =
-    either (is_empty t) [] (w ++ (pages.text_said said t ++ html.LINE_END.now)) []
-    (w ++ (pages.text_said left_out t ++ html.LINE_END.now)) refl (text_then w t html.LINE_END.now)
+    either (is_empty t) [] (w ++ (pages.text_said (said LeftOut) t ++ html.LINE_END.now)) []
+    (w ++ (pages.text_said (left_out LeftOut) t ++ html.LINE_END.now)) refl (text_then LeftOut w t html.LINE_END.now)
 
 id_line : (w : List ℕ) (id : Id) → Alike (pages.id_line said w id) (pages.id_line left_out w id)
 unfolding pages.id_line
-id_line w id = wrapped w id.name (pages.numbered html.OPERATION.now id.number ++ html.LINE_END.now)
+id_line w id = wrapped LeftOut w id.name (pages.numbered html.OPERATION.now id.number ++ html.LINE_END.now)
 
 part : (p : Part) → Alike (pages.part_said said p) (pages.part_said left_out p)
 unfolding pages.part_said
 part p =
     let t = p.text.now in
-    either (is_kept p.kind) (pages.text_said said t) (html.DIFFERS.now ++ (pages.text_said said t ++ html.DIFFERS_END.now))
-    (pages.text_said left_out t) (html.DIFFERS.now ++ (pages.text_said left_out t ++ html.DIFFERS_END.now)) (text t)
-    (text_then html.DIFFERS.now t html.DIFFERS_END.now)
+    either (is_kept p.kind) (pages.text_said (said LeftOut) t)
+    (html.DIFFERS.now ++ (pages.text_said (said Spelled) t ++ html.DIFFERS_END.now)) (pages.text_said (left_out LeftOut) t)
+    (html.DIFFERS.now ++ (pages.text_said (left_out Spelled) t ++ html.DIFFERS_END.now)) (text LeftOut t)
+    (text_then Spelled html.DIFFERS.now t html.DIFFERS_END.now)
 
 part_on : (x : Bool) (p : Part) → Alike (pages.part_on said x p) (pages.part_on left_out x p)
 unfolding pages.part_on
@@ -199,8 +204,8 @@ module _ (c : ConflictView) where
   unfolding pages.conflict
   conflict =
       let name = ref_text c.segment.book c.segment.key in
-      then html.CONFLICT.now (said name ++ below said) (below left_out)
-      (spoken_then name (below said) (below left_out) below_alike)
+      then html.CONFLICT.now (said LeftOut name ++ below said) (below left_out)
+      (spoken_then LeftOut name (below said) (below left_out) below_alike)
 
 conflicts : (cs : List ConflictView) → Alike (pages.conflicts said cs) (pages.conflicts left_out cs)
 unfolding pages.conflicts

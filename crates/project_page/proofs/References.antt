@@ -1,120 +1,150 @@
 -- Texts with references in the place of what HTML reads as markup.
-use Rattle.std.proofs.Common.{◌≡◌, ℕ, ◌==◌, Bool, true, false, not, cond, ◌&&◌, ◌||◌, List, [], ◌∷◌, ◌++◌, codes, refl, ◌∙◌}
-use Rattle.std.specs.List.{flat_map, list_any}
-use Rattle.std.proofs.lemmas.List.Folds.{list_any-append}
-use Rattle.conflict_settling.specs.Escapes.{is_control_byte, is_control_pair, has_control, escaped}
-use Rattle.conflict_settling.specs.declared.escape.CarriageReturn.TheVariants.{LeftOut}
-use Rattle.conflict_settling.proofs.Escaped.{escaped_has_no_control}
-use Rattle.project_page.specs.Said.{reference}
-use Rattle.project_page.specs.Laws.{is_markup, begins_reference, refers, SaidHasNoControl, SaidHasNoMarkup, SaidRefers}
+use Rattle.std.proofs.Common.{◌≡◌, ℕ, ◌/◌, ◌%◌, ◌+◌, ◌≤◌, ◌==◌, nat_lt, Bool, true, false, not, cond, ◌&&◌, ◌||◌, List, [], ◌∷◌, ◌++◌, chars, codes, encode_utf8_all, refl, ap, ◌∙◌, arith}
+use Rattle.std.proofs.lemmas.Bool.{and_parts}
+use Rattle.std.proofs.lemmas.Bool.Decides.{nat_tests}
+use Rattle.std.proofs.lemmas.List.{append-nil}
+use Rattle.std.proofs.lemmas.List.Folds.{list_all-append, list_any-append}
+use Rattle.std.proofs.lemmas.Str.{chars-encodes, encodes-append, scalars-chars}
+use Rattle.std.specs.Char.{encode_utf8, IsScalar}
+use Rattle.std.specs.List.{flat_map, list_all, list_any}
+use Rattle.std.specs.Str.{all_scalars}
+use Rattle.plain_line.specs.Plain.{is_obeyed, text}
+use Rattle.plain_line.proofs.ControlLemmas.{both, may_stand_in_text, scalars-append}
+use Rattle.plain_line.proofs.LineLemmas.{text_is_plain, text_is_utf8}
+use Rattle.project_page.specs.Said.{is_noncharacter, reference, said}
+use Rattle.project_page.specs.Laws.{is_markup, begins_reference, refers, may_stand, SaidHasNoMarkup, SaidMayStand, SaidRefers}
 
--- what holds of each reference, and of each other byte, holds of what stands for a byte
-pub each_of : (P : List ℕ → Type 0) (b : ℕ) → P (codes "&amp;") → P (codes "&lt;") → P (codes "&gt;") → P (codes "&quot;")
-    → P (codes "&#39;") → ((b == 38) ≡ false → is_markup b ≡ false → P (b ∷ [])) → P (reference b)
-each_of P b amp lt gt quot apos other =
-    by (b == 38) refl (b == 60) refl (b == 62) refl (b == 34) refl (b == 39) refl
+-- what holds of each reference, of U+FFFD, and of each other character, holds of what stands for a character
+pub each_of : (P : List ℕ → Type 0) (c : ℕ) → P (codes "&amp;") → P (codes "&lt;") → P (codes "&gt;") → P (codes "&quot;")
+    → P (codes "&#39;") → P (0xFFFD ∷ [])
+    → ((c == 38) ≡ false → is_markup c ≡ false → is_noncharacter c ≡ false → P (c ∷ [])) → P (reference c)
+each_of P c amp lt gt quot apos none other =
+    by (c == 38) refl (c == 60) refl (c == 62) refl (c == 34) refl (c == 39) refl (is_noncharacter c) refl
   where
-    by : (v : Bool) → (b == 38) ≡ v → (w : Bool) → (b == 60) ≡ w → (x : Bool) → (b == 62) ≡ x → (y : Bool) → (b == 34) ≡ y
-        → (z : Bool) → (b == 39) ≡ z
+    by : (v : Bool) → (c == 38) ≡ v → (w : Bool) → (c == 60) ≡ w → (x : Bool) → (c == 62) ≡ x → (y : Bool) → (c == 34) ≡ y
+        → (z : Bool) → (c == 39) ≡ z → (n : Bool) → is_noncharacter c ≡ n
         → P (cond v (codes "&amp;") (cond w (codes "&lt;") (cond x (codes "&gt;") (cond y (codes "&quot;")
-        (cond z (codes "&#39;") (b ∷ []))))))
-    by true e w f x g y h z k = amp
-    by false e true f x g y h z k = lt
-    by false e false f true g y h z k = gt
-    by false e false f false g true h z k = quot
-    by false e false f false g false h true k = apos
-    by false e false f false g false h false k = other e (λ i. f i || g i || h i || k i)
+        (cond z (codes "&#39;") (cond n (0xFFFD ∷ []) (c ∷ [])))))))
+    by true e w f x g y h z k n l = amp
+    by false e true f x g y h z k n l = lt
+    by false e false f true g y h z k n l = gt
+    by false e false f false g true h z k n l = quot
+    by false e false f false g false h true k n l = apos
+    by false e false f false g false h false k true l = none
+    by false e false f false g false h false k false l = other e (λ i. f i || g i || h i || k i) l
+
+-- what holds of a character and of each byte above ASCII, holds of the character's bytes
+of_bytes : (p : ℕ → Bool) (c : ℕ) → p c ≡ true → ((b : ℕ) → 128 ≤ b → p b ≡ true) → list_all p (encode_utf8 c) ≡ true
+unfolding encode_utf8
+of_bytes p c own high = by (nat_lt c 128) (nat_lt c 2048) (nat_lt c 65536)
+  where
+    next : (n : ℕ) → p (128 + n % 64) ≡ true
+    next n = high (128 + n % 64) (omega arith)
+
+    by : (x y z : Bool) → list_all p (cond x (c ∷ []) (cond y ((192 + c / 64) ∷ (128 + c % 64) ∷ [])
+        (cond z ((224 + c / 4096) ∷ (128 + c / 64 % 64) ∷ (128 + c % 64) ∷ [])
+        ((240 + c / 262144) ∷ (128 + c / 4096 % 64) ∷ (128 + c / 64 % 64) ∷ (128 + c % 64) ∷ [])))) ≡ true
+    by true y z = both _ true own refl
+    by false true z = both _ _ (high (192 + c / 64) (omega arith)) (both _ true (next c) refl)
+    by false false true =
+        both _ _ (high (224 + c / 4096) (omega arith)) (both _ _ (next (c / 64)) (both _ true (next c) refl))
+    by false false false =
+        both _ _ (high (240 + c / 262144) (omega arith))
+        (both _ _ (next (c / 4096)) (both _ _ (next (c / 64)) (both _ true (next c) refl)))
 
 -- ---- markup
 
-or_none : (x : Bool) → x ≡ false → (x || false) ≡ false
-or_none true e = e
-or_none false e = refl
+no_markup_above : (b : ℕ) → 128 ≤ b → not (is_markup b) ≡ true
+no_markup_above b h = grind (arith, nat_tests)
 
-no_markup : (text : List ℕ) → list_any is_markup (flat_map reference text) ≡ false
+none_of : (bytes : List ℕ) → list_all (λ b. not (is_markup b)) bytes ≡ true → list_any is_markup bytes ≡ false
+none_of [] h = refl
+none_of (b ∷ bytes) h =
+    let parts = and_parts _ _ h in
+    by (is_markup b) parts.0 (none_of bytes parts.1)
+  where
+    by : (x : Bool) → not x ≡ true → list_any is_markup bytes ≡ false → (x || list_any is_markup bytes) ≡ false
+    by true h rest = cc h
+    by false h rest = rest
+
+character_no_markup : (c : ℕ) → is_markup c ≡ false → list_any is_markup (encode_utf8_all (c ∷ [])) ≡ false
+character_no_markup c m =
+    ap (list_any is_markup) (append-nil (encode_utf8 c))
+    ∙ none_of (encode_utf8 c) (of_bytes (λ b. not (is_markup b)) c (ap not m) no_markup_above)
+
+no_markup : (cs : List ℕ) → list_any is_markup (encode_utf8_all (flat_map reference cs)) ≡ false
+unfolding encode_utf8
 no_markup [] = refl
-no_markup (b ∷ text) =
-    list_any-append is_markup (reference b) (flat_map reference text)
-    ∙ (λ i. each_of (λ (bytes : List ℕ). list_any is_markup bytes ≡ false) b refl refl refl refl refl
-    (λ e m. or_none (is_markup b) m) i || no_markup text i)
+no_markup (c ∷ cs) =
+    ap (list_any is_markup) (encodes-append (reference c) (flat_map reference cs))
+    ∙ list_any-append is_markup (encode_utf8_all (reference c)) (encode_utf8_all (flat_map reference cs))
+    ∙ (λ i. each_of (λ (xs : List ℕ). list_any is_markup (encode_utf8_all xs) ≡ false) c refl refl refl refl refl refl
+    (λ e m n. character_no_markup c m) i || no_markup cs i)
 
 pub said_has_no_markup : SaidHasNoMarkup
-said_has_no_markup text = no_markup (escaped LeftOut text)
+unfolding said
+said_has_no_markup returns bytes = no_markup (chars (text returns bytes))
 
 -- ---- references
 
-all_refer : (text : List ℕ) → refers (flat_map reference text) ≡ true
+no_reference_above : (b : ℕ) → 128 ≤ b → not (b == 38) ≡ true
+no_reference_above b h = grind (arith, nat_tests)
+
+-- bytes that begin no reference, before a text
+before_text : (bytes later : List ℕ) → list_all (λ b. not (b == 38)) bytes ≡ true → refers later ≡ true → refers (bytes ++ later) ≡ true
+before_text [] later h r = r
+before_text (b ∷ bytes) later h r =
+    let parts = and_parts _ _ h in
+    both _ _ (ap (λ (x : Bool). x || begins_reference (b ∷ (bytes ++ later))) parts.0) (before_text bytes later parts.1 r)
+
+character_refers : (c : ℕ) (later : List ℕ) → (c == 38) ≡ false → refers later ≡ true → refers (encode_utf8_all (c ∷ []) ++ later) ≡ true
+character_refers c later e r =
+    ap (λ (xs : List ℕ). refers (xs ++ later)) (append-nil (encode_utf8 c))
+    ∙ before_text (encode_utf8 c) later (of_bytes (λ b. not (b == 38)) c (ap not e) no_reference_above) r
+
+all_refer : (cs : List ℕ) → refers (encode_utf8_all (flat_map reference cs)) ≡ true
+unfolding encode_utf8
 all_refer [] = refl
-all_refer (b ∷ text) =
-    let later = flat_map reference text in
-    let h = all_refer text in
-    each_of (λ (bytes : List ℕ). refers (bytes ++ later) ≡ true) b h h h h h
-    (λ e m. (λ i. (not (e i) || begins_reference (b ∷ later)) && refers later) ∙ h)
+all_refer (c ∷ cs) =
+    let later = encode_utf8_all (flat_map reference cs) in
+    let h = all_refer cs in
+    ap refers (encodes-append (reference c) (flat_map reference cs))
+    ∙ each_of (λ (xs : List ℕ). refers (encode_utf8_all xs ++ later) ≡ true) c h h h h h h (λ e m n. character_refers c later e h)
 
 pub said_refers : SaidRefers
-said_refers text = all_refer (escaped LeftOut text)
+unfolding said
+said_refers returns bytes = all_refer (chars (text returns bytes))
 
--- ---- control characters
+-- ---- characters that may not stand
 
--- whether a byte and the front of what follows it are a control character
-abbrev pairs : ℕ → List ℕ → Bool
-pairs b [] = false
-pairs b (c ∷ rest) = is_control_pair b c
+stays : (a b d : Bool) → (a || not b) ≡ true → d ≡ false → (a || not (b || d)) ≡ true
+stays true b d h e = refl
+stays false true d h e = cc h
+stays false false d h e = ap not e
 
-left_false : (x y : Bool) → (x || y) ≡ false → x ≡ false
-left_false true y e = e
-left_false false y e = refl
+reference_may_stand : (c : ℕ) → may_stand_in_text c ≡ true → list_all may_stand (reference c) ≡ true
+reference_may_stand c h =
+    each_of (λ (xs : List ℕ). list_all may_stand xs ≡ true) c refl refl refl refl refl refl
+    (λ e m n. both _ true (stays (c == 10) (is_obeyed c) (is_noncharacter c) h n) refl)
 
-right_false : (x y : Bool) → (x || y) ≡ false → y ≡ false
-right_false true y e = cc e
-right_false false y e = e
+reference_is_scalars : (c : ℕ) → IsScalar c → all_scalars (reference c) ≡ true
+reference_is_scalars c s =
+    each_of (λ (xs : List ℕ). all_scalars xs ≡ true) c refl refl refl refl refl refl (λ e m n. both _ true s refl)
 
--- the last byte of a reference, before a text
-after_reference : (rest : List ℕ) → has_control rest ≡ false → has_control (59 ∷ rest) ≡ false
-after_reference [] h = refl
-after_reference (c ∷ rest) h = h
+all_may_stand : (cs : List ℕ) → list_all may_stand_in_text cs ≡ true → all_scalars cs ≡ true
+    → (list_all may_stand (flat_map reference cs) ≡ true) × (all_scalars (flat_map reference cs) ≡ true)
+all_may_stand [] h s = (refl, refl)
+all_may_stand (c ∷ cs) h s =
+    let fit = and_parts (may_stand_in_text c) (list_all may_stand_in_text cs) h in
+    let are = and_parts _ _ s in
+    let rest = all_may_stand cs fit.1 are.1 in (
+      list_all-append may_stand (reference c) (flat_map reference cs) ∙ both _ _ (reference_may_stand c fit.0) rest.0,
+      scalars-append (reference c) (flat_map reference cs) (reference_is_scalars c are.0) rest.1,
+    )
 
--- a byte that makes no control character with the one after it
-before_text : (b : ℕ) (rest : List ℕ) → is_control_byte b ≡ false → pairs b rest ≡ false → has_control rest ≡ false
-    → has_control (b ∷ rest) ≡ false
-before_text b [] plain apart h = plain
-before_text b (c ∷ rest) plain apart h = λ i. plain i || (apart i || h i)
-
-no_pair_38 : (b : ℕ) → is_control_pair b 38 ≡ false
-no_pair_38 b = by (b == 194)
-  where
-    by : (x : Bool) → (x && false) ≡ false
-    by true = refl
-    by false = refl
-
--- a byte makes no control character with what stands for the next one, if it makes none with that
-still_apart : (b : ℕ) (text : List ℕ) → pairs b text ≡ false → pairs b (flat_map reference text) ≡ false
-still_apart b [] h = refl
-still_apart b (c ∷ text) h =
-    let no = no_pair_38 b in
-    each_of (λ (bytes : List ℕ). pairs b (bytes ++ flat_map reference text) ≡ false) c no no no no no (λ e m. h)
-
-no_control : (text : List ℕ) → has_control text ≡ false → has_control (flat_map reference text) ≡ false
-no_control [] h = refl
-no_control (b ∷ text) h =
-    let later = flat_map reference text in
-    let plain = own b text h in
-    let rest = no_control text (later_plain b text h) in
-    let last = after_reference later rest in
-    each_of (λ (bytes : List ℕ). has_control (bytes ++ later) ≡ false) b last last last last last
-    (λ e m. before_text b later plain (still_apart b text (apart b text h)) rest)
-  where
-    own : (b : ℕ) (text : List ℕ) → has_control (b ∷ text) ≡ false → is_control_byte b ≡ false
-    own b [] h = h
-    own b (c ∷ text) h = left_false (is_control_byte b) _ h
-
-    apart : (b : ℕ) (text : List ℕ) → has_control (b ∷ text) ≡ false → pairs b text ≡ false
-    apart b [] h = refl
-    apart b (c ∷ text) h = left_false (is_control_pair b c) _ (right_false (is_control_byte b) _ h)
-
-    later_plain : (b : ℕ) (text : List ℕ) → has_control (b ∷ text) ≡ false → has_control text ≡ false
-    later_plain b [] h = refl
-    later_plain b (c ∷ text) h = right_false (is_control_pair b c) _ (right_false (is_control_byte b) _ h)
-
-pub said_has_no_control : SaidHasNoControl
-said_has_no_control text = no_control (escaped LeftOut text) (escaped_has_no_control LeftOut text)
+pub said_may_stand : SaidMayStand
+unfolding said
+said_may_stand returns bytes u =
+    let cs = chars (text returns bytes) in
+    let all = all_may_stand cs (text_is_plain returns bytes u) (scalars-chars _ (text_is_utf8 returns bytes u)) in
+    ap (list_all may_stand) (chars-encodes _ all.1) ∙ all.0

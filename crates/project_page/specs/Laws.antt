@@ -1,10 +1,12 @@
 -- What holds of each page (this project's own rule): no text of a project acts as markup in it.
-use Rattle.std.specs.Prelude.{◌≡◌, ℕ, ◌==◌, nat_eq, Bool, true, false, not, ◌&&◌, ◌||◌, List, [], ◌∷◌, codes, filter}
-use Rattle.std.specs.List.{list_any, starts_with}
-use Rattle.conflict_settling.specs.Escapes.{has_control}
+use Rattle.std.specs.Prelude.{◌≡◌, ℕ, ◌==◌, nat_eq, Bool, true, false, not, ◌&&◌, ◌||◌, List, [], ◌∷◌, codes, chars, filter}
+use Rattle.std.specs.List.{list_all, list_any, starts_with}
+use Rattle.std.specs.Str.{IsUtf8}
+use Rattle.plain_line.specs.Plain.{is_obeyed}
+use Rattle.plain_line.specs.declared.text.CarriageReturn.{CarriageReturn}
 use Rattle.project_page.specs.Pages.{page, page_by}
 use Rattle.project_page.specs.Parts.{PageView}
-use Rattle.project_page.specs.Said.{said}
+use Rattle.project_page.specs.Said.{is_noncharacter, said}
 
 -- whether a byte is one that HTML reads as markup, beside the one that begins a reference: `<`,
 -- `>`, `"` or `'`
@@ -25,19 +27,28 @@ refers (b ∷ bytes) = (not (b == 38) || begins_reference (b ∷ bytes)) && refe
 
 -- A text has no markup where it stands in a page,
 abbrev pub SaidHasNoMarkup : Type 0
-SaidHasNoMarkup = (text : List ℕ) → list_any is_markup (said text) ≡ false
+SaidHasNoMarkup =
+    (returns : CarriageReturn) (text : List ℕ) → list_any is_markup (said returns text) ≡ false
 
 -- each `&` there begins a reference,
 abbrev pub SaidRefers : Type 0
-SaidRefers = (text : List ℕ) → refers (said text) ≡ true
+SaidRefers =
+    (returns : CarriageReturn) (text : List ℕ) → refers (said returns text) ≡ true
 
--- and no control character is left there but line feeds.
-abbrev pub SaidHasNoControl : Type 0
-SaidHasNoControl = (text : List ℕ) → has_control (said text) ≡ false
+-- whether a character may stand in a page: a line feed, or one that no terminal obeys and that is
+-- no noncharacter
+abbrev pub may_stand : ℕ → Bool
+may_stand c = (c == 10) || not (is_obeyed c || is_noncharacter c)
+
+-- and no other character than these is left there.
+abbrev pub SaidMayStand : Type 0
+SaidMayStand =
+    (returns : CarriageReturn) (text : List ℕ) →
+    IsUtf8 text → list_all may_stand (chars (said returns text)) ≡ true
 
 -- a text that is left out
-abbrev pub left_out : List ℕ → List ℕ
-left_out text = []
+abbrev pub left_out : CarriageReturn → List ℕ → List ℕ
+left_out returns text = []
 
 -- The markup of a page is that of the same page with each text and name left out.
 abbrev pub MarkupIsFixed : Type 0

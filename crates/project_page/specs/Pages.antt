@@ -17,12 +17,14 @@ use Rattle.project_status.specs.declared.chapters.Chapter.{Chapter}
 use Rattle.project_status.specs.declared.makers.Maker.{Maker}
 use Rattle.conflict_settling.specs.Entries.{EntryView}
 use Rattle.project_page.specs.Parts.{BookView, ConflictView, PageView, ArePartsOf}
+use Rattle.plain_line.specs.declared.text.CarriageReturn.{CarriageReturn}
+use Rattle.plain_line.specs.declared.text.CarriageReturn.TheVariants.{LeftOut, Spelled}
 use Rattle.project_page.specs.Said.{said}
 use Rattle.project_page.specs.declared.markup.TheConstants as html
 
--- how a text or a name is written
+-- how a text or a name is written, with the carriage returns before its line feeds or without
 abbrev pub Saying : Type 0
-Saying = List ℕ → List ℕ
+Saying = CarriageReturn → List ℕ → List ℕ
 
 -- ---- how the project stands
 
@@ -36,11 +38,14 @@ row named n = numbered named n ++ html.ROW_END.now
 
 -- who made how much of what is shown
 unfoldable pub maker_row : Saying → Maker → List ℕ
-maker_row say maker = html.MAKER.now ++ (say maker.name ++ row html.MAKER_COUNT.now maker.count)
+maker_row say maker =
+    html.MAKER.now ++ (say LeftOut maker.name ++ row html.MAKER_COUNT.now maker.count)
 
 -- the page's front, with the copy's name in the title and as the first row
 unfoldable pub front : Saying → List ℕ → List ℕ
-front say name = html.HEAD.now ++ (say name ++ (html.BODY.now ++ (say name ++ html.ROW_END.now)))
+front say name =
+    html.HEAD.now ++ (say LeftOut name
+    ++ (html.BODY.now ++ (say LeftOut name ++ html.ROW_END.now)))
 
 -- the numbers of the project's status
 unfoldable pub standing : Saying → PageView → List ℕ
@@ -71,7 +76,7 @@ chapter_cell c =
 -- a book with its chapters
 unfoldable pub book_row : Saying → BookView → List ℕ
 book_row say b =
-    html.BOOK.now ++ (say b.book ++ (html.CHAPTERS.now ++ (flat_map chapter_cell b.chapters
+    html.BOOK.now ++ (say LeftOut b.book ++ (html.CHAPTERS.now ++ (flat_map chapter_cell b.chapters
     ++ html.BOOK_END.now)))
 
 -- all books
@@ -82,12 +87,12 @@ progress say books = html.PROGRESS.now ++ flat_map (book_row say) books
 
 -- a mark apart, so that its Latin letters do not say in which direction the text runs; a text as it
 -- is
-abbrev pub token_said : Saying → Lexeme → List ℕ
+abbrev pub token_said : (List ℕ → List ℕ) → Lexeme → List ℕ
 token_said say (mark m) = html.MARK.now ++ (say (mark_bytes m) ++ html.MARK_END.now)
 token_said say (words t) = say t
 
 -- a text, mark by mark
-abbrev pub text_said : Saying → List ℕ → List ℕ
+abbrev pub text_said : (List ℕ → List ℕ) → List ℕ → List ℕ
 text_said say text = flat_map (token_said say) (tokens_of text)
 
 -- a text that stands before or after a segment, after the piece that says so; nothing where it is
@@ -95,20 +100,20 @@ text_said say text = flat_map (token_said say) (tokens_of text)
 unfoldable pub near : Saying → List ℕ → List ℕ → List ℕ
 near say named text =
     if is_empty text then [] else
-    named ++ (text_said say text ++ html.LINE_END.now)
+    named ++ (text_said (say LeftOut) text ++ html.LINE_END.now)
 
 -- an id in a line of its own, by its name and its number, after the piece that says what it is
 unfoldable pub id_line : Saying → List ℕ → Id → List ℕ
 id_line say named id =
-    named ++ (say id.name ++ (numbered html.OPERATION.now id.number ++ html.LINE_END.now))
+    named ++ (say LeftOut id.name ++ (numbered html.OPERATION.now id.number ++ html.LINE_END.now))
 
 -- ---- what is in conflict
 
--- a part of two texts: what is not in both is marked
+-- a part of two texts: what is not in both is marked, and in it also line ends are spelled out
 unfoldable pub part_said : Saying → Part → List ℕ
 part_said say part =
-    if is_kept part.kind then text_said say part.text.now else
-    html.DIFFERS.now ++ (text_said say part.text.now ++ html.DIFFERS_END.now)
+    if is_kept part.kind then text_said (say LeftOut) part.text.now else
+    html.DIFFERS.now ++ (text_said (say Spelled) part.text.now ++ html.DIFFERS_END.now)
 
 -- whether a part is on this side: that of the first text, or else the other
 abbrev pub is_here : Bool → Kind → Bool
@@ -151,7 +156,7 @@ repeated say o = id_line say html.REPEATED.now o.id
 -- a conflict, below its reference
 unfoldable pub conflict : Saying → ConflictView → List ℕ
 conflict say c =
-    html.CONFLICT.now ++ (say (ref_text c.segment.book c.segment.key) ++ (html.NAMED.now
+    html.CONFLICT.now ++ (say LeftOut (ref_text c.segment.book c.segment.key) ++ (html.NAMED.now
     ++ (near say html.BEFORE.now c.before ++ (texts say c.picked c.entries
     ++ (flat_map (repeated say) c.repeated ++ (near say html.AFTER.now c.after
     ++ html.CONFLICT_END.now))))))

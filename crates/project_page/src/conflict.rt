@@ -13,9 +13,10 @@ use crate::markup::{
     AFTER, BEFORE, CONFLICT, CONFLICT_END, CONFLICTS, COUNT_END, DIFFERS, DIFFERS_END, DIV_END,
     ENTRY, ENTRY_BY, IN_BOOK, IN_BOOK_AS, LINE_END, NAMED, NO_TEXT, REPEATED, TEXT, TEXTS,
 };
-use crate::said::{push_html, push_id_line, push_number, push_said, push_text};
+use crate::said::{push_html, push_id_line, push_name, push_number, push_text};
 use conflict_settling::Entry;
 use op_core::{Op, Picked};
+use plain_line::CarriageReturn;
 use std::alloc::{AllocError, Global};
 use usfm_ref::write_ref;
 use word_diff::{Kind, Part};
@@ -49,7 +50,7 @@ fn push_conflict(
 {
     let reference = write_ref(alloc, conflict.book, conflict.key)?;
     push_html(page, CONFLICT)?;
-    push_said(alloc, page, reference.as_bytes())?;
+    push_name(alloc, page, reference.as_str())?;
     push_html(page, NAMED)?;
     push_near(alloc, page, BEFORE, &conflict.before)?;
     push_entries(alloc, page, &conflict.entries, &conflict.picked)?;
@@ -68,7 +69,7 @@ fn push_near(alloc: Global, page: &mut Vec<u8>, html: &str, text: &str) -> Resul
         return Ok(());
     }
     push_html(page, html)?;
-    push_text(alloc, page, text)?;
+    push_text(alloc, page, text, CarriageReturn::LeftOut)?;
     push_html(page, LINE_END)
 }
 
@@ -196,16 +197,16 @@ fn is_here(is_first: bool, kind: Kind) -> bool
     }
 }
 
-// Adds a part: what is not in both texts is marked.
+// Adds a part: what is not in both texts is marked. Two texts may differ in line ends alone.
 #[tactic(auto, unfolding(crate::specs::Pages::part_said))]
 fn push_part(alloc: Global, page: &mut Vec<u8>, part: &Part<'_>) -> Result<(), AllocError>
     ensures { OnOk result (page.new.items ≡ page.old.items ++ pages.part_said said part.now) }
 {
     if part.kind == Kind::Kept {
-        return push_text(alloc, page, part.text);
+        return push_text(alloc, page, part.text, CarriageReturn::LeftOut);
     }
     push_html(page, DIFFERS)?;
-    push_text(alloc, page, part.text)?;
+    push_text(alloc, page, part.text, CarriageReturn::Spelled)?;
     push_html(page, DIFFERS_END)
 }
 

@@ -3,6 +3,7 @@ ghost use Rattle.std.specs.Prelude.{◌≡◌, ◌++◌, OnOk, map};
 ghost use Rattle.std.specs.List.{flat_map};
 ghost use Rattle.project_page.specs.Pages as pages;
 ghost use Rattle.project_page.specs.Parts.{book_view};
+ghost use Rattle.plain_line.specs.declared.text.CarriageReturn.TheVariants as returning;
 ghost use Rattle.project_page.specs.Said.{said};
 
 use crate::BookProgress;
@@ -10,9 +11,10 @@ use crate::markup::{
     ALL, BOOK, BOOK_END, CHAPTER, CHAPTER_END, CHAPTER_NUMBER, CHAPTER_VERSES, CHAPTER_WRITTEN,
     CHAPTERS, FEW, MOST, NONE, PROGRESS, SOME,
 };
-use crate::said::{push_html, push_number, push_said};
+use crate::said::{push_html, push_name, push_number};
 use project_status::Chapter;
 use std::alloc::{AllocError, Global};
+use usfm_ref::Book;
 
 // Adds the books, in their order.
 #[tactic(auto, unfolding(crate::specs::Pages::progress))]
@@ -37,10 +39,18 @@ fn push_book(alloc: Global, page: &mut Vec<u8>, book: &BookProgress) -> Result<(
         ≡ page.old.items ++ pages.book_row said (book_view book.now)) }
 {
     push_html(page, BOOK)?;
-    push_said(alloc, page, &book.book.code())?;
+    push_code(alloc, page, book.book)?;
     push_html(page, CHAPTERS)?;
     push_chapters(alloc, page, &book.chapters)?;
     push_html(page, BOOK_END)
+}
+
+// Adds a book's code.
+fn push_code(alloc: Global, page: &mut Vec<u8>, book: Book) -> Result<(), AllocError>
+    ensures { OnOk result (page.new.items ≡ page.old.items ++ said returning.LeftOut book) }
+{
+    let code = format!(in alloc; "{book}")?;
+    push_name(alloc, page, &code)
 }
 
 fn push_chapters(alloc: Global, page: &mut Vec<u8>, chapters: &[Chapter]) -> Result<(), AllocError>

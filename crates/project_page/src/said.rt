@@ -1,12 +1,15 @@
 // What a page is made of: fixed pieces, numbers, and texts, which are escaped.
-ghost use Rattle.std.specs.Prelude.{◌≡◌, ◌++◌, OnOk};
+ghost use Rattle.std.specs.Prelude.{◌≡◌, ◌++◌, OnOk, string_bytes, encode_utf8_all};
+ghost use Rattle.std.specs.List.{flat_map};
+ghost use Rattle.std.specs.Str.{chars};
 ghost use Rattle.usfm_token.specs.View.{lexeme};
 ghost use Rattle.project_page.specs.Pages as pages;
-ghost use Rattle.project_page.specs.Said.{reference, said};
+ghost use Rattle.plain_line.specs.declared.text.CarriageReturn.TheVariants as returning;
+ghost use Rattle.project_page.specs.Said.{is_noncharacter, reference, said};
 
 use crate::markup::{LINE_END, MARK, MARK_END, OPERATION};
-use conflict_settling::{CarriageReturn, push_escaped};
 use op_core::OpId;
+use plain_line::{CarriageReturn, push_text as push_plain};
 use std::alloc::{AllocError, Global};
 use usfm_token::{Token, TokenIter};
 
@@ -31,51 +34,95 @@ pub(crate) fn push_number(
     page.extend_from_slice(words.as_bytes())
 }
 
-// Adds a text or a name, escaped.
-pub(crate) fn push_said(alloc: Global, page: &mut Vec<u8>, text: &[u8]) -> Result<(), AllocError>
-    ensures { OnOk result (page.new.items ≡ page.old.items ++ said text.now) }
+// Adds a name, escaped.
+pub(crate) fn push_name(alloc: Global, page: &mut Vec<u8>, name: &str) -> Result<(), AllocError>
+    ensures { OnOk result (page.new.items
+        ≡ page.old.items ++ said returning.LeftOut name.now) }
 {
-    let mut plain = Vec::new(alloc);
-    push_escaped(&mut plain, text, CarriageReturn::LeftOut)?;
-    for byte in &plain {
-        push_byte(page, *byte)?;
+    push_said(alloc, page, name, CarriageReturn::LeftOut)
+}
+
+// Adds a text or a name, escaped.
+#[tactic(auto, unfolding(crate::specs::Said::said))]
+fn push_said(
+    alloc: Global,
+    page: &mut Vec<u8>,
+    text: &str,
+    returns: CarriageReturn,
+) -> Result<(), AllocError>
+    ensures { OnOk result (page.new.items ≡ page.old.items ++ said returns text.now) }
+{
+    let mut plain = String::new(alloc);
+    push_plain(&mut plain, text, returns)?;
+    let mut said = String::new(alloc);
+    push_references(&mut said, &plain)?;
+    page.extend_from_slice(said.as_bytes())
+}
+
+// Adds what stands for each character of a text.
+fn push_references(said: &mut String, text: &str) -> Result<(), AllocError>
+    ensures { OnOk result (string_bytes said.new
+        ≡ string_bytes said.old ++ encode_utf8_all (flat_map reference (chars text.now))) }
+{
+    for sign in text.chars() {
+        push_reference(said, sign)?;
     }
     Ok(())
 }
 
-// Adds a byte, or what stands for it.
-fn push_byte(page: &mut Vec<u8>, byte: u8) -> Result<(), AllocError>
-    ensures { OnOk result (page.new.items ≡ page.old.items ++ reference byte) }
+// Adds a character, or what stands for it.
+fn push_reference(said: &mut String, sign: char) -> Result<(), AllocError>
+    ensures { OnOk result (string_bytes said.new
+        ≡ string_bytes said.old ++ encode_utf8_all (reference sign)) }
 {
-    match byte {
-        b'&' => page.extend_from_slice(b"&amp;"),
-        b'<' => page.extend_from_slice(b"&lt;"),
-        b'>' => page.extend_from_slice(b"&gt;"),
-        b'"' => page.extend_from_slice(b"&quot;"),
-        b'\'' => page.extend_from_slice(b"&#39;"),
-        _ => Ok(page.push(byte)?),
+    match sign {
+        '&' => said.push_str("&amp;"),
+        '<' => said.push_str("&lt;"),
+        '>' => said.push_str("&gt;"),
+        '"' => said.push_str("&quot;"),
+        '\'' => said.push_str("&#39;"),
+        _ if is_noncharacter(sign) => said.push('\u{fffd}'),
+        _ => said.push(sign),
     }
+}
+
+// Whether a character is one that Unicode assigns to nothing, and HTML does not permit.
+fn is_noncharacter(sign: char) -> bool
+    ensures { result ≡ is_noncharacter sign }
+{
+    matches!(sign, '\u{fdd0}'..='\u{fdef}') || sign as u32 % 0x1_0000 >= 0xfffe
 }
 
 // Adds a text, each mark of it apart.
-pub(crate) fn push_text(alloc: Global, page: &mut Vec<u8>, text: &str) -> Result<(), AllocError>
-    ensures { OnOk result (page.new.items ≡ page.old.items ++ pages.text_said said text.now) }
+pub(crate) fn push_text(
+    alloc: Global,
+    page: &mut Vec<u8>,
+    text: &str,
+    returns: CarriageReturn,
+) -> Result<(), AllocError>
+    ensures { OnOk result (page.new.items
+        ≡ page.old.items ++ pages.text_said (said returns) text.now) }
 {
     for token in TokenIter::new(text) {
-        push_token(alloc, page, &token)?;
+        push_token(alloc, page, &token, returns)?;
     }
     Ok(())
 }
 
-fn push_token(alloc: Global, page: &mut Vec<u8>, token: &Token<'_>) -> Result<(), AllocError>
+fn push_token(
+    alloc: Global,
+    page: &mut Vec<u8>,
+    token: &Token<'_>,
+    returns: CarriageReturn,
+) -> Result<(), AllocError>
     ensures { OnOk result (page.new.items
-        ≡ page.old.items ++ pages.token_said said (lexeme token.now)) }
+        ≡ page.old.items ++ pages.token_said (said returns) (lexeme token.now)) }
 {
     match token {
-        Token::Text(text) => push_said(alloc, page, text.as_bytes()),
+        Token::Text(text) => push_said(alloc, page, text, returns),
         Token::Mark(mark) => {
             push_html(page, MARK)?;
-            push_said(alloc, page, mark.slice().as_bytes())?;
+            push_said(alloc, page, mark.slice(), returns)?;
             push_html(page, MARK_END)
         }
     }
@@ -93,7 +140,7 @@ pub(crate) fn push_id_line(
         ≡ page.old.items ++ pages.id_line said html.now id.now) }
 {
     push_html(page, html)?;
-    push_said(alloc, page, id.name.text().as_bytes())?;
+    push_name(alloc, page, id.name.text())?;
     push_number(alloc, page, OPERATION, id.number as usize)?;
     push_html(page, LINE_END)
 }

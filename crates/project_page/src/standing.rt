@@ -10,7 +10,7 @@ use crate::markup::{
     AWAITED_ROW, BODY, BOOKS, CONFLICTS_ROW, HEAD, MAKER, MAKER_COUNT, REPLACED, ROW_END, THINNED,
     VERSES,
 };
-use crate::said::{push_html, push_number, push_said};
+use crate::said::{push_html, push_name, push_number};
 use op_core::ReplicaName;
 use project_status::Maker;
 use std::alloc::{AllocError, Global};
@@ -25,9 +25,9 @@ pub(crate) fn push_front(
     ensures { OnOk result (page.new.items ≡ page.old.items ++ pages.front said name.now) }
 {
     push_html(page, HEAD)?;
-    push_said(alloc, page, name.text().as_bytes())?;
+    push_name(alloc, page, name.text())?;
     push_html(page, BODY)?;
-    push_said(alloc, page, name.text().as_bytes())?;
+    push_name(alloc, page, name.text())?;
     push_html(page, ROW_END)
 }
 
@@ -73,6 +73,6 @@ fn push_maker(alloc: Global, page: &mut Vec<u8>, maker: &Maker) -> Result<(), Al
     ensures { OnOk result (page.new.items ≡ page.old.items ++ pages.maker_row said maker.now) }
 {
     push_html(page, MAKER)?;
-    push_said(alloc, page, maker.name.text().as_bytes())?;
+    push_name(alloc, page, maker.name.text())?;
     push_row(alloc, page, MAKER_COUNT, maker.count)
 }

@@ -94,6 +94,27 @@ fn texts_are_no_markup(rt: HostRuntime) -> Result<(), Fail> {
 }
 
 #[test]
+fn characters_that_no_page_may_have(rt: HostRuntime) -> Result<(), Fail> {
+    let page = page_of(
+        rt.alloc(),
+        "\\v 1 \u{202e}a\u{2069} \u{fdcf}\u{fdd0}\u{fdef}\u{fdf0}\n",
+        "\\v 1 \u{fffd}\u{fffe}\u{ffff}\u{1fffe}\u{10ffff}\u{10fffd}\n",
+    )?;
+    assert!(rt; has(&page, "\\u202ea\\u2069"));
+    assert!(rt; has(&page, "\u{fdcf}\u{fffd}\u{fffd}\u{fdf0}"));
+    assert!(rt; has(&page, "\u{fffd}\u{fffd}\u{fffd}\u{fffd}\u{fffd}\u{10fffd}"));
+    Ok(())
+}
+
+#[test]
+fn line_ends_that_differ(rt: HostRuntime) -> Result<(), Fail> {
+    let page = page_of(rt.alloc(), "\\v 1 At it\r\n", "\\v 1 At it\n")?;
+    assert!(rt; has(&page, "<bdi>\\v</bdi> 1 At it<mark>\\x0d\n</mark>"));
+    assert!(rt; has(&page, "<bdi>\\v</bdi> 1 At it<mark>\n</mark>"));
+    Ok(())
+}
+
+#[test]
 fn nothing_is_held(rt: HostRuntime) -> Result<(), Fail> {
     let alloc = rt.alloc();
     let ana = Replica::new(alloc, ReplicaName::read("ana")?);

@@ -1,6 +1,7 @@
 -- What a person reads of a fault (this project's own rule): the sentences of
 -- `src/explaining/sentences.rt`, each by its name.
 use Rattle.std.specs.Prelude.{ℕ, List, [], ◌∷◌, ◌++◌, Option, Some, None}
+use Rattle.std.specs.Fmt.{decimal}
 use Rattle.usfm_ref.specs.declared.fault.RefFault.TheVariants.{BadBook, BadRef}
 use Rattle.op_core.specs.declared.fault.IdFault.TheVariants.{BadName, BadOpId}
 use Rattle.bundle_codec.specs.declared.fault.BundleFault.{BundleFault}
@@ -21,13 +22,16 @@ use Rattle.usfm_cli.specs.declared.explaining.circumstances.Expected.TheVariants
 use Rattle.usfm_cli.specs.declared.explaining.circumstances.Found.{Found}
 use Rattle.usfm_cli.specs.declared.explaining.circumstances.Found.TheVariants as found
 use Rattle.usfm_cli.specs.declared.explaining.explanation.Explanation.{Explanation}
-use Rattle.usfm_cli.specs.declared.explaining.explanation.Explanation.TheVariants.{Sentences, InCapitals}
+use Rattle.usfm_cli.specs.declared.explaining.explanation.Explanation.TheVariants.{Sentences, InCapitals, IdInLine}
+use Rattle.usfm_cli.specs.declared.explaining.book_fronts.Slip.{Slip}
+use Rattle.usfm_cli.specs.declared.explaining.book_fronts.Slip.TheVariants.{SmallLetters, Blanks, LaterLine}
 use Rattle.usfm_cli.specs.declared.explaining.sentences.TheConstants as say
 
 -- the lines of an explanation
 abbrev pub explanation_text : Explanation → List ℕ
 explanation_text (Sentences text) = text.now ++ 10 ∷ []
 explanation_text (InCapitals book) = say.IN_CAPITALS.now ++ book ++ 10 ∷ []
+explanation_text (IdInLine line) = say.ID_IN_LINE.now ++ decimal line ++ say.TAKE_OUT.now ++ 10 ∷ []
 
 -- the sentences of a fault of a bundle
 abbrev pub of_bundle : BundleFault → List ℕ
@@ -79,12 +83,18 @@ abbrev pub no_bundle : Found → List ℕ
 no_bundle found.BookFile = say.BOOK_NOT_BUNDLE.now
 no_bundle found.Project = say.PROJECT_NOT_BUNDLE.now
 no_bundle found.Summary = say.SUMMARY_NOT_BUNDLE.now
+no_bundle found.Newer = say.NEWER.now
 no_bundle _ = say.NO_BUNDLE.now
+
+-- of what is damaged, if it is not of a newer version
+abbrev pub of_damaged : Found → List ℕ → List ℕ
+of_damaged found.Newer _ = say.NEWER.now
+of_damaged _ damaged = damaged
 
 -- of a bundle's fault, by what the file was to be
 abbrev pub of_bytes : BundleFault → Expected → Found → List ℕ
-of_bytes _ expected.Project _ = say.DAMAGED_PROJECT.now
-of_bytes _ expected.Kept _ = say.DAMAGED_BASE.now
+of_bytes _ expected.Project stands = of_damaged stands say.DAMAGED_PROJECT.now
+of_bytes _ expected.Kept stands = of_damaged stands say.DAMAGED_BASE.now
 of_bytes bundle.Magic _ stands = no_bundle stands
 of_bytes fault _ _ = of_bundle fault
 
@@ -93,6 +103,7 @@ abbrev pub no_book : Fault → Found → List ℕ
 no_book _ found.Bundle = say.BUNDLE_NOT_BOOK.now
 no_book _ found.Project = say.PROJECT_NOT_BOOK.now
 no_book _ found.Summary = say.SUMMARY_NOT_BOOK.now
+no_book _ found.Newer = say.NEWER.now
 no_book fault _ = general fault
 
 -- of a file that is to be a project's, by what it is
@@ -100,17 +111,19 @@ abbrev pub no_project : Found → List ℕ
 no_project found.Bundle = say.BUNDLE_NOT_PROJECT.now
 no_project found.BookFile = say.BOOK_NOT_PROJECT.now
 no_project found.Summary = say.SUMMARY_NOT_PROJECT.now
+no_project found.Newer = say.NEWER.now
 no_project _ = say.NO_PROJECT.now
 
 -- of a file that is to be a summary, by what it is
 abbrev pub no_summary : Found → List ℕ
 no_summary found.Bundle = say.BUNDLE_NOT_SUMMARY.now
+no_summary found.Newer = say.NEWER.now
 no_summary _ = say.NO_SUMMARY.now
 
 -- of a folder that was not read, with what is said where something else stands there
 abbrev pub unread_folder : Found → List ℕ → List ℕ
 unread_folder found.Unseen _ = say.READ_FAILED.now
-unread_folder found.Folder _ = say.READ_FAILED.now
+unread_folder found.Folder _ = say.FOLDER_UNREADABLE.now
 unread_folder found.Nothing _ = say.NO_FOLDER_THERE.now
 unread_folder found.NoFolder _ = say.NO_FOLDER_THERE.now
 unread_folder _ other = other
@@ -127,6 +140,7 @@ abbrev pub unread : Expected → Found → List ℕ
 unread expected.Folder stands = unread_folder stands say.IS_FILE.now
 unread expected.Box stands = unread_folder stands say.BOX_IS_FILE.now
 unread expected.Project stands = unread_file stands say.NO_PROJECT_THERE.now
+unread expected.OwnFolder _ = say.OWN_UNREADABLE.now
 unread expected.Typed _ = say.CUT_LINE.now
 unread _ stands = unread_file stands say.NOTHING_THERE.now
 
@@ -143,6 +157,7 @@ abbrev pub not_left : Found → List ℕ
 not_left found.Project = say.NOT_OWN_BUNDLE.now
 not_left found.Summary = say.NOT_OWN_BUNDLE.now
 not_left found.BookFile = say.NOT_OWN_BUNDLE.now
+not_left found.Newer = say.NEWER.now
 not_left _ = say.BUNDLE_NOT_LEFT.now
 
 -- of a text that is refused: by what it is where it is to be a book's file
@@ -185,6 +200,7 @@ changed expected.Unbased = say.FILE_UNBASED.now
 changed expected.NewFile = say.NAME_TAKEN.now
 changed expected.NoBook = say.FILE_NO_BOOK.now
 changed expected.NotRead = say.FILE_NOT_READ.now
+changed expected.OwnFolder = say.OWN_NOT_FOLDER.now
 changed _ = say.FILE_CHANGED.now
 
 -- of what has nothing in common with a project: a bundle, or what a folder's files were written from
@@ -208,13 +224,22 @@ sentences FileChanged role _ = changed role
 sentences (Unlike count) role _ = unlike role
 sentences fault _ _ = general fault
 
--- of what is no book's code, by the book that is meant, or else by what it was to be
-abbrev pub of_code : Option (List ℕ) → Expected → List ℕ
-of_code (Some book) _ = say.IN_CAPITALS.now ++ book ++ 10 ∷ []
-of_code None role = no_code role ++ 10 ∷ []
+-- of what is no book's code: in capitals that of the book that is meant, or that one blank is
+-- enough, or else by what it was to be
+abbrev pub of_code : Option Slip → Expected → List ℕ
+of_code (Some (SmallLetters book)) _ = say.IN_CAPITALS.now ++ book ++ 10 ∷ []
+of_code (Some Blanks) _ = say.ONE_SPACE.now ++ 10 ∷ []
+of_code other role = no_code role ++ 10 ∷ []
 
--- the lines that a person reads of a fault: of a book's code in small letters the code in
--- capitals, else the sentences
+-- of a text that does not begin with `\id`: the line that does, or else by what it is
+abbrev pub of_no_id : Option Slip → Expected → Found → List ℕ
+of_no_id (Some (LaterLine line)) _ _ =
+    say.ID_IN_LINE.now ++ decimal line ++ say.TAKE_OUT.now ++ 10 ∷ []
+of_no_id other role stands = of_file NoId role stands ++ 10 ∷ []
+
+-- the lines that a person reads of a fault: what is wrong with how a book's code is written, or
+-- where `\id` stands, else the sentences
 abbrev pub explained : Fault → Circumstances → List ℕ
-explained (Reference BadBook) known = of_code known.meant known.expected
+explained (Reference BadBook) known = of_code known.slip known.expected
+explained NoId known = of_no_id known.slip known.expected known.found
 explained fault known = sentences fault known.expected known.found ++ 10 ∷ []

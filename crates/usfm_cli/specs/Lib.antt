@@ -22,6 +22,7 @@ pub mod Schedules
 pub mod Books
 pub mod TreeLaws
 pub mod Loops
+pub mod BookFronts
 pub mod Circumstances
 pub mod Explaining
 pub mod TextNames

@@ -1,4 +1,5 @@
 // What a person reads of a fault, beside its line.
+pub(crate) mod book_fronts;
 pub(crate) mod circumstances;
 pub(crate) mod explanation;
 pub(crate) mod listing;

@@ -33,9 +33,10 @@ pub use book_reports::SetOff;
 pub use command::Command;
 pub use conflict_settling::{Answer, Asked, Manner, Wanted, ends_text};
 pub use copies::{CopyFile, project_progress, project_status};
-pub use explaining::circumstances::{
-    Circumstances, Expected, FRONT_BYTES, Found, Input, book_meant, found_file, refused_input,
+pub use explaining::book_fronts::{
+    FRONT_BYTES, NoBook, Slip, book_meant, found_file, front_slip, why_no_book,
 };
+pub use explaining::circumstances::{Circumstances, Expected, Found, Input, refused_input};
 pub use explaining::explanation::{Explanation, explained};
 pub use explaining::listing::list_faults;
 pub use explaining::remarks::{

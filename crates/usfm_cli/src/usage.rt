@@ -21,7 +21,7 @@ use op_core::ReplicaName;
 use std::alloc::{AllocError, Global};
 
 /// The version of this workspace, which `usfm_team --version` prints. It is here alone.
-pub const VERSION: &str = "1.0.9";
+pub const VERSION: &str = "1.0.10";
 
 // What an argument is called, and what is to be given for it.
 type Words<'a> = &'a [(&'static str, &'static str)];
@@ -125,7 +125,7 @@ Begin with:
   usfm_team init ana.project ana
   usfm_team import ana.project matthew.usfm
 
-An operation is one text for one segment, as an edit or an import made it; its
+An edit is one text for one segment, also where an import or a sync made it; its
 id is a number and a copy's name. A segment is a verse, or a head: what comes
 before the first verse of a chapter, or before the first chapter of a book.
 
@@ -217,7 +217,7 @@ Faults:
   fault 1                  out of memory
   fault 10 BYTES           FILE is not UTF-8 after this many bytes
   fault 20, fault 30       FILE does not begin with \\id and a book's code
-  fault 51 NUMBER NAME     two operations that differ have this id
+  fault 51 NUMBER NAME     two edits that differ have this id
   fault 60 to 70, 110      PROJECT is not a project, or BUNDLE not a bundle
   fault 81                 no number is left for the edits
   fault 90 BYTES           writing the output failed; the project is changed
@@ -271,17 +271,17 @@ fn edit_line(alloc: Global, given: &ArgMatches<'_>) -> Result<Line, LineFault> {
 }
 
 fn edit_over<'a>(alloc: Global) -> Result<Command<'a>, AllocError> {
-    let ids = Arg::new(alloc, "ID").num_args(0..).help(
-        "The operations to replace: 3:ana for `op 3 ana` of `shown`",
-    );
+    let ids = Arg::new(alloc, "ID")
+        .num_args(0..)
+        .help("The edits to replace: 3:ana for `op 3 ana` of `shown`");
     let text_of = Arg::new(alloc, "TEXT")
         .long("text-of")
         .value_name("ID")
-        .help("Take this operation's text, and not standard input's");
+        .help("Take this edit's text, and not standard input's");
     command(
         alloc,
         "edit-over",
-        "Replaces the given operations by the text of standard input",
+        "Replaces the given edits by the text of standard input",
         EDIT_OVER,
         &[PROJECT, REF],
     )?
@@ -291,7 +291,7 @@ fn edit_over<'a>(alloc: Global) -> Result<Command<'a>, AllocError> {
 
 const EDIT_OVER: &str = "\
 Operations that are not named stay shown beside the new text; with no ID it
-replaces nothing. --text-of names an operation that the segment shows, which may
+replaces nothing. --text-of names an edit that the segment shows, which may
 be one of those that are replaced.
 
 Example:
@@ -299,8 +299,8 @@ Example:
   usfm_team edit-over ana.project 'MAT 1:1' 3:ana 3:ben --text-of 3:ben
 
 Faults: those of `edit`, and
-  fault 52                 ID is not the id of an operation
-  fault 83 NUMBER NAME     the segment does not show this operation";
+  fault 52                 ID is not the id of an edit
+  fault 83 NUMBER NAME     the segment does not show this edit";
 
 fn edit_over_line(alloc: Global, given: &ArgMatches<'_>) -> Result<Line, LineFault> {
     let project = text(alloc, given, "PROJECT")?;
@@ -324,7 +324,7 @@ fn receive<'a>(alloc: Global) -> Result<Command<'a>, AllocError> {
 }
 
 const RECEIVE: &str = "\
-Writes `new N` for each BUNDLE, N the number of operations that the project did
+Writes `new N` for each BUNDLE, N the number of edits that the project did
 not have. Takes in all, or none: if it refuses one of several, a second line
 `in BUNDLE` on standard error names it.
 
@@ -332,7 +332,7 @@ Example: usfm_team receive ana.project ben.bundle cy.bundle
 
 Faults:
   fault 1                  out of memory
-  fault 51 NUMBER NAME     two operations that differ have this id
+  fault 51 NUMBER NAME     two edits that differ have this id
   fault 60 to 70           BUNDLE is not a bundle, or PROJECT not a project
   fault 90 BYTES           writing the output failed; the project is changed
   fault 110                PROJECT is not a project
@@ -358,7 +358,7 @@ fn thin<'a>(alloc: Global) -> Result<Command<'a>, AllocError> {
 }
 
 const THIN: &str = "\
-The project then has no text that another operation of its segment replaced,
+The project then has no text that another edit of its segment replaced,
 and nobody can read those texts there any more. Books and reports stay the same,
 and a copy that receives the project's bundle leaves these texts out too.
 Writes `thinned N`, N the number of texts that were left out now.

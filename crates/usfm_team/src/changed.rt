@@ -2,7 +2,7 @@
 use crate::reading::{Read, read_folder, read_given};
 use crate::refusal::{Given, Refusal};
 use crate::sync::{What, open_folder, refusal_of, tell};
-use crate::telling::say_of;
+use crate::telling::{plain_line, say_of};
 use book_folder::{Standing, Wishes, folder_standing, lacks_base};
 use std::io::Write;
 use usfm_cli::{Fault, fault_line};
@@ -69,16 +69,19 @@ fn lines(what: What<'_>, read: &Read, standing: &Standing) -> Result<Vec<u8>, Re
     for changed in &standing.changed {
         if let Some(file) = read.files.get(changed.at) {
             let path = what.folder.name_of(what.rt, &file.name)?;
-            tell(writeln!(text, "changed {path} {}", changed.count))?;
+            let name = plain_line(what.rt, &path).map_err(Fault::from)?;
+            tell(writeln!(text, "changed {name} {}", changed.count))?;
         }
     }
     for left in &standing.left_out {
         let refusal = book_folder::Refusal::Of(left.place, left.fault);
         let said = refusal_of(what, read, refusal);
+        // A file of the folder has a name, unless an allocation failed.
         let Some(file) = &said.file else {
-            return Err(said);
+            return Err(Refusal::from(Fault::Memory));
         };
-        tell(write!(text, "unread {} ", file.name))?;
+        let name = plain_line(what.rt, &file.name).map_err(Fault::from)?;
+        tell(write!(text, "unread {name} "))?;
         tell(text.write_all(fault_line(&said.fault).bytes()))?;
     }
     Ok(text)

@@ -121,7 +121,7 @@ pub(crate) fn is_still(rt: &HostRuntime, path: &str, bytes: &[u8]) -> Result<boo
 
 // Opens a file, if it is still the one that was seen.
 fn open_same(rt: &HostRuntime, path: &str, seen: &Metadata) -> Result<Option<File>, Fault> {
-    let file = match open_at_once(rt, path) {
+    let file = match File::open(rt, path) {
         Ok(file) => file,
         Err(error) if error.kind() == ErrorKind::NotFound => return Ok(None),
         Err(_) => return Err(Fault::ReadFailed),
@@ -135,9 +135,9 @@ pub(crate) fn is_same_file(one: &Metadata, other: &Metadata) -> bool {
     one.dev() == other.dev() && one.ino() == other.ino()
 }
 
-// Opens a file to read it, where the rights allow it in a way that waits for nobody at the other
-// end of a pipe, and by which a network's folder gives a lock: for writing too.
-pub(crate) fn open_at_once(rt: &HostRuntime, path: &str) -> io::Result<File> {
+// Opens a file that is to be locked, where the rights allow it in a way that waits for nobody at the
+// other end of a pipe, and by which a network's folder gives a lock: for writing too.
+pub(crate) fn open_to_lock(rt: &HostRuntime, path: &str) -> io::Result<File> {
     match OpenOptions::new().read(true).write(true).open(rt, path) {
         Ok(file) => Ok(file),
         Err(_) => File::open(rt, path),

@@ -1,8 +1,9 @@
 // What is looked up in a project's books by a style sheet: the one that the line names, or the
 // program's own.
+use crate::answer;
+use crate::output::{write_as_it_is, write_output};
 use crate::refusal::{Given, Refusal, read_named};
 use crate::telling::say;
-use crate::{answer, write_as_it_is, write_output};
 use carried_sheet::carried_sheet;
 use std::io::IsTerminal;
 use usfm_cli::{

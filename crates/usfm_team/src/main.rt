@@ -7,6 +7,7 @@ mod edits;
 mod files;
 mod kept;
 mod looks;
+mod output;
 mod project;
 mod reading;
 mod refusal;
@@ -23,26 +24,26 @@ mod typed;
 use crate::edits::{edit, edit_over, edit_with};
 use crate::files::is_there;
 use crate::looks::{check, find, words};
+use crate::output::{write_as_it_is, write_output};
 use crate::project::{Project, begin_project, begun_path, lock_project};
 use crate::refusal::{Given, Refusal, read_named};
 use crate::settle::settle;
 use crate::standing::{page, progress, status};
 use crate::sync::{export_into, sync};
 use crate::telling::{
-    SEVERAL_WORDS, are_find, plain_lines, say, say_lines, say_of, tell_refusal, tell_refused_word,
-    with_tip,
+    SEVERAL_WORDS, are_find, say, say_lines, say_of, tell_refusal, tell_refused_word, with_tip,
 };
 use crate::turns::{import, receive};
 use crate::typed::{GIVE_BUNDLES, say_at_terminal};
 use op_core::ReplicaName;
 use std::fs::File;
-use std::io::{ErrorKind, IsTerminal, Write};
+use std::io::{ErrorKind, IsTerminal};
 use std::os::fd::AsRawFd;
 use std::process::ExitCode;
-use std::{io, mem, str};
+use std::{io, mem};
 use usfm_cli::{
     Command, Expected, Fault, Line, LineFault, Outcome, StdSink, StdSource, asks_for_words, create,
-    exec, fold_stream, list_faults, read_words, remark, write_all,
+    exec, fold_stream, list_faults, read_words, remark,
 };
 use usfm_ref::Book;
 
@@ -73,7 +74,7 @@ fn main(rt: HostRuntime) -> ExitCode {
         },
         Err(LineFault::Help(text)) => match write_output(&rt, text.as_bytes()) {
             Ok(()) => ExitCode::SUCCESS,
-            Err(fault) => refuse(&rt, &Refusal::from(fault), explains),
+            Err(refusal) => refuse(&rt, &refusal, explains),
         },
         Err(LineFault::Usage(text)) => tell_usage(&rt, &text),
         Err(LineFault::Refused(fault)) => refuse(&rt, &Refusal::from(fault), explains),
@@ -265,7 +266,7 @@ pub(crate) fn answer(
         }
     }
     mem::forget(outcome);
-    Ok(written?)
+    written
 }
 
 // Does a command on a project's file while no other command changes it. Only then, when others may
@@ -280,7 +281,8 @@ pub(crate) fn change(
     change_locked(rt, path, project, &bytes, command, other)
 }
 
-// The same on a project that is locked already.
+// The same on a project that is locked already. What a change writes has no text of others, and once
+// the project was replaced nothing is allocated.
 pub(crate) fn change_locked(
     rt: &HostRuntime,
     path: &str,
@@ -290,9 +292,9 @@ pub(crate) fn change_locked(
     other: Option<(&str, Expected)>,
 ) -> Result<(), Refusal> {
     let outcome = done(rt, path, project, bytes, command, other)?;
-    let written = write_output(rt, outcome.output());
+    let written = write_as_it_is(rt, outcome.output());
     mem::forget(outcome);
-    Ok(written?)
+    written
 }
 
 // A project's file, which no other command changes from now on, and its bytes.
@@ -327,42 +329,19 @@ fn done<'a>(
     Ok(outcome)
 }
 
-// Folds the bundles of standard input into a book. What is written to a terminal is written when it
-// is whole.
+// Folds the bundles of standard input into a book, which is written when it is whole.
 fn fold(rt: &HostRuntime, book: Book) -> Result<(), Refusal> {
     say_at_terminal(rt, GIVE_BUNDLES);
     let mut source = StdSource::new(rt.reader());
-    if rt.stdout().is_terminal() {
-        let mut text = Vec::new(rt.alloc());
-        fold_stream(rt.alloc(), &mut source, &mut StdSink::new(&mut text), book)?;
-        return Ok(write_output(rt, &text)?);
-    }
-    let mut sink = StdSink::new(io::writer(rt));
-    Ok(fold_stream(rt.alloc(), &mut source, &mut sink, book)?)
+    let mut text = Vec::new(rt.alloc());
+    fold_stream(rt.alloc(), &mut source, &mut StdSink::new(&mut text), book)?;
+    write_output(rt, &text)
 }
 
 // Lists the faults.
 fn faults(rt: &HostRuntime) -> Result<(), Refusal> {
     let list = list_faults(rt.alloc()).map_err(Fault::from)?;
-    Ok(write_output(rt, list.as_bytes())?)
-}
-
-// Writes to standard output; to a terminal without the control characters of others' texts. It has
-// no buffer here, so nothing is left to flush.
-pub(crate) fn write_output(rt: &HostRuntime, bytes: &[u8]) -> Result<(), Fault> {
-    if rt.stdout().is_terminal() {
-        if let Ok(text) = str::from_utf8(bytes) {
-            return write_as_it_is(rt, plain_lines(rt, text)?.as_bytes());
-        }
-    }
-    write_as_it_is(rt, bytes)
-}
-
-// Writes to standard output what has no control characters but those that set something off at a
-// terminal.
-pub(crate) fn write_as_it_is(rt: &HostRuntime, bytes: &[u8]) -> Result<(), Fault> {
-    let mut sink = StdSink::new(io::writer(rt));
-    Ok(write_all(&mut sink, bytes)?)
+    write_output(rt, list.as_bytes())
 }
 
 // Says why the words are no command line of the program.

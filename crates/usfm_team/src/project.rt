@@ -1,8 +1,8 @@
 // A project's file. One command at a time changes it, and what a command changed is on the disk
 // before it answers.
 use crate::files::{
-    Opened, is_same_file, is_there, link_fault, lock_file, make_private, open_at_once, open_folder,
-    open_named, read_open, remove_if_there, sync_file, sync_folder, write_made,
+    Opened, is_same_file, is_there, link_fault, lock_file, make_private, open_folder, open_named,
+    open_to_lock, read_open, remove_if_there, sync_file, sync_folder, write_made,
 };
 use crate::rights::{keep_rights, look_at};
 use std::fs;
@@ -38,7 +38,7 @@ pub(crate) struct Project {
 pub(crate) fn lock_project(rt: &HostRuntime, path: &str) -> Result<Project, Fault> {
     let mut is_said = false;
     for _ in 0..u64::MAX {
-        let file = open_at_once(rt, path).map_err(|_| Fault::ReadFailed)?;
+        let file = open_to_lock(rt, path).map_err(|_| Fault::ReadFailed)?;
         lock_file(rt, &file, path, &mut is_said)?;
         let place = real_path(rt, path)?;
         if stands_at(rt, &file, &place)? {
@@ -100,7 +100,7 @@ fn make_begun(rt: &HostRuntime, begun: &str) -> Result<File, Fault> {
             }
             Err(error) if error.kind() == ErrorKind::AlreadyExists => {
                 match open_named(rt, begun, 2)? {
-                    Opened::Plain(old) => remove_left(rt, &old, begun)?,
+                    Opened::Plain(_) => remove_left(rt, begun)?,
                     Opened::Nothing => {}
                     Opened::Folder | Opened::Other(_) => return Err(Fault::FileFailed),
                 }
@@ -114,12 +114,15 @@ fn make_begun(rt: &HostRuntime, begun: &str) -> Result<File, Fault> {
 // Removes a file that a command has left which was killed; one that holds more than a project that
 // was begun is somebody's. It stays locked until its name is gone: else who has just made it would
 // have it for its own then, and lose the name.
-fn remove_left(rt: &HostRuntime, old: &File, begun: &str) -> Result<(), Fault> {
-    lock_file(rt, old, begun, &mut true)?;
-    if look_at(old)?.len() > MOST_BEGUN {
+fn remove_left(rt: &HostRuntime, begun: &str) -> Result<(), Fault> {
+    let Ok(old) = open_to_lock(rt, begun) else {
+        return Err(Fault::FileFailed);
+    };
+    lock_file(rt, &old, begun, &mut true)?;
+    if look_at(&old)?.len() > MOST_BEGUN {
         return Err(Fault::FileFailed);
     }
-    if is_at(rt, old, begun)? {
+    if is_at(rt, &old, begun)? {
         remove_if_there(rt, begun)?;
     }
     Ok(())
@@ -183,10 +186,31 @@ impl Project {
         keep_rights(rt, &self.file, &file)?;
         sync_file(&file)?;
         lock_file(rt, &file, new.as_str(), &mut true)?;
-        fs::rename(rt, new.as_str(), place).map_err(|_| Fault::FileFailed)?;
-        self.file = file;
-        self.is_replaced = true;
+        if fs::rename(rt, new.as_str(), place).is_ok() {
+            self.file = file;
+            self.is_replaced = true;
+        } else {
+            drop(file);
+            self.put_closed(rt, new.as_str(), bytes)?;
+        }
         sync_folder(&folder)
+    }
+
+    // Renames the new file where a network's folder renames none that is open. Another command may
+    // get the project before it is locked again: what that one changed is not replaced then.
+    fn put_closed(&mut self, rt: &HostRuntime, new: &str, bytes: &[u8]) -> Result<(), Fault> {
+        let place = self.place.as_str();
+        // The old file is closed by this.
+        self.file = open_folder(rt, place)?;
+        fs::rename(rt, new, place).map_err(|_| Fault::FileFailed)?;
+        self.is_replaced = true;
+        let file = open_to_lock(rt, place).map_err(|_| Fault::FileFailed)?;
+        lock_file(rt, &file, place, &mut true)?;
+        if read_open(rt, &file)?.as_slice() != bytes {
+            return Err(Fault::FileFailed);
+        }
+        self.file = file;
+        Ok(())
     }
 
     // Refuses a change of a file that is kept as it is, since nobody may write it, and of one that

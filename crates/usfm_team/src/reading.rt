@@ -9,7 +9,7 @@ use crate::turns::{read_files, refusal_in};
 use book_folder::{FoundFile, Seen, book_begun, lacks_base, may_be_book};
 use std::alloc::AllocError;
 use std::fs::Metadata;
-use usfm_cli::{FILES_GONE, Fault, NO_BOOK_FILE, TEXT_NAME, is_text_name};
+use usfm_cli::{Expected, FILES_GONE, Fault, NO_BOOK_FILE, TEXT_NAME, is_text_name, why_no_book};
 
 // A file of more bytes is no book's: it is not read.
 const MOST_BYTES: u64 = 16_777_216;
@@ -159,7 +159,7 @@ pub(crate) fn read_folder(
     let kept = match folder.inside(rt, OWN) {
         Ok(Some(own)) => read_kept(rt, &own, is_said)?,
         Ok(None) => no_kept(rt),
-        Err(fault) => return Err(folder.refusal(rt, fault, OWN)),
+        Err(fault) => return Err(own_refusal(rt, folder, fault)),
     };
     let mut read = Read {
         files: Vec::new(rt.alloc()),
@@ -187,6 +187,11 @@ pub(crate) fn read_folder(
     Ok(read)
 }
 
+// The refusal of the program's own folder in a folder of books.
+pub(crate) fn own_refusal(rt: &HostRuntime, folder: &Folder, fault: Fault) -> Refusal {
+    Refusal::unwritten(fault, folder.name_of(rt, OWN), Expected::OwnFolder)
+}
+
 // Reads what stands under the name of a book's file. A plain file alone is read, and none that is
 // longer than a book.
 fn read_found(
@@ -208,7 +213,8 @@ fn read_found(
                 read.book_looks.push(look_at(&file)?)?;
             } else {
                 let path = folder.name_of(rt, &name)?;
-                say_skipped(rt, is_said, &path, no_book_begun(&bytes));
+                let why = why_no_book(&bytes);
+                say_skipped(rt, is_said, &path, &format!(in rt.alloc(); ": {why}")?);
             }
             read.looks.push(look_at(&file)?)?;
             read.files.push(OneFile { name, bytes })?;
@@ -221,15 +227,6 @@ fn read_found(
         Opened::Nothing => {}
     }
     Ok(())
-}
-
-// Why a file is no book's.
-fn no_book_begun(bytes: &[u8]) -> &'static str {
-    match bytes {
-        [] => ": it is empty",
-        [0xff, 0xfe, ..] | [0xfe, 0xff, ..] => ": it is UTF-16: save it as UTF-8",
-        _ => ": it does not begin with \\id, one space and a book's code in capitals",
-    }
 }
 
 // The bytes of a plain file. What else stands there is skipped, and said.

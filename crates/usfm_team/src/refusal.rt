@@ -7,6 +7,8 @@ use usfm_cli::{Expected, Fault, Input, TurnFault, refused_input};
 pub(crate) struct Refusal {
     pub(crate) fault: Fault,
     pub(crate) file: Option<RefusedFile>,
+    // Whether standard output was closed by who read it: that is no fault that anybody is told of.
+    pub(crate) is_unread: bool,
 }
 
 // The file of a refusal.
@@ -24,11 +26,24 @@ pub(crate) struct RefusedFile {
 
 impl From<Fault> for Refusal {
     fn from(fault: Fault) -> Self {
-        Refusal { fault, file: None }
+        Refusal {
+            fault,
+            file: None,
+            is_unread: false,
+        }
     }
 }
 
 impl Refusal {
+    // That nobody reads standard output any more.
+    pub(crate) fn unread(fault: Fault) -> Refusal {
+        Refusal {
+            fault,
+            file: None,
+            is_unread: true,
+        }
+    }
+
     // The refusal of a file, with what it was to be, where the line names several, or a folder.
     // Where out of memory keeps its name from being copied, the fault alone is said.
     pub(crate) fn expecting(
@@ -53,10 +68,7 @@ impl Refusal {
             is_alone: false,
             beside: None,
         };
-        Refusal {
-            fault,
-            file: Some(file),
-        }
+        Refusal::in_file(fault, Some(file))
     }
 
     // The refusal of the second of two files of a book, with the other one, if its name is known.
@@ -67,9 +79,14 @@ impl Refusal {
             is_alone: false,
             beside: other,
         };
+        Refusal::in_file(fault, Some(file))
+    }
+
+    fn in_file(fault: Fault, file: Option<RefusedFile>) -> Refusal {
         Refusal {
             fault,
-            file: Some(file),
+            file,
+            is_unread: false,
         }
     }
 
@@ -94,7 +111,7 @@ impl Refusal {
             }),
             Err(_) => None,
         };
-        Refusal { fault, file }
+        Refusal::in_file(fault, file)
     }
 
     // The refusal of a file that could not be written, by its name, if that is known.

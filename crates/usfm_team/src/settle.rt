@@ -1,8 +1,9 @@
 // Settles conflicts with the person at standard input. Nothing is locked while that person thinks.
+use crate::output::Output;
 use crate::refusal::{Refusal, read_named};
-use crate::telling::say_heads;
+use crate::telling::{names_heads, say_heads, unconflicted_heads};
 use crate::typed::MOST_TYPED;
-use crate::{done, locked, write_as_it_is, write_output};
+use crate::{done, locked};
 use op_core::OpId;
 use std::io::{BufRead, BufReader, IsTerminal};
 use std::str;
@@ -58,6 +59,15 @@ enum Typed {
     Ended,
 }
 
+// A conversation about the conflicts of a project.
+#[derive(Drop)]
+struct Talk<'a> {
+    rt: &'a HostRuntime,
+    // How the line names the project.
+    project: &'a str,
+    output: Output<'a>,
+}
+
 // Asks one conflict after another, and makes the edits that are answered. What an edit leaves in
 // conflict is asked again.
 pub(crate) fn settle(
@@ -66,12 +76,19 @@ pub(crate) fn settle(
     wanted: &[Wanted],
     explains: bool,
 ) -> Result<(), Refusal> {
-    if explains {
-        say_heads(rt, wanted);
-    }
     let of_project = |fault| Refusal::of_project(rt, fault, project);
     let manner = manner(rt);
+    let mut talk = Talk {
+        rt,
+        project,
+        output: Output::of(rt),
+    };
     let mut input = BufReader::new(rt.alloc(), rt.reader()).map_err(|_| Fault::Memory)?;
+    let heads = if explains && names_heads(wanted) {
+        unconflicted_heads(rt, &read_named(rt, project, Expected::Project)?, wanted)
+    } else {
+        Vec::new(rt.alloc())
+    };
     let mut passed = None;
     let mut settled: u64 = 0;
     for _ in 0..u64::MAX {
@@ -82,8 +99,8 @@ pub(crate) fn settle(
             break;
         };
         // At a terminal it has no control character but those that set off what differs.
-        write_as_it_is(rt, asked.question())?;
-        match ask(rt, project, &asked, &mut input)? {
+        talk.output.write(asked.question())?;
+        match talk.ask(&asked, &mut input)? {
             Turn::Settled => settled = settled.saturating_add(1),
             Turn::Overtaken => {}
             Turn::Passed(segment) => passed = Some(segment),
@@ -92,10 +109,10 @@ pub(crate) fn settle(
     }
     let bytes = read_named(rt, project, Expected::Project)?;
     let left = conflict_count(rt.alloc(), &bytes, wanted).map_err(of_project)?;
-    say(
-        rt,
-        &format!(in rt.alloc(); "settled {settled}\nconflicts {left}\n").map_err(Fault::from)?,
-    )
+    let counts = format!(in rt.alloc(); "settled {settled}\nconflicts {left}\n");
+    talk.say(&counts.map_err(Fault::from)?)?;
+    say_heads(rt, &heads);
+    Ok(())
 }
 
 fn manner(rt: &HostRuntime) -> Manner {
@@ -106,105 +123,103 @@ fn manner(rt: &HostRuntime) -> Manner {
     }
 }
 
-// Reads lines until one of them settles the question.
-fn ask<R: BufRead>(
-    rt: &HostRuntime,
-    project: &str,
-    asked: &Asked,
-    input: &mut R,
-) -> Result<Turn, Refusal> {
-    for _ in 0..u64::MAX {
-        let Some(line) = read_line(rt, input)? else {
-            break;
+impl Talk<'_> {
+    // Reads lines until one of them settles the question.
+    fn ask<R: BufRead>(&mut self, asked: &Asked, input: &mut R) -> Result<Turn, Refusal> {
+        for _ in 0..u64::MAX {
+            let Some(line) = read_line(self.rt, input)? else {
+                break;
+            };
+            // A line that is no text is no answer, as the empty line.
+            let turn = match asked.answer(str::from_utf8(&line).unwrap_or("")) {
+                Answer::Take(text) => self.make(asked, text.as_bytes())?,
+                Answer::Own => match self.read_text(input)? {
+                    Typed::Text(text) => self.make(asked, &text)?,
+                    Typed::Refused(why) => self.ask_again(why)?,
+                    Typed::Ended => {
+                        self.say(NOT_ENDED)?;
+                        Some(Turn::Stopped)
+                    }
+                },
+                Answer::Skip => Some(Turn::Passed(asked.segment())),
+                Answer::Stop => Some(Turn::Stopped),
+                Answer::Unclear => self.ask_again("")?,
+            };
+            if let Some(turn) = turn {
+                return Ok(turn);
+            }
+        }
+        Ok(Turn::Stopped)
+    }
+
+    // Makes the edit of an answer, under the lock. None where the text is refused, and the question
+    // stands.
+    fn make(&mut self, asked: &Asked, text: &[u8]) -> Result<Option<Turn>, Refusal> {
+        let (file, bytes) = locked(self.rt, self.project)?;
+        let edit = settling_edit(asked, text);
+        let refusal = match done(self.rt, self.project, file, &bytes, &edit, None) {
+            Ok(outcome) => {
+                self.output.write(outcome.output())?;
+                return Ok(Some(Turn::Settled));
+            }
+            Err(refusal) => refusal,
         };
-        // A line that is no text is no answer, as the empty line.
-        let turn = match asked.answer(str::from_utf8(&line).unwrap_or("")) {
-            Answer::Take(text) => make(rt, project, asked, text.as_bytes())?,
-            Answer::Own => match read_text(rt, input)? {
-                Typed::Text(text) => make(rt, project, asked, &text)?,
-                Typed::Refused(why) => ask_again(rt, why)?,
-                Typed::Ended => {
-                    say(rt, NOT_ENDED)?;
-                    Some(Turn::Stopped)
-                }
-            },
-            Answer::Skip => Some(Turn::Passed(asked.segment())),
-            Answer::Stop => Some(Turn::Stopped),
-            Answer::Unclear => ask_again(rt, "")?,
-        };
-        if let Some(turn) = turn {
-            return Ok(turn);
+        match &refusal.fault {
+            Fault::NotShown(id) => {
+                self.say_replaced(id)?;
+                Ok(Some(Turn::Overtaken))
+            }
+            Fault::BadSegment => self.ask_again(DOES_NOT_FIT),
+            Fault::NotText { .. } => self.ask_again(NOT_TEXT),
+            _ => Err(refusal),
         }
     }
-    Ok(Turn::Stopped)
-}
 
-// Makes the edit of an answer, under the lock. None where the text is refused, and the question
-// stands.
-fn make(
-    rt: &HostRuntime,
-    project: &str,
-    asked: &Asked,
-    text: &[u8],
-) -> Result<Option<Turn>, Refusal> {
-    let (file, bytes) = locked(rt, project)?;
-    let refusal = match done(rt, project, file, &bytes, &settling_edit(asked, text), None) {
-        Ok(outcome) => {
-            write_output(rt, outcome.output())?;
-            return Ok(Some(Turn::Settled));
-        }
-        Err(refusal) => refusal,
-    };
-    match &refusal.fault {
-        Fault::NotShown(id) => {
-            say_replaced(rt, id)?;
-            Ok(Some(Turn::Overtaken))
-        }
-        Fault::BadSegment => ask_again(rt, DOES_NOT_FIT),
-        Fault::NotText { .. } => ask_again(rt, NOT_TEXT),
-        _ => Err(refusal),
+    // Says that an operation was replaced while a person thought.
+    fn say_replaced(&mut self, id: &OpId) -> Result<(), Refusal> {
+        let name = id.name.text();
+        let number = id.number;
+        let line = format!(in self.rt.alloc();
+            "Nothing was changed: {number} {name} was replaced meanwhile. Read again.\n"
+        );
+        self.say(&line.map_err(Fault::from)?)
     }
-}
 
-// Says that an operation was replaced while a person thought.
-fn say_replaced(rt: &HostRuntime, id: &OpId) -> Result<(), Refusal> {
-    let name = id.name.text();
-    let number = id.number;
-    let line = format!(in rt.alloc();
-        "Nothing was changed: {number} {name} was replaced meanwhile. Read again.\n"
-    );
-    say(rt, &line.map_err(Fault::from)?)
-}
-
-// Says why nothing was made, and what may be answered: the question stands.
-fn ask_again(rt: &HostRuntime, why: &str) -> Result<Option<Turn>, Refusal> {
-    say(rt, why)?;
-    say(rt, UNCLEAR)?;
-    Ok(None)
-}
-
-// Reads the lines up to one with only a full stop. A terminal leaves out what is too long for a
-// line of it, and a text of which something is left out would be taken for the whole. So would an
-// empty one, by which a segment leaves the book.
-fn read_text<R: BufRead>(rt: &HostRuntime, input: &mut R) -> Result<Typed, Refusal> {
-    say(rt, TYPE_A_TEXT)?;
-    let is_terminal = rt.stdin().is_terminal();
-    let mut text = Vec::new(rt.alloc());
-    let mut is_cut = false;
-    for _ in 0..u64::MAX {
-        let Some(line) = read_line(rt, input)? else {
-            break;
-        };
-        if ends_text(&line) {
-            return Ok(judge_typed(text, is_cut));
-        }
-        is_cut = is_cut || is_terminal && line.len() > MOST_TYPED;
-        if line.len() > MOST_BYTES - text.len().min(MOST_BYTES) {
-            return Err(Refusal::from(Fault::TooLong));
-        }
-        text.extend_from_slice(&line).map_err(Fault::from)?;
+    // Says why nothing was made, and what may be answered: the question stands.
+    fn ask_again(&mut self, why: &str) -> Result<Option<Turn>, Refusal> {
+        self.say(why)?;
+        self.say(UNCLEAR)?;
+        Ok(None)
     }
-    Ok(Typed::Ended)
+
+    // Reads the lines up to one with only a full stop. A terminal leaves out what is too long for a
+    // line of it, and a text of which something is left out would be taken for the whole. So would
+    // an empty one, by which a segment leaves the book.
+    fn read_text<R: BufRead>(&mut self, input: &mut R) -> Result<Typed, Refusal> {
+        self.say(TYPE_A_TEXT)?;
+        let is_terminal = self.rt.stdin().is_terminal();
+        let mut text = Vec::new(self.rt.alloc());
+        let mut is_cut = false;
+        for _ in 0..u64::MAX {
+            let Some(line) = read_line(self.rt, input)? else {
+                break;
+            };
+            if ends_text(&line) {
+                return Ok(judge_typed(text, is_cut));
+            }
+            is_cut = is_cut || is_terminal && line.len() > MOST_TYPED;
+            if line.len() > MOST_BYTES - text.len().min(MOST_BYTES) {
+                return Err(Refusal::from(Fault::TooLong));
+            }
+            text.extend_from_slice(&line).map_err(Fault::from)?;
+        }
+        Ok(Typed::Ended)
+    }
+
+    // Writes a line of the conversation, which has no text of others.
+    fn say(&mut self, line: &str) -> Result<(), Refusal> {
+        self.output.write(line.as_bytes())
+    }
 }
 
 // What is done with the lines that were typed.
@@ -237,9 +252,4 @@ fn read_line<R: BufRead>(rt: &HostRuntime, input: &mut R) -> Result<Option<Vec<u
         }
     }
     Ok(if line.is_empty() { None } else { Some(line) })
-}
-
-// Writes a line of the conversation.
-fn say(rt: &HostRuntime, line: &str) -> Result<(), Refusal> {
-    Ok(write_output(rt, line.as_bytes())?)
 }

@@ -1,9 +1,10 @@
 // How a project stands.
 use crate::changed::folder_lines;
 use crate::files::is_folder;
+use crate::output::write_output;
 use crate::refusal::{Given, Refusal, read_named};
+use crate::telling::plain_line;
 use crate::turns::{read_files, refusal_in};
-use crate::write_output;
 use usfm_cli::{CopyFile, Expected, TurnFault, project_page, project_progress, project_status};
 use usfm_ref::Book;
 
@@ -26,7 +27,7 @@ pub(crate) fn status(
         _ => (Vec::new(rt.alloc()), names),
     };
     match status_text(rt, &bytes, &folder, names) {
-        Ok(text) => Ok(write_output(rt, &text)?),
+        Ok(text) => write_output(rt, &text),
         Err(TurnFault::Project(fault)) => Err(Refusal::of_project(rt, fault, path)),
         Err(fault) => Err(refusal_in(rt, fault, names)),
     }
@@ -39,7 +40,11 @@ fn status_text(
     names: &[String],
 ) -> Result<Vec<u8>, TurnFault> {
     let files = read_files(rt, names)?;
-    let copies: Vec<CopyFile<'_>> = names
+    let mut plain_names = Vec::new(rt.alloc());
+    for name in names {
+        plain_names.push(plain_line(rt, name)?)?;
+    }
+    let copies: Vec<CopyFile<'_>> = plain_names
         .iter()
         .zip(&files)
         .map(|(name, bytes)| CopyFile::new(name, bytes))
@@ -51,7 +56,7 @@ fn status_text(
 pub(crate) fn progress(rt: &HostRuntime, project: &str, book: Option<Book>) -> Result<(), Refusal> {
     let bytes = read_named(rt, project, Expected::Project)?;
     match project_progress(rt.alloc(), &bytes, book) {
-        Ok(text) => Ok(write_output(rt, &text)?),
+        Ok(text) => write_output(rt, &text),
         Err(fault) => Err(Refusal::of_project(rt, fault, project)),
     }
 }
@@ -60,7 +65,7 @@ pub(crate) fn progress(rt: &HostRuntime, project: &str, book: Option<Book>) -> R
 pub(crate) fn page(rt: &HostRuntime, project: &str) -> Result<(), Refusal> {
     let bytes = read_named(rt, project, Expected::Project)?;
     match project_page(rt.alloc(), &bytes) {
-        Ok(page) => Ok(write_output(rt, &page)?),
+        Ok(page) => write_output(rt, &page),
         Err(fault) => Err(Refusal::of_project(rt, fault, project)),
     }
 }

@@ -6,10 +6,11 @@ use crate::files::{
 };
 use crate::kept::{BASE, BEFORE, Kept, NAMES, NEXT, OLDER, OWN, read_kept};
 use crate::project::Project;
-use crate::reading::Read;
+use crate::reading::{Read, own_refusal};
 use crate::refusal::Refusal;
 use crate::rights::keep_least_rights;
 use crate::sync::fault_of;
+use crate::telling::say_of;
 use book_folder::{MADE_END, NewFile, Placing, SettlingStep, Step, settling_steps};
 use std::fs;
 use std::io::ErrorKind;
@@ -136,7 +137,7 @@ fn do_step(
 // The program's own folder, which is made where it is not there, and on the disk then.
 fn own_folder(disk: Disk<'_>) -> Result<Folder, Refusal> {
     let made = make_own(disk);
-    made.map_err(|fault| disk.folder.refusal(disk.rt, fault, OWN))
+    made.map_err(|fault| own_refusal(disk.rt, disk.folder, fault))
 }
 
 fn make_own(disk: Disk<'_>) -> Result<Folder, Fault> {
@@ -338,21 +339,34 @@ fn move_on(disk: Disk<'_>, own: &Folder, bytes: Option<&[u8]>) -> Result<(), Fau
 }
 
 // Removes what an older version of the program kept, and what was half written, where the base is
-// there.
-pub(crate) fn sweep(disk: Disk<'_>) -> Result<(), Fault> {
+// there. What cannot be removed is said, and keeps nobody from the answer.
+pub(crate) fn sweep(disk: Disk<'_>) {
     let rt = disk.rt;
     let outdated = &disk.read.kept.outdated;
     if outdated.is_empty() {
-        return Ok(());
+        return;
     }
-    if let Some(own) = disk.folder.inside(rt, OWN)? {
-        if is_there(rt, &own.way_to(rt, BASE)?).unwrap_or(false) {
-            for name in outdated {
-                remove_if_there(rt, &own.way_to(rt, name)?)?;
+    let Ok(Some(own)) = disk.folder.inside(rt, OWN) else {
+        return;
+    };
+    let is_based = own
+        .way_to(rt, BASE)
+        .is_ok_and(|base| is_there(rt, &base).unwrap_or(false));
+    if !is_based {
+        return;
+    }
+    for name in outdated {
+        if let (Ok(path), Ok(called)) = (own.way_to(rt, name), own.name_of(rt, name)) {
+            if remove_if_there(rt, &path).is_err() {
+                say_of(
+                    rt,
+                    "",
+                    &called,
+                    " is in the way, and could not be removed: move it away",
+                );
             }
         }
     }
-    Ok(())
 }
 
 fn rename_if_there(rt: &HostRuntime, from: &str, to: &str) -> Result<(), Fault> {

@@ -2,13 +2,13 @@
 // go into it. What is to be done is a plan, which is made of all that was read.
 use crate::files::Folder;
 use crate::kept::{NEXT, OWN};
+use crate::output::write_output;
 use crate::project::{Project, lock_project};
 use crate::reading::{Given, Read, read_folder, read_given};
 use crate::refusal::Refusal;
 use crate::steps::{Disk, Done, do_steps, sweep};
 use crate::team_box::open_box;
-use crate::telling::{SETTLE, say, say_heads};
-use crate::write_output;
+use crate::telling::{SETTLE, plain_line, say, say_heads, unconflicted_heads};
 use book_folder::{
     FolderFault, Line, Place, Plan, Wanted, Wishes, export_plan, lines_of, make_plan, project_after,
 };
@@ -27,9 +27,6 @@ const MOST_READINGS: usize = 3;
 // project and the folder are locked until all is done.
 pub(crate) fn sync(rt: &HostRuntime, words: SyncWords, explains: bool) -> Result<(), Refusal> {
     let wishes = wishes_of(rt, &words)?;
-    if explains {
-        say_heads(rt, &words.settled);
-    }
     let path = words.project;
     let (mut project, before) = open_project(rt, &path)?;
     let folder = open_folder(rt, &words.folder)?;
@@ -62,6 +59,9 @@ pub(crate) fn sync(rt: &HostRuntime, words: SyncWords, explains: bool) -> Result
     };
     drop(project);
     answer(what, &plan, done)?;
+    if explains {
+        say_heads(rt, &unconflicted_heads(rt, &before, &words.settled));
+    }
     sent
 }
 
@@ -134,7 +134,7 @@ fn planned_and_done(
         read: &read,
     };
     let done = do_steps(disk, project, &plan.steps)?;
-    sweep(disk)?;
+    sweep(disk);
     Ok((plan, done))
 }
 
@@ -241,12 +241,12 @@ fn told(what: What<'_>, plan: &Plan, left: &[Book]) -> Result<Vec<u8>, Fault> {
             Line::NewBase(count) => writeln!(text, "new {count} base"),
             Line::New(count) => writeln!(text, "new {count}"),
             Line::NewInBox(count, at) => match given.names.get(at) {
-                Some(name) => writeln!(text, "new {count} {name}"),
+                Some(name) => writeln!(text, "new {count} {}", plain_line(what.rt, name)?),
                 None => writeln!(text, "new {count}"),
             },
             Line::Added(count, book) => writeln!(text, "added {count} {book}"),
-            Line::Wrote(name) => writeln!(text, "wrote {}", what.folder.name_of(what.rt, &name)?),
-            Line::Left(name) => writeln!(text, "left {}", what.folder.name_of(what.rt, &name)?),
+            Line::Wrote(name) => writeln!(text, "wrote {}", named(what, &name)?),
+            Line::Left(name) => writeln!(text, "left {}", named(what, &name)?),
             Line::Conflicts(count) => writeln!(text, "conflicts {count}"),
             Line::Conflict(book, key) => {
                 let segment = write_ref(alloc, book, key)?;
@@ -255,6 +255,11 @@ fn told(what: What<'_>, plan: &Plan, left: &[Book]) -> Result<Vec<u8>, Fault> {
         })?;
     }
     Ok(text)
+}
+
+// How a line names a file of the folder.
+fn named(what: What<'_>, name: &str) -> Result<String, Fault> {
+    Ok(plain_line(what.rt, &what.folder.name_of(what.rt, name)?)?)
 }
 
 // A text that is written into memory fails for want of it alone.

@@ -1,6 +1,7 @@
 // A folder in which the copies of a team leave their bundles.
 use crate::files::{
-    Folder, Opened, is_still, make_file, open_plain, remove_if_there, sync_file, write_made,
+    Folder, Opened, is_folder, is_still, make_file, open_plain, remove_if_there, sync_file,
+    write_made,
 };
 use crate::reading::{Given, read_plain};
 use crate::refusal::Refusal;
@@ -9,7 +10,11 @@ use crate::telling::{say, say_of};
 use book_folder::{BoxFile, box_file, may_be_bundle};
 use project_file::judge;
 use std::fs;
+use std::fs::File;
 use usfm_cli::{Expected, Fault, Found, TEXT_BUNDLE, found_file, is_text_bundle};
+
+// So many names are tried under which a bundle is written.
+const MOST_NAMES: usize = 8;
 
 // A box, which each copy reads, and in which it writes its own bundle.
 #[derive(Drop)]
@@ -81,7 +86,10 @@ fn read_box(
             }
             BoxFile::NoBundle => {
                 let path = folder.name_of(rt, &name)?;
-                let why = ": it is not a bundle, or only a part of one";
+                let why = match found_file(&bytes) {
+                    Found::Newer => ": it is of a newer version of this program",
+                    _ => ": it is not a bundle, or only a part of one",
+                };
                 say_of(rt, "skipped ", &path, why);
             }
         }
@@ -93,7 +101,7 @@ fn read_box(
 fn is_kept(bytes: &[u8]) -> bool {
     matches!(
         found_file(bytes),
-        Found::Project | Found::Summary | Found::BookFile
+        Found::Project | Found::Summary | Found::BookFile | Found::Newer
     )
 }
 
@@ -159,11 +167,8 @@ impl TeamBox {
         if is_still(rt, &path, bundle)? {
             return Ok(());
         }
-        let own = &self.own;
-        let new = self
-            .folder
-            .way_to(rt, &format!(in rt.alloc(); ".{own}.new")?)?;
-        let put = self.put_by(rt, &new, &path, bundle);
+        let (made, new) = self.make_new(rt)?;
+        let put = self.put_by(rt, made, &new, &path, bundle);
         if put.is_err() {
             // What a full disk could not hold whole would keep the others from writing theirs.
             let _ = remove_if_there(rt, &new);
@@ -171,14 +176,39 @@ impl TeamBox {
         put
     }
 
+    // Makes the file under whose name the bundle is written: where somebody's folder has that name,
+    // it gets another.
+    fn make_new(&self, rt: &HostRuntime) -> Result<(File, String), Fault> {
+        let own = &self.own;
+        for turn in 0..MOST_NAMES {
+            let name = match turn {
+                0 => format!(in rt.alloc(); ".{own}.new")?,
+                _ => format!(in rt.alloc(); ".{own}.{turn}.new")?,
+            };
+            let path = self.folder.way_to(rt, &name)?;
+            if !is_folder(rt, &path) {
+                return Ok((make_file(rt, &path)?, path));
+            }
+        }
+        Err(Fault::FileFailed)
+    }
+
     // Writes a bundle under a name of its own, and gives it the other one then.
-    fn put_by(&self, rt: &HostRuntime, new: &str, path: &str, bundle: &[u8]) -> Result<(), Fault> {
-        let made = make_file(rt, new)?;
+    fn put_by(
+        &self,
+        rt: &HostRuntime,
+        made: File,
+        new: &str,
+        path: &str,
+        bundle: &[u8],
+    ) -> Result<(), Fault> {
         if let Ok(Opened::Plain(old)) = open_plain(rt, path) {
             keep_rights(rt, &old, &made)?;
         }
         write_made(&made, bundle)?;
         sync_file(&made)?;
+        // Some network drives rename no file that is open.
+        drop(made);
         fs::rename(rt, new, path).map_err(|_| Fault::FileFailed)?;
         self.folder.sync()
     }

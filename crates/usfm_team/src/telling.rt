@@ -1,17 +1,18 @@
 // What is said on standard error: faults, in words where a person reads it, and remarks. Names of
 // files stand there without control characters.
-use crate::turns::Refusal;
+use crate::files::{Opened, open_plain, read_file};
+use crate::refusal::Refusal;
 use plain_line::{is_plain, push_line, push_lines};
 use std::alloc::AllocError;
+use std::fs;
 use std::fs::File;
 use std::io::{ErrorKind, IsTerminal, Read, Write};
 use std::path::Path;
-use std::{fs, str};
 use usfm_cli::{
-    Circumstances, Expected, FRONT_BYTES, Fault, Found, Wanted, book_meant, explained, fault_line,
-    found_file, has_split_reference,
+    Circumstances, Expected, FRONT_BYTES, Fault, Found, Slip, Wanted, book_meant, conflict_count,
+    explained, fault_line, found_file, front_slip, has_split_reference,
 };
-use usfm_ref::{Book, Key, read_ref, write_ref};
+use usfm_ref::{Key, read_ref, write_ref};
 
 const ONE_WORD: &str =
     "\n  tip: a reference is one word, so put it between quotes, as in 'MAT 1:1'\n";
@@ -47,6 +48,9 @@ const ONE_BOOK: &str = "\n  tip: this command takes a whole book, so write its c
 // Says why a command was refused: the line of the fault, the file that it is of, and in words
 // what that means. Where it cannot be written, the exit status alone shows it.
 pub(crate) fn tell_refusal(rt: &HostRuntime, refusal: &Refusal, explains: bool) {
+    if refusal.is_unread {
+        return;
+    }
     let _ = rt.stderr().write_all(fault_line(&refusal.fault).bytes());
     let mut known = Circumstances::UNKNOWN;
     if let Some(file) = &refusal.file {
@@ -60,7 +64,7 @@ pub(crate) fn tell_refusal(rt: &HostRuntime, refusal: &Refusal, explains: bool) 
             known.expected = file.expected;
             known.found = look(rt, &file.name);
             if matches!(file.expected, Expected::BookFile) {
-                known.meant = code_meant(rt, &file.name);
+                known.slip = slip_in(rt, &file.name);
             }
         }
     }
@@ -81,7 +85,10 @@ pub(crate) fn tell_refused_word(rt: &HostRuntime, fault: &Fault, word: &str, exp
     let _ = rt.stderr().write_all(fault_line(fault).bytes());
     if explains {
         let mut known = Circumstances::UNKNOWN;
-        known.meant = book_meant(word);
+        known.slip = match book_meant(word.as_bytes()) {
+            Some(book) => Some(Slip::SmallLetters(book)),
+            None => None,
+        };
         let _ = write!(rt.stderr(), "{}", explained(fault, &known));
         say_of_reference(rt, word);
     }
@@ -98,9 +105,13 @@ fn say_of_reference(rt: &HostRuntime, word: &str) {
     }
 }
 
-// Whether a file has the front of a book's. Nothing is waited for.
-pub(crate) fn begins_as_book(rt: &HostRuntime, name: &str) -> bool {
-    matches!(look(rt, name), Found::BookFile)
+// Whether a plain file has the front of a book's. Nothing is waited for, and no link is followed.
+pub(crate) fn begins_as_book(rt: &HostRuntime, path: &str) -> bool {
+    let mut front = [0; FRONT_BYTES];
+    match open_plain(rt, path) {
+        Ok(Opened::Plain(file)) => matches!(found_in(&file, &mut front), Found::BookFile),
+        _ => false,
+    }
 }
 
 // Whether a line after the first one begins with `\id` and a blank.
@@ -138,47 +149,27 @@ fn look_above(rt: &HostRuntime, name: &str) -> Found {
 
 fn look_at_front(rt: &HostRuntime, name: &str) -> Found {
     let mut front = [0; FRONT_BYTES];
-    match read_front(rt, name, &mut front) {
-        Some(len) => found_file(front.get(..len).unwrap_or(&[])),
-        None => Found::Other,
-    }
-}
-
-// Reads the front of a file, and answers its length.
-fn read_front(rt: &HostRuntime, name: &str, front: &mut [u8]) -> Option<usize> {
     match File::open(rt, name) {
-        Ok(mut file) => match file.read(front) {
-            Ok(len) => Some(len),
-            Err(_) => None,
-        },
-        Err(_) => None,
+        Ok(file) => found_in(&file, &mut front),
+        Err(_) => Found::Other,
     }
 }
 
-// The book whose code a plain file has in small letters after `\id` and a space.
-fn code_meant(rt: &HostRuntime, name: &str) -> Option<Book> {
+// What a file is, by its front.
+fn found_in(mut file: &File, front: &mut [u8]) -> Found {
+    match file.read(front) {
+        Ok(len) => found_file(front.get(..len).unwrap_or(&[])),
+        Err(_) => Found::Other,
+    }
+}
+
+// What is wrong with how a plain file that is to be a book's begins.
+fn slip_in(rt: &HostRuntime, name: &str) -> Option<Slip> {
     if !fs::metadata(rt, name).is_ok_and(|found| found.is_file()) {
         return None;
     }
-    let mut front = [0; FRONT_BYTES];
-    match read_front(rt, name, &mut front) {
-        Some(len) => code_in(front.get(..len).unwrap_or(&[])),
-        None => None,
-    }
-}
-
-fn code_in(front: &[u8]) -> Option<Book> {
-    let line = match front {
-        [0xef, 0xbb, 0xbf, rest @ ..] => rest,
-        _ => front,
-    };
-    let code = match line {
-        [b'\\', b'i', b'd', b' ', a, b, c] => [*a, *b, *c],
-        [b'\\', b'i', b'd', b' ', a, b, c, b' ' | b'\r' | b'\n', ..] => [*a, *b, *c],
-        _ => return None,
-    };
-    match str::from_utf8(&code) {
-        Ok(word) => book_meant(word),
+    match read_file(rt, name) {
+        Ok(bytes) => front_slip(&bytes),
         Err(_) => None,
     }
 }
@@ -196,14 +187,40 @@ pub(crate) fn say_of(rt: &HostRuntime, before: &str, name: &str, after: &str) {
     }
 }
 
-// Says of the heads of chapters that they are no chapters, where conflicts are named to be settled.
+// The heads of chapters that are named, and are not in conflict: a person may have meant the chapter.
+// What cannot be told leaves a head out.
+pub(crate) fn unconflicted_heads(
+    rt: &HostRuntime,
+    project: &[u8],
+    wanted: &[Wanted],
+) -> Vec<Wanted> {
+    let mut heads = Vec::new(rt.alloc());
+    for one in wanted {
+        if is_head(*one) && conflict_count(rt.alloc(), project, &[*one]).is_ok_and(|n| n == 0) {
+            let _ = heads.push(*one);
+        }
+    }
+    heads
+}
+
+// Whether the head of a chapter is named.
+pub(crate) fn names_heads(wanted: &[Wanted]) -> bool {
+    wanted.iter().any(|one| is_head(*one))
+}
+
+fn is_head(wanted: Wanted) -> bool {
+    match wanted {
+        Wanted::One(_, key) => key == key.head() && !key.is_book_head(),
+        Wanted::Whole(_) => false,
+    }
+}
+
+// Says of the heads of chapters that they are no chapters.
 pub(crate) fn say_heads(rt: &HostRuntime, wanted: &[Wanted]) {
     for one in wanted {
         if let Wanted::One(book, key) = *one {
-            if key == key.head() && !key.is_book_head() {
-                if let Ok(head) = write_ref(rt.alloc(), book, key) {
-                    say_of(rt, "", &head, HEAD_ALONE);
-                }
+            if let Ok(head) = write_ref(rt.alloc(), book, key) {
+                say_of(rt, "", &head, HEAD_ALONE);
             }
         }
     }
@@ -252,6 +269,13 @@ fn takes_book(words: &[String]) -> bool {
         ),
         None => false,
     }
+}
+
+// A name as it stands in a line: without control characters.
+pub(crate) fn plain_line(rt: &HostRuntime, name: &str) -> Result<String, AllocError> {
+    let mut plain = String::new(rt.alloc());
+    push_line(&mut plain, name)?;
+    Ok(plain)
 }
 
 // Writes a message of several lines, which may have words of the command line; at a terminal

@@ -1,14 +1,13 @@
 // Files taken in one after another, all or none of them.
 use crate::change;
 use crate::files::read_file;
+use crate::output::Output;
 use crate::project::lock_project;
 pub(crate) use crate::refusal::Refusal;
 use crate::refusal::read_named;
 use crate::telling::{SETTLE, has_second_book, say, say_second_book};
-use std::{io, mem};
-use usfm_cli::{
-    Command, Expected, Fault, StdSink, TurnFault, conflict_count, exec_in_turn, write_more,
-};
+use std::mem;
+use usfm_cli::{Command, Expected, Fault, Outcomes, TurnFault, conflict_count, exec_in_turn};
 
 // Takes in the files of books, one by itself and several in turn, or what was changed in them since
 // a bundle.
@@ -35,11 +34,12 @@ pub(crate) fn receive(
 ) -> Result<(), Refusal> {
     match bundles.as_slice() {
         [bundle] => receive_one(rt, project, bundle)?,
-        _ => {
-            if let Err(fault) = receive_all(rt, project, &bundles) {
+        _ => match receive_all(rt, project, &bundles) {
+            Ok(outcomes) => write_outputs(rt, outcomes)?,
+            Err(fault) => {
                 return Err(Refusal::of_turn(rt, fault, project, &bundles, Expected::Bundle));
             }
-        }
+        },
     }
     if explains && has_conflicts(rt, project) {
         say(rt, SETTLE);
@@ -68,12 +68,16 @@ fn import_one(rt: &HostRuntime, project: &str, name: &str, explains: bool) -> Re
 
 fn import_all(rt: &HostRuntime, project: &str, names: &[String]) -> Result<(), Refusal> {
     match import_in_turn(rt, project, names) {
-        Ok(()) => Ok(()),
+        Ok(outcomes) => write_outputs(rt, outcomes),
         Err(fault) => Err(Refusal::of_turn(rt, fault, project, names, Expected::BookFile)),
     }
 }
 
-fn import_in_turn(rt: &HostRuntime, project: &str, names: &[String]) -> Result<(), TurnFault> {
+fn import_in_turn(
+    rt: &HostRuntime,
+    project: &str,
+    names: &[String],
+) -> Result<Outcomes, TurnFault> {
     read_file(rt, project)?;
     let files = read_files(rt, names)?;
     let commands: Vec<Command<'_>> = files
@@ -100,7 +104,7 @@ fn import_since(
     };
     let bundle = &read_named(rt, base, Expected::Bundle)?;
     match since_in_turn(rt, project, &files, bundle) {
-        Ok(()) => Ok(()),
+        Ok(outcomes) => write_outputs(rt, outcomes),
         Err(TurnFault::Turn(_, fault)) if is_of_bundle(&fault) => {
             Err(Refusal::alone(rt, fault, base, Expected::Bundle))
         }
@@ -113,7 +117,7 @@ fn since_in_turn(
     project: &str,
     files: &[Vec<u8>],
     base: &[u8],
-) -> Result<(), TurnFault> {
+) -> Result<Outcomes, TurnFault> {
     let commands: Vec<Command<'_>> = files
         .iter()
         .map(|file| Command::ImportSince { file, base })
@@ -133,7 +137,7 @@ fn receive_one(rt: &HostRuntime, project: &str, name: &str) -> Result<(), Refusa
     change(rt, project, &Command::Receive(&bundle), other)
 }
 
-fn receive_all(rt: &HostRuntime, project: &str, names: &[String]) -> Result<(), TurnFault> {
+fn receive_all(rt: &HostRuntime, project: &str, names: &[String]) -> Result<Outcomes, TurnFault> {
     read_file(rt, project)?;
     let bundles = read_files(rt, names)?;
     let commands: Vec<Command<'_>> = bundles
@@ -156,28 +160,29 @@ pub(crate) fn read_files(rt: &HostRuntime, names: &[String]) -> Result<Vec<Vec<u
 }
 
 // Does commands in turn on a project's file while no other command changes it. The file is replaced
-// where its bytes are others, and only then, when others may go on, what each command writes is
-// written. What they made is not freed, since the program ends.
-fn change_in_turn(rt: &HostRuntime, path: &str, commands: &[Command<'_>]) -> Result<(), TurnFault> {
+// where its bytes are others.
+fn change_in_turn(
+    rt: &HostRuntime,
+    path: &str,
+    commands: &[Command<'_>],
+) -> Result<Outcomes, TurnFault> {
     let mut project = lock_project(rt, path)?;
     let bytes = project.read(rt)?;
     let outcomes = exec_in_turn(rt.alloc(), &bytes, commands)?;
     if outcomes.project() != bytes.as_slice() {
         project.replace(rt, outcomes.project())?;
     }
-    drop(project);
-    let written = write_outputs(rt, outcomes.outputs());
-    mem::forget(outcomes);
-    Ok(written?)
+    Ok(outcomes)
 }
 
-// Writes outputs to standard output, one after another. It does not allocate.
-fn write_outputs(rt: &HostRuntime, outputs: &[Vec<u8>]) -> Result<(), Fault> {
-    let mut sink = StdSink::new(io::writer(rt));
-    let mut gone = 0;
-    for output in outputs {
-        gone = write_more(&mut sink, gone, output)?;
+// Writes what commands in turn write, which has no text of others. It does not allocate. What they
+// made is not freed, since the program ends.
+fn write_outputs(rt: &HostRuntime, outcomes: Outcomes) -> Result<(), Refusal> {
+    let mut written = Output::of(rt);
+    for output in outcomes.outputs() {
+        written.write(output)?;
     }
+    mem::forget(outcomes);
     Ok(())
 }
 

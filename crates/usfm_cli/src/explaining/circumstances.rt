@@ -3,10 +3,10 @@ ghost use Rattle.std.specs.Prelude.{◌≡◌, OnOk, OnErr};
 ghost use Rattle.project_file.specs.Projects.{project_at};
 ghost use Rattle.usfm_cli.specs.Circumstances as told;
 
+use crate::explaining::book_fronts::Slip;
 use crate::fault::Fault;
 use project_file::{LoadFault, judge};
 use std::alloc::Global;
-use usfm_ref::Book;
 
 /// What the file of a refusal was to be.
 #[derive(Clone, Copy, Debug, PartialEq, Eq, Drop)]
@@ -48,6 +48,8 @@ pub enum Expected {
     Folder,
     /// A folder in which the copies of a team leave their bundles.
     Box,
+    /// The folder in a folder of books in which the program keeps what it has to know of them.
+    OwnFolder,
     /// The bundle that a copy leaves in such a folder, when all else is done.
     OwnBundle,
     /// A text that somebody types at a terminal.
@@ -73,6 +75,8 @@ pub enum Found {
     Summary,
     /// A file that begins as a book does, with `\id`.
     BookFile,
+    /// A project, a bundle or a summary in a format that a newer version of the program has.
+    Newer,
     /// Another file.
     Other,
 }
@@ -84,9 +88,9 @@ pub struct Circumstances {
     pub expected: Expected,
     /// What stands there.
     pub found: Found,
-    /// The book whose code a word of the command line, or the first line of a file, has in small
-    /// letters.
-    pub meant: Option<Book>,
+    /// What is wrong with a word of the command line that is to be a book's code, or with how a
+    /// book's file begins.
+    pub slip: Option<Slip>,
 }
 
 impl Circumstances {
@@ -94,7 +98,7 @@ impl Circumstances {
     pub const UNKNOWN: Circumstances = Circumstances {
         expected: Expected::Unknown,
         found: Found::Unseen,
-        meant: None,
+        slip: None,
     };
 }
 
@@ -107,61 +111,6 @@ pub enum Input {
     Given,
     /// Neither: what it was to do.
     Neither,
-}
-
-/// How many bytes of a file's front show what it is, and the code that a book's file has.
-pub const FRONT_BYTES: usize = 16;
-
-/// What a file is, by its first bytes: a project, a bundle or a summary by the first seven of its
-/// magic, and a book's file by `\id` after at most one U+FEFF.
-pub fn found_file(front: &[u8]) -> Found
-    ensures { result ≡ told.found_file front.now }
-{
-    if front.starts_with(b"USFMPJ1") {
-        Found::Project
-    } else if front.starts_with(b"USFMSR1") || front.starts_with(b"USFMSR2") {
-        Found::Bundle
-    } else if front.starts_with(b"USFMSS1") {
-        Found::Summary
-    } else if front.starts_with(b"\\id") || front.starts_with(b"\xef\xbb\xbf\\id") {
-        Found::BookFile
-    } else {
-        Found::Other
-    }
-}
-
-/// The book whose code a word begins with in small letters: three bytes that are a code in
-/// capitals, and are none as they stand, before the word's end or a space.
-pub fn book_meant(word: &str) -> Option<Book>
-    ensures { result ≡ told.book_meant word.now }
-{
-    match word.as_bytes() {
-        [a, b, c] => capital_code(*a, *b, *c),
-        [a, b, c, b' ', ..] => capital_code(*a, *b, *c),
-        _ => None,
-    }
-}
-
-// The book of a code in capitals, if it was not written so.
-fn capital_code(a: u8, b: u8, c: u8) -> Option<Book>
-    ensures { result ≡ told.capital_code a b c }
-{
-    let capitals = [
-        a.to_ascii_uppercase(),
-        b.to_ascii_uppercase(),
-        c.to_ascii_uppercase(),
-    ];
-    if capitals == [a, b, c] {
-        None
-    } else {
-        code_book(capitals)
-    }
-}
-
-fn code_book(code: [u8; 3]) -> Option<Book>
-    ensures { result ≡ told.code_book code }
-{
-    Book::of_code(code)
 }
 
 /// Which input a command on a project, given as the bytes of its file, was refused for: the

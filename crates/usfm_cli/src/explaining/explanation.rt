@@ -2,6 +2,7 @@
 ghost use Rattle.std.specs.Prelude.{◌≡◌, Some};
 ghost use Rattle.usfm_cli.specs.Explaining as told;
 
+use crate::explaining::book_fronts::Slip;
 use crate::explaining::circumstances::{Circumstances, Expected, Found};
 use crate::explaining::sentences::{
     BAD_ID, BAD_KEY, BAD_NAME, BAD_OPERATION, BAD_REPLACED, BAD_SEGMENT, BAD_STYLE_TYPE, BAD_TAG,
@@ -9,12 +10,13 @@ use crate::explaining::sentences::{
     BUNDLE_NOT_PROJECT, BUNDLE_NOT_SUMMARY, CLASH, CLASH_IN_BUNDLE, CUT_LINE, DAMAGED_BASE,
     DAMAGED_PROJECT, EMPTIED, EMPTY_MARKER, EMPTY_NEEDLE, FIELD_BEFORE_MARKER, FILE_CHANGED,
     FILE_FAILED, FILE_NO_BOOK, FILE_NOT_READ, FILE_NOT_WRITTEN, FILE_RENAMED, FILE_UNBASED,
-    FOLDER_IS_THERE, HALF_IS_THERE, IN_CAPITALS, IS_FILE, IS_FOLDER, IS_THERE, MEMORY, NAME_TAKEN,
-    NO_BOOK, NO_BUNDLE, NO_CODE, NO_FOLDER_FOR_IT, NO_FOLDER_THERE, NO_FORM, NO_ID, NO_PROJECT,
-    NO_PROJECT_THERE, NO_REFERENCE, NO_SUMMARY, NOT_OWN_BUNDLE, NOT_RISING, NOT_SHOWN, NOT_TEXT,
-    NOTHING_THERE, NUMBERS_USED_UP, PROJECT_NOT_BOOK, PROJECT_NOT_BUNDLE, READ_FAILED, SECOND_FILE,
-    SUMMARY_NOT_BOOK, SUMMARY_NOT_BUNDLE, SUMMARY_NOT_PROJECT, TEXT_NOT_UTF8, TOO_LONG, TRAILING,
-    TRUNCATED, UNDONE, UNLIKE, UNLIKE_FOLDER, UNSUPPORTED, WRITE_FAILED,
+    FOLDER_IS_THERE, FOLDER_UNREADABLE, HALF_IS_THERE, ID_IN_LINE, IN_CAPITALS, IS_FILE, IS_FOLDER,
+    IS_THERE, MEMORY, NAME_TAKEN, NEWER, NO_BOOK, NO_BUNDLE, NO_CODE, NO_FOLDER_FOR_IT,
+    NO_FOLDER_THERE, NO_FORM, NO_ID, NO_PROJECT, NO_PROJECT_THERE, NO_REFERENCE, NO_SUMMARY,
+    NOT_OWN_BUNDLE, NOT_RISING, NOT_SHOWN, NOT_TEXT, NOTHING_THERE, NUMBERS_USED_UP, ONE_SPACE,
+    OWN_NOT_FOLDER, OWN_UNREADABLE, PROJECT_NOT_BOOK, PROJECT_NOT_BUNDLE, READ_FAILED, SECOND_FILE,
+    SUMMARY_NOT_BOOK, SUMMARY_NOT_BUNDLE, SUMMARY_NOT_PROJECT, TAKE_OUT, TEXT_NOT_UTF8, TOO_LONG,
+    TRAILING, TRUNCATED, UNDONE, UNLIKE, UNLIKE_FOLDER, UNSUPPORTED, WRITE_FAILED,
 };
 use crate::fault::Fault;
 use bundle_codec::BundleFault;
@@ -30,6 +32,8 @@ pub enum Explanation {
     Sentences(&'static str),
     /// A code of a book was given in small letters, and this is the book.
     InCapitals(Book),
+    /// `\id` and a space begin this line of the file, counted from 1, and none before it.
+    IdInLine(u64),
 }
 
 impl fmt::Display for Explanation {
@@ -39,6 +43,7 @@ impl fmt::Display for Explanation {
         match self {
             Explanation::Sentences(text) => write!(f, "{text}\n"),
             Explanation::InCapitals(book) => write!(f, "{IN_CAPITALS}{book}\n"),
+            Explanation::IdInLine(line) => write!(f, "{ID_IN_LINE}{line}{TAKE_OUT}\n"),
         }
     }
 }
@@ -47,9 +52,40 @@ impl fmt::Display for Explanation {
 pub fn explained(fault: &Fault, known: &Circumstances) -> Explanation
     ensures { told.explanation_text result ≡ told.explained fault.now known.now }
 {
-    match (fault, known.meant) {
-        (Fault::Reference(RefFault::BadBook), Some(book)) => Explanation::InCapitals(book),
+    match fault {
+        Fault::Reference(RefFault::BadBook) => of_code(&known.slip, known.expected),
+        Fault::NoId => of_no_id(&known.slip, known.expected, known.found),
         _ => Explanation::Sentences(sentences(fault, known.expected, known.found)),
+    }
+}
+
+// Of what is no book's code: what is wrong with it, if that is seen.
+fn of_code(slip: &Option<Slip>, expected: Expected) -> Explanation
+    ensures { told.explanation_text result ≡ told.of_code slip.now expected }
+{
+    match slip {
+        Some(Slip::SmallLetters(book)) => Explanation::InCapitals(*book),
+        Some(Slip::Blanks) => Explanation::Sentences(ONE_SPACE),
+        _ => Explanation::Sentences(no_code(expected)),
+    }
+}
+
+fn no_code(expected: Expected) -> &'static str
+    ensures { result.now ≡ told.no_code expected }
+{
+    match expected {
+        Expected::NewName => NO_FORM,
+        _ => NO_CODE,
+    }
+}
+
+// Of a text that does not begin with `\id`: the line that does, if one does.
+fn of_no_id(slip: &Option<Slip>, expected: Expected, found: Found) -> Explanation
+    ensures { told.explanation_text result ≡ told.of_no_id slip.now expected found }
+{
+    match slip {
+        Some(Slip::LaterLine(line)) => Explanation::IdInLine(*line),
+        _ => Explanation::Sentences(sentences(&Fault::NoId, expected, found)),
     }
 }
 
@@ -122,10 +158,7 @@ fn sentences(fault: &Fault, expected: Expected, found: Found) -> &'static str
             Expected::Kept => DAMAGED_BASE,
             _ => TRAILING,
         },
-        Fault::Reference(RefFault::BadBook) => match expected {
-            Expected::NewName => NO_FORM,
-            _ => NO_CODE,
-        },
+        Fault::Reference(RefFault::BadBook) => no_code(expected),
         Fault::NotText { valid: _ } | Fault::NoId => match expected {
             Expected::BookFile => no_book(fault, found),
             _ => general_sentences(fault),
@@ -159,6 +192,7 @@ fn changed(expected: Expected) -> &'static str
         Expected::NewFile => NAME_TAKEN,
         Expected::NoBook => FILE_NO_BOOK,
         Expected::NotRead => FILE_NOT_READ,
+        Expected::OwnFolder => OWN_NOT_FOLDER,
         _ => FILE_CHANGED,
     }
 }
@@ -167,12 +201,22 @@ fn of_bytes(fault: &BundleFault, expected: Expected, found: Found) -> &'static s
     ensures { result.now ≡ told.of_bytes fault.now expected found }
 {
     match expected {
-        Expected::Project => DAMAGED_PROJECT,
-        Expected::Kept => DAMAGED_BASE,
+        Expected::Project => of_damaged(found, DAMAGED_PROJECT),
+        Expected::Kept => of_damaged(found, DAMAGED_BASE),
         _ => match fault {
             BundleFault::Magic => no_bundle(found),
             _ => of_bundle(fault),
         },
+    }
+}
+
+// What is said of what is damaged, or of a newer version.
+fn of_damaged(found: Found, damaged: &'static str) -> &'static str
+    ensures { result.now ≡ told.of_damaged found damaged.now }
+{
+    match found {
+        Found::Newer => NEWER,
+        _ => damaged,
     }
 }
 
@@ -183,6 +227,7 @@ fn no_bundle(found: Found) -> &'static str
         Found::BookFile => BOOK_NOT_BUNDLE,
         Found::Project => PROJECT_NOT_BUNDLE,
         Found::Summary => SUMMARY_NOT_BUNDLE,
+        Found::Newer => NEWER,
         _ => NO_BUNDLE,
     }
 }
@@ -194,6 +239,7 @@ fn no_book(fault: &Fault, found: Found) -> &'static str
         Found::Bundle => BUNDLE_NOT_BOOK,
         Found::Project => PROJECT_NOT_BOOK,
         Found::Summary => SUMMARY_NOT_BOOK,
+        Found::Newer => NEWER,
         _ => general_sentences(fault),
     }
 }
@@ -205,6 +251,7 @@ fn no_project(found: Found) -> &'static str
         Found::Bundle => BUNDLE_NOT_PROJECT,
         Found::BookFile => BOOK_NOT_PROJECT,
         Found::Summary => SUMMARY_NOT_PROJECT,
+        Found::Newer => NEWER,
         _ => NO_PROJECT,
     }
 }
@@ -214,6 +261,7 @@ fn no_summary(found: Found) -> &'static str
 {
     match found {
         Found::Bundle => BUNDLE_NOT_SUMMARY,
+        Found::Newer => NEWER,
         _ => NO_SUMMARY,
     }
 }
@@ -225,6 +273,7 @@ fn unread(expected: Expected, found: Found) -> &'static str
         Expected::Folder => unread_folder(found, IS_FILE),
         Expected::Box => unread_folder(found, BOX_IS_FILE),
         Expected::Project => unread_file(found, NO_PROJECT_THERE),
+        Expected::OwnFolder => OWN_UNREADABLE,
         Expected::Typed => CUT_LINE,
         _ => unread_file(found, NOTHING_THERE),
     }
@@ -234,7 +283,8 @@ fn unread_folder(found: Found, other: &'static str) -> &'static str
     ensures { result.now ≡ told.unread_folder found other.now }
 {
     match found {
-        Found::Unseen | Found::Folder => READ_FAILED,
+        Found::Unseen => READ_FAILED,
+        Found::Folder => FOLDER_UNREADABLE,
         Found::Nothing | Found::NoFolder => NO_FOLDER_THERE,
         _ => other,
     }
@@ -255,6 +305,7 @@ fn not_left(found: Found) -> &'static str
 {
     match found {
         Found::Project | Found::Summary | Found::BookFile => NOT_OWN_BUNDLE,
+        Found::Newer => NEWER,
         _ => BUNDLE_NOT_LEFT,
     }
 }

@@ -34,6 +34,20 @@ pub(crate) const NO_ID: &str = "\
 The file does not begin with \\id and a space.
 Give it a first line with the code of its book, such as \\id MAT.";
 
+pub(crate) const ONE_SPACE: &str = "\
+More than one blank stands between \\id and the code of the book.
+Leave one space there, as in \\id MAT.";
+
+pub(crate) const ID_IN_LINE: &str = "\
+The file does not begin with \\id and a space.
+\\id stands in line ";
+
+pub(crate) const TAKE_OUT: &str = ": take out what is before it.";
+
+pub(crate) const NEWER: &str = "\
+This file is of a newer version of this program.
+Get that version, and try again.";
+
 pub(crate) const BUNDLE_NOT_BOOK: &str = "\
 This is a bundle, and not the file of a book.
 Take it in with `receive`.";
@@ -65,7 +79,8 @@ Take 1 to 32 of a to z, 0 to 9 and -, such as ana.";
 pub(crate) const CLASH: &str = "\
 Two different edits have this id.
 Two copies use one name, or one was set back to an old file, or a file was
-changed by hand. Let one go on under another name: see docs/WALKTHROUGH.md.";
+changed by hand. Let one go on under another name: see WALKTHROUGH.md, in docs
+or in /usr/share/doc/usfm-team.";
 
 pub(crate) const CLASH_IN_BUNDLE: &str = "\
 Two different edits have this id.
@@ -73,7 +88,7 @@ This bundle was damaged on its way, or two copies use one name, or one was set
 back to an old file. Move the bundle away, and have it sent again: in a box
 its owner's next sync writes it anew. If the fault comes back, or the bundle
 has your own copy's name, let one copy go on under another name: see
-docs/WALKTHROUGH.md.";
+WALKTHROUGH.md, in docs or in /usr/share/doc/usfm-team.";
 
 pub(crate) const BAD_ID: &str = "\
 This is not the id of an edit.
@@ -82,7 +97,8 @@ Write its number, a colon and the name of its copy: 3:ana for `op 3 ana`.";
 pub(crate) const DAMAGED_PROJECT: &str = "\
 The project's file is damaged.
 Begin a new one with `init`, under a name that no copy has had, and take in
-what the last good copy and the others have: see docs/WALKTHROUGH.md.";
+what the last good copy and the others have: see WALKTHROUGH.md, in docs or in
+/usr/share/doc/usfm-team.";
 
 pub(crate) const NO_BUNDLE: &str = "\
 This is not a bundle.
@@ -110,31 +126,31 @@ Move this file away, and sync: a file that then differs from the project's
 book is refused (131).";
 
 pub(crate) const NOT_RISING: &str = "\
-The bundle is damaged: this operation's id is not above the one before.
+The bundle is damaged: this edit's id is not above the one before.
 Have it sent again.";
 
 pub(crate) const BAD_OPERATION: &str = "\
-The bundle is damaged: this operation's number or name is out of range.
+The bundle is damaged: this edit's number or name is out of range.
 Have it sent again.";
 
 pub(crate) const BAD_KEY: &str = "\
-The bundle is damaged: this operation's book or verse is out of range.
+The bundle is damaged: this edit's book or verse is out of range.
 Have it sent again.";
 
 pub(crate) const BAD_REPLACED: &str = "\
-The bundle is damaged: this operation replaces what it cannot replace.
+The bundle is damaged: this edit replaces what it cannot replace.
 Have it sent again.";
 
 pub(crate) const BAD_TAG: &str = "\
-The bundle is damaged: this operation has an unknown tag.
+The bundle is damaged: this edit has an unknown tag.
 Have it sent again.";
 
 pub(crate) const TEXT_NOT_UTF8: &str = "\
-The bundle is damaged: the text of this operation is not UTF-8.
+The bundle is damaged: the text of this edit is not UTF-8.
 Have it sent again.";
 
 pub(crate) const BAD_TEXT: &str = "\
-The bundle is damaged: the text of this operation does not fit its segment.
+The bundle is damaged: the text of this edit does not fit its segment.
 Have it sent again.";
 
 pub(crate) const UNSUPPORTED: &str = "\
@@ -160,7 +176,7 @@ Begin it with the segment's mark, such as \\v 1, and leave later verses out.";
 pub(crate) const NUMBERS_USED_UP: &str = "\
 No number is left for another edit.
 A damaged or forged bundle brought the greatest one. Export the books, and
-begin new copies: see docs/WALKTHROUGH.md.";
+begin new copies: see WALKTHROUGH.md, in docs or in /usr/share/doc/usfm-team.";
 
 pub(crate) const NO_BOOK: &str = "\
 The project has nothing of this book.
@@ -184,7 +200,8 @@ pub(crate) const NO_PROJECT: &str = "\
 This is not a project's file.
 Check its name. If it was a project, it is damaged: begin a new one with
 `init`, under a name that no copy has had, and take in what the last good copy
-and the others have: see docs/WALKTHROUGH.md.";
+and the others have: see WALKTHROUGH.md, in docs or in
+/usr/share/doc/usfm-team.";
 
 pub(crate) const BUNDLE_NOT_PROJECT: &str = "\
 This is a bundle, and not a project.
@@ -215,6 +232,21 @@ pub(crate) const BOX_IS_FILE: &str = "\
 This is not a folder.
 A box is wanted here: name the folder where all leave their bundles.";
 
+pub(crate) const FOLDER_UNREADABLE: &str = "\
+This folder cannot be read.
+Ask whoever owns it to let you read it, and write in it.";
+
+pub(crate) const OWN_NOT_FOLDER: &str = "\
+Here the program keeps what it knows of the books' files, in a folder, and
+something else has its name.
+Move that away. If the folder is elsewhere now, put it back; if not, and the
+files differ from the project's books, `sync` then says what to do with them.";
+
+pub(crate) const OWN_UNREADABLE: &str = "\
+Here the program keeps what it knows of the books' files, and this cannot be
+read.
+Ask whoever owns it to let you read it, and write in it.";
+
 pub(crate) const CUT_LINE: &str = "\
 A terminal passes on no more than 4,095 bytes of a line, and one has more.
 Nothing was changed. Type the text in several lines, or write it into a file,
@@ -235,7 +267,8 @@ with `mkdir`.";
 
 pub(crate) const TOO_LONG: &str = "\
 The file has more than 268,435,456 bytes, the most that can be read.
-If it is a project, see Limits in docs/DISK.md.";
+If it is a project, see Limits in DISK.md, in docs or in
+/usr/share/doc/usfm-team.";
 
 pub(crate) const FILE_FAILED: &str = "\
 A file could not be written, or the disk may not keep it.
@@ -287,10 +320,13 @@ Else move the file away, sync, and make its changes in the new file.";
 pub(crate) const FILE_UNBASED: &str = "\
 Nothing says what this file was written from, and it differs from the book.
 If the folder was copied or moved, its hidden folder .usfm_team was left
-behind: copy that, too. If you and somebody else began the same book, sync
-once without bundles and --box, and then with them: both texts stay. If the
-file is the newer one, `import` it, to have it replace all of the book. Else
-move it away, sync, and make its changes in the new file.";
+behind: copy that, too. If the project was set back to an older file, take in
+what was changed since: usfm_team import PROJECT FILE --since BUNDLE, where
+BUNDLE was made of that older file by `send`; then move the file away, and
+sync. If you and somebody else began the same book, sync once without bundles
+and --box, and then with them: both texts stay. Only if the file is newer in
+each verse, `import` it, to have it replace all of the book. Else move it
+away, sync, and make its changes in the new file.";
 
 pub(crate) const FILE_RENAMED: &str = "\
 This was the file of another book, and does not have the \\id of that now.

@@ -156,9 +156,9 @@ Example: usfm_team export ana.project --into texts
 Faults:
   fault 1                  out of memory
   fault 20                 BOOK is not a book's code
-  fault 51 NUMBER NAME     two operations that differ have this id
+  fault 51 NUMBER NAME     two edits that differ have this id
   fault 60 to 70, 110      PROJECT is not a project
-  fault 82                 the project has no operation of the book
+  fault 82                 the project has no edit of the book
   fault 90 BYTES           writing failed after this many bytes
   fault 120                a file could not be read
   fault 121                a file has more than 268,435,456 bytes

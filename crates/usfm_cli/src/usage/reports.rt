@@ -17,7 +17,7 @@ pub(crate) fn shown<'a>(alloc: Global) -> Result<Command<'a>, AllocError> {
 }
 
 const SHOWN: &str = "\
-For each operation a line `op NUMBER NAME LENGTH`, the text of LENGTH bytes,
+For each edit a line `op NUMBER NAME LENGTH`, the text of LENGTH bytes,
 and a line feed. The last one is the text that the book has, but for a chapter's
 head: if the last one is empty and a verse has a text, the book has `\\c N`.
 Verses that stand together, as in `\\v 3-4`, have the REF of the first one.
@@ -42,7 +42,7 @@ pub(crate) fn send<'a>(alloc: Global) -> Result<Command<'a>, AllocError> {
     command(
         alloc,
         "send",
-        "Writes the bundle of all operations of the project",
+        "Writes the bundle of all edits of the project",
         SEND,
         &[PROJECT],
     )
@@ -68,7 +68,7 @@ pub(crate) fn summary<'a>(alloc: Global) -> Result<Command<'a>, AllocError> {
     command(
         alloc,
         "summary",
-        "Writes the summary of all operations of the project",
+        "Writes the summary of all edits of the project",
         SUMMARY,
         &[PROJECT],
     )
@@ -100,14 +100,14 @@ pub(crate) fn delta<'a>(alloc: Global) -> Result<Command<'a>, AllocError> {
     command(
         alloc,
         "delta",
-        "Writes the bundle of the operations that another project lacks",
+        "Writes the bundle of the edits that another project lacks",
         DELTA,
         &[PROJECT, summary],
     )
 }
 
 const DELTA: &str = "\
-The bundle has the operations that the summary does not cover; if one of them
+The bundle has the edits that the summary does not cover; if one of them
 has no text, all those of its segment. The other project takes it in with
 `receive`, and then has all that this one has.
 
@@ -132,7 +132,7 @@ pub(crate) fn report<'a>(alloc: Global) -> Result<Command<'a>, AllocError> {
     command(
         alloc,
         "report",
-        "Reports conflicts, and the operations that are awaited",
+        "Reports conflicts, and the edits that are awaited",
         REPORT,
         &[PROJECT],
     )
@@ -142,7 +142,7 @@ const REPORT: &str = "\
 For each segment that shows several texts a line `conflict REF COUNT`; then for
 each of its texts, that of the greatest edit first, a line
 `text NUMBER NAME LENGTH`, the text of LENGTH bytes, and a line feed. Then a
-line `awaited NUMBER NAME` for each operation that another one replaces and
+line `awaited NUMBER NAME` for each edit that another one replaces and
 that has not come yet.
 
 Example: usfm_team report ana.project
@@ -179,11 +179,11 @@ Example: usfm_team fold MAT < first.bundle
 Faults:
   fault 1                out of memory
   fault 20               BOOK is not a book's code
-  fault 51 NUMBER NAME   two operations that differ have this id
+  fault 51 NUMBER NAME   two edits that differ have this id
   fault 60               a bundle does not begin as a bundle does
   fault 61               a truncated bundle
-  fault 62 to 69 PLACE   the operation at this place is not well formed
-  fault 82               no operation is of the book
+  fault 62 to 69 PLACE   the edit at this place is not well formed
+  fault 82               no edit is of the book
   fault 90 BYTES         writing failed after this many bytes
   fault 120              reading failed
   fault 121              the input has more than 268,435,456 bytes";

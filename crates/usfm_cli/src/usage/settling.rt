@@ -48,7 +48,7 @@ Faults:
   fault 20, fault 21       REF is not a reference, or BOOK not a book's code
   fault 60 to 70, 110      PROJECT is not a project
   fault 81                 no number is left for the edit
-  fault 82                 the project has no operation of a book that is named
+  fault 82                 the project has no edit of a book that is named
   fault 90 BYTES           writing failed; the edits so far are made
   fault 120                a file could not be read
   fault 121                a file has more than 268,435,456 bytes

@@ -88,7 +88,7 @@ Faults:
   fault 41 LINE            SHEET has a marker without a name
   fault 42 LINE            SHEET has an unknown style type
   fault 60 to 70, 110      PROJECT is not a project
-  fault 82                 the project has no operation of the book
+  fault 82                 the project has no edit of the book
   fault 90 BYTES           writing failed after this many bytes
   fault 120                a file could not be read
   fault 121                a file has more than 268,435,456 bytes";

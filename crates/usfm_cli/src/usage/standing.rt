@@ -27,16 +27,16 @@ Writes these lines, leaving out those with nothing to say:
                            besides marks; a bridge is one
   shown NAME N, ..         whose texts are shown, and how many of each
   replaced N, of these N without their texts
-                           the operations that others replace, and how many of
+                           the edits that others replace, and how many of
                            them `thin` left without a text
   conflict REF             a segment that shows different texts: see `report`
-  awaited NUMBER NAME      an operation that another one replaces and that has
+  awaited NUMBER NAME      an edit that another one replaces and that has
                            not come yet: ask NAME for a bundle
   changed FILE N           a file of the folder: `sync` takes in N edits of it
   unread FILE fault ..     a file of the folder that `sync` refuses, and why
-  lacks FILE N             how many operations of this project the copy of
+  lacks FILE N             how many edits of this project the copy of
                            FILE does not have: write it a `delta`
-  lacked FILE N            how many operations that copy has that this project
+  lacked FILE N            how many edits that copy has that this project
                            does not have: ask for a bundle
 
 The folder comes first, where one is given. Nothing is locked or changed.

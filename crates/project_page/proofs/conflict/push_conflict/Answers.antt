@@ -7,6 +7,7 @@ use Rattle.op_core.specs.Shown.{picked}
 use Rattle.conflict_settling.specs.Entries.{views}
 use Rattle.conflict_settling.specs.declared.sides.Entry.{Entry}
 use Rattle.project_page.specs.Pages as pages
+use Rattle.plain_line.specs.declared.text.CarriageReturn.TheVariants.{LeftOut}
 use Rattle.project_page.specs.Said.{said}
 use Rattle.project_page.specs.declared.markup.TheConstants as html
 use Rattle.project_page.proofs.Appended.{joined}
@@ -23,8 +24,8 @@ returns c =
     let texts = pages.texts said pick (views conflict.entries.items) in
     let repeated = flat_map (pages.repeated said) (map (λ op. op.now) conflict.repeated.items) in
     let after = pages.near said html.AFTER.now (string_bytes conflict.after) in
-    let spoken = c.in_ok-push_said.ensures
-    ∙ ap (λ (t : List ℕ). c.push_html.new.page.items ++ said t) (c.as_bytes.ensures.value ∙ c.in_ok-reference.ensures) in
+    let spoken = c.in_ok-push_name.ensures
+    ∙ ap (λ (t : List ℕ). c.push_html.new.page.items ++ said LeftOut t) (c.as_str.ensures.value ∙ c.in_ok-reference.ensures) in
     let near = c.in_ok-push_near.ensures
     ∙ ap (λ (t : List ℕ). c.push_html-2.new.page.items ++ pages.near said html.BEFORE.now t) c.deref.ensures in
     let placed = c.in_ok-push_near-2.ensures
@@ -35,10 +36,11 @@ returns c =
     ∙ ap (λ (ops : List (Bor Operation)). c.push_entries.new.page.items
     ++ flat_map (pages.repeated said) (map (λ op. op.now) ops)) c.deref-3.ensures.value in
     on_ok_weaker c.push_html-3.result (λ last.
-    joined c.args.page.now.items html.CONFLICT.now (said name ++ (html.NAMED.now ++ (before ++ (texts ++ (repeated ++ (after ++ end))))))
+    joined c.args.page.now.items html.CONFLICT.now
+    (said LeftOut name ++ (html.NAMED.now ++ (before ++ (texts ++ (repeated ++ (after ++ end))))))
     c.in_ok-push_html.ensures
-    (joined c.push_html.new.page.items (said name) (html.NAMED.now ++ (before ++ (texts ++ (repeated ++ (after ++ end))))) spoken
-    (joined c.push_said.new.page.items html.NAMED.now (before ++ (texts ++ (repeated ++ (after ++ end)))) c.in_ok-push_html-2.ensures
+    (joined c.push_html.new.page.items (said LeftOut name) (html.NAMED.now ++ (before ++ (texts ++ (repeated ++ (after ++ end))))) spoken
+    (joined c.push_name.new.page.items html.NAMED.now (before ++ (texts ++ (repeated ++ (after ++ end)))) c.in_ok-push_html-2.ensures
     (joined c.push_html-2.new.page.items before (texts ++ (repeated ++ (after ++ end))) near
     (joined c.push_near.new.page.items texts (repeated ++ (after ++ end)) side
     (joined c.push_entries.new.page.items repeated (after ++ end) again

@@ -9,5 +9,5 @@ use Rattle.project_page.proofs.said.push_text.Given as goal
 -- the tokens so far, and those that are left
 abbrev pub invariant-loop-token : goal.invariant-loop-token
 invariant-loop-token l =
-    l.page.items ++ flat_map (token_said said) (tokens_of (rest_of l.token-iterator))
-    ≡ l.fn.page.items ++ text_said said l.text
+    l.page.items ++ flat_map (token_said (said l.returns)) (tokens_of (rest_of l.token-iterator))
+    ≡ l.fn.page.items ++ text_said (said l.returns) l.text
