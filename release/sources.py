@@ -17,17 +17,16 @@ LINK, LINKER = TOP / "windows/link", "x86_64-w64-mingw32-gcc"
 TESTS = re.compile(r"^#\[cfg\(test\)\]\nmod (\w+);$", re.M)
 
 
-def crates() -> list[Path]:
-    """The crates that the program is built of: its own, and those of this repository below it."""
-    lines = [line.split("#")[0].partition(":") for line in (TOP / "crates.txt").read_text().splitlines()]
-    below = {before.split()[0]: re.findall(r"\w+", after) for before, _, after in lines if before.strip()}
-    found, waiting = set(), ["usfm_team"]
+def lines_of_crates() -> dict[str, str]:
+    """The lines of crates.txt that name the crates that the program is built of: its own, and those of this repository below it."""
+    lines = {line.split(":")[0].strip(): line for line in (TOP / "crates.txt").read_text().splitlines() if line.split("#")[0].strip()}
+    found, waiting = {}, ["usfm_team"]
     while waiting:
         crate = waiting.pop()
-        if crate in below and crate not in found:
-            found.add(crate)
-            waiting += below[crate]
-    return [TOP / "crates" / crate for crate in found]
+        if crate in lines and crate not in found:
+            found[crate] = lines[crate]
+            waiting += re.findall(r"\w+", lines[crate].split("#")[0].partition(":")[2])
+    return found
 
 
 def tests_of(crate: Path) -> set[str]:
@@ -42,7 +41,7 @@ def files() -> list[str]:
     Of the sources those of the tests are left out, since a build leaves them out.
     """
     found = ["HANDLES", "crates.txt"]
-    for crate in crates():
+    for crate in (TOP / "crates" / name for name in lines_of_crates()):
         tests = tests_of(crate)
         for part in ("src", "specs", "proofs"):
             for path in (crate / part).rglob("*"):
@@ -52,9 +51,16 @@ def files() -> list[str]:
     return sorted(found, key=str.encode)
 
 
+def content(path: str) -> bytes:
+    """What a build of the program reads of a file: of crates.txt the lines of its crates, in the order of their bytes."""
+    if path == "crates.txt":
+        return "".join(f"{line}\n" for line in sorted(lines_of_crates().values(), key=str.encode)).encode()
+    return (TOP / path).read_bytes()
+
+
 def digest() -> str:
-    """The SHA-256 of what `sha256sum` writes of these files, given at the top of the repository."""
-    lines = (f"{hashlib.sha256((TOP / path).read_bytes()).hexdigest()}  {path}\n" for path in files())
+    """The SHA-256 of what `sha256sum` writes of these files, given at the top of the repository, with those lines as crates.txt."""
+    lines = (f"{hashlib.sha256(content(path)).hexdigest()}  {path}\n" for path in files())
     return hashlib.sha256("".join(lines).encode()).hexdigest()
 
 
