@@ -5,8 +5,13 @@
 
 mod beginning;
 mod disk;
+mod memory;
 mod replacing;
 
 pub use beginning::begin_file;
 pub use disk::{Disk, DiskFault, Folder};
+pub use memory::MemoryDisk;
 pub use replacing::replace_file;
+
+#[cfg(test)]
+mod tests;
