@@ -82,16 +82,20 @@ changed_push file (first ∷ changes) change place = changed_push (after first p
 
 -- what a change makes of what is at its place, at the one that it takes the file from, and elsewhere
 after_there : (change : Change) (file : Option (List ℕ)) → after change (place_of change.place) file ≡ as_read change.bytes
-after_there change file = ap (λ b. if b then as_read change.bytes else if is_left change.left (place_of change.place) then None else file) (at_its_place change.place)
+after_there change file = ap (λ b. if b then as_read change.bytes else if is_left change.left (place_of change.place) then None else file)
+    (at_its_place change.place)
 
-after_left : (change : Change) (stored : StoredPlace) (file : Option (List ℕ)) → change.left ≡ Some stored → Apart (place_of stored) (place_of change.place)
+after_left : (change : Change) (stored : StoredPlace) (file : Option (List ℕ)) → change.left ≡ Some stored → Apart (place_of stored)
+    (place_of change.place)
     → after change (place_of stored) file ≡ None
 after_left change stored file is apart =
-    ap (λ b. if b then as_read change.bytes else if is_left change.left (place_of stored) then None else file) (not_at change.place (place_of stored) apart)
+    ap (λ b. if b then as_read change.bytes else if is_left change.left (place_of stored) then None else file)
+    (not_at change.place (place_of stored) apart)
     ∙ ap (λ l. if is_left l (place_of stored) then None else file) is
     ∙ ap (λ b. if b then None else file) (at_its_place stored)
 
-after_elsewhere : (change : Change) (place : Place) (file : Option (List ℕ)) → Apart place (place_of change.place) → is_left change.left place ≡ false
+after_elsewhere : (change : Change) (place : Place) (file : Option (List ℕ)) → Apart place (place_of change.place)
+    → is_left change.left place ≡ false
     → after change place file ≡ file
 after_elsewhere change place file apart is =
     ap (λ b. if b then as_read change.bytes else if is_left change.left place then None else file) (not_at change.place place apart)
@@ -104,7 +108,8 @@ written_push changes change place at_place no_left = record {
   there = subst (λ p. files_of (changes ++ change ∷ []) p ≡ as_read change.bytes) at_place
       (changed_push None changes change (place_of change.place) ∙ after_there change (files_of changes (place_of change.place)));
   others = λ each apart. changed_push None changes change each
-      ∙ after_elsewhere change each (files_of changes each) (subst (λ p. Apart each p) (sym at_place) apart) (ap (λ l. is_left l each) no_left);
+      ∙ after_elsewhere change each (files_of changes each) (subst (λ p. Apart each p) (sym at_place) apart)
+      (ap (λ l. is_left l each) no_left);
 }
 
 -- a renaming puts it there, takes it from where it was, and changes nothing else
@@ -138,14 +143,22 @@ pub elapses_push : (old new : List Change) (change : Change) → new ≡ old ++ 
 elapses_push old new change is = record {
   later = omega (arith, ap length is, length-append old (change ∷ []));
   nothing_else = λ t c le left. elim (cases_lt (length old) left.0) [
-    | inl late ↦ inr (λ each. left.3 each ∙ ap (λ (l : List Change). files_of l each) (take_all left.0 new (omega (arith, late, ap length is, length-append old (change ∷ [])))))
-    | inr early ↦ inl (left.0, left.1, early, λ each. left.3 each ∙ ap (λ (l : List Change). files_of (take left.0 l) each) is ∙ ap (λ (l : List Change). files_of l each) (take_before left.0 old (change ∷ []) early))
+    | inl late ↦ inr (λ each. left.3 each ∙ ap (λ (l : List Change). files_of l each)
+        (take_all left.0 new (omega (arith, late, ap length is, length-append old (change ∷ [])))))
+    | inr early ↦ inl (
+      left.0,
+      left.1,
+      early,
+      λ each. left.3 each ∙ ap (λ (l : List Change). files_of (take left.0 l) each) is ∙ ap
+          (λ (l : List Change). files_of l each) (take_before left.0 old (change ∷ []) early),
+    )
   ];
   keeps = λ t c le left. (
     left.0,
     left.1,
     omega (arith, left.2, ap length is, length-append old (change ∷ [])),
-    λ each. left.3 each ∙ sym (ap (λ (l : List Change). files_of (take left.0 l) each) is ∙ ap (λ (l : List Change). files_of l each) (take_before left.0 old (change ∷ []) left.2)),
+    λ each. left.3 each ∙ sym (ap (λ (l : List Change). files_of (take left.0 l) each) is ∙ ap (λ (l : List Change). files_of l each)
+        (take_before left.0 old (change ∷ []) left.2)),
   );
 }
 
@@ -161,7 +174,8 @@ module _ (old new : List Change) where
     },
   )
 
-  pub stays_moved : (from_place to_place : Place) (file : Option (List ℕ)) → new ≡ old → Follows (MayMove from_place to_place file) (Left old) (Left new)
+  pub stays_moved : (from_place to_place : Place) (file : Option (List ℕ)) → new ≡ old → Follows (MayMove from_place to_place file)
+      (Left old) (Left new)
   stays_moved from_place to_place file is c left = (
     files_of old,
     λ each. refl,
@@ -172,7 +186,8 @@ module _ (old new : List Change) where
   )
 
   -- one change was made
-  pub puts : (place : Place) (file : Option (List ℕ)) → Written place file (files_of old) (files_of new) → Follows (MayPut place file) (Left old) (Left new)
+  pub puts : (place : Place) (file : Option (List ℕ)) → Written place file (files_of old) (files_of new) → Follows (MayPut place file)
+      (Left old) (Left new)
   puts place file written c left = (
     files_of old,
     λ each. refl,

@@ -4,7 +4,8 @@ use Rattle.team_disk.specs.Disk.{Place, Files, Apart, SameBut, SameButTwo, MayPu
 
 module _ {D : Type 0} (moment : D → ℕ) (left_since : D → ℕ → Files → Type 0) where
   -- before the first call
-  pub started : (old : D) (P : Files → Type 0) → ((c : Files) → left_since old (moment old) c → P c) → LeavesOnly moment left_since old old P
+  pub started : (old : D) (P : Files → Type 0) → ((c : Files) → left_since old (moment old) c → P c)
+      → LeavesOnly moment left_since old old P
   started old P here = record { later = omega arith; each = here; before = λ t c le left. inl left }
 
   -- one call more, after which a crash leaves what has P
@@ -14,7 +15,8 @@ module _ {D : Type 0} (moment : D → ℕ) (left_since : D → ℕ → Files →
   goes_on old mid new P may_leave so_far time here = record {
     later = omega (arith, so_far.later, time.later);
     each = λ c left. ⊎_elim (so_far.each c) (here c) (time.nothing_else (moment old) c so_far.later left);
-    before = λ t c le left. ⊎_elim (so_far.before t c le) (λ now. inr (here c now)) (time.nothing_else t c (omega (arith, le, so_far.later)) left);
+    before = λ t c le left. ⊎_elim (so_far.before t c le) (λ now. inr (here c now))
+        (time.nothing_else t c (omega (arith, le, so_far.later)) left);
   }
 
 -- one file or another at a place, of which the one was there at the start
@@ -31,7 +33,8 @@ module _ (place scratch : Place) (one other : Option (List ℕ)) (start : Files 
   at_start settled c left = record { there = settled c left; others = (c, left, λ each a b. refl) }
 
   -- what is done at the scratch place alone changes nothing of it
-  pub scratched : (mid new : Files → Type 0) → Apart place scratch → ((c : Files) → mid c → IsOne c) → Follows (SameBut scratch) mid new → (c : Files) → new c → IsOne c
+  pub scratched : (mid new : Files → Type 0) → Apart place scratch → ((c : Files) → mid c → IsOne c) → Follows (SameBut scratch) mid new →
+      (c : Files) → new c → IsOne c
   scratched mid new apart before follows c left =
       let from = follows c left in
       let kept = before from.0 from.1 in record {
@@ -39,7 +42,8 @@ module _ (place scratch : Place) (one other : Option (List ℕ)) (start : Files 
         others = (kept.others.0, kept.others.1, λ each a b. from.2 each b ∙ kept.others.2 each a b);
       }
 
-  pub scratched_after : (mid new : Files → Type 0) → Apart place scratch → ((c : Files) → mid c → IsOneOrOther place scratch one other start c) → Follows (SameBut scratch) mid new
+  pub scratched_after : (mid new : Files → Type 0) → Apart place scratch →
+      ((c : Files) → mid c → IsOneOrOther place scratch one other start c) → Follows (SameBut scratch) mid new
       → (c : Files) → new c → IsOneOrOther place scratch one other start c
   scratched_after mid new apart before follows c left =
       let from = follows c left in
@@ -49,7 +53,8 @@ module _ (place scratch : Place) (one other : Option (List ℕ)) (start : Files 
       }
 
   -- the other gets the name
-  pub put : (mid new : Files → Type 0) (file : Option (List ℕ)) → file ≡ other → ((c : Files) → mid c → IsOne c) → Follows (MayPut place file) mid new
+  pub put : (mid new : Files → Type 0) (file : Option (List ℕ)) → file ≡ other → ((c : Files) → mid c → IsOne c) → Follows
+      (MayPut place file) mid new
       → (c : Files) → new c → IsOneOrOther place scratch one other start c
   put mid new file is before follows c left =
       let from = follows c left in
@@ -58,7 +63,8 @@ module _ (place scratch : Place) (one other : Option (List ℕ)) (start : Files 
         others = (kept.others.0, kept.others.1, λ each a b. from.2.others each a ∙ kept.others.2 each a b);
       }
 
-  pub moved : (mid new : Files → Type 0) (file : Option (List ℕ)) → file ≡ other → ((c : Files) → mid c → IsOne c) → Follows (MayMove scratch place file) mid new
+  pub moved : (mid new : Files → Type 0) (file : Option (List ℕ)) → file ≡ other → ((c : Files) → mid c → IsOne c) → Follows
+      (MayMove scratch place file) mid new
       → (c : Files) → new c → IsOneOrOther place scratch one other start c
   moved mid new file is before follows c left =
       let from = follows c left in

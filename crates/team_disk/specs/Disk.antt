@@ -1,4 +1,5 @@
--- What calls do to the files of some folders, and what a crash may leave of them: this project's own
+-- What calls do to the files of some folders, and what a crash may leave of them: this project's
+-- own
 -- model of what POSIX says of files, names and fsync, and no more than it says.
 use Rattle.std.specs.Prelude.{◌<◌, ◌≡◌, ◌⊎◌, ℕ, ◌≤◌, List, Option, Some, None, Vec, Result, IsErrOf}
 use Rattle.std.specs.declared.alloc.Global.{Global}
@@ -11,6 +12,7 @@ pub record Place : Type 0 where
   pub folder : Folder
   pub name : List ℕ
 
+-- this name in this folder
 abbrev pub at : Folder → List ℕ → Place
 at folder name = record { folder = folder; name = name }
 
@@ -28,7 +30,8 @@ SameBut place old new = (each : Place) → Apart each place → new each ≡ old
 
 -- the same files, but perhaps at these two places
 abbrev pub SameButTwo : Place → Place → Files → Files → Type 0
-SameButTwo one other old new = (each : Place) → Apart each one → Apart each other → new each ≡ old each
+SameButTwo one other old new = (each : Place) → Apart each one → Apart each other → new each
+    ≡ old each
 
 -- the same files, but what is at this place
 pub record Written (place : Place) (file : Option (List ℕ)) (old new : Files) : Type 0 where
@@ -41,7 +44,8 @@ pub record MayPut (place : Place) (file : Option (List ℕ)) (old new : Files) :
   pub others : SameBut place old new
 
 -- a file got another place, or did not; at the one that it had there may be anything
-pub record MayMove (from_place to_place : Place) (file : Option (List ℕ)) (old new : Files) : Type 0 where
+pub record MayMove (from_place to_place : Place) (file : Option (List ℕ))
+    (old new : Files) : Type 0 where
   pub there : (new to_place ≡ old to_place) ⊎ (new to_place ≡ file)
   pub others : SameButTwo from_place to_place old new
 
@@ -51,16 +55,20 @@ Follows step old new = (c : Files) → new c → (d : Files) × old d × step d 
 
 -- a file whose bytes are on the disk stays one, but perhaps at these two places
 abbrev pub KeepsSynced : Place → Place → (Place → Type 0) → (Place → Type 0) → Type 0
-KeepsSynced one other old new = (each : Place) → Apart each one → Apart each other → old each → new each
+KeepsSynced one other old new = (each : Place) → Apart each one → Apart each other → old each
+    → new each
 
--- Time goes on: a crash since t might have left what it might have left before, or what it may leave now.
-pub record Elapses (before now : ℕ) (past since : ℕ → Files → Type 0) (may_leave : Files → Type 0) : Type 0 where
+-- Time goes on: a crash since t might have left what it might have left before, or what it may
+-- leave now.
+pub record Elapses (before now : ℕ) (past since : ℕ → Files → Type 0)
+    (may_leave : Files → Type 0) : Type 0 where
   pub later : before ≤ now
   pub nothing_else : (t : ℕ) (c : Files) → t ≤ before → since t c → past t c ⊎ may_leave c
   pub keeps : (t : ℕ) (c : Files) → t ≤ before → past t c → since t c
 
 -- A crash at any moment since old leaves files that have P.
-pub record LeavesOnly {D : Type 0} (moment : D → ℕ) (left_since : D → ℕ → Files → Type 0) (old new : D) (P : Files → Type 0) : Type 0 where
+pub record LeavesOnly {D : Type 0} (moment : D → ℕ) (left_since : D → ℕ → Files → Type 0)
+    (old new : D) (P : Files → Type 0) : Type 0 where
   pub later : moment old ≤ moment new
   pub each : (c : Files) → left_since new (moment old) c → P c
   -- for a run that began earlier
@@ -71,8 +79,10 @@ pub record HasCause {T : Type 0} (before now : ℕ) (result : Result T DiskFault
   pub later : before ≤ now
   pub failed : IsErrOf result Failed → before < now
 
--- at this place there is one of these two files, and what was there is left under all names but these two
-pub record IsOneOrOther (place scratch : Place) (one other : Option (List ℕ)) (may_leave : Files → Type 0) (c : Files) : Type 0 where
+-- at this place there is one of these two files, and what was there is left under all names but
+-- these two
+pub record IsOneOrOther (place scratch : Place) (one other : Option (List ℕ))
+    (may_leave : Files → Type 0) (c : Files) : Type 0 where
   pub there : (c place ≡ one) ⊎ (c place ≡ other)
   pub others : (d : Files) × may_leave d × SameButTwo place scratch d c
 

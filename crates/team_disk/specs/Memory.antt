@@ -21,7 +21,8 @@ same_folder _ _ = false
 
 -- whether it is this place
 abbrev pub is_at : StoredPlace → Place → Bool
-is_at stored place = same_folder stored.folder place.folder && pointwise nat_eq stored.name.items place.name
+is_at stored place = same_folder stored.folder place.folder && pointwise nat_eq stored.name.items
+    place.name
 
 -- whether a change takes the file of this place away
 abbrev pub is_left : Option StoredPlace → Place → Bool
@@ -50,15 +51,26 @@ Same one other = (each : Place) → one each ≡ other each
 
 -- the files are those after some number of changes, from this number on
 abbrev pub HadBeen : List Change → ℕ → Files → Type 0
-HadBeen changes from_number c = (k : ℕ) × (from_number ≤ k) × (k ≤ length changes) × Same c (files_of (take k changes))
+HadBeen changes from_number c = (k : ℕ) × (from_number ≤ k) × (k ≤ length changes) × Same c
+    (files_of (take k changes))
 
 -- the moments of a disk: what is there now is one of those since an earlier one
-pub counts : (changes : List Change) (t : ℕ) (c : Files) → t ≤ length changes → Same c (files_of changes) → HadBeen changes t c
-counts changes t c le now = (length changes, le, omega arith, λ each. now each ∙ ap (λ (l : List Change). files_of l each) (sym (take_all (length changes) changes (omega arith))))
+pub counts : (changes : List Change) (t : ℕ) (c : Files) → t ≤ length changes → Same c
+    (files_of changes) → HadBeen changes t c
+counts changes t c le now = (
+  length changes,
+  le,
+  omega arith,
+  λ each. now each ∙ ap
+      (λ (l : List Change). files_of l each) (sym
+      (take_all (length changes) changes (omega arith))),
+)
 
 -- since the last moment there was no other
-pub only : (changes : List Change) (c : Files) → HadBeen changes (length changes) c → Same c (files_of changes)
-only changes c left = λ each. left.3 each ∙ ap (λ (l : List Change). files_of l each) (take_all left.0 changes (omega (arith, left.1)))
+pub only : (changes : List Change) (c : Files) → HadBeen changes (length changes) c → Same c
+    (files_of changes)
+only changes c left = λ each. left.3 each ∙ ap (λ (l : List Change). files_of l each)
+    (take_all left.0 changes (omega (arith, left.1)))
 
 -- what a crash may leave of a disk with these changes
 abbrev pub Left : List Change → Files → Type 0

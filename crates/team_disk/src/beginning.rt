@@ -1,5 +1,18 @@
 // A file under a name that no file has.
-ghost use Rattle.std.specs.Prelude.{◌≡◌, ◌⊎◌, ◌<◌, ℕ, List, Option, Some, None, IsSome, OnOk, IsErr, IsErrOf};
+ghost use Rattle.std.specs.Prelude.{
+  ◌≡◌,
+  ◌⊎◌,
+  ◌<◌,
+  ℕ,
+  List,
+  Option,
+  Some,
+  None,
+  IsSome,
+  OnOk,
+  IsErr,
+  IsErrOf,
+};
 ghost use Rattle.team_disk.specs.Disk.{at, Apart, Leaves, LeavesOnly, IsOneOrOther, SameButTwo};
 
 use crate::{Disk, DiskFault, Folder};
@@ -17,26 +30,34 @@ pub fn begin_file<D: Disk>(
     bytes: &[u8],
 ) -> Result<(), DiskFault>
     requires apart { Apart (at folder name.now) (at folder scratch.now) }
-    requires settled { Leaves (at folder name.now) (D.seen disk.old (at folder name.now)) (D.may_leave disk.old) }
+    requires settled { Leaves (at folder name.now) (D.seen disk.old (at folder name.now))
+        (D.may_leave disk.old) }
 
     ensures begun { OnOk result (D.seen disk.new (at folder name.now) ≡ Some bytes.now) }
-    ensures durable { OnOk result (Leaves (at folder name.now) (Some bytes.now) (D.may_leave disk.new)) }
+    ensures durable { OnOk result (Leaves (at folder name.now) (Some bytes.now)
+        (D.may_leave disk.new)) }
     ensures gone { OnOk result (D.seen disk.new (at folder scratch.now) ≡ None) }
-    ensures others { SameButTwo (at folder name.now) (at folder scratch.now) (D.seen disk.old) (D.seen disk.new) }
+    ensures others { SameButTwo (at folder name.now) (at folder scratch.now) (D.seen disk.old)
+        (D.seen disk.new) }
 
     // What has the name stays.
     ensures taken { IsSome (D.seen disk.old (at folder name.now)) → IsErr result }
-    ensures stays { IsSome (D.seen disk.old (at folder name.now)) → D.seen disk.new (at folder name.now) ≡ D.seen disk.old (at folder name.now) }
-    ensures stays_at_any_moment { IsSome (D.seen disk.old (at folder name.now)) → LeavesOnly D.moment D.left_since disk.old disk.new
+    ensures stays { IsSome (D.seen disk.old (at folder name.now)) → D.seen disk.new
+        (at folder name.now)
+        ≡ D.seen disk.old (at folder name.now) }
+    ensures stays_at_any_moment { IsSome (D.seen disk.old (at folder name.now))
+        → LeavesOnly D.moment D.left_since disk.old disk.new
         (λ c. c (at folder name.now) ≡ D.seen disk.old (at folder name.now)) }
 
     // A crash at any moment of the call leaves no file of the name, or the whole one.
     ensures any_moment { LeavesOnly D.moment D.left_since disk.old disk.new
-        (IsOneOrOther (at folder name.now) (at folder scratch.now) (D.seen disk.old (at folder name.now)) (Some bytes.now) (D.may_leave disk.old)) }
+        (IsOneOrOther (at folder name.now) (at folder scratch.now)
+        (D.seen disk.old (at folder name.now)) (Some bytes.now) (D.may_leave disk.old)) }
 
     // It does not give up by itself.
     ensures failed { IsErrOf result DiskFault.Failed → D.faults disk.old < D.faults disk.new }
-    ensures is_taken { IsErrOf result DiskFault.NameTaken → IsSome (D.seen disk.old (at folder name.now)) }
+    ensures is_taken { IsErrOf result DiskFault.NameTaken → IsSome
+        (D.seen disk.old (at folder name.now)) }
 {
     disk.write(folder, scratch, bytes)?;
     disk.link(folder, scratch, folder, name)?;

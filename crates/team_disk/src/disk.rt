@@ -1,7 +1,35 @@
 // The calls of a disk.
-ghost use Rattle.std.specs.Prelude.{◌≡◌, ◌≤◌, ◌⊎◌, ℕ, List, Option, Some, None, IsSome, IsErr, IfOk, OnOk, OnErr, IsErrOf};
+ghost use Rattle.std.specs.Prelude.{
+  ◌≡◌,
+  ◌≤◌,
+  ◌⊎◌,
+  ℕ,
+  List,
+  Option,
+  Some,
+  None,
+  IsSome,
+  IsErr,
+  IfOk,
+  OnOk,
+  OnErr,
+  IsErrOf,
+};
 ghost use Rattle.team_disk.specs.declared.disk.DiskFault.TheVariants.{Memory, NameTaken};
-ghost use Rattle.team_disk.specs.Disk.{Place, at, Apart, SameBut, Written, MayPut, MayMove, Follows, Elapses, HasCause, KeepsSynced, as_read};
+ghost use Rattle.team_disk.specs.Disk.{
+  Place,
+  at,
+  Apart,
+  SameBut,
+  Written,
+  MayPut,
+  MayMove,
+  Follows,
+  Elapses,
+  HasCause,
+  KeepsSynced,
+  as_read,
+};
 
 use std::alloc::{AllocError, AllocFailed, Global};
 
@@ -45,11 +73,12 @@ pub enum Folder {
     Box,
 }
 
-/// The files of these folders. Each call says what a read returns after it, and what a crash may leave.
+/// The files of these folders. Each call says what a read returns after it, and what a crash may
+/// leave.
 ///
 /// A crash leaves of the names that were given or taken since their folder was last synced any that
 /// it likes, each for itself, and of a file that is being written any bytes: so much POSIX leaves
-/// open. What is left does not depend on what other programs do meanwhile.
+/// open. What other programs do meanwhile is not part of it.
 pub trait Disk {
     /// The bytes that a read of a name returns, where there is a file of that name.
     ghost seen: { Self → Place → Option (List ℕ) };
@@ -80,20 +109,28 @@ pub trait Disk {
         ensures bytes { IfOk result (λ bytes. as_read bytes ≡ seen self.old (at folder name.now)) }
         ensures seen { (each : Place) → seen self.new each ≡ seen self.old each }
         ensures synced { (each : Place) → is_synced self.old each → is_synced self.new each }
-        ensures crash { (c : Place → Option (List ℕ)) → may_leave self.new c → may_leave self.old c }
-        ensures time { Elapses (moment self.old) (moment self.new) (left_since self.old) (left_since self.new) (may_leave self.new) }
+        ensures crash { (c : Place → Option (List ℕ)) → may_leave self.new c
+            → may_leave self.old c }
+        ensures time { Elapses (moment self.old) (moment self.new) (left_since self.old)
+            (left_since self.new)
+            (may_leave self.new) }
         ensures cause { HasCause (faults self.old) (faults self.new) result }
         ensures not_taken { IsErrOf result NameTaken → ⊥ };
 
     /// Makes a file of these bytes, in the place of what has the name, and syncs the file. Until
     /// that is done, a crash may leave anything under the name.
     fn write(&mut self, folder: Folder, name: &str, bytes: &[u8]) -> Result<(), DiskFault>
-        ensures written { OnOk result (Written (at folder name.now) (Some bytes.now) (seen self.old) (seen self.new)) }
+        ensures written { OnOk result (Written (at folder name.now) (Some bytes.now) (seen self.old)
+            (seen self.new)) }
         ensures seen { SameBut (at folder name.now) (seen self.old) (seen self.new) }
         ensures now_synced { OnOk result (is_synced self.new (at folder name.now)) }
-        ensures synced { KeepsSynced (at folder name.now) (at folder name.now) (is_synced self.old) (is_synced self.new) }
-        ensures crash { Follows (SameBut (at folder name.now)) (may_leave self.old) (may_leave self.new) }
-        ensures time { Elapses (moment self.old) (moment self.new) (left_since self.old) (left_since self.new) (may_leave self.new) }
+        ensures synced { KeepsSynced (at folder name.now) (at folder name.now) (is_synced self.old)
+            (is_synced self.new) }
+        ensures crash { Follows (SameBut (at folder name.now)) (may_leave self.old)
+            (may_leave self.new) }
+        ensures time { Elapses (moment self.old) (moment self.new) (left_since self.old)
+            (left_since self.new)
+            (may_leave self.new) }
         ensures cause { HasCause (faults self.old) (faults self.new) result }
         ensures not_taken { IsErrOf result NameTaken → ⊥ };
 
@@ -109,13 +146,20 @@ pub trait Disk {
         // Only a file that is whole on the disk gets another's name.
         requires synced { is_synced self.old (at from_folder from.now) }
         requires apart { Apart (at from_folder from.now) (at to_folder to.now) }
-        ensures renamed { OnOk result (seen self.new (at to_folder to.now) ≡ seen self.old (at from_folder from.now)) }
+        ensures renamed { OnOk result (seen self.new (at to_folder to.now) ≡ seen self.old
+            (at from_folder from.now)) }
         ensures gone { OnOk result (seen self.new (at from_folder from.now) ≡ None) }
-        ensures seen { MayMove (at from_folder from.now) (at to_folder to.now) (seen self.old (at from_folder from.now)) (seen self.old) (seen self.new) }
+        ensures seen { MayMove (at from_folder from.now) (at to_folder to.now)
+            (seen self.old (at from_folder from.now)) (seen self.old) (seen self.new) }
         ensures now_synced { OnOk result (is_synced self.new (at to_folder to.now)) }
-        ensures synced { KeepsSynced (at from_folder from.now) (at to_folder to.now) (is_synced self.old) (is_synced self.new) }
-        ensures crash { Follows (MayMove (at from_folder from.now) (at to_folder to.now) (seen self.old (at from_folder from.now))) (may_leave self.old) (may_leave self.new) }
-        ensures time { Elapses (moment self.old) (moment self.new) (left_since self.old) (left_since self.new) (may_leave self.new) }
+        ensures synced { KeepsSynced (at from_folder from.now) (at to_folder to.now)
+            (is_synced self.old)
+            (is_synced self.new) }
+        ensures crash { Follows (MayMove (at from_folder from.now) (at to_folder to.now)
+            (seen self.old (at from_folder from.now))) (may_leave self.old) (may_leave self.new) }
+        ensures time { Elapses (moment self.old) (moment self.new) (left_since self.old)
+            (left_since self.new)
+            (may_leave self.new) }
         ensures cause { HasCause (faults self.old) (faults self.new) result }
         ensures not_taken { IsErrOf result NameTaken → ⊥ };
 
@@ -129,42 +173,68 @@ pub trait Disk {
     ) -> Result<(), DiskFault>
         requires there { IsSome (seen self.old (at from_folder from.now)) }
         requires synced { is_synced self.old (at from_folder from.now) }
-        ensures linked { OnOk result (Written (at to_folder to.now) (seen self.old (at from_folder from.now)) (seen self.old) (seen self.new)) }
+        ensures linked { OnOk result (Written (at to_folder to.now)
+            (seen self.old (at from_folder from.now))
+            (seen self.old) (seen self.new)) }
         ensures taken { IsSome (seen self.old (at to_folder to.now)) → IsErr result }
-        ensures taken_stays { IsSome (seen self.old (at to_folder to.now)) → (each : Place) → seen self.new each ≡ seen self.old each }
-        ensures taken_crash { IsSome (seen self.old (at to_folder to.now)) → (c : Place → Option (List ℕ)) → may_leave self.new c → may_leave self.old c }
-        ensures seen { MayPut (at to_folder to.now) (seen self.old (at from_folder from.now)) (seen self.old) (seen self.new) }
+        ensures taken_stays { IsSome (seen self.old (at to_folder to.now)) → (each : Place)
+            → seen self.new each
+            ≡ seen self.old each }
+        ensures taken_crash { IsSome (seen self.old (at to_folder to.now)) →
+            (c : Place → Option (List ℕ))
+            → may_leave self.new c → may_leave self.old c }
+        ensures seen { MayPut (at to_folder to.now) (seen self.old (at from_folder from.now))
+            (seen self.old)
+            (seen self.new) }
         ensures now_synced { OnOk result (is_synced self.new (at to_folder to.now)) }
-        ensures synced { KeepsSynced (at to_folder to.now) (at to_folder to.now) (is_synced self.old) (is_synced self.new) }
-        ensures crash { Follows (MayPut (at to_folder to.now) (seen self.old (at from_folder from.now))) (may_leave self.old) (may_leave self.new) }
-        ensures time { Elapses (moment self.old) (moment self.new) (left_since self.old) (left_since self.new) (may_leave self.new) }
+        ensures synced { KeepsSynced (at to_folder to.now) (at to_folder to.now)
+            (is_synced self.old)
+            (is_synced self.new) }
+        ensures crash { Follows (MayPut (at to_folder to.now)
+            (seen self.old (at from_folder from.now)))
+            (may_leave self.old) (may_leave self.new) }
+        ensures time { Elapses (moment self.old) (moment self.new) (left_since self.old)
+            (left_since self.new)
+            (may_leave self.new) }
         ensures cause { HasCause (faults self.old) (faults self.new) result }
-        ensures is_taken { IsErrOf result NameTaken → IsSome (seen self.old (at to_folder to.now)) };
+        ensures is_taken { IsErrOf result NameTaken → IsSome
+            (seen self.old (at to_folder to.now)) };
 
     /// Takes a name away from a file.
     fn remove(&mut self, folder: Folder, name: &str) -> Result<(), DiskFault>
         ensures gone { OnOk result (seen self.new (at folder name.now) ≡ None) }
         ensures seen { SameBut (at folder name.now) (seen self.old) (seen self.new) }
-        ensures synced { KeepsSynced (at folder name.now) (at folder name.now) (is_synced self.old) (is_synced self.new) }
-        ensures crash { Follows (SameBut (at folder name.now)) (may_leave self.old) (may_leave self.new) }
-        ensures time { Elapses (moment self.old) (moment self.new) (left_since self.old) (left_since self.new) (may_leave self.new) }
+        ensures synced { KeepsSynced (at folder name.now) (at folder name.now) (is_synced self.old)
+            (is_synced self.new) }
+        ensures crash { Follows (SameBut (at folder name.now)) (may_leave self.old)
+            (may_leave self.new) }
+        ensures time { Elapses (moment self.old) (moment self.new) (left_since self.old)
+            (left_since self.new)
+            (may_leave self.new) }
         ensures cause { HasCause (faults self.old) (faults self.new) result }
         ensures not_taken { IsErrOf result NameTaken → ⊥ };
 
     /// After it, a crash leaves of each file of the folder whose bytes are on the disk what a read
     /// returns.
     fn sync_folder(&mut self, folder: Folder) -> Result<(), DiskFault>
-        ensures durable { OnOk result ((c : Place → Option (List ℕ)) (each : Place) → may_leave self.new c → each.folder ≡ folder → is_synced self.new each → c each ≡ seen self.new each) }
+        ensures durable { OnOk result ((c : Place → Option (List ℕ)) (each : Place)
+            → may_leave self.new c
+            → each.folder ≡ folder → is_synced self.new each → c each ≡ seen self.new each) }
         ensures seen { (each : Place) → seen self.new each ≡ seen self.old each }
         ensures synced { (each : Place) → is_synced self.old each → is_synced self.new each }
-        ensures crash { (c : Place → Option (List ℕ)) → may_leave self.new c → may_leave self.old c }
-        ensures time { Elapses (moment self.old) (moment self.new) (left_since self.old) (left_since self.new) (may_leave self.new) }
+        ensures crash { (c : Place → Option (List ℕ)) → may_leave self.new c
+            → may_leave self.old c }
+        ensures time { Elapses (moment self.old) (moment self.new) (left_since self.old)
+            (left_since self.new)
+            (may_leave self.new) }
         ensures cause { HasCause (faults self.old) (faults self.new) result }
         ensures not_taken { IsErrOf result NameTaken → ⊥ };
 
     /// This moment is one of those since an earlier one.
-    ghost counts_now: { (disk : Self) (t : ℕ) (c : Place → Option (List ℕ)) → t ≤ moment disk → may_leave disk c → left_since disk t c };
+    ghost counts_now: { (disk : Self) (t : ℕ) (c : Place → Option (List ℕ)) → t ≤ moment disk
+        → may_leave disk c → left_since disk t c };
 
     /// Since this moment there is no other.
-    ghost only_now: { (disk : Self) (c : Place → Option (List ℕ)) → left_since disk (moment disk) c → may_leave disk c };
+    ghost only_now: { (disk : Self) (c : Place → Option (List ℕ)) → left_since disk (moment disk) c
+        → may_leave disk c };
 }

@@ -1,6 +1,34 @@
 // A disk in memory, for tests. Each change is done at once, so a crash leaves what is there.
-ghost use Rattle.std.specs.Prelude.{◌≡◌, ◌≤◌, [], ◌∷◌, ◌++◌, length, take, List, ℕ, Option, Some, None, IfOk, IfErr, OnOk, OnErr, IsErr, ⊤};
-ghost use Rattle.team_disk.specs.Disk.{Place, at, Written, SameBut, MayPut, Follows, Elapses, as_read};
+ghost use Rattle.std.specs.Prelude.{
+  ◌≡◌,
+  ◌≤◌,
+  [],
+  ◌∷◌,
+  ◌++◌,
+  length,
+  take,
+  List,
+  ℕ,
+  Option,
+  Some,
+  None,
+  IfOk,
+  IfErr,
+  OnOk,
+  OnErr,
+  IsErr,
+  ⊤,
+};
+ghost use Rattle.team_disk.specs.Disk.{
+  Place,
+  at,
+  Written,
+  SameBut,
+  MayPut,
+  Follows,
+  Elapses,
+  as_read,
+};
 ghost use Rattle.team_disk.specs.Memory as memory;
 ghost use Rattle.team_disk.specs.Memory.{files_of, HadBeen, Left, Same, counts, only, lent};
 
@@ -55,7 +83,9 @@ impl MemoryDisk {
         folder: Folder,
         name: &str,
     ) -> Result<Option<Vec<u8>>, AllocError>
-        ensures bytes { IfOk result (λ bytes. as_read bytes ≡ files_of (take changes self.now.changes.items) (at folder name.now)) }
+        ensures bytes { IfOk result (λ bytes. as_read bytes ≡ files_of
+            (take changes self.now.changes.items)
+            (at folder name.now)) }
     {
         let made = self.changes.get(..changes).unwrap_or(&self.changes);
         bytes_at(self.alloc, made, folder, name.as_bytes())
@@ -63,7 +93,8 @@ impl MemoryDisk {
 
     // Makes one change.
     fn change(&mut self, change: Change) -> Result<(), AllocError>
-        ensures made { OnOk result (self.new.changes.items ≡ self.old.changes.items ++ change ∷ []) }
+        ensures made { OnOk result (self.new.changes.items
+            ≡ self.old.changes.items ++ change ∷ []) }
         ensures err { OnErr result (self.new.changes.items ≡ self.old.changes.items) }
     {
         self.changes.push(change)?;
@@ -72,9 +103,14 @@ impl MemoryDisk {
 
     // A file at a place, or none.
     fn put(&mut self, folder: Folder, name: &str, bytes: Option<Vec<u8>>) -> Result<(), DiskFault>
-        ensures written { OnOk result (Written (at folder name.now) (as_read bytes) (files_of self.old.changes.items) (files_of self.new.changes.items)) }
-        ensures crash { Follows (MayPut (at folder name.now) (as_read bytes)) (Left self.old.changes.items) (Left self.new.changes.items) }
-        ensures time { Elapses (length self.old.changes.items) (length self.new.changes.items) (HadBeen self.old.changes.items) (HadBeen self.new.changes.items) (Left self.new.changes.items) }
+        ensures written { OnOk result (Written (at folder name.now) (as_read bytes)
+            (files_of self.old.changes.items) (files_of self.new.changes.items)) }
+        ensures crash { Follows (MayPut (at folder name.now) (as_read bytes))
+            (Left self.old.changes.items)
+            (Left self.new.changes.items) }
+        ensures time { Elapses (length self.old.changes.items) (length self.new.changes.items)
+            (HadBeen self.old.changes.items) (HadBeen self.new.changes.items)
+            (Left self.new.changes.items) }
         ensures err { IsErr result → self.new.changes.items ≡ self.old.changes.items }
         ensures memory { IfErr result (λ fault. fault ≡ DiskFault.Memory) }
     {
@@ -127,7 +163,8 @@ fn bytes_at(
     folder: Folder,
     name: &[u8],
 ) -> Result<Option<Vec<u8>>, AllocError>
-    ensures bytes { IfOk result (λ bytes. as_read bytes ≡ files_of changes.now (at folder name.now)) }
+    ensures bytes { IfOk result (λ bytes. as_read bytes ≡ files_of changes.now
+        (at folder name.now)) }
 {
     let mut file = None;
     for change in changes {

@@ -1,5 +1,17 @@
 // One file in the place of another.
-ghost use Rattle.std.specs.Prelude.{◌≡◌, ◌⊎◌, ◌<◌, ℕ, List, Option, Some, None, OnOk, OnErr, IsErrOf};
+ghost use Rattle.std.specs.Prelude.{
+  ◌≡◌,
+  ◌⊎◌,
+  ◌<◌,
+  ℕ,
+  List,
+  Option,
+  Some,
+  None,
+  OnOk,
+  OnErr,
+  IsErrOf,
+};
 ghost use Rattle.team_disk.specs.Disk.{at, Apart, Leaves, LeavesOnly, IsOneOrOther, SameButTwo};
 
 use crate::{Disk, DiskFault, Folder};
@@ -18,17 +30,23 @@ pub fn replace_file<D: Disk>(
 ) -> Result<(), DiskFault>
     requires apart { Apart (at folder name.now) (at folder scratch.now) }
     // What has the name is on the disk.
-    requires settled { Leaves (at folder name.now) (D.seen disk.old (at folder name.now)) (D.may_leave disk.old) }
+    requires settled { Leaves (at folder name.now) (D.seen disk.old (at folder name.now))
+        (D.may_leave disk.old) }
 
     ensures replaced { OnOk result (D.seen disk.new (at folder name.now) ≡ Some bytes.now) }
-    ensures durable { OnOk result (Leaves (at folder name.now) (Some bytes.now) (D.may_leave disk.new)) }
+    ensures durable { OnOk result (Leaves (at folder name.now) (Some bytes.now)
+        (D.may_leave disk.new)) }
     ensures gone { OnOk result (D.seen disk.new (at folder scratch.now) ≡ None) }
-    ensures either { OnErr result ((D.seen disk.new (at folder name.now) ≡ D.seen disk.old (at folder name.now)) ⊎ (D.seen disk.new (at folder name.now) ≡ Some bytes.now)) }
-    ensures others { SameButTwo (at folder name.now) (at folder scratch.now) (D.seen disk.old) (D.seen disk.new) }
+    ensures either { OnErr result ((D.seen disk.new (at folder name.now) ≡ D.seen disk.old
+        (at folder name.now))
+        ⊎ (D.seen disk.new (at folder name.now) ≡ Some bytes.now)) }
+    ensures others { SameButTwo (at folder name.now) (at folder scratch.now) (D.seen disk.old)
+        (D.seen disk.new) }
 
     // A crash at any moment of the call leaves the old file or the new one.
     ensures any_moment { LeavesOnly D.moment D.left_since disk.old disk.new
-        (IsOneOrOther (at folder name.now) (at folder scratch.now) (D.seen disk.old (at folder name.now)) (Some bytes.now) (D.may_leave disk.old)) }
+        (IsOneOrOther (at folder name.now) (at folder scratch.now)
+        (D.seen disk.old (at folder name.now)) (Some bytes.now) (D.may_leave disk.old)) }
 
     // It does not give up by itself.
     ensures failed { IsErrOf result DiskFault.Failed → D.faults disk.old < D.faults disk.new }

@@ -15,8 +15,10 @@ returns-in_err-write-clause-any_moment g c =
     let P = IsOneOrOther place scratch one other start in
     let first = at_start place scratch one other start c.requires.settled in
     let begun = started disk.moment disk.left_since old P (λ f left. is_one _ _ _ _ _ f (first f (g.met.D.Disk.only_now old f left))) in
-    let kept = scratched place scratch one other start start (disk.may_leave c.write.new.self) c.requires.apart first c.write.ensures.crash in
-    let after_write = goes_on disk.moment disk.left_since old old c.write.new.self P _ begun c.write.ensures.time (λ f now. is_one _ _ _ _ _ f (kept f now)) in
+    let kept = scratched place scratch one other start start (disk.may_leave c.write.new.self) c.requires.apart first c.write.ensures.crash
+    in
+    let after_write = goes_on disk.moment disk.left_since old old c.write.new.self P _ begun c.write.ensures.time
+    (λ f now. is_one _ _ _ _ _ f (kept f now)) in
     after_write
 
 pub returns-in_err-rename-clause-any_moment : goal.returns-in_err-rename-clause-any_moment
@@ -31,10 +33,14 @@ returns-in_err-rename-clause-any_moment g c =
     let P = IsOneOrOther place scratch one other start in
     let first = at_start place scratch one other start c.requires.settled in
     let begun = started disk.moment disk.left_since old P (λ f left. is_one _ _ _ _ _ f (first f (g.met.D.Disk.only_now old f left))) in
-    let kept = scratched place scratch one other start start (disk.may_leave c.write.new.self) c.requires.apart first c.write.ensures.crash in
-    let after_write = goes_on disk.moment disk.left_since old old c.write.new.self P _ begun c.write.ensures.time (λ f now. is_one _ _ _ _ _ f (kept f now)) in
-    let either = moved place scratch one other start (disk.may_leave c.write.new.self) (disk.may_leave c.rename.new.self) (disk.seen c.write.new.self scratch) c.in_ok-write.ensures.written.there kept c.rename.ensures.crash in
-    let after_rename = goes_on disk.moment disk.left_since old c.write.new.self c.rename.new.self P _ after_write c.rename.ensures.time either in
+    let kept = scratched place scratch one other start start (disk.may_leave c.write.new.self) c.requires.apart first c.write.ensures.crash
+    in
+    let after_write = goes_on disk.moment disk.left_since old old c.write.new.self P _ begun c.write.ensures.time
+    (λ f now. is_one _ _ _ _ _ f (kept f now)) in
+    let either = moved place scratch one other start (disk.may_leave c.write.new.self) (disk.may_leave c.rename.new.self)
+    (disk.seen c.write.new.self scratch) c.in_ok-write.ensures.written.there kept c.rename.ensures.crash in
+    let after_rename = goes_on disk.moment disk.left_since old c.write.new.self c.rename.new.self P _ after_write c.rename.ensures.time
+    either in
     after_rename
 
 pub returns-clause-any_moment : goal.returns-clause-any_moment
@@ -49,9 +55,14 @@ returns-clause-any_moment g c =
     let P = IsOneOrOther place scratch one other start in
     let first = at_start place scratch one other start c.requires.settled in
     let begun = started disk.moment disk.left_since old P (λ f left. is_one _ _ _ _ _ f (first f (g.met.D.Disk.only_now old f left))) in
-    let kept = scratched place scratch one other start start (disk.may_leave c.write.new.self) c.requires.apart first c.write.ensures.crash in
-    let after_write = goes_on disk.moment disk.left_since old old c.write.new.self P _ begun c.write.ensures.time (λ f now. is_one _ _ _ _ _ f (kept f now)) in
-    let either = moved place scratch one other start (disk.may_leave c.write.new.self) (disk.may_leave c.rename.new.self) (disk.seen c.write.new.self scratch) c.in_ok-write.ensures.written.there kept c.rename.ensures.crash in
-    let after_rename = goes_on disk.moment disk.left_since old c.write.new.self c.rename.new.self P _ after_write c.rename.ensures.time either in
-    let after_sync = goes_on disk.moment disk.left_since old c.rename.new.self c.sync_folder.new.self P _ after_rename c.sync_folder.ensures.time (λ f now. either f (c.sync_folder.ensures.crash f now)) in
+    let kept = scratched place scratch one other start start (disk.may_leave c.write.new.self) c.requires.apart first c.write.ensures.crash
+    in
+    let after_write = goes_on disk.moment disk.left_since old old c.write.new.self P _ begun c.write.ensures.time
+    (λ f now. is_one _ _ _ _ _ f (kept f now)) in
+    let either = moved place scratch one other start (disk.may_leave c.write.new.self) (disk.may_leave c.rename.new.self)
+    (disk.seen c.write.new.self scratch) c.in_ok-write.ensures.written.there kept c.rename.ensures.crash in
+    let after_rename = goes_on disk.moment disk.left_since old c.write.new.self c.rename.new.self P _ after_write c.rename.ensures.time
+    either in
+    let after_sync = goes_on disk.moment disk.left_since old c.rename.new.self c.sync_folder.new.self P _ after_rename
+    c.sync_folder.ensures.time (λ f now. either f (c.sync_folder.ensures.crash f now)) in
     after_sync
